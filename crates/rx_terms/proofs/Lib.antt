@@ -1,0 +1,3 @@
+pub mod CharLemmas
+pub mod SplitLemmas
+pub mod LangLemmas
