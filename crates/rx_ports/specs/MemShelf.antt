@@ -1,0 +1,61 @@
+-- A shelf in memory, as its contracts see it.
+use Rattle.std.specs.Prelude.{◌≡◌, ◌<◌, ◌≤◌, ℕ, ◌+◌, ◌^◌, ◌==◌, ◌||◌, nat_le, min, List, [], length, drop, Bool, if◌then◌else◌, Option, Some, None, Result, Ok, Err, is_none, unwrap_or}
+use Rattle.std.specs.List.{list_any}
+use Rattle.rx_ports.specs.Counts.{raised}
+use Rattle.rx_ports.specs.Files.{file_of, file_bytes}
+use Rattle.rx_ports.specs.Told.{Told}
+use Rattle.rx_ports.specs.declared.shelf.Failed.{Failed}
+
+pub record MemoryShelf : Type 0 where
+  pub files : List (List ℕ × List ℕ)
+  pub left : List ℕ
+  pub taken : ℕ
+  pub chunk : ℕ
+  pub failing : List ℕ
+  pub calls : ℕ
+  pub faults : ℕ
+
+-- what is left of the started file; with nothing started nothing is
+abbrev pub left_of : List (List ℕ × List ℕ) → Option ℕ → ℕ → List ℕ
+left_of files None at = []
+left_of files (Some file) at = drop at (file_bytes files file)
+
+abbrev pub told_by : MemoryShelf → Told
+told_by shelf = record { files = shelf.files; left = shelf.left; taken = shelf.taken }
+
+abbrev pub new_shelf : List (List ℕ × List ℕ) → ℕ → List ℕ → MemoryShelf
+new_shelf files chunk failing = record { files = files; left = []; taken = 0; chunk = chunk; failing = failing; calls = 0; faults = 0 }
+
+-- whether the next call is one of those that fail
+abbrev pub is_listed : MemoryShelf → Bool
+is_listed shelf = list_any (λ number. number == raised shelf.calls) shelf.failing
+
+abbrev pub start_gives : MemoryShelf → List ℕ → Result (Unit {0}) Failed
+start_gives shelf name = if is_listed shelf || is_none (file_of shelf.files name) then Err (record {}) else Ok tt
+
+abbrev pub after_start : MemoryShelf → List ℕ → MemoryShelf
+after_start shelf name =
+    if is_listed shelf
+    then record shelf { calls = raised shelf.calls; faults = raised shelf.faults }
+    else record shelf { calls = raised shelf.calls; left = unwrap_or (file_of shelf.files name) shelf.left }
+
+-- how many bytes a read gives
+abbrev pub read_count : MemoryShelf → ℕ → ℕ
+read_count shelf room = min (min room shelf.chunk) (length shelf.left)
+
+abbrev pub read_fails : MemoryShelf → ℕ → Bool
+read_fails shelf room = is_listed shelf || nat_le (2 ^ 64) (shelf.taken + read_count shelf room)
+
+abbrev pub read_gives : MemoryShelf → ℕ → Result ℕ Failed
+read_gives shelf room = if read_fails shelf room then Err (record {}) else Ok (read_count shelf room)
+
+abbrev pub after_read : MemoryShelf → ℕ → MemoryShelf
+after_read shelf room =
+    if read_fails shelf room
+    then record shelf { calls = raised shelf.calls; faults = raised shelf.faults }
+    else record shelf { calls = raised shelf.calls; left = drop (read_count shelf room) shelf.left; taken = shelf.taken + read_count shelf room }
+
+-- a place in a started file
+abbrev pub IsPlace : List (List ℕ × List ℕ) → Option ℕ → ℕ → Type 0
+IsPlace files None at = at ≡ 0
+IsPlace files (Some file) at = (file < length files) × (at ≤ length (file_bytes files file))
