@@ -1,0 +1,4 @@
+pub mod PageLemmas
+pub mod TextLemmas
+pub mod FileLemmas
+pub mod RunLemmas

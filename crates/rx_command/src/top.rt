@@ -1,0 +1,118 @@
+//! The top call.
+ghost use Rattle.std.specs.Prelude.{◌≡◌, ◌≢◌, ◌⊎◌, ℕ, List, None, Some};
+ghost use Rattle.rx_ports.specs.Counts.{Rose};
+ghost use Rattle.rx_ports.specs.Told.{Told, Moves, GrowsBy, GrowsByPart, Stays};
+ghost use Rattle.rx_command.specs.Words.{job};
+ghost use Rattle.rx_command.specs.Outcome.{Yields, Refuses, LacksPage};
+ghost use Rattle.rx_command.specs.Runs.{ReadCause, TakesPage, IsAtEnd, Says, usage_line, refused_line};
+
+use crate::extract::text_of;
+use crate::files::{ReadError, read_file};
+use crate::jobs::{Job, JobError};
+use crate::statuses::{Fault, Kind, Status};
+use rx_ports::{Shelf, Sink, put_all};
+use rx_terms::Text;
+use std::alloc::Global;
+
+/// The most bytes that a page of the built form has.
+const LARGEST_PAGE: usize = 1_048_576;
+
+const USAGE: &[u8] = b"usage: rdfax extract|items|check|sample\n";
+
+const REFUSED: &[u8] = b"refused: NotBuilt at byte 0 in token 0\n";
+
+/// Does what the words ask for, which are those after the program's name: reads the page from the shelf, writes its
+/// text to `out`, and says on `err` why there is none.
+///
+/// What is said of the page's bytes is said of a shelf that tells its files, and what is said of the bytes written of
+/// a sink that tells what it holds. The first text that a run meets decides: the words, then the page, then writing.
+/// Want of memory may come at any place before the first byte is written.
+pub fn run<F: Shelf, O: Sink, E: Sink>(
+    alloc: Global,
+    words: &[Text],
+    shelf: &mut F,
+    out: &mut O,
+    err: &mut E,
+) -> Status
+    // Usage comes exactly where the words ask for nothing, and then nothing is read.
+    ensures usage { result ≡ Status.Usage → job words.now ≡ None }
+    ensures only_usage { job words.now ≡ None → (result ≡ Status.Usage) ⊎ (result ≡ Status.Memory) }
+    ensures untouched { result ≡ Status.Usage → Moves Stays (F.told shelf.old) (F.told shelf.new) }
+
+    // Done comes only where the page has a text: out has then grown by exactly that, and the page was read to its end.
+    ensures done { result ≡ Status.Done → (told : Told) → F.told shelf.old ≡ Some told →
+        (text : List ℕ) × Yields words.now (F.told shelf.old) text × Moves (GrowsBy text) (O.held out.old) (O.held out.new) }
+    ensures to_end { result ≡ Status.Done → IsAtEnd (F.told shelf.new) }
+
+    // Refused comes only where the page has this fault.
+    ensures refused { (fault : Fault) → result ≡ Status.Refused fault → (told : Told) → F.told shelf.old ≡ Some told →
+        Refuses words.now (F.told shelf.old) fault }
+
+    // ReadFault comes only where the shelf failed, or lacks the page; and then there is no other answer.
+    ensures read_fault { result ≡ Status.ReadFault → ReadCause words.now (F.told shelf.old) (F.faults shelf.old) (F.faults shelf.new) }
+    ensures lacking { LacksPage words.now (F.told shelf.old) → (result ≡ Status.ReadFault) ⊎ (result ≡ Status.Memory) }
+
+    // WriteFault comes only where out failed, which then holds a proper front of the page's text more than before.
+    ensures write_fault { result ≡ Status.WriteFault → Rose (O.faults out.old) (O.faults out.new) }
+    ensures partly { result ≡ Status.WriteFault → (told : Told) → F.told shelf.old ≡ Some told →
+        (text : List ℕ) × Yields words.now (F.told shelf.old) text × Moves (GrowsByPart text) (O.held out.old) (O.held out.new) }
+
+    // On any other status nothing is written.
+    ensures nothing_written { result ≢ Status.Done → result ≢ Status.WriteFault → Moves Stays (O.held out.old) (O.held out.new) }
+
+    ensures no_context { result ≢ Status.BadContext }
+
+    // What err is told: one line on Usage and on Refused, or a front of it where err failed; on other statuses nothing.
+    ensures says_usage { result ≡ Status.Usage → Says usage_line (E.held err.old) (E.held err.new) (E.faults err.old) (E.faults err.new) }
+    ensures says_refused { (fault : Fault) → result ≡ Status.Refused fault →
+        Says (refused_line fault) (E.held err.old) (E.held err.new) (E.faults err.old) (E.faults err.new) }
+    ensures says_nothing { result ≢ Status.Usage → ((fault : Fault) → result ≢ Status.Refused fault) → Moves Stays (E.held err.old) (E.held err.new) }
+
+    // How much is read: no more than the page has, nor more than one byte past the largest page.
+    ensures takes { Moves (TakesPage words.now) (F.told shelf.old) (F.told shelf.new) }
+
+    // Where nothing failed, a page that has a text is done, and one that has a fault is refused.
+    ensures completes { (text : List ℕ) → Yields words.now (F.told shelf.old) text → ¬ Rose (F.faults shelf.old) (F.faults shelf.new)
+        → ¬ Rose (O.faults out.old) (O.faults out.new) → (result ≡ Status.Done) ⊎ (result ≡ Status.Memory) }
+    ensures refuses { (fault : Fault) → Refuses words.now (F.told shelf.old) fault → ¬ Rose (F.faults shelf.old) (F.faults shelf.new)
+        → (result ≡ Status.Refused fault) ⊎ (result ≡ Status.Memory) }
+{
+    let job = match Job::of(alloc, words) {
+        Ok(job) => job,
+        Err(JobError::Usage) => {
+            say(err, USAGE);
+            return Status::Usage;
+        }
+        Err(JobError::NoMemory) => return Status::Memory,
+    };
+    let bytes = match read_file(alloc, shelf, job.page().as_str(), LARGEST_PAGE) {
+        Ok(bytes) => bytes,
+        Err(ReadError::Failed) => return Status::ReadFault,
+        Err(ReadError::NoMemory) => return Status::Memory,
+    };
+    match text_of(alloc, bytes.as_slice()) {
+        Ok(Some(text)) => match put_all(out, text.as_bytes()) {
+            Ok(()) => Status::Done,
+            Err(_failed) => Status::WriteFault,
+        },
+        Ok(None) => {
+            say(err, REFUSED);
+            Status::Refused(Fault {
+                kind: Kind::NotBuilt,
+                token: 0,
+                at: 0,
+            })
+        }
+        Err(_no_memory) => Status::Memory,
+    }
+}
+
+/// Writes a line to err, whose failure changes nothing.
+fn say<E: Sink>(err: &mut E, line: &[u8])
+    ensures { Says line.now (E.held err.old) (E.held err.new) (E.faults err.old) (E.faults err.new) }
+{
+    match put_all(err, line) {
+        Ok(()) => {}
+        Err(_failed) => {}
+    }
+}
