@@ -11,6 +11,8 @@ mod iri_list;
 mod iris;
 mod langs;
 mod literals;
+#[cfg(test)]
+mod tests;
 mod texts;
 mod triple_list;
 mod triples;
