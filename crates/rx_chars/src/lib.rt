@@ -1,0 +1,6 @@
+//! Characters of a page.
+#![tactic(auto)]
+
+mod syntax;
+
+pub use syntax::Syntax;
