@@ -1,9 +1,10 @@
 -- What the rows of well-formed UTF-8 say of one, two, three and four bytes.
 use Rattle.std.proofs.Common.{◌≡◌, ℕ, Bool, true, false, ◌&&◌, ◌||◌, ◌==◌, List, [], ◌∷◌, refl, if◌then◌else◌, arith}
 use Rattle.std.proofs.lemmas.Bool.Decides.{nat_tests}
-use Rattle.rx_chars.specs.Utf8.{is_well_formed, begins_sequence, is_in, tail, Range}
+use Rattle.rx_chars.specs.Utf8.{is_well_formed, begins_sequence, is_in, tail}
+use Rattle.rx_chars.specs.Held.{fits_second}
 
-and-false : (x : Bool) → (x && false) ≡ false
+pub and-false : (x : Bool) → (x && false) ≡ false
 and-false true = refl
 and-false false = refl
 
@@ -14,12 +15,6 @@ and-true false = refl
 or-false : (x : Bool) → (x || false) ≡ x
 or-false true = refl
 or-false false = refl
-
--- whether the byte b may stand second, behind this first one
-abbrev pub fits_second : ℕ → ℕ → Bool
-fits_second a b =
-    if a == 0xE0 then is_in (0xA0, 0xBF) b else if a == 0xED then is_in (0x80, 0x9F) b
-    else if a == 0xF0 then is_in (0x90, 0xBF) b else if a == 0xF4 then is_in (0x80, 0x8F) b else is_in tail b
 
 -- the rows of three and of four bytes, each with what it asks of the bytes behind the first one
 three_rows : (a : ℕ) (p q r s u t : Bool) →

@@ -1,4 +1,5 @@
 pub mod Utf8
+pub mod Held
 pub mod Characters
 pub mod NcName
 pub mod Named

@@ -1,7 +1,9 @@
 -- Well-formed UTF-8, as the Unicode Standard defines it (section 3.9, D92, Tables 3-6 and 3-7).
-use Rattle.std.specs.Prelude.{◌≡◌, ◌≢◌, ◌↔◌, ℕ, ◌+◌, ◌-◌, ◌*◌, Bool, true, false, ◌&&◌, nat_le, List, [], ◌∷◌, ◌++◌, encode_utf8}
+use Rattle.std.specs.Prelude.{◌≡◌, ◌≢◌, ◌↔◌, ℕ, ◌+◌, ◌-◌, ◌*◌, Bool, true, false, ◌&&◌, nat_le, List, [], ◌∷◌, ◌++◌, encode_utf8, if◌then◌else◌}
 use Rattle.std.specs.List.{list_any}
 use Rattle.std.specs.Char.{IsScalar}
+use Rattle.rx_chars.specs.declared.utf8.Utf8Step.{Utf8Step}
+use Rattle.rx_chars.specs.declared.utf8.Utf8Step.TheVariants.{More, Char, Bad}
 
 -- the bytes from a lowest to a highest one, both included
 abbrev pub Range : Type 0
@@ -72,6 +74,29 @@ pub record BeginsCharacter (bytes : List ℕ) : Type 0 where
 -- no character's sequence begins with these bytes, nor is one of them
 abbrev pub BeginNone : List ℕ → Type 0
 BeginNone bytes = (more : List ℕ) (value : ℕ) → ¬ IsCharacter (bytes ++ more) value
+
+-- What a step answers, by the bytes since the last whole character.
+abbrev pub Answers : List ℕ → Utf8Step → Type 0
+Answers bytes (Char value) = IsCharacter bytes value
+Answers bytes More = BeginsCharacter bytes
+Answers bytes Bad = BeginNone bytes
+
+-- The bytes since the last whole character afterwards. Those that begin none may have been forgotten for others that do.
+abbrev pub Leaves : List ℕ → Utf8Step → List ℕ → Type 0
+Leaves bytes (Char value) after = after ≡ []
+Leaves bytes More after = after ≡ bytes
+Leaves bytes Bad after = BeginNone after
+
+-- the answer, computed by the tables
+abbrev pub answer_of : List ℕ → Utf8Step
+answer_of bytes =
+    if is_well_formed bytes then Char (scalar_value bytes)
+    else if begins_sequence bytes then More
+    else Bad
+
+-- Of any bytes exactly one answer holds, and the tables compute it.
+abbrev pub AnswersAreExact : Type 0
+AnswersAreExact = (bytes : List ℕ) (step : Utf8Step) → Answers bytes step ↔ (step ≡ answer_of bytes)
 
 -- the tables agree with the UTF-8 of Rust's characters
 abbrev pub TablesAgree : Type 0

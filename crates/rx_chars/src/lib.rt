@@ -5,8 +5,10 @@ mod nc_names;
 mod newlines;
 mod numeric_references;
 mod syntax;
+mod utf8;
 
 pub use nc_names::{is_nc, is_nc_start};
 pub use newlines::Newlines;
 pub use numeric_references::numeric;
 pub use syntax::Syntax;
+pub use utf8::{Utf8, Utf8Step};
