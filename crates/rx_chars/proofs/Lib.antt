@@ -2,3 +2,4 @@ pub mod Utf8Rows
 pub mod Utf8Answers
 pub mod Utf8Exact
 pub mod Utf8Values
+pub mod HeldLemmas
