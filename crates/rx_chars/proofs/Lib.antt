@@ -3,3 +3,4 @@ pub mod Utf8Answers
 pub mod Utf8Exact
 pub mod Utf8Values
 pub mod HeldLemmas
+pub mod NamedLemmas

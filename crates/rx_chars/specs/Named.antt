@@ -1,5 +1,8 @@
 -- Named character references: the names of HTML 4.01, 24 (character entity references), and apos (HTML Standard, 13.5).
-use Rattle.std.specs.Prelude.{ℕ, ◌+◌, ◌==◌, List, [], ◌∷◌, ◌++◌, codes, bytes_eq, Option, option_map, find, if◌then◌else◌}
+use Rattle.std.specs.Prelude.{ℕ, ◌+◌, Bool, true, ◌==◌, ◌&&◌, List, [], ◌∷◌, ◌++◌, codes, bytes_eq, Option, option_map, find, if◌then◌else◌}
+use Rattle.std.specs.List.{list_all}
+use Rattle.std.specs.Ordering.{is_lt, nat_cmp}
+use Rattle.std.specs.Cmp.Lexicographic.{slice_cmp}
 
 abbrev pub Row : Type 0
 Row = List ℕ × ℕ
@@ -84,6 +87,15 @@ named_table =
     ++ run_from 0x03B1 (words lower_greek_names)
     ++ other_rows
 
--- the character that a name stands for: the first row's that has it, letter case counting
+-- the character of the first row with this name, letter case counting
+abbrev pub found_in : List Row → List ℕ → Option ℕ
+found_in rows name = option_map (λ row. row.1) (find (λ row. bytes_eq row.0 name) rows)
+
+-- the character that a name stands for
 abbrev pub named : List ℕ → Option ℕ
-named name = option_map (λ row. row.1) (find (λ row. bytes_eq row.0 name) named_table)
+named name = found_in named_table name
+
+-- each name stands before those after it in byte order
+abbrev pub are_rising : List (List ℕ) → Bool
+are_rising [] = true
+are_rising (name ∷ names) = list_all (λ later. is_lt (slice_cmp nat_cmp name later)) names && are_rising names
