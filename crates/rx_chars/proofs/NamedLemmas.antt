@@ -91,3 +91,35 @@ module _ {T : Type 0} (key : T → List ℕ) (value : T → ℕ) where
   found_nowhere rows name gap rising split =
       let parts = split (searchable_from_sorted nat_list_cmp_total key rows name (sorted_rising rows rising)) in
       found_none rows name (λ k d below. ⊎_elim (λ less. ap is_eq (parts.0 k d (omega arith) less)) (λ more. ap is_eq (parts.1 k d more below)) (cases_lt k gap))
+
+-- each row of the list is what the other list gives for its name
+abbrev pub carries : List Row → List Row → Bool
+carries others [] = true
+carries others (row ∷ rows) = option_map_or (λ c. c == row.1) (found_in others row.0) false && carries others rows
+
+carried : (others rows : List Row) (name : List ℕ) (c : ℕ) → carries others rows ≡ true → found_in rows name ≡ Some c → found_in others name ≡ Some c
+carried others [] name c all found = absurd (cc)
+carried others (row ∷ rows) name c all found =
+    let parts = and_parts (option_map_or (λ d. d == row.1) (found_in others row.0) false) (carries others rows) all in
+    ⊎_elim
+      (λ same.
+        let alike : row.0 ≡ name = (bytes_eq-Decides row.0 name).0 same in
+        let value : row.1 ≡ c = some_same (sym (found-here row rows name same) ∙ found) in
+        ap (found_in others) (sym alike) ∙ (given (found_in others row.0) row.1 parts.0 ∙ ap Some value))
+      (λ other. carried others rows name c parts.1 (sym (found-later row rows name other) ∙ found))
+      (cases_Bool (bytes_eq row.0 name))
+  where
+  some_same : {a b : ℕ} → Some a ≡ Some b → a ≡ b
+  some_same e = cc
+  given : (o : Option ℕ) (v : ℕ) → option_map_or (λ d. d == v) o false ≡ true → o ≡ Some v
+  given None v h = absurd (false≢true h)
+  given (Some d) v h = ap Some (eqb-true d v h)
+
+-- two lists, each of which carries the other's rows, give the same for every name
+pub same_rows : (some others : List Row) (name : List ℕ) → carries others some ≡ true → carries some others ≡ true → found_in some name ≡ found_in others name
+same_rows some others name there back = go (found_in some name) (found_in others name) refl refl
+  where
+  go : (a b : Option ℕ) → found_in some name ≡ a → found_in others name ≡ b → found_in some name ≡ found_in others name
+  go (Some c) b left right = left ∙ sym (carried others some name c there left)
+  go None (Some c) left right = carried some others name c back right ∙ sym right
+  go None None left right = left ∙ sym right
