@@ -4,3 +4,4 @@ pub mod Utf8Exact
 pub mod Utf8Values
 pub mod HeldLemmas
 pub mod NamedLemmas
+pub mod Utf8Forms

@@ -1,11 +1,11 @@
 -- The scalar values of well-formed sequences, and the bounds of their bytes as facts on numbers.
 use Rattle.std.proofs.Common.{◌≡◌, ◌≤◌, ◌<◌, ℕ, ◌+◌, ◌-◌, ◌*◌, Bool, true, false, ◌&&◌, ◌⊎◌, inl, inr, ⊎_elim, List, [], ◌∷◌, refl, sym, ◌∙◌, arith}
-use Rattle.std.proofs.lemmas.Bool.{cases_lt}
+use Rattle.std.proofs.lemmas.Bool.{cases_lt, and_parts}
 use Rattle.std.proofs.lemmas.Bool.Decides.{nat_tests}
 use Rattle.std.specs.Char.{IsScalar}
-use Rattle.rx_chars.specs.Utf8.{is_well_formed, begins_sequence, is_in, tail}
+use Rattle.rx_chars.specs.Utf8.{is_well_formed, is_in, tail}
 use Rattle.rx_chars.specs.Held.{fits_second}
-use Rattle.rx_chars.proofs.Utf8Rows.{whole_two, whole_three, whole_four, begun_one, begun_two, begun_three}
+use Rattle.rx_chars.proofs.Utf8Rows.{whole_two, whole_three, whole_four}
 
 -- the second byte
 pub record Second (a b : ℕ) : Type 0 where
@@ -29,7 +29,8 @@ second_of a b fit = record {
 pub record Two (a b : ℕ) : Type 0 where
   pub low : 0xC2 ≤ a
   pub high : a ≤ 0xDF
-  pub second : Second a b
+  pub second_low : 0x80 ≤ b
+  pub second_high : b ≤ 0xBF
 
 pub record Three (a b c : ℕ) : Type 0 where
   pub low : 0xE0 ≤ a
@@ -47,50 +48,45 @@ pub record Four (a b c d : ℕ) : Type 0 where
   pub fourth_low : 0x80 ≤ d
   pub fourth_high : d ≤ 0xBF
 
-pub two_of : (a b : ℕ) → begins_sequence (a ∷ []) ≡ true → fits_second a b ≡ true → a < 0xE0 → Two a b
-two_of a b begun fit high =
-    let first : is_in (0xC2, 0xF4) a ≡ true = sym (begun_one a) ∙ begun in
-    record { low = grind (arith, nat_tests); high = omega arith; second = second_of a b fit }
+pub two_of : (a b : ℕ) → is_well_formed (a ∷ b ∷ []) ≡ true → Two a b
+two_of a b whole =
+    let parts = and_parts (is_in (0xC2, 0xDF) a) (is_in tail b) (sym (whole_two a b) ∙ whole) in
+    let lead : is_in (0xC2, 0xDF) a ≡ true = parts.0 in
+    let second : is_in tail b ≡ true = parts.1 in
+    record { low = grind (arith, nat_tests); high = grind (arith, nat_tests); second_low = grind (arith, nat_tests); second_high = grind (arith, nat_tests) }
 
-pub three_of : (a b c : ℕ) → begins_sequence (a ∷ b ∷ []) ≡ true → is_in tail c ≡ true → a < 0xF0 → Three a b c
-three_of a b c begun fit high = front a b c (sym (begun_two a b) ∙ begun) fit high
+pub three_of : (a b c : ℕ) → is_well_formed (a ∷ b ∷ c ∷ []) ≡ true → Three a b c
+three_of a b c whole =
+    let parts = and_parts (is_in (0xE0, 0xEF) a) (fits_second a b && is_in tail c) (sym (whole_three a b c) ∙ whole) in
+    let inner = and_parts (fits_second a b) (is_in tail c) parts.1 in
+    from a b c parts.0 inner.0 inner.1
   where
-  split : (x y : Bool) → (x && y) ≡ true → (x ≡ true) × (y ≡ true)
-  split true y h = (refl, h)
-  split false y h = absurd (cc)
-  front : (a b c : ℕ) → (is_in (0xE0, 0xF4) a && fits_second a b) ≡ true → is_in tail c ≡ true → a < 0xF0 → Three a b c
-  front a b c begun fit high =
-      let parts = split (is_in (0xE0, 0xF4) a) (fits_second a b) begun in
-      let lead : is_in (0xE0, 0xF4) a ≡ true = parts.0 in
-      record {
-        low = grind (arith, nat_tests);
-        high = omega arith;
-        second = second_of a b parts.1;
-        third_low = grind (arith, nat_tests);
-        third_high = grind (arith, nat_tests);
-      }
+  from : (a b c : ℕ) → is_in (0xE0, 0xEF) a ≡ true → fits_second a b ≡ true → is_in tail c ≡ true → Three a b c
+  from a b c lead fit third = record {
+    low = grind (arith, nat_tests);
+    high = grind (arith, nat_tests);
+    second = second_of a b fit;
+    third_low = grind (arith, nat_tests);
+    third_high = grind (arith, nat_tests);
+  }
 
-pub four_of : (a b c d : ℕ) → begins_sequence (a ∷ b ∷ c ∷ []) ≡ true → is_in tail d ≡ true → Four a b c d
-four_of a b c d begun fit = front a b c d (sym (begun_three a b c) ∙ begun) fit
+pub four_of : (a b c d : ℕ) → is_well_formed (a ∷ b ∷ c ∷ d ∷ []) ≡ true → Four a b c d
+four_of a b c d whole =
+    let parts = and_parts (is_in (0xF0, 0xF4) a) (fits_second a b && (is_in tail c && is_in tail d)) (sym (whole_four a b c d) ∙ whole) in
+    let inner = and_parts (fits_second a b) (is_in tail c && is_in tail d) parts.1 in
+    let last = and_parts (is_in tail c) (is_in tail d) inner.1 in
+    from a b c d parts.0 inner.0 last.0 last.1
   where
-  split : (x y z : Bool) → (x && (y && z)) ≡ true → (x ≡ true) × (y ≡ true) × (z ≡ true)
-  split true true z h = (refl, refl, h)
-  split true false z h = absurd (cc)
-  split false y z h = absurd (cc)
-  front : (a b c d : ℕ) → (is_in (0xF0, 0xF4) a && (fits_second a b && is_in tail c)) ≡ true → is_in tail d ≡ true → Four a b c d
-  front a b c d begun fit =
-      let parts = split (is_in (0xF0, 0xF4) a) (fits_second a b) (is_in tail c) begun in
-      let lead : is_in (0xF0, 0xF4) a ≡ true = parts.0 in
-      let third : is_in tail c ≡ true = parts.2 in
-      record {
-        low = grind (arith, nat_tests);
-        high = grind (arith, nat_tests);
-        second = second_of a b parts.1;
-        third_low = grind (arith, nat_tests);
-        third_high = grind (arith, nat_tests);
-        fourth_low = grind (arith, nat_tests);
-        fourth_high = grind (arith, nat_tests);
-      }
+  from : (a b c d : ℕ) → is_in (0xF0, 0xF4) a ≡ true → fits_second a b ≡ true → is_in tail c ≡ true → is_in tail d ≡ true → Four a b c d
+  from a b c d lead fit third fourth = record {
+    low = grind (arith, nat_tests);
+    high = grind (arith, nat_tests);
+    second = second_of a b fit;
+    third_low = grind (arith, nat_tests);
+    third_high = grind (arith, nat_tests);
+    fourth_low = grind (arith, nat_tests);
+    fourth_high = grind (arith, nat_tests);
+  }
 
 scalar_at : (v : ℕ) → v < 0x110000 → (v < 0xD800) ⊎ (0xDFFF < v) → IsScalar v
 scalar_at v high gap = grind (arith, nat_tests)
