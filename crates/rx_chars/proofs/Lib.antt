@@ -5,3 +5,4 @@ pub mod Utf8Values
 pub mod HeldLemmas
 pub mod NamedLemmas
 pub mod Utf8Forms
+pub mod CharactersLemmas

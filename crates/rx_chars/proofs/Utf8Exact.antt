@@ -171,3 +171,9 @@ answers-answer_of bytes = ⊎_elim
 
 pub answers_from : (bytes : List ℕ) (step : Utf8Step) → step ≡ answer_of bytes → Answers bytes step
 answers_from bytes step same = subst (λ s. Answers bytes s) (sym same) (answers-answer_of bytes)
+
+pub rows_are_begun : (bytes : List ℕ) → BeginsCharacter bytes ↔ (begins_sequence bytes ≡ true)
+rows_are_begun bytes = (rows_begin bytes, begins-from_rows bytes)
+
+pub answers_are_exact : (bytes : List ℕ) (step : Utf8Step) → Answers bytes step ↔ (step ≡ answer_of bytes)
+answers_are_exact bytes step = (answer_is bytes step, answers_from bytes step)
