@@ -1,9 +1,8 @@
 -- What a byte answers, by the bytes before it.
-use Rattle.std.proofs.Common.{◌≡◌, ◌≤◌, ◌<◌, ℕ, ◌+◌, ◌-◌, ◌*◌, Bool, true, false, ◌&&◌, ◌||◌, ◌==◌, List, [], ◌∷◌, refl, sym, ap, ◌∙◌,  if◌then◌else◌, arith}
+use Rattle.std.proofs.Common.{◌≡◌, ◌≤◌, ◌<◌, ℕ, ◌+◌, ◌-◌, ◌*◌, Bool, true, false, ◌&&◌, List, [], ◌∷◌, sym, ap, ◌∙◌, if◌then◌else◌, arith}
 use Rattle.std.proofs.lemmas.Bool.Decides.{nat_tests}
 use Rattle.rx_chars.specs.Utf8.{is_well_formed, begins_sequence, scalar_value, answer_of, is_in, tail}
 use Rattle.rx_chars.specs.Held.{fits_second}
-use Rattle.rx_chars.specs.declared.utf8.Utf8Step.{Utf8Step}
 use Rattle.rx_chars.specs.declared.utf8.Utf8Step.TheVariants.{More, Char, Bad}
 use Rattle.rx_chars.proofs.Utf8Rows.{whole_one, whole_two, whole_three, whole_four, begun_one, begun_two, begun_three, begun_more, and-false}
 
@@ -56,18 +55,19 @@ third_whole a b c begun fit low =
     let front : (is_in (0xE0, 0xF4) a && fits_second a b) ≡ true = sym (begun_two a b) ∙ begun in
     at_whole (a ∷ b ∷ c ∷ []) (whole_three a b c ∙ whole3 a (fits_second a b) (is_in tail c) front fit low)
   where
-  whole3 : (a : ℕ) (s t : Bool) → (is_in (0xE0, 0xF4) a && s) ≡ true → t ≡ true → a < 0xF0 → (is_in (0xE0, 0xEF) a && (s && t)) ≡ true
-  whole3 a s t front fit low = grind (arith, nat_tests)
+    whole3 : (a : ℕ) (s t : Bool) → (is_in (0xE0, 0xF4) a && s) ≡ true → t ≡ true → a < 0xF0 → (is_in (0xE0, 0xEF) a && (s && t)) ≡ true
+    whole3 a s t front fit low = grind (arith, nat_tests)
 
 pub third_begun : (a b c : ℕ) → begins_sequence (a ∷ b ∷ []) ≡ true → is_in tail c ≡ true → 0xF0 ≤ a → More ≡ answer_of (a ∷ b ∷ c ∷ [])
 third_begun a b c begun fit low =
     let front : (is_in (0xE0, 0xF4) a && fits_second a b) ≡ true = sym (begun_two a b) ∙ begun in
     at_begun (a ∷ b ∷ c ∷ []) (whole_three a b c ∙ whole3 a (fits_second a b) (is_in tail c) low) (begun_three a b c ∙ begun3 a (fits_second a b) (is_in tail c) front fit low)
   where
-  whole3 : (a : ℕ) (s t : Bool) → 0xF0 ≤ a → (is_in (0xE0, 0xEF) a && (s && t)) ≡ false
-  whole3 a s t low = grind (arith, nat_tests)
-  begun3 : (a : ℕ) (s t : Bool) → (is_in (0xE0, 0xF4) a && s) ≡ true → t ≡ true → 0xF0 ≤ a → (is_in (0xF0, 0xF4) a && (s && t)) ≡ true
-  begun3 a s t front fit low = grind (arith, nat_tests)
+    whole3 : (a : ℕ) (s t : Bool) → 0xF0 ≤ a → (is_in (0xE0, 0xEF) a && (s && t)) ≡ false
+    whole3 a s t low = grind (arith, nat_tests)
+
+    begun3 : (a : ℕ) (s t : Bool) → (is_in (0xE0, 0xF4) a && s) ≡ true → t ≡ true → 0xF0 ≤ a → (is_in (0xF0, 0xF4) a && (s && t)) ≡ true
+    begun3 a s t front fit low = grind (arith, nat_tests)
 
 -- four bytes
 pub fourth_none : (a b c d : ℕ) → is_in tail d ≡ false → Bad ≡ answer_of (a ∷ b ∷ c ∷ d ∷ [])
@@ -80,5 +80,5 @@ fourth_whole a b c d begun fit =
     let front : (is_in (0xF0, 0xF4) a && (fits_second a b && is_in tail c)) ≡ true = sym (begun_three a b c) ∙ begun in
     at_whole (a ∷ b ∷ c ∷ d ∷ []) (whole_four a b c d ∙ whole4 (is_in (0xF0, 0xF4) a) (fits_second a b) (is_in tail c) (is_in tail d) front fit)
   where
-  whole4 : (r s t u : Bool) → (r && (s && t)) ≡ true → u ≡ true → (r && (s && (t && u))) ≡ true
-  whole4 r s t u front fit = grind (arith, nat_tests)
+    whole4 : (r s t u : Bool) → (r && (s && t)) ≡ true → u ≡ true → (r && (s && (t && u))) ≡ true
+    whole4 r s t u front fit = grind (arith, nat_tests)

@@ -1,10 +1,10 @@
 -- The UTF-8 forms of Rust's characters against the tables.
-use Rattle.std.proofs.Common.{◌≡◌, ◌≤◌, ◌<◌, ◌↔◌, ◌⊎◌, ⊎_elim, ℕ, ◌+◌, ◌-◌, ◌*◌, ◌/◌, ◌%◌, Bool, true, false, ◌&&◌, cond, ltb, List, [], ◌∷◌, refl, sym, ap, ◌∙◌, subst, arith}
+use Rattle.std.proofs.Common.{◌≡◌, ◌≤◌, ◌<◌, ◌↔◌, ◌⊎◌, ⊎_elim, ℕ, ◌+◌, ◌-◌, ◌*◌, ◌/◌, ◌%◌, true, ◌&&◌, ltb, List, [], ◌∷◌, refl, sym, ap, ◌∙◌, subst, arith}
 use Rattle.std.proofs.lemmas.Bool.{cases_lt, cond-true, cond-false, lt-ltb, le-ltb, and_from, false≢true}
 use Rattle.std.proofs.lemmas.Bool.Decides.{nat_tests}
 use Rattle.std.specs.Char.{IsScalar}
-use lib.Utf8.{encode, next, scalar_cases}
-use Rattle.rx_chars.specs.Utf8.{is_in, tail, is_well_formed, scalar_value, IsCharacter}
+use lib.Utf8.{encode, scalar_cases}
+use Rattle.rx_chars.specs.Utf8.{is_in, tail, IsCharacter}
 use Rattle.rx_chars.specs.Held.{fits_second}
 use Rattle.rx_chars.proofs.Utf8Rows.{whole_one, whole_two, whole_three, whole_four, whole_more}
 use Rattle.rx_chars.proofs.Utf8Values.{Two, Three, Four, two_of, three_of, four_of, two_scalar, three_scalar, four_scalar}
@@ -56,8 +56,8 @@ form_three a b c v t e =
     let third : 128 + v % 64 ≡ c = omega arith in
     encode-three v (⊎_elim (λ low. long (omega arith)) (λ above. omega arith) (cases_lt a 0xE1)) (omega arith) ∙ cc
   where
-  long : a ≡ 0xE0 → 2048 ≤ v
-  long at = let low : 0xA0 ≤ b = t.second.three_long at in omega arith
+    long : a ≡ 0xE0 → 2048 ≤ v
+    long at = let low : 0xA0 ≤ b = t.second.three_long at in omega arith
 
 form_four : (a b c d v : ℕ) → Four a b c d → v ≡ (((a - 0xF0) * 64 + (b - 0x80)) * 64 + (c - 0x80)) * 64 + (d - 0x80) → encode v ≡ a ∷ b ∷ c ∷ d ∷ []
 form_four a b c d v t e =
@@ -68,15 +68,15 @@ form_four a b c d v t e =
     let fourth : 128 + v % 64 ≡ d = omega arith in
     encode-four v (⊎_elim (λ low. long (omega arith)) (λ above. omega arith) (cases_lt a 0xF1)) ∙ cc
   where
-  long : a ≡ 0xF0 → 65536 ≤ v
-  long at = let low : 0x90 ≤ b = t.second.four_long at in omega arith
+    long : a ≡ 0xF0 → 65536 ≤ v
+    long at = let low : 0x90 ≤ b = t.second.four_long at in omega arith
 
 pub form_of : (bytes : List ℕ) (v : ℕ) → IsCharacter bytes v → IsScalar v × (encode v ≡ bytes)
 form_of [] v h = absurd (false≢true h.well_formed)
 form_of (a ∷ []) v h = one a (sym (whole_one a) ∙ h.well_formed) h.scalar
   where
-  one : (a : ℕ) → is_in (0x00, 0x7F) a ≡ true → a ≡ v → IsScalar v × (encode v ≡ a ∷ [])
-  one a range same = let low : a < 128 = grind (arith, nat_tests) in (grind (arith, nat_tests), encode-one v (omega arith) ∙ ap (λ x. x ∷ []) (sym same))
+    one : (a : ℕ) → is_in (0x00, 0x7F) a ≡ true → a ≡ v → IsScalar v × (encode v ≡ a ∷ [])
+    one a range same = let low : a < 128 = grind (arith, nat_tests) in (grind (arith, nat_tests), encode-one v (omega arith) ∙ ap (λ x. x ∷ []) (sym same))
 form_of (a ∷ b ∷ []) v h =
     let t = two_of a b h.well_formed in (subst IsScalar h.scalar (two_scalar a b t), form_two a b v t (sym h.scalar))
 form_of (a ∷ b ∷ c ∷ []) v h =
@@ -106,11 +106,11 @@ character_three : (c : ℕ) → 2048 ≤ c → c < 65536 → (c < 55296) ⊎ ((5
 character_three c low high gap = subst (λ bytes. IsCharacter bytes c) (sym (encode-three c low high)) (record {
   well_formed = whole_three (224 + c / 4096) (128 + (c / 64) % 64) (128 + c % 64)
       ∙ and_from (is_in (0xE0, 0xEF) (224 + c / 4096)) (fits_second (224 + c / 4096) (128 + (c / 64) % 64) && is_in tail (128 + c % 64))
-        (within 0xE0 0xEF (224 + c / 4096) (omega arith) (omega arith))
-        (and_from (fits_second (224 + c / 4096) (128 + (c / 64) % 64)) (is_in tail (128 + c % 64))
-          (fits (224 + c / 4096) (128 + (c / 64) % 64) (omega arith) (omega arith) (λ e. omega arith)
-            (λ e. ⊎_elim (λ below. omega arith) (λ above. let from : 57344 ≤ c = above.0 in omega arith) gap) (λ e. omega arith) (λ e. omega arith))
-          (within 0x80 0xBF (128 + c % 64) (omega arith) (omega arith)));
+      (within 0xE0 0xEF (224 + c / 4096) (omega arith) (omega arith))
+      (and_from (fits_second (224 + c / 4096) (128 + (c / 64) % 64)) (is_in tail (128 + c % 64))
+      (fits (224 + c / 4096) (128 + (c / 64) % 64) (omega arith) (omega arith) (λ e. omega arith)
+      (λ e. ⊎_elim (λ below. omega arith) (λ above. let from : 57344 ≤ c = above.0 in omega arith) gap) (λ e. omega arith) (λ e. omega arith))
+      (within 0x80 0xBF (128 + c % 64) (omega arith) (omega arith)));
   scalar = omega arith;
 })
 
@@ -118,11 +118,11 @@ character_four : (c : ℕ) → 65536 ≤ c → c < 1114112 → IsCharacter (enco
 character_four c low high = subst (λ bytes. IsCharacter bytes c) (sym (encode-four c low)) (record {
   well_formed = whole_four (240 + c / 262144) (128 + (c / 4096) % 64) (128 + (c / 64) % 64) (128 + c % 64)
       ∙ and_from (is_in (0xF0, 0xF4) (240 + c / 262144)) (fits_second (240 + c / 262144) (128 + (c / 4096) % 64) && (is_in tail (128 + (c / 64) % 64) && is_in tail (128 + c % 64)))
-        (within 0xF0 0xF4 (240 + c / 262144) (omega arith) (omega arith))
-        (and_from (fits_second (240 + c / 262144) (128 + (c / 4096) % 64)) (is_in tail (128 + (c / 64) % 64) && is_in tail (128 + c % 64))
-          (fits (240 + c / 262144) (128 + (c / 4096) % 64) (omega arith) (omega arith) (λ e. omega arith) (λ e. omega arith) (λ e. omega arith) (λ e. omega arith))
-          (and_from (is_in tail (128 + (c / 64) % 64)) (is_in tail (128 + c % 64))
-            (within 0x80 0xBF (128 + (c / 64) % 64) (omega arith) (omega arith)) (within 0x80 0xBF (128 + c % 64) (omega arith) (omega arith))));
+      (within 0xF0 0xF4 (240 + c / 262144) (omega arith) (omega arith))
+      (and_from (fits_second (240 + c / 262144) (128 + (c / 4096) % 64)) (is_in tail (128 + (c / 64) % 64) && is_in tail (128 + c % 64))
+      (fits (240 + c / 262144) (128 + (c / 4096) % 64) (omega arith) (omega arith) (λ e. omega arith) (λ e. omega arith) (λ e. omega arith) (λ e. omega arith))
+      (and_from (is_in tail (128 + (c / 64) % 64)) (is_in tail (128 + c % 64))
+      (within 0x80 0xBF (128 + (c / 64) % 64) (omega arith) (omega arith)) (within 0x80 0xBF (128 + c % 64) (omega arith) (omega arith))));
   scalar = omega (arith, spread c);
 })
 
@@ -130,12 +130,12 @@ pub character_of_form : (c : ℕ) → IsScalar c → IsCharacter (encode c) c
 character_of_form c scalar =
     let gap = scalar_cases c scalar in
     ⊎_elim (λ one. character_one c one)
-      (λ more. ⊎_elim (λ two. character_two c more two)
-        (λ three. ⊎_elim (λ high. character_three c three high gap)
-          (λ four. character_four c four (⊎_elim (λ below. omega arith) (λ above. above.1) gap))
-          (cases_lt c 65536))
-        (cases_lt c 2048))
-      (cases_lt c 128)
+    (λ more. ⊎_elim (λ two. character_two c more two)
+    (λ three. ⊎_elim (λ high. character_three c three high gap)
+    (λ four. character_four c four (⊎_elim (λ below. omega arith) (λ above. above.1) gap))
+    (cases_lt c 65536))
+    (cases_lt c 2048))
+    (cases_lt c 128)
 
 pub tables_agree : (bytes : List ℕ) (value : ℕ) → IsCharacter bytes value ↔ (IsScalar value × (encode value ≡ bytes))
 tables_agree bytes value =

@@ -42,12 +42,12 @@ whole_two a b = simp (and-false, and-true, or-false)
 pub whole_three : (a b c : ℕ) → is_well_formed (a ∷ b ∷ c ∷ []) ≡ (is_in (0xE0, 0xEF) a && (fits_second a b && is_in tail c))
 whole_three a b c =
     simp (and-false, and-true, or-false)
-      (three_rows a (is_in (0xA0, 0xBF) b) (is_in tail b) (is_in (0x80, 0x9F) b) (is_in (0x90, 0xBF) b) (is_in (0x80, 0x8F) b) (is_in tail c))
+    (three_rows a (is_in (0xA0, 0xBF) b) (is_in tail b) (is_in (0x80, 0x9F) b) (is_in (0x90, 0xBF) b) (is_in (0x80, 0x8F) b) (is_in tail c))
 
 pub whole_four : (a b c d : ℕ) → is_well_formed (a ∷ b ∷ c ∷ d ∷ []) ≡ (is_in (0xF0, 0xF4) a && (fits_second a b && (is_in tail c && is_in tail d)))
 whole_four a b c d =
     simp (and-false, and-true, or-false)
-      (four_rows a (is_in (0x90, 0xBF) b) (is_in tail b) (is_in (0x80, 0x8F) b) (is_in (0xA0, 0xBF) b) (is_in (0x80, 0x9F) b) (is_in tail c && is_in tail d))
+    (four_rows a (is_in (0x90, 0xBF) b) (is_in tail b) (is_in (0x80, 0x8F) b) (is_in (0xA0, 0xBF) b) (is_in (0x80, 0x9F) b) (is_in tail c && is_in tail d))
 
 pub whole_more : (a b c d e : ℕ) (bytes : List ℕ) → is_well_formed (a ∷ b ∷ c ∷ d ∷ e ∷ bytes) ≡ false
 whole_more a b c d e bytes = simp (and-false, or-false)
@@ -58,12 +58,12 @@ begun_one a = simp (and-false, and-true, or-false) (grind (arith, nat_tests))
 pub begun_two : (a b : ℕ) → begins_sequence (a ∷ b ∷ []) ≡ (is_in (0xE0, 0xF4) a && fits_second a b)
 begun_two a b =
     simp (and-false, and-true, or-false)
-      (all_rows a (is_in (0xA0, 0xBF) b) (is_in tail b) (is_in (0x80, 0x9F) b) (is_in (0x90, 0xBF) b) (is_in (0x80, 0x8F) b))
+    (all_rows a (is_in (0xA0, 0xBF) b) (is_in tail b) (is_in (0x80, 0x9F) b) (is_in (0x90, 0xBF) b) (is_in (0x80, 0x8F) b))
 
 pub begun_three : (a b c : ℕ) → begins_sequence (a ∷ b ∷ c ∷ []) ≡ (is_in (0xF0, 0xF4) a && (fits_second a b && is_in tail c))
 begun_three a b c =
     simp (and-false, and-true, or-false)
-      (four_rows a (is_in (0x90, 0xBF) b) (is_in tail b) (is_in (0x80, 0x8F) b) (is_in (0xA0, 0xBF) b) (is_in (0x80, 0x9F) b) (is_in tail c))
+    (four_rows a (is_in (0x90, 0xBF) b) (is_in tail b) (is_in (0x80, 0x8F) b) (is_in (0xA0, 0xBF) b) (is_in (0x80, 0x9F) b) (is_in tail c))
 
 pub begun_more : (a b c d : ℕ) (bytes : List ℕ) → begins_sequence (a ∷ b ∷ c ∷ d ∷ bytes) ≡ false
 begun_more a b c d bytes = simp (and-false, or-false)

@@ -1,5 +1,5 @@
 -- The scalar values of well-formed sequences, and the bounds of their bytes as facts on numbers.
-use Rattle.std.proofs.Common.{◌≡◌, ◌≤◌, ◌<◌, ℕ, ◌+◌, ◌-◌, ◌*◌, Bool, true, false, ◌&&◌, ◌⊎◌, inl, inr, ⊎_elim, List, [], ◌∷◌, refl, sym, ◌∙◌, arith}
+use Rattle.std.proofs.Common.{◌≡◌, ◌≤◌, ◌<◌, ℕ, ◌+◌, ◌-◌, ◌*◌, true, ◌&&◌, ◌⊎◌, inl, inr, ⊎_elim, [], ◌∷◌, sym, ◌∙◌, arith}
 use Rattle.std.proofs.lemmas.Bool.{cases_lt, and_parts}
 use Rattle.std.proofs.lemmas.Bool.Decides.{nat_tests}
 use Rattle.std.specs.Char.{IsScalar}
@@ -61,14 +61,14 @@ three_of a b c whole =
     let inner = and_parts (fits_second a b) (is_in tail c) parts.1 in
     from a b c parts.0 inner.0 inner.1
   where
-  from : (a b c : ℕ) → is_in (0xE0, 0xEF) a ≡ true → fits_second a b ≡ true → is_in tail c ≡ true → Three a b c
-  from a b c lead fit third = record {
-    low = grind (arith, nat_tests);
-    high = grind (arith, nat_tests);
-    second = second_of a b fit;
-    third_low = grind (arith, nat_tests);
-    third_high = grind (arith, nat_tests);
-  }
+    from : (a b c : ℕ) → is_in (0xE0, 0xEF) a ≡ true → fits_second a b ≡ true → is_in tail c ≡ true → Three a b c
+    from a b c lead fit third = record {
+      low = grind (arith, nat_tests);
+      high = grind (arith, nat_tests);
+      second = second_of a b fit;
+      third_low = grind (arith, nat_tests);
+      third_high = grind (arith, nat_tests);
+    }
 
 pub four_of : (a b c d : ℕ) → is_well_formed (a ∷ b ∷ c ∷ d ∷ []) ≡ true → Four a b c d
 four_of a b c d whole =
@@ -77,16 +77,16 @@ four_of a b c d whole =
     let last = and_parts (is_in tail c) (is_in tail d) inner.1 in
     from a b c d parts.0 inner.0 last.0 last.1
   where
-  from : (a b c d : ℕ) → is_in (0xF0, 0xF4) a ≡ true → fits_second a b ≡ true → is_in tail c ≡ true → is_in tail d ≡ true → Four a b c d
-  from a b c d lead fit third fourth = record {
-    low = grind (arith, nat_tests);
-    high = grind (arith, nat_tests);
-    second = second_of a b fit;
-    third_low = grind (arith, nat_tests);
-    third_high = grind (arith, nat_tests);
-    fourth_low = grind (arith, nat_tests);
-    fourth_high = grind (arith, nat_tests);
-  }
+    from : (a b c d : ℕ) → is_in (0xF0, 0xF4) a ≡ true → fits_second a b ≡ true → is_in tail c ≡ true → is_in tail d ≡ true → Four a b c d
+    from a b c d lead fit third fourth = record {
+      low = grind (arith, nat_tests);
+      high = grind (arith, nat_tests);
+      second = second_of a b fit;
+      third_low = grind (arith, nat_tests);
+      third_high = grind (arith, nat_tests);
+      fourth_low = grind (arith, nat_tests);
+      fourth_high = grind (arith, nat_tests);
+    }
 
 scalar_at : (v : ℕ) → v < 0x110000 → (v < 0xD800) ⊎ (0xDFFF < v) → IsScalar v
 scalar_at v high gap = grind (arith, nat_tests)
@@ -97,18 +97,19 @@ two_scalar a b t = scalar_at ((a - 0xC0) * 64 + (b - 0x80)) (omega arith) (inl (
 pub three_scalar : (a b c : ℕ) → Three a b c → IsScalar (((a - 0xE0) * 64 + (b - 0x80)) * 64 + (c - 0x80))
 three_scalar a b c t =
     scalar_at (((a - 0xE0) * 64 + (b - 0x80)) * 64 + (c - 0x80)) (omega arith)
-      (⊎_elim (λ low. inl (omega arith)) (λ from. ⊎_elim (λ above. inr (omega arith)) (λ to. inl (below (omega arith))) (cases_lt 0xED a)) (cases_lt a 0xED))
+    (⊎_elim (λ low. inl (omega arith)) (λ from. ⊎_elim (λ above. inr (omega arith)) (λ to. inl (below (omega arith))) (cases_lt 0xED a)) (cases_lt a 0xED))
   where
-  below : a ≡ 0xED → ((a - 0xE0) * 64 + (b - 0x80)) * 64 + (c - 0x80) < 0xD800
-  below at = let high : b ≤ 0x9F = t.second.no_surrogate at in omega arith
+    below : a ≡ 0xED → ((a - 0xE0) * 64 + (b - 0x80)) * 64 + (c - 0x80) < 0xD800
+    below at = let high : b ≤ 0x9F = t.second.no_surrogate at in omega arith
 
 pub four_scalar : (a b c d : ℕ) → Four a b c d → IsScalar ((((a - 0xF0) * 64 + (b - 0x80)) * 64 + (c - 0x80)) * 64 + (d - 0x80))
 four_scalar a b c d t =
     scalar_at ((((a - 0xF0) * 64 + (b - 0x80)) * 64 + (c - 0x80)) * 64 + (d - 0x80))
-      (⊎_elim (λ low. omega arith) (λ from. below (omega arith)) (cases_lt a 0xF4))
-      (inr (⊎_elim (λ low. omega arith) (λ to. above (omega arith)) (cases_lt 0xF0 a)))
+    (⊎_elim (λ low. omega arith) (λ from. below (omega arith)) (cases_lt a 0xF4))
+    (inr (⊎_elim (λ low. omega arith) (λ to. above (omega arith)) (cases_lt 0xF0 a)))
   where
-  below : a ≡ 0xF4 → (((a - 0xF0) * 64 + (b - 0x80)) * 64 + (c - 0x80)) * 64 + (d - 0x80) < 0x110000
-  below at = let high : b ≤ 0x8F = t.second.no_more at in omega arith
-  above : a ≡ 0xF0 → 0xDFFF < (((a - 0xF0) * 64 + (b - 0x80)) * 64 + (c - 0x80)) * 64 + (d - 0x80)
-  above at = let low : 0x90 ≤ b = t.second.four_long at in omega arith
+    below : a ≡ 0xF4 → (((a - 0xF0) * 64 + (b - 0x80)) * 64 + (c - 0x80)) * 64 + (d - 0x80) < 0x110000
+    below at = let high : b ≤ 0x8F = t.second.no_more at in omega arith
+
+    above : a ≡ 0xF0 → 0xDFFF < (((a - 0xF0) * 64 + (b - 0x80)) * 64 + (c - 0x80)) * 64 + (d - 0x80)
+    above at = let low : 0x90 ≤ b = t.second.four_long at in omega arith

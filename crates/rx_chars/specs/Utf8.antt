@@ -19,15 +19,15 @@ tail = (0x80, 0xBF)
 -- Table 3-7, Well-Formed UTF-8 Byte Sequences: the bytes that may stand first, second, third and fourth
 abbrev pub well_formed_rows : List (List Range)
 well_formed_rows =
-    ((0x00, 0x7F) ∷ [])                                  -- U+0000 to U+007F
-    ∷ ((0xC2, 0xDF) ∷ tail ∷ [])                         -- U+0080 to U+07FF
-    ∷ ((0xE0, 0xE0) ∷ (0xA0, 0xBF) ∷ tail ∷ [])          -- U+0800 to U+0FFF
-    ∷ ((0xE1, 0xEC) ∷ tail ∷ tail ∷ [])                  -- U+1000 to U+CFFF
-    ∷ ((0xED, 0xED) ∷ (0x80, 0x9F) ∷ tail ∷ [])          -- U+D000 to U+D7FF
-    ∷ ((0xEE, 0xEF) ∷ tail ∷ tail ∷ [])                  -- U+E000 to U+FFFF
-    ∷ ((0xF0, 0xF0) ∷ (0x90, 0xBF) ∷ tail ∷ tail ∷ [])   -- U+10000 to U+3FFFF
-    ∷ ((0xF1, 0xF3) ∷ tail ∷ tail ∷ tail ∷ [])           -- U+40000 to U+FFFFF
-    ∷ ((0xF4, 0xF4) ∷ (0x80, 0x8F) ∷ tail ∷ tail ∷ [])   -- U+100000 to U+10FFFF
+    ((0x00, 0x7F) ∷ [])  -- U+0000 to U+007F
+    ∷ ((0xC2, 0xDF) ∷ tail ∷ [])  -- U+0080 to U+07FF
+    ∷ ((0xE0, 0xE0) ∷ (0xA0, 0xBF) ∷ tail ∷ [])  -- U+0800 to U+0FFF
+    ∷ ((0xE1, 0xEC) ∷ tail ∷ tail ∷ [])  -- U+1000 to U+CFFF
+    ∷ ((0xED, 0xED) ∷ (0x80, 0x9F) ∷ tail ∷ [])  -- U+D000 to U+D7FF
+    ∷ ((0xEE, 0xEF) ∷ tail ∷ tail ∷ [])  -- U+E000 to U+FFFF
+    ∷ ((0xF0, 0xF0) ∷ (0x90, 0xBF) ∷ tail ∷ tail ∷ [])  -- U+10000 to U+3FFFF
+    ∷ ((0xF1, 0xF3) ∷ tail ∷ tail ∷ tail ∷ [])  -- U+40000 to U+FFFFF
+    ∷ ((0xF4, 0xF4) ∷ (0x80, 0x8F) ∷ tail ∷ tail ∷ [])  -- U+100000 to U+10FFFF
     ∷ []
 
 -- the bytes are a sequence of this row

@@ -52,3 +52,6 @@ pub fn enters_normal()
 pub fn normal_grows()
     ensures { NormalGrows }
 {}
+
+#[cfg(test)]
+mod tests;

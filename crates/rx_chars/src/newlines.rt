@@ -12,6 +12,7 @@ pub struct Newlines {
 
 impl Model for Newlines {
     ghost Value = { Bool };
+
     ghost view = { λ newlines. newlines.after_return };
 }
 
@@ -22,7 +23,9 @@ impl Newlines {
     pub fn new() -> Newlines
         ensures { result ≡ false }
     {
-        Newlines { after_return: false }
+        Newlines {
+            after_return: false,
+        }
     }
 
     /// Takes the next character, and gives what it adds to the normalized ones: an LF for a CR, nothing exactly for an

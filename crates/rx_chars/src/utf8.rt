@@ -49,7 +49,9 @@ impl Utf8 {
     pub fn new() -> Utf8
         ensures { result ≡ [] }
     {
-        Utf8 { held: Held::Nothing }
+        Utf8 {
+            held: Held::Nothing,
+        }
     }
 
     /// Takes the next byte. `Bad` comes exactly where the bytes since the last whole character, this one included, begin
@@ -100,7 +102,11 @@ fn answer_second(first: u8, byte: u8) -> Utf8Step
     if !may_stand_second(first, byte) {
         return Utf8Step::Bad;
     }
-    if first < 0xE0 { character(with_tail(u32::from(first - 0xC0), byte)) } else { Utf8Step::More }
+    if first < 0xE0 {
+        character(with_tail(u32::from(first - 0xC0), byte))
+    } else {
+        Utf8Step::More
+    }
 }
 
 fn answer_third(first: u8, second: u8, byte: u8) -> Utf8Step

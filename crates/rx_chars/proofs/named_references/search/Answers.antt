@@ -1,4 +1,4 @@
-use Rattle.std.proofs.Common.{rules, ℕ, List, Bor, sym, ap, ◌∙◌}
+use Rattle.std.proofs.Common.{rules, ℕ, List, Bor, sym}
 use Rattle.std.proofs.lemmas.List.Sorted.{answers_always}
 use Rattle.rx_chars.proofs.NamedLemmas.{found_at, found_nowhere}
 use Rattle.rx_chars.proofs.named_references.search.Goals as goal

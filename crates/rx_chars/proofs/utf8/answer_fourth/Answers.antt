@@ -1,4 +1,4 @@
-use Rattle.std.proofs.Common.{sym, ◌∙◌, arith}
+use Rattle.std.proofs.Common.{sym, ◌∙◌}
 use Rattle.rx_chars.proofs.Utf8Answers.{fourth_none, fourth_whole}
 use Rattle.rx_chars.proofs.utf8.answer_fourth.Goals as goal
 

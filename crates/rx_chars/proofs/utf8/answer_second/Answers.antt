@@ -1,4 +1,4 @@
-use Rattle.std.proofs.Common.{sym, ◌∙◌, arith}
+use Rattle.std.proofs.Common.{sym, ◌∙◌}
 use Rattle.rx_chars.proofs.Utf8Answers.{second_none, second_whole, second_begun}
 use Rattle.rx_chars.proofs.utf8.answer_second.Goals as goal
 

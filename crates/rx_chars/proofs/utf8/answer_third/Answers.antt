@@ -1,4 +1,4 @@
-use Rattle.std.proofs.Common.{sym, ◌∙◌, arith}
+use Rattle.std.proofs.Common.{sym, ◌∙◌}
 use Rattle.rx_chars.proofs.Utf8Answers.{third_none, third_whole, third_begun}
 use Rattle.rx_chars.proofs.utf8.answer_third.Goals as goal
 

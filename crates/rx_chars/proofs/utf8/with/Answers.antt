@@ -5,6 +5,6 @@ use Rattle.rx_chars.proofs.utf8.with.Goals as goal
 pub returns-in-Three-clause-bytes : goal.returns-in-Three-clause-bytes
 returns-in-Three-clause-bytes c =
     absurd (⊎_elim
-      (λ three. no_fourth c.args.held three.0 three.1 three.2 c.args.byte three.3 c.requires)
-      (λ broken. none_broken c.args.held c.args.byte broken c.requires)
-      c.in-Three.is)
+    (λ three. no_fourth c.args.held three.0 three.1 three.2 c.args.byte three.3 c.requires)
+    (λ broken. none_broken c.args.held c.args.byte broken c.requires)
+    c.in-Three.is)
