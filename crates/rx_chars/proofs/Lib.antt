@@ -6,3 +6,4 @@ pub mod HeldLemmas
 pub mod NamedLemmas
 pub mod Utf8Forms
 pub mod CharactersLemmas
+pub mod DecodingLemmas

@@ -41,7 +41,7 @@ row_longer (r ∷ row) (b ∷ bytes) m more whole =
     let parts = and_parts (is_in r b) (fills row (bytes ++ m ∷ more)) whole in
     and_from (is_in r b) (begins_row row bytes) parts.0 (row_longer row bytes m more parts.1)
 
-any_longer : (rows : List (List Range)) (bytes : List ℕ) (m : ℕ) (more : List ℕ) → list_any (λ row. fills row (bytes ++ m ∷ more)) rows ≡ true
+pub any_longer : (rows : List (List Range)) (bytes : List ℕ) (m : ℕ) (more : List ℕ) → list_any (λ row. fills row (bytes ++ m ∷ more)) rows ≡ true
     → list_any (λ row. begins_row row bytes) rows ≡ true
 any_longer [] bytes m more some = absurd (false≢true some)
 any_longer (row ∷ rows) bytes m more some =
@@ -106,7 +106,7 @@ any_completed (row ∷ rows) bytes filled some =
     (or_cases (begins_row row bytes) (list_any (λ row. begins_row row bytes) rows) some)
 
 -- no sequence begins a longer one
-whole_excludes : (bytes : List ℕ) → is_well_formed bytes ≡ true → begins_sequence bytes ≡ false
+pub whole_excludes : (bytes : List ℕ) → is_well_formed bytes ≡ true → begins_sequence bytes ≡ false
 whole_excludes [] whole = absurd (false≢true whole)
 whole_excludes (a ∷ []) whole =
     let one : is_in (0x00, 0x7F) a ≡ true = sym (whole_one a) ∙ whole in

@@ -1,5 +1,6 @@
 pub mod Utf8
 pub mod Held
+pub mod Decoding
 pub mod Characters
 pub mod NcName
 pub mod Named

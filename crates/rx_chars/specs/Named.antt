@@ -78,7 +78,7 @@ other_rows =
     ∷ (codes "rfloor", 0x230B) ∷ (codes "lang", 0x27E8) ∷ (codes "rang", 0x27E9) ∷ (codes "loz", 0x25CA)
     ∷ (codes "spades", 0x2660) ∷ (codes "clubs", 0x2663) ∷ (codes "hearts", 0x2665) ∷ (codes "diams", 0x2666) ∷ []
 
--- each name with its character
+-- each name with its character (the names are ASCII, so a name's bytes are its characters)
 unfoldable pub named_table : List Row
 named_table =
     run_from 0x00A0 (words latin_names)

@@ -6,6 +6,7 @@
 #![tactic(auto)]
 
 ghost use Rattle.rx_chars.specs.Utf8.{AnswersAreExact, RowsBegin, TablesAgree};
+ghost use Rattle.rx_chars.specs.Decoding.{DecodingGrows, HeldIsNoText};
 ghost use Rattle.rx_chars.specs.Characters.{EntersNormal, NormalGrows, OneReading};
 
 mod named_references;
@@ -36,6 +37,17 @@ pub fn rows_begin()
 /// Of any bytes since the last whole character exactly one answer of [`Utf8::step`] holds.
 pub fn answers_are_exact()
     ensures { AnswersAreExact }
+{}
+
+/// Text may be decoded a byte at a time: with each answer of [`Utf8::step`] the characters given, and the bytes held of
+/// one more, are all the bytes so far; and where a byte is bad, no text begins with these bytes.
+pub fn decoding_grows()
+    ensures { DecodingGrows }
+{}
+
+/// Bytes that end within a character are no text.
+pub fn held_is_no_text()
+    ensures { HeldIsNoText }
 {}
 
 /// A page's bytes have at most one list of characters with their places.

@@ -26,6 +26,40 @@ enum Held {
     Broken,
 }
 
+impl Held {
+    ghost use Rattle.std.specs.Prelude.{◌≡◌, ◌++◌, [], ◌∷◌, true};
+    ghost use Rattle.rx_chars.specs.Utf8.{answer_of, begins_sequence};
+    ghost use Rattle.rx_chars.specs.Held.{held_bytes, is_begun};
+
+    // What one more byte makes of these.
+    fn answer(self, byte: u8) -> Utf8Step
+        requires { is_begun self ≡ true }
+        ensures { result ≡ answer_of (held_bytes self ++ byte ∷ []) }
+    {
+        match self {
+            Held::Nothing => answer_first(byte),
+            Held::One(first) => answer_second(first, byte),
+            Held::Two(first, second) => answer_third(first, second, byte),
+            Held::Three(first, second, third) => answer_fourth(first, second, third, byte),
+            Held::Broken => Utf8Step::Bad,
+        }
+    }
+
+    // These with one more byte.
+    fn with(self, byte: u8) -> Held
+        requires { begins_sequence (held_bytes self ++ byte ∷ []) ≡ true }
+        ensures bytes { held_bytes result ≡ held_bytes self ++ byte ∷ [] }
+        ensures begun { is_begun result ≡ true }
+    {
+        match self {
+            Held::Nothing => Held::One(byte),
+            Held::One(first) => Held::Two(first, byte),
+            Held::Two(first, second) => Held::Three(first, second, byte),
+            Held::Three(..) | Held::Broken => Held::Broken,
+        }
+    }
+}
+
 /// Decodes UTF-8 a byte at a time. A contract sees the bytes since the last whole character; of bytes that begin none
 /// it sees some that don't either.
 #[derive(Drop)]
@@ -60,28 +94,13 @@ impl Utf8 {
         ensures answers { Answers (self.old ++ byte ∷ []) result }
         ensures leaves { Leaves (self.old ++ byte ∷ []) result self.new }
     {
-        let held = self.held;
-        let answer = answer(held, byte);
+        let answer = self.held.answer(byte);
         self.held = match answer {
-            Utf8Step::More => with(held, byte),
+            Utf8Step::More => self.held.with(byte),
             Utf8Step::Char(_) => Held::Nothing,
             Utf8Step::Bad => Held::Broken,
         };
         answer
-    }
-}
-
-// The answer for what is held and the next byte.
-fn answer(held: Held, byte: u8) -> Utf8Step
-    requires { is_begun held ≡ true }
-    ensures { result ≡ answer_of (held_bytes held ++ byte ∷ []) }
-{
-    match held {
-        Held::Nothing => answer_first(byte),
-        Held::One(first) => answer_second(first, byte),
-        Held::Two(first, second) => answer_third(first, second, byte),
-        Held::Three(first, second, third) => answer_fourth(first, second, third, byte),
-        Held::Broken => Utf8Step::Bad,
     }
 }
 
@@ -133,20 +152,6 @@ fn answer_fourth(first: u8, second: u8, third: u8, byte: u8) -> Utf8Step
     }
     let front = with_tail(with_tail(u32::from(first - 0xF0), second), third);
     character(with_tail(front, byte))
-}
-
-// What is held with one more byte.
-fn with(held: Held, byte: u8) -> Held
-    requires { begins_sequence (held_bytes held ++ byte ∷ []) ≡ true }
-    ensures bytes { held_bytes result ≡ held_bytes held ++ byte ∷ [] }
-    ensures begun { is_begun result ≡ true }
-{
-    match held {
-        Held::Nothing => Held::One(byte),
-        Held::One(first) => Held::Two(first, byte),
-        Held::Two(first, second) => Held::Three(first, second, byte),
-        Held::Three(..) | Held::Broken => Held::Broken,
-    }
 }
 
 fn is_tail(byte: u8) -> bool
