@@ -1,1 +1,4 @@
 pub mod PartLemmas
+pub mod DotLemmas
+pub mod CutLemmas
+pub mod TrimLemmas

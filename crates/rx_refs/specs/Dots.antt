@@ -10,7 +10,7 @@ pub record Buffers : Type 0 where
   pub output : Chars
 
 abbrev pub is : Chars → Chars → Bool
-is text input = bytes_eq input text
+is text input = bytes_eq text input
 
 abbrev pub holds : ℕ → Chars → Bool
 holds mark text = list_any (λ c. c == mark) text

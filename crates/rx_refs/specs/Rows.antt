@@ -62,7 +62,7 @@ abbrev pub own : List (Chars × Chars)
 own =
     (codes " a b ", codes "http://a/b/c/a%20b")
     ∷ (codes "1:g", codes "http://a/b/c/1:g")
-    ∷ (codes "a_b:../g", codes "http://a/b/c/g")
+    ∷ (codes "a_b:/../g", codes "http://a/b/c/g")
     ∷ (codes "<{g}>%7b", codes "http://a/b/c/%3C%7Bg%7D%3E%7b")
     ∷ (codes "//a b/../c|", codes "http://a%20b/c%7C")
     ∷ []

@@ -5,7 +5,7 @@ ghost use Rattle.rx_refs.specs.Dots.{holds, without_dots, without_last_segment};
 ghost use Rattle.rx_refs.specs.Resolve.{through_last_slash};
 ghost use Rattle.rx_refs.specs.Segments.{Takes, pushed, cut_back, after_segment, after_last};
 
-use crate::slices::{first_segment, last_slash};
+use crate::slices::{last_slash, split_once};
 use rx_terms::NoMemory;
 use std::marker::Model;
 
@@ -76,7 +76,7 @@ impl GrownPath {
         ensures last { IfOk result (λ rest. holds 47 (chars rest.now) ≡ false) }
     {
         let mut rest = path;
-        while let Some((segment, behind)) = first_segment(rest) {
+        while let Some((segment, behind)) = split_once(rest, '/') {
             self.push_segment(segment)?;
             rest = behind;
         }

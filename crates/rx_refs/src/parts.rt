@@ -4,7 +4,7 @@ ghost use Rattle.std.specs.Str.{chars};
 ghost use Rattle.rx_refs.specs.Parts.{components_of, scheme_of, behind_scheme, authority_of, path_of};
 ghost use Rattle.rx_refs.specs.Views.{seen, seen_slice};
 
-use crate::slices::{behind_slashes, cut, cut_at_slash};
+use crate::slices::{behind_slashes, cut, cut_at_slash, split_once};
 use rx_terms::is_scheme;
 
 /// The five components of a URI reference (RFC 3986, section 3), as slices of its text without their delimiters. One
@@ -45,7 +45,7 @@ fn split_scheme(text: &str) -> (Option<&str>, &str)
     ensures scheme { seen_slice result.0 ≡ scheme_of (chars text.now) }
     ensures rest { chars result.1.now ≡ behind_scheme (chars text.now) }
 {
-    if let Some((front, rest)) = text.split_once(':') {
+    if let Some((front, rest)) = split_once(text, ':') {
         if is_scheme(front) {
             return (Some(front), rest);
         }

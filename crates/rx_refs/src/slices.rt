@@ -6,13 +6,21 @@ ghost use Rattle.rx_refs.specs.Parts.{before, behind, from_first};
 ghost use Rattle.rx_refs.specs.Dots.{holds, without_last_segment};
 ghost use Rattle.rx_refs.specs.Views.{seen_slice};
 
+/// What stands before and behind the first `mark`.
+pub fn split_once(text: &str, mark: char) -> Option<(&str, &str)>
+    requires { mark < 128 }
+    ensures { MatchOption result (holds mark (chars text.now) ≡ false) (λ cut. (chars text.now ≡ chars cut.0.now ++ mark ∷ chars cut.1.now) × (holds mark (chars cut.0.now) ≡ false)) }
+{
+    text.split_once(mark)
+}
+
 /// What stands before the first `mark` and, where there is one, what stands behind it.
 pub fn cut(text: &str, mark: char) -> (&str, Option<&str>)
     requires { mark < 128 }
     ensures front { chars result.0.now ≡ before mark (chars text.now) }
     ensures rest { seen_slice result.1 ≡ behind mark (chars text.now) }
 {
-    match text.split_once(mark) {
+    match split_once(text, mark) {
         Some((front, rest)) => (front, Some(rest)),
         None => (text, None),
     }
@@ -25,13 +33,6 @@ pub fn cut_at_slash(text: &str) -> (&str, &str)
 {
     let at = text.find('/').unwrap_or(text.len());
     text.split_at(at)
-}
-
-/// The first segment of a path and what stands behind its `/`, where there is one.
-pub fn first_segment(path: &str) -> Option<(&str, &str)>
-    ensures { MatchOption result (holds 47 (chars path.now) ≡ false) (λ cut. (chars path.now ≡ chars cut.0.now ++ 47 ∷ chars cut.1.now) × (holds 47 (chars cut.0.now) ≡ false)) }
-{
-    path.split_once('/')
 }
 
 /// Where the last `/` stands, in bytes, or 0 where there is none.
