@@ -3,7 +3,7 @@ use Rattle.std.proofs.Common.{◌≡◌, ◌∙◌, ℕ, zero, suc, ◌<◌, ◌
 use Rattle.std.specs.Prelude.{if◌then◌else◌, codes, bytes_eq}
 use Rattle.std.specs.Cmp.Lexicographic.{bytes_decides}
 use Rattle.std.proofs.lemmas.Bool.Decides.{nat_tests}
-use Rattle.std.proofs.lemmas.List.{append-nil, length-drop}
+use Rattle.std.proofs.lemmas.List.{append-nil, append_assoc, length-drop}
 use Rattle.rx_terms.specs.Text.{Chars, begins_with}
 use Rattle.rx_refs.specs.Parts.{before, from_first}
 use Rattle.rx_refs.specs.Dots.{Buffers, is, holds, first_segment, behind_first_segment, without_last_segment, step, after_steps, without_dots}
@@ -197,3 +197,33 @@ reduced-last grown segment h =
     by_test (is (codes ".") segment) (λ one. rw one (rw (same (codes ".") segment one) (one-last grown.slash grown.path))) (λ one.
     by_test (is (codes "..") segment) (λ two. rw (one, two) (rw (same (codes "..") segment two) (two-last grown.front grown.slash grown.path))) (λ two.
     rw (one, two) (other-last grown.slash segment grown.path h one two)))
+
+-- Takes, one after another
+
+pub takes-none : (grown : Grown) → Takes grown grown []
+takes-none grown = record { same_front = refl; leads = λ rest. refl }
+
+pub takes-segment : (old grown : Grown) (taken segment : Chars) → holds 47 segment ≡ false → Takes old grown taken → Takes old (after_segment grown segment) (taken ++ (segment ++ 47 ∷ []))
+takes-segment old grown taken segment h t = record {
+  same_front = front-stays ∙ t.same_front;
+  leads = λ rest.
+    let whole : (taken ++ (segment ++ 47 ∷ [])) ++ rest ≡ taken ++ (segment ++ 47 ∷ rest) = simp append_assoc in
+    ap (λ (x : Chars). reduced (buffers_at old x)) whole ∙ t.leads (segment ++ 47 ∷ rest) ∙ reduced-closed grown segment rest h;
+} where
+  front-stays : (after_segment grown segment).front ≡ grown.front
+  front-stays = by_test (is (codes ".") segment) (λ one. rw one refl) (λ one. by_test (is (codes "..") segment) (λ two. rw (one, two) refl) (λ two. rw (one, two) refl))
+
+pub takes-both : (old mid new : Grown) (a b : Chars) → Takes old mid a → Takes mid new b → Takes old new (a ++ b)
+takes-both old mid new a b s t = record {
+  same_front = t.same_front ∙ s.same_front;
+  leads = λ rest. ap (λ (x : Chars). reduced (buffers_at old x)) (append_assoc a b rest) ∙ s.leads (b ++ rest) ∙ t.leads rest;
+}
+
+-- the whole path: what was taken, and the last segment
+pub reduced-whole : (text : Chars) (new : Grown) (taken last : Chars) → holds 47 last ≡ false
+    → Takes (record { front = text; path = []; slash = false }) new taken → without_dots (taken ++ last) ≡ (after_last new last).path
+unfolding reduced without_dots
+reduced-whole text new taken last h t = t.leads last ∙ reduced-last new last h
+
+pub after_last-front : (grown : Grown) (last : Chars) → (after_last grown last).front ≡ grown.front
+after_last-front grown last = by_test (is (codes ".") last) (λ one. rw one refl) (λ one. by_test (is (codes "..") last) (λ two. rw (one, two) refl) (λ two. rw (one, two) refl))

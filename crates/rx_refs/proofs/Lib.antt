@@ -2,3 +2,4 @@ pub mod PartLemmas
 pub mod DotLemmas
 pub mod CutLemmas
 pub mod TrimLemmas
+pub mod BufferLemmas

@@ -118,8 +118,9 @@ trim-chars s r u v t =
     let in_chars : chars s ≡ a ++ (chars r ++ b) =
         ap chars whole ∙ chars-append a (r ++ b) (ascii-utf8 a ascii_a) ∙ ap (λ (x : List ℕ). x ++ chars (r ++ b)) (ascii-chars a ascii_a)
         ∙ ap (λ (x : List ℕ). a ++ x) (chars-append r b v ∙ ap (λ (x : List ℕ). chars r ++ x) (ascii-chars b ascii_b)) in
+    let none_more : m + 0 ≡ m = omega arith in
     let at_first : 0 < length r → is_ascii_whitespace (get_or r 0 0) ≡ false = λ some.
-        ap is_ascii_whitespace (ap (λ (x : List ℕ). get_or x 0 0) t.1 ∙ get_or-take (length r) d 0 0 some ∙ get_or-drop m s 0 0) ∙ t.3 (omega (arith, length-drop m s)) in
+        ap is_ascii_whitespace (ap (λ (x : List ℕ). get_or x 0 0) t.1 ∙ get_or-take (length r) d 0 0 some ∙ get_or-drop m s 0 0 ∙ ap (λ (n : ℕ). get_or s n 0) none_more) ∙ t.3 (omega (arith, length-drop m s)) in
     let at_last : 0 < length r → is_ascii_whitespace (get_or r (length r - 1) 0) ≡ false = λ some.
         ap is_ascii_whitespace (ap (λ (x : List ℕ). get_or x (length r - 1) 0) t.1 ∙ get_or-take (length r) d (length r - 1) 0 (omega arith)) ∙ t.5 some in
     sym (ap trimmed in_chars ∙ middle a b r (chars r) (encodes-chars r v) white_a white_b at_first at_last)

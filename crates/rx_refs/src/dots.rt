@@ -57,7 +57,7 @@ impl GrownPath {
         ensures { result ≡ record { front = chars (string_bytes text); path = []; slash = false } }
     {
         GrownPath {
-            start: text.len(),
+            start: text.as_str().len(),
             text,
             slash: false,
         }
