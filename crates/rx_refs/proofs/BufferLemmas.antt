@@ -1,10 +1,17 @@
 -- The buffer of a path that grows, from its bytes.
-use Rattle.std.proofs.Common.{◌≡◌, ◌∙◌, ℕ, ◌≤◌, ◌+◌, Bool, false, List, [], ◌++◌, length, take, drop, sym, ap, subst, refl, arith, length-append}
-use Rattle.std.specs.Str.{chars, IsUtf8, IsCharBoundary}
-use Rattle.std.proofs.lemmas.List.{take-append-drop, take_all, drop_all, take-append-le, drop-append-le, take-take, drop-take}
-use Rattle.std.proofs.lemmas.Str.{chars-nil, chars-append, IsUtf8-append, IsUtf8-take, IsUtf8-drop, IsCharBoundary-from_drop}
+use Rattle.std.proofs.Common.{◌≡◌, ◌≢◌, ◌∙◌, ℕ, ◌≤◌, ◌+◌, Bool, true, false, List, [], ◌∷◌, ◌++◌, Result, Ok, Err, length, take, drop, sym, ap, subst, refl, arith, length-append}
+use Rattle.std.specs.Prelude.{OnOk, codes}
+use Rattle.std.specs.Str.{chars, IsUtf8, IsCharBoundary, encode_utf8_all}
+use Rattle.std.specs.List.{list_all}
+use Rattle.std.specs.Cmp.Lexicographic.{bytes_decides}
+use Rattle.std.proofs.lemmas.List.{append_assoc, take-append-drop, take_all, drop_all, take-append-le, drop-append-le, take-take, drop-take}
+use Rattle.std.proofs.lemmas.Str.{chars-nil, encodes-chars, chars-append, IsUtf8-append, IsUtf8-take, IsUtf8-drop, IsCharBoundary-from_drop}
 use Rattle.rx_terms.specs.Text.{Chars}
-use Rattle.rx_refs.specs.Segments.{Grown}
+use Rattle.rx_terms.specs.Ascii.{is_ascii}
+use Rattle.rx_terms.proofs.CharLemmas.{ascii-same, ascii-chars}
+use Rattle.rx_refs.specs.Dots.{is}
+use Rattle.rx_refs.specs.Segments.{Grown, slashed, pushed, cut_back, after_segment, after_last}
+use Rattle.rx_refs.proofs.PartLemmas.{by_test}
 
 abbrev pub shown : List ℕ → ℕ → Bool → Grown
 shown bs start slash = record { front = chars (take start bs); path = chars (drop start bs); slash = slash }
@@ -35,3 +42,39 @@ shown-push bs xs start slash u b =
 pub shown-cut : (bs : List ℕ) (start at : ℕ) (slash : Bool)
     → shown (take (start + at) bs) start slash ≡ grown_of (shown bs start slash).front (chars (take at (drop start bs))) slash
 shown-cut bs start at slash = same_grown _ _ _ _ slash (ap chars (take-take start (start + at) bs (omega arith))) (ap chars (drop-take start at bs))
+
+-- A text of ASCII beside another
+
+pub chars-is : (t bs : List ℕ) → list_all is_ascii t ≡ true → bs ≡ t → chars bs ≡ t
+chars-is t bs ascii e = ap chars e ∙ ascii-chars t ascii
+
+pub chars-is-not : (t bs : List ℕ) → list_all is_ascii t ≡ true → IsUtf8 bs → bs ≢ t → is t (chars bs) ≡ false
+chars-is-not t bs ascii u other =
+    by_test (is t (chars bs)) (λ e.
+    let same : chars bs ≡ t = sym ((bytes_decides t (chars bs)).0 e) in
+    let bytes : bs ≡ t = sym (encodes-chars bs u) ∙ ap encode_utf8_all same ∙ (ascii-same t ascii).0 in
+    absurd (other bytes)) (λ e. e)
+
+-- What the steps give, of what is pushed
+
+pub becomes : {E : Type 0} (r : Result (Unit {0}) E) (new a b : Grown) → a ≡ b → OnOk r (new ≡ a) → OnOk r (new ≡ b)
+becomes (Ok x) new a b e h = h ∙ e
+becomes (Err x) new a b e h = tt
+
+pub last-one : (grown : Grown) (text : Chars) → text ≡ 46 ∷ [] → pushed grown (chars []) ≡ after_last grown text
+last-one grown text e = ap (pushed grown) chars-nil ∙ sym (ap (after_last grown) e)
+
+pub last-two : (grown : Grown) (text : Chars) → text ≡ 46 ∷ 46 ∷ [] → pushed (cut_back grown) (chars []) ≡ after_last grown text
+last-two grown text e = ap (pushed (cut_back grown)) chars-nil ∙ sym (ap (after_last grown) e)
+
+pub last-other : (grown : Grown) (text : Chars) → is (codes ".") text ≡ false → is (codes "..") text ≡ false → pushed grown text ≡ after_last grown text
+last-other grown text one two = rw (one, two) refl
+
+pub segment-other : (grown : Grown) (text : Chars) → is (codes ".") text ≡ false → is (codes "..") text ≡ false → grown_of grown.front (grown.path ++ slashed grown.slash text) true ≡ after_segment grown text
+segment-other grown text one two = rw (one, two) refl
+
+pub pushed-slash : (grown : Grown) (text : Chars) → grown.slash ≡ true → grown_of grown.front ((grown.path ++ chars (47 ∷ [])) ++ text) grown.slash ≡ pushed grown text
+pushed-slash grown text e = ap (λ (x : Chars). grown_of grown.front ((grown.path ++ x) ++ text) grown.slash) (ascii-chars (47 ∷ []) refl) ∙ ap (λ (x : Chars). grown_of grown.front x grown.slash) (append_assoc grown.path (47 ∷ []) text ∙ rw e refl)
+
+pub pushed-bare : (grown : Grown) (text : Chars) → grown.slash ≡ false → grown_of grown.front (grown.path ++ text) grown.slash ≡ pushed grown text
+pushed-bare grown text e = rw e refl

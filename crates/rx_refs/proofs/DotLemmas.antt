@@ -227,3 +227,12 @@ reduced-whole text new taken last h t = t.leads last ∙ reduced-last new last h
 
 pub after_last-front : (grown : Grown) (last : Chars) → (after_last grown last).front ≡ grown.front
 after_last-front grown last = by_test (is (codes ".") last) (λ one. rw one refl) (λ one. by_test (is (codes "..") last) (λ two. rw (one, two) refl) (λ two. rw (one, two) refl))
+
+-- what is written once the last segment is taken too
+pub written : (text : Chars) (start new end : Grown) (path taken last : Chars) → start ≡ record { front = text; path = []; slash = false } → Takes start new taken
+    → path ≡ taken ++ last → holds 47 last ≡ false → end ≡ after_last new last → end.front ++ end.path ≡ text ++ without_dots path
+written text start new end path taken last s t whole h e =
+    let from_start : Takes (record { front = text; path = []; slash = false }) new taken = rw s at t in
+    let front : end.front ≡ text = ap (λ (g : Grown). g.front) e ∙ after_last-front new last ∙ from_start.same_front in
+    let rest : end.path ≡ without_dots path = ap (λ (g : Grown). g.path) e ∙ sym (ap without_dots whole ∙ reduced-whole text new taken last h from_start) in
+    ap (λ (x : Chars). x ++ end.path) front ∙ ap (λ (x : Chars). text ++ x) rest

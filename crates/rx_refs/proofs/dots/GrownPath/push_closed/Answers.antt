@@ -48,4 +48,7 @@ returns-clause-takes c =
     rw (at_end (chars c.args.path.now) i.taken (chars c.loop-segment.rest.now) i.closed (through-none (chars c.loop-segment.rest.now) c.in_default.ensures)) i.takes
 
 pub returns-clause-rest : goal.returns-clause-rest
-returns-clause-rest c = ?
+returns-clause-rest c =
+    let i = c.loop-segment.invariant in
+    let rest : Chars = chars c.loop-segment.rest.now in
+    i.whole ∙ ap (λ (x : Chars). x ++ rest) (sym (at_end (chars c.args.path.now) i.taken rest i.closed (through-none rest c.in_default.ensures)))

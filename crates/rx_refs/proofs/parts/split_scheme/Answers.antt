@@ -1,0 +1,21 @@
+use Rattle.std.proofs.Common.{rules, ◌≡◌, ℕ, ◌+◌, ◌-◌, ◌*◌, ◌<◌, ◌≤◌, length, ◌/◌, ◌%◌, Bool, true, false, nat_eq, nat_lt, List, [], ◌∷◌, ◌++◌, slice_index_or, slice_set, bit_and, bit_or, Fits, w8, w32, w64, Bor, MutBor}
+use Rattle.std.specs.Str.{chars}
+use Rattle.rx_refs.specs.Parts.{components_of, scheme_of, behind_scheme, authority_of, path_of}
+use Rattle.rx_refs.specs.Views.{seen, seen_slice}
+use Rattle.rx_refs.proofs.parts.split_scheme.Goals as goal
+
+-- src/parts.rt:50:13
+pub returns-then-is_scheme-clause-scheme : goal.returns-then-is_scheme-clause-scheme
+returns-then-is_scheme-clause-scheme c = ?
+
+-- src/parts.rt:50:13
+pub returns-then-is_scheme-clause-rest : goal.returns-then-is_scheme-clause-rest
+returns-then-is_scheme-clause-rest c = ?
+
+-- src/parts.rt:44:1
+pub returns-clause-scheme : goal.returns-clause-scheme
+returns-clause-scheme c = ?
+
+-- src/parts.rt:44:1
+pub returns-clause-rest : goal.returns-clause-rest
+returns-clause-rest c = ?
