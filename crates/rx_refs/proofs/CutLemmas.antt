@@ -2,12 +2,13 @@
 use Rattle.std.proofs.Common.{◌≡◌, ◌≢◌, ◌∙◌, ℕ, zero, suc, ◌<◌, ◌≤◌, ◌+◌, ◌-◌, Bool, true, false, ◌==◌, ◌||◌, List, [], ◌∷◌, ◌++◌, length, take, drop, get_or, sym, ap, subst, refl, arith, Option, Some, None, MatchOption}
 use Rattle.std.specs.Prelude.{unwrap_or, encode_utf8}
 use Rattle.std.proofs.lemmas.Bool.{and_parts}
+use Rattle.std.proofs.lemmas.Bool.Decides.{nat_tests}
 use Rattle.std.specs.Str.{chars, IsUtf8, IsCharBoundary, NonePass, NoCharPasses, encode_utf8_all}
 use Rattle.std.specs.Str.Pattern.{HasCharAt, FindsChar, RFindsChar}
 use Rattle.std.proofs.lemmas.List.{take-append-drop, length-drop, take_all, drop_all}
 use Rattle.std.proofs.lemmas.Str.{chars-nil, chars_from_encodes, encodes-chars, encodes-append, chars-append, chars_past_char, encode_ascii, IsUtf8-take, IsUtf8-drop, IsUtf8-past_char, IsCharBoundary-start, IsCharBoundary-end, IsCharBoundary-before_ascii}
 use Rattle.std.proofs.lemmas.Str.Pattern.{drop_at_char}
-use Rattle.rx_terms.specs.Text.{Chars, begins_with}
+use Rattle.rx_terms.specs.Text.{Chars, begins_with, is_empty}
 use Rattle.rx_terms.proofs.CharLemmas.{chars-end}
 use Rattle.rx_refs.specs.Parts.{before, from_first}
 use Rattle.rx_refs.specs.Dots.{holds, without_last_segment}
@@ -100,7 +101,7 @@ last-slash bs (Some i) u f =
 
 -- A text of ASCII at the front
 
-begins-front : (front text : Chars) → begins_with front text ≡ true → (rest : Chars) × (text ≡ front ++ rest)
+pub begins-front : (front text : Chars) → begins_with front text ≡ true → (rest : Chars) × (text ≡ front ++ rest)
 begins-front [] text h = (text, refl)
 begins-front (c ∷ front) [] h = absurd (cc h)
 begins-front (c ∷ front) (d ∷ text) h =
@@ -122,3 +123,10 @@ pub past-slash : (bs rest : List ℕ) → IsUtf8 bs → bs ≡ 47 ∷ rest → (
 past-slash bs rest u e =
     let whole : bs ≡ encode_utf8 47 ++ rest = e ∙ sym (ap (λ (x : List ℕ). x ++ rest) (encode_ascii 47 (omega arith))) in
     (chars_past_char bs rest 47 u whole, IsUtf8-past_char bs rest 47 u whole)
+
+pub empty-chars : (bs : List ℕ) → IsUtf8 bs → (length bs == 0) ≡ is_empty (chars bs)
+empty-chars [] u = sym (ap is_empty chars-nil)
+empty-chars (b ∷ bs) u = go (chars (b ∷ bs)) (encodes-chars (b ∷ bs) u) where
+  go : (cs : List ℕ) → encode_utf8_all cs ≡ b ∷ bs → (length (b ∷ bs) == 0) ≡ is_empty cs
+  go [] e = absurd (cc e)
+  go (c ∷ cs) e = let l : (suc (length bs) == 0) ≡ false = grind (arith, nat_tests) in l

@@ -3,3 +3,4 @@ pub mod DotLemmas
 pub mod CutLemmas
 pub mod TrimLemmas
 pub mod BufferLemmas
+pub mod SchemeLemmas

@@ -39,7 +39,7 @@ pub before-from : (mark : ℕ) (text : Chars) → before mark text ++ from_first
 before-from mark [] = refl
 before-from mark (c ∷ text) = by_test (c == mark) (λ t. rw t refl) (λ t. rw t (ap (λ x. c ∷ x) (before-from mark text)))
 
-abbrev with_front : Chars → Option Chars → Option (Chars × Chars)
+abbrev pub with_front : Chars → Option Chars → Option (Chars × Chars)
 with_front front None = None
 with_front front (Some rest) = Some (front, rest)
 

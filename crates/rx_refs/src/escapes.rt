@@ -48,7 +48,7 @@ fn push_clean(out: &mut String, text: &str) -> Result<(), NoMemory>
 
 fn push_escaped(out: &mut String, c: char) -> Result<(), NoMemory>
     requires { is_forbidden c ≡ true }
-    ensures { OnOk result (string_bytes out.new ≡ string_bytes out.old ++ escaped c) }
+    ensures { OnOk result (chars (string_bytes out.new) ≡ chars (string_bytes out.old) ++ escaped c) }
 {
     const DIGITS: &[u8] = b"0123456789ABCDEF";
     out.push('%')?;

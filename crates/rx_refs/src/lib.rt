@@ -10,6 +10,7 @@ ghost use Rattle.rx_refs.specs.Laws.{AbsoluteStandsAlone, PartsAreWhole, Resolve
 mod escapes;
 mod dots;
 mod parts;
+mod recomposition;
 mod resolution;
 mod slices;
 mod targets;

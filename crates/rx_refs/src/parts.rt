@@ -45,12 +45,13 @@ fn split_scheme(text: &str) -> (Option<&str>, &str)
     ensures scheme { seen_slice result.0 ≡ scheme_of (chars text.now) }
     ensures rest { chars result.1.now ≡ behind_scheme (chars text.now) }
 {
-    if let Some((front, rest)) = split_once(text, ':') {
-        if is_scheme(front) {
-            return (Some(front), rest);
-        }
+    let Some((front, rest)) = split_once(text, ':') else {
+        return (None, text);
+    };
+    if !is_scheme(front) {
+        return (None, text);
     }
-    (None, text)
+    (Some(front), rest)
 }
 
 fn split_authority(part: &str) -> (Option<&str>, &str)

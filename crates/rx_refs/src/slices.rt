@@ -1,7 +1,7 @@
 //! Slices of a text, cut at characters of ASCII.
 ghost use Rattle.std.specs.Prelude.{◌≡◌, ◌<◌, ◌++◌, ◌∷◌, false, MatchOption, take, codes};
 ghost use Rattle.std.specs.Str.{chars, IsCharBoundary};
-ghost use Rattle.rx_terms.specs.Text.{trimmed, begins_with};
+ghost use Rattle.rx_terms.specs.Text.{trimmed, begins_with, is_empty};
 ghost use Rattle.rx_refs.specs.Parts.{before, behind, from_first};
 ghost use Rattle.rx_refs.specs.Dots.{holds, without_last_segment};
 ghost use Rattle.rx_refs.specs.Views.{seen_slice};
@@ -41,6 +41,13 @@ pub fn last_slash(path: &str) -> usize
     ensures front { chars (take result path.now) ≡ without_last_segment (chars path.now) }
 {
     path.rfind('/').unwrap_or(0)
+}
+
+/// Whether the text has no character.
+pub fn is_empty(text: &str) -> bool
+    ensures { result ≡ is_empty (chars text.now) }
+{
+    text.is_empty()
 }
 
 /// Whether the text begins with `/`.

@@ -1,11 +1,12 @@
 //! What a reference leads to, before its path is worked out (RFC 3986, section 5.2.2).
-ghost use Rattle.std.specs.Prelude.{◌≡◌};
+ghost use Rattle.std.specs.Prelude.{◌≡◌, ◌&&◌, is_some};
 ghost use Rattle.std.specs.Str.{chars};
+ghost use Rattle.rx_terms.specs.Text.{is_empty};
 ghost use Rattle.rx_refs.specs.Resolve.{target, relative_path};
 ghost use Rattle.rx_refs.specs.Views.{seen, seen_target, seen_path};
 
 use crate::parts::Parts;
-use crate::slices::begins_with_slash;
+use crate::slices::{begins_with_slash, is_empty};
 
 /// The components of the target. Each is the base's or the reference's.
 #[derive(Clone, Copy)]
@@ -50,7 +51,7 @@ pub fn target_of<'a>(base: Parts<'a>, reference: Parts<'a>) -> Target<'a>
             fragment: reference.fragment,
         };
     }
-    if reference.path.is_empty() {
+    if is_empty(reference.path) {
         return Target {
             scheme: base.scheme,
             authority: base.authority,
@@ -74,8 +75,15 @@ fn target_path<'a>(base: Parts<'a>, path: &'a str) -> TargetPath<'a>
     if begins_with_slash(path) {
         return TargetPath::Reduced(path);
     }
-    if base.authority.is_some() && base.path.is_empty() {
+    if is_bare(base) {
         return TargetPath::Merged("/", path);
     }
     TargetPath::Merged(base.path, path)
+}
+
+/// Whether an authority stands in the base and no path behind it.
+fn is_bare(base: Parts<'_>) -> bool
+    ensures { result ≡ (is_some base.entry.authority && is_empty (chars base.entry.path.now)) }
+{
+    base.authority.is_some() && is_empty(base.path)
 }

@@ -1,9 +1,0 @@
-use Rattle.std.proofs.Common.{rules, ◌≡◌, ◌++◌, IfOk, OnOk, true, string_bytes, ℕ, ◌+◌, ◌-◌, ◌*◌, ◌<◌, ◌≤◌, length, ◌/◌, ◌%◌, Bool, false, nat_eq, nat_lt, List, [], ◌∷◌, slice_index_or, slice_set, bit_and, bit_or, Fits, w8, w32, w64, Bor, MutBor}
-use Rattle.std.specs.Str.{chars}
-use Rattle.rx_terms.specs.Iri.{is_forbidden, has_forbidden}
-use Rattle.rx_refs.specs.Resolve.{cleaned, escaped}
-use Rattle.rx_refs.proofs.escapes.push_escaped.Goals as goal
-
--- src/escapes.rt:49:1
-pub returns : goal.returns
-returns c = ?
