@@ -4,3 +4,6 @@ pub mod CutLemmas
 pub mod TrimLemmas
 pub mod BufferLemmas
 pub mod SchemeLemmas
+pub mod WholeLemmas
+pub mod TargetLemmas
+pub mod EscapeLemmas

@@ -1,6 +1,7 @@
 -- Resolution of references: RFC 3986, sections 5.2.2 to 5.3, and the rules that are our own.
-use Rattle.std.specs.Prelude.{ℕ, ◌/◌, ◌%◌, Bool, ◌&&◌, ◌==◌, [], ◌∷◌, ◌++◌, codes, slice_index, Option, Some, None, is_some, if◌then◌else◌}
+use Rattle.std.specs.Prelude.{ℕ, ◌/◌, ◌%◌, Bool, ◌&&◌, ◌==◌, [], ◌∷◌, ◌++◌, codes, slice_index, is_some, if◌then◌else◌}
 use Rattle.std.specs.List.{flat_map}
+use Rattle.std.specs.Option.{option_or}
 use Rattle.rx_terms.specs.Ascii.{solidus, number_sign, percent_sign}
 use Rattle.rx_terms.specs.Text.{Chars, begins_with, is_empty, trimmed}
 use Rattle.rx_terms.specs.Iri.{is_forbidden}
@@ -15,10 +16,6 @@ through_last_slash (c ∷ text) = if holds solidus (c ∷ text) then c ∷ throu
 -- 5.2.3
 abbrev pub merged : Components → Chars → Chars
 merged base path = if is_some base.authority && is_empty base.path then solidus ∷ path else through_last_slash base.path ++ path
-
-abbrev pub or_else : Option Chars → Option Chars → Option Chars
-or_else None other = other
-or_else (Some component) other = Some component
 
 -- 5.2.2, of a reference without scheme and authority whose path isn't empty
 abbrev pub relative_path : Components → Chars → Chars
@@ -48,7 +45,7 @@ target base reference =
         scheme = base.scheme;
         authority = base.authority;
         path = base.path;
-        query = or_else reference.query base.query;
+        query = option_or reference.query base.query;
         fragment = reference.fragment;
       }
     else
