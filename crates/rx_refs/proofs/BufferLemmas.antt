@@ -1,5 +1,5 @@
 -- The buffer of a path that grows, from its bytes.
-use Rattle.std.proofs.Common.{◌≡◌, ◌≢◌, ◌∙◌, ℕ, ◌≤◌, ◌+◌, Bool, true, false, List, [], ◌∷◌, ◌++◌, Result, Ok, Err, length, take, drop, sym, ap, subst, refl, arith, length-append}
+use Rattle.std.proofs.Common.{◌≡◌, ◌≢◌, ◌∙◌, ℕ, ◌+◌, Bool, true, false, List, [], ◌∷◌, ◌++◌, Result, Ok, Err, length, take, drop, sym, ap, refl, arith, length-append}
 use Rattle.std.specs.Prelude.{OnOk, codes}
 use Rattle.std.specs.Str.{chars, IsUtf8, IsCharBoundary, encode_utf8_all}
 use Rattle.std.specs.List.{list_all}
@@ -37,7 +37,7 @@ pub shown-push : (bs xs : List ℕ) (start : ℕ) (slash : Bool) → IsUtf8 bs �
     → shown (bs ++ xs) start slash ≡ grown_of (shown bs start slash).front ((shown bs start slash).path ++ chars xs) slash
 shown-push bs xs start slash u b =
     same_grown _ _ _ _ slash (ap chars (take-append-le start bs xs b.0))
-      (ap chars (drop-append-le start bs xs b.0) ∙ chars-append (drop start bs) xs (IsUtf8-drop bs start u b))
+    (ap chars (drop-append-le start bs xs b.0) ∙ chars-append (drop start bs) xs (IsUtf8-drop bs start u b))
 
 pub shown-cut : (bs : List ℕ) (start at : ℕ) (slash : Bool)
     → shown (take (start + at) bs) start slash ≡ grown_of (shown bs start slash).front (chars (take at (drop start bs))) slash

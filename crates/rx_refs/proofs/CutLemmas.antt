@@ -1,5 +1,5 @@
 -- What the cuts of std, which count bytes, are in characters.
-use Rattle.std.proofs.Common.{◌≡◌, ◌≢◌, ◌∙◌, ℕ, zero, suc, ◌<◌, ◌≤◌, ◌+◌, ◌-◌, Bool, true, false, ◌==◌, ◌||◌, List, [], ◌∷◌, ◌++◌, length, take, drop, get_or, sym, ap, subst, refl, arith, Option, Some, None, MatchOption}
+use Rattle.std.proofs.Common.{◌≡◌, ◌≢◌, ◌∙◌, ℕ, suc, ◌<◌, ◌≤◌, Bool, true, false, ◌==◌, ◌||◌, List, [], ◌∷◌, ◌++◌, length, take, drop, get_or, sym, ap, subst, refl, arith, Option, Some, None, MatchOption}
 use Rattle.std.specs.Prelude.{unwrap_or, encode_utf8}
 use Rattle.std.proofs.lemmas.Bool.{and_parts}
 use Rattle.std.proofs.lemmas.Bool.Decides.{nat_tests}
@@ -9,7 +9,6 @@ use Rattle.std.proofs.lemmas.List.{take-append-drop, length-drop, take_all, drop
 use Rattle.std.proofs.lemmas.Str.{chars-nil, chars_from_encodes, encodes-chars, encodes-append, chars-append, chars_past_char, encode_ascii, IsUtf8-take, IsUtf8-drop, IsUtf8-past_char, IsCharBoundary-start, IsCharBoundary-end, IsCharBoundary-before_ascii}
 use Rattle.std.proofs.lemmas.Str.Pattern.{drop_at_char}
 use Rattle.rx_terms.specs.Text.{Chars, begins_with, is_empty}
-use Rattle.rx_terms.proofs.CharLemmas.{chars-end}
 use Rattle.rx_refs.specs.Parts.{before, from_first}
 use Rattle.rx_refs.specs.Dots.{holds, without_last_segment}
 use Rattle.rx_refs.specs.Resolve.{through_last_slash}
@@ -109,8 +108,8 @@ begins-front (c ∷ front) (d ∷ text) h =
     let r = begins-front front text parts.1 in
     let e = same_char c d parts.0 in
     (r.0, same_cons c d text (front ++ r.0) e r.1) where
-  same_cons : (c d : ℕ) (xs ys : Chars) → c ≡ d → xs ≡ ys → d ∷ xs ≡ c ∷ ys
-  same_cons c d xs ys e f = cc
+      same_cons : (c d : ℕ) (xs ys : Chars) → c ≡ d → xs ≡ ys → d ∷ xs ≡ c ∷ ys
+      same_cons c d xs ys e f = cc
 
 pub prefix-none : (front bs : List ℕ) → encode_utf8_all front ≡ front → IsUtf8 bs → ((rest : List ℕ) → bs ≢ front ++ rest) → begins_with front (chars bs) ≡ false
 prefix-none front bs ascii u h =

@@ -1,12 +1,12 @@
 -- The loop of 5.2.4, segment by segment.
-use Rattle.std.proofs.Common.{◌≡◌, ◌∙◌, ℕ, zero, suc, ◌<◌, ◌≤◌, ◌+◌, Bool, true, false, ◌==◌, ◌||◌, ◌&&◌, List, [], ◌∷◌, ◌++◌, length, drop, sym, ap, subst, refl, arith}
-use Rattle.std.specs.Prelude.{if◌then◌else◌, codes, bytes_eq}
+use Rattle.std.proofs.Common.{◌≡◌, ◌∙◌, ℕ, zero, suc, ◌≤◌, Bool, true, false, ◌==◌, ◌||◌, ◌&&◌, [], ◌∷◌, ◌++◌, length, drop, sym, ap, refl, arith}
+use Rattle.std.specs.Prelude.{if◌then◌else◌, codes}
 use Rattle.std.specs.Cmp.Lexicographic.{bytes_decides}
 use Rattle.std.proofs.lemmas.Bool.Decides.{nat_tests}
 use Rattle.std.proofs.lemmas.List.{append-nil, append_assoc, length-drop}
 use Rattle.rx_terms.specs.Text.{Chars, begins_with}
-use Rattle.rx_refs.specs.Parts.{before, from_first}
-use Rattle.rx_refs.specs.Dots.{Buffers, is, holds, first_segment, behind_first_segment, without_last_segment, step, after_steps, without_dots}
+use Rattle.rx_refs.specs.Parts.{from_first}
+use Rattle.rx_refs.specs.Dots.{Buffers, is, holds, without_last_segment, step, after_steps, without_dots}
 use Rattle.rx_refs.specs.Segments.{Grown, slashed, buffers_at, reduced, pushed, cut_back, after_segment, after_last, Takes}
 use Rattle.rx_refs.proofs.PartLemmas.{by_test, cut-at, uncut}
 
@@ -207,8 +207,8 @@ pub takes-segment : (old grown : Grown) (taken segment : Chars) → holds 47 seg
 takes-segment old grown taken segment h t = record {
   same_front = front-stays ∙ t.same_front;
   leads = λ rest.
-    let whole : (taken ++ (segment ++ 47 ∷ [])) ++ rest ≡ taken ++ (segment ++ 47 ∷ rest) = simp append_assoc in
-    ap (λ (x : Chars). reduced (buffers_at old x)) whole ∙ t.leads (segment ++ 47 ∷ rest) ∙ reduced-closed grown segment rest h;
+      let whole : (taken ++ (segment ++ 47 ∷ [])) ++ rest ≡ taken ++ (segment ++ 47 ∷ rest) = simp append_assoc in
+      ap (λ (x : Chars). reduced (buffers_at old x)) whole ∙ t.leads (segment ++ 47 ∷ rest) ∙ reduced-closed grown segment rest h;
 } where
   front-stays : (after_segment grown segment).front ≡ grown.front
   front-stays = by_test (is (codes ".") segment) (λ one. rw one refl) (λ one. by_test (is (codes "..") segment) (λ two. rw (one, two) refl) (λ two. rw (one, two) refl))

@@ -2,7 +2,7 @@
 use Rattle.std.proofs.Common.{◌≡◌, ◌∙◌, ℕ, zero, suc, ◌<◌, ◌/◌, ◌%◌, Bool, true, false, List, [], ◌∷◌, ◌++◌, length, get_or, sym, ap, refl, arith}
 use Rattle.std.specs.Prelude.{codes, encode_utf8}
 use Rattle.std.specs.List.{list_all}
-use Rattle.std.specs.Str.{chars, IsUtf8, encode_utf8_all, all_scalars}
+use Rattle.std.specs.Str.{chars, IsUtf8, all_scalars}
 use Rattle.std.proofs.lemmas.Bool.{and_parts, and_from}
 use Rattle.std.proofs.lemmas.List.{append_assoc, append-nil}
 use Rattle.std.proofs.lemmas.Str.{chars-append, chars-encodes, chars_past_char, scalars-chars, encode_ascii}
@@ -11,7 +11,7 @@ use Rattle.rx_terms.specs.Ascii.{is_ascii}
 use Rattle.rx_terms.specs.Text.{Chars}
 use Rattle.rx_terms.specs.Iri.{is_forbidden}
 use Rattle.rx_terms.proofs.CharLemmas.{ascii-chars}
-use Rattle.rx_refs.specs.Resolve.{digit, escaped, cleaned_char, cleaned}
+use Rattle.rx_refs.specs.Resolve.{digit, escaped, cleaned}
 use Rattle.rx_refs.proofs.SchemeLemmas.{forbidden-small}
 
 all_at : (p : ℕ → Bool) (xs : List ℕ) (n : ℕ) → list_all p xs ≡ true → n < length xs → p (get_or xs n 0) ≡ true

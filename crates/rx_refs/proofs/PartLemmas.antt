@@ -1,7 +1,6 @@
 -- Where a text is cut at its first `mark`.
-use Rattle.std.proofs.Common.{◌≡◌, ◌∙◌, ℕ, Bool, true, false, ◌==◌, List, [], ◌∷◌, ◌++◌, sym, ap, refl, arith, Option, Some, None}
+use Rattle.std.proofs.Common.{◌≡◌, ◌∙◌, ℕ, Bool, true, false, ◌==◌, [], ◌∷◌, ◌++◌, ap, refl, arith, Option, Some, None}
 use Rattle.std.proofs.lemmas.Bool.Decides.{nat_tests}
-use Rattle.std.specs.Option.{option_map}
 use Rattle.rx_terms.specs.Text.{Chars, split_at, front_grows}
 use Rattle.rx_refs.specs.Parts.{before, from_first, behind}
 use Rattle.rx_refs.specs.Dots.{holds}

@@ -1,15 +1,15 @@
 -- Schemes, and what of them is left in what a reference means.
-use Rattle.std.proofs.Common.{◌≡◌, ◌∙◌, ℕ, zero, suc, ◌<◌, ◌/◌, ◌%◌, length, get_or, Bool, true, false, not, ◌==◌, ◌||◌, ◌&&◌, List, [], ◌∷◌, ◌++◌, drop, sym, ap, subst, refl, arith, Option, Some, None}
-use Rattle.std.specs.Prelude.{if◌then◌else◌, codes}
+use Rattle.std.proofs.Common.{◌≡◌, ◌∙◌, ℕ, zero, suc, ◌<◌, ◌/◌, ◌%◌, length, get_or, Bool, true, false, ◌==◌, List, [], ◌∷◌, ◌++◌, drop, sym, ap, refl, arith, Option, Some, None}
+use Rattle.std.specs.Prelude.{codes}
 use Rattle.std.specs.List.{list_all, list_any}
-use Rattle.std.proofs.lemmas.Bool.{and_parts, and_from}
+use Rattle.std.proofs.lemmas.Bool.{and_parts}
 use Rattle.std.proofs.lemmas.Bool.Decides.{nat_tests}
 use Rattle.std.proofs.lemmas.List.{append_assoc}
 use Rattle.std.proofs.lemmas.List.Folds.{list_any-append}
-use Rattle.rx_terms.specs.Text.{Chars, split_at}
+use Rattle.rx_terms.specs.Text.{Chars}
 use Rattle.rx_terms.specs.Iri.{is_scheme_char, begins_with_letter, is_scheme, begins_with_scheme, has_scheme, is_forbidden, has_forbidden, IsIri}
 use Rattle.rx_refs.specs.Resolve.{digit, escaped, cleaned_char, cleaned}
-use Rattle.rx_refs.specs.Parts.{before, from_first, behind, scheme_of, behind_scheme}
+use Rattle.rx_refs.specs.Parts.{before, behind, scheme_of, behind_scheme}
 use Rattle.rx_refs.specs.Dots.{holds}
 use Rattle.rx_refs.proofs.PartLemmas.{by_test, with_front, split_at-parts, behind-none, behind-some, before-lacks, cut-at, uncut}
 
@@ -20,7 +20,7 @@ has_scheme-cut front rest h =
     ap begins_with_scheme (split_at-parts 58 (front ++ 58 ∷ rest) ∙ cut)
 
 pub has_scheme-uncut : (text : Chars) → holds 58 text ≡ false → has_scheme text ≡ false
-has_scheme-uncut text h = 
+has_scheme-uncut text h =
     let g = uncut 58 text h in
     let cut : with_front (before 58 text) (behind 58 text) ≡ None = rw g.2 refl in
     ap begins_with_scheme (split_at-parts 58 text ∙ cut)

@@ -1,14 +1,13 @@
 -- What `trim_ascii`, which counts bytes, is in characters.
-use Rattle.std.proofs.Common.{◌≡◌, ◌≢◌, ◌∙◌, ℕ, zero, suc, ◌<◌, ◌≤◌, ◌+◌, ◌-◌, Bool, true, false, ◌==◌, ◌||◌, List, [], ◌∷◌, ◌++◌, length, take, drop, reverse, get_or, sym, ap, subst, refl, arith, length-append}
-use Rattle.std.specs.Prelude.{slice_index, nat_lt, nat_le}
+use Rattle.std.proofs.Common.{◌≡◌, ◌∙◌, ℕ, suc, ◌<◌, ◌≤◌, ◌+◌, ◌-◌, Bool, true, false, List, [], ◌∷◌, ◌++◌, length, take, drop, reverse, get_or, sym, ap, refl, arith, length-append}
 use Rattle.std.specs.Char.{is_ascii_whitespace, encode_utf8}
 use Rattle.std.specs.List.{list_all}
 use Rattle.std.specs.Str.{chars, IsUtf8, IsTrimAscii, encode_utf8_all}
 use Rattle.std.proofs.lemmas.Bool.{and_parts, and_from}
 use Rattle.std.proofs.lemmas.Bool.Decides.{nat_tests}
-use Rattle.std.proofs.lemmas.List.{append_assoc, append-nil, take-append-drop, length-take, length-drop, get_or-take, get_or-drop, get_or_append_left, get_or_push, get_or_past, reverse-append, reverse-reverse}
+use Rattle.std.proofs.lemmas.List.{append-nil, take-append-drop, length-take, length-drop, get_or-take, get_or-drop, get_or_push, reverse-append, reverse-reverse}
 use Rattle.std.proofs.lemmas.List.Folds.{list_all-append}
-use Rattle.std.proofs.lemmas.Str.{chars-nil, encodes-chars, encodes-append, chars-append, encode_ascii, byte_from_char, length-encode, len_utf8_bounds}
+use Rattle.std.proofs.lemmas.Str.{encodes-chars, encodes-append, chars-append, encode_ascii, byte_from_char, length-encode, len_utf8_bounds}
 use Rattle.rx_terms.specs.Ascii.{is_white_space, is_ascii}
 use Rattle.rx_terms.specs.Text.{Chars, trimmed, without_leading_space}
 use Rattle.rx_terms.proofs.CharLemmas.{ascii-chars, ascii-utf8}
@@ -73,8 +72,8 @@ first-white c cs bs e h =
     let byte = byte_from_char bs (encode_utf8_all cs) c (sym e) small in
     let white : is_ascii_whitespace (get_or bs 0 0) ≡ true = ap is_ascii_whitespace byte ∙ same-white c ∙ t in
     absurd (differ _ white h)) (λ t. t) where
-  differ : (b : Bool) → b ≡ true → b ≡ false → ⊥
-  differ b p q = cc
+      differ : (b : Bool) → b ≡ true → b ≡ false → ⊥
+      differ b p q = cc
 
 last-white : (front : List ℕ) (last : ℕ) (bs : List ℕ) → encode_utf8_all (front ++ last ∷ []) ≡ bs → is_ascii_whitespace (get_or bs (length bs - 1) 0) ≡ false → is_white_space last ≡ false
 last-white front last bs e h =
@@ -85,8 +84,8 @@ last-white front last bs e h =
     let byte : get_or bs (length bs - 1) 0 ≡ last = ap (λ (x : List ℕ). get_or x (length bs - 1) 0) bytes ∙ get_or_push (encode_utf8_all front) last 0 (length bs - 1) size in
     let white : is_ascii_whitespace (get_or bs (length bs - 1) 0) ≡ true = ap is_ascii_whitespace byte ∙ same-white last ∙ t in
     absurd (differ _ white h)) (λ t. t) where
-  differ : (b : Bool) → b ≡ true → b ≡ false → ⊥
-  differ b p q = cc
+      differ : (b : Bool) → b ≡ true → b ≡ false → ⊥
+      differ b p q = cc
 
 nonempty-bytes : (c : ℕ) (cs bs : List ℕ) → encode_utf8_all (c ∷ cs) ≡ bs → 0 < length bs
 nonempty-bytes c cs bs e = omega (arith, ap length e, length-append (encode_utf8 c) (encode_utf8_all cs), length-encode c, len_utf8_bounds c)
@@ -108,19 +107,19 @@ trim-chars s r u v t =
     let b = drop (length r) d in
     let short : length r ≤ length d = omega (arith, ap length t.1, length-take (length r) d) in
     let white_a : list_all is_white_space a ≡ true = each-white a (λ i l.
-        let within : i < m = omega (arith, length-take m s) in
-        ap is_ascii_whitespace (get_or-take m s i 0 within) ∙ t.2 i within) in
+    let within : i < m = omega (arith, length-take m s) in
+    ap is_ascii_whitespace (get_or-take m s i 0 within) ∙ t.2 i within) in
     let white_b : list_all is_white_space b ≡ true = each-white b (λ i l.
-        ap is_ascii_whitespace (get_or-drop (length r) d i 0) ∙ t.4 (length r + i) (omega arith) (omega (arith, length-drop (length r) d))) in
+    ap is_ascii_whitespace (get_or-drop (length r) d i 0) ∙ t.4 (length r + i) (omega arith) (omega (arith, length-drop (length r) d))) in
     let ascii_a = white-ascii a white_a in
     let ascii_b = white-ascii b white_b in
     let whole : s ≡ a ++ (r ++ b) = sym (take-append-drop m s) ∙ ap (λ (x : List ℕ). a ++ x) (sym (take-append-drop (length r) d) ∙ ap (λ (x : List ℕ). x ++ b) (sym t.1)) in
     let in_chars : chars s ≡ a ++ (chars r ++ b) =
-        ap chars whole ∙ chars-append a (r ++ b) (ascii-utf8 a ascii_a) ∙ ap (λ (x : List ℕ). x ++ chars (r ++ b)) (ascii-chars a ascii_a)
-        ∙ ap (λ (x : List ℕ). a ++ x) (chars-append r b v ∙ ap (λ (x : List ℕ). chars r ++ x) (ascii-chars b ascii_b)) in
+    ap chars whole ∙ chars-append a (r ++ b) (ascii-utf8 a ascii_a) ∙ ap (λ (x : List ℕ). x ++ chars (r ++ b)) (ascii-chars a ascii_a)
+    ∙ ap (λ (x : List ℕ). a ++ x) (chars-append r b v ∙ ap (λ (x : List ℕ). chars r ++ x) (ascii-chars b ascii_b)) in
     let none_more : m + 0 ≡ m = omega arith in
     let at_first : 0 < length r → is_ascii_whitespace (get_or r 0 0) ≡ false = λ some.
-        ap is_ascii_whitespace (ap (λ (x : List ℕ). get_or x 0 0) t.1 ∙ get_or-take (length r) d 0 0 some ∙ get_or-drop m s 0 0 ∙ ap (λ (n : ℕ). get_or s n 0) none_more) ∙ t.3 (omega (arith, length-drop m s)) in
+    ap is_ascii_whitespace (ap (λ (x : List ℕ). get_or x 0 0) t.1 ∙ get_or-take (length r) d 0 0 some ∙ get_or-drop m s 0 0 ∙ ap (λ (n : ℕ). get_or s n 0) none_more) ∙ t.3 (omega (arith, length-drop m s)) in
     let at_last : 0 < length r → is_ascii_whitespace (get_or r (length r - 1) 0) ≡ false = λ some.
-        ap is_ascii_whitespace (ap (λ (x : List ℕ). get_or x (length r - 1) 0) t.1 ∙ get_or-take (length r) d (length r - 1) 0 (omega arith)) ∙ t.5 some in
+    ap is_ascii_whitespace (ap (λ (x : List ℕ). get_or x (length r - 1) 0) t.1 ∙ get_or-take (length r) d (length r - 1) 0 (omega arith)) ∙ t.5 some in
     sym (ap trimmed in_chars ∙ middle a b r (chars r) (encodes-chars r v) white_a white_b at_first at_last)

@@ -1,17 +1,17 @@
 -- The components joined again, and the target of a reference.
-use Rattle.std.proofs.Common.{◌≡◌, ◌∙◌, ℕ, Bool, true, false, ◌==◌, ◌&&◌, List, [], ◌∷◌, ◌++◌, drop, sym, ap, subst, refl, Option, Some, None}
-use Rattle.std.specs.Prelude.{if◌then◌else◌, codes, is_some}
+use Rattle.std.proofs.Common.{◌≡◌, ◌∙◌, ℕ, true, false, [], ◌∷◌, ◌++◌, drop, sym, ap, subst, refl, Option, Some, None}
+use Rattle.std.specs.Prelude.{codes, is_some}
 use Rattle.std.specs.Option.{option_or}
 use Rattle.std.proofs.lemmas.List.{append_assoc, append-nil}
 use Rattle.rx_terms.specs.Text.{Chars, begins_with, is_empty, trimmed}
-use Rattle.rx_terms.specs.Iri.{is_scheme, has_scheme, has_forbidden, IsIri}
-use Rattle.rx_refs.specs.Parts.{Components, before, from_first, behind, scheme_of, behind_scheme, hierarchical_part, authority_of, path_of, query_of, fragment_of, components_of, delimited, recomposed}
+use Rattle.rx_terms.specs.Iri.{is_scheme, has_scheme, has_forbidden}
+use Rattle.rx_refs.specs.Parts.{Components, before, behind, scheme_of, behind_scheme, authority_of, path_of, components_of, delimited, recomposed}
 use Rattle.rx_refs.specs.Dots.{holds, without_dots}
 use Rattle.rx_refs.specs.Resolve.{relative_path, target, cleaned, resolved}
-use Rattle.rx_refs.specs.Laws.{AbsoluteStandsAlone, PartsAreWhole, ResolvedIsIri, IsIriAgainst}
+use Rattle.rx_refs.specs.Laws.{AbsoluteStandsAlone, PartsAreWhole, ResolvedIsIri}
 use Rattle.rx_refs.proofs.PartLemmas.{by_test, behind-none, behind-some, before-from}
 use Rattle.rx_refs.proofs.CutLemmas.{begins-front}
-use Rattle.rx_refs.proofs.SchemeLemmas.{IsCut, cut-scheme, scheme-cut, scheme-none, cleaned-has-scheme, cleaned-clean}
+use Rattle.rx_refs.proofs.SchemeLemmas.{cut-scheme, scheme-cut, scheme-none, cleaned-has-scheme, cleaned-clean}
 
 -- The parts of a text are the text
 
@@ -50,9 +50,9 @@ parts-whole text =
     let rest = behind_scheme text in
     let front = before 35 rest in
     joined (delimited (λ (scheme : Chars). scheme ++ codes ":") (scheme_of text)) (delimited (λ (authority : Chars). codes "//" ++ authority) (authority_of (before 63 front))) (path_of (before 63 front))
-      (delimited (λ (query : Chars). 63 ∷ query) (behind 63 front)) (delimited (λ (fragment : Chars). 35 ∷ fragment) (behind 35 rest))
-      rest (before 63 front) front text
-      (scheme-rest text) (behind-mark 35 rest) (behind-mark 63 front) (authority-path (before 63 front))
+    (delimited (λ (query : Chars). 63 ∷ query) (behind 63 front)) (delimited (λ (fragment : Chars). 35 ∷ fragment) (behind 35 rest))
+    rest (before 63 front) front text
+    (scheme-rest text) (behind-mark 35 rest) (behind-mark 63 front) (authority-path (before 63 front))
 
 -- 5.2.2, case by case
 
@@ -124,9 +124,9 @@ resolved-iri base reference =
     record {
       clean = clean;
       iri = λ iri.
-        let s = has_target_scheme base (trimmed reference) iri.scheme in
-        let r = recomposed-scheme (target (components_of base) (components_of (trimmed reference))) s.text s.same in
-        record { scheme = ap (λ (x : Chars). has_scheme (cleaned x)) r.1 ∙ cleaned-has-scheme s.text r.0 s.lacks s.form; clean = clean };
+          let s = has_target_scheme base (trimmed reference) iri.scheme in
+          let r = recomposed-scheme (target (components_of base) (components_of (trimmed reference))) s.text s.same in
+          record { scheme = ap (λ (x : Chars). has_scheme (cleaned x)) r.1 ∙ cleaned-has-scheme s.text r.0 s.lacks s.form; clean = clean };
     }
 
 pub absolute-alone : AbsoluteStandsAlone

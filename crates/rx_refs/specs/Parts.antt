@@ -1,5 +1,5 @@
 -- A URI reference and its five components: RFC 3986, section 3, Appendix B and section 5.3.
-use Rattle.std.specs.Prelude.{ℕ, Bool, ◌==◌, [], ◌∷◌, ◌++◌, drop, codes, Option, Some, None, if◌then◌else◌}
+use Rattle.std.specs.Prelude.{ℕ, ◌==◌, [], ◌∷◌, ◌++◌, drop, codes, Option, Some, None, if◌then◌else◌}
 use Rattle.rx_terms.specs.Ascii.{colon, solidus, question_mark, number_sign}
 use Rattle.rx_terms.specs.Text.{Chars, begins_with}
 use Rattle.rx_terms.specs.Iri.{has_scheme}

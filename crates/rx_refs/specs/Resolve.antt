@@ -1,5 +1,5 @@
 -- Resolution of references: RFC 3986, sections 5.2.2 to 5.3, and the rules that are our own.
-use Rattle.std.specs.Prelude.{ℕ, ◌/◌, ◌%◌, Bool, ◌&&◌, ◌==◌, [], ◌∷◌, ◌++◌, codes, slice_index, is_some, if◌then◌else◌}
+use Rattle.std.specs.Prelude.{ℕ, ◌/◌, ◌%◌, ◌&&◌, [], ◌∷◌, ◌++◌, codes, slice_index, is_some, if◌then◌else◌}
 use Rattle.std.specs.List.{flat_map}
 use Rattle.std.specs.Option.{option_or}
 use Rattle.rx_terms.specs.Ascii.{solidus, number_sign, percent_sign}
@@ -25,37 +25,37 @@ relative_path base path = if begins_with (codes "/") path then without_dots path
 unfoldable pub target : Components → Components → Components
 target base reference =
     if is_some reference.scheme then
-      record {
-        scheme = reference.scheme;
-        authority = reference.authority;
-        path = without_dots reference.path;
-        query = reference.query;
-        fragment = reference.fragment;
-      }
+    record {
+      scheme = reference.scheme;
+      authority = reference.authority;
+      path = without_dots reference.path;
+      query = reference.query;
+      fragment = reference.fragment;
+    }
     else if is_some reference.authority then
-      record {
-        scheme = base.scheme;
-        authority = reference.authority;
-        path = without_dots reference.path;
-        query = reference.query;
-        fragment = reference.fragment;
-      }
+    record {
+      scheme = base.scheme;
+      authority = reference.authority;
+      path = without_dots reference.path;
+      query = reference.query;
+      fragment = reference.fragment;
+    }
     else if is_empty reference.path then
-      record {
-        scheme = base.scheme;
-        authority = base.authority;
-        path = base.path;
-        query = option_or reference.query base.query;
-        fragment = reference.fragment;
-      }
+    record {
+      scheme = base.scheme;
+      authority = base.authority;
+      path = base.path;
+      query = option_or reference.query base.query;
+      fragment = reference.fragment;
+    }
     else
-      record {
-        scheme = base.scheme;
-        authority = base.authority;
-        path = relative_path base reference.path;
-        query = reference.query;
-        fragment = reference.fragment;
-      }
+    record {
+      scheme = base.scheme;
+      authority = base.authority;
+      path = relative_path base reference.path;
+      query = reference.query;
+      fragment = reference.fragment;
+    }
 
 -- 2.1: `%` and the two digits of a byte, in upper case
 abbrev pub digit : ℕ → ℕ

@@ -1,13 +1,13 @@
 -- The path that grows segment by segment in the code, against the buffers of `Dots`.
-use Rattle.std.specs.Prelude.{◌≡◌, ℕ, Bool, ◌∷◌, ◌++◌, length, if◌then◌else◌, codes, true, false}
+use Rattle.std.specs.Prelude.{◌≡◌, Bool, ◌∷◌, ◌++◌, length, if◌then◌else◌, codes, true}
 use Rattle.rx_terms.specs.Ascii.{solidus}
 use Rattle.rx_terms.specs.Text.{Chars}
 use Rattle.rx_refs.specs.Dots.{Buffers, after_steps, without_last_segment, is}
 
 pub record Grown : Type 0 where
-  pub front : Chars   -- the text before the path
-  pub path : Chars    -- the path so far: the output buffer
-  pub slash : Bool    -- whether a `/` stands before what is still to be read
+  pub front : Chars  -- the text before the path
+  pub path : Chars  -- the path so far: the output buffer
+  pub slash : Bool  -- whether a `/` stands before what is still to be read
 
 abbrev pub slashed : Bool → Chars → Chars
 slashed slash text = if slash then solidus ∷ text else text

@@ -7,8 +7,8 @@
 
 ghost use Rattle.rx_refs.specs.Laws.{AbsoluteStandsAlone, PartsAreWhole, ResolvedIsIri, ExamplesHold};
 
-mod escapes;
 mod dots;
+mod escapes;
 mod parts;
 mod recomposition;
 mod resolution;
@@ -39,3 +39,6 @@ pub fn resolved_is_iri()
 pub fn examples_hold()
     ensures { ExamplesHold }
 {}
+
+#[cfg(test)]
+mod tests;

@@ -15,5 +15,5 @@ returns c =
     let whole : base ++ chars c.args.path.now ≡ (base ++ path) ++ last = ap (λ (x : Chars). base ++ x) c.in_ok-last.ensures.rest ∙ sym (append_assoc base path last) in
     c.into_text.ensures
     ∙ written (chars (string_bytes c.args.text)) c.behind-grown.result c.push_closed-2.new.self c.push_last.new.self (base ++ chars c.args.path.now) (base ++ path) last
-      c.behind-grown.ensures (takes-both c.behind-grown.result c.push_closed.new.self c.push_closed-2.new.self base path c.in_ok-_left_out.ensures.takes c.in_ok-last.ensures.takes)
-      whole c.in_ok-last.ensures.last c.in_ok-push_last.ensures
+    c.behind-grown.ensures (takes-both c.behind-grown.result c.push_closed.new.self c.push_closed-2.new.self base path c.in_ok-_left_out.ensures.takes c.in_ok-last.ensures.takes)
+    whole c.in_ok-last.ensures.last c.in_ok-push_last.ensures

@@ -29,7 +29,7 @@ loop-c-preserved-in-Continue-1 c =
       finite = tt;
       utf8 = IsUtf8-past_char _ _ _ i.utf8 c.in-Some.ensures.steps.0;
       wrote = wrote-escape (chars (string_bytes c.args.out.now)) (chars (string_bytes c.loop-c.out)) (chars (string_bytes c.push_escaped.new.out)) (chars c.args.text.now) _ _ c.in-Some.c
-        (sym c.if-is_forbidden.ensures) i.wrote next c.in_ok-push_escaped.ensures;
+          (sym c.if-is_forbidden.ensures) i.wrote next c.in_ok-push_escaped.ensures;
     }
 
 pub loop-c-preserved : goal.loop-c-preserved
@@ -41,8 +41,8 @@ loop-c-preserved c =
       finite = tt;
       utf8 = IsUtf8-past_char _ _ _ i.utf8 c.in-Some.ensures.steps.0;
       wrote = wrote-char (chars (string_bytes c.args.out.now)) (chars (string_bytes c.loop-c.out)) (chars (string_bytes c.push.new.self)) (chars c.args.text.now) _ _ c.in-Some.c
-        (sym c.if-is_forbidden.ensures) i.wrote next
-        (pushed-char (string_bytes c.loop-c.out) (string_bytes c.push.new.self) _ _ c.in-Some.c (IsUtf8-string_bytes c.loop-c.out) i.utf8 c.in-Some.ensures.steps.0 c.in_ok-push.ensures.bytes);
+          (sym c.if-is_forbidden.ensures) i.wrote next
+          (pushed-char (string_bytes c.loop-c.out) (string_bytes c.push.new.self) _ _ c.in-Some.c (IsUtf8-string_bytes c.loop-c.out) i.utf8 c.in-Some.ensures.steps.0 c.in_ok-push.ensures.bytes);
     }
 
 pub returns : goal.returns

@@ -17,6 +17,6 @@ together text rest a b path scheme authority query fragment s r front f hierarch
 pub returns : goal.returns
 returns c =
     together (chars c.args.text.now) (chars c.split_scheme.result.1.now) (chars c.cut.result.0.now) (chars c.cut-2.result.0.now) (chars c.split_authority.result.1.now)
-      (seen_slice c.split_scheme.result.0) (seen_slice c.split_authority.result.0) (seen_slice c.cut-2.result.1) (seen_slice c.cut.result.1)
-      c.split_scheme.ensures.scheme c.split_scheme.ensures.rest c.cut.ensures.front c.cut.ensures.rest c.cut-2.ensures.front c.cut-2.ensures.rest
-      c.split_authority.ensures.authority c.split_authority.ensures.path
+    (seen_slice c.split_scheme.result.0) (seen_slice c.split_authority.result.0) (seen_slice c.cut-2.result.1) (seen_slice c.cut.result.1)
+    c.split_scheme.ensures.scheme c.split_scheme.ensures.rest c.cut.ensures.front c.cut.ensures.rest c.cut-2.ensures.front c.cut-2.ensures.rest
+    c.split_authority.ensures.authority c.split_authority.ensures.path

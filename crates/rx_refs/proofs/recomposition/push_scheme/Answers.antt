@@ -23,4 +23,4 @@ returns c =
     let scheme : Chars = chars c.in-Some.scheme.now in
     let form : Option (Bor (List ℕ)) → Chars = λ o. old ++ delimited (λ (s : Chars). s ++ codes ":") (seen_slice o) in
     on_ok c.push_text-2.result (chars (string_bytes c.push_text-2.new.text)) (mid ++ chars (58 ∷ [])) (form c.args.scheme)
-      (both old mid scheme (chars (58 ∷ [])) c.in_ok-push_text.ensures (ascii-chars (58 ∷ []) refl) ∙ ap form (sym c.in-Some.is)) c.push_text-2.ensures
+    (both old mid scheme (chars (58 ∷ [])) c.in_ok-push_text.ensures (ascii-chars (58 ∷ []) refl) ∙ ap form (sym c.in-Some.is)) c.push_text-2.ensures

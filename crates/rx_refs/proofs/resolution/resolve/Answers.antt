@@ -1,4 +1,4 @@
-use Rattle.std.proofs.Common.{◌≡◌, ◌∙◌, sym, ap, subst, refl}
+use Rattle.std.proofs.Common.{◌≡◌, ◌∙◌, sym, subst, refl}
 use Rattle.std.specs.Prelude.{string_bytes}
 use Rattle.std.specs.Str.{chars}
 use Rattle.rx_terms.specs.Text.{Chars, trimmed}
@@ -18,8 +18,8 @@ together base reference base_text trim clean text t b r cleans joins aims splits
 meaning : (c : In_ok-clean) → c.in_ok-clean.clean ≡ resolved c.args.base.now (chars c.args.reference.now)
 meaning c =
     together c.args.base.now (chars c.args.reference.now) (chars c.as_str.result.now) (chars c.trim.result.now) c.in_ok-clean.clean (chars (string_bytes c.in_ok-text.text))
-      (seen_target c.target_of-target.result) (seen c.split.result) (seen c.split-2.result)
-      c.in_ok-clean.ensures c.in_ok-text.ensures c.target_of-target.ensures c.split.ensures c.as_str.ensures.characters c.split-2.ensures c.trim.ensures
+    (seen_target c.target_of-target.result) (seen c.split.result) (seen c.split-2.result)
+    c.in_ok-clean.ensures c.in_ok-text.ensures c.target_of-target.ensures c.split.ensures c.as_str.ensures.characters c.split-2.ensures c.trim.ensures
 
 pub of_text-requires : goal.of_text-requires
 of_text-requires c = subst IsIri (sym (meaning c)) ((resolved-iri c.args.base.now (chars c.args.reference.now)).iri c.as_str.ensures.iri)

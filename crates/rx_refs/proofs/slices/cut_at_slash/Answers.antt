@@ -1,5 +1,3 @@
-use Rattle.std.proofs.Common.{ap, ◌∙◌}
-use Rattle.std.specs.Str.{chars}
 use Rattle.rx_refs.proofs.CutLemmas.{first-slash}
 use Rattle.rx_refs.proofs.slices.cut_at_slash.Goals as goal
 

@@ -1,11 +1,10 @@
 use Rattle.std.proofs.Common.{◌≡◌, ◌∙◌, ◌∷◌, ◌++◌, [], false, true, sym, ap, refl, ◌&&◌}
-use Rattle.std.specs.Prelude.{is_some, codes}
+use Rattle.std.specs.Prelude.{is_some}
 use Rattle.std.specs.Str.{chars}
-use Rattle.rx_terms.specs.Text.{Chars, begins_with, is_empty}
+use Rattle.rx_terms.specs.Text.{Chars, is_empty}
 use Rattle.rx_terms.proofs.CharLemmas.{ascii-chars}
-use Rattle.rx_refs.specs.Parts.{Components}
 use Rattle.rx_refs.specs.Dots.{without_dots}
-use Rattle.rx_refs.specs.Resolve.{through_last_slash, relative_path}
+use Rattle.rx_refs.specs.Resolve.{through_last_slash}
 use Rattle.rx_refs.specs.Views.{seen}
 use Rattle.rx_refs.proofs.TargetLemmas.{seen-some, relative-bare, relative-merged}
 use Rattle.rx_refs.proofs.targets.target_path.Goals as goal

@@ -3,7 +3,6 @@ use Rattle.std.specs.Str.{chars}
 use Rattle.std.proofs.lemmas.List.{append_assoc, append-nil}
 use Rattle.rx_terms.specs.Text.{Chars}
 use Rattle.rx_refs.specs.Resolve.{through_last_slash}
-use Rattle.rx_refs.specs.Segments.{Grown, Takes, after_segment}
 use Rattle.rx_refs.proofs.DotLemmas.{takes-none, takes-segment}
 use Rattle.rx_refs.proofs.CutLemmas.{through-slash, through-none}
 use Rattle.rx_refs.proofs.dots.GrownPath.push_closed.Goals as goal

@@ -1,7 +1,6 @@
-use Rattle.std.proofs.Common.{refl, []}
+use Rattle.std.proofs.Common.{refl}
 use Rattle.std.specs.Prelude.{codes}
 use Rattle.std.specs.Str.{chars}
-use Rattle.rx_refs.specs.Segments.{pushed, cut_back, after_last}
 use Rattle.rx_refs.proofs.BufferLemmas.{chars-is, chars-is-not, becomes, last-one, last-two, last-other}
 use Rattle.rx_refs.proofs.dots.GrownPath.push_last.Goals as goal
 
@@ -12,7 +11,7 @@ returns-in-text c =
 pub returns-in-text-2 : goal.returns-in-text-2
 returns-in-text-2 c =
     becomes c.push-in-text-2.result c.push-in-text-2.new.self _ _ (last-two c.args.self.now (chars c.args.segment.now) (chars-is (codes "..") c.args.segment.now refl c.in-text-2.is))
-      (rw c.cut_back.ensures at c.push-in-text-2.ensures)
+    (rw c.cut_back.ensures at c.push-in-text-2.ensures)
 
 pub returns-in_default : goal.returns-in_default
 returns-in_default c =
