@@ -1,3 +1,6 @@
 pub mod SetLemmas
 pub mod CodeEq
 pub mod NumberLemmas
+pub mod NodeLemmas
+pub mod PatternLemmas
+pub mod ReachLemmas

@@ -1,5 +1,5 @@
 -- Lists that grow by what they lack.
-use Rattle.std.proofs.Common.{◌≡◌, Bool, true, false, not, ◌||◌, List, [], ◌∷◌, ◌++◌, map, filter, refl, sym, ap, ap₂, ◌∙◌, inl, inr, true≢false, if◌then◌else◌, nat_eq, ℕ, append-nil, Result, Ok, Err, is_err, IfOk, suc, ◌+◌, take, slice_get, Some, arith}
+use Rattle.std.proofs.Common.{◌≡◌, Bool, true, false, not, ◌||◌, List, [], ◌∷◌, ◌++◌, map, filter, refl, sym, ap, ap₂, ◌∙◌, inl, inr, true≢false, if◌then◌else◌, nat_eq, ℕ, append-nil, Result, Ok, Err, is_err, is_ok, IfOk, suc, ◌+◌, take, length, slice_get, slice_set, get_or, zero, ◌<◌, Some, arith}
 use Rattle.std.proofs.Math.Seq.{take-suc}
 use Rattle.std.proofs.lemmas.Option.{slice_get_within, get_or_from_slice_get}
 use Rattle.std.specs.List.{IsDistinct, AllByRecursion}
@@ -15,6 +15,7 @@ use Rattle.rx_model.proofs.Sets.{false_unless, Among_of_distinct}
 use Rattle.rx_model.proofs.Exact.{exact_numbers, exact_triples}
 use Rattle.rx_model.proofs.Seen.{triple_tells}
 use Rattle.rx_graph.specs.Graph.{added}
+use Rattle.rx_graph.specs.Rows.{pushed}
 
 -- two tests that have one truth are the same
 pub same_truth : (a b : Bool) → (a ≡ true → b ≡ true) → (b ≡ true → a ≡ true) → a ≡ b
@@ -147,3 +148,15 @@ module _ {A B : Type 0} (same : A → A → Bool) (exact : IsExact same) (same' 
   distinct_apart [] h = refl
   distinct_apart (x ∷ list) h = ap (λ z. f x ∷ filter (λ y. not (same' (f x) y)) z) (distinct_apart list (λ y z m n. h y z (inr m) (inr n)))
       ∙ ap (λ z. f x ∷ z) (others_map x (distinct same list) (λ y m e. h x y (inl refl) (inr (Among_of_distinct same list y m)) e))
+
+-- ---- a row that grows
+
+pub row_pushed : {V : Type 0} (items : V → List ℕ) (rows : List V) (i : ℕ) (d new : V) (number : ℕ) → i < length rows → items new ≡ items (get_or rows i d) ++ number ∷ [] → map items (slice_set rows i new) ≡ pushed (map items rows) i number
+row_pushed items [] i d new number h e = absurd (omega arith)
+row_pushed items (row ∷ rows) zero d new number h e = ap (λ z. z ∷ map items rows) e
+row_pushed items (row ∷ rows) (suc i) d new number h e = ap (λ z. items row ∷ z) (row_pushed items rows i d new number (omega arith) e)
+
+pub row_grown : {V A E : Type 0} (items : V → List ℕ) (r : Result A E) (old new row : V) (number : ℕ) → is_err r ≡ false
+    → items new ≡ (if is_ok r then items old ++ number ∷ [] else items old) → old ≡ row → items new ≡ items row ++ number ∷ []
+row_grown items (Ok a) old new row number e h k = h ∙ ap (λ z. items z ++ number ∷ []) k
+row_grown items (Err x) old new row number e h k = absurd (true≢false e)

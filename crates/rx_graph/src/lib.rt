@@ -4,8 +4,14 @@
 //! What each call gives is exactly what `rx_model` defines.
 #![tactic(auto)]
 
+mod copying;
 mod graphs;
 mod numbering;
+mod patterns;
+mod resources;
+mod rows;
+mod vocabulary;
 
+pub use copying::copy_patterns;
 pub use graphs::Graph;
 pub use numbering::relabel;
