@@ -4,3 +4,4 @@ pub mod NumberLemmas
 pub mod NodeLemmas
 pub mod PatternLemmas
 pub mod ReachLemmas
+pub mod PlaceLemmas

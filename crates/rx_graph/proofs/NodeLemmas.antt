@@ -1,12 +1,12 @@
 -- Borrowed nodes and their list.
-use Rattle.std.proofs.Common.{◌≡◌, ℕ, suc, ◌+◌, Bool, true, false, not, cond, nat_lt, nat_eq, List, [], ◌∷◌, ◌++◌, map, length, position, Option, Some, None, option_map, refl, sym, ap, ◌∙◌, arith, if◌then◌else◌}
+use Rattle.std.proofs.Common.{◌≡◌, suc, ◌+◌, Bool, true, false, nat_lt, nat_eq, List, [], ◌∷◌, map, length, position, Some, option_map, refl, sym, ap, ◌∙◌, arith, if◌then◌else◌}
 use Rattle.std.specs.List.{IsDistinct, AllByRecursion, position_or_len}
 use Rattle.std.proofs.lemmas.Bool.Decides.{nat_tests}
 use Rattle.rx_graph.specs.declared.resources.Resource.{Resource}
 use Rattle.rx_graph.specs.Resources.{resource_seen, node_added, number_in, AreDistinct}
 use Rattle.indexmap.specs.IndexSet.{insert_key}
 use Rattle.rx_model.specs.Sets.{contains}
-use Rattle.rx_model.specs.Terms.{Node, same_node}
+use Rattle.rx_model.specs.Terms.{same_node}
 use Rattle.rx_graph.proofs.CodeEq.{resource_eq, resources_agree_back}
 use Rattle.rx_graph.proofs.SetLemmas.{insert_seen}
 

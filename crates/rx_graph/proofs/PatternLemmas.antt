@@ -1,17 +1,17 @@
 -- The patterns of a list, from left to right.
-use Rattle.std.proofs.Common.{◌≡◌, ◌⊎◌, ◌↔◌, ℕ, suc, zero, ◌+◌, ◌<◌, ◌≤◌, Bool, true, false, not, ◌&&◌, ◌||◌, nat_eq, List, [], ◌∷◌, ◌++◌, map, filter_map, flat_map, length, take, slice_get, Option, Some, None, option_map, is_none, refl, sym, ap, ap₂, subst, ◌∙◌, inl, inr, true≢false, arith, if◌then◌else◌, append-nil, append_assoc, bytes_eq, length-append}
+use Rattle.std.proofs.Common.{◌≡◌, ℕ, suc, zero, ◌+◌, ◌≤◌, Bool, true, false, ◌&&◌, ◌||◌, nat_eq, List, [], ◌∷◌, ◌++◌, map, filter_map, length, take, slice_get, Option, Some, None, option_map, refl, sym, ap, ap₂, subst, ◌∙◌, true≢false, arith, if◌then◌else◌, append-nil, bytes_eq}
 use Rattle.std.proofs.lemmas.List.Elements.{filter_map-append}
 use Rattle.std.proofs.lemmas.List.{take_all}
 use Rattle.std.specs.List.{cons_option}
 use Rattle.rx_terms.specs.declared.triples.Triple.{Triple as CodeTriple}
-use Rattle.rx_model.specs.Sets.{Among, contains}
+use Rattle.rx_model.specs.Sets.{contains}
 use Rattle.rx_model.specs.Terms.{Node, Iri, Term, Resource, Literal, Triple, same_node, same_term, same_triple}
-use Rattle.rx_model.specs.Copied.{rdf_type, rdfa_copy, rdfa_pattern, type_pattern, is_pattern, pattern_object, live, edge, edges, says_pattern, is_referenced}
+use Rattle.rx_model.specs.Copied.{rdf_type, rdfa_copy, rdfa_pattern, type_pattern, is_pattern, pattern_object, live, edge, says_pattern, is_referenced}
 use Rattle.rx_model.specs.Seen.{triple_seen, triples_seen}
 use Rattle.rx_model.proofs.Exact.{exact_numbers, exact_nodes}
 use Rattle.rx_graph.specs.Resources.{node_added, number_in, object_by, live_by, AreDistinct}
 use Rattle.rx_graph.specs.Rows.{pushed, empty_rows}
-use Rattle.rx_graph.specs.Patterns.{places, has_subject, places_of, ArePatterns, AreReferenced, edge_by, edges_by, IsIndex}
+use Rattle.rx_graph.specs.Patterns.{places, has_subject, places_of, ArePatterns, AreReferenced, edge_by, edges_by}
 use Rattle.rx_graph.proofs.SetLemmas.{seen_more}
 
 -- ---- one more element
@@ -73,7 +73,7 @@ pub patterns_found : (list : List CodeTriple) (i : ℕ) (u : CodeTriple) (nodes 
     → ArePatterns (triples_seen (take i list)) nodes → ArePatterns (triples_seen (take (i + 1) list)) new
 patterns_found list i u nodes new at says grows h = record {
   each = λ t. ap (λ z. contains (same_node nat_eq) z t) grows ∙ contains_added nodes (triple_seen u).subject t ∙ ap (λ b. b || same_node nat_eq (triple_seen u).subject t) (h.each t)
-    ∙ sym (ap (λ z. is_pattern nat_eq z t) (seen_more list i u at) ∙ pattern_more (triples_seen (take i list)) (triple_seen u) t
+      ∙ sym (ap (λ z. is_pattern nat_eq z t) (seen_more list i u at) ∙ pattern_more (triples_seen (take i list)) (triple_seen u) t
       ∙ ap (λ b. is_pattern nat_eq (triples_seen (take i list)) t || b) (says_of (triple_seen u) t ∙ ap (λ b. if b then same_node nat_eq (triple_seen u).subject t else false) says));
 }
 
@@ -118,7 +118,7 @@ references_found nodes list i u copied old new at says grows h =
     let one : edges_by nodes (triple_seen u ∷ []) ≡ ((triple_seen u).subject, copied) ∷ [] = rw says refl in
     record {
       each = λ t. ap (λ z. contains (same_node nat_eq) z t) grows ∙ contains_added old copied t ∙ ap (λ b. b || same_node nat_eq copied t) (h.each t)
-        ∙ sym (ap (λ z. is_referenced nat_eq z t) (edges_more nodes list i u at ∙ ap (λ z. edges_by nodes (triples_seen (take i list)) ++ z) one)
+          ∙ sym (ap (λ z. is_referenced nat_eq z t) (edges_more nodes list i u at ∙ ap (λ z. edges_by nodes (triples_seen (take i list)) ++ z) one)
           ∙ referenced_more (edges_by nodes (triples_seen (take i list))) ((triple_seen u).subject, copied) t);
     }
 

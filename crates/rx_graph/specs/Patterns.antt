@@ -1,5 +1,5 @@
 -- The patterns of a list of triples, where their triples stand, and what they lead to.
-use Rattle.std.specs.Prelude.{◌≡◌, ◌⊎◌, ◌↔◌, ℕ, suc, Bool, true, false, not, ◌&&◌, List, [], ◌∷◌, ◌++◌, map, filter_map, Option, Some, None, option_map, is_none, nat_eq, if◌then◌else◌}
+use Rattle.std.specs.Prelude.{◌≡◌, ◌↔◌, ℕ, suc, Bool, true, not, ◌&&◌, List, [], ◌∷◌, ◌++◌, map, filter_map, Option, Some, None, option_map, is_none, nat_eq, if◌then◌else◌}
 use Rattle.rx_model.specs.Sets.{Among, contains}
 use Rattle.rx_model.specs.Terms.{Node, Triple, same_node}
 use Rattle.rx_model.specs.Copied.{Leads, is_pattern, is_referenced, edges, live, says_pattern, spo}

@@ -1,5 +1,5 @@
 -- Nodes that are borrowed from triples.
-use Rattle.std.specs.Prelude.{◌≡◌, ℕ, suc, Bool, false, List, [], ◌∷◌, ◌++◌, Option, Some, None, option_map, nat_eq, bytes_eq, if◌then◌else◌}
+use Rattle.std.specs.Prelude.{◌≡◌, ℕ, suc, false, List, [], ◌∷◌, ◌++◌, Option, Some, None, option_map, nat_eq, bytes_eq, if◌then◌else◌}
 use Rattle.rx_graph.specs.declared.resources.Resource.{Resource}
 use Rattle.rx_graph.specs.declared.resources.Resource.TheVariants as borrowed
 use Rattle.rx_model.specs.Sets.{contains}

@@ -55,7 +55,12 @@ impl<'a> Patterns<'a> {
     }
 
     /// Adds to the graph what stands in place of a triple of the list.
-    pub(crate) fn treat(&self, alloc: Global, triple: &'a Triple, graph: &mut Graph) -> Result<(), NoMemory>
+    pub(crate) fn treat(
+        &self,
+        alloc: Global,
+        triple: &'a Triple,
+        graph: &mut Graph,
+    ) -> Result<(), NoMemory>
         ensures { OnOk result (triples_seen graph.new ≡ added_all (triples_seen graph.old)
             (treated nat_eq (triples_seen self.now) (edges nat_eq (triples_seen self.now)) (triple_seen triple.now))) }
     {
@@ -69,7 +74,13 @@ impl<'a> Patterns<'a> {
     }
 
     /// Adds to the graph what the subject gets by copying the pattern.
-    fn give(&self, alloc: Global, subject: &Node, pattern: Resource<'a>, graph: &mut Graph) -> Result<(), NoMemory>
+    fn give(
+        &self,
+        alloc: Global,
+        subject: &Node,
+        pattern: Resource<'a>,
+        graph: &mut Graph,
+    ) -> Result<(), NoMemory>
         requires { is_pattern nat_eq (triples_seen self.now) (resource_seen pattern) ≡ true }
         ensures { OnOk result (triples_seen graph.new ≡ added_all (triples_seen graph.old)
             (filter_map (given nat_eq (triples_seen self.now) (edges nat_eq (triples_seen self.now)) (node_seen subject.now) (resource_seen pattern.entry)) (triples_seen self.now))) }
@@ -83,7 +94,12 @@ impl<'a> Patterns<'a> {
     }
 
     /// Adds to the graph what the subject gets by a triple of a pattern that it copies.
-    fn give_one(&self, subject: &Node, triple: &'a Triple, graph: &mut Graph) -> Result<(), NoMemory>
+    fn give_one(
+        &self,
+        subject: &Node,
+        triple: &'a Triple,
+        graph: &mut Graph,
+    ) -> Result<(), NoMemory>
         ensures { OnOk result (triples_seen graph.new ≡ added_all (triples_seen graph.old)
             (option_to_list (given_one (triples_seen self.now) (node_seen subject.now) (triple_seen triple.now)))) }
     {
@@ -188,7 +204,11 @@ fn empty_rows(alloc: Global, len: usize) -> Result<Rows, NoMemory>
 }
 
 /// Those of the nodes that a copy triple copies.
-fn referenced<'a>(alloc: Global, triples: &'a TripleList, nodes: &Nodes<'a>) -> Result<Nodes<'a>, NoMemory>
+fn referenced<'a>(
+    alloc: Global,
+    triples: &'a TripleList,
+    nodes: &Nodes<'a>,
+) -> Result<Nodes<'a>, NoMemory>
     ensures { IfOk result (λ referenced. AreReferenced (edges_by nodes.now (triples_seen triples.now)) referenced) }
 {
     let mut referenced = Nodes::new(alloc);

@@ -110,6 +110,10 @@ impl<'a> Nodes<'a> {
             return None;
         }
         let object = Resource::of_term(&triple.object)?;
-        if self.contains(object) { Some(object) } else { None }
+        if self.contains(object) {
+            Some(object)
+        } else {
+            None
+        }
     }
 }

@@ -34,10 +34,10 @@ module _ {B : Type 0} (same : B → B → Bool) (exact : IsExact same) where
 
   module _ (list : List (Triple B)) where
     -- ---- the tests of the list
-    pattern_true : (t : Node B) → Among list (type_pattern t) → is_pattern same list t ≡ true
+    pub pattern_true : (t : Node B) → Among list (type_pattern t) → is_pattern same list t ≡ true
     pattern_true t h = Among-contains (same_triple same) (exact_triples same exact) list (type_pattern t) h
 
-    of_pattern : (t : Node B) → is_pattern same list t ≡ true → Among list (type_pattern t)
+    pub of_pattern : (t : Node B) → is_pattern same list t ≡ true → Among list (type_pattern t)
     of_pattern t h = Among_by_contains (same_triple same) (exact_triples same exact) list (type_pattern t) h
 
     live_some : (t : Node B) → Among list (type_pattern t) → live same list rdfa_copy (Resource t) ≡ Some t
@@ -61,7 +61,7 @@ module _ {B : Type 0} (same : B → B → Bool) (exact : IsExact same) where
     pair_in : (s t : Node B) → Among list (copy s t) → Among list (type_pattern t) → Among (edges same list) (s, t)
     pair_in s t h k = Among_filter_map (edge same list) list (copy s t) (s, t) h (ap (option_map (λ (to : Node B). (s, to))) (live_some t k))
 
-    of_pair : (e : Node B × Node B) → Among (edges same list) e → Among list (copy e.0 e.1) × Among list (type_pattern e.1)
+    pub of_pair : (e : Node B × Node B) → Among (edges same list) e → Among list (copy e.0 e.1) × Among list (type_pattern e.1)
     of_pair e h = let r = Among_of_filter_map (edge same list) list e h in go r.0 r.1 (live same list r.0.predicate r.0.object) refl r.2
       where
         go : (u : Triple B) → Among list u → (o : Option (Node B)) → live same list u.predicate u.object ≡ o → option_map (λ (to : Node B). (u.subject, to)) o ≡ Some e → Among list (copy e.0 e.1) × Among list (type_pattern e.1)

@@ -1,5 +1,4 @@
-use Rattle.std.proofs.Common.{◌≡◌, ◌∙◌, ◌++◌, ◌∷◌, [], ap, sym, arith}
-use Rattle.rx_graph.specs.Rows.{empty_rows}
+use Rattle.std.proofs.Common.{◌∙◌, ◌++◌, ◌∷◌, [], ap, sym}
 use Rattle.rx_graph.proofs.PatternLemmas.{empty_more}
 use Rattle.rx_graph.proofs.patterns.empty_rows.Goals as goal
 

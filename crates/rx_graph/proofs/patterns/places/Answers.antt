@@ -1,10 +1,8 @@
-use Rattle.std.proofs.Common.{◌≡◌, ◌∙◌, ◌≤◌, ap, sym, arith, map, Some, Option, length, slice_get, List, ℕ}
+use Rattle.std.proofs.Common.{◌∙◌, ap, sym, arith}
 use Rattle.std.proofs.lemmas.Option.{slice_get_within}
-use Rattle.rx_model.specs.Seen.{triples_seen}
 use Rattle.rx_graph.specs.Rows.{empty_rows}
-use Rattle.rx_graph.specs.Patterns.{places_of}
 use Rattle.rx_graph.specs.Resources.{number_in}
-use Rattle.rx_graph.proofs.PatternLemmas.{empty_start, rows_found, rows_kept, rows_end, number_row, number_row_by}
+use Rattle.rx_graph.proofs.PatternLemmas.{empty_start, rows_found, rows_kept, rows_end, number_row_by}
 use Rattle.rx_graph.proofs.patterns.places.Goals.{in-Some+in_ok-push, in_default}
 use Rattle.rx_graph.proofs.patterns.places.Goals as goal
 

@@ -1,5 +1,5 @@
 use Rattle.std.proofs.Common.{◌∙◌, ap}
-use Rattle.std.specs.Str.{chars, bytes_eq}
+use Rattle.std.specs.Str.{bytes_eq}
 use Rattle.rx_terms.proofs.CharLemmas.{same-ascii}
 use Rattle.rx_graph.proofs.vocabulary.is.Goals as goal
 
