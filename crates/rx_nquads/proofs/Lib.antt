@@ -1,0 +1,4 @@
+pub mod Cuts
+pub mod OneMeaning
+pub mod Adding
+pub mod Denoting

@@ -1,0 +1,22 @@
+//! N-Quads: the text of a graph, and what a text denotes.
+//!
+//! [`text`] gives exactly the text that `specs/Writing.antt` defines. By the relation of `specs/Document.antt`, which is
+//! stated of whole texts and apart from the writer, that text denotes exactly the graph's quads.
+#![tactic(auto)]
+
+ghost use Rattle.rx_nquads.specs.Document.{StatesOne, DenotesOne};
+
+mod terms;
+mod writing;
+
+pub use writing::text;
+
+/// A line states at most one quad.
+pub fn a_line_states_one()
+    ensures { StatesOne }
+{}
+
+/// A text denotes at most one set of quads.
+pub fn a_text_denotes_one()
+    ensures { DenotesOne }
+{}
