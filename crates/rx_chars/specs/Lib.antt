@@ -1,0 +1,5 @@
+pub mod Utf8
+pub mod Characters
+pub mod NcName
+pub mod Named
+pub mod Numeric
