@@ -7,8 +7,7 @@ use Rattle.rx_chars.specs.declared.syntax.Syntax.TheVariants.{Html, Xhtml}
 use Rattle.rx_grammar.specs.References.{Denotes, nothing, character, reference, kept, is_plain, is_body, stops_at, meaning, value_char}
 use Rattle.std.specs.List.{list_all}
 use Rattle.std.proofs.Common.{arith}
-use Rattle.std.specs.Prelude.{◌&&◌}
-use Rattle.std.specs.Prelude.{map}
+use Rattle.rx_chars.specs.Named.{named, named_table}
 use Rattle.rx_grammar.specs.Tokens.{Tag}
 use Rattle.rx_grammar.specs.Shapes.{Shape, a_start, an_end, Attributes, no_more, one, Assigns, no_value, unquoted, quoted}
 use Rattle.rx_grammar.specs.Tags.{Reads, SpellsTag}
@@ -18,8 +17,16 @@ plain : (text : Chars) → list_all (is_plain Html) text ≡ true → Denotes Ht
 plain [] h = nothing
 plain (c ∷ text) h = character c (grind (arith)) (plain text (grind (arith)))
 
+copy_is : named (codes "copy") ≡ Some 169
+unfolding named_table
+copy_is = refl
+
+lt_is : named (codes "lt") ≡ Some 60
+unfolding named_table
+lt_is = refl
+
 one_run : Denotes Html (meaning Html) (codes "&copy 1 &copy; &#128; <3") (codes "&copy 1 " ++ 169 ∷ codes " " ++ 8364 ∷ codes " <3")
-one_run = kept (codes "copy") (refl, refl) (character 32 refl (character 49 refl (character 32 refl (reference (codes "copy") 169 refl refl (character 32 refl (reference (codes "#128") 8364 refl refl (plain (codes " <3") refl)))))))
+one_run = kept (codes "copy") (refl, refl) (character 32 refl (character 49 refl (character 32 refl (reference (codes "copy") 169 refl copy_is (character 32 refl (reference (codes "#128") 8364 refl refl (plain (codes " <3") refl)))))))
 
 -- names in any case, values with and without quotes, references, a name without a value, and a name twice
 a_tag : SpellsTag Html (codes "P ABOUT=http://h.example/s content=\"&lt;&#x41;\" Class title=x title=y>")
@@ -37,7 +44,7 @@ a_tag = record {
       (no_more [] refl))))));
     closing = refl;
     name = refl;
-    attributes = (refl, plain _ refl, (refl, reference (codes "lt") 60 refl refl (reference (codes "#x41") 65 refl refl nothing), (refl, nothing, (refl, plain _ refl, (refl, plain _ refl, tt)))));
+    attributes = (refl, plain _ refl, (refl, reference (codes "lt") 60 refl lt_is (reference (codes "#x41") 65 refl refl nothing), (refl, nothing, (refl, plain _ refl, (refl, plain _ refl, tt)))));
     slash = refl };
   unrepeated = refl;
   is_tag = refl
