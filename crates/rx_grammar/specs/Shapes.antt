@@ -50,9 +50,17 @@ is_tag_name syntax name = first_then (begins_tag syntax) (is_tag_char syntax) na
 abbrev pub is_attribute_char : ℕ → Bool
 is_attribute_char c = not (ends_name c || c == equals_sign || is_quote c || c == less_than_sign)
 
+-- the first character of an attribute's name, and a further one
+abbrev pub begins_attribute : Syntax → ℕ → Bool
+begins_attribute Html c = is_attribute_char c
+begins_attribute Xhtml c = is_strict_start c
+
+abbrev pub continues_attribute : Syntax → ℕ → Bool
+continues_attribute Html c = is_attribute_char c
+continues_attribute Xhtml c = is_strict_char c
+
 abbrev pub is_attribute_name : Syntax → Chars → Bool
-is_attribute_name Html name = one_or_more is_attribute_char name
-is_attribute_name Xhtml name = first_then is_strict_start is_strict_char name
+is_attribute_name syntax name = first_then (begins_attribute syntax) (continues_attribute syntax) name
 
 -- What may stand before an attribute: in HTML white space and `/`, in XHTML white space that has to be there.
 abbrev pub is_gap : Syntax → Chars → Bool

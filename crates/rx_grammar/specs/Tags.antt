@@ -1,6 +1,7 @@
 -- Which characters spell which tag.
-use Rattle.std.specs.Prelude.{◌≡◌, ℕ, Bool, true, false, ◌||◌, List, [], ◌∷◌, Option, if◌then◌else◌}
-use Rattle.rx_terms.specs.Text.{Chars, lowered}
+use Rattle.std.specs.Prelude.{◌≡◌, ℕ, Bool, true, false, ◌||◌, List, [], ◌∷◌, map, Option, if◌then◌else◌}
+use Rattle.rx_terms.specs.Ascii.{lowered_char}
+use Rattle.rx_terms.specs.Text.{Chars}
 use Rattle.rx_chars.specs.declared.syntax.Syntax.{Syntax}
 use Rattle.rx_chars.specs.declared.syntax.Syntax.TheVariants.{Html, Xhtml}
 use Rattle.rx_grammar.specs.Names.{same}
@@ -9,9 +10,12 @@ use Rattle.rx_grammar.specs.Tokens.{Attribute, Tag, has_name}
 use Rattle.rx_grammar.specs.Shapes.{Shape}
 
 -- HTML reads A to Z in names as a to z, XHTML keeps names.
+abbrev pub cased_char : Syntax → ℕ → ℕ
+cased_char Html c = lowered_char c
+cased_char Xhtml c = c
+
 abbrev pub cased : Syntax → Chars → Chars
-cased Html name = lowered name
-cased Xhtml name = name
+cased syntax name = map (cased_char syntax) name
 
 -- the attributes without those of a name
 abbrev pub without : Chars → List Attribute → List Attribute

@@ -1,0 +1,4 @@
+pub mod Tables
+pub mod Cuts
+pub mod Values
+pub mod TagReader
