@@ -1,1 +1,7 @@
-
+mod Examples
+pub mod Bools
+pub mod Classes
+pub mod Cutting
+pub mod Complete
+pub mod Gaps
+pub mod Sound
