@@ -20,36 +20,30 @@ is_hexadecimal_digit c = is_digit c || between 65 70 c || between 97 102 c
 abbrev pub is_x : ℕ → Bool
 is_x c = c == 120 || c == 88
 
--- What stands between `&` and `;`: a letter, then letters and digits
+-- a letter, then letters and digits
 abbrev pub is_name : Chars → Bool
 is_name [] = false
 is_name (c ∷ text) = is_letter c && list_all is_letter_or_digit text
 
--- `#` and digits
-abbrev pub is_decimal : Chars → Bool
-is_decimal [] = false
-is_decimal (c ∷ digits) = c == number_sign && one_or_more is_digit digits
+-- digits, or `x` or `X` and hexadecimal digits
+abbrev pub is_number : Chars → Bool
+is_number [] = false
+is_number (c ∷ text) = (is_digit c && list_all is_digit text) || (is_x c && one_or_more is_hexadecimal_digit text)
 
--- digits after `x` or `X`
-abbrev pub are_marked : Chars → Bool
-are_marked [] = false
-are_marked (c ∷ digits) = is_x c && one_or_more is_hexadecimal_digit digits
-
--- `#x` or `#X` and hexadecimal digits
-abbrev pub is_hexadecimal : Chars → Bool
-is_hexadecimal [] = false
-is_hexadecimal (c ∷ text) = c == number_sign && are_marked text
-
+-- What stands between the `&` and the `;` of a reference: a name, or `#` and a number.
 abbrev pub is_body : Chars → Bool
-is_body body = is_name body || is_decimal body || is_hexadecimal body
+is_body [] = false
+is_body (c ∷ text) = (is_letter c && list_all is_letter_or_digit text) || (c == number_sign && is_number text)
 
--- `#`, `#x` or `#X`, which a digit has to follow
-abbrev pub is_opening : Chars → Bool
-is_opening text = same text (codes "#") || same text (codes "#x") || same text (codes "#X")
+-- a number, or what one begins with
+abbrev pub begins_number : Chars → Bool
+begins_number [] = true
+begins_number (c ∷ text) = (is_digit c && list_all is_digit text) || (is_x c && list_all is_hexadecimal_digit text)
 
--- what may stand after `&` before it is known whether a reference stands there
+-- What may stand after `&` before it is known whether a reference stands there: a body, or what one begins with.
 abbrev pub is_begun : Chars → Bool
-is_begun text = same text [] || is_opening text || is_body text
+is_begun [] = true
+is_begun (c ∷ text) = (is_letter c && list_all is_letter_or_digit text) || (c == number_sign && begins_number text)
 
 -- After `&` and this run the text can't go on to a reference with the character `next`.
 abbrev pub stops_at : Chars → ℕ → Bool

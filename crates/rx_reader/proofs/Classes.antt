@@ -30,7 +30,7 @@ pub record Apart (c : ℕ) : Type 0 where
   pub slash : (c == solidus) ≡ false
   pub greater : (c == greater_than_sign) ≡ false
 
-unless : (test : ℕ → Bool) (c : ℕ) (b : Bool) → test c ≡ true → (b ≡ true → test c ≡ false) → b ≡ false
+pub unless : (test : ℕ → Bool) (c : ℕ) (b : Bool) → test c ≡ true → (b ≡ true → test c ≡ false) → b ≡ false
 unless test c true h k = absurd (not_both_ways (test c) h (k refl))
 unless test c false h k = refl
 

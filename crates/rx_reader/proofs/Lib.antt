@@ -5,3 +5,4 @@ pub mod Cutting
 pub mod Complete
 pub mod Gaps
 pub mod Sound
+pub mod Runs
