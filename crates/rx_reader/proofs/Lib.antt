@@ -6,3 +6,5 @@ pub mod Complete
 pub mod Gaps
 pub mod Sound
 pub mod Runs
+pub mod TextComplete
+pub mod TextSound

@@ -165,3 +165,31 @@ stops c (in_hexadecimal x d text a b k) h =
     split (λ m. m ≡ Stops → G) (is_hexadecimal_digit c) _ _ (λ e g. no_stop run.Hexadecimal G g)
     (λ e. split (λ m. m ≡ Stops → G) (c == semicolon) _ _ (λ f g. closes_no_stop G g)
         (λ f g. rw (f, x_no_digit x a, a, b, snoc_false is_hexadecimal_digit text c k e) refl)) h
+
+-- each run is one of a phase
+pub record Begun (text : Chars) : Type 0 where
+  pub phase : RunPhase
+  pub is_run : RunIs phase text
+
+stops_case : (c : ℕ) {p : RunPhase} {text : Chars} → RunIs p text → stops_at text c ≡ true → (m : RunMove) → run_move p c ≡ m → m ≡ Stops
+stops_case c {text = text} i h (Goes q) e =
+    absurd (let b = both (not (is_begun (text ++ c ∷ []))) _ h in not_both_ways (is_begun (text ++ c ∷ [])) (run_begun (goes_on c q i e)) (untrue (is_begun (text ++ c ∷ [])) b.0))
+stops_case c {text = text} i h Closes e =
+    let k = closes c i e in
+    absurd (let b = both (not (is_begun (text ++ c ∷ []))) _ h in
+        not_both_ways (c == semicolon && is_body text) (of_one (λ x. (x == semicolon && is_body text) ≡ true) c semicolon (rw k.mark refl) k.body) (untrue (c == semicolon && is_body text) b.1))
+stops_case c i h Stops e = refl
+
+pub stops_back : (c : ℕ) {p : RunPhase} {text : Chars} → RunIs p text → stops_at text c ≡ true → run_move p c ≡ Stops
+stops_back c {p = p} i h = stops_case c i h (run_move p c) refl
+
+body_mark : (x : ℕ) → is_x x ≡ true → is_body (number_sign ∷ x ∷ []) ≡ true → ⊥
+body_mark x h b = let k : is_body (number_sign ∷ x ∷ []) ≡ false = rw (x_no_digit x h, h) refl in not_both_ways (is_body (number_sign ∷ x ∷ [])) b k
+
+pub closes_back : {p : RunPhase} {text : Chars} → RunIs p text → is_body text ≡ true → run_move p semicolon ≡ Closes
+closes_back at_ampersand h = absurd (cc)
+closes_back (in_name c text a b) h = refl
+closes_back at_hash h = absurd (cc)
+closes_back (in_decimal c text a b) h = refl
+closes_back (at_mark x a) h = absurd (body_mark x a h)
+closes_back (in_hexadecimal x c text a b k) h = refl
