@@ -8,3 +8,5 @@ pub mod Sound
 pub mod Runs
 pub mod TextComplete
 pub mod TextSound
+pub mod Moves
+pub mod TagComplete

@@ -50,7 +50,7 @@ pub record Added (attribute : Attribute) (cut : Cut) (r : Result) : Type 0 where
   pub first : attribute ∷ rest.0 ≡ r.0
   pub slash : rest.1 ≡ r.1
 
-added : (a : Attribute) (cut : Cut) (r : Result) → with_first a cut ≡ Some r → Added a cut r
+pub added : (a : Attribute) (cut : Cut) (r : Result) → with_first a cut ≡ Some r → Added a cut r
 added a None r h = absurd (cc)
 added a (Some x) r h = record { rest = x; from = refl; first = let e : (a ∷ x.0, x.1) ≡ r = cc in ap (λ y. y.0) e; slash = let e : (a ∷ x.0, x.1) ≡ r = cc in ap (λ y. y.1) e }
 

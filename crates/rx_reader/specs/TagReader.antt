@@ -45,14 +45,26 @@ abbrev pub moved : Syntax → (Chars → Option ℕ) → TagState → ℕ → Op
 moved syntax means s c None = Err BadTag
 moved syntax means s c (Some (p, a)) = done_by syntax means s c p a
 
--- at the tag's `>` no name may stand twice in XHTML
+-- the state after one more character, names that stand twice not being looked at
+abbrev pub tag_move : Syntax → (Chars → Option ℕ) → TagState → ℕ → Result TagState Kind
+tag_move syntax means s c = moved syntax means s c (move_of syntax s.phase c)
+
+abbrev pub tag_move_on : Syntax → (Chars → Option ℕ) → Result TagState Kind → ℕ → Result TagState Kind
+tag_move_on syntax means (Ok s) c = tag_move syntax means s c
+tag_move_on syntax means (Err kind) c = Err kind
+
+abbrev pub moves_on : Syntax → (Chars → Option ℕ) → Result TagState Kind → Chars → Result TagState Kind
+moves_on syntax means reached [] = reached
+moves_on syntax means reached (c ∷ text) = moves_on syntax means (tag_move_on syntax means reached c) text
+
+-- At the tag's `>` no name may stand twice in XHTML.
 abbrev pub checked : Syntax → Result TagState Kind → Result TagState Kind
 checked syntax (Ok s) = if is_last s.phase && is_repeated syntax s.attributes then Err RepeatedAttribute else Ok s
 checked syntax (Err kind) = Err kind
 
 -- the state after one more character, or the fault that it decides
 abbrev pub tag_step : Syntax → (Chars → Option ℕ) → TagState → ℕ → Result TagState Kind
-tag_step syntax means s c = checked syntax (moved syntax means s c (move_of syntax s.phase c))
+tag_step syntax means s c = checked syntax (tag_move syntax means s c)
 
 abbrev pub tag_step_on : Syntax → (Chars → Option ℕ) → Result TagState Kind → ℕ → Result TagState Kind
 tag_step_on syntax means (Ok s) c = tag_step syntax means s c
