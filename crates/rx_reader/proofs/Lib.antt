@@ -10,3 +10,4 @@ pub mod TextComplete
 pub mod TextSound
 pub mod Moves
 pub mod TagComplete
+pub mod TagSound
