@@ -11,3 +11,4 @@ pub mod TextSound
 pub mod Moves
 pub mod TagComplete
 pub mod TagSound
+pub mod TagLaws
