@@ -1,16 +1,14 @@
 -- Tags that were worked out by hand, as the definitions read them.
-use Rattle.std.proofs.Common.{◌≡◌, ℕ, Bool, true, false, List, [], ◌∷◌, ◌++◌, Option, Some, None, refl}
+use Rattle.std.proofs.Common.{◌≡◌, true, false, [], ◌∷◌, ◌++◌, Some, refl}
 use Rattle.std.specs.Prelude.{codes}
 use Rattle.rx_terms.specs.Text.{Chars}
-use Rattle.rx_chars.specs.declared.syntax.Syntax.{Syntax}
-use Rattle.rx_chars.specs.declared.syntax.Syntax.TheVariants.{Html, Xhtml}
-use Rattle.rx_grammar.specs.References.{Denotes, nothing, character, reference, kept, is_plain, is_body, stops_at, meaning, value_char}
+use Rattle.rx_chars.specs.declared.syntax.Syntax.TheVariants.{Html}
+use Rattle.rx_grammar.specs.References.{Denotes, nothing, character, reference, kept, is_plain, meaning}
 use Rattle.std.specs.List.{list_all}
 use Rattle.std.proofs.Common.{arith}
 use Rattle.rx_chars.specs.Named.{named, named_table}
-use Rattle.rx_grammar.specs.Tokens.{Tag}
-use Rattle.rx_grammar.specs.Shapes.{Shape, a_start, an_end, Attributes, no_more, one, Assigns, no_value, unquoted, quoted}
-use Rattle.rx_grammar.specs.Tags.{Reads, SpellsTag}
+use Rattle.rx_grammar.specs.Shapes.{a_start, no_more, one, no_value, unquoted, quoted}
+use Rattle.rx_grammar.specs.Tags.{SpellsTag}
 
 -- plain characters are their own value
 plain : (text : Chars) → list_all (is_plain Html) text ≡ true → Denotes Html (meaning Html) text text
@@ -30,22 +28,23 @@ one_run = kept (codes "copy") (refl, refl) (character 32 refl (character 49 refl
 
 -- names in any case, values with and without quotes, references, a name without a value, and a name twice
 a_tag : SpellsTag Html (codes "P ABOUT=http://h.example/s content=\"&lt;&#x41;\" Class title=x title=y>")
-  (record { closing = false; name = codes "p"; attributes = (codes "about", codes "http://h.example/s") ∷ (codes "content", codes "<A") ∷ (codes "class", []) ∷ (codes "title", codes "x") ∷ []; slash = false })
+    (record { closing = false; name = codes "p"; attributes = (codes "about", codes "http://h.example/s") ∷ (codes "content", codes "<A") ∷ (codes "class", []) ∷ (codes "title", codes "x") ∷ []; slash = false })
 a_tag = record {
   parts = record { closing = false; name = codes "p"; attributes = (codes "about", codes "http://h.example/s") ∷ (codes "content", codes "<A") ∷ (codes "class", []) ∷ (codes "title", codes "x") ∷ (codes "title", codes "y") ∷ []; slash = false };
   reads = record {
     written = record { closing = false; name = codes "P"; attributes = (codes "ABOUT", codes "http://h.example/s") ∷ (codes "content", codes "&lt;&#x41;") ∷ (codes "Class", []) ∷ (codes "title", codes "x") ∷ (codes "title", codes "y") ∷ []; slash = false };
     shape = a_start (codes "P") _ refl refl
-      (one (codes " ") (codes "ABOUT") _ _ _ _ refl refl (unquoted [] [] (codes "http://h.example/s") refl refl refl refl) refl
-      (one (codes " ") (codes "content") _ _ _ _ refl refl (quoted [] [] (codes "&lt;&#x41;") 34 refl refl refl refl) refl
-      (one (codes " ") (codes "Class") _ _ _ _ refl refl (no_value refl) refl
-      (one (codes " ") (codes "title") _ _ _ _ refl refl (unquoted [] [] (codes "x") refl refl refl refl) refl
-      (one (codes " ") (codes "title") _ _ _ _ refl refl (unquoted [] [] (codes "y") refl refl refl refl) refl
-      (no_more [] refl))))));
+        (one (codes " ") (codes "ABOUT") _ _ _ _ refl refl (unquoted [] [] (codes "http://h.example/s") refl refl refl refl) refl
+        (one (codes " ") (codes "content") _ _ _ _ refl refl (quoted [] [] (codes "&lt;&#x41;") 34 refl refl refl refl) refl
+        (one (codes " ") (codes "Class") _ _ _ _ refl refl (no_value refl) refl
+        (one (codes " ") (codes "title") _ _ _ _ refl refl (unquoted [] [] (codes "x") refl refl refl refl) refl
+        (one (codes " ") (codes "title") _ _ _ _ refl refl (unquoted [] [] (codes "y") refl refl refl refl) refl
+        (no_more [] refl))))));
     closing = refl;
     name = refl;
     attributes = (refl, plain _ refl, (refl, reference (codes "lt") 60 refl lt_is (reference (codes "#x41") 65 refl refl nothing), (refl, nothing, (refl, plain _ refl, (refl, plain _ refl, tt)))));
-    slash = refl };
+    slash = refl;
+  };
   unrepeated = refl;
-  is_tag = refl
+  is_tag = refl;
 }

@@ -32,20 +32,20 @@ enders_of syntax (t ∷ above) = enders (inside_of syntax above) t.name
 
 -- How far a page has come.
 pub data Phase : Type 0 where
-  before : Bool → Phase      -- the root hasn't begun; whether a document type stood
-  within : Phase             -- elements are open
-  after : Phase              -- the root has ended
+  before : Bool → Phase  -- the root hasn't begun; whether a document type stood
+  within : Phase  -- elements are open
+  after : Phase  -- the root has ended
 
 -- The tokens are these open elements with all that stands in them so far; `to` is what follows. At most `left` levels open below them.
 pub data Open (syntax : Syntax) : ℕ → List Item → List Item → Line → Type 0 where
   a_root : {left : ℕ} {from inner to : List Item} {inside : Tree} {stood : Bool} (lead : List Item) (item : Item) (t : Tag) → Lead lead stood → Opens syntax outside item t → t.name ≡ root_name → is_alone syntax outside t ≡ false
-    → Drops (drops_line_feed outside t) (place_in syntax outside t.name).content from inner → Holds syntax left (place_in syntax outside t.name) t.name inner to inside
-    → Open syntax left (lead ++ item ∷ from) to (start_of item t ∷ [])
+      → Drops (drops_line_feed outside t) (place_in syntax outside t.name).content from inner → Holds syntax left (place_in syntax outside t.name) t.name inner to inside
+      → Open syntax left (lead ++ item ∷ from) to (start_of item t ∷ [])
   a_child : {left : ℕ} {all from inner to : List Item} {inside : Tree} {line : Line} (item : Item) (t : Tag) → Open syntax (suc left) all (item ∷ from) line → Opens syntax (inside_of syntax line) item t → is_alone syntax (inside_of syntax line) t ≡ false
-    → is_among (enders_of syntax line) t.name ≡ false
-    → Drops (drops_line_feed (inside_of syntax line) t) (place_in syntax (inside_of syntax line) t.name).content from inner → Holds syntax left (place_in syntax (inside_of syntax line) t.name) t.name inner to inside
-    → has_element (enders (inside_of syntax line) t.name) inside ≡ false
-    → Open syntax left all to (start_of item t ∷ line)
+      → is_among (enders_of syntax line) t.name ≡ false
+      → Drops (drops_line_feed (inside_of syntax line) t) (place_in syntax (inside_of syntax line) t.name).content from inner → Holds syntax left (place_in syntax (inside_of syntax line) t.name) t.name inner to inside
+      → has_element (enders (inside_of syntax line) t.name) inside ≡ false
+      → Open syntax left all to (start_of item t ∷ line)
 
 -- The tokens stand at the front of a page, with these elements open.
 pub data Stands (syntax : Syntax) : ℕ → List Item → Line → Phase → Type 0 where

@@ -1,12 +1,12 @@
 -- The tokens of a page in order, each with its place and the content that it is spelled in.
-use Rattle.std.specs.Prelude.{◌≡◌, ℕ, ◌+◌, ◌-◌, ◌≤◌, Bool, true, false, ◌&&◌, ◌==◌, List, [], ◌∷◌, ◌++◌, map, Option, Some, None, if◌then◌else◌}
+use Rattle.std.specs.Prelude.{◌≡◌, ℕ, ◌+◌, ◌≤◌, Bool, true, false, ◌&&◌, ◌==◌, List, [], ◌∷◌, ◌++◌, map, Option, Some, None, if◌then◌else◌}
 use Rattle.rx_terms.specs.Ascii.{right_bracket, greater_than_sign, line_feed}
 use Rattle.rx_terms.specs.Text.{Chars}
 use Rattle.rx_chars.specs.Characters.{Entry}
 use Rattle.rx_chars.specs.declared.syntax.Syntax.{Syntax}
 use Rattle.rx_grammar.specs.declared.contents.Content.{Content}
 use Rattle.rx_grammar.specs.declared.contents.Content.TheVariants as content
-use Rattle.rx_grammar.specs.Tokens.{Tag, Token, tag, character, reference, kept, section, comment, doctype}
+use Rattle.rx_grammar.specs.Tokens.{Tag, Token, tag, character, reference, kept, section}
 use Rattle.rx_grammar.specs.Spelling.{Spells}
 use Rattle.rx_grammar.specs.Trees.{StartTag}
 
@@ -34,7 +34,7 @@ last_from last (entry ∷ entries) = last_from entry.last entries
 pub data Spelled (syntax : Syntax) : List Entry → Option ℕ → List Item → Type 0 where
   no_more : {next : Option ℕ} → Spelled syntax [] next []
   one : {next : Option ℕ} (c : Entry) (run rest : List Entry) (item : Item) {items : List Item} → Spells syntax item.content (values (c ∷ run)) (next_of (values rest) next) item.token → item.first ≡ c.first → item.last ≡ last_from c.last run
-    → Spelled syntax rest next items → Spelled syntax ((c ∷ run) ++ rest) next (item ∷ items)
+      → Spelled syntax rest next items → Spelled syntax ((c ∷ run) ++ rest) next (item ∷ items)
 
 -- No tag has more bytes than the limit.
 abbrev pub Fits : ℕ → Item → Token → Type 0

@@ -12,3 +12,4 @@ pub mod Omission
 pub mod Pages
 pub mod Begun
 pub mod PageFaults
+pub mod Laws

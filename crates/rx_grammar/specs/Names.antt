@@ -1,5 +1,5 @@
 -- The names of elements that the grammar knows, and the table of end tags that may be omitted.
-use Rattle.std.specs.Prelude.{ℕ, Bool, true, false, ◌||◌, ◌&&◌, ◌==◌, List, [], ◌∷◌, ◌++◌, Option, Some, None, codes, nat_eq, if◌then◌else◌}
+use Rattle.std.specs.Prelude.{Bool, ◌||◌, ◌==◌, List, [], ◌∷◌, Option, Some, None, codes, nat_eq, if◌then◌else◌}
 use Rattle.std.specs.Cmp.Lexicographic.{pointwise}
 use Rattle.std.specs.List.{list_any}
 use Rattle.rx_terms.specs.Text.{Chars}

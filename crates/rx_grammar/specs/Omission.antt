@@ -1,10 +1,9 @@
 -- Which end tags may be omitted (HTML, 13.1.2.4, and the table of names).
-use Rattle.std.specs.Prelude.{◌≡◌, ◌≢◌, ℕ, Bool, true, false, not, ◌||◌, ◌&&◌, List, [], ◌∷◌, codes, Option, Some, None, if◌then◌else◌}
+use Rattle.std.specs.Prelude.{Bool, true, false, not, ◌&&◌, List, [], ◌∷◌, codes, Option, Some, None, if◌then◌else◌}
 use Rattle.rx_terms.specs.Text.{Chars}
-use Rattle.rx_chars.specs.declared.syntax.Syntax.{Syntax}
 use Rattle.rx_grammar.specs.declared.contents.Content.{Content}
 use Rattle.rx_grammar.specs.Names.{same, is_among, row_of, holds_paragraphs}
-use Rattle.rx_grammar.specs.Tokens.{Tag, Token, tag}
+use Rattle.rx_grammar.specs.Tokens.{Token, tag}
 use Rattle.rx_grammar.specs.Contents.{Place, is_html}
 use Rattle.rx_grammar.specs.Items.{Item}
 

@@ -2,7 +2,7 @@
 use Rattle.std.specs.Prelude.{◌≡◌, ◌≢◌, ℕ, ◌+◌, ◌≤◌, ◌<◌, ◌⊎◌, Bool, true, false, not, ◌||◌, ◌&&◌, ◌==◌, nat_le, List, [], ◌∷◌, ◌++◌, length, take, drop, codes, Option, Some, None, if◌then◌else◌}
 use Rattle.std.specs.List.{list_any}
 use Rattle.rx_terms.specs.Ascii.{ampersand, solidus, less_than_sign, greater_than_sign, is_white_space, right_bracket}
-use Rattle.rx_terms.specs.Text.{Chars, lowered, begins_with, is_empty}
+use Rattle.rx_terms.specs.Text.{Chars, lowered, begins_with}
 use Rattle.rx_chars.specs.Utf8.{IsCharacter, BeginsCharacter, BeginNone}
 use Rattle.rx_chars.specs.Characters.{Entry, IsRead}
 use Rattle.rx_chars.specs.declared.syntax.Syntax.{Syntax}
@@ -15,16 +15,16 @@ use Rattle.rx_grammar.specs.declared.faults.Kind.TheVariants as kind
 use Rattle.rx_grammar.specs.declared.limits.Limits.{Limits}
 use Rattle.rx_grammar.specs.Names.{same, is_among}
 use Rattle.rx_grammar.specs.References.{is_begun}
-use Rattle.rx_grammar.specs.Tokens.{Tag, Token, tag, doctype}
+use Rattle.rx_grammar.specs.Tokens.{Tag, Token, tag}
 use Rattle.rx_grammar.specs.Shapes.{begins_tag, ends_name, begins}
 use Rattle.rx_grammar.specs.Tags.{cased}
 use Rattle.rx_grammar.specs.TagFaults.{RunFault, BeginsTag, TagFault}
 use Rattle.rx_grammar.specs.Spelling.{exclamation_mark, ends_with, IsFirst, has_markup, has_references, begins_markup, raw_name, doctype_word, IsDoctype, Spells}
-use Rattle.rx_grammar.specs.Contents.{Place, is_html, is_plaintext, is_self_closed}
+use Rattle.rx_grammar.specs.Contents.{is_html, is_plaintext, is_self_closed}
 use Rattle.rx_grammar.specs.Items.{values, next_of, Item, Spelled, AllFit, no_section_end, is_literal}
 use Rattle.rx_grammar.specs.Omission.{enders, is_omissible, is_held}
 use Rattle.rx_grammar.specs.Pages.{has_no_nul, root_name}
-use Rattle.rx_grammar.specs.Begun.{Line, inside_of, parent_of, enders_of, Phase, before, within, after, Stands}
+use Rattle.rx_grammar.specs.Begun.{Line, inside_of, parent_of, Phase, before, after, Stands}
 
 -- what an end tag begins with in raw text: `/`, the name in any case, and a character that ends it
 abbrev pub is_known_end : Chars → Chars → Bool
@@ -142,17 +142,17 @@ pub data Faulty (syntax : Syntax) (depth : ℕ) (items : List Item) (line : Line
   in_tag : {found : Kind} (text : Chars) → is_known_tag syntax inside (less_than_sign ∷ text) ≡ true → TagFault syntax found text → Faulty syntax depth items line phase inside found (less_than_sign ∷ text)
   -- XHTML: `<` and what begins nothing
   no_markup : (text : Chars) (c : ℕ) → syntax ≡ Xhtml → has_markup inside ≡ true → is_opening_begun text ≡ true → meets_opening (text ++ c ∷ []) ≡ false → begins (begins_tag syntax) (text ++ c ∷ []) ≡ false
-    → Faulty syntax depth items line phase inside kind.BadTag (less_than_sign ∷ (text ++ c ∷ []))
+      → Faulty syntax depth items line phase inside kind.BadTag (less_than_sign ∷ (text ++ c ∷ []))
   -- a reference in text
   in_run : {found : Kind} (run : Chars) → has_references inside ≡ true → RunFault syntax found run → Faulty syntax depth items line phase inside found (ampersand ∷ run)
   -- XML 1.0, 2.5: `--` in a comment
   in_comment : (text : Chars) (c : ℕ) → syntax ≡ Xhtml → has_markup inside ≡ true → IsFirst (ends_with (codes "--")) text → c ≢ greater_than_sign
-    → Faulty syntax depth items line phase inside kind.StrictText (less_than_sign ∷ (codes "!--" ++ (text ++ c ∷ [])))
+      → Faulty syntax depth items line phase inside kind.StrictText (less_than_sign ∷ (codes "!--" ++ (text ++ c ∷ [])))
   -- XML 1.0, 2.4: `]]>` in text
   section_end : inside ≡ content.Strict → ends_in_brackets items ≡ true → Faulty syntax depth items line phase inside kind.StrictText (greater_than_sign ∷ [])
   -- a document type that goes on to none, or that isn't the first thing but for comments and white space
   no_doctype : (keyword text : Chars) (c : ℕ) → has_markup inside ≡ true → cased syntax keyword ≡ doctype_word syntax → BeginsDoctype syntax (keyword ++ text) → BeginsNoDoctype syntax (keyword ++ (text ++ c ∷ []))
-    → Faulty syntax depth items line phase inside kind.BadDoctype (less_than_sign ∷ exclamation_mark ∷ (keyword ++ (text ++ c ∷ [])))
+      → Faulty syntax depth items line phase inside kind.BadDoctype (less_than_sign ∷ exclamation_mark ∷ (keyword ++ (text ++ c ∷ [])))
   late_doctype : (text : Chars) → has_markup inside ≡ true → IsDoctype syntax text → phase ≢ before false → Faulty syntax depth items line phase inside kind.BadDoctype (less_than_sign ∷ exclamation_mark ∷ text)
   -- text outside the root; a `<` that is text is known as such at the next character
   outside_text : (c : ℕ) → inside ≡ content.Outside → is_white_space c ≡ false → c ≢ less_than_sign → Faulty syntax depth items line phase inside kind.Outside (c ∷ [])
@@ -209,28 +209,28 @@ pub record Before (syntax : Syntax) (limits : Limits) (bytes : List ℕ) (token 
 -- The bytes have this fault.
 pub data FaultAt (syntax : Syntax) (limits : Limits) (bytes : List ℕ) : Fault → Type 0 where
   page_too_long : (token at : ℕ) (b : Before syntax limits bytes token at) → at ≡ limits.page → IsShort syntax limits b.line b.run token at
-    → FaultAt syntax limits bytes (record { kind = kind.PageTooLong; token = token; at = at })
+      → FaultAt syntax limits bytes (record { kind = kind.PageTooLong; token = token; at = at })
   not_utf8 : (token at : ℕ) (b : Before syntax limits bytes token at) → at < limits.page → IsShort syntax limits b.line b.run token at → BeginNone (b.part ++ b.byte ∷ [])
-    → FaultAt syntax limits bytes (record { kind = kind.NotUtf8; token = token; at = at })
+      → FaultAt syntax limits bytes (record { kind = kind.NotUtf8; token = token; at = at })
   nul : (token at : ℕ) (b : Before syntax limits bytes token at) → at < limits.page → IsShort syntax limits b.line b.run token at → b.part ≡ [] → b.byte ≡ 0
-    → FaultAt syntax limits bytes (record { kind = kind.Nul; token = token; at = at })
+      → FaultAt syntax limits bytes (record { kind = kind.Nul; token = token; at = at })
   -- the tag's byte after the limit, where the run is known to be a tag before it
   tag_too_long : (token at : ℕ) (b : Before syntax limits bytes token at) → at < limits.page → is_known_tag syntax (inside_of syntax b.line).content (values b.run) ≡ true → at ≡ token + limits.tag → GoesOn (b.part ++ b.byte ∷ [])
-    → FaultAt syntax limits bytes (record { kind = kind.TagTooLong; token = token; at = at })
+      → FaultAt syntax limits bytes (record { kind = kind.TagTooLong; token = token; at = at })
   -- the character at which it is known, where the limit is passed then
   known_too_long : (whole rest : List ℕ) (items : List Item) (line : Line) (phase : Phase) (first : Entry) (more : List Entry) (c : Entry)
-    → bytes ≡ whole ++ rest → Reached syntax limits whole items line phase ((first ∷ more) ++ c ∷ []) → Unfinished syntax (inside_of syntax line).content (values (first ∷ more))
-    → is_known_tag syntax (inside_of syntax line).content (values (first ∷ more)) ≡ false → is_known_tag syntax (inside_of syntax line).content (values ((first ∷ more) ++ c ∷ [])) ≡ true
-    → first.first + limits.tag ≤ c.last → c.last < limits.page
-    → FaultAt syntax limits bytes (record { kind = kind.TagTooLong; token = first.first; at = c.last })
+      → bytes ≡ whole ++ rest → Reached syntax limits whole items line phase ((first ∷ more) ++ c ∷ []) → Unfinished syntax (inside_of syntax line).content (values (first ∷ more))
+      → is_known_tag syntax (inside_of syntax line).content (values (first ∷ more)) ≡ false → is_known_tag syntax (inside_of syntax line).content (values ((first ∷ more) ++ c ∷ [])) ≡ true
+      → first.first + limits.tag ≤ c.last → c.last < limits.page
+      → FaultAt syntax limits bytes (record { kind = kind.TagTooLong; token = first.first; at = c.last })
   -- the last character of the run decides
   decided : {found : Kind} (whole rest : List ℕ) (items : List Item) (line : Line) (phase : Phase) (run : List Entry) (c : Entry)
-    → bytes ≡ whole ++ rest → Reached syntax limits whole items line phase (run ++ c ∷ []) → IsPending syntax (inside_of syntax line).content (values run)
-    → Faulty syntax limits.depth items line phase (inside_of syntax line).content found (values (run ++ c ∷ []))
-    → IsShort syntax limits line (run ++ c ∷ []) (token_of whole (run ++ c ∷ [])) (c.last + 1) → c.last < limits.page
-    → FaultAt syntax limits bytes (record { kind = found; token = token_of whole (run ++ c ∷ []); at = c.last })
+      → bytes ≡ whole ++ rest → Reached syntax limits whole items line phase (run ++ c ∷ []) → IsPending syntax (inside_of syntax line).content (values run)
+      → Faulty syntax limits.depth items line phase (inside_of syntax line).content found (values (run ++ c ∷ []))
+      → IsShort syntax limits line (run ++ c ∷ []) (token_of whole (run ++ c ∷ [])) (c.last + 1) → c.last < limits.page
+      → FaultAt syntax limits bytes (record { kind = found; token = token_of whole (run ++ c ∷ []); at = c.last })
   -- the page ends too early
   unended : (whole part : List ℕ) (items : List Item) (line : Line) (phase : Phase) (run : List Entry)
-    → bytes ≡ whole ++ part → Reached syntax limits whole items line phase run → IsPending syntax (inside_of syntax line).content (values run) → IsPart part
-    → (run ≡ [] → part ≡ [] → phase ≢ after) → length bytes ≤ limits.page → IsShort syntax limits line run (token_of whole run) (length bytes)
-    → FaultAt syntax limits bytes (record { kind = kind.Unended; token = token_of whole run; at = length bytes })
+      → bytes ≡ whole ++ part → Reached syntax limits whole items line phase run → IsPending syntax (inside_of syntax line).content (values run) → IsPart part
+      → (run ≡ [] → part ≡ [] → phase ≢ after) → length bytes ≤ limits.page → IsShort syntax limits line run (token_of whole run) (length bytes)
+      → FaultAt syntax limits bytes (record { kind = kind.Unended; token = token_of whole run; at = length bytes })

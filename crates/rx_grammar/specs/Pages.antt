@@ -1,5 +1,5 @@
 -- What a page is, and which tree it has.
-use Rattle.std.specs.Prelude.{◌≡◌, ℕ, suc, ◌≤◌, ◌==◌, Bool, true, false, not, ◌&&◌, List, [], ◌∷◌, ◌++◌, length, codes, Option, Some, None, if◌then◌else◌}
+use Rattle.std.specs.Prelude.{◌≡◌, ℕ, suc, ◌≤◌, ◌==◌, Bool, true, false, not, ◌&&◌, List, [], ◌∷◌, ◌++◌, length, codes, Some, None, if◌then◌else◌}
 use Rattle.std.specs.List.{list_all}
 use Rattle.rx_terms.specs.Text.{Chars}
 use Rattle.rx_chars.specs.Characters.{Entry, IsRead}
@@ -9,7 +9,7 @@ use Rattle.rx_grammar.specs.declared.contents.Content.TheVariants as content
 use Rattle.rx_grammar.specs.declared.limits.Limits.{Limits}
 use Rattle.rx_grammar.specs.Tokens.{Tag, Token, tag, character, comment, doctype}
 use Rattle.rx_grammar.specs.Contents.{Place, outside, place_in, is_alone, is_self_closed, is_plaintext, hides, drops_line_feed}
-use Rattle.rx_grammar.specs.Trees.{Nodes, end, element, Tree, after_text, has_element}
+use Rattle.rx_grammar.specs.Trees.{end, element, Tree, after_text, has_element}
 use Rattle.rx_grammar.specs.Items.{Item, Spelled, AllFit, no_section_end, text_of, is_line_feed, start_of}
 use Rattle.rx_grammar.specs.Omission.{enders, is_ended_by}
 
@@ -44,22 +44,22 @@ shown hidden nodes = if hidden then end else nodes
 pub data Holds (syntax : Syntax) : ℕ → Place → Chars → List Item → List Item → Tree → Type 0 where
   nothing : {left : ℕ} {place : Place} {parent : Chars} {to : List Item} → Holds syntax left place parent to to end
   a_text : {left : ℕ} {place : Place} {parent : Chars} {from to : List Item} {nodes : Tree} (item : Item) (chars : Chars) → item.content ≡ place.content → text_of item.token ≡ Some chars
-    → Holds syntax left place parent from to nodes → Holds syntax left place parent (item ∷ from) to (after_text chars nodes)
+      → Holds syntax left place parent from to nodes → Holds syntax left place parent (item ∷ from) to (after_text chars nodes)
   a_comment : {left : ℕ} {place : Place} {parent : Chars} {from to : List Item} {nodes : Tree} (item : Item) → item.content ≡ place.content → item.token ≡ comment
-    → Holds syntax left place parent from to nodes → Holds syntax left place parent (item ∷ from) to nodes
+      → Holds syntax left place parent from to nodes → Holds syntax left place parent (item ∷ from) to nodes
   -- an element that is its start tag alone
   alone : {left : ℕ} {place : Place} {parent : Chars} {from to : List Item} {nodes : Tree} (item : Item) (t : Tag) → Opens syntax place item t → is_alone syntax place t ≡ true
-    → Holds syntax (suc left) place parent from to nodes → Holds syntax (suc left) place parent (item ∷ from) to (element (start_of item t) end nodes)
+      → Holds syntax (suc left) place parent from to nodes → Holds syntax (suc left) place parent (item ∷ from) to (element (start_of item t) end nodes)
   -- a start tag, what is inside, and the end tag of its name
   closed : {left : ℕ} {place : Place} {parent : Chars} {from inner after to : List Item} {inside nodes : Tree} (item close : Item) (t : Tag) → Opens syntax place item t → is_alone syntax place t ≡ false
-    → Drops (drops_line_feed place t) (place_in syntax place t.name).content from inner → Holds syntax left (place_in syntax place t.name) t.name inner (close ∷ after) inside
-    → has_element (enders place t.name) inside ≡ false → Closes (place_in syntax place t.name).content t.name close
-    → Holds syntax (suc left) place parent after to nodes → Holds syntax (suc left) place parent (item ∷ from) to (element (start_of item t) (shown (hides place t) inside) nodes)
+      → Drops (drops_line_feed place t) (place_in syntax place t.name).content from inner → Holds syntax left (place_in syntax place t.name) t.name inner (close ∷ after) inside
+      → has_element (enders place t.name) inside ≡ false → Closes (place_in syntax place t.name).content t.name close
+      → Holds syntax (suc left) place parent after to nodes → Holds syntax (suc left) place parent (item ∷ from) to (element (start_of item t) (shown (hides place t) inside) nodes)
   -- a start tag and what is inside, where its end tag may be omitted before what follows
   unclosed : {left : ℕ} {place : Place} {parent : Chars} {from inner after to : List Item} {inside nodes : Tree} (item : Item) (t : Tag) → Opens syntax place item t → is_alone syntax place t ≡ false
-    → Drops (drops_line_feed place t) (place_in syntax place t.name).content from inner → Holds syntax left (place_in syntax place t.name) t.name inner after inside
-    → has_element (enders place t.name) inside ≡ false → is_ended_by place parent t.name after ≡ true
-    → Holds syntax (suc left) place parent after to nodes → Holds syntax (suc left) place parent (item ∷ from) to (element (start_of item t) (shown (hides place t) inside) nodes)
+      → Drops (drops_line_feed place t) (place_in syntax place t.name).content from inner → Holds syntax left (place_in syntax place t.name) t.name inner after inside
+      → has_element (enders place t.name) inside ≡ false → is_ended_by place parent t.name after ≡ true
+      → Holds syntax (suc left) place parent after to nodes → Holds syntax (suc left) place parent (item ∷ from) to (element (start_of item t) (shown (hides place t) inside) nodes)
 
 -- White space, comments and at most one document type. The last index tells whether there is one.
 abbrev pub is_between : Token → Bool

@@ -1,5 +1,5 @@
 -- Character references, and the texts that are read with them (HTML, 13.1.4 and 13.5; XML 1.0, 4.1).
-use Rattle.std.specs.Prelude.{◌≡◌, ℕ, ◌+◌, ◌-◌, ◌*◌, Bool, true, false, not, ◌||◌, ◌&&◌, ◌==◌, nat_le, List, [], ◌∷◌, ◌++◌, Option, Some, None, codes, if◌then◌else◌}
+use Rattle.std.specs.Prelude.{◌≡◌, ℕ, ◌+◌, ◌-◌, ◌*◌, Bool, true, false, not, ◌||◌, ◌&&◌, ◌==◌, [], ◌∷◌, ◌++◌, Option, Some, None, codes, if◌then◌else◌}
 use Rattle.std.specs.List.{list_all}
 use Rattle.rx_terms.specs.Ascii.{tab, line_feed, space, quotation_mark, number_sign, ampersand, apostrophe, semicolon, less_than_sign, greater_than_sign, between, is_letter, is_digit, is_letter_or_digit}
 use Rattle.rx_terms.specs.Text.{Chars}

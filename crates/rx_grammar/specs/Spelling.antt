@@ -1,5 +1,5 @@
 -- Which characters spell which token, in each content.
-use Rattle.std.specs.Prelude.{◌≡◌, ◌≢◌, ℕ, ◌⊎◌, Bool, true, false, not, ◌||◌, ◌&&◌, ◌==◌, List, [], ◌∷◌, ◌++◌, reverse, codes, Option, Some, None}
+use Rattle.std.specs.Prelude.{◌≡◌, ◌≢◌, ℕ, Bool, true, false, not, ◌||◌, ◌&&◌, ◌==◌, [], ◌∷◌, ◌++◌, reverse, codes, Option, Some, None}
 use Rattle.std.specs.List.{list_all}
 use Rattle.rx_terms.specs.Ascii.{ampersand, solidus, semicolon, less_than_sign, greater_than_sign, question_mark, left_bracket, is_letter, is_white_space}
 use Rattle.rx_terms.specs.Text.{Chars, lowered, begins_with}
@@ -7,7 +7,6 @@ use Rattle.rx_chars.specs.declared.syntax.Syntax.{Syntax}
 use Rattle.rx_chars.specs.declared.syntax.Syntax.TheVariants.{Html, Xhtml}
 use Rattle.rx_grammar.specs.declared.contents.Content.{Content}
 use Rattle.rx_grammar.specs.declared.contents.Content.TheVariants as content
-use Rattle.rx_grammar.specs.declared.contents.RawName.{RawName}
 use Rattle.rx_grammar.specs.Names.{same, name_of_raw}
 use Rattle.rx_grammar.specs.References.{one_or_more, is_body, is_begun, stops_at, meaning}
 use Rattle.rx_grammar.specs.Tokens.{Tag, Token, tag, character, reference, kept, section, comment, doctype}
@@ -46,6 +45,12 @@ abbrev pub has_sections : Content → Bool
 has_sections content.Foreign = true
 has_sections content.Strict = true
 has_sections _ = false
+
+-- contents in which a `<` may be text
+abbrev pub has_less_than : Content → Bool
+has_less_than content.Html = true
+has_less_than content.Foreign = true
+has_less_than _ = false
 
 -- a literal character that is a token of text
 abbrev pub is_text : Content → ℕ → Bool
@@ -111,7 +116,7 @@ pub data Spells (syntax : Syntax) (inside : Content) : Chars → Option ℕ → 
   -- text
   a_character : {next : Option ℕ} (c : ℕ) → is_text inside c ≡ true → Spells syntax inside (c ∷ []) next (character c)
   -- a `<` before a character that begins no markup (HTML)
-  a_less_than : {next : Option ℕ} → (inside ≡ content.Html) ⊎ (inside ≡ content.Foreign) → IsBefore (λ c. not (begins_markup c)) next → Spells syntax inside (less_than_sign ∷ []) next (kept (less_than_sign ∷ []))
+  a_less_than : {next : Option ℕ} → syntax ≡ Html → has_less_than inside ≡ true → IsBefore (λ c. not (begins_markup c)) next → Spells syntax inside (less_than_sign ∷ []) next (kept (less_than_sign ∷ []))
   -- `<`, `</` or a longer front of the end tag, in raw text, that goes on to none
   a_raw_run : {next : Option ℕ} (text name : Chars) → raw_name inside ≡ Some name → begins_end name text ≡ true → IsBefore (stops_end name text) next → Spells syntax inside (less_than_sign ∷ text) next (kept (less_than_sign ∷ text))
   -- references

@@ -1,5 +1,5 @@
 -- The tokens of a page.
-use Rattle.std.specs.Prelude.{ℕ, Bool, List, [], ◌∷◌, Option, Some, None, true, false, if◌then◌else◌}
+use Rattle.std.specs.Prelude.{ℕ, Bool, List, [], ◌∷◌, Option, Some, None, if◌then◌else◌}
 use Rattle.std.specs.List.{list_any}
 use Rattle.rx_terms.specs.Text.{Chars}
 use Rattle.rx_grammar.specs.Names.{same}
@@ -16,11 +16,11 @@ pub record Tag : Type 0 where
 
 pub data Token : Type 0 where
   tag : Tag → Token
-  character : ℕ → Token        -- one literal character of text
-  reference : ℕ → Token        -- the character that a reference stands for
-  kept : Chars → Token         -- a run that begins with `<` or `&` and is text as it is written
-  section : Chars → Token      -- a whole CDATA section, with its characters
-  comment : Token              -- a comment, a bogus comment or an instruction
+  character : ℕ → Token  -- one literal character of text
+  reference : ℕ → Token  -- the character that a reference stands for
+  kept : Chars → Token  -- a run that begins with `<` or `&` and is text as it is written
+  section : Chars → Token  -- a whole CDATA section, with its characters
+  comment : Token  -- a comment, a bogus comment or an instruction
   doctype : Token
 
 -- the value of the first attribute of a name

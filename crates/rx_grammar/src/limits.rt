@@ -18,6 +18,10 @@ impl Limits {
         ensures tag { result.tag ≡ 1048576 }
         ensures page { result.page ≡ 1073741824 }
     {
-        Limits { depth: 512, tag: 1_048_576, page: 1_073_741_824 }
+        Limits {
+            depth: 512,
+            tag: 1_048_576,
+            page: 1_073_741_824,
+        }
     }
 }
