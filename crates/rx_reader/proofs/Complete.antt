@@ -1,21 +1,20 @@
 -- The table cuts attributes as the grammar spells them.
-use Rattle.std.proofs.Common.{◌≡◌, ◌≢◌, ℕ, Bool, true, false, cond, nat_eq, eqb-true, List, [], ◌∷◌, ◌++◌, Option, Some, None, refl, ap, sym, ◌∙◌, append_assoc, append-nil, inl, inr, ◌⊎◌}
-use Rattle.std.specs.Prelude.{◌||◌, ◌&&◌, ◌==◌, not, option_map}
+use Rattle.std.proofs.Common.{◌≡◌, ℕ, Bool, true, false, List, [], ◌∷◌, ◌++◌, Some, None, refl, ap, sym, ◌∙◌, append_assoc, inl, inr}
+use Rattle.std.specs.Prelude.{◌||◌, ◌==◌}
 use Rattle.std.specs.List.{list_all}
-use Rattle.rx_terms.specs.Ascii.{is_white_space, solidus, equals_sign, greater_than_sign, quotation_mark, apostrophe}
+use Rattle.rx_terms.specs.Ascii.{is_white_space, solidus, equals_sign, greater_than_sign}
 use Rattle.rx_terms.specs.Text.{Chars}
 use Rattle.rx_chars.specs.declared.syntax.Syntax.{Syntax}
 use Rattle.rx_chars.specs.declared.syntax.Syntax.TheVariants.{Html, Xhtml}
 use Rattle.rx_grammar.specs.Tokens.{Attribute}
-use Rattle.rx_grammar.specs.Shapes.{ends_name, begins, first_then, is_gap, is_last_gap, is_strict_end, ends_in_solidus, is_quote, begins_attribute, continues_attribute, is_attribute_name, is_unquoted, is_unquoted_char, ends_unquoted, Assigns, no_value, unquoted, quoted, Attributes, no_more, one}
+use Rattle.rx_grammar.specs.Shapes.{ends_name, begins, is_gap, is_last_gap, is_strict_end, ends_in_solidus, begins_attribute, is_attribute_name, ends_unquoted, Assigns, no_value, unquoted, quoted, Attributes, no_more, one}
 use Rattle.rx_reader.specs.declared.phases.TagPhase.{TagPhase}
 use Rattle.rx_reader.specs.declared.phases.TagPhase.TheVariants as phase
-use Rattle.rx_reader.specs.declared.phases.TagAction.{TagAction}
 use Rattle.rx_reader.specs.declared.phases.TagAction.TheVariants as action
-use Rattle.rx_reader.specs.Tables.{move_of, in_gap, go}
-use Rattle.rx_reader.specs.Cuts.{Cut, with_first, cut_by, cut_from}
-use Rattle.rx_reader.proofs.Bools.{both, neither, either, untrue, not_both_ways, by_test, split}
-use Rattle.rx_reader.proofs.Classes.{Apart, of_white, of_one, begins_apart, continues_apart}
+use Rattle.rx_reader.specs.Tables.{move_of}
+use Rattle.rx_reader.specs.Cuts.{with_first, cut_from}
+use Rattle.rx_reader.proofs.Bools.{both, either, by_test}
+use Rattle.rx_reader.proofs.Classes.{of_white, of_one, begins_apart}
 use Rattle.rx_reader.proofs.Cutting.{one_move, key_run, key_equals, white_to_value, quoted_run, unquoted_value}
 
 abbrev pub is_between : ℕ → Bool
@@ -40,11 +39,13 @@ gap_last (c ∷ gap) = last_is c gap
 
 pub gap_moves : (b : Bool) (c : ℕ) → is_between c ≡ true → move_of Html (gap_phase b) c ≡ Some (gap_phase (c == solidus), action.Skip)
 gap_moves true c h = elim (either (is_white_space c) _ h) [
-    inl e ↦ of_white (λ x. move_of Html phase.Solidus x ≡ Some (gap_phase (x == solidus), action.Skip)) c e refl refl refl refl refl
-  | inr e ↦ of_one (λ x. move_of Html phase.Solidus x ≡ Some (gap_phase (x == solidus), action.Skip)) c solidus e refl ]
+  | inl e ↦ of_white (λ x. move_of Html phase.Solidus x ≡ Some (gap_phase (x == solidus), action.Skip)) c e refl refl refl refl refl
+  | inr e ↦ of_one (λ x. move_of Html phase.Solidus x ≡ Some (gap_phase (x == solidus), action.Skip)) c solidus e refl
+]
 gap_moves false c h = elim (either (is_white_space c) _ h) [
-    inl e ↦ of_white (λ x. move_of Html phase.Gap x ≡ Some (gap_phase (x == solidus), action.Skip)) c e refl refl refl refl refl
-  | inr e ↦ of_one (λ x. move_of Html phase.Gap x ≡ Some (gap_phase (x == solidus), action.Skip)) c solidus e refl ]
+  | inl e ↦ of_white (λ x. move_of Html phase.Gap x ≡ Some (gap_phase (x == solidus), action.Skip)) c e refl refl refl refl refl
+  | inr e ↦ of_one (λ x. move_of Html phase.Gap x ≡ Some (gap_phase (x == solidus), action.Skip)) c solidus e refl
+]
 
 pub html_gap : (gap text : Chars) (b : Bool) → list_all is_between gap ≡ true → cut_from Html (gap ++ text) (gap_phase b) [] [] ≡ cut_from Html text (gap_phase (solidus_last b gap)) [] []
 html_gap [] text b h = refl
@@ -76,8 +77,9 @@ strict_after c h = rw h refl
 strict_end : (gap : Chars) → is_strict_end gap ≡ true → cut_from Xhtml (gap ++ greater_than_sign ∷ []) phase.Gap [] [] ≡ Some ([], ends_in_solidus gap)
 strict_end [] h = refl
 strict_end (c ∷ []) h = elim (either (is_white_space c) _ h) [
-    inl e ↦ of_white (λ x. cut_from Xhtml (x ∷ greater_than_sign ∷ []) phase.Gap [] [] ≡ Some ([], x == solidus)) c e refl refl refl refl refl
-  | inr e ↦ of_one (λ x. cut_from Xhtml (x ∷ greater_than_sign ∷ []) phase.Gap [] [] ≡ Some ([], x == solidus)) c solidus e refl ]
+  | inl e ↦ of_white (λ x. cut_from Xhtml (x ∷ greater_than_sign ∷ []) phase.Gap [] [] ≡ Some ([], x == solidus)) c e refl refl refl refl refl
+  | inr e ↦ of_one (λ x. cut_from Xhtml (x ∷ greater_than_sign ∷ []) phase.Gap [] [] ≡ Some ([], x == solidus)) c solidus e refl
+]
 strict_end (c ∷ d ∷ gap) h =
     let k = both (is_white_space c) _ h in
     one_move Xhtml phase.Gap [] [] ((d ∷ gap) ++ greater_than_sign ∷ []) c (of_white (λ x. move_of Xhtml phase.Gap x ≡ Some (phase.Gap, action.Skip)) c k.0 refl refl refl refl refl) ∙ strict_end (d ∷ gap) k.1
@@ -87,8 +89,9 @@ same_front : (c : ℕ) (text : Chars) → ends_name c ≡ true → cut_from Xhtm
 same_front c text h =
     let P : ℕ → Type 0 = λ x. cut_from Xhtml (x ∷ text) phase.AfterValue [] [] ≡ cut_from Xhtml (x ∷ text) phase.Gap [] [] in
     elim (either (is_white_space c || c == solidus) _ h) [
-      inr e ↦ of_one P c greater_than_sign e refl
-    | inl e ↦ elim (either (is_white_space c) _ e) [ inr e ↦ of_one P c solidus e refl | inl e ↦ of_white P c e refl refl refl refl refl ] ]
+      | inr e ↦ of_one P c greater_than_sign e refl
+      | inl e ↦ elim (either (is_white_space c) _ e) [ inr e ↦ of_one P c solidus e refl | inl e ↦ of_white P c e refl refl refl refl refl ]
+    ]
 
 strict_front : (gap text : Chars) → is_strict_end gap ≡ true → cut_from Xhtml (gap ++ greater_than_sign ∷ text) phase.AfterValue [] [] ≡ cut_from Xhtml (gap ++ greater_than_sign ∷ text) phase.Gap [] []
 strict_front [] text h = refl
@@ -145,12 +148,12 @@ lone (c ∷ text) key r h =
     by_test {G = G} (is_white_space c)
     (λ e. one_move Html phase.AfterKey key [] text c (after_white c e) ∙ lone text key r (sym (one_move Html phase.Gap [] [] text c (lone_white c e)) ∙ h))
     (λ e. by_test {G = G} (c == solidus)
-        (λ f. of_one (λ x. cut_from Html (x ∷ text) phase.Gap [] [] ≡ Some r → cut_from Html (x ∷ text) phase.AfterKey key [] ≡ with_first (key, []) (Some r)) c solidus f (λ k. ap (λ y. with_first (key, []) y) k) h)
-        (λ f. by_test {G = G} (c == greater_than_sign)
-            (λ g. of_one (λ x. cut_from Html (x ∷ text) phase.Gap [] [] ≡ Some r → cut_from Html (x ∷ text) phase.AfterKey key [] ≡ with_first (key, []) (Some r)) c greater_than_sign g (λ k. ap (λ y. with_first (key, []) y) k) h)
-            (λ g. by_test {G = G} (begins_attribute Html c)
-                (λ k. one_move Html phase.AfterKey key [] text c (lone_key c k) ∙ ap (λ y. with_first (key, []) y) (sym (one_move Html phase.Gap [] [] text c (key_begins Html c k)) ∙ h))
-                (λ k. some_not_none r G (sym (one_move Html phase.Gap [] [] text c (nothing_else c e f g k)) ∙ h)))))
+    (λ f. of_one (λ x. cut_from Html (x ∷ text) phase.Gap [] [] ≡ Some r → cut_from Html (x ∷ text) phase.AfterKey key [] ≡ with_first (key, []) (Some r)) c solidus f (λ k. ap (λ y. with_first (key, []) y) k) h)
+    (λ f. by_test {G = G} (c == greater_than_sign)
+    (λ g. of_one (λ x. cut_from Html (x ∷ text) phase.Gap [] [] ≡ Some r → cut_from Html (x ∷ text) phase.AfterKey key [] ≡ with_first (key, []) (Some r)) c greater_than_sign g (λ k. ap (λ y. with_first (key, []) y) k) h)
+    (λ g. by_test {G = G} (begins_attribute Html c)
+    (λ k. one_move Html phase.AfterKey key [] text c (lone_key c k) ∙ ap (λ y. with_first (key, []) y) (sym (one_move Html phase.Gap [] [] text c (key_begins Html c k)) ∙ h))
+    (λ k. some_not_none r G (sym (one_move Html phase.Gap [] [] text c (nothing_else c e f g k)) ∙ h)))))
 
 -- a name without a value, and what follows
 no_value_cut : (rest key : Chars) (r : List Attribute × Bool) → begins ends_name rest ≡ true → cut_from Html rest phase.AfterValue [] [] ≡ Some r → cut_from Html rest phase.Key key [] ≡ with_first (key, []) (Some r)
@@ -158,10 +161,12 @@ no_value_cut [] key r b h = absurd (cc)
 no_value_cut (c ∷ text) key r b h =
     let P : ℕ → Type 0 = λ x. cut_from Html (x ∷ text) phase.AfterValue [] [] ≡ Some r → cut_from Html (x ∷ text) phase.Key key [] ≡ with_first (key, []) (Some r) in
     elim (either (is_white_space c || c == solidus) _ b) [
-      inr e ↦ of_one P c greater_than_sign e (λ k. ap (λ y. with_first (key, []) y) k) h
-    | inl e ↦ elim (either (is_white_space c) _ e) [
-        inr e ↦ of_one P c solidus e (λ k. ap (λ y. with_first (key, []) y) k) h
-      | inl e ↦ of_white P c e (lone text key r) (lone text key r) (lone text key r) (lone text key r) (lone text key r) h ] ]
+      | inr e ↦ of_one P c greater_than_sign e (λ k. ap (λ y. with_first (key, []) y) k) h
+      | inl e ↦ elim (either (is_white_space c) _ e) [
+        | inr e ↦ of_one P c solidus e (λ k. ap (λ y. with_first (key, []) y) k) h
+        | inl e ↦ of_white P c e (lone text key r) (lone text key r) (lone text key r) (lone text key r) (lone text key r) h
+      ]
+    ]
 
 unquoted_cut : (rest key value : Chars) (r : List Attribute × Bool) → begins ends_unquoted rest ≡ true → cut_from Html rest phase.AfterValue [] [] ≡ Some r → cut_from Html rest phase.Unquoted key value ≡ with_first (key, value) (Some r)
 unquoted_cut [] key value r b h = absurd (cc)
@@ -169,16 +174,17 @@ unquoted_cut (c ∷ text) key value r b h =
     let P : ℕ → Type 0 = λ x. cut_from Html (x ∷ text) phase.AfterValue [] [] ≡ Some r → cut_from Html (x ∷ text) phase.Unquoted key value ≡ with_first (key, value) (Some r) in
     let k : (cut_from Html text phase.Gap [] [] ≡ Some r → with_first (key, value) (cut_from Html text phase.Gap [] []) ≡ with_first (key, value) (Some r)) = λ k. ap (λ y. with_first (key, value) y) k in
     elim (either (is_white_space c) _ b) [
-      inr e ↦ of_one P c greater_than_sign e (λ k. ap (λ y. with_first (key, value) y) k) h
-    | inl e ↦ of_white P c e k k k k k h ]
+      | inr e ↦ of_one P c greater_than_sign e (λ k. ap (λ y. with_first (key, value) y) k) h
+      | inl e ↦ of_white P c e k k k k k h
+    ]
 
 quoted_parts : (before after value rest : Chars) (mark : ℕ)
-  → (before ++ equals_sign ∷ (after ++ mark ∷ (value ++ mark ∷ []))) ++ rest ≡ before ++ equals_sign ∷ (after ++ (mark ∷ (value ++ mark ∷ rest)))
+    → (before ++ equals_sign ∷ (after ++ mark ∷ (value ++ mark ∷ []))) ++ rest ≡ before ++ equals_sign ∷ (after ++ (mark ∷ (value ++ mark ∷ rest)))
 quoted_parts before after value rest mark = simp append_assoc
 
 -- what follows a name
 assigns : (s : Syntax) {assigned value : Chars} {follows : ℕ → Bool} (rest key : Chars) (r : List Attribute × Bool) → Assigns s assigned value follows → begins follows rest ≡ true → cut_from s rest phase.AfterValue [] [] ≡ Some r
-  → cut_from s (assigned ++ rest) phase.Key key [] ≡ with_first (key, value) (Some r)
+    → cut_from s (assigned ++ rest) phase.Key key [] ≡ with_first (key, value) (Some r)
 assigns Html rest key r (no_value e) b h = no_value_cut rest key r b h
 assigns Html rest key r (unquoted before after value e w1 w2 u) b h =
     ap (λ x. cut_from Html x phase.Key key []) (append_assoc before (equals_sign ∷ (after ++ value)) rest)

@@ -1,21 +1,20 @@
 -- What the table does with parts of a tag's attributes.
-use Rattle.std.proofs.Common.{◌≡◌, ◌≢◌, ℕ, Bool, true, false, cond, nat_eq, eqb-true, List, [], ◌∷◌, ◌++◌, Option, Some, None, refl, ap, sym, ◌∙◌, append_assoc, append-nil, inl, inr, ◌⊎◌}
-use Rattle.std.specs.Prelude.{◌||◌, ◌&&◌, ◌==◌, not, option_map}
+use Rattle.std.proofs.Common.{◌≡◌, ℕ, true, false, [], ◌∷◌, ◌++◌, Option, Some, refl, ap, ◌∙◌, append_assoc, append-nil, inl, inr}
+use Rattle.std.specs.Prelude.{◌&&◌, ◌==◌, not}
 use Rattle.std.specs.List.{list_all}
-use Rattle.rx_terms.specs.Ascii.{is_white_space, solidus, equals_sign, greater_than_sign, quotation_mark, apostrophe}
+use Rattle.rx_terms.specs.Ascii.{is_white_space, equals_sign, quotation_mark}
 use Rattle.rx_terms.specs.Text.{Chars}
 use Rattle.rx_chars.specs.declared.syntax.Syntax.{Syntax}
-use Rattle.rx_chars.specs.declared.syntax.Syntax.TheVariants.{Html, Xhtml}
-use Rattle.rx_grammar.specs.Tokens.{Attribute}
-use Rattle.rx_grammar.specs.Shapes.{ends_name, begins, first_then, is_gap, is_last_gap, is_strict_end, ends_in_solidus, is_quote, begins_attribute, continues_attribute, is_attribute_name, is_unquoted, is_unquoted_char, ends_unquoted, Assigns, no_value, unquoted, quoted, Attributes, no_more, one}
+use Rattle.rx_chars.specs.declared.syntax.Syntax.TheVariants.{Html}
+use Rattle.rx_grammar.specs.Shapes.{is_quote, continues_attribute, is_unquoted, is_unquoted_char}
 use Rattle.rx_reader.specs.declared.phases.TagPhase.{TagPhase}
 use Rattle.rx_reader.specs.declared.phases.TagPhase.TheVariants as phase
 use Rattle.rx_reader.specs.declared.phases.TagAction.{TagAction}
 use Rattle.rx_reader.specs.declared.phases.TagAction.TheVariants as action
-use Rattle.rx_reader.specs.Tables.{move_of, in_gap, go}
-use Rattle.rx_reader.specs.Cuts.{Cut, with_first, cut_by, cut_from}
-use Rattle.rx_reader.proofs.Bools.{both, neither, either, untrue, not_both_ways, by_test}
-use Rattle.rx_reader.proofs.Classes.{Apart, of_white, of_one, begins_apart, continues_apart}
+use Rattle.rx_reader.specs.Tables.{move_of}
+use Rattle.rx_reader.specs.Cuts.{with_first, cut_by, cut_from}
+use Rattle.rx_reader.proofs.Bools.{both, neither, either, untrue}
+use Rattle.rx_reader.proofs.Classes.{of_one, continues_apart}
 
 -- one step by what the table says
 pub one_move : (s : Syntax) (p : TagPhase) (key value text : Chars) (c : ℕ) {m : Option (TagPhase × TagAction)} → move_of s p c ≡ m → cut_from s (c ∷ text) p key value ≡ cut_by (cut_from s text) key value c m
@@ -78,8 +77,9 @@ pub quoted_run : (s : Syntax) (mark : ℕ) (value text key : Chars) → is_quote
 quoted_run s mark value text key q h =
     let P : ℕ → Type 0 = λ m. list_all (λ c. not (c == m)) value ≡ true → cut_from s (m ∷ (value ++ m ∷ text)) phase.BeforeValue key [] ≡ with_first (key, value) (cut_from s text phase.AfterValue [] []) in
     elim (either (mark == 34) _ q) [
-      inl e ↦ of_one P mark 34 e (double_run s value text key []) h
-    | inr e ↦ of_one P mark 39 e (single_run s value text key []) h ]
+      | inl e ↦ of_one P mark 34 e (double_run s value text key []) h
+      | inr e ↦ of_one P mark 39 e (single_run s value text key []) h
+    ]
 
 -- a value without quotes
 unquoted_goes : (c : ℕ) → is_unquoted_char c ≡ true → move_of Html phase.Unquoted c ≡ Some (phase.Unquoted, action.Value)

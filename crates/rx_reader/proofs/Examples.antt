@@ -1,12 +1,11 @@
 -- Tags that were worked out by hand, as the tables read them.
-use Rattle.std.proofs.Common.{◌≡◌, ℕ, Bool, true, false, List, [], ◌∷◌, ◌++◌, Option, Some, None, refl, Result, Ok, Err}
+use Rattle.std.proofs.Common.{◌≡◌, true, false, [], ◌∷◌, ◌++◌, refl, Result, Ok, Err}
 use Rattle.std.specs.Prelude.{codes}
 use Rattle.rx_terms.specs.Text.{Chars}
-use Rattle.rx_chars.specs.declared.syntax.Syntax.{Syntax}
 use Rattle.rx_chars.specs.declared.syntax.Syntax.TheVariants.{Html, Xhtml}
 use Rattle.rx_chars.specs.Named.{named_table}
 use Rattle.rx_grammar.specs.declared.faults.Kind.{Kind}
-use Rattle.rx_grammar.specs.declared.faults.Kind.TheVariants.{BadTag, StrictText, UnknownReference, BadReference, RepeatedAttribute}
+use Rattle.rx_grammar.specs.declared.faults.Kind.TheVariants.{BadTag, StrictText, UnknownReference, RepeatedAttribute}
 use Rattle.rx_grammar.specs.References.{meaning}
 use Rattle.rx_grammar.specs.Tokens.{Tag}
 use Rattle.rx_reader.specs.Values.{value_read}
@@ -27,7 +26,7 @@ unfolding named_table
 text_one = refl
 
 row_one : html (codes "P ABOUT=http://h.example/s property='{v}p' content=\"&lt;&#x41;\" Class title=x title=y>")
-  ≡ Ok (record { closing = false; name = codes "p"; attributes = (codes "about", codes "http://h.example/s") ∷ (codes "property", codes "{v}p") ∷ (codes "content", codes "<A") ∷ (codes "class", []) ∷ (codes "title", codes "x") ∷ []; slash = false })
+    ≡ Ok (record { closing = false; name = codes "p"; attributes = (codes "about", codes "http://h.example/s") ∷ (codes "property", codes "{v}p") ∷ (codes "content", codes "<A") ∷ (codes "class", []) ∷ (codes "title", codes "x") ∷ []; slash = false })
 unfolding named_table
 row_one = refl
 

@@ -1,6 +1,6 @@
 -- What stands before an attribute or before the end of a tag, one character at a time.
-use Rattle.std.proofs.Common.{◌≡◌, ◌≢◌, ℕ, Bool, true, false, cond, nat_eq, eqb-true, List, [], ◌∷◌, ◌++◌, Option, Some, None, refl, ap, sym, ◌∙◌, append_assoc, append-nil, inl, inr, ◌⊎◌}
-use Rattle.std.specs.Prelude.{◌||◌, ◌&&◌, ◌==◌, not}
+use Rattle.std.proofs.Common.{◌≡◌, ℕ, Bool, true, false, [], ◌∷◌, ◌++◌, refl, ◌∙◌}
+use Rattle.std.specs.Prelude.{◌||◌, ◌&&◌, ◌==◌}
 use Rattle.std.specs.List.{list_all}
 use Rattle.std.proofs.lemmas.List.Folds.{list_all-append}
 use Rattle.rx_terms.specs.Ascii.{is_white_space, solidus}
@@ -9,8 +9,8 @@ use Rattle.rx_chars.specs.declared.syntax.Syntax.{Syntax}
 use Rattle.rx_chars.specs.declared.syntax.Syntax.TheVariants.{Html, Xhtml}
 use Rattle.rx_grammar.specs.References.{one_or_more}
 use Rattle.rx_grammar.specs.Shapes.{first_then, is_gap, is_last_gap, is_strict_end, ends_in_solidus}
-use Rattle.rx_reader.proofs.Bools.{both, either}
-use Rattle.rx_reader.proofs.Classes.{of_white, of_one}
+use Rattle.rx_reader.proofs.Bools.{both}
+use Rattle.rx_reader.proofs.Classes.{of_white}
 use Rattle.rx_reader.proofs.Complete.{is_between}
 
 -- white space at the end of what stands between attributes

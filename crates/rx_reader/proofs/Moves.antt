@@ -1,6 +1,6 @@
 -- The phases among attributes are left for no others.
-use Rattle.std.proofs.Common.{◌≡◌, ℕ, Bool, true, false, cond, List, [], ◌∷◌, ◌++◌, Option, Some, None, refl, ap, sym, ◌∙◌}
-use Rattle.std.specs.Prelude.{◌||◌, ◌&&◌, ◌==◌}
+use Rattle.std.proofs.Common.{◌≡◌, ℕ, Bool, true, false, cond, Some, None, refl}
+use Rattle.std.specs.Prelude.{◌==◌}
 use Rattle.rx_terms.specs.Ascii.{is_white_space, solidus, equals_sign, greater_than_sign, quotation_mark, apostrophe}
 use Rattle.rx_chars.specs.declared.syntax.Syntax.{Syntax}
 use Rattle.rx_grammar.specs.Shapes.{begins_attribute, continues_attribute}

@@ -1,17 +1,17 @@
 -- Runs after an `&`, one character at a time.
-use Rattle.std.proofs.Common.{◌≡◌, ◌≢◌, ℕ, Bool, true, false, cond, nat_eq, eqb-true, List, [], ◌∷◌, ◌++◌, Option, Some, None, refl, ap, sym, ◌∙◌, append_assoc, append-nil, inl, inr, ◌⊎◌, subst}
-use Rattle.std.specs.Prelude.{◌||◌, ◌&&◌, ◌==◌, not}
+use Rattle.std.proofs.Common.{◌≡◌, ℕ, Bool, true, false, eqb-true, [], ◌∷◌, ◌++◌, refl, inl, inr, subst}
+use Rattle.std.specs.Prelude.{◌&&◌, ◌==◌, not}
 use Rattle.std.specs.List.{list_all}
 use Rattle.std.proofs.lemmas.List.Folds.{list_all-append}
 use Rattle.rx_terms.specs.Ascii.{is_letter, is_digit, is_letter_or_digit, number_sign, semicolon}
 use Rattle.rx_terms.specs.Text.{Chars}
-use Rattle.rx_grammar.specs.References.{is_hexadecimal_digit, is_x, one_or_more, is_name, is_number, is_body, begins_number, is_begun, stops_at}
+use Rattle.rx_grammar.specs.References.{is_hexadecimal_digit, is_x, is_body, is_begun, stops_at}
 use Rattle.rx_reader.specs.declared.phases.RunPhase.{RunPhase}
 use Rattle.rx_reader.specs.declared.phases.RunPhase.TheVariants as run
 use Rattle.rx_reader.specs.declared.phases.RunMove.{RunMove}
 use Rattle.rx_reader.specs.declared.phases.RunMove.TheVariants.{Goes, Closes, Stops}
 use Rattle.rx_reader.specs.Tables.{run_move}
-use Rattle.rx_reader.proofs.Bools.{both, neither, either, untrue, split, not_both_ways, by_test}
+use Rattle.rx_reader.proofs.Bools.{both, either, untrue, split, not_both_ways, by_test}
 use Rattle.rx_reader.proofs.Classes.{of_one, unless}
 use Rattle.rx_reader.proofs.Gaps.{all_snoc}
 
@@ -77,8 +77,8 @@ goes_on c q at_ampersand h =
     split (λ m. m ≡ Goes q → G) (is_letter c) _ _
     (λ e g. as_run _ q _ g (in_name c [] e refl))
     (λ _. split (λ m. m ≡ Goes q → G) (c == number_sign) _ _
-        (λ e g. as_run _ q _ g (of_one (λ x. RunIs run.Hash (x ∷ [])) c number_sign e at_hash))
-        (λ _ g. stops_no_go q G g)) h
+    (λ e g. as_run _ q _ g (of_one (λ x. RunIs run.Hash (x ∷ [])) c number_sign e at_hash))
+    (λ _ g. stops_no_go q G g)) h
 goes_on c q (in_name d text a b) h =
     let G : Type 0 = RunIs q (d ∷ (text ++ c ∷ [])) in
     split (λ m. m ≡ Goes q → G) (is_letter_or_digit c) _ _
@@ -89,8 +89,8 @@ goes_on c q at_hash h =
     split (λ m. m ≡ Goes q → G) (is_digit c) _ _
     (λ e g. as_run _ q _ g (in_decimal c [] e refl))
     (λ _. split (λ m. m ≡ Goes q → G) (is_x c) _ _
-        (λ e g. as_run _ q _ g (at_mark c e))
-        (λ _ g. stops_no_go q G g)) h
+    (λ e g. as_run _ q _ g (at_mark c e))
+    (λ _ g. stops_no_go q G g)) h
 goes_on c q (in_decimal d text a b) h =
     let G : Type 0 = RunIs q (number_sign ∷ d ∷ (text ++ c ∷ [])) in
     split (λ m. m ≡ Goes q → G) (is_digit c) _ _
@@ -140,22 +140,22 @@ stops c at_ampersand h =
     let G : Type 0 = stops_at [] c ≡ true in
     split (λ m. m ≡ Stops → G) (is_letter c) _ _ (λ e g. no_stop run.Named G g)
     (λ a. split (λ m. m ≡ Stops → G) (c == number_sign) _ _ (λ e g. no_stop run.Hash G g)
-        (λ b g. by_test {G = G} (c == semicolon) (λ k. rw (k, a, b) refl) (λ k. rw (k, a, b) refl))) h
+    (λ b g. by_test {G = G} (c == semicolon) (λ k. rw (k, a, b) refl) (λ k. rw (k, a, b) refl))) h
 stops c (in_name d text a b) h =
     let G : Type 0 = stops_at (d ∷ text) c ≡ true in
     split (λ m. m ≡ Stops → G) (is_letter_or_digit c) _ _ (λ e g. no_stop run.Named G g)
     (λ e. split (λ m. m ≡ Stops → G) (c == semicolon) _ _ (λ f g. closes_no_stop G g)
-        (λ f g. rw (f, a, snoc_false is_letter_or_digit text c b e, letter_no_sign d a) refl)) h
+    (λ f g. rw (f, a, snoc_false is_letter_or_digit text c b e, letter_no_sign d a) refl)) h
 stops c at_hash h =
     let G : Type 0 = stops_at (number_sign ∷ []) c ≡ true in
     split (λ m. m ≡ Stops → G) (is_digit c) _ _ (λ e g. no_stop run.Decimal G g)
     (λ e. split (λ m. m ≡ Stops → G) (is_x c) _ _ (λ f g. no_stop run.Mark G g)
-        (λ f g. by_test {G = G} (c == semicolon) (λ k. rw (e, f, k) refl) (λ k. rw (e, f, k) refl))) h
+    (λ f g. by_test {G = G} (c == semicolon) (λ k. rw (e, f, k) refl) (λ k. rw (e, f, k) refl))) h
 stops c (in_decimal d text a b) h =
     let G : Type 0 = stops_at (number_sign ∷ d ∷ text) c ≡ true in
     split (λ m. m ≡ Stops → G) (is_digit c) _ _ (λ e g. no_stop run.Decimal G g)
     (λ e. split (λ m. m ≡ Stops → G) (c == semicolon) _ _ (λ f g. closes_no_stop G g)
-        (λ f g. rw (f, a, snoc_false is_digit text c b e, digit_no_x d a) refl)) h
+    (λ f g. rw (f, a, snoc_false is_digit text c b e, digit_no_x d a) refl)) h
 stops c (at_mark x a) h =
     let G : Type 0 = stops_at (number_sign ∷ x ∷ []) c ≡ true in
     split (λ m. m ≡ Stops → G) (is_hexadecimal_digit c) _ _ (λ e g. no_stop run.Hexadecimal G g)
@@ -164,7 +164,7 @@ stops c (in_hexadecimal x d text a b k) h =
     let G : Type 0 = stops_at (number_sign ∷ x ∷ d ∷ text) c ≡ true in
     split (λ m. m ≡ Stops → G) (is_hexadecimal_digit c) _ _ (λ e g. no_stop run.Hexadecimal G g)
     (λ e. split (λ m. m ≡ Stops → G) (c == semicolon) _ _ (λ f g. closes_no_stop G g)
-        (λ f g. rw (f, x_no_digit x a, a, b, snoc_false is_hexadecimal_digit text c k e) refl)) h
+    (λ f g. rw (f, x_no_digit x a, a, b, snoc_false is_hexadecimal_digit text c k e) refl)) h
 
 -- each run is one of a phase
 pub record Begun (text : Chars) : Type 0 where
@@ -177,7 +177,7 @@ stops_case c {text = text} i h (Goes q) e =
 stops_case c {text = text} i h Closes e =
     let k = closes c i e in
     absurd (let b = both (not (is_begun (text ++ c ∷ []))) _ h in
-        not_both_ways (c == semicolon && is_body text) (of_one (λ x. (x == semicolon && is_body text) ≡ true) c semicolon (rw k.mark refl) k.body) (untrue (c == semicolon && is_body text) b.1))
+    not_both_ways (c == semicolon && is_body text) (of_one (λ x. (x == semicolon && is_body text) ≡ true) c semicolon (rw k.mark refl) k.body) (untrue (c == semicolon && is_body text) b.1))
 stops_case c i h Stops e = refl
 
 pub stops_back : (c : ℕ) {p : RunPhase} {text : Chars} → RunIs p text → stops_at text c ≡ true → run_move p c ≡ Stops

@@ -1,6 +1,6 @@
 -- What the table cuts is attributes as the grammar spells them.
-use Rattle.std.proofs.Common.{◌≡◌, ◌≢◌, ℕ, Bool, true, false, cond, nat_eq, eqb-true, List, [], ◌∷◌, ◌++◌, Option, Some, None, refl, ap, sym, ◌∙◌, append_assoc, append-nil, inl, inr, ◌⊎◌, subst}
-use Rattle.std.specs.Prelude.{◌||◌, ◌&&◌, ◌==◌, not, option_map}
+use Rattle.std.proofs.Common.{◌≡◌, ℕ, Bool, true, false, List, [], ◌∷◌, ◌++◌, Some, None, refl, ap, sym, append_assoc, append-nil, subst}
+use Rattle.std.specs.Prelude.{◌&&◌, ◌==◌, not}
 use Rattle.std.specs.List.{list_all}
 use Rattle.rx_terms.specs.Ascii.{is_white_space, solidus, equals_sign, greater_than_sign, quotation_mark, apostrophe}
 use Rattle.rx_terms.specs.Text.{Chars}
@@ -8,15 +8,13 @@ use Rattle.rx_chars.specs.declared.syntax.Syntax.{Syntax}
 use Rattle.rx_chars.specs.declared.syntax.Syntax.TheVariants.{Html, Xhtml}
 use Rattle.rx_grammar.specs.Tokens.{Attribute}
 use Rattle.rx_grammar.specs.References.{one_or_more}
-use Rattle.rx_grammar.specs.Shapes.{ends_name, begins, first_then, is_gap, is_last_gap, ends_in_solidus, is_quote, begins_attribute, continues_attribute, is_attribute_name, is_unquoted, is_unquoted_char, ends_unquoted, Assigns, no_value, unquoted, quoted, Attributes, no_more, one}
+use Rattle.rx_grammar.specs.Shapes.{ends_name, begins, is_gap, is_quote, begins_attribute, continues_attribute, is_attribute_name, is_unquoted, is_unquoted_char, ends_unquoted, Assigns, no_value, unquoted, quoted, Attributes, no_more, one}
 use Rattle.rx_reader.specs.declared.phases.TagPhase.{TagPhase}
 use Rattle.rx_reader.specs.declared.phases.TagPhase.TheVariants as phase
-use Rattle.rx_reader.specs.declared.phases.TagAction.{TagAction}
-use Rattle.rx_reader.specs.declared.phases.TagAction.TheVariants as action
-use Rattle.rx_reader.specs.Tables.{Move, move_of, in_gap, only_in_html, is_html, go}
+use Rattle.rx_reader.specs.Tables.{Move, move_of, in_gap, is_html}
 use Rattle.rx_reader.specs.Cuts.{Cut, with_first, cut_by, cut_from}
-use Rattle.rx_reader.proofs.Bools.{both, neither, either, untrue, split, not_both_ways}
-use Rattle.rx_reader.proofs.Classes.{of_white, of_one}
+use Rattle.rx_reader.proofs.Bools.{both, split, not_both_ways}
+use Rattle.rx_reader.proofs.Classes.{of_one}
 use Rattle.rx_reader.proofs.Gaps.{InGap, Ends, all_snoc, then_snoc, gap_is_gap, gap_ends, gap_white, gap_slash, first_white, first_slash, first_end, slash_white, slash_slash, slash_gap, no_gap, whites_gap, all_of_some, some_snoc}
 
 abbrev pub Result : Type 0
@@ -30,13 +28,13 @@ pub data Since (s : Syntax) : TagPhase → Chars → Chars → Chars → Type 0 
   in_key' : (gap key : Chars) → is_gap s gap ≡ true → is_attribute_name s key ≡ true → Since s phase.Key (gap ++ key) key []
   after_key' : (gap key white : Chars) → is_gap s gap ≡ true → is_attribute_name s key ≡ true → one_or_more is_white_space white ≡ true → Since s phase.AfterKey (gap ++ (key ++ white)) key []
   before_value' : (gap key white after : Chars) → is_gap s gap ≡ true → is_attribute_name s key ≡ true → list_all is_white_space white ≡ true → list_all is_white_space after ≡ true
-    → Since s phase.BeforeValue (gap ++ (key ++ (white ++ equals_sign ∷ after))) key []
+      → Since s phase.BeforeValue (gap ++ (key ++ (white ++ equals_sign ∷ after))) key []
   double' : (gap key white after value : Chars) → is_gap s gap ≡ true → is_attribute_name s key ≡ true → list_all is_white_space white ≡ true → list_all is_white_space after ≡ true → list_all (λ c. not (c == 34)) value ≡ true
-    → Since s phase.DoubleQuoted (gap ++ (key ++ (white ++ equals_sign ∷ (after ++ 34 ∷ value)))) key value
+      → Since s phase.DoubleQuoted (gap ++ (key ++ (white ++ equals_sign ∷ (after ++ 34 ∷ value)))) key value
   single' : (gap key white after value : Chars) → is_gap s gap ≡ true → is_attribute_name s key ≡ true → list_all is_white_space white ≡ true → list_all is_white_space after ≡ true → list_all (λ c. not (c == 39)) value ≡ true
-    → Since s phase.SingleQuoted (gap ++ (key ++ (white ++ equals_sign ∷ (after ++ 39 ∷ value)))) key value
+      → Since s phase.SingleQuoted (gap ++ (key ++ (white ++ equals_sign ∷ (after ++ 39 ∷ value)))) key value
   unquoted' : (gap key white after value : Chars) → s ≡ Html → is_gap s gap ≡ true → is_attribute_name s key ≡ true → list_all is_white_space white ≡ true → list_all is_white_space after ≡ true → is_unquoted value ≡ true
-    → Since s phase.Unquoted (gap ++ (key ++ (white ++ equals_sign ∷ (after ++ value)))) key value
+      → Since s phase.Unquoted (gap ++ (key ++ (white ++ equals_sign ∷ (after ++ value)))) key value
   opened' : (gap : Chars) → Ends s gap false → Since s phase.Opened (gap ++ greater_than_sign ∷ []) [] []
   emptied' : (gap : Chars) → Ends s gap true → Since s phase.Emptied (gap ++ greater_than_sign ∷ []) [] []
 
@@ -98,8 +96,8 @@ module _ (s : Syntax) (text : Chars) (ih : Sound s text) (c : ℕ) (r : Result) 
 
   -- an attribute ended before `tail`, which ends with this character
   ends : (p : TagPhase) (gap key assigned value tail nextkey : Chars) (follows : ℕ → Bool) → is_gap s gap ≡ true → is_attribute_name s key ≡ true → Assigns s assigned value follows
-    → Since s p tail nextkey [] → begins follows (tail ++ text) ≡ true → with_first (key, value) (cut_from s text p nextkey []) ≡ Some r
-    → Attributes s (gap ++ (key ++ (assigned ++ (tail ++ text)))) r.0 r.1
+      → Since s p tail nextkey [] → begins follows (tail ++ text) ≡ true → with_first (key, value) (cut_from s text p nextkey []) ≡ Some r
+      → Attributes s (gap ++ (key ++ (assigned ++ (tail ++ text)))) r.0 r.1
   ends p gap key assigned value tail nextkey follows g n a i b h =
       let d = added (key, value) (cut_from s text p nextkey []) r h in
       let k : Attributes s (gap ++ (key ++ (assigned ++ (tail ++ text)))) ((key, value) ∷ d.rest.0) d.rest.1 = one gap key assigned value follows (tail ++ text) g n a b (ih p tail nextkey [] d.rest i d.from) in
@@ -118,12 +116,12 @@ module _ (s : Syntax) (text : Chars) (ih : Sound s text) (c : ℕ) (r : Result) 
       split (At G [] []) (is_white_space c) _ _
       (λ e g. on phase.Gap gap [] [] (in_gap' (gap ++ c ∷ []) (gap_white s gap c i e)) g)
       (λ _. split (At G [] []) (c == solidus) _ _
-          (λ e g. on phase.Solidus gap [] [] (after_solidus' (gap ++ c ∷ []) (of_one (λ x. Ends s (gap ++ x ∷ []) true) c solidus e (gap_slash s gap i))) g)
-          (λ _. split (At G [] []) (c == greater_than_sign) _ _
-              (λ e g. on phase.Opened gap [] [] (of_one (λ x. Since s phase.Opened (gap ++ x ∷ []) [] []) c greater_than_sign e (opened' gap (gap_ends s gap i))) g)
-              (λ _. split (At G [] []) (begins_attribute s c) _ _
-                  (λ e g. on phase.Key gap (c ∷ []) [] (in_key' gap (c ∷ []) (gap_is_gap s gap i) (name_one s c e)) g)
-                  (λ _ g. none_some r G g)))) h
+      (λ e g. on phase.Solidus gap [] [] (after_solidus' (gap ++ c ∷ []) (of_one (λ x. Ends s (gap ++ x ∷ []) true) c solidus e (gap_slash s gap i))) g)
+      (λ _. split (At G [] []) (c == greater_than_sign) _ _
+      (λ e g. on phase.Opened gap [] [] (of_one (λ x. Since s phase.Opened (gap ++ x ∷ []) [] []) c greater_than_sign e (opened' gap (gap_ends s gap i))) g)
+      (λ _. split (At G [] []) (begins_attribute s c) _ _
+      (λ e g. on phase.Key gap (c ∷ []) [] (in_key' gap (c ∷ []) (gap_is_gap s gap i) (name_one s c e)) g)
+      (λ _ g. none_some r G g)))) h
 
   -- in HTML, after a `/`
   from_slash : (gap : Chars) → s ≡ Html → (c == greater_than_sign) ≡ false → Ends s gap true → cut_by (cut_from s text) [] [] c (in_gap s c) ≡ Some r → Attributes s (gap ++ c ∷ text) r.0 r.1
@@ -132,12 +130,12 @@ module _ (s : Syntax) (text : Chars) (ih : Sound s text) (c : ℕ) (r : Result) 
       split (At G [] []) (is_white_space c) _ _
       (λ e g. on phase.Gap gap [] [] (in_gap' (gap ++ c ∷ []) (slash_white s z gap c i e)) g)
       (λ _. split (At G [] []) (c == solidus) _ _
-          (λ e g. on phase.Solidus gap [] [] (after_solidus' (gap ++ c ∷ []) (of_one (λ x. Ends s (gap ++ x ∷ []) true) c solidus e (slash_slash s z gap i))) g)
-          (λ _. split (At G [] []) (c == greater_than_sign) _ _
-              (λ e g. absurd (not_both_ways (c == greater_than_sign) e ng))
-              (λ _. split (At G [] []) (begins_attribute s c) _ _
-                  (λ e g. on phase.Key gap (c ∷ []) [] (in_key' gap (c ∷ []) (slash_gap s z gap i) (name_one s c e)) g)
-                  (λ _ g. none_some r G g)))) h
+      (λ e g. on phase.Solidus gap [] [] (after_solidus' (gap ++ c ∷ []) (of_one (λ x. Ends s (gap ++ x ∷ []) true) c solidus e (slash_slash s z gap i))) g)
+      (λ _. split (At G [] []) (c == greater_than_sign) _ _
+      (λ e g. absurd (not_both_ways (c == greater_than_sign) e ng))
+      (λ _. split (At G [] []) (begins_attribute s c) _ _
+      (λ e g. on phase.Key gap (c ∷ []) [] (in_key' gap (c ∷ []) (slash_gap s z gap i) (name_one s c e)) g)
+      (λ _ g. none_some r G g)))) h
 
   from_solidus : (gap : Chars) → Ends s gap true → cut_by (cut_from s text) [] [] c (move_of s phase.Solidus c) ≡ Some r → Attributes s (gap ++ c ∷ text) r.0 r.1
   from_solidus gap i h =
@@ -145,8 +143,8 @@ module _ (s : Syntax) (text : Chars) (ih : Sound s text) (c : ℕ) (r : Result) 
       split (At G [] []) (c == greater_than_sign) _ _
       (λ e g. on phase.Emptied gap [] [] (of_one (λ x. Since s phase.Emptied (gap ++ x ∷ []) [] []) c greater_than_sign e (emptied' gap i)) g)
       (λ n. split (At G [] []) (is_html s) _ _
-          (λ e g. from_slash gap (html_is s e) n i g)
-          (λ _ g. none_some r G g)) h
+      (λ e g. from_slash gap (html_is s e) n i g)
+      (λ _ g. none_some r G g)) h
 
   from_after_value : cut_by (cut_from s text) [] [] c (move_of s phase.AfterValue c) ≡ Some r → Attributes s (c ∷ text) r.0 r.1
   from_after_value h =
@@ -154,14 +152,14 @@ module _ (s : Syntax) (text : Chars) (ih : Sound s text) (c : ℕ) (r : Result) 
       split (At G [] []) (is_white_space c) _ _
       (λ e g. on phase.Gap [] [] [] (in_gap' (c ∷ []) (first_white s c e)) g)
       (λ _. split (At G [] []) (c == solidus) _ _
-          (λ e g. on phase.Solidus [] [] [] (after_solidus' (c ∷ []) (of_one (λ x. Ends s (x ∷ []) true) c solidus e (first_slash s))) g)
-          (λ _. split (At G [] []) (c == greater_than_sign) _ _
-              (λ e g. on phase.Opened [] [] [] (of_one (λ x. Since s phase.Opened (x ∷ []) [] []) c greater_than_sign e (opened' [] (first_end s))) g)
-              (λ _. split (At G [] []) (is_html s) _ _
-                  (λ z. split (At G [] []) (begins_attribute s c) _ _
-                      (λ e g. on phase.Key [] (c ∷ []) [] (in_key' [] (c ∷ []) (no_gap s (html_is s z)) (name_one s c e)) g)
-                      (λ _ g. none_some r G g))
-                  (λ _ g. none_some r G g)))) h
+      (λ e g. on phase.Solidus [] [] [] (after_solidus' (c ∷ []) (of_one (λ x. Ends s (x ∷ []) true) c solidus e (first_slash s))) g)
+      (λ _. split (At G [] []) (c == greater_than_sign) _ _
+      (λ e g. on phase.Opened [] [] [] (of_one (λ x. Since s phase.Opened (x ∷ []) [] []) c greater_than_sign e (opened' [] (first_end s))) g)
+      (λ _. split (At G [] []) (is_html s) _ _
+      (λ z. split (At G [] []) (begins_attribute s c) _ _
+      (λ e g. on phase.Key [] (c ∷ []) [] (in_key' [] (c ∷ []) (no_gap s (html_is s z)) (name_one s c e)) g)
+      (λ _ g. none_some r G g))
+      (λ _ g. none_some r G g)))) h
 
   from_key : (gap key : Chars) → is_gap s gap ≡ true → is_attribute_name s key ≡ true → cut_by (cut_from s text) key [] c (move_of s phase.Key c) ≡ Some r → Attributes s ((gap ++ key) ++ c ∷ text) r.0 r.1
   from_key gap key i n h =
@@ -169,20 +167,20 @@ module _ (s : Syntax) (text : Chars) (ih : Sound s text) (c : ℕ) (r : Result) 
       split (At G key []) (is_white_space c) _ _
       (λ e g. goes phase.AfterKey (gap ++ key) (gap ++ (key ++ c ∷ [])) key [] (after_key' gap key (c ∷ []) i n (some_snoc is_white_space [] c refl e)) (simp append_assoc) g)
       (λ _. split (At G key []) (c == equals_sign) _ _
-          (λ e g. goes phase.BeforeValue (gap ++ key) (gap ++ (key ++ c ∷ [])) key [] (of_one (λ x. Since s phase.BeforeValue (gap ++ (key ++ x ∷ [])) key []) c equals_sign e (before_value' gap key [] [] i n refl refl)) (simp append_assoc) g)
-          (λ _. split (At G key []) (c == solidus) _ _
-              (λ e. split (At G key []) (is_html s) _ _
-                  (λ z g. spelled_as s (gap ++ (key ++ c ∷ text)) _ r (sym (append_assoc gap key (c ∷ text)))
-                      (ends phase.Solidus gap key [] [] (c ∷ []) [] ends_name i n (no_value (html_is s z)) (after_solidus' (c ∷ []) (of_one (λ x. Ends s (x ∷ []) true) c solidus e (first_slash s))) (of_one (λ x. begins ends_name (x ∷ text) ≡ true) c solidus e refl) g))
-                  (λ _ g. none_some r G g))
-              (λ _. split (At G key []) (c == greater_than_sign) _ _
-                  (λ e. split (At G key []) (is_html s) _ _
-                      (λ z g. spelled_as s (gap ++ (key ++ c ∷ text)) _ r (sym (append_assoc gap key (c ∷ text)))
-                          (ends phase.Opened gap key [] [] (c ∷ []) [] ends_name i n (no_value (html_is s z)) (of_one (λ x. Since s phase.Opened (x ∷ []) [] []) c greater_than_sign e (opened' [] (first_end s))) (of_one (λ x. begins ends_name (x ∷ text) ≡ true) c greater_than_sign e refl) g))
-                      (λ _ g. none_some r G g))
-                  (λ _. split (At G key []) (continues_attribute s c) _ _
-                      (λ e g. goes phase.Key (gap ++ key) (gap ++ (key ++ c ∷ [])) (key ++ c ∷ []) [] (in_key' gap (key ++ c ∷ []) i (then_snoc (begins_attribute s) (continues_attribute s) key c n e)) (simp append_assoc) g)
-                      (λ _ g. none_some r G g))))) h
+      (λ e g. goes phase.BeforeValue (gap ++ key) (gap ++ (key ++ c ∷ [])) key [] (of_one (λ x. Since s phase.BeforeValue (gap ++ (key ++ x ∷ [])) key []) c equals_sign e (before_value' gap key [] [] i n refl refl)) (simp append_assoc) g)
+      (λ _. split (At G key []) (c == solidus) _ _
+      (λ e. split (At G key []) (is_html s) _ _
+      (λ z g. spelled_as s (gap ++ (key ++ c ∷ text)) _ r (sym (append_assoc gap key (c ∷ text)))
+      (ends phase.Solidus gap key [] [] (c ∷ []) [] ends_name i n (no_value (html_is s z)) (after_solidus' (c ∷ []) (of_one (λ x. Ends s (x ∷ []) true) c solidus e (first_slash s))) (of_one (λ x. begins ends_name (x ∷ text) ≡ true) c solidus e refl) g))
+      (λ _ g. none_some r G g))
+      (λ _. split (At G key []) (c == greater_than_sign) _ _
+      (λ e. split (At G key []) (is_html s) _ _
+      (λ z g. spelled_as s (gap ++ (key ++ c ∷ text)) _ r (sym (append_assoc gap key (c ∷ text)))
+      (ends phase.Opened gap key [] [] (c ∷ []) [] ends_name i n (no_value (html_is s z)) (of_one (λ x. Since s phase.Opened (x ∷ []) [] []) c greater_than_sign e (opened' [] (first_end s))) (of_one (λ x. begins ends_name (x ∷ text) ≡ true) c greater_than_sign e refl) g))
+      (λ _ g. none_some r G g))
+      (λ _. split (At G key []) (continues_attribute s c) _ _
+      (λ e g. goes phase.Key (gap ++ key) (gap ++ (key ++ c ∷ [])) (key ++ c ∷ []) [] (in_key' gap (key ++ c ∷ []) i (then_snoc (begins_attribute s) (continues_attribute s) key c n e)) (simp append_assoc) g)
+      (λ _ g. none_some r G g))))) h
 
   from_after_key : (gap key white : Chars) → is_gap s gap ≡ true → is_attribute_name s key ≡ true → one_or_more is_white_space white ≡ true → cut_by (cut_from s text) key [] c (move_of s phase.AfterKey c) ≡ Some r → Attributes s ((gap ++ (key ++ white)) ++ c ∷ text) r.0 r.1
   from_after_key gap key white i n w h =
@@ -192,25 +190,25 @@ module _ (s : Syntax) (text : Chars) (ih : Sound s text) (c : ℕ) (r : Result) 
       split (At G key []) (is_white_space c) _ _
       (λ e g. goes phase.AfterKey (gap ++ (key ++ white)) (gap ++ (key ++ (white ++ c ∷ []))) key [] (after_key' gap key (white ++ c ∷ []) i n (some_snoc is_white_space white c all e)) (simp append_assoc) g)
       (λ _. split (At G key []) (c == equals_sign) _ _
-          (λ e g. goes phase.BeforeValue (gap ++ (key ++ white)) (gap ++ (key ++ (white ++ c ∷ []))) key [] (of_one (λ x. Since s phase.BeforeValue (gap ++ (key ++ (white ++ x ∷ []))) key []) c equals_sign e (before_value' gap key white [] i n all refl)) (simp append_assoc) g)
-          (λ _. split (At G key []) (is_html s) _ _
-              (λ z. split (At G key []) (c == solidus) _ _
-                  (λ e g. spelled_as s (gap ++ (key ++ ((white ++ c ∷ []) ++ text))) _ r regroup
-                      (ends phase.Solidus gap key [] [] (white ++ c ∷ []) [] ends_name i n (no_value (html_is s z))
-                          (after_solidus' (white ++ c ∷ []) (of_one (λ x. Ends s (white ++ x ∷ []) true) c solidus e (gap_slash s white (whites_gap s (html_is s z) white all)))) (begins_some white text c w) g))
-                  (λ _. split (At G key []) (c == greater_than_sign) _ _
-                      (λ e g. spelled_as s (gap ++ (key ++ ((white ++ c ∷ []) ++ text))) _ r regroup
-                          (ends phase.Opened gap key [] [] (white ++ c ∷ []) [] ends_name i n (no_value (html_is s z))
-                              (of_one (λ x. Since s phase.Opened (white ++ x ∷ []) [] []) c greater_than_sign e (opened' white (gap_ends s white (whites_gap s (html_is s z) white all)))) (begins_some white text c w) g))
-                      (λ _. split (At G key []) (begins_attribute s c) _ _
-                          (λ e g. spelled_as s (gap ++ (key ++ ((white ++ c ∷ []) ++ text))) _ r regroup
-                              (ends phase.Key gap key [] [] (white ++ c ∷ []) (c ∷ []) ends_name i n (no_value (html_is s z))
-                                  (in_key' white (c ∷ []) (gap_is_gap s white (whites_gap s (html_is s z) white all)) (name_one s c e)) (begins_some white text c w) g))
-                          (λ _ g. none_some r G g))))
-              (λ _ g. none_some r G g))) h
+      (λ e g. goes phase.BeforeValue (gap ++ (key ++ white)) (gap ++ (key ++ (white ++ c ∷ []))) key [] (of_one (λ x. Since s phase.BeforeValue (gap ++ (key ++ (white ++ x ∷ []))) key []) c equals_sign e (before_value' gap key white [] i n all refl)) (simp append_assoc) g)
+      (λ _. split (At G key []) (is_html s) _ _
+      (λ z. split (At G key []) (c == solidus) _ _
+      (λ e g. spelled_as s (gap ++ (key ++ ((white ++ c ∷ []) ++ text))) _ r regroup
+      (ends phase.Solidus gap key [] [] (white ++ c ∷ []) [] ends_name i n (no_value (html_is s z))
+      (after_solidus' (white ++ c ∷ []) (of_one (λ x. Ends s (white ++ x ∷ []) true) c solidus e (gap_slash s white (whites_gap s (html_is s z) white all)))) (begins_some white text c w) g))
+      (λ _. split (At G key []) (c == greater_than_sign) _ _
+      (λ e g. spelled_as s (gap ++ (key ++ ((white ++ c ∷ []) ++ text))) _ r regroup
+      (ends phase.Opened gap key [] [] (white ++ c ∷ []) [] ends_name i n (no_value (html_is s z))
+      (of_one (λ x. Since s phase.Opened (white ++ x ∷ []) [] []) c greater_than_sign e (opened' white (gap_ends s white (whites_gap s (html_is s z) white all)))) (begins_some white text c w) g))
+      (λ _. split (At G key []) (begins_attribute s c) _ _
+      (λ e g. spelled_as s (gap ++ (key ++ ((white ++ c ∷ []) ++ text))) _ r regroup
+      (ends phase.Key gap key [] [] (white ++ c ∷ []) (c ∷ []) ends_name i n (no_value (html_is s z))
+      (in_key' white (c ∷ []) (gap_is_gap s white (whites_gap s (html_is s z) white all)) (name_one s c e)) (begins_some white text c w) g))
+      (λ _ g. none_some r G g))))
+      (λ _ g. none_some r G g))) h
 
   from_before_value : (gap key white after : Chars) → is_gap s gap ≡ true → is_attribute_name s key ≡ true → list_all is_white_space white ≡ true → list_all is_white_space after ≡ true → cut_by (cut_from s text) key [] c (move_of s phase.BeforeValue c) ≡ Some r
-    → Attributes s ((gap ++ (key ++ (white ++ equals_sign ∷ after))) ++ c ∷ text) r.0 r.1
+      → Attributes s ((gap ++ (key ++ (white ++ equals_sign ∷ after))) ++ c ∷ text) r.0 r.1
   from_before_value gap key white after i n w v h =
       let since : Chars = gap ++ (key ++ (white ++ equals_sign ∷ after)) in
       let G : Type 0 = Attributes s (since ++ c ∷ text) r.0 r.1 in
@@ -219,54 +217,54 @@ module _ (s : Syntax) (text : Chars) (ih : Sound s text) (c : ℕ) (r : Result) 
       split (At G key []) (is_white_space c) _ _
       (λ e g. goes phase.BeforeValue since grown key [] (before_value' gap key white (after ++ c ∷ []) i n w (all_snoc is_white_space after c v e)) regroup g)
       (λ nw. split (At G key []) (c == quotation_mark) _ _
-          (λ e g. goes phase.DoubleQuoted since grown key [] (of_one (λ x. Since s phase.DoubleQuoted (gap ++ (key ++ (white ++ equals_sign ∷ (after ++ x ∷ [])))) key []) c quotation_mark e (double' gap key white after [] i n w v refl)) regroup g)
-          (λ nq. split (At G key []) (c == apostrophe) _ _
-              (λ e g. goes phase.SingleQuoted since grown key [] (of_one (λ x. Since s phase.SingleQuoted (gap ++ (key ++ (white ++ equals_sign ∷ (after ++ x ∷ [])))) key []) c apostrophe e (single' gap key white after [] i n w v refl)) regroup g)
-              (λ na. split (At G key []) (c == greater_than_sign) _ _
-                  (λ e g. none_some r G g)
-                  (λ ng. split (At G key []) (is_html s) _ _
-                      (λ z g. goes phase.Unquoted since grown key (c ∷ []) (unquoted' gap key white after (c ∷ []) (html_is s z) i n w v (unquoted_one c nw nq na ng)) regroup g)
-                      (λ _ g. none_some r G g))))) h
+      (λ e g. goes phase.DoubleQuoted since grown key [] (of_one (λ x. Since s phase.DoubleQuoted (gap ++ (key ++ (white ++ equals_sign ∷ (after ++ x ∷ [])))) key []) c quotation_mark e (double' gap key white after [] i n w v refl)) regroup g)
+      (λ nq. split (At G key []) (c == apostrophe) _ _
+      (λ e g. goes phase.SingleQuoted since grown key [] (of_one (λ x. Since s phase.SingleQuoted (gap ++ (key ++ (white ++ equals_sign ∷ (after ++ x ∷ [])))) key []) c apostrophe e (single' gap key white after [] i n w v refl)) regroup g)
+      (λ na. split (At G key []) (c == greater_than_sign) _ _
+      (λ e g. none_some r G g)
+      (λ ng. split (At G key []) (is_html s) _ _
+      (λ z g. goes phase.Unquoted since grown key (c ∷ []) (unquoted' gap key white after (c ∷ []) (html_is s z) i n w v (unquoted_one c nw nq na ng)) regroup g)
+      (λ _ g. none_some r G g))))) h
 
   from_double : (gap key white after value : Chars) → is_gap s gap ≡ true → is_attribute_name s key ≡ true → list_all is_white_space white ≡ true → list_all is_white_space after ≡ true → list_all (λ c. not (c == 34)) value ≡ true
-    → cut_by (cut_from s text) key value c (move_of s phase.DoubleQuoted c) ≡ Some r → Attributes s ((gap ++ (key ++ (white ++ equals_sign ∷ (after ++ 34 ∷ value)))) ++ c ∷ text) r.0 r.1
+      → cut_by (cut_from s text) key value c (move_of s phase.DoubleQuoted c) ≡ Some r → Attributes s ((gap ++ (key ++ (white ++ equals_sign ∷ (after ++ 34 ∷ value)))) ++ c ∷ text) r.0 r.1
   from_double gap key white after value i n w v q h =
       let since : Chars = gap ++ (key ++ (white ++ equals_sign ∷ (after ++ 34 ∷ value))) in
       let G : Type 0 = Attributes s (since ++ c ∷ text) r.0 r.1 in
       split (At G key value) (c == 34) _ _
       (λ e g. of_one (λ x. Attributes s (since ++ x ∷ text) r.0 r.1) c 34 e
-          (spelled_as s (gap ++ (key ++ ((white ++ equals_sign ∷ (after ++ 34 ∷ (value ++ 34 ∷ []))) ++ ([] ++ text)))) _ r (simp append_assoc)
-              (ends phase.AfterValue gap key (white ++ equals_sign ∷ (after ++ 34 ∷ (value ++ 34 ∷ []))) value [] [] (λ c. true) i n (quoted white after value 34 refl w v q) after_value' (begins_any s text (key, value) r g) g)))
+      (spelled_as s (gap ++ (key ++ ((white ++ equals_sign ∷ (after ++ 34 ∷ (value ++ 34 ∷ []))) ++ ([] ++ text)))) _ r (simp append_assoc)
+      (ends phase.AfterValue gap key (white ++ equals_sign ∷ (after ++ 34 ∷ (value ++ 34 ∷ []))) value [] [] (λ c. true) i n (quoted white after value 34 refl w v q) after_value' (begins_any s text (key, value) r g) g)))
       (λ e g. goes phase.DoubleQuoted since (gap ++ (key ++ (white ++ equals_sign ∷ (after ++ 34 ∷ (value ++ c ∷ []))))) key (value ++ c ∷ [])
-          (double' gap key white after (value ++ c ∷ []) i n w v (all_snoc (λ c. not (c == 34)) value c q (other_than c 34 e))) (simp append_assoc) g) h
+      (double' gap key white after (value ++ c ∷ []) i n w v (all_snoc (λ c. not (c == 34)) value c q (other_than c 34 e))) (simp append_assoc) g) h
 
   from_single : (gap key white after value : Chars) → is_gap s gap ≡ true → is_attribute_name s key ≡ true → list_all is_white_space white ≡ true → list_all is_white_space after ≡ true → list_all (λ c. not (c == 39)) value ≡ true
-    → cut_by (cut_from s text) key value c (move_of s phase.SingleQuoted c) ≡ Some r → Attributes s ((gap ++ (key ++ (white ++ equals_sign ∷ (after ++ 39 ∷ value)))) ++ c ∷ text) r.0 r.1
+      → cut_by (cut_from s text) key value c (move_of s phase.SingleQuoted c) ≡ Some r → Attributes s ((gap ++ (key ++ (white ++ equals_sign ∷ (after ++ 39 ∷ value)))) ++ c ∷ text) r.0 r.1
   from_single gap key white after value i n w v q h =
       let since : Chars = gap ++ (key ++ (white ++ equals_sign ∷ (after ++ 39 ∷ value))) in
       let G : Type 0 = Attributes s (since ++ c ∷ text) r.0 r.1 in
       split (At G key value) (c == 39) _ _
       (λ e g. of_one (λ x. Attributes s (since ++ x ∷ text) r.0 r.1) c 39 e
-          (spelled_as s (gap ++ (key ++ ((white ++ equals_sign ∷ (after ++ 39 ∷ (value ++ 39 ∷ []))) ++ ([] ++ text)))) _ r (simp append_assoc)
-              (ends phase.AfterValue gap key (white ++ equals_sign ∷ (after ++ 39 ∷ (value ++ 39 ∷ []))) value [] [] (λ c. true) i n (quoted white after value 39 refl w v q) after_value' (begins_any s text (key, value) r g) g)))
+      (spelled_as s (gap ++ (key ++ ((white ++ equals_sign ∷ (after ++ 39 ∷ (value ++ 39 ∷ []))) ++ ([] ++ text)))) _ r (simp append_assoc)
+      (ends phase.AfterValue gap key (white ++ equals_sign ∷ (after ++ 39 ∷ (value ++ 39 ∷ []))) value [] [] (λ c. true) i n (quoted white after value 39 refl w v q) after_value' (begins_any s text (key, value) r g) g)))
       (λ e g. goes phase.SingleQuoted since (gap ++ (key ++ (white ++ equals_sign ∷ (after ++ 39 ∷ (value ++ c ∷ []))))) key (value ++ c ∷ [])
-          (single' gap key white after (value ++ c ∷ []) i n w v (all_snoc (λ c. not (c == 39)) value c q (other_than c 39 e))) (simp append_assoc) g) h
+      (single' gap key white after (value ++ c ∷ []) i n w v (all_snoc (λ c. not (c == 39)) value c q (other_than c 39 e))) (simp append_assoc) g) h
 
   from_unquoted : (gap key white after value : Chars) → s ≡ Html → is_gap s gap ≡ true → is_attribute_name s key ≡ true → list_all is_white_space white ≡ true → list_all is_white_space after ≡ true → is_unquoted value ≡ true
-    → cut_by (cut_from s text) key value c (move_of s phase.Unquoted c) ≡ Some r → Attributes s ((gap ++ (key ++ (white ++ equals_sign ∷ (after ++ value)))) ++ c ∷ text) r.0 r.1
+      → cut_by (cut_from s text) key value c (move_of s phase.Unquoted c) ≡ Some r → Attributes s ((gap ++ (key ++ (white ++ equals_sign ∷ (after ++ value)))) ++ c ∷ text) r.0 r.1
   from_unquoted gap key white after value z i n w v q h =
       let since : Chars = gap ++ (key ++ (white ++ equals_sign ∷ (after ++ value))) in
       let G : Type 0 = Attributes s (since ++ c ∷ text) r.0 r.1 in
       let regroup : gap ++ (key ++ ((white ++ equals_sign ∷ (after ++ value)) ++ (c ∷ text))) ≡ since ++ c ∷ text = simp append_assoc in
       split (At G key value) (is_white_space c) _ _
       (λ e g. spelled_as s _ (since ++ c ∷ text) r regroup
-          (ends phase.Gap gap key (white ++ equals_sign ∷ (after ++ value)) value (c ∷ []) [] ends_unquoted i n (unquoted white after value z w v q) (in_gap' (c ∷ []) (first_white s c e)) (white_ends c e) g))
+      (ends phase.Gap gap key (white ++ equals_sign ∷ (after ++ value)) value (c ∷ []) [] ends_unquoted i n (unquoted white after value z w v q) (in_gap' (c ∷ []) (first_white s c e)) (white_ends c e) g))
       (λ nw. split (At G key value) (c == greater_than_sign) _ _
-          (λ e g. spelled_as s _ (since ++ c ∷ text) r regroup
-              (ends phase.Opened gap key (white ++ equals_sign ∷ (after ++ value)) value (c ∷ []) [] ends_unquoted i n (unquoted white after value z w v q) (of_one (λ x. Since s phase.Opened (x ∷ []) [] []) c greater_than_sign e (opened' [] (first_end s)))
-                  (of_one (λ x. begins ends_unquoted (x ∷ text) ≡ true) c greater_than_sign e refl) g))
-          (λ ng g. goes phase.Unquoted since (gap ++ (key ++ (white ++ equals_sign ∷ (after ++ (value ++ c ∷ []))))) key (value ++ c ∷ [])
-              (unquoted' gap key white after (value ++ c ∷ []) z i n w v (then_snoc (λ c. is_unquoted_char c && not (is_quote c)) is_unquoted_char value c q (unquoted_char c nw ng))) (simp append_assoc) g)) h
+      (λ e g. spelled_as s _ (since ++ c ∷ text) r regroup
+      (ends phase.Opened gap key (white ++ equals_sign ∷ (after ++ value)) value (c ∷ []) [] ends_unquoted i n (unquoted white after value z w v q) (of_one (λ x. Since s phase.Opened (x ∷ []) [] []) c greater_than_sign e (opened' [] (first_end s)))
+      (of_one (λ x. begins ends_unquoted (x ∷ text) ≡ true) c greater_than_sign e refl) g))
+      (λ ng g. goes phase.Unquoted since (gap ++ (key ++ (white ++ equals_sign ∷ (after ++ (value ++ c ∷ []))))) key (value ++ c ∷ [])
+      (unquoted' gap key white after (value ++ c ∷ []) z i n w v (then_snoc (λ c. is_unquoted_char c && not (is_quote c)) is_unquoted_char value c q (unquoted_char c nw ng))) (simp append_assoc) g)) h
 
   one_more : (p : TagPhase) (since key value : Chars) → Since s p since key value → cut_from s (c ∷ text) p key value ≡ Some r → Attributes s (since ++ c ∷ text) r.0 r.1
   one_more p since key value (in_gap' gap i) h = from_gap gap i h

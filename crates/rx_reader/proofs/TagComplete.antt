@@ -1,28 +1,26 @@
 -- Each spelled tag is read.
-use Rattle.std.proofs.Common.{◌≡◌, ◌≢◌, ℕ, Bool, true, false, cond, nat_eq, eqb-true, List, [], ◌∷◌, ◌++◌, map, Option, Some, None, Result, Ok, Err, refl, ap, sym, ◌∙◌, append_assoc, append-nil, inl, inr, ◌⊎◌, subst}
-use Rattle.std.specs.Prelude.{◌||◌, ◌&&◌, ◌==◌, not}
+use Rattle.std.proofs.Common.{◌≡◌, ℕ, Bool, true, false, List, [], ◌∷◌, ◌++◌, Option, Some, None, Result, Ok, Err, refl, ap, sym, ◌∙◌, append_assoc, append-nil, inl, inr, subst}
+use Rattle.std.specs.Prelude.{◌||◌, ◌==◌}
 use Rattle.std.specs.List.{list_all}
 use Rattle.rx_terms.specs.Ascii.{is_white_space, solidus, greater_than_sign}
 use Rattle.rx_terms.specs.Text.{Chars}
 use Rattle.rx_chars.specs.declared.syntax.Syntax.{Syntax}
 use Rattle.rx_chars.specs.declared.syntax.Syntax.TheVariants.{Html, Xhtml}
 use Rattle.rx_grammar.specs.declared.faults.Kind.{Kind}
-use Rattle.rx_grammar.specs.References.{Denotes}
 use Rattle.rx_grammar.specs.Tokens.{Attribute, Tag}
-use Rattle.rx_grammar.specs.Shapes.{ends_name, begins, first_then, begins_tag, is_tag_char, is_tag_name, Attributes, Shape, a_start, an_end}
+use Rattle.rx_grammar.specs.Shapes.{ends_name, begins, begins_tag, is_tag_char, is_tag_name, Shape, a_start, an_end}
 use Rattle.rx_grammar.specs.Tags.{cased_char, cased, AreRead, Reads}
 use Rattle.rx_reader.specs.declared.phases.TagPhase.{TagPhase}
 use Rattle.rx_reader.specs.declared.phases.TagPhase.TheVariants as phase
-use Rattle.rx_reader.specs.declared.phases.TagAction.{TagAction}
 use Rattle.rx_reader.specs.declared.phases.TagAction.TheVariants as action
 use Rattle.rx_reader.specs.Tables.{Move, move_of, is_last}
-use Rattle.rx_reader.specs.Cuts.{Cut, with_first, cut_end, cut_by, cut_from}
-use Rattle.rx_reader.specs.Values.{Value, no_value_yet, value_step, value_end, step_on, value_on, end_of, value_read}
-use Rattle.rx_reader.specs.TagReader.{TagState, fresh, with_value, with_attribute, done_by, moved, tag_move, tag_move_on, moves_on, is_closing, is_emptied, parts_of}
+use Rattle.rx_reader.specs.Cuts.{with_first, cut_end, cut_by, cut_from}
+use Rattle.rx_reader.specs.Values.{Value, no_value_yet, value_step, value_end, step_on, value_on, end_of}
+use Rattle.rx_reader.specs.TagReader.{TagState, fresh, with_value, with_attribute, moved, tag_move, moves_on, is_closing, is_emptied}
 use Rattle.rx_reader.proofs.Bools.{both, either}
-use Rattle.rx_reader.proofs.Classes.{of_white, of_one, Named, tag_char_named}
-use Rattle.rx_reader.proofs.Moves.{is_among, is_no_name, Stays, stays, is_value_phase, Valued, valued, InValue, in_value}
-use Rattle.rx_reader.proofs.Sound.{Result as Ended, Added, added}
+use Rattle.rx_reader.proofs.Classes.{of_white, of_one, tag_char_named}
+use Rattle.rx_reader.proofs.Moves.{is_among, Stays, stays, is_value_phase, Valued, valued, InValue, in_value}
+use Rattle.rx_reader.proofs.Sound.{Result as Ended, added}
 use Rattle.rx_reader.proofs.Complete.{complete}
 use Rattle.rx_reader.proofs.TextComplete.{complete as text_complete}
 use Rattle.rx_reader.proofs.TextSound.{err_on}
@@ -69,7 +67,7 @@ pub record Extends (key value : Chars) (r : Ended) : Type 0 where
 
 module _ (s : Syntax) where
   extends_by : (text : Chars) (ih : (p : TagPhase) (key value : Chars) (r : Ended) → is_value_phase p ≡ true → cut_from s text p key value ≡ Some r → Extends key value r) (c : ℕ) (key value : Chars) (r : Ended)
-    → (m : Move) → Valued m → InValue m → cut_by (cut_from s text) key value c m ≡ Some r → Extends key value r
+      → (m : Move) → Valued m → InValue m → cut_by (cut_from s text) key value c m ≡ Some r → Extends key value r
   extends_by text ih c key value r None v i h = absurd i
   extends_by text ih c key value r (Some (p, action.Value)) v i h = let d = ih p key (value ++ c ∷ []) r v h in record { more = c ∷ d.more; others = d.others; is = d.is ∙ ap (λ x. (key, x) ∷ d.others) (append_assoc value (c ∷ []) d.more) }
   extends_by text ih c key value r (Some (p, action.Add)) v i h = let d = added (key, value) (cut_from s text p [] []) r h in record { more = []; others = d.rest.0; is = sym d.first ∙ ap (λ x. (key, x) ∷ d.rest.0) (sym (append-nil value)) }
@@ -142,6 +140,7 @@ module _ (s : Syntax) (means : Chars → Option ℕ) where
       no_others : (r : Ended) (more : List Attribute) → [] ≡ r.0 → AreRead s means r.0 more → [] ≡ more
       no_others r [] e a = refl
       no_others r (x ∷ more) e a = absurd (subst (λ (y : List Attribute). AreRead s means y (x ∷ more)) (sym e) a)
+
       by_end : (p : TagPhase) (name key : Chars) (value : Value) (attributes more : List Attribute) (r : Ended) → cut_end p ≡ Some r → AreRead s means r.0 more → Arrives s means (at_phase_value p name attributes key value) [] name (attributes ++ more) false r.1
       by_end phase.Opened name key value attributes more r h a = let e : ([], false) ≡ r = cc in record { last = at_phase_value phase.Opened name attributes key value; reads = refl; whole = refl; name_is = refl; attributes_are = sym (append-nil attributes) ∙ ap (λ x. attributes ++ x) (no_others r more (ap (λ x. x.0) e) a); closing_is = refl; slash_is = ap (λ x. x.1) e }
       by_end phase.Emptied name key value attributes more r h a = let e : ([], true) ≡ r = cc in record { last = at_phase_value phase.Emptied name attributes key value; reads = refl; whole = refl; name_is = refl; attributes_are = sym (append-nil attributes) ∙ ap (λ x. attributes ++ x) (no_others r more (ap (λ x. x.0) e) a); closing_is = refl; slash_is = ap (λ x. x.1) e }
@@ -163,8 +162,8 @@ module _ (s : Syntax) (means : Chars → Option ℕ) where
 
   abbrev All : Chars → Type 0
   All text = (p : TagPhase) (name : Chars) (attributes : List Attribute) (key value : Chars) (v : Value) (r : Ended) (more : List Attribute) → is_among p ≡ true
-    → value_on s means (Ok no_value_yet) value ≡ Ok v → cut_from s text p key value ≡ Some r → AreRead s means r.0 more
-    → Arrives s means (at_phase_value p name attributes (cased s key) v) text name (attributes ++ more) false r.1
+      → value_on s means (Ok no_value_yet) value ≡ Ok v → cut_from s text p key value ≡ Some r → AreRead s means r.0 more
+      → Arrives s means (at_phase_value p name attributes (cased s key) v) text name (attributes ++ more) false r.1
 
   -- an attribute ends
   record Ends (key value : Chars) (v : Value) (others more : List Attribute) : Type 0 where
@@ -183,14 +182,14 @@ module _ (s : Syntax) (means : Chars → Option ℕ) where
     G = Arrives s means (at_phase_value p name attributes (cased s key) v) (c ∷ text) name (attributes ++ more) false r.1
 
     adds : (q : TagPhase) (next : Chars) → is_among q ≡ true → ((f : Chars) → value_end s v ≡ Ok f → tag_move s means (at_phase_value p name attributes (cased s key) v) c ≡ Ok (at_phase_value q name (attributes ++ (cased s key, f) ∷ []) (cased s next) no_value_yet))
-      → with_first (key, value) (cut_from s text q next []) ≡ Some r → G
+        → with_first (key, value) (cut_from s text q next []) ≡ Some r → G
     adds q next i step h =
         let d = added (key, value) (cut_from s text q next []) r h in
         let e = ends_so key value v d.rest.0 more is_v (subst (λ (x : List Attribute). AreRead s means x more) (sym d.first) a) in
         let k = ih q name (attributes ++ (cased s key, e.first) ∷ []) next [] no_value_yet d.rest e.rest i refl d.from e.read in
         let k2 = subst (λ (x : Bool). Arrives s means (at_phase_value q name (attributes ++ (cased s key, e.first) ∷ []) (cased s next) no_value_yet) text name ((attributes ++ (cased s key, e.first) ∷ []) ++ e.rest) false x) d.slash k in
         step_to _ _ c text name (attributes ++ more) false r.1 (step e.first e.reads)
-          (with_attributes _ text name _ _ false r.1 (append_assoc attributes ((cased s key, e.first) ∷ []) e.rest ∙ ap (λ x. attributes ++ x) (sym e.is)) k2)
+        (with_attributes _ text name _ _ false r.1 (append_assoc attributes ((cased s key, e.first) ∷ []) e.rest ∙ ap (λ x. attributes ++ x) (sym e.is)) k2)
 
     value_known : (w : Chars) (others : List Attribute) → AreRead s means ((key, (value ++ c ∷ []) ++ w) ∷ others) more → Known (value_on s means (Ok no_value_yet) (value ++ c ∷ []))
     value_known w others b = by_first more b
@@ -209,12 +208,12 @@ module _ (s : Syntax) (means : Chars → Option ℕ) where
     by_move (Some (q, action.Name)) st va e h = absurd (let x = st.1 in cc)
     by_move (Some (q, action.Key)) st va e h =
         step_to _ (at_phase_value q name attributes (cased s (key ++ c ∷ [])) v) c text name (attributes ++ more) false r.1
-          (ap (λ x. moved s means (at_phase_value p name attributes (cased s key) v) c x) e ∙ ap (λ x. Ok (at_phase_value q name attributes x v)) (sym (cased-append s key (c ∷ [])))) (ih q name attributes (key ++ c ∷ []) value v r more st.0 is_v h a)
+        (ap (λ x. moved s means (at_phase_value p name attributes (cased s key) v) c x) e ∙ ap (λ x. Ok (at_phase_value q name attributes x v)) (sym (cased-append s key (c ∷ [])))) (ih q name attributes (key ++ c ∷ []) value v r more st.0 is_v h a)
     by_move (Some (q, action.Value)) st va e h =
         let x = extends s text q key (value ++ c ∷ []) r va h in
         let k = value_known x.more x.others (subst (λ (y : List Attribute). AreRead s means y more) x.is a) in
         step_to _ (at_phase_value q name attributes (cased s key) k.it) c text name (attributes ++ more) false r.1
-          (ap (λ x. moved s means (at_phase_value p name attributes (cased s key) v) c x) e ∙ ap (λ x. with_value q (at_phase_value p name attributes (cased s key) v) x) (steps q k.it k.is)) (ih q name attributes key (value ++ c ∷ []) k.it r more st.0 k.is h a)
+        (ap (λ x. moved s means (at_phase_value p name attributes (cased s key) v) c x) e ∙ ap (λ x. with_value q (at_phase_value p name attributes (cased s key) v) x) (steps q k.it k.is)) (ih q name attributes key (value ++ c ∷ []) k.it r more st.0 k.is h a)
     by_move (Some (q, action.Add)) st va e h =
         adds q [] st.0 (λ f g. ap (λ x. moved s means (at_phase_value p name attributes (cased s key) v) c x) e ∙ ap (λ x. with_attribute q (at_phase_value p name attributes (cased s key) v) [] x) g) h
     by_move (Some (q, action.AddKey)) st va e h =
@@ -250,8 +249,9 @@ module _ (s : Syntax) (means : Chars → Option ℕ) where
   after_name name (c ∷ text) h =
       let P : ℕ → Type 0 = λ x. moves_on s means (Ok (at_phase_value phase.Name name [] [] no_value_yet)) (x ∷ text) ≡ moves_on s means (Ok (at_phase_value phase.AfterValue name [] [] no_value_yet)) (x ∷ text) in
       elim (either (is_white_space c || c == solidus) _ h) [
-        inr e ↦ of_one P c greater_than_sign e refl
-      | inl e ↦ elim (either (is_white_space c) _ e) [ inr e ↦ of_one P c solidus e refl | inl e ↦ of_white P c e refl refl refl refl refl ] ]
+        | inr e ↦ of_one P c greater_than_sign e refl
+        | inl e ↦ elim (either (is_white_space c) _ e) [ inr e ↦ of_one P c solidus e refl | inl e ↦ of_white P c e refl refl refl refl refl ]
+      ]
 
   -- end tags
   end_name_move : (c : ℕ) → is_tag_char s c ≡ true → move_of s phase.EndName c ≡ Some (phase.EndName, action.Name)
@@ -297,8 +297,9 @@ module _ (s : Syntax) (means : Chars → Option ℕ) where
       nothing_more : (xs : List Attribute) → AreRead s means [] xs → [] ≡ xs
       nothing_more [] a = refl
       nothing_more (x ∷ xs) a = absurd a
+
       by_shape : (chars : Chars) (written parts : Tag) → Shape s chars written → parts.closing ≡ written.closing → parts.name ≡ cased s written.name → AreRead s means written.attributes parts.attributes → parts.slash ≡ written.slash
-        → Arrives s means fresh chars parts.name parts.attributes parts.closing parts.slash
+          → Arrives s means fresh chars parts.name parts.attributes parts.closing parts.slash
       by_shape chars written parts (a_start name rest {attributes = x} {slash = b} n t k) ec en ea es =
           let d = arrives rest phase.AfterValue (cased s name) [] [] [] no_value_yet (x, b) parts.attributes refl refl (complete s k) ea in
           record { last = d.last; reads = start_run name rest n ∙ (after_name (cased s name) rest t ∙ d.reads); whole = d.whole; name_is = d.name_is ∙ sym en; attributes_are = d.attributes_are; closing_is = d.closing_is ∙ sym ec; slash_is = d.slash_is ∙ sym es }

@@ -1,23 +1,22 @@
 -- The reader of tags against the grammar.
-use Rattle.std.proofs.Common.{◌≡◌, ◌≢◌, ℕ, Bool, true, false, cond, List, [], ◌∷◌, ◌++◌, Option, Some, None, Result, Ok, Err, refl, ap, sym, ◌∙◌, append_assoc, append-nil, subst}
+use Rattle.std.proofs.Common.{◌≡◌, ℕ, Bool, true, false, cond, [], ◌∷◌, ◌++◌, Option, None, Result, Ok, Err, refl, ap, sym, ◌∙◌}
 use Rattle.std.specs.Prelude.{◌&&◌}
 use Rattle.rx_terms.specs.Text.{Chars}
 use Rattle.rx_chars.specs.declared.syntax.Syntax.{Syntax}
 use Rattle.rx_grammar.specs.declared.faults.Kind.{Kind}
 use Rattle.rx_grammar.specs.declared.faults.Kind.TheVariants.{BadTag, RepeatedAttribute}
-use Rattle.rx_grammar.specs.References.{Denotes, meaning}
-use Rattle.rx_grammar.specs.Tokens.{Tag, Attribute}
-use Rattle.rx_grammar.specs.Tags.{SpellsTag, Reads, firsts, is_repeated}
+use Rattle.rx_grammar.specs.References.{meaning}
+use Rattle.rx_grammar.specs.Tokens.{Tag}
+use Rattle.rx_grammar.specs.Tags.{firsts, is_repeated}
 use Rattle.rx_reader.specs.declared.phases.TagPhase.{TagPhase}
 use Rattle.rx_reader.specs.declared.phases.TagPhase.TheVariants as phase
 use Rattle.rx_reader.specs.Tables.{move_of, is_last}
-use Rattle.rx_reader.specs.Values.{value_read}
 use Rattle.rx_reader.specs.TagReader.{TagState, fresh, moved, tag_move, tag_move_on, moves_on, checked, tag_step, tag_step_on, tag_on, is_closing, is_emptied, parts_of, tag_of}
-use Rattle.rx_reader.specs.Laws.{ReadsTag, ReadsEachTag, SpellsEachTag, OneTag, OneTagFront, ReadsEachValue, DenotesEachValue}
-use Rattle.rx_reader.proofs.Bools.{both, not_both_ways, by_test}
+use Rattle.rx_reader.specs.Laws.{ReadsEachTag, SpellsEachTag, OneTag, OneTagFront, ReadsEachValue, DenotesEachValue}
+use Rattle.rx_reader.proofs.Bools.{by_test}
 use Rattle.rx_reader.proofs.TextComplete.{complete as text_complete}
 use Rattle.rx_reader.proofs.TextSound.{sound as text_sound}
-use Rattle.rx_reader.proofs.TagComplete.{Arrives, each_read}
+use Rattle.rx_reader.proofs.TagComplete.{each_read}
 use Rattle.rx_reader.proofs.TagSound.{moves_err, no_way, tag_read}
 
 pub reads_value : ReadsEachValue
@@ -72,7 +71,7 @@ module _ (s : Syntax) (means : Chars → Option ℕ) where
 
   -- with names that stand once the check changes nothing
   by_check : (text : Chars) (ih : (st last : TagState) → is_last last.phase ≡ true → is_repeated s last.attributes ≡ false → moves_on s means (Ok st) text ≡ Ok last → tag_on s means (Ok st) text ≡ Ok last) (c : ℕ) (st last : TagState) → is_last last.phase ≡ true → is_repeated s last.attributes ≡ false
-    → (o : Result TagState Kind) → tag_move s means st c ≡ o → moves_on s means o text ≡ Ok last → tag_on s means (checked s (tag_move s means st c)) text ≡ Ok last
+      → (o : Result TagState Kind) → tag_move s means st c ≡ o → moves_on s means o text ≡ Ok last → tag_on s means (checked s (tag_move s means st c)) text ≡ Ok last
   by_check text ih c st last w r (Err kind) e h = no_way s means kind text last _ h
   by_check text ih c st last w r (Ok st2) e h =
       let k : (is_last st2.phase && is_repeated s st2.attributes) ≡ false = by_test {G = (is_last st2.phase && is_repeated s st2.attributes) ≡ false} (is_last st2.phase) (λ x. at_last text st2 last r x h) (λ x. rw x refl) in
@@ -100,7 +99,7 @@ module _ (s : Syntax) (means : Chars → Option ℕ) where
       by_once false e h = let k : st2 ≡ st = cc in record { was = ap Ok k; once = ap (λ (x : TagState). is_last x.phase && is_repeated s x.attributes) (sym k) ∙ e }
 
   by_step : (text : Chars) (ih : (st last : TagState) → (is_last st.phase && is_repeated s st.attributes) ≡ false → tag_on s means (Ok st) text ≡ Ok last → Through text st last) (c : ℕ) (st last : TagState)
-    → (o : Result TagState Kind) → tag_step s means st c ≡ o → tag_on s means o text ≡ Ok last → Through (c ∷ text) st last
+      → (o : Result TagState Kind) → tag_step s means st c ≡ o → tag_on s means o text ≡ Ok last → Through (c ∷ text) st last
   by_step text ih c st last (Err kind) e h = absurd (let k = on_err s means kind text in cc)
   by_step text ih c st last (Ok st2) e h =
       let k = passed (tag_move s means st c) st2 e in
@@ -126,7 +125,8 @@ reads_each s chars tag sp =
       last = a.last;
       run = checks s (meaning s) chars fresh a.last a.whole (ap (λ x. is_repeated s x) a.attributes_are ∙ sp.unrepeated) a.reads;
       whole = a.whole;
-      is_tag = tag_by a.last (record { closing = sp.parts.closing; name = sp.parts.name; attributes = firsts sp.parts.attributes; slash = sp.parts.slash }) a.closing_is a.name_is (ap firsts a.attributes_are) a.slash_is ∙ sym sp.is_tag }
+      is_tag = tag_by a.last (record { closing = sp.parts.closing; name = sp.parts.name; attributes = firsts sp.parts.attributes; slash = sp.parts.slash }) a.closing_is a.name_is (ap firsts a.attributes_are) a.slash_is ∙ sym sp.is_tag;
+    }
 
 pub spells_each : SpellsEachTag
 spells_each s chars tag r =
@@ -135,7 +135,8 @@ spells_each s chars tag r =
       parts = parts_of r.last;
       reads = tag_read s (meaning s) r.last r.whole chars d.reads;
       unrepeated = repeats_once (is_last r.last.phase) (is_repeated s r.last.attributes) r.whole d.once;
-      is_tag = sym r.is_tag }
+      is_tag = sym r.is_tag;
+    }
 
 same_last : (a b : TagState) (o : Result TagState Kind) → o ≡ Ok a → o ≡ Ok b → a ≡ b
 same_last a b o h k = cc

@@ -1,31 +1,28 @@
 -- What is read to a tag's end is spelled so.
-use Rattle.std.proofs.Common.{◌≡◌, ◌≢◌, ℕ, Bool, true, false, cond, nat_eq, eqb-true, List, [], ◌∷◌, ◌++◌, map, Option, Some, None, Result, Ok, Err, refl, ap, sym, ◌∙◌, append_assoc, append-nil, inl, inr, ◌⊎◌, subst}
-use Rattle.std.specs.Prelude.{◌||◌, ◌&&◌, ◌==◌, not}
+use Rattle.std.proofs.Common.{◌≡◌, ℕ, true, false, eqb-true, List, [], ◌∷◌, ◌++◌, Option, Some, None, Result, Ok, Err, refl, ap, sym, ◌∙◌, append_assoc, append-nil, subst}
+use Rattle.std.specs.Prelude.{◌==◌}
 use Rattle.std.specs.List.{list_all}
 use Rattle.rx_terms.specs.Ascii.{is_white_space, solidus, greater_than_sign}
 use Rattle.rx_terms.specs.Text.{Chars}
 use Rattle.rx_chars.specs.declared.syntax.Syntax.{Syntax}
-use Rattle.rx_chars.specs.declared.syntax.Syntax.TheVariants.{Html, Xhtml}
 use Rattle.rx_grammar.specs.declared.faults.Kind.{Kind}
 use Rattle.rx_grammar.specs.declared.faults.Kind.TheVariants.{BadTag}
-use Rattle.rx_grammar.specs.References.{Denotes}
 use Rattle.rx_grammar.specs.Tokens.{Attribute, Tag}
-use Rattle.rx_grammar.specs.Shapes.{ends_name, begins, first_then, begins_tag, is_tag_char, is_tag_name, Attributes, Shape, a_start, an_end}
+use Rattle.rx_grammar.specs.Shapes.{ends_name, begins, begins_tag, is_tag_char, Shape, a_start, an_end}
 use Rattle.rx_grammar.specs.Tags.{cased_char, cased, AreRead, Reads}
 use Rattle.rx_reader.specs.declared.phases.TagPhase.{TagPhase}
 use Rattle.rx_reader.specs.declared.phases.TagPhase.TheVariants as phase
-use Rattle.rx_reader.specs.declared.phases.TagAction.{TagAction}
 use Rattle.rx_reader.specs.declared.phases.TagAction.TheVariants as action
 use Rattle.rx_reader.specs.Tables.{Move, move_of, is_last}
-use Rattle.rx_reader.specs.Cuts.{Cut, with_first, cut_end, cut_by, cut_from}
-use Rattle.rx_reader.specs.Values.{Value, no_value_yet, value_step, value_end, step_on, value_on, end_of, value_read}
-use Rattle.rx_reader.specs.TagReader.{TagState, fresh, with_value, with_attribute, done_by, moved, tag_move, tag_move_on, moves_on, is_closing, is_emptied, parts_of}
-use Rattle.rx_reader.proofs.Bools.{both, either, split, not_both_ways}
+use Rattle.rx_reader.specs.Cuts.{with_first, cut_by, cut_from}
+use Rattle.rx_reader.specs.Values.{Value, no_value_yet, value_step, value_end, step_on, value_on, end_of}
+use Rattle.rx_reader.specs.TagReader.{TagState, fresh, with_value, with_attribute, moved, moves_on, is_closing, is_emptied, parts_of}
+use Rattle.rx_reader.proofs.Bools.{split, not_both_ways}
 use Rattle.rx_reader.proofs.Classes.{of_white, of_one}
-use Rattle.rx_reader.proofs.Moves.{is_among, is_no_name, Stays, stays}
-use Rattle.rx_reader.proofs.Sound.{Result as Ended, Since, after_value', sound}
+use Rattle.rx_reader.proofs.Moves.{is_among, Stays, stays}
+use Rattle.rx_reader.proofs.Sound.{Result as Ended, after_value', sound}
 use Rattle.rx_reader.proofs.TextSound.{sound as text_sound}
-use Rattle.rx_reader.proofs.TagComplete.{at_phase_value, cased-append, value-append, slash_start}
+use Rattle.rx_reader.proofs.TagComplete.{at_phase_value, cased-append, value-append}
 
 pub moves_err : (s : Syntax) (means : Chars → Option ℕ) (kind : Kind) (text : Chars) → moves_on s means (Err kind) text ≡ Err kind
 moves_err s means kind [] = refl
@@ -70,7 +67,7 @@ module _ (s : Syntax) (means : Chars → Option ℕ) (last : TagState) (whole : 
 
   abbrev All : Chars → Type 0
   All text = (p : TagPhase) (name : Chars) (attributes : List Attribute) (key value : Chars) (v : Value) → is_among p ≡ true → value_on s means (Ok no_value_yet) value ≡ Ok v
-    → moves_on s means (Ok (at_phase_value p name attributes (cased s key) v)) text ≡ Ok last → Found text p name attributes key value
+      → moves_on s means (Ok (at_phase_value p name attributes (cased s key) v)) text ≡ Ok last → Found text p name attributes key value
 
   module _ (text : Chars) (ih : All text) (c : ℕ) (p : TagPhase) (name : Chars) (attributes : List Attribute) (key value : Chars) (v : Value) (is_v : value_on s means (Ok no_value_yet) value ≡ Ok v) where
     abbrev from : TagState
@@ -84,13 +81,20 @@ module _ (s : Syntax) (means : Chars → Option ℕ) (last : TagState) (whole : 
     on q key2 value2 e f = record { r = f.r; more = f.more; cut = e ∙ f.cut; read = f.read; attributes_are = f.attributes_are; name_is = f.name_is; closing_is = f.closing_is; slash_is = f.slash_is }
 
     adds : (q : TagPhase) (next : Chars) (o : Result Chars Kind) → is_among q ≡ true → value_end s v ≡ o → cut_from s (c ∷ text) p key value ≡ with_first (key, value) (cut_from s text q next [])
-      → moves_on s means (with_attribute q from (cased s next) o) text ≡ Ok last → G
+        → moves_on s means (with_attribute q from (cased s next) o) text ≡ Ok last → G
     adds q next (Err kind) i e k h = no_way s means kind text last G h
     adds q next (Ok f) i e k h =
         let d = ih q name (attributes ++ (cased s key, f) ∷ []) next [] no_value_yet i refl h in
-        record { r = ((key, value) ∷ d.r.0, d.r.1); more = (cased s key, f) ∷ d.more; cut = k ∙ ap (λ x. with_first (key, value) x) d.cut;
+        record {
+          r = ((key, value) ∷ d.r.0, d.r.1);
+          more = (cased s key, f) ∷ d.more;
+          cut = k ∙ ap (λ x. with_first (key, value) x) d.cut;
           read = (refl, text_sound s means value f (ap (λ x. end_of s x) is_v ∙ e), d.read);
-          attributes_are = d.attributes_are ∙ append_assoc attributes ((cased s key, f) ∷ []) d.more; name_is = d.name_is; closing_is = d.closing_is; slash_is = d.slash_is }
+          attributes_are = d.attributes_are ∙ append_assoc attributes ((cased s key, f) ∷ []) d.more;
+          name_is = d.name_is;
+          closing_is = d.closing_is;
+          slash_is = d.slash_is;
+        }
 
     valued : (q : TagPhase) (o : Result Value Kind) → is_among q ≡ true → value_step s means v c ≡ o → cut_from s (c ∷ text) p key value ≡ cut_from s text q key (value ++ c ∷ []) → moves_on s means (with_value q from o) text ≡ Ok last → G
     valued q (Err kind) i e k h = no_way s means kind text last G h
@@ -133,14 +137,20 @@ module _ (s : Syntax) (means : Chars → Option ℕ) (last : TagState) (whole : 
       split P (is_white_space c) _ _
       (λ e g. ends_here name c text (rw e refl) (of_white Q c e (λ k. k) (λ k. k) (λ k. k) (λ k. k) (λ k. k) h))
       (λ _. split P (c == solidus) _ _
-          (λ e g. ends_here name c text (of_one (λ x. ends_name x ≡ true) c solidus e refl) (of_one Q c solidus e (λ k. k) h))
-          (λ _. split P (c == greater_than_sign) _ _
-              (λ e g. ends_here name c text (of_one (λ x. ends_name x ≡ true) c greater_than_sign e refl) (of_one Q c greater_than_sign e (λ k. k) h))
-              (λ _. split P (is_tag_char s c) _ _
-                  (λ e g. let d = named text (name ++ cased_char s c ∷ []) g in
-                    record { more = c ∷ d.more; rest = d.rest; is = ap (λ x. c ∷ x) d.is; chars = rw e d.chars; ends = d.ends;
-                      reads = ap (λ x. moves_on s means (Ok (at_phase_value phase.AfterValue x [] [] no_value_yet)) d.rest) (sym (append_assoc name (cased_char s c ∷ []) (cased s d.more))) ∙ d.reads })
-                  (λ _ g. no_way s means BadTag text last G g)))) h
+      (λ e g. ends_here name c text (of_one (λ x. ends_name x ≡ true) c solidus e refl) (of_one Q c solidus e (λ k. k) h))
+      (λ _. split P (c == greater_than_sign) _ _
+      (λ e g. ends_here name c text (of_one (λ x. ends_name x ≡ true) c greater_than_sign e refl) (of_one Q c greater_than_sign e (λ k. k) h))
+      (λ _. split P (is_tag_char s c) _ _
+      (λ e g. let d = named text (name ++ cased_char s c ∷ []) g in
+      record {
+        more = c ∷ d.more;
+        rest = d.rest;
+        is = ap (λ x. c ∷ x) d.is;
+        chars = rw e d.chars;
+        ends = d.ends;
+        reads = ap (λ x. moves_on s means (Ok (at_phase_value phase.AfterValue x [] [] no_value_yet)) d.rest) (sym (append_assoc name (cased_char s c ∷ []) (cased s d.more))) ∙ d.reads;
+      })
+      (λ _ g. no_way s means BadTag text last G g)))) h
 
   -- the rest of an end tag
   pub record Closes (text name : Chars) : Type 0 where
@@ -186,12 +196,18 @@ module _ (s : Syntax) (means : Chars → Option ℕ) (last : TagState) (whole : 
       split P (is_white_space c) _ _
       (λ e g. let d = end_gap text name g in from_gap (c ∷ text) name (record { spaces = c ∷ d.spaces; is = ap (λ x. c ∷ x) d.is; white = rw e d.white; last_is = d.last_is }))
       (λ _. split P (c == greater_than_sign) _ _
-          (λ e g. from_gap (c ∷ text) name (one_sign name c text e g))
-          (λ _. split P (is_tag_char s c) _ _
-              (λ e g. let d = end_name text (name ++ cased_char s c ∷ []) g in
-                record { more = c ∷ d.more; spaces = d.spaces; is = ap (λ x. c ∷ x) d.is; chars = rw e d.chars; white = d.white;
-                  last_is = ap (λ x. at_phase_value phase.Closed x [] [] no_value_yet) (sym (append_assoc name (cased_char s c ∷ []) (cased s d.more))) ∙ d.last_is })
-              (λ _ g. no_way s means BadTag text last G g))) h
+      (λ e g. from_gap (c ∷ text) name (one_sign name c text e g))
+      (λ _. split P (is_tag_char s c) _ _
+      (λ e g. let d = end_name text (name ++ cased_char s c ∷ []) g in
+      record {
+        more = c ∷ d.more;
+        spaces = d.spaces;
+        is = ap (λ x. c ∷ x) d.is;
+        chars = rw e d.chars;
+        white = d.white;
+        last_is = ap (λ x. at_phase_value phase.Closed x [] [] no_value_yet) (sym (append_assoc name (cased_char s c ∷ []) (cased s d.more))) ∙ d.last_is;
+      })
+      (λ _ g. no_way s means BadTag text last G g))) h
 
   starts : (c : ℕ) (text : Chars) → begins_tag s c ≡ true → moves_on s means (Ok (at_phase_value phase.Name (cased_char s c ∷ []) [] [] no_value_yet)) text ≡ Ok last → Reads s means (c ∷ text) (parts_of last)
   starts c text e h =
@@ -200,7 +216,11 @@ module _ (s : Syntax) (means : Chars → Option ℕ) (last : TagState) (whole : 
       record {
         written = record { closing = false; name = c ∷ d.more; attributes = f.r.0; slash = f.r.1 };
         shape = subst (λ (x : Chars). Shape s (c ∷ x) (record { closing = false; name = c ∷ d.more; attributes = f.r.0; slash = f.r.1 })) (sym d.is) (a_start (c ∷ d.more) d.rest (rw e d.chars) d.ends (sound s d.rest phase.AfterValue [] [] [] f.r after_value' f.cut));
-        closing = f.closing_is; name = f.name_is; attributes = subst (λ (x : List Attribute). AreRead s means f.r.0 x) (sym f.attributes_are) f.read; slash = f.slash_is }
+        closing = f.closing_is;
+        name = f.name_is;
+        attributes = subst (λ (x : List Attribute). AreRead s means f.r.0 x) (sym f.attributes_are) f.read;
+        slash = f.slash_is;
+      }
 
   ends : (c : ℕ) (text : Chars) → begins_tag s c ≡ true → moves_on s means (Ok (at_phase_value phase.EndName (cased_char s c ∷ []) [] [] no_value_yet)) text ≡ Ok last → Reads s means (solidus ∷ c ∷ text) (parts_of last)
   ends c text e h =
@@ -209,7 +229,11 @@ module _ (s : Syntax) (means : Chars → Option ℕ) (last : TagState) (whole : 
       record {
         written = t;
         shape = subst (λ (x : Chars). Shape s (solidus ∷ c ∷ x) t) (sym d.is) (an_end (c ∷ d.more) d.spaces (rw e d.chars) d.white);
-        closing = ap (λ x. is_closing x.phase) (sym d.last_is); name = ap (λ x. x.name) (sym d.last_is); attributes = subst (λ (x : TagState). AreRead s means [] x.attributes) d.last_is tt; slash = ap (λ x. is_emptied x.phase) (sym d.last_is) }
+        closing = ap (λ x. is_closing x.phase) (sym d.last_is);
+        name = ap (λ x. x.name) (sym d.last_is);
+        attributes = subst (λ (x : TagState). AreRead s means [] x.attributes) d.last_is tt;
+        slash = ap (λ x. is_emptied x.phase) (sym d.last_is);
+      }
 
   end_start : (text : Chars) → moves_on s means (Ok (at_phase_value phase.EndStart [] [] [] no_value_yet)) text ≡ Ok last → Reads s means (solidus ∷ text) (parts_of last)
   end_start [] h = let e : at_phase_value phase.EndStart [] [] [] no_value_yet ≡ last = cc in not_whole phase.EndStart last _ (ap (λ x. x.phase) (sym e)) refl whole
@@ -225,5 +249,5 @@ module _ (s : Syntax) (means : Chars → Option ℕ) (last : TagState) (whole : 
       split P (begins_tag s c) _ _
       (λ e g. starts c text e g)
       (λ _. split P (c == solidus) _ _
-          (λ e g. of_one (λ x. Reads s means (x ∷ text) (parts_of last)) c solidus e (end_start text g))
-          (λ _ g. no_way s means BadTag text last _ g)) h
+      (λ e g. of_one (λ x. Reads s means (x ∷ text) (parts_of last)) c solidus e (end_start text g))
+      (λ _ g. no_way s means BadTag text last _ g)) h

@@ -1,21 +1,19 @@
 -- Text with references is read as the grammar says.
-use Rattle.std.proofs.Common.{◌≡◌, ◌≢◌, ℕ, Bool, true, false, cond, nat_eq, eqb-true, List, [], ◌∷◌, ◌++◌, Option, Some, None, Result, Ok, Err, refl, ap, sym, ◌∙◌, append_assoc, append-nil, inl, inr, ◌⊎◌, subst}
-use Rattle.std.specs.Prelude.{◌||◌, ◌&&◌, ◌==◌, not}
+use Rattle.std.proofs.Common.{◌≡◌, ℕ, Bool, true, false, cond, eqb-true, [], ◌∷◌, ◌++◌, Option, Some, Ok, refl, ap, sym, ◌∙◌, append_assoc, append-nil, inl, inr, subst}
+use Rattle.std.specs.Prelude.{◌||◌, ◌&&◌, ◌==◌}
 use Rattle.std.specs.List.{list_all}
 use Rattle.rx_terms.specs.Ascii.{ampersand, semicolon, less_than_sign, number_sign, is_letter, is_digit, is_letter_or_digit}
 use Rattle.rx_terms.specs.Text.{Chars}
 use Rattle.rx_chars.specs.declared.syntax.Syntax.{Syntax}
 use Rattle.rx_chars.specs.declared.syntax.Syntax.TheVariants.{Html, Xhtml}
-use Rattle.rx_grammar.specs.declared.faults.Kind.{Kind}
 use Rattle.rx_grammar.specs.References.{is_hexadecimal_digit, is_x, one_or_more, is_body, is_begun, begins_number, is_number, stops_at, is_plain, value_char, IsKept, Denotes, nothing, character, reference, kept}
 use Rattle.rx_reader.specs.declared.phases.RunPhase.{RunPhase}
 use Rattle.rx_reader.specs.declared.phases.RunPhase.TheVariants as run
 use Rattle.rx_reader.specs.declared.phases.RunMove.{RunMove}
 use Rattle.rx_reader.specs.declared.phases.RunMove.TheVariants.{Goes, Closes, Stops}
 use Rattle.rx_reader.specs.Tables.{run_move}
-use Rattle.rx_reader.specs.Values.{Value, no_value_yet, known_as, is_run, plain_step, meant, stopped, run_step, value_step, run_end, value_end, step_on, value_on, end_of, value_read}
-use Rattle.rx_reader.proofs.Bools.{both, neither, either, untrue, split, not_both_ways, by_test}
-use Rattle.rx_reader.proofs.Classes.{of_one}
+use Rattle.rx_reader.specs.Values.{Value, known_as, is_run, plain_step, meant, stopped, run_step, value_end, value_on, end_of}
+use Rattle.rx_reader.proofs.Bools.{both, neither, either, untrue}
 use Rattle.rx_reader.proofs.Runs.{RunIs, at_ampersand, in_name, at_hash, in_decimal, at_mark, in_hexadecimal, stops_back, closes_back, x_no_digit}
 
 abbrev pub at_run : RunPhase → Chars → Chars → Value
@@ -90,17 +88,24 @@ module _ (s : Syntax) (means : Chars → Option ℕ) where
   mark_run known x [] rest h k = record { phase = run.Mark; is = at_mark x h; reads = run_moves run.Hash known (number_sign ∷ []) rest x (Goes run.Mark) refl (mark_move known rest x h) }
   mark_run known x (c ∷ text) rest h k =
       let b = both (is_hexadecimal_digit c) _ k in
-      record { phase = run.Hexadecimal; is = in_hexadecimal x c text h b.0 b.1;
+      record {
+        phase = run.Hexadecimal;
+        is = in_hexadecimal x c text h b.0 b.1;
         reads = run_moves run.Hash known (number_sign ∷ []) (c ∷ (text ++ rest)) x (Goes run.Mark) refl (mark_move known rest x h)
-          ∙ (run_moves run.Mark known (number_sign ∷ x ∷ []) (text ++ rest) c (Goes run.Hexadecimal) refl (hexadecimal_move c b.0) ∙ hexadecimal_run text known (number_sign ∷ x ∷ c ∷ []) rest b.1) }
+            ∙ (run_moves run.Mark known (number_sign ∷ x ∷ []) (text ++ rest) c (Goes run.Hexadecimal) refl (hexadecimal_move c b.0) ∙ hexadecimal_run text known (number_sign ∷ x ∷ c ∷ []) rest b.1);
+      }
 
   number_run : (known text rest : Chars) → begins_number text ≡ true → ReadsRun known (number_sign ∷ text) rest
   number_run known [] rest h = record { phase = run.Hash; is = at_hash; reads = refl }
   number_run known (c ∷ text) rest h =
       elim (either (is_digit c && list_all is_digit text) _ h) [
-        inl e ↦ let b = both (is_digit c) _ e in record { phase = run.Decimal; is = in_decimal c text b.0 b.1;
-          reads = run_moves run.Hash known (number_sign ∷ []) (text ++ rest) c (Goes run.Decimal) refl (rw b.0 refl) ∙ decimal_run text known (number_sign ∷ c ∷ []) rest b.1 }
-      | inr e ↦ let b = both (is_x c) _ e in mark_run known c text rest b.0 b.1 ]
+        | inl e ↦ let b = both (is_digit c) _ e in record {
+          phase = run.Decimal;
+          is = in_decimal c text b.0 b.1;
+          reads = run_moves run.Hash known (number_sign ∷ []) (text ++ rest) c (Goes run.Decimal) refl (rw b.0 refl) ∙ decimal_run text known (number_sign ∷ c ∷ []) rest b.1;
+        }
+        | inr e ↦ let b = both (is_x c) _ e in mark_run known c text rest b.0 b.1
+      ]
 
   signed : (known : Chars) (c : ℕ) (text rest : Chars) → c ≡ number_sign → begins_number text ≡ true → ReadsRun known (c ∷ text) rest
   signed known c text rest e h = subst (λ (x : ℕ). ReadsRun known (x ∷ text) rest) (sym e) (number_run known text rest h)
@@ -110,9 +115,13 @@ module _ (s : Syntax) (means : Chars → Option ℕ) where
   begun_run known [] rest h = record { phase = run.Ampersand; is = at_ampersand; reads = refl }
   begun_run known (c ∷ text) rest h =
       elim (either (is_letter c && list_all is_letter_or_digit text) _ h) [
-        inl e ↦ let b = both (is_letter c) _ e in record { phase = run.Named; is = in_name c text b.0 b.1;
-          reads = run_moves run.Ampersand known [] (text ++ rest) c (Goes run.Named) refl (rw b.0 refl) ∙ named_run text known (c ∷ []) rest b.1 }
-      | inr e ↦ let b = both (c == number_sign) _ e in signed known c text rest (eqb-true c number_sign b.0) b.1 ]
+        | inl e ↦ let b = both (is_letter c) _ e in record {
+          phase = run.Named;
+          is = in_name c text b.0 b.1;
+          reads = run_moves run.Ampersand known [] (text ++ rest) c (Goes run.Named) refl (rw b.0 refl) ∙ named_run text known (c ∷ []) rest b.1;
+        }
+        | inr e ↦ let b = both (c == number_sign) _ e in signed known c text rest (eqb-true c number_sign b.0) b.1
+      ]
 
   one_two : (a : Bool) (b c : Bool) → b ≡ true → (a || b) ≡ true
   one_two true b c h = refl
@@ -121,14 +130,16 @@ module _ (s : Syntax) (means : Chars → Option ℕ) where
   number_begins : (text : Chars) → is_number text ≡ true → begins_number text ≡ true
   number_begins [] h = refl
   number_begins (c ∷ text) h = elim (either (is_digit c && list_all is_digit text) _ h) [
-      inl e ↦ rw e refl
-    | inr e ↦ let b = both (is_x c) _ e in one_two (is_digit c && list_all is_digit text) (is_x c && list_all is_hexadecimal_digit text) true (rw (b.0, some_all text b.1) refl) ]
+    | inl e ↦ rw e refl
+    | inr e ↦ let b = both (is_x c) _ e in one_two (is_digit c && list_all is_digit text) (is_x c && list_all is_hexadecimal_digit text) true (rw (b.0, some_all text b.1) refl)
+  ]
 
   body_begun : (text : Chars) → is_body text ≡ true → is_begun text ≡ true
   body_begun [] h = refl
   body_begun (c ∷ text) h = elim (either (is_letter c && list_all is_letter_or_digit text) _ h) [
-      inl e ↦ rw e refl
-    | inr e ↦ let b = both (c == number_sign) _ e in one_two (is_letter c && list_all is_letter_or_digit text) (c == number_sign && begins_number text) true (rw (b.0, number_begins text b.1) refl) ]
+    | inl e ↦ rw e refl
+    | inr e ↦ let b = both (c == number_sign) _ e in one_two (is_letter c && list_all is_letter_or_digit text) (c == number_sign && begins_number text) true (rw (b.0, number_begins text b.1) refl)
+  ]
 
   plain_char : (known rest : Chars) (c : ℕ) → is_plain s c ≡ true → value_on s means (Ok (known_as known)) (c ∷ rest) ≡ value_on s means (Ok (known_as (known ++ value_char s c ∷ []))) rest
   plain_char known rest c h = ap (λ x. value_on s means x rest) (plain_is s known c h)
@@ -153,7 +164,7 @@ module _ (s : Syntax) (means : Chars → Option ℕ) where
 
   -- a run that is text
   kept_read : (known text rest : Chars) → IsKept s text rest → end_of s (value_on s means (Ok (known_as known)) (ampersand ∷ (text ++ rest))) ≡ end_of s (value_on s means (Ok (known_as (known ++ ampersand ∷ text))) rest)
-  kept_read known text [] i = 
+  kept_read known text [] i =
       let z = kept_html s text [] i in
       let r = begun_run known text [] (kept_begun s text [] i) in
       ap (λ x. end_of s x) r.reads ∙ end_is s z r.phase known text (runs_is_run r.is)

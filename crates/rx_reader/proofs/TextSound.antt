@@ -1,6 +1,6 @@
 -- What is read of text with references is what the grammar says.
-use Rattle.std.proofs.Common.{◌≡◌, ◌≢◌, ℕ, Bool, true, false, cond, nat_eq, eqb-true, List, [], ◌∷◌, ◌++◌, Option, Some, None, Result, Ok, Err, refl, ap, sym, ◌∙◌, append_assoc, append-nil, inl, inr, ◌⊎◌, subst}
-use Rattle.std.specs.Prelude.{◌||◌, ◌&&◌, ◌==◌, not}
+use Rattle.std.proofs.Common.{◌≡◌, ℕ, true, cond, [], ◌∷◌, ◌++◌, Option, Some, None, Result, Ok, Err, refl, ap, sym, ◌∙◌, append_assoc, append-nil, subst}
+use Rattle.std.specs.Prelude.{◌==◌}
 use Rattle.rx_terms.specs.Ascii.{ampersand, semicolon}
 use Rattle.rx_terms.specs.Text.{Chars}
 use Rattle.rx_chars.specs.declared.syntax.Syntax.{Syntax}
@@ -13,7 +13,7 @@ use Rattle.rx_reader.specs.declared.phases.RunPhase.TheVariants as phases
 use Rattle.rx_reader.specs.declared.phases.RunMove.{RunMove}
 use Rattle.rx_reader.specs.declared.phases.RunMove.TheVariants.{Goes, Closes, Stops}
 use Rattle.rx_reader.specs.Tables.{run_move}
-use Rattle.rx_reader.specs.Values.{Value, no_value_yet, known_as, is_run, no_meaning, plain_step, meant, stopped, run_step, value_step, run_end, value_end, step_on, value_on, end_of, value_read}
+use Rattle.rx_reader.specs.Values.{Value, known_as, no_meaning, plain_step, meant, stopped, run_step, value_step, run_end, value_end, value_on, end_of, value_read}
 use Rattle.rx_reader.proofs.Bools.{split}
 use Rattle.rx_reader.proofs.Classes.{of_one}
 use Rattle.rx_reader.proofs.Runs.{RunIs, at_ampersand, run_begun, goes_on, closes, stops}
@@ -52,8 +52,9 @@ module _ (s : Syntax) (means : Chars → Option ℕ) where
   at_nothing = record {
     plain = λ known v h. record { value = []; is = let e : known ≡ v = cc in sym e ∙ sym (append-nil known); denotes = nothing };
     in_run = λ p known run v i h.
-      let e : value_end s (at_run p known run) ≡ run_end s (at_run p known run) = ap (λ b. cond b (run_end s (at_run p known run)) (Ok known)) (runs_is_run i) in
-      run_at_end s refl known run v (run_begun i) (end_any s phases.Plain p known run ∙ (sym e ∙ h)) }
+        let e : value_end s (at_run p known run) ≡ run_end s (at_run p known run) = ap (λ b. cond b (run_end s (at_run p known run)) (Ok known)) (runs_is_run i) in
+        run_at_end s refl known run v (run_begun i) (end_any s phases.Plain p known run ∙ (sym e ∙ h));
+  }
 
   module _ (c : ℕ) (text : Chars) (ih : Both text) where
     plain_on : (known v : Chars) → end_of s (value_on s means (Ok (known_as known)) (c ∷ text)) ≡ Ok v → Denoted known (c ∷ text) v
@@ -62,9 +63,9 @@ module _ (s : Syntax) (means : Chars → Option ℕ) where
         split P (c == ampersand) _ _
         (λ e g. of_one (λ x. Denoted known (x ∷ text) v) c ampersand e (ih.in_run phases.Ampersand known [] v at_ampersand g))
         (λ _. split P (is_plain s c) _ _
-            (λ e g. let d = ih.plain (known ++ value_char s c ∷ []) v g in
-              record { value = value_char s c ∷ d.value; is = d.is ∙ append_assoc known (value_char s c ∷ []) d.value; denotes = character c e d.denotes })
-            (λ _ g. failed StrictText text v _ g)) h
+        (λ e g. let d = ih.plain (known ++ value_char s c ∷ []) v g in
+        record { value = value_char s c ∷ d.value; is = d.is ∙ append_assoc known (value_char s c ∷ []) d.value; denotes = character c e d.denotes })
+        (λ _ g. failed StrictText text v _ g)) h
 
     closed : (p : RunPhase) (known run v : Chars) (o : Option ℕ) → is_body run ≡ true → c ≡ semicolon → means run ≡ o → end_of s (value_on s means (meant (at_run p known run) o) text) ≡ Ok v → Denoted known (ampersand ∷ (run ++ c ∷ text)) v
     closed p known run v (Some x) b e m h =
@@ -89,8 +90,9 @@ module _ (s : Syntax) (means : Chars → Option ℕ) where
     one_more = record {
       plain = plain_on;
       in_run = λ p known run v i h.
-        let e : value_step s means (at_run p known run) c ≡ run_step s means (at_run p known run) c (run_move p c) = ap (λ b. cond b (run_step s means (at_run p known run) c (run_move p c)) (plain_step s known c)) (runs_is_run i) in
-        by_move p known run v (run_move p c) i refl (ap (λ x. end_of s (value_on s means x text)) (sym e) ∙ h) }
+          let e : value_step s means (at_run p known run) c ≡ run_step s means (at_run p known run) c (run_move p c) = ap (λ b. cond b (run_step s means (at_run p known run) c (run_move p c)) (plain_step s known c)) (runs_is_run i) in
+          by_move p known run v (run_move p c) i refl (ap (λ x. end_of s (value_on s means x text)) (sym e) ∙ h);
+    }
 
   pub both_sound : (text : Chars) → Both text
   both_sound [] = at_nothing

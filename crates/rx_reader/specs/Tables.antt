@@ -1,6 +1,6 @@
 -- What each character does in a tag, and in a run that may become a reference.
-use Rattle.std.specs.Prelude.{ℕ, Bool, true, false, not, ◌||◌, ◌&&◌, ◌==◌, Option, Some, None, if◌then◌else◌}
-use Rattle.rx_terms.specs.Ascii.{quotation_mark, number_sign, apostrophe, solidus, semicolon, less_than_sign, equals_sign, greater_than_sign, is_letter, is_digit, is_letter_or_digit, is_white_space}
+use Rattle.std.specs.Prelude.{ℕ, Bool, true, false, ◌==◌, Option, Some, None, if◌then◌else◌}
+use Rattle.rx_terms.specs.Ascii.{quotation_mark, number_sign, apostrophe, solidus, semicolon, equals_sign, greater_than_sign, is_letter, is_digit, is_letter_or_digit, is_white_space}
 use Rattle.rx_chars.specs.declared.syntax.Syntax.{Syntax}
 use Rattle.rx_chars.specs.declared.syntax.Syntax.TheVariants.{Html, Xhtml}
 use Rattle.rx_grammar.specs.References.{is_hexadecimal_digit, is_x}
@@ -55,8 +55,8 @@ abbrev pub after_key : Syntax → ℕ → Move
 after_key syntax c =
     if is_white_space c then go phase.AfterKey action.Skip else if c == equals_sign then go phase.BeforeValue action.Skip
     else only_in_html syntax
-        (if c == solidus then go phase.Solidus action.Add else if c == greater_than_sign then go phase.Opened action.Add
-        else if begins_attribute syntax c then go phase.Key action.AddKey else None)
+    (if c == solidus then go phase.Solidus action.Add else if c == greater_than_sign then go phase.Opened action.Add
+    else if begins_attribute syntax c then go phase.Key action.AddKey else None)
 
 abbrev pub before_value : Syntax → ℕ → Move
 before_value syntax c =
