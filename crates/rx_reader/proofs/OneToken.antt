@@ -378,3 +378,270 @@ module _ (s : Syntax) (i : Content) where
   question_core x y z (q_bogus h f) (q_instruction h' g) e = absurd (not_both s h h')
   question_core x y z (q_instruction h f) (q_bogus h' g) e = absurd (not_both s h' h)
   question_core x y z (q_instruction h f) (q_instruction h' g) e = one_first (ends_with (codes "?>")) x z f.whole (first_as _ y (x ++ z) e g)
+
+-- tags
+pub record TagFirst (s : Syntax) (text : Chars) : Type 0 where
+  pub c : ℕ
+  pub rest : Chars
+  pub is : text ≡ c ∷ rest
+  pub test : (begins_tag s c || c == solidus) ≡ true
+
+or_left' : (a b : Bool) → a ≡ true → (a || b) ≡ true
+or_left' true b h = refl
+or_left' false b h = absurd (cc)
+
+tag_first : (s : Syntax) (text : Chars) (w : Tag) → Shape s text w → TagFirst s text
+tag_first s text w (a_start [] rest n b k) = absurd (cc)
+tag_first s text w (a_start (c ∷ name) rest n b k) = record { c = c; rest = name ++ rest; is = refl; test = or_left' (begins_tag s c) _ (both (begins_tag s c) _ n).0 }
+tag_first s text w (an_end name spaces n b) = record { c = 47; rest = name ++ (spaces ++ 62 ∷ []); is = refl; test = or_right (begins_tag s 47) true refl }
+
+no_bang : (s : Syntax) → (begins_tag s 33 || 33 == solidus) ≡ false
+no_bang Html = refl
+no_bang Xhtml = refl
+
+no_question : (s : Syntax) → (begins_tag s 63 || 63 == solidus) ≡ false
+no_question Html = refl
+no_question Xhtml = refl
+
+tag_not : (s : Syntax) (text rest : Chars) (t : Tag) (d : ℕ) → (begins_tag s d || d == solidus) ≡ false → SpellsTag s text t → text ≡ d ∷ rest → ⊥
+tag_not s text rest t d n sp e =
+    let f = tag_first s text sp.reads.written sp.reads.shape in
+    let q : f.c ≡ d = let r : f.c ∷ f.rest ≡ d ∷ rest = sym f.is ∙ e in cc in
+    not_both_ways (begins_tag s d || d == solidus) (subst (λ (x : ℕ). (begins_tag s x || x == solidus) ≡ true) q f.test) n
+
+tag_then : (s : Syntax) (text z rest : Chars) (t : Tag) (d : ℕ) → (begins_tag s d || d == solidus) ≡ false → SpellsTag s text t → d ∷ rest ≡ text ++ z → ⊥
+tag_then s [] z rest t d n sp e = let f = tag_first s [] sp.reads.written sp.reads.shape in let q = f.is in cc
+tag_then s (c ∷ text) z rest t d n sp e = let q : c ≡ d = cc in tag_not s (c ∷ text) text t d n sp (ap (λ x. x ∷ text) q)
+
+markup_begins : (s : Syntax) → s ≡ Html → (c : ℕ) → (begins_tag s c || c == solidus) ≡ true → not (begins_markup c) ≡ false
+markup_begins Html z c h = elim (either (is_letter c) (c == solidus) h) [ inl e ↦ rw e refl | inr e ↦ of_one (λ x. not (begins_markup x) ≡ false) c solidus e refl ]
+markup_begins Xhtml z c h = absurd (cc)
+
+no_raw : (i : Content) (name : Chars) → raw_name i ≡ Some name → has_markup i ≡ true → ⊥
+no_raw content.Outside name h k = cc
+no_raw content.Html name h k = cc
+no_raw content.Foreign name h k = cc
+no_raw content.Strict name h k = cc
+no_raw (content.Raw r) name h k = cc
+no_raw (content.Rcdata r) name h k = cc
+
+-- raw elements
+low_name : (r : RawName) → lowered (name_of_raw r) ≡ name_of_raw r
+low_name raw.Script = refl
+low_name raw.Style = refl
+low_name raw.Iframe = refl
+low_name raw.Noembed = refl
+low_name raw.Noframes = refl
+low_name raw.Xmp = refl
+low_name raw.Title = refl
+low_name raw.Textarea = refl
+
+low_raw : (i : Content) (name : Chars) → raw_name i ≡ Some name → lowered name ≡ name
+low_raw content.Outside name h = absurd (cc)
+low_raw content.Html name h = absurd (cc)
+low_raw content.Foreign name h = absurd (cc)
+low_raw content.Strict name h = absurd (cc)
+low_raw (content.Raw r) name h = let q : name_of_raw r ≡ name = cc in sym (ap lowered q) ∙ (low_name r ∙ q)
+low_raw (content.Rcdata r) name h = let q : name_of_raw r ≡ name = cc in sym (ap lowered q) ∙ (low_name r ∙ q)
+
+kept_case : (w : Chars) → cased Xhtml w ≡ w
+kept_case [] = refl
+kept_case (c ∷ w) = ap (λ x. c ∷ x) (kept_case w)
+
+lowered_is : (s : Syntax) (w name : Chars) → name ≡ cased s w → lowered name ≡ name → lowered w ≡ name
+lowered_is Html w name e l = sym e
+lowered_is Xhtml w name e l = ap lowered (sym (kept_case w) ∙ sym e) ∙ l
+
+-- the spelling of a raw element's end tag
+pub record RawEnd (name y : Chars) : Type 0 where
+  pub w : Chars
+  pub spaces : Chars
+  pub is : y ≡ (47 ∷ w) ++ (spaces ++ 62 ∷ [])
+  pub named : lowered w ≡ name
+  pub white : list_all is_white_space spaces ≡ true
+
+raw_shape : (s : Syntax) (name y : Chars) (t : Tag) → Shape s y t → t.closing ≡ true → name ≡ cased s t.name → lowered name ≡ name → RawEnd name y
+raw_shape s name y t (a_start n rest a b k) c e l = absurd (cc)
+raw_shape s name y t (an_end n spaces a b) c e l = record { w = n; spaces = spaces; is = refl; named = lowered_is s n name e l; white = b }
+
+raw_end : (s : Syntax) (i : Content) (name y : Chars) (t : Tag) → raw_name i ≡ Some name → SpellsTag s y t → t.closing ≡ true → t.name ≡ name → RawEnd name y
+raw_end s i name y t r sp c n =
+    raw_shape s name y sp.reads.written sp.reads.shape (sym sp.reads.closing ∙ (sym (ap (λ (x : Tag). x.closing) sp.is_tag) ∙ c)) (sym n ∙ (ap (λ (x : Tag). x.name) sp.is_tag ∙ sp.reads.name)) (low_raw i name r)
+
+begins_self : (p q : Chars) → begins_with (p ++ q) p ≡ true → q ≡ []
+begins_self [] [] h = refl
+begins_self [] (c ∷ q) h = absurd (cc)
+begins_self (c ∷ p) q h = begins_self p q (both (c == c) _ h).1
+
+nonempty : (spaces : Chars) → lowered (spaces ++ 62 ∷ []) ≡ [] → ⊥
+nonempty [] e = cc
+nonempty (c ∷ spaces) e = cc
+
+-- a whole end tag isn't the front of one
+not_front : (name y z : Chars) → RawEnd name y → begins_end name (y ++ z) ≡ true → ⊥
+not_front name y z r h =
+    let e : lowered (y ++ z) ≡ (47 ∷ name) ++ (lowered (r.spaces ++ 62 ∷ []) ++ lowered z) =
+        map-append lowered_char y z ∙ (ap (λ u. lowered u ++ lowered z) r.is
+        ∙ (ap (λ u. u ++ lowered z) (map-append lowered_char (47 ∷ r.w) (r.spaces ++ 62 ∷ []))
+        ∙ (ap (λ u. ((47 ∷ u) ++ lowered (r.spaces ++ 62 ∷ [])) ++ lowered z) r.named ∙ append_assoc (47 ∷ name) (lowered (r.spaces ++ 62 ∷ [])) (lowered z)))) in
+    let n : lowered (r.spaces ++ 62 ∷ []) ++ lowered z ≡ [] = begins_self (47 ∷ name) _ (subst (λ (u : Chars). begins_with u (solidus ∷ name) ≡ true) e h) in
+    nonempty r.spaces (by_left (lowered (r.spaces ++ 62 ∷ [])) (lowered z) n)
+  where
+    by_left : (u v : Chars) → u ++ v ≡ [] → u ≡ []
+    by_left [] v e = refl
+    by_left (c ∷ u) v e = absurd (cc)
+
+same_self : (x : Chars) → same x x ≡ true
+same_self [] = refl
+same_self (c ∷ x) = rw (equal c, same_self x) refl
+
+nothing_lowered : (u : Chars) → lowered u ≡ [] → u ≡ []
+nothing_lowered [] e = refl
+nothing_lowered (c ∷ u) e = absurd (cc)
+
+and_both : (a b : Bool) → a ≡ true → b ≡ true → (a && b) ≡ true
+and_both true b h k = k
+and_both false b h k = absurd (cc)
+
+raw_run_more : (name x y : Chars) (d : ℕ) (w : Chars) → stops_end name x d ≡ true → begins_end name y ≡ true → y ≡ x ++ d ∷ w → ⊥
+raw_run_more name x y d w h k e =
+    let b = both (not (begins_end name (x ++ d ∷ []))) _ h in
+    let q : lowered y ≡ lowered (x ++ d ∷ []) ++ lowered w = ap lowered (e ∙ sym (append_assoc x (d ∷ []) w)) ∙ map-append lowered_char (x ++ d ∷ []) w in
+    not_both_ways (begins_end name (x ++ d ∷ [])) (begins_front (lowered (x ++ d ∷ [])) (lowered w) (solidus ∷ name) (subst (λ (u : Chars). begins_with u (solidus ∷ name) ≡ true) q k)) (untrue (begins_end name (x ++ d ∷ [])) b.0)
+
+-- a run that stops before a character doesn't become an end tag with it
+module _ (name x : Chars) (d : ℕ) (z : Chars) (r : RawEnd name (x ++ d ∷ z)) where
+  low : lowered (47 ∷ r.w) ≡ 47 ∷ name
+  low = ap (λ u. 47 ∷ u) r.named
+
+  first_ends : (spaces : Chars) → list_all is_white_space spaces ≡ true → d ∷ z ≡ spaces ++ 62 ∷ [] → ends_name d ≡ true
+  first_ends [] w e = let q : d ≡ 62 = cc in subst (λ (x : ℕ). ends_name x ≡ true) (sym q) refl
+  first_ends (c ∷ spaces) w e = let q : d ≡ c = cc in subst (λ (x : ℕ). ends_name x ≡ true) (sym q) (rw (both (is_white_space c) _ w).0 refl)
+
+  whole : x ≡ 47 ∷ r.w → d ∷ z ≡ r.spaces ++ 62 ∷ [] → (same (lowered x) (solidus ∷ name) && ends_name d) ≡ true
+  whole e q = and_both (same (lowered x) (solidus ∷ name)) (ends_name d) (subst (λ (y : Chars). same y (solidus ∷ name) ≡ true) (sym (ap lowered e ∙ low)) (same_self (47 ∷ name))) (first_ends r.spaces r.white q)
+
+  by_more : (u : Chars) → begins_end name (x ++ d ∷ []) ≡ false → (same (lowered x) (solidus ∷ name) && ends_name d) ≡ false → 47 ∷ r.w ≡ x ++ u → d ∷ z ≡ u ++ (r.spaces ++ 62 ∷ []) → ⊥
+  by_more [] n1 n2 e q = not_both_ways (same (lowered x) (solidus ∷ name) && ends_name d) (whole (sym (e ∙ append-nil x)) q) n2
+  by_more (c ∷ u) n1 n2 e q =
+      let m : d ≡ c = cc in
+      let w : 47 ∷ name ≡ lowered (x ++ d ∷ []) ++ lowered u = sym low ∙ (ap lowered (e ∙ (ap (λ y. x ++ y ∷ u) (sym m) ∙ sym (append_assoc x (d ∷ []) u))) ∙ map-append lowered_char (x ++ d ∷ []) u) in
+      not_both_ways (begins_end name (x ++ d ∷ [])) (subst (λ (y : Chars). begins_with (lowered (x ++ d ∷ [])) y ≡ true) (sym w) (begins_append (lowered (x ++ d ∷ [])) (lowered u))) n1
+
+  by_less : (u : Chars) → begins_end name x ≡ true → (same (lowered x) (solidus ∷ name) && ends_name d) ≡ false → x ≡ (47 ∷ r.w) ++ u → r.spaces ++ 62 ∷ [] ≡ u ++ (d ∷ z) → ⊥
+  by_less u h n2 e q =
+      let w : lowered x ≡ (47 ∷ name) ++ lowered u = ap lowered e ∙ (map-append lowered_char (47 ∷ r.w) u ∙ ap (λ y. y ++ lowered u) low) in
+      let n : lowered u ≡ [] = begins_self (47 ∷ name) (lowered u) (subst (λ (y : Chars). begins_with y (solidus ∷ name) ≡ true) w h) in
+      let m : u ≡ [] = nothing_lowered u n in
+      not_both_ways (same (lowered x) (solidus ∷ name) && ends_name d) (whole (e ∙ no_text (47 ∷ r.w) u m) (sym (q ∙ ap (λ y. y ++ d ∷ z) m))) n2
+
+  run_not_end : begins_end name x ≡ true → stops_end name x d ≡ true → ⊥
+  run_not_end h k =
+      let b = both (not (begins_end name (x ++ d ∷ []))) _ k in
+      let n1 : begins_end name (x ++ d ∷ []) ≡ false = untrue (begins_end name (x ++ d ∷ [])) b.0 in
+      let n2 : (same (lowered x) (solidus ∷ name) && ends_name d) ≡ false = untrue (same (lowered x) (solidus ∷ name) && ends_name d) b.1 in
+      elim (two_fronts x (47 ∷ r.w) (d ∷ z) (r.spaces ++ 62 ∷ []) r.is) [
+        inl f ↦ by_more f.z n1 n2 f.is f.rest
+      | inr f ↦ by_less f.z h n2 f.is f.rest ]
+
+same_name : (i : Content) (a b : Chars) → raw_name i ≡ Some a → raw_name i ≡ Some b → a ≡ b
+same_name i a b h k = let q : Some a ≡ Some b = sym h ∙ k in cc
+
+module _ (s : Syntax) (i : Content) where
+  tags_core : (x y z : Chars) (t u : Tag) (a b : Token) → SpellsTag s x t → SpellsTag s y u → a ≡ tag t → b ≡ tag u → y ≡ x ++ z → Same z a b
+  tags_core x y z t u a b h k ea eb e =
+      let k2 : SpellsTag s (x ++ z) u = subst (λ (w : Chars). SpellsTag s w u) e k in
+      let n : z ≡ [] = one_front s x z t u h k2 in
+      (n, ea ∙ (ap tag (one s x t u h (subst (λ (w : Chars). SpellsTag s w u) (no_text x z n) k2)) ∙ sym eb))
+
+  less_core : (x y z n : Chars) (m : Option ℕ) (a b : Token) → Less s i x (next_of (z ++ n) None) a → Less s i y m b → y ≡ x ++ z → Same z a b
+  less_core x y z n m a b (l_tag t h k ea) (l_tag u h' k' eb) e = tags_core x y z t u a b k k' ea eb e
+  less_core x y z n m a b (l_tag t h k ea) (l_alone q h' ty k' eb) e = let f = tag_first s x k.reads.written k.reads.shape in absurd (let g : [] ≡ f.c ∷ (f.rest ++ z) = sym ty ∙ (e ∙ ap (λ w. w ++ z) f.is) in cc)
+  less_core x y z n m a b (l_tag t h k ea) (l_bang v h' ty k') e = absurd (tag_then s x z v t 33 (no_bang s) k (sym ty ∙ e))
+  less_core x y z n m a b (l_tag t h k ea) (l_question v h' ty k' eb) e = absurd (tag_then s x z v t 63 (no_question s) k (sym ty ∙ e))
+  less_core x y z n m a b (l_tag t h k ea) (l_raw_end name u r k' c nn eb) e = absurd (no_raw i name r h)
+  less_core x y z n m a b (l_tag t h k ea) (l_raw_run name r k' nn eb) e = absurd (no_raw i name r h)
+  less_core x y z n m a b (l_alone q h tx k ea) (l_tag u h' k' eb) e =
+      let f = tag_first s y k'.reads.written k'.reads.shape in
+      absurd (not_both_ways (not (begins_markup f.c)) (before_head (λ c. not (begins_markup c)) z n f.c f.rest (sym (e ∙ ap (λ w. w ++ z) tx) ∙ f.is) k) (markup_begins s q f.c f.test))
+  less_core x y z n m a b (l_alone q h tx k ea) (l_alone q' h' ty k' eb) e = (sym (sym ty ∙ (e ∙ ap (λ w. w ++ z) tx)), ea ∙ sym eb)
+  less_core x y z n m a b (l_alone q h tx k ea) (l_bang v h' ty k') e = absurd (let g = before_head (λ c. not (begins_markup c)) z n 33 v (sym (e ∙ ap (λ w. w ++ z) tx) ∙ ty) k in cc)
+  less_core x y z n m a b (l_alone q h tx k ea) (l_question v h' ty k' eb) e = absurd (let g = before_head (λ c. not (begins_markup c)) z n 63 v (sym (e ∙ ap (λ w. w ++ z) tx) ∙ ty) k in cc)
+  less_core x y z n m a b (l_alone q h tx k ea) (l_raw_end name u r k' c nn eb) e = absurd (no_raw i name r h)
+  less_core x y z n m a b (l_alone q h tx k ea) (l_raw_run name r k' nn eb) e = absurd (no_raw i name r h)
+  less_core x y z n m a b (l_bang v h tx k) (l_tag u h' k' eb) e = absurd (tag_not s y (v ++ z) u 33 (no_bang s) k' (e ∙ ap (λ w. w ++ z) tx))
+  less_core x y z n m a b (l_bang v h tx k) (l_alone q h' ty k' eb) e = absurd (let g : [] ≡ 33 ∷ (v ++ z) = sym ty ∙ (e ∙ ap (λ w. w ++ z) tx) in cc)
+  less_core x y z n m a b (l_bang v h tx k) (l_bang w h' ty k') e = bang_core s i v w z a b k k' (let g : 33 ∷ w ≡ 33 ∷ (v ++ z) = sym ty ∙ (e ∙ ap (λ u. u ++ z) tx) in cc)
+  less_core x y z n m a b (l_bang v h tx k) (l_question w h' ty k' eb) e = absurd (clash 63 33 _ _ refl (sym ty ∙ (e ∙ ap (λ u. u ++ z) tx)))
+  less_core x y z n m a b (l_bang v h tx k) (l_raw_end name u r k' c nn eb) e = absurd (no_raw i name r h)
+  less_core x y z n m a b (l_bang v h tx k) (l_raw_run name r k' nn eb) e = absurd (no_raw i name r h)
+  less_core x y z n m a b (l_question v h tx k ea) (l_tag u h' k' eb) e = absurd (tag_not s y (v ++ z) u 63 (no_question s) k' (e ∙ ap (λ w. w ++ z) tx))
+  less_core x y z n m a b (l_question v h tx k ea) (l_alone q h' ty k' eb) e = absurd (let g : [] ≡ 63 ∷ (v ++ z) = sym ty ∙ (e ∙ ap (λ w. w ++ z) tx) in cc)
+  less_core x y z n m a b (l_question v h tx k ea) (l_bang w h' ty k') e = absurd (clash 33 63 _ _ refl (sym ty ∙ (e ∙ ap (λ u. u ++ z) tx)))
+  less_core x y z n m a b (l_question v h tx k ea) (l_question w h' ty k' eb) e = (question_core s i v w z k k' (let g : 63 ∷ w ≡ 63 ∷ (v ++ z) = sym ty ∙ (e ∙ ap (λ u. u ++ z) tx) in cc), ea ∙ sym eb)
+  less_core x y z n m a b (l_question v h tx k ea) (l_raw_end name u r k' c nn eb) e = absurd (no_raw i name r h)
+  less_core x y z n m a b (l_question v h tx k ea) (l_raw_run name r k' nn eb) e = absurd (no_raw i name r h)
+  less_core x y z n m a b (l_raw_end name t r k c nn ea) (l_tag u h' k' eb) e = absurd (no_raw i name r h')
+  less_core x y z n m a b (l_raw_end name t r k c nn ea) (l_alone q h' ty k' eb) e = absurd (no_raw i name r h')
+  less_core x y z n m a b (l_raw_end name t r k c nn ea) (l_bang w h' ty k') e = absurd (no_raw i name r h')
+  less_core x y z n m a b (l_raw_end name t r k c nn ea) (l_question w h' ty k' eb) e = absurd (no_raw i name r h')
+  less_core x y z n m a b (l_raw_end name t r k c nn ea) (l_raw_end other u r' k' c' nn' eb) e = tags_core x y z t u a b k k' ea eb e
+  less_core x y z n m a b (l_raw_end name t r k c nn ea) (l_raw_run other r' k' nn' eb) e =
+      absurd (not_front name x z (raw_end s i name x t r k c nn) (subst (λ (w : Chars). begins_end name w ≡ true) e (subst (λ (w : Chars). begins_end w y ≡ true) (same_name i other name r' r) k')))
+  less_core x y z n m a b (l_raw_run name r k nn ea) (l_tag u h' k' eb) e = absurd (no_raw i name r h')
+  less_core x y z n m a b (l_raw_run name r k nn ea) (l_alone q h' ty k' eb) e = absurd (no_raw i name r h')
+  less_core x y z n m a b (l_raw_run name r k nn ea) (l_bang w h' ty k') e = absurd (no_raw i name r h')
+  less_core x y z n m a b (l_raw_run name r k nn ea) (l_question w h' ty k' eb) e = absurd (no_raw i name r h')
+  less_core x y z n m a b (l_raw_run name r k nn ea) (l_raw_end other u r' k' c' nn' eb) e =
+      let f : RawEnd name y = raw_end s i name y u r k' c' (nn' ∙ same_name i other name r' r) in
+      elim (ends z) [
+        here q ↦ absurd (not_front name y [] f (subst (λ (w : Chars). begins_end name w ≡ true) (sym (append-nil y ∙ (e ∙ no_text x z q))) k))
+      | goes d w q ↦ absurd (run_not_end name x d w (subst (λ (v : Chars). RawEnd name v) (e ∙ ap (λ v. x ++ v) q) f) k (before_head (stops_end name x) z n d w q nn)) ]
+  less_core x y z n m a b (l_raw_run name r k nn ea) (l_raw_run other r' k' nn' eb) e =
+      elim (ends z) [
+        here q ↦ (q, ea ∙ (ap (λ w. kept (less_than_sign ∷ w)) (sym (no_text x z q) ∙ sym e) ∙ sym eb))
+      | goes d w q ↦ absurd (raw_run_more name x y d w (before_head (stops_end name x) z n d w q nn) (subst (λ (v : Chars). begins_end v y ≡ true) (same_name i other name r' r) k') (e ∙ ap (λ v. x ++ v) q)) ]
+
+-- text
+less_no_text : (i : Content) → is_text i 60 ≡ false
+less_no_text content.Outside = refl
+less_no_text content.Html = refl
+less_no_text content.Foreign = refl
+less_no_text content.Strict = refl
+less_no_text (content.Raw n) = refl
+less_no_text (content.Rcdata n) = refl
+
+amp_no_text : (i : Content) → has_references i ≡ true → is_text i 38 ≡ false
+amp_no_text content.Outside h = refl
+amp_no_text content.Html h = refl
+amp_no_text content.Foreign h = refl
+amp_no_text content.Strict h = refl
+amp_no_text (content.Raw n) h = absurd (cc)
+amp_no_text (content.Rcdata n) h = refl
+
+text_not : (i : Content) (c d : ℕ) (u v : Chars) → is_text i c ≡ true → is_text i d ≡ false → c ∷ u ≡ d ∷ v → ⊥
+text_not i c d u v h k e = let q : c ≡ d = cc in not_both_ways (is_text i d) (subst (λ (x : ℕ). is_text i x ≡ true) q h) k
+
+module _ (s : Syntax) (i : Content) where
+  core : (x y z n : Chars) (m : Option ℕ) (a b : Token) → View s i x (next_of (z ++ n) None) a → View s i y m b → y ≡ x ++ z → Same z a b
+  core x y z n m a b (v_text c tx h ea) (v_text d ty k eb) e =
+      let q : d ∷ [] ≡ c ∷ z = sym ty ∙ (e ∙ ap (λ w. w ++ z) tx) in
+      (cc, ea ∙ (ap character (cc) ∙ sym eb))
+  core x y z n m a b (v_text c tx h ea) (v_amp t ty k v) e = absurd (text_not i c 38 z t h (amp_no_text i k) (sym (sym ty ∙ (e ∙ ap (λ w. w ++ z) tx))))
+  core x y z n m a b (v_text c tx h ea) (v_less t ty v) e = absurd (text_not i c 60 z t h (less_no_text i) (sym (sym ty ∙ (e ∙ ap (λ w. w ++ z) tx))))
+  core x y z n m a b (v_amp t tx h v) (v_text d ty k eb) e = absurd (text_not i d 38 [] (t ++ z) k (amp_no_text i h) (sym ty ∙ (e ∙ ap (λ w. w ++ z) tx)))
+  core x y z n m a b (v_amp t tx h v) (v_amp u ty k w) e = amp_core s i t u z n m a b v w (let q : 38 ∷ u ≡ 38 ∷ (t ++ z) = sym ty ∙ (e ∙ ap (λ w. w ++ z) tx) in cc)
+  core x y z n m a b (v_amp t tx h v) (v_less u ty w) e = absurd (clash 60 38 _ _ refl (sym ty ∙ (e ∙ ap (λ w. w ++ z) tx)))
+  core x y z n m a b (v_less t tx v) (v_text d ty k eb) e = absurd (text_not i d 60 [] (t ++ z) k (less_no_text i) (sym ty ∙ (e ∙ ap (λ w. w ++ z) tx)))
+  core x y z n m a b (v_less t tx v) (v_amp u ty k w) e = absurd (clash 38 60 _ _ refl (sym ty ∙ (e ∙ ap (λ w. w ++ z) tx)))
+  core x y z n m a b (v_less t tx v) (v_less u ty w) e = less_core s i t u z n m a b v w (let q : 60 ∷ u ≡ 60 ∷ (t ++ z) = sym ty ∙ (e ∙ ap (λ w. w ++ z) tx) in cc)
+
+  longer : (x y m n : Chars) (a b : Token) → Longer x y m n → Spells s i x (next_of m None) a → Spells s i y (next_of n None) b → IsSameToken x y a b
+  longer x y m n a b f h k =
+      let c = core x y f.z n (next_of n None) a b (view s i (subst (λ (w : Chars). Spells s i x (next_of w None) a) f.rest h)) (view s i k) f.is in
+      record { front_is = sym (f.is ∙ no_text x f.z c.0); token_is = c.1 }
+
+pub one_token : OneToken
+one_token s i x m y n a b e h k = elim (two_fronts x y m n e) [
+    inl f ↦ longer s i x y m n a b f h k
+  | inr f ↦ let c = longer s i y x n m b a f k h in record { front_is = sym c.front_is; token_is = sym c.token_is } ]
