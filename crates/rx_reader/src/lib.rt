@@ -5,6 +5,7 @@
 #![tactic(auto)]
 
 ghost use Rattle.rx_reader.specs.Laws.{ReadsEachTag, SpellsEachTag, OneTag, OneTagFront, ReadsEachValue, DenotesEachValue};
+ghost use Rattle.rx_grammar.specs.Laws.{OneToken};
 
 mod phases;
 
@@ -38,4 +39,9 @@ pub fn reads_each_value()
 /// What is read of a value is what its characters denote.
 pub fn denotes_each_value()
     ensures { DenotesEachValue }
+{}
+
+/// In one syntax and content at most one front of a list of characters spells a token, and it spells one token only.
+pub fn one_token()
+    ensures { OneToken }
 {}
