@@ -15,3 +15,4 @@ pub mod TagSound
 pub mod TagLaws
 pub mod Fronts
 pub mod OneToken
+pub mod Automaton
