@@ -164,3 +164,234 @@ module _ (s : Syntax) where
   pub to_cut : (text : Chars) → ToCut text
   to_cut [] p key value i w = let e : p ≡ w.q = let r = w.reads in cc in last_cut p key value i (ap is_last e ∙ w.whole)
   to_cut (c ∷ text) p key value i w = to_move text (to_cut text) p key value c (move_of s p c) (stays s p c i) refl (record { q = w.q; reads = w.reads; whole = w.whole })
+
+  -- the name of a start tag
+  pub after_name : (text : Chars) → begins ends_name text ≡ true → phases_on s (Some phase.Name) text ≡ phases_on s (Some phase.AfterValue) text
+  after_name [] h = absurd (cc)
+  after_name (c ∷ text) h =
+      let P : ℕ → Type 0 = λ x. phases_on s (Some phase.Name) (x ∷ text) ≡ phases_on s (Some phase.AfterValue) (x ∷ text) in
+      elim (either (is_white_space c || c == solidus) _ h) [
+        inr e ↦ of_one P c greater_than_sign e refl
+      | inl e ↦ elim (either (is_white_space c) _ e) [ inr e ↦ of_one P c solidus e refl | inl e ↦ of_white P c e refl refl refl refl refl ] ]
+
+  name_goes : (c : ℕ) → is_tag_char s c ≡ true → phase_by (move_of s phase.Name c) ≡ Some phase.Name
+  name_goes c h = let n = tag_char_named s c h in rw (n.white, n.slash, n.greater, h) refl
+
+  end_goes : (c : ℕ) → is_tag_char s c ≡ true → phase_by (move_of s phase.EndName c) ≡ Some phase.EndName
+  end_goes c h = let n = tag_char_named s c h in rw (n.white, n.greater, h) refl
+
+  name_on : (more text : Chars) → list_all (is_tag_char s) more ≡ true → phases_on s (Some phase.Name) (more ++ text) ≡ phases_on s (Some phase.Name) text
+  name_on [] text h = refl
+  name_on (c ∷ more) text h = let b = both (is_tag_char s c) _ h in ap (λ o. phases_on s o (more ++ text)) (name_goes c b.0) ∙ name_on more text b.1
+
+  end_on : (more text : Chars) → list_all (is_tag_char s) more ≡ true → phases_on s (Some phase.EndName) (more ++ text) ≡ phases_on s (Some phase.EndName) text
+  end_on [] text h = refl
+  end_on (c ∷ more) text h = let b = both (is_tag_char s c) _ h in ap (λ o. phases_on s o (more ++ text)) (end_goes c b.0) ∙ end_on more text b.1
+
+  start_goes : (c : ℕ) → begins_tag s c ≡ true → phase_by (move_of s phase.Start c) ≡ Some phase.Name
+  start_goes c h = rw h refl
+
+  end_start_goes : (c : ℕ) → begins_tag s c ≡ true → phase_by (move_of s phase.EndStart c) ≡ Some phase.EndName
+  end_start_goes c h = rw h refl
+
+  white_goes : (c : ℕ) → is_white_space c ≡ true → phase_by (move_of s phase.EndName c) ≡ Some phase.EndGap
+  white_goes c h = rw h refl
+
+  gap_goes : (c : ℕ) → is_white_space c ≡ true → phase_by (move_of s phase.EndGap c) ≡ Some phase.EndGap
+  gap_goes c h = rw h refl
+
+  gap_on : (white : Chars) → list_all is_white_space white ≡ true → phases_on s (Some phase.EndGap) (white ++ greater_than_sign ∷ []) ≡ Some phase.Closed
+  gap_on [] h = refl
+  gap_on (c ∷ white) h = let b = both (is_white_space c) _ h in ap (λ o. phases_on s o (white ++ greater_than_sign ∷ [])) (gap_goes c b.0) ∙ gap_on white b.1
+
+  white_on : (white : Chars) → list_all is_white_space white ≡ true → phases_on s (Some phase.EndName) (white ++ greater_than_sign ∷ []) ≡ Some phase.Closed
+  white_on [] h = refl
+  white_on (c ∷ white) h = let b = both (is_white_space c) _ h in ap (λ o. phases_on s o (white ++ greater_than_sign ∷ [])) (white_goes c b.0) ∙ gap_on white b.1
+
+slash_goes : (s : Syntax) → phase_by (move_of s phase.Start solidus) ≡ Some phase.EndStart
+slash_goes Html = refl
+slash_goes Xhtml = refl
+
+-- each shape is read to its end
+pub shape_read : (s : Syntax) (text : Chars) (t : Tag) → Shape s text t → Whole s (Some phase.Start) text
+shape_read s text t (a_start [] rest n b k) = absurd (cc)
+shape_read s text t (a_start (c ∷ name) rest {attributes = x} {slash = y} n b k) =
+    let d = both (begins_tag s c) _ n in
+    let w = from_cut s rest phase.AfterValue [] [] (x, y) (complete s k) in
+    record { q = w.q; reads = ap (λ o. phases_on s o (name ++ rest)) (start_goes s c d.0) ∙ (name_on s name rest d.1 ∙ (after_name s rest b ∙ w.reads)); whole = w.whole }
+shape_read s text t (an_end [] spaces n b) = absurd (cc)
+shape_read s text t (an_end (c ∷ name) spaces n b) =
+    let d = both (begins_tag s c) _ n in
+    record { q = phase.Closed; reads = ap (λ o. phases_on s o ((c ∷ name) ++ (spaces ++ greater_than_sign ∷ []))) (slash_goes s) ∙ (ap (λ o. phases_on s o (name ++ (spaces ++ greater_than_sign ∷ []))) (end_start_goes s c d.0) ∙ (end_on s name (spaces ++ greater_than_sign ∷ []) d.1 ∙ white_on s spaces b)); whole = refl }
+
+-- what is read to an end is a shape
+pub record Shaped (s : Syntax) (text : Chars) : Type 0 where
+  pub tag : Tag
+  pub shape : Shape s text tag
+
+module _ (s : Syntax) where
+  pub record NameRest (text : Chars) : Type 0 where
+    pub more : Chars
+    pub rest : Chars
+    pub is : text ≡ more ++ rest
+    pub chars : list_all (is_tag_char s) more ≡ true
+    pub ends : begins ends_name rest ≡ true
+    pub reads : Whole s (Some phase.AfterValue) rest
+
+  not_last : (p : TagPhase) (G : Type 0) → is_last p ≡ false → Whole s (Some p) [] → G
+  not_last p G n w = absurd (not_both_ways (is_last p) (let e : p ≡ w.q = let r = w.reads in cc in ap is_last e ∙ w.whole) n)
+
+  name_here : (c : ℕ) (text : Chars) → ends_name c ≡ true → Whole s (Some phase.Name) (c ∷ text) → NameRest (c ∷ text)
+  name_here c text e w = record { more = []; rest = c ∷ text; is = refl; chars = refl; ends = e; reads = record { q = w.q; reads = sym (after_name s (c ∷ text) e) ∙ w.reads; whole = w.whole } }
+
+  name_rest : (text : Chars) → Whole s (Some phase.Name) text → NameRest text
+  name_rest [] w = not_last phase.Name _ refl w
+  name_rest (c ∷ text) w =
+      let P : Move → Type 0 = λ m. Whole s (phase_by m) text → NameRest (c ∷ text) in
+      split P (is_white_space c) _ _
+      (λ e g. name_here c text (rw e refl) w)
+      (λ _. split P (c == solidus) _ _
+          (λ e g. name_here c text (of_one (λ x. ends_name x ≡ true) c solidus e refl) w)
+          (λ _. split P (c == greater_than_sign) _ _
+              (λ e g. name_here c text (of_one (λ x. ends_name x ≡ true) c greater_than_sign e refl) w)
+              (λ _. split P (is_tag_char s c) _ _
+                  (λ e g. let d = name_rest text g in record { more = c ∷ d.more; rest = d.rest; is = ap (λ x. c ∷ x) d.is; chars = rw e d.chars; ends = d.ends; reads = d.reads })
+                  (λ _ g. nowhere s text _ g)))) (record { q = w.q; reads = w.reads; whole = w.whole })
+
+  pub record EndRest (text : Chars) : Type 0 where
+    pub more : Chars
+    pub spaces : Chars
+    pub is : text ≡ more ++ (spaces ++ greater_than_sign ∷ [])
+    pub chars : list_all (is_tag_char s) more ≡ true
+    pub white : list_all is_white_space spaces ≡ true
+
+  pub record GapRest (text : Chars) : Type 0 where
+    pub spaces : Chars
+    pub is : text ≡ spaces ++ greater_than_sign ∷ []
+    pub white : list_all is_white_space spaces ≡ true
+
+  closed_rest : (text : Chars) → Whole s (Some phase.Closed) text → [] ≡ text
+  closed_rest [] w = refl
+  closed_rest (c ∷ text) w = absurd (let e = phases_none s text in let h = w.reads in cc)
+
+  gap_end : (c : ℕ) (text : Chars) → (c == greater_than_sign) ≡ true → Whole s (Some phase.Closed) text → GapRest (c ∷ text)
+  gap_end c text e w = record { spaces = []; is = ap (λ x. x ∷ text) (eqb-true c greater_than_sign e) ∙ ap (λ x. greater_than_sign ∷ x) (sym (closed_rest text w)); white = refl }
+
+  gap_rest : (text : Chars) → Whole s (Some phase.EndGap) text → GapRest text
+  gap_rest [] w = not_last phase.EndGap _ refl w
+  gap_rest (c ∷ text) w =
+      let P : Move → Type 0 = λ m. Whole s (phase_by m) text → GapRest (c ∷ text) in
+      split P (is_white_space c) _ _
+      (λ e g. let d = gap_rest text g in record { spaces = c ∷ d.spaces; is = ap (λ x. c ∷ x) d.is; white = rw e d.white })
+      (λ _. split P (c == greater_than_sign) _ _ (λ e g. gap_end c text e g) (λ _ g. nowhere s text _ g)) (record { q = w.q; reads = w.reads; whole = w.whole })
+
+  end_rest : (text : Chars) → Whole s (Some phase.EndName) text → EndRest text
+  end_rest [] w = not_last phase.EndName _ refl w
+  end_rest (c ∷ text) w =
+      let P : Move → Type 0 = λ m. Whole s (phase_by m) text → EndRest (c ∷ text) in
+      split P (is_white_space c) _ _
+      (λ e g. let d = gap_rest text g in record { more = []; spaces = c ∷ d.spaces; is = ap (λ x. c ∷ x) d.is; chars = refl; white = rw e d.white })
+      (λ _. split P (c == greater_than_sign) _ _
+          (λ e g. let d = gap_end c text e g in record { more = []; spaces = d.spaces; is = d.is; chars = refl; white = d.white })
+          (λ _. split P (is_tag_char s c) _ _
+              (λ e g. let d = end_rest text g in record { more = c ∷ d.more; spaces = d.spaces; is = ap (λ x. c ∷ x) d.is; chars = rw e d.chars; white = d.white })
+              (λ _ g. nowhere s text _ g))) (record { q = w.q; reads = w.reads; whole = w.whole })
+
+  starts : (c : ℕ) (text : Chars) → begins_tag s c ≡ true → Whole s (Some phase.Name) text → Shaped s (c ∷ text)
+  starts c text e w =
+      let d = name_rest text w in
+      let k = to_cut s d.rest phase.AfterValue [] [] refl d.reads in
+      let t : Tag = record { closing = false; name = c ∷ d.more; attributes = k.r.0; slash = k.r.1 } in
+      record { tag = t; shape = subst (λ (x : Chars). Shape s (c ∷ x) t) (sym d.is) (a_start (c ∷ d.more) d.rest (rw e d.chars) d.ends (sound s d.rest phase.AfterValue [] [] [] k.r after_value' k.cut)) }
+
+  ends : (c : ℕ) (text : Chars) → begins_tag s c ≡ true → Whole s (Some phase.EndName) text → Shaped s (solidus ∷ c ∷ text)
+  ends c text e w =
+      let d = end_rest text w in
+      let t : Tag = record { closing = true; name = c ∷ d.more; attributes = []; slash = false } in
+      record { tag = t; shape = subst (λ (x : Chars). Shape s (solidus ∷ c ∷ x) t) (sym d.is) (an_end (c ∷ d.more) d.spaces (rw e d.chars) d.white) }
+
+  end_starts : (text : Chars) → Whole s (Some phase.EndStart) text → Shaped s (solidus ∷ text)
+  end_starts [] w = not_last phase.EndStart _ refl w
+  end_starts (c ∷ text) w = split (λ (m : Move). Whole s (phase_by m) text → Shaped s (solidus ∷ c ∷ text)) (begins_tag s c) _ _ (λ e g. ends c text e g) (λ _ g. nowhere s text _ g) (record { q = w.q; reads = w.reads; whole = w.whole })
+
+  pub shaped : (text : Chars) → Whole s (Some phase.Start) text → Shaped s text
+  shaped [] w = not_last phase.Start _ refl w
+  shaped (c ∷ text) w =
+      let P : Move → Type 0 = λ m. Whole s (phase_by m) text → Shaped s (c ∷ text) in
+      split P (begins_tag s c) _ _
+      (λ e g. starts c text e g)
+      (λ _. split P (c == solidus) _ _
+          (λ e g. of_one (λ x. Shaped s (x ∷ text)) c solidus e (end_starts text g))
+          (λ _ g. nowhere s text _ g)) (record { q = w.q; reads = w.reads; whole = w.whole })
+
+-- each phase but the last ones leads on to one
+pub record Leads (s : Syntax) (p : TagPhase) : Type 0 where
+  pub c : ℕ
+  pub rest : Chars
+  pub q : TagPhase
+  pub reads : phases_on s (Some p) (c ∷ rest) ≡ Some q
+  pub whole : is_last q ≡ true
+
+start_leads : (s : Syntax) → phases_on s (Some phase.Start) (97 ∷ 62 ∷ []) ≡ Some phase.Opened
+start_leads Html = refl
+start_leads Xhtml = refl
+
+end_leads : (s : Syntax) → phases_on s (Some phase.EndStart) (97 ∷ 62 ∷ []) ≡ Some phase.Closed
+end_leads Html = refl
+end_leads Xhtml = refl
+
+pub leads : (s : Syntax) (p : TagPhase) → is_last p ≡ false → Leads s p
+leads s phase.Start h = record { c = 97; rest = 62 ∷ []; q = phase.Opened; reads = start_leads s; whole = refl }
+leads s phase.Name h = record { c = 62; rest = []; q = phase.Opened; reads = refl; whole = refl }
+leads s phase.Gap h = record { c = 62; rest = []; q = phase.Opened; reads = refl; whole = refl }
+leads s phase.Solidus h = record { c = 62; rest = []; q = phase.Emptied; reads = refl; whole = refl }
+leads s phase.Key h = record { c = 61; rest = 34 ∷ 34 ∷ 62 ∷ []; q = phase.Opened; reads = refl; whole = refl }
+leads s phase.AfterKey h = record { c = 61; rest = 34 ∷ 34 ∷ 62 ∷ []; q = phase.Opened; reads = refl; whole = refl }
+leads s phase.BeforeValue h = record { c = 34; rest = 34 ∷ 62 ∷ []; q = phase.Opened; reads = refl; whole = refl }
+leads s phase.DoubleQuoted h = record { c = 34; rest = 62 ∷ []; q = phase.Opened; reads = refl; whole = refl }
+leads s phase.SingleQuoted h = record { c = 39; rest = 62 ∷ []; q = phase.Opened; reads = refl; whole = refl }
+leads s phase.Unquoted h = record { c = 62; rest = []; q = phase.Opened; reads = refl; whole = refl }
+leads s phase.AfterValue h = record { c = 62; rest = []; q = phase.Opened; reads = refl; whole = refl }
+leads s phase.EndStart h = record { c = 97; rest = 62 ∷ []; q = phase.Closed; reads = end_leads s; whole = refl }
+leads s phase.EndName h = record { c = 62; rest = []; q = phase.Closed; reads = refl; whole = refl }
+leads s phase.EndGap h = record { c = 62; rest = []; q = phase.Closed; reads = refl; whole = refl }
+leads s phase.Opened h = absurd (cc)
+leads s phase.Emptied h = absurd (cc)
+leads s phase.Closed h = absurd (cc)
+
+module _ (s : Syntax) (front : Chars) (p : TagPhase) (at : phases_on s (Some phase.Start) front ≡ Some p) where
+  -- they begin a tag
+  pub begins_shape : is_last p ≡ false → BeginsShape s front
+  begins_shape n =
+      let d = leads s p n in
+      let w = shaped s (front ++ d.c ∷ d.rest) (record { q = d.q; reads = phases-append s (Some phase.Start) front (d.c ∷ d.rest) ∙ (ap (λ o. phases_on s o (d.c ∷ d.rest)) at ∙ d.reads); whole = d.whole }) in
+      record { c = d.c; rest = d.rest; tag = w.tag; shape = w.shape }
+
+  after : (c : ℕ) (rest : Chars) → phases_on s (Some phase.Start) ((front ++ c ∷ []) ++ rest) ≡ phases_on s (phase_by (move_of s p c)) rest
+  after c rest = phases-append s (Some phase.Start) (front ++ c ∷ []) rest ∙ ap (λ o. phases_on s o rest) (phases-append s (Some phase.Start) front (c ∷ []) ∙ ap (λ o. phases_on s o (c ∷ [])) at)
+
+  -- a character that the table refuses begins none with them
+  pub begins_none : (c : ℕ) → move_of s p c ≡ None → BeginsNoShape s (front ++ c ∷ [])
+  begins_none c h rest t k =
+      let w = shape_read s ((front ++ c ∷ []) ++ rest) t k in
+      let e : phases_on s (Some phase.Start) ((front ++ c ∷ []) ++ rest) ≡ None = after c rest ∙ (ap (λ m. phases_on s (phase_by m) rest) h ∙ phases_none s rest) in
+      let g = w.reads in cc
+
+  refused : (c : ℕ) (m : Move) → move_of s p c ≡ m → BeginsNoShape s (front ++ c ∷ []) → m ≡ None
+  refused c None e h = refl
+  refused c (Some (q, a)) e h = absurd (by_last (is_last q) refl)
+    where
+      reached : phases_on s (Some phase.Start) (front ++ c ∷ []) ≡ Some q
+      reached = phases-append s (Some phase.Start) front (c ∷ []) ∙ (ap (λ o. phases_on s o (c ∷ [])) at ∙ ap phase_by e)
+      by_last : (b : Bool) → is_last q ≡ b → ⊥
+      by_last true w =
+          let d = shaped s ((front ++ c ∷ []) ++ []) (record { q = q; reads = after c [] ∙ ap phase_by e; whole = w }) in
+          h [] d.tag d.shape
+      by_last false n =
+          let d = leads s q n in
+          let w = shaped s ((front ++ c ∷ []) ++ d.c ∷ d.rest) (record { q = d.q; reads = after c (d.c ∷ d.rest) ∙ (ap (λ m. phases_on s (phase_by m) (d.c ∷ d.rest)) e ∙ d.reads); whole = d.whole }) in
+          h (d.c ∷ d.rest) w.tag w.shape
+
+  -- and the other way
+  pub none_begins : (c : ℕ) → BeginsNoShape s (front ++ c ∷ []) → move_of s p c ≡ None
+  none_begins c h = refused c (move_of s p c) refl h
