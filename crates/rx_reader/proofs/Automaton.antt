@@ -1,27 +1,26 @@
 -- Which tags go on with a character: the phases alone tell.
-use Rattle.std.proofs.Common.{◌≡◌, ◌≢◌, ◌↔◌, ℕ, Bool, true, false, cond, nat_eq, eqb-true, List, [], ◌∷◌, ◌++◌, map, Option, Some, None, Result, Ok, Err, refl, ap, sym, ◌∙◌, append_assoc, append-nil, inl, inr, ◌⊎◌, subst}
-use Rattle.std.specs.Prelude.{◌||◌, ◌&&◌, ◌==◌, not}
+use Rattle.std.proofs.Common.{◌≡◌, ℕ, Bool, true, false, eqb-true, [], ◌∷◌, ◌++◌, Option, Some, None, Result, Ok, Err, refl, ap, sym, ◌∙◌, inl, inr, subst}
+use Rattle.std.specs.Prelude.{◌||◌, ◌==◌}
 use Rattle.std.specs.List.{list_all}
 use Rattle.rx_terms.specs.Ascii.{is_white_space, solidus, greater_than_sign}
 use Rattle.rx_terms.specs.Text.{Chars}
 use Rattle.rx_chars.specs.declared.syntax.Syntax.{Syntax}
 use Rattle.rx_chars.specs.declared.syntax.Syntax.TheVariants.{Html, Xhtml}
 use Rattle.rx_grammar.specs.declared.faults.Kind.{Kind}
-use Rattle.rx_grammar.specs.Tokens.{Attribute, Tag}
-use Rattle.rx_grammar.specs.Shapes.{ends_name, begins, begins_tag, is_tag_char, is_tag_name, Attributes, Shape, a_start, an_end}
+use Rattle.rx_grammar.specs.Tokens.{Tag}
+use Rattle.rx_grammar.specs.Shapes.{ends_name, begins, begins_tag, is_tag_char, Shape, a_start, an_end}
 use Rattle.rx_grammar.specs.TagFaults.{BeginsShape, BeginsNoShape}
 use Rattle.rx_reader.specs.declared.phases.TagPhase.{TagPhase}
 use Rattle.rx_reader.specs.declared.phases.TagPhase.TheVariants as phase
-use Rattle.rx_reader.specs.declared.phases.TagAction.{TagAction}
 use Rattle.rx_reader.specs.declared.phases.TagAction.TheVariants as action
 use Rattle.rx_reader.specs.Tables.{Move, move_of, is_last}
-use Rattle.rx_reader.specs.Cuts.{Cut, with_first, cut_end, cut_by, cut_from}
-use Rattle.rx_reader.specs.Values.{Value, no_value_yet, value_step, value_end}
-use Rattle.rx_reader.specs.TagReader.{TagState, fresh, with_value, with_attribute, done_by, moved, tag_move, tag_move_on, moves_on}
+use Rattle.rx_reader.specs.Cuts.{with_first, cut_end, cut_by, cut_from}
+use Rattle.rx_reader.specs.Values.{Value, value_step, value_end}
+use Rattle.rx_reader.specs.TagReader.{TagState, with_value, with_attribute, moved, tag_move, moves_on}
 use Rattle.rx_reader.proofs.Bools.{both, either, split, not_both_ways}
-use Rattle.rx_reader.proofs.Classes.{of_white, of_one, Named, tag_char_named}
-use Rattle.rx_reader.proofs.Moves.{is_among, is_no_name, Stays, stays}
-use Rattle.rx_reader.proofs.Sound.{Result as Ended, Since, after_value', sound, Added, added}
+use Rattle.rx_reader.proofs.Classes.{of_white, of_one, tag_char_named}
+use Rattle.rx_reader.proofs.Moves.{is_among, Stays, stays}
+use Rattle.rx_reader.proofs.Sound.{Result as Ended, after_value', sound, added}
 use Rattle.rx_reader.proofs.Complete.{complete}
 use Rattle.rx_reader.proofs.TagSound.{no_way}
 
@@ -81,7 +80,7 @@ module _ (s : Syntax) (means : Chars → Option ℕ) where
   phase_kept st c (Some (p, action.AddKey)) st2 h = attribute_in p st st2 _ (value_end s st.value) h
 
   by_first : (text : Chars) (ih : (st last : TagState) → moves_on s means (Ok st) text ≡ Ok last → phases_on s (Some st.phase) text ≡ Some last.phase) (c : ℕ) (st last : TagState) → (o : Result TagState Kind) → tag_move s means st c ≡ o → moves_on s means o text ≡ Ok last
-    → phases_on s (phase_by (move_of s st.phase c)) text ≡ Some last.phase
+      → phases_on s (phase_by (move_of s st.phase c)) text ≡ Some last.phase
   by_first text ih c st last (Err k) e h = no_way s means k text last _ h
   by_first text ih c st last (Ok st2) e h = ap (λ o. phases_on s o text) (phase_kept st c (move_of s st.phase c) st2 e) ∙ ih st2 last h
 
@@ -171,8 +170,9 @@ module _ (s : Syntax) where
   after_name (c ∷ text) h =
       let P : ℕ → Type 0 = λ x. phases_on s (Some phase.Name) (x ∷ text) ≡ phases_on s (Some phase.AfterValue) (x ∷ text) in
       elim (either (is_white_space c || c == solidus) _ h) [
-        inr e ↦ of_one P c greater_than_sign e refl
-      | inl e ↦ elim (either (is_white_space c) _ e) [ inr e ↦ of_one P c solidus e refl | inl e ↦ of_white P c e refl refl refl refl refl ] ]
+        | inr e ↦ of_one P c greater_than_sign e refl
+        | inl e ↦ elim (either (is_white_space c) _ e) [ inr e ↦ of_one P c solidus e refl | inl e ↦ of_white P c e refl refl refl refl refl ]
+      ]
 
   name_goes : (c : ℕ) → is_tag_char s c ≡ true → phase_by (move_of s phase.Name c) ≡ Some phase.Name
   name_goes c h = let n = tag_char_named s c h in rw (n.white, n.slash, n.greater, h) refl
@@ -251,12 +251,12 @@ module _ (s : Syntax) where
       split P (is_white_space c) _ _
       (λ e g. name_here c text (rw e refl) w)
       (λ _. split P (c == solidus) _ _
-          (λ e g. name_here c text (of_one (λ x. ends_name x ≡ true) c solidus e refl) w)
-          (λ _. split P (c == greater_than_sign) _ _
-              (λ e g. name_here c text (of_one (λ x. ends_name x ≡ true) c greater_than_sign e refl) w)
-              (λ _. split P (is_tag_char s c) _ _
-                  (λ e g. let d = name_rest text g in record { more = c ∷ d.more; rest = d.rest; is = ap (λ x. c ∷ x) d.is; chars = rw e d.chars; ends = d.ends; reads = d.reads })
-                  (λ _ g. nowhere s text _ g)))) (record { q = w.q; reads = w.reads; whole = w.whole })
+      (λ e g. name_here c text (of_one (λ x. ends_name x ≡ true) c solidus e refl) w)
+      (λ _. split P (c == greater_than_sign) _ _
+      (λ e g. name_here c text (of_one (λ x. ends_name x ≡ true) c greater_than_sign e refl) w)
+      (λ _. split P (is_tag_char s c) _ _
+      (λ e g. let d = name_rest text g in record { more = c ∷ d.more; rest = d.rest; is = ap (λ x. c ∷ x) d.is; chars = rw e d.chars; ends = d.ends; reads = d.reads })
+      (λ _ g. nowhere s text _ g)))) (record { q = w.q; reads = w.reads; whole = w.whole })
 
   pub record EndRest (text : Chars) : Type 0 where
     pub more : Chars
@@ -292,10 +292,10 @@ module _ (s : Syntax) where
       split P (is_white_space c) _ _
       (λ e g. let d = gap_rest text g in record { more = []; spaces = c ∷ d.spaces; is = ap (λ x. c ∷ x) d.is; chars = refl; white = rw e d.white })
       (λ _. split P (c == greater_than_sign) _ _
-          (λ e g. let d = gap_end c text e g in record { more = []; spaces = d.spaces; is = d.is; chars = refl; white = d.white })
-          (λ _. split P (is_tag_char s c) _ _
-              (λ e g. let d = end_rest text g in record { more = c ∷ d.more; spaces = d.spaces; is = ap (λ x. c ∷ x) d.is; chars = rw e d.chars; white = d.white })
-              (λ _ g. nowhere s text _ g))) (record { q = w.q; reads = w.reads; whole = w.whole })
+      (λ e g. let d = gap_end c text e g in record { more = []; spaces = d.spaces; is = d.is; chars = refl; white = d.white })
+      (λ _. split P (is_tag_char s c) _ _
+      (λ e g. let d = end_rest text g in record { more = c ∷ d.more; spaces = d.spaces; is = ap (λ x. c ∷ x) d.is; chars = rw e d.chars; white = d.white })
+      (λ _ g. nowhere s text _ g))) (record { q = w.q; reads = w.reads; whole = w.whole })
 
   starts : (c : ℕ) (text : Chars) → begins_tag s c ≡ true → Whole s (Some phase.Name) text → Shaped s (c ∷ text)
   starts c text e w =
@@ -321,8 +321,8 @@ module _ (s : Syntax) where
       split P (begins_tag s c) _ _
       (λ e g. starts c text e g)
       (λ _. split P (c == solidus) _ _
-          (λ e g. of_one (λ x. Shaped s (x ∷ text)) c solidus e (end_starts text g))
-          (λ _ g. nowhere s text _ g)) (record { q = w.q; reads = w.reads; whole = w.whole })
+      (λ e g. of_one (λ x. Shaped s (x ∷ text)) c solidus e (end_starts text g))
+      (λ _ g. nowhere s text _ g)) (record { q = w.q; reads = w.reads; whole = w.whole })
 
 -- each phase but the last ones leads on to one
 pub record Leads (s : Syntax) (p : TagPhase) : Type 0 where
@@ -383,6 +383,7 @@ module _ (s : Syntax) (front : Chars) (p : TagPhase) (at : phases_on s (Some pha
     where
       reached : phases_on s (Some phase.Start) (front ++ c ∷ []) ≡ Some q
       reached = phases-append s (Some phase.Start) front (c ∷ []) ∙ (ap (λ o. phases_on s o (c ∷ [])) at ∙ ap phase_by e)
+
       by_last : (b : Bool) → is_last q ≡ b → ⊥
       by_last true w =
           let d = shaped s ((front ++ c ∷ []) ++ []) (record { q = q; reads = after c [] ∙ ap phase_by e; whole = w }) in

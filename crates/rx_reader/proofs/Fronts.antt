@@ -1,15 +1,15 @@
 -- Two fronts of one list.
-use Rattle.std.proofs.Common.{◌≡◌, ◌≢◌, ℕ, Bool, true, false, cond, nat_eq, eqb-true, List, [], ◌∷◌, ◌++◌, map, Option, Some, None, refl, ap, sym, ◌∙◌, append_assoc, append-nil, inl, inr, ◌⊎◌, subst}
+use Rattle.std.proofs.Common.{◌≡◌, ℕ, Bool, true, false, cond, eqb-true, [], ◌∷◌, ◌++◌, refl, ap, sym, ◌∙◌, inl, inr, ◌⊎◌, subst}
 use Rattle.std.specs.Prelude.{◌||◌, ◌&&◌, ◌==◌, not, codes}
 use Rattle.std.proofs.lemmas.Bool.{eq-eqb}
 use Rattle.std.specs.List.{list_all, list_any}
-use Rattle.rx_terms.specs.Ascii.{is_letter, is_digit, is_letter_or_digit, is_white_space, number_sign, semicolon, greater_than_sign, lowered_char}
-use Rattle.rx_terms.specs.Text.{Chars, begins_with, lowered, is_empty}
+use Rattle.rx_terms.specs.Ascii.{is_letter, is_digit, is_letter_or_digit, number_sign, semicolon, greater_than_sign}
+use Rattle.rx_terms.specs.Text.{Chars, begins_with, is_empty}
 use Rattle.rx_grammar.specs.Names.{same}
-use Rattle.rx_grammar.specs.References.{is_hexadecimal_digit, is_x, one_or_more, is_number, is_body, begins_number, is_begun}
+use Rattle.rx_grammar.specs.References.{is_hexadecimal_digit, is_x, begins_number, is_begun}
 use Rattle.rx_grammar.specs.Spelling.{ends_with, IsFirst}
-use Rattle.rx_reader.proofs.Bools.{both, neither, either, untrue, split, not_both_ways, by_test}
-use Rattle.rx_reader.proofs.Classes.{of_one, of_white, unless}
+use Rattle.rx_reader.proofs.Bools.{both, either, untrue, not_both_ways, by_test}
+use Rattle.rx_reader.proofs.Classes.{of_one, unless}
 
 pub equal : (n : ℕ) → (n == n) ≡ true
 equal n = eq-eqb n n refl
@@ -26,8 +26,9 @@ two_fronts (x ∷ xs) [] m n e = inr (record { z = x ∷ xs; is = refl; rest = s
 two_fronts (x ∷ xs) (y ∷ ys) m n e =
     let h : x ≡ y = cc in
     elim (two_fronts xs ys m n (cc)) [
-      inl d ↦ inl (record { z = d.z; is = ap (λ c. c ∷ ys) (sym h) ∙ ap (λ r. x ∷ r) d.is; rest = d.rest })
-    | inr d ↦ inr (record { z = d.z; is = ap (λ c. c ∷ xs) h ∙ ap (λ r. y ∷ r) d.is; rest = d.rest }) ]
+      | inl d ↦ inl (record { z = d.z; is = ap (λ c. c ∷ ys) (sym h) ∙ ap (λ r. x ∷ r) d.is; rest = d.rest })
+      | inr d ↦ inr (record { z = d.z; is = ap (λ c. c ∷ xs) h ∙ ap (λ r. y ∷ r) d.is; rest = d.rest })
+    ]
 
 -- the first front that meets a test has no longer one
 pub one_first : (test : Chars → Bool) (x z : Chars) → test x ≡ true → IsFirst test (x ++ z) → z ≡ []
@@ -48,9 +49,9 @@ one_end mark [] z h k = absurd (cc)
 one_end mark (c ∷ text) z h k =
     by_test {G = z ≡ []} (c == mark)
     (λ e. let a : is_empty text ≡ true = ap (λ b. cond b (is_empty text) (only_end mark text)) (sym e) ∙ h in
-      let b : is_empty (text ++ z) ≡ true = ap (λ b. cond b (is_empty (text ++ z)) (only_end mark (text ++ z))) (sym e) ∙ k in
-      let n : text ≡ [] = empty_nil text a in
-      empty_nil z (ap (λ (x : Chars). is_empty (x ++ z)) (sym n) ∙ b))
+    let b : is_empty (text ++ z) ≡ true = ap (λ b. cond b (is_empty (text ++ z)) (only_end mark (text ++ z))) (sym e) ∙ k in
+    let n : text ≡ [] = empty_nil text a in
+    empty_nil z (ap (λ (x : Chars). is_empty (x ++ z)) (sym n) ∙ b))
     (λ e. one_end mark text z (ap (λ b. cond b (is_empty text) (only_end mark text)) (sym e) ∙ h) (ap (λ b. cond b (is_empty (text ++ z)) (only_end mark (text ++ z))) (sym e) ∙ k))
 
 pub ends_at : (mark : ℕ) (text : Chars) → list_all (λ c. not (c == mark)) text ≡ true → only_end mark (text ++ mark ∷ []) ≡ true
@@ -83,17 +84,20 @@ begins_within mark (c ∷ p) (d ∷ text) z n a h =
     let k = both (c == d) _ h in
     let e : d ≡ c = sym (eqb-true c d k.0) in
     elim (either (d == mark) _ a) [
-      inl f ↦ absurd (not_both_ways (c == mark) (subst (λ (x : ℕ). (x == mark) ≡ true) e f) (untrue (c == mark) b.0))
-    | inr f ↦ rw (k.0, begins_within mark p text z b.1 f k.1) refl ]
+      | inl f ↦ absurd (not_both_ways (c == mark) (subst (λ (x : ℕ). (x == mark) ≡ true) e f) (untrue (c == mark) b.0))
+      | inr f ↦ rw (k.0, begins_within mark p text z b.1 f k.1) refl
+    ]
 
 pub has_end : (text : Chars) → ends_with (codes ">") text ≡ true → list_any (λ c. c == greater_than_sign) text ≡ true
 has_end [] h = absurd (cc)
 has_end (c ∷ text) h = elim (either (same (codes ">") (c ∷ text)) _ h) [
-    inl e ↦ let b = both (62 == c) _ e in of_one' c b.0 text
-  | inr e ↦ one_or (c == greater_than_sign) _ (has_end text e) ]
+  | inl e ↦ let b = both (62 == c) _ e in of_one' c b.0 text
+  | inr e ↦ one_or (c == greater_than_sign) _ (has_end text e)
+]
   where
     of_one' : (c : ℕ) → (62 == c) ≡ true → (text : Chars) → list_any (λ c. c == greater_than_sign) (c ∷ text) ≡ true
     of_one' c e text = subst (λ (x : ℕ). list_any (λ c. c == greater_than_sign) (x ∷ text) ≡ true) (eqb-true 62 c e) refl
+
     one_or : (a b : Bool) → b ≡ true → (a || b) ≡ true
     one_or true b h = refl
     one_or false b h = h
@@ -108,14 +112,16 @@ no_mark test mark m (c ∷ text) h =
 number_no_mark : (text : Chars) → begins_number text ≡ true → list_all (λ c. not (c == semicolon)) text ≡ true
 number_no_mark [] h = refl
 number_no_mark (c ∷ text) h = elim (either (is_digit c && list_all is_digit text) _ h) [
-    inl e ↦ no_mark is_digit semicolon refl (c ∷ text) e
-  | inr e ↦ let b = both (is_x c) _ e in rw (unless is_x c (c == semicolon) b.0 (λ f. of_one (λ x. is_x x ≡ false) c semicolon f refl), no_mark is_hexadecimal_digit semicolon refl text b.1) refl ]
+  | inl e ↦ no_mark is_digit semicolon refl (c ∷ text) e
+  | inr e ↦ let b = both (is_x c) _ e in rw (unless is_x c (c == semicolon) b.0 (λ f. of_one (λ x. is_x x ≡ false) c semicolon f refl), no_mark is_hexadecimal_digit semicolon refl text b.1) refl
+]
 
 pub begun_no_mark : (text : Chars) → is_begun text ≡ true → list_all (λ c. not (c == semicolon)) text ≡ true
 begun_no_mark [] h = refl
 begun_no_mark (c ∷ text) h = elim (either (is_letter c && list_all is_letter_or_digit text) _ h) [
-    inl e ↦ let b = both (is_letter c) _ e in rw (unless is_letter c (c == semicolon) b.0 (λ f. of_one (λ x. is_letter x ≡ false) c semicolon f refl), no_mark is_letter_or_digit semicolon refl text b.1) refl
-  | inr e ↦ let b = both (c == number_sign) _ e in rw (unless (λ x. x == number_sign) c (c == semicolon) b.0 (λ f. of_one (λ x. (x == number_sign) ≡ false) c semicolon f refl), number_no_mark text b.1) refl ]
+  | inl e ↦ let b = both (is_letter c) _ e in rw (unless is_letter c (c == semicolon) b.0 (λ f. of_one (λ x. is_letter x ≡ false) c semicolon f refl), no_mark is_letter_or_digit semicolon refl text b.1) refl
+  | inr e ↦ let b = both (c == number_sign) _ e in rw (unless (λ x. x == number_sign) c (c == semicolon) b.0 (λ f. of_one (λ x. (x == number_sign) ≡ false) c semicolon f refl), number_no_mark text b.1) refl
+]
 
 pub all_front : (test : ℕ → Bool) (a b : Chars) → list_all test (a ++ b) ≡ true → list_all test a ≡ true
 all_front test [] b h = refl
@@ -136,11 +142,13 @@ and_true false b h k = absurd (cc)
 number_front : (a b : Chars) → begins_number (a ++ b) ≡ true → begins_number a ≡ true
 number_front [] b h = refl
 number_front (c ∷ a) b h = elim (either (is_digit c && list_all is_digit (a ++ b)) _ h) [
-    inl e ↦ let k = both (is_digit c) _ e in or_left _ _ (and_true (is_digit c) _ k.0 (all_front is_digit a b k.1))
-  | inr e ↦ let k = both (is_x c) _ e in or_right _ _ (and_true (is_x c) _ k.0 (all_front is_hexadecimal_digit a b k.1)) ]
+  | inl e ↦ let k = both (is_digit c) _ e in or_left _ _ (and_true (is_digit c) _ k.0 (all_front is_digit a b k.1))
+  | inr e ↦ let k = both (is_x c) _ e in or_right _ _ (and_true (is_x c) _ k.0 (all_front is_hexadecimal_digit a b k.1))
+]
 
 pub begun_front : (a b : Chars) → is_begun (a ++ b) ≡ true → is_begun a ≡ true
 begun_front [] b h = refl
 begun_front (c ∷ a) b h = elim (either (is_letter c && list_all is_letter_or_digit (a ++ b)) _ h) [
-    inl e ↦ let k = both (is_letter c) _ e in or_left _ _ (and_true (is_letter c) _ k.0 (all_front is_letter_or_digit a b k.1))
-  | inr e ↦ let k = both (c == number_sign) _ e in or_right _ _ (and_true (c == number_sign) _ k.0 (number_front a b k.1)) ]
+  | inl e ↦ let k = both (is_letter c) _ e in or_left _ _ (and_true (is_letter c) _ k.0 (all_front is_letter_or_digit a b k.1))
+  | inr e ↦ let k = both (c == number_sign) _ e in or_right _ _ (and_true (c == number_sign) _ k.0 (number_front a b k.1))
+]

@@ -1,8 +1,8 @@
 -- At most one front of a list of characters is a token's spelling, and it is one token's.
-use Rattle.std.proofs.Common.{◌≡◌, ◌≢◌, ℕ, Bool, true, false, cond, nat_eq, eqb-true, List, [], ◌∷◌, ◌++◌, map, Option, Some, None, refl, ap, sym, ◌∙◌, append_assoc, append-nil, inl, inr, ◌⊎◌, subst}
+use Rattle.std.proofs.Common.{◌≡◌, ◌≢◌, ℕ, Bool, true, false, cond, [], ◌∷◌, ◌++◌, Option, Some, None, refl, ap, sym, ◌∙◌, append_assoc, append-nil, inl, inr, subst}
 use Rattle.std.specs.Prelude.{◌||◌, ◌&&◌, ◌==◌, not, codes}
 use Rattle.std.specs.List.{list_all, list_any}
-use Rattle.rx_terms.specs.Ascii.{lowered_char, ampersand, solidus, semicolon, less_than_sign, greater_than_sign, question_mark, is_letter, is_white_space}
+use Rattle.rx_terms.specs.Ascii.{lowered_char, ampersand, solidus, semicolon, less_than_sign, is_letter, is_white_space}
 use Rattle.rx_terms.specs.Text.{Chars, begins_with, lowered, is_empty}
 use Rattle.rx_chars.specs.declared.syntax.Syntax.{Syntax}
 use Rattle.rx_chars.specs.declared.syntax.Syntax.TheVariants.{Html, Xhtml}
@@ -13,14 +13,14 @@ use Rattle.rx_grammar.specs.declared.contents.RawName.TheVariants as raw
 use Rattle.rx_grammar.specs.Names.{same, name_of_raw}
 use Rattle.rx_grammar.specs.References.{one_or_more, is_body, is_begun, stops_at, meaning}
 use Rattle.rx_grammar.specs.Tokens.{Tag, Token, tag, character, reference, kept, section, comment, doctype}
-use Rattle.rx_grammar.specs.Shapes.{ends_name, begins_tag, is_tag_char, first_then, Shape, a_start, an_end}
+use Rattle.rx_grammar.specs.Shapes.{ends_name, begins_tag, Shape, a_start, an_end}
 use Rattle.rx_grammar.specs.Tags.{SpellsTag, cased, cased_char}
-use Rattle.rx_grammar.specs.Spelling.{exclamation_mark, ends_with, IsFirst, has_markup, has_references, keeps_runs, has_sections, has_less_than, is_text, begins_markup, IsBefore, raw_name, begins_end, stops_end, ends_comment, begins_declaration, doctype_word, IsDoctype, Spells, a_tag, an_end_of_raw, a_character, a_less_than, a_raw_run, a_reference, a_kept_run, a_comment, a_bogus_comment, a_question, a_strict_comment, an_instruction, a_section, a_doctype}
+use Rattle.rx_grammar.specs.Spelling.{ends_with, IsFirst, has_markup, has_references, keeps_runs, has_sections, has_less_than, is_text, begins_markup, IsBefore, raw_name, begins_end, stops_end, ends_comment, begins_declaration, doctype_word, IsDoctype, Spells, a_tag, an_end_of_raw, a_character, a_less_than, a_raw_run, a_reference, a_kept_run, a_comment, a_bogus_comment, a_question, a_strict_comment, an_instruction, a_section, a_doctype}
 use Rattle.rx_grammar.specs.Items.{next_of}
 use Rattle.rx_grammar.specs.Laws.{OneToken, IsSameToken}
-use Rattle.rx_reader.proofs.Bools.{both, neither, either, untrue, split, not_both_ways, by_test}
+use Rattle.rx_reader.proofs.Bools.{both, neither, either, untrue, not_both_ways, by_test}
 use Rattle.rx_reader.proofs.Classes.{of_one, of_white, unless}
-use Rattle.rx_reader.proofs.Fronts.{equal, all_front, or_right, Longer, two_fronts, one_first, only_end, one_end, ends_at, begins_append, begins_front, begins_more, begins_within, has_end, begun_no_mark, begun_front, no_mark}
+use Rattle.rx_reader.proofs.Fronts.{equal, all_front, or_right, Longer, two_fronts, one_first, only_end, one_end, ends_at, begins_append, begins_front, begins_more, begins_within, has_end, begun_no_mark, begun_front}
 use Rattle.rx_reader.proofs.TagLaws.{one, one_front}
 use Rattle.rx_reader.proofs.TextComplete.{body_begun}
 use Rattle.std.proofs.lemmas.List.{append_cancel_left, append_cancel_right, map-append}
@@ -145,8 +145,9 @@ module _ (s : Syntax) (i : Content) where
   kept_reference : (x body : Chars) (d : ℕ) (w : Chars) → stops_at x d ≡ true → is_body body ≡ true → (x ++ d ∷ []) ++ w ≡ body ++ semicolon ∷ [] → ⊥
   kept_reference x body d w h k e =
       elim (two_fronts (x ++ d ∷ []) body w (semicolon ∷ []) e) [
-        inl f ↦ run_more x [] d f.z h (subst (λ (y : Chars). is_begun y ≡ true) f.is (body_begun s (meaning s) body k))
-      | inr f ↦ by_rest f.z f.is f.rest ]
+        | inl f ↦ run_more x [] d f.z h (subst (λ (y : Chars). is_begun y ≡ true) f.is (body_begun s (meaning s) body k))
+        | inr f ↦ by_rest f.z f.is f.rest
+      ]
     where
       by_rest : (v : Chars) → x ++ d ∷ [] ≡ body ++ v → semicolon ∷ [] ≡ v ++ w → ⊥
       by_rest [] p q = run_more x [] d [] h (subst (λ (y : Chars). is_begun y ≡ true) (sym (append-nil (x ++ d ∷ []) ∙ (p ∙ append-nil body))) (body_begun s (meaning s) body k))
@@ -159,13 +160,15 @@ module _ (s : Syntax) (i : Content) where
           by_last [] n m p =
               let r : x ++ d ∷ [] ≡ body ++ semicolon ∷ [] = p ∙ ap (λ y. body ++ y ∷ []) (sym m) in
               elim (two_fronts x body (d ∷ []) (semicolon ∷ []) r) [
-                inl f ↦ by_longer f.z f.is f.rest
-              | inr f ↦ by_shorter f.z f.is f.rest ]
+                | inl f ↦ by_longer f.z f.is f.rest
+                | inr f ↦ by_shorter f.z f.is f.rest
+              ]
             where
               by_longer : (u : Chars) → body ≡ x ++ u → d ∷ [] ≡ u ++ semicolon ∷ [] → ⊥
               by_longer [] b o = run_closes x d h (subst (λ (y : Chars). is_body y ≡ true) (b ∙ append-nil x) k) (cc)
               by_longer (a ∷ []) b o = absurd (let y : [] ≡ semicolon ∷ [] = cc in cc)
               by_longer (a ∷ a2 ∷ u) b o = absurd (let y : [] ≡ a2 ∷ (u ++ semicolon ∷ []) = cc in cc)
+
               by_shorter : (u : Chars) → x ≡ body ++ u → semicolon ∷ [] ≡ u ++ d ∷ [] → ⊥
               by_shorter [] b o = run_closes x d h (subst (λ (y : Chars). is_body y ≡ true) (sym (b ∙ append-nil body)) k) (cc)
               by_shorter (a ∷ []) b o = absurd (let y : [] ≡ d ∷ [] = cc in cc)
@@ -181,13 +184,15 @@ module _ (s : Syntax) (i : Content) where
       absurd (marked semicolon x (all_front (λ c. not (c == semicolon)) x z (begun_no_mark (x ++ z) (subst (λ (w : Chars). is_begun w ≡ true) e h'))) (subst (λ (w : Chars). only_end semicolon w ≡ true) (sym tx) (body_ends body h)))
   amp_core x y z n m a b (p_kept h k ea) (p_kept h' k' eb) e =
       elim (ends z) [
-        here q ↦ (q, ea ∙ (ap (λ w. kept (ampersand ∷ w)) (sym (no_text x z q) ∙ sym e) ∙ sym eb))
-      | goes d w q ↦ absurd (run_more x [] d w (before_head (stops_at x) z n d w q k)
-          (subst (λ (v : Chars). is_begun v ≡ true) (e ∙ (ap (λ u. x ++ u) q ∙ sym (append_assoc x (d ∷ []) w))) h')) ]
+        | here q ↦ (q, ea ∙ (ap (λ w. kept (ampersand ∷ w)) (sym (no_text x z q) ∙ sym e) ∙ sym eb))
+        | goes d w q ↦ absurd (run_more x [] d w (before_head (stops_at x) z n d w q k)
+            (subst (λ (v : Chars). is_begun v ≡ true) (e ∙ (ap (λ u. x ++ u) q ∙ sym (append_assoc x (d ∷ []) w))) h'))
+      ]
   amp_core x y z n m a b (p_kept h k ea) (p_reference body c ty h' k' eb) e =
       elim (ends z) [
-        here q ↦ absurd (marked semicolon x (begun_no_mark x h) (subst (λ (w : Chars). only_end semicolon w ≡ true) (sym ty ∙ (e ∙ no_text x z q)) (body_ends body h')))
-      | goes d w q ↦ absurd (kept_reference x body d w (before_head (stops_at x) z n d w q k) h' (append_assoc x (d ∷ []) w ∙ (ap (λ u. x ++ u) (sym q) ∙ (sym e ∙ ty)))) ]
+        | here q ↦ absurd (marked semicolon x (begun_no_mark x h) (subst (λ (w : Chars). only_end semicolon w ≡ true) (sym ty ∙ (e ∙ no_text x z q)) (body_ends body h')))
+        | goes d w q ↦ absurd (kept_reference x body d w (before_head (stops_at x) z n d w q k) h' (append_assoc x (d ∷ []) w ∙ (ap (λ u. x ++ u) (sym q) ∙ (sym e ∙ ty))))
+      ]
 
 -- `<!`
 first_end : (text : Chars) → IsFirst (ends_with (codes ">")) text → only_end 62 text ≡ true
@@ -197,19 +202,23 @@ first_end (c ∷ text) f =
     (λ e. ap (λ b. cond b (is_empty text) (only_end 62 text)) e ∙ by_end text (λ front more p q. f.first (c ∷ front) more (ap (λ w. c ∷ w) p) q) e f)
     (λ e. ap (λ b. cond b (is_empty text) (only_end 62 text)) e ∙ first_end text (record {
       whole = by_or (62 == c && same [] text) (ends_with (codes ">") text) (not_same c text e) f.whole;
-      first = λ front more p q. by_rest c front (f.first (c ∷ front) more (ap (λ w. c ∷ w) p) q) }))
+      first = λ front more p q. by_rest c front (f.first (c ∷ front) more (ap (λ w. c ∷ w) p) q);
+    }))
   where
     by_or : (a b : Bool) → a ≡ false → (a || b) ≡ true → b ≡ true
     by_or true b h k = absurd (cc)
     by_or false b h k = k
+
     not_same : (c : ℕ) (text : Chars) → (c == 62) ≡ false → (62 == c && same [] text) ≡ false
     not_same c text e = by_test {G = (62 == c && same [] text) ≡ false} (62 == c) (λ g. absurd (not_both_ways (c == 62) (of_one (λ x. (c == x) ≡ true) 62 c g (equal c)) e)) (λ g. rw g refl)
+
     by_rest : (c : ℕ) (front : Chars) → ends_with (codes ">") (c ∷ front) ≡ false → ends_with (codes ">") front ≡ false
     by_rest c front h = (neither (same (codes ">") (c ∷ front)) _ h).1
+
     by_end : (text : Chars) → ((front more : Chars) → text ≡ front ++ more → more ≢ [] → ends_with (codes ">") (c ∷ front) ≡ false) → (c == 62) ≡ true → IsFirst (ends_with (codes ">")) (c ∷ text) → is_empty text ≡ true
     by_end [] g e f = refl
     by_end (d ∷ text) g e f = absurd (let q : ends_with (codes ">") (c ∷ []) ≡ false = g [] (d ∷ text) refl (λ r. cc) in
-      not_both_ways (ends_with (codes ">") (c ∷ [])) (of_one (λ x. ends_with (codes ">") (x ∷ []) ≡ true) c 62 e refl) q)
+        not_both_ways (ends_with (codes ">") (c ∷ [])) (of_one (λ x. ends_with (codes ">") (x ∷ []) ≡ true) c 62 e refl) q)
 
 no_greater : (s : Syntax) (text word : Chars) → cased s text ≡ word → list_all (λ c. not (c == 62)) word ≡ true → list_all (λ c. not (c == 62)) text ≡ true
 no_greater s [] word e h = refl
@@ -221,6 +230,7 @@ no_greater s (c ∷ text) (d ∷ word) e h =
   where
     by_head : cased s (c ∷ text) ≡ d ∷ word → d ≡ cased_char s c
     by_head e = cc
+
     cased_mark : (s : Syntax) → not (cased_char s 62 == 62) ≡ false
     cased_mark Html = refl
     cased_mark Xhtml = refl
@@ -253,8 +263,8 @@ doctype_end s text d =
     let e : text ≡ front ++ 62 ∷ [] = d.are ∙ regroup d.keyword d.spaces d.name d.rest in
     subst (λ (w : Chars). only_end 62 w ≡ true) (sym e)
     (ends_at 62 front (all_both _ d.keyword _ (no_greater s d.keyword (doctype_word s) d.keyword_is (word_no_mark s))
-      (all_both _ d.spaces _ (all_weaker is_white_space _ white_no_mark d.spaces (some_all is_white_space d.spaces d.apart))
-      (all_both _ d.name _ (no_greater s d.name (codes "html") d.name_is refl) (all_weaker _ _ passed_no_mark d.rest d.passed)))))
+    (all_both _ d.spaces _ (all_weaker is_white_space _ white_no_mark d.spaces (some_all is_white_space d.spaces d.apart))
+    (all_both _ d.name _ (no_greater s d.name (codes "html") d.name_is refl) (all_weaker _ _ passed_no_mark d.rest d.passed)))))
   where
     regroup : (k p n r : Chars) → k ++ (p ++ (n ++ (r ++ 62 ∷ []))) ≡ (k ++ (p ++ (n ++ r))) ++ 62 ∷ []
     regroup k p n r = simp append_assoc
@@ -296,8 +306,9 @@ doctype_then s (a ∷ x) z w c h d e = let q : a ≡ c = cc in no_doctype_at s (
 lowered_any : (text : Chars) → list_any (λ c. c == 62) text ≡ true → list_any (λ c. c == 62) (lowered text) ≡ true
 lowered_any [] h = h
 lowered_any (c ∷ text) h = elim (either (c == 62) _ h) [
-    inl e ↦ of_one (λ x. list_any (λ c. c == 62) (lowered (x ∷ text)) ≡ true) c 62 e refl
-  | inr e ↦ or_right (lowered_char c == 62) _ (lowered_any text e) ]
+  | inl e ↦ of_one (λ x. list_any (λ c. c == 62) (lowered (x ∷ text)) ≡ true) c 62 e refl
+  | inr e ↦ or_right (lowered_char c == 62) _ (lowered_any text e)
+]
 
 doctype_begins : (text : Chars) → IsDoctype Html text → begins_with (codes "doctype") (lowered text) ≡ true
 doctype_begins text d =
@@ -323,10 +334,11 @@ section_is i x h k n = not_both_ways (has_sections i && begins_with (codes "[CDA
 module _ (s : Syntax) (i : Content) where
   strict_same : (t u z : Chars) → IsFirst (ends_with (codes "--")) t → IsFirst (ends_with (codes "--")) u → u ++ 62 ∷ [] ≡ t ++ (62 ∷ z) → z ≡ []
   strict_same t u z f g e = elim (two_fronts u t (62 ∷ []) (62 ∷ z) e) [
-      inl d ↦ let n = one_first (ends_with (codes "--")) u d.z g.whole (first_as _ t (u ++ d.z) d.is f) in
+    | inl d ↦ let n = one_first (ends_with (codes "--")) u d.z g.whole (first_as _ t (u ++ d.z) d.is f) in
         let q : 62 ∷ [] ≡ 62 ∷ z = d.rest ∙ ap (λ w. w ++ 62 ∷ z) n in cc
     | inr d ↦ let n = one_first (ends_with (codes "--")) t d.z f.whole (first_as _ u (t ++ d.z) d.is g) in
-        let q : 62 ∷ z ≡ 62 ∷ [] = d.rest ∙ ap (λ w. w ++ 62 ∷ []) n in cc ]
+        let q : 62 ∷ z ≡ 62 ∷ [] = d.rest ∙ ap (λ w. w ++ 62 ∷ []) n in cc
+  ]
 
   bang_core : (x y z : Chars) (a b : Token) → Bang s i x a → Bang s i y b → y ≡ x ++ z → Same z a b
   bang_core x y z a b (b_comment t h tx f ea) (b_comment u h' ty g eb) e =
@@ -345,8 +357,8 @@ module _ (s : Syntax) (i : Content) where
       absurd (section_is i x h' (begins_within 62 (codes "[CDATA[") x z refl (has_end x f.whole) (subst (λ (w : Chars). begins_with (codes "[CDATA[") w ≡ true) (sym ty ∙ e) refl)) (bogus_is i x n).no_section)
   bang_core x y z a b (b_bogus h n f ea) (b_doctype d eb) e =
       absurd (not_both_ways (begins_with (codes "doctype") (lowered x))
-        (begins_within 62 (codes "doctype") (lowered x) (lowered z) refl (lowered_any x (has_end x f.whole))
-          (subst (λ (w : Chars). begins_with (codes "doctype") w ≡ true) (ap lowered e ∙ map-append lowered_char x z) (doctype_begins y (subst (λ (t : Syntax). IsDoctype t y) h d)))) (bogus_is i x n).no_doctype)
+      (begins_within 62 (codes "doctype") (lowered x) (lowered z) refl (lowered_any x (has_end x f.whole))
+      (subst (λ (w : Chars). begins_with (codes "doctype") w ≡ true) (ap lowered e ∙ map-append lowered_char x z) (doctype_begins y (subst (λ (t : Syntax). IsDoctype t y) h d)))) (bogus_is i x n).no_doctype)
   bang_core x y z a b (b_strict t h tx f ea) (b_comment u h' ty g eb) e = absurd (not_both s h' h)
   bang_core x y z a b (b_strict t h tx f ea) (b_bogus h' n g eb) e = absurd (not_both s h' h)
   bang_core x y z a b (b_strict t h tx f ea) (b_strict u h' ty g eb) e =
@@ -368,7 +380,7 @@ module _ (s : Syntax) (i : Content) where
   bang_core x y z a b (b_doctype d ea) (b_comment u h' ty g eb) e = absurd (doctype_then s x z (45 ∷ u) 45 (dash s) d (sym ty ∙ e))
   bang_core x y z a b (b_doctype d ea) (b_bogus h' n g eb) e =
       absurd (not_both_ways (begins_with (codes "doctype") (lowered y))
-        (subst (λ (w : Chars). begins_with (codes "doctype") w ≡ true) (sym (map-append lowered_char x z) ∙ ap lowered (sym e)) (begins_more (codes "doctype") (lowered x) (lowered z) (doctype_begins x (subst (λ (t : Syntax). IsDoctype t x) h' d)))) (bogus_is i y n).no_doctype)
+      (subst (λ (w : Chars). begins_with (codes "doctype") w ≡ true) (sym (map-append lowered_char x z) ∙ ap lowered (sym e)) (begins_more (codes "doctype") (lowered x) (lowered z) (doctype_begins x (subst (λ (t : Syntax). IsDoctype t x) h' d)))) (bogus_is i y n).no_doctype)
   bang_core x y z a b (b_doctype d ea) (b_strict u h' ty g eb) e = absurd (doctype_then s x z _ 45 (dash s) d (sym ty ∙ e))
   bang_core x y z a b (b_doctype d ea) (b_section u h' ty g eb) e = absurd (doctype_then s x z _ 91 (bracket s) d (sym ty ∙ e))
   bang_core x y z a b (b_doctype d ea) (b_doctype d' eb) e = (one_end 62 x z (doctype_end s x d) (subst (λ (w : Chars). only_end 62 w ≡ true) e (doctype_end s y d')), ea ∙ sym eb)
@@ -481,9 +493,9 @@ nonempty (c ∷ spaces) e = cc
 not_front : (name y z : Chars) → RawEnd name y → begins_end name (y ++ z) ≡ true → ⊥
 not_front name y z r h =
     let e : lowered (y ++ z) ≡ (47 ∷ name) ++ (lowered (r.spaces ++ 62 ∷ []) ++ lowered z) =
-        map-append lowered_char y z ∙ (ap (λ u. lowered u ++ lowered z) r.is
-        ∙ (ap (λ u. u ++ lowered z) (map-append lowered_char (47 ∷ r.w) (r.spaces ++ 62 ∷ []))
-        ∙ (ap (λ u. ((47 ∷ u) ++ lowered (r.spaces ++ 62 ∷ [])) ++ lowered z) r.named ∙ append_assoc (47 ∷ name) (lowered (r.spaces ++ 62 ∷ [])) (lowered z)))) in
+    map-append lowered_char y z ∙ (ap (λ u. lowered u ++ lowered z) r.is
+    ∙ (ap (λ u. u ++ lowered z) (map-append lowered_char (47 ∷ r.w) (r.spaces ++ 62 ∷ []))
+    ∙ (ap (λ u. ((47 ∷ u) ++ lowered (r.spaces ++ 62 ∷ [])) ++ lowered z) r.named ∙ append_assoc (47 ∷ name) (lowered (r.spaces ++ 62 ∷ [])) (lowered z)))) in
     let n : lowered (r.spaces ++ 62 ∷ []) ++ lowered z ≡ [] = begins_self (47 ∷ name) _ (subst (λ (u : Chars). begins_with u (solidus ∷ name) ≡ true) e h) in
     nonempty r.spaces (by_left (lowered (r.spaces ++ 62 ∷ [])) (lowered z) n)
   where
@@ -541,8 +553,9 @@ module _ (name x : Chars) (d : ℕ) (z : Chars) (r : RawEnd name (x ++ d ∷ z))
       let n1 : begins_end name (x ++ d ∷ []) ≡ false = untrue (begins_end name (x ++ d ∷ [])) b.0 in
       let n2 : (same (lowered x) (solidus ∷ name) && ends_name d) ≡ false = untrue (same (lowered x) (solidus ∷ name) && ends_name d) b.1 in
       elim (two_fronts x (47 ∷ r.w) (d ∷ z) (r.spaces ++ 62 ∷ []) r.is) [
-        inl f ↦ by_more f.z n1 n2 f.is f.rest
-      | inr f ↦ by_less f.z h n2 f.is f.rest ]
+        | inl f ↦ by_more f.z n1 n2 f.is f.rest
+        | inr f ↦ by_less f.z h n2 f.is f.rest
+      ]
 
 same_name : (i : Content) (a b : Chars) → raw_name i ≡ Some a → raw_name i ≡ Some b → a ≡ b
 same_name i a b h k = let q : Some a ≡ Some b = sym h ∙ k in cc
@@ -595,12 +608,14 @@ module _ (s : Syntax) (i : Content) where
   less_core x y z n m a b (l_raw_run name r k nn ea) (l_raw_end other u r' k' c' nn' eb) e =
       let f : RawEnd name y = raw_end s i name y u r k' c' (nn' ∙ same_name i other name r' r) in
       elim (ends z) [
-        here q ↦ absurd (not_front name y [] f (subst (λ (w : Chars). begins_end name w ≡ true) (sym (append-nil y ∙ (e ∙ no_text x z q))) k))
-      | goes d w q ↦ absurd (run_not_end name x d w (subst (λ (v : Chars). RawEnd name v) (e ∙ ap (λ v. x ++ v) q) f) k (before_head (stops_end name x) z n d w q nn)) ]
+        | here q ↦ absurd (not_front name y [] f (subst (λ (w : Chars). begins_end name w ≡ true) (sym (append-nil y ∙ (e ∙ no_text x z q))) k))
+        | goes d w q ↦ absurd (run_not_end name x d w (subst (λ (v : Chars). RawEnd name v) (e ∙ ap (λ v. x ++ v) q) f) k (before_head (stops_end name x) z n d w q nn))
+      ]
   less_core x y z n m a b (l_raw_run name r k nn ea) (l_raw_run other r' k' nn' eb) e =
       elim (ends z) [
-        here q ↦ (q, ea ∙ (ap (λ w. kept (less_than_sign ∷ w)) (sym (no_text x z q) ∙ sym e) ∙ sym eb))
-      | goes d w q ↦ absurd (raw_run_more name x y d w (before_head (stops_end name x) z n d w q nn) (subst (λ (v : Chars). begins_end v y ≡ true) (same_name i other name r' r) k') (e ∙ ap (λ v. x ++ v) q)) ]
+        | here q ↦ (q, ea ∙ (ap (λ w. kept (less_than_sign ∷ w)) (sym (no_text x z q) ∙ sym e) ∙ sym eb))
+        | goes d w q ↦ absurd (raw_run_more name x y d w (before_head (stops_end name x) z n d w q nn) (subst (λ (v : Chars). begins_end v y ≡ true) (same_name i other name r' r) k') (e ∙ ap (λ v. x ++ v) q))
+      ]
 
 -- text
 less_no_text : (i : Content) → is_text i 60 ≡ false
@@ -643,5 +658,6 @@ module _ (s : Syntax) (i : Content) where
 
 pub one_token : OneToken
 one_token s i x m y n a b e h k = elim (two_fronts x y m n e) [
-    inl f ↦ longer s i x y m n a b f h k
-  | inr f ↦ let c = longer s i y x n m b a f k h in record { front_is = sym c.front_is; token_is = sym c.token_is } ]
+  | inl f ↦ longer s i x y m n a b f h k
+  | inr f ↦ let c = longer s i y x n m b a f k h in record { front_is = sym c.front_is; token_is = sym c.token_is }
+]

@@ -1,5 +1,5 @@
 -- Pages and faults that were worked out by hand, as the definitions read them.
-use Rattle.std.proofs.Common.{◌≡◌, ◌≢◌, ℕ, ◌+◌, ◌≤◌, Bool, true, false, List, [], ◌∷◌, ◌++◌, length, Option, Some, None, refl, sym, subst, Result, Ok, Err, arith, inl, inr}
+use Rattle.std.proofs.Common.{◌≡◌, ℕ, ◌+◌, ◌≤◌, true, false, List, [], ◌∷◌, ◌++◌, Option, Some, None, refl, sym, subst, arith, inl, inr}
 use Rattle.std.specs.Prelude.{codes}
 use Rattle.rx_terms.specs.Text.{Chars}
 use Rattle.rx_chars.specs.Characters.{Entry, placed}
@@ -17,10 +17,9 @@ use Rattle.rx_grammar.specs.Items.{Spelled, Item, no_more, one, start_of}
 use Rattle.rx_grammar.specs.Pages.{Opens, Closes, Drops, Holds, nothing, a_text, closed, unclosed, Document, Page, Lead}
 use Rattle.rx_grammar.specs.Pages as pages
 use Rattle.rx_grammar.specs.Begun.{Stands, before, within, a_root, a_child, not_begun, still_open}
-use Rattle.rx_grammar.specs.PageFaults.{FaultAt, page_too_long, not_utf8, nul, tag_too_long, decided, unended, Reached, Before, GoesOn, is_one, Unfinished, token_begun, run_begun, in_run, IsPending, Faulty, at_tag, section_end}
-use Rattle.rx_grammar.specs.PageFaults as faults
-use Rattle.rx_grammar.specs.TagFaults.{RunFault, no_reference}
-use Rattle.rx_chars.specs.Utf8.{IsCharacter, BeginsCharacter}
+use Rattle.rx_grammar.specs.PageFaults.{FaultAt, page_too_long, not_utf8, nul, tag_too_long, decided, unended, Reached, Before, is_one, Unfinished, token_begun, run_begun, in_run, at_tag, section_end}
+use Rattle.rx_grammar.specs.TagFaults.{no_reference}
+use Rattle.rx_chars.specs.Utf8.{BeginsCharacter}
 use Rattle.rx_reader.proofs.TagLaws.{spells_each}
 
 abbrev limits : Limits
@@ -242,16 +241,35 @@ before_end = codes "<html></html"
 ending : (limits : Limits) → limits.depth ≡ 512 → 6 ≤ limits.tag → Reached Html limits before_end (html_item ∷ []) (opened html_item) within (placed 6 (codes "</html"))
 unfolding lib.Utf8.encode
 ending limits d t = record {
-  front = placed 0 (codes "<html>"); read = record { characters = before_end; scalars = refl; forms = refl; read = refl }; no_nul = refl; spelled = html_spelled (Some 60);
-  fit = (omega (arith, t), tt); sections = refl; stands = subst (λ (x : ℕ). Stands Html x (html_item ∷ []) (opened html_item) within) (sym d) (open_html 511) }
+  front = placed 0 (codes "<html>");
+  read = record { characters = before_end; scalars = refl; forms = refl; read = refl };
+  no_nul = refl;
+  spelled = html_spelled (Some 60);
+  fit = (omega (arith, t), tt);
+  sections = refl;
+  stands = subst (λ (x : ℕ). Stands Html x (html_item ∷ []) (opened html_item) within) (sym d) (open_html 511);
+}
 
 end_begun : Unfinished Html content.Html (codes "</html")
 end_begun = token_begun 60 62 (codes "/html") [] (tag (an_end_tag (codes "html"))) (a_tag {next = None} (codes "/html>") (an_end_tag (codes "html")) refl html_end)
 
 ending_before : (limits : Limits) → limits.depth ≡ 512 → 6 ≤ limits.tag → Before Html limits small 6 12
 ending_before limits d t = record {
-  whole = before_end; part = []; byte = 62; rest = []; items = html_item ∷ []; line = opened html_item; phase = within; run = placed 6 (codes "</html"); are = refl;
-  reached = ending limits d t; pending = inr end_begun; is_part = inl refl; token_is = refl; at_is = refl }
+  whole = before_end;
+  part = [];
+  byte = 62;
+  rest = [];
+  items = html_item ∷ [];
+  line = opened html_item;
+  phase = within;
+  run = placed 6 (codes "</html");
+  are = refl;
+  reached = ending limits d t;
+  pending = inr end_begun;
+  is_part = inl refl;
+  token_is = refl;
+  at_is = refl;
+}
 
 too_long : FaultAt Html narrow small (record { kind = kind.TagTooLong; token = 6; at = 12 })
 unfolding ending_before
@@ -264,21 +282,53 @@ page_long = page_too_long 6 12 (ending_before short refl (omega arith)) refl (λ
 after_html : Reached Html limits (codes "<html>") (html_item ∷ []) (opened html_item) within []
 unfolding lib.Utf8.encode
 after_html = record {
-  front = placed 0 (codes "<html>"); read = record { characters = codes "<html>"; scalars = refl; forms = refl; read = refl }; no_nul = refl; spelled = html_spelled None;
-  fit = (omega arith, tt); sections = refl; stands = open_html 511 }
+  front = placed 0 (codes "<html>");
+  read = record { characters = codes "<html>"; scalars = refl; forms = refl; read = refl };
+  no_nul = refl;
+  spelled = html_spelled None;
+  fit = (omega arith, tt);
+  sections = refl;
+  stands = open_html 511;
+}
 
 first_byte : BeginsCharacter (195 ∷ [])
 first_byte = record { more = 168 ∷ []; value = 232; longer = λ e. cc; character = record { well_formed = refl; scalar = refl } }
 
 bad_byte : FaultAt Html limits (codes "<html>" ++ 195 ∷ 40 ∷ []) (record { kind = kind.NotUtf8; token = 6; at = 7 })
 bad_byte = not_utf8 6 7 (record {
-  whole = codes "<html>"; part = 195 ∷ []; byte = 40; rest = []; items = html_item ∷ []; line = opened html_item; phase = within; run = []; are = refl;
-  reached = after_html; pending = inl refl; is_part = inr first_byte; token_is = refl; at_is = refl }) (omega arith) (λ h. absurd (cc)) (λ more value c. let q = c.well_formed in cc)
+  whole = codes "<html>";
+  part = 195 ∷ [];
+  byte = 40;
+  rest = [];
+  items = html_item ∷ [];
+  line = opened html_item;
+  phase = within;
+  run = [];
+  are = refl;
+  reached = after_html;
+  pending = inl refl;
+  is_part = inr first_byte;
+  token_is = refl;
+  at_is = refl;
+}) (omega arith) (λ h. absurd (cc)) (λ more value c. let q = c.well_formed in cc)
 
 nul_byte : FaultAt Html limits (codes "<html>" ++ 0 ∷ []) (record { kind = kind.Nul; token = 6; at = 6 })
 nul_byte = nul 6 6 (record {
-  whole = codes "<html>"; part = []; byte = 0; rest = []; items = html_item ∷ []; line = opened html_item; phase = within; run = []; are = refl;
-  reached = after_html; pending = inl refl; is_part = inl refl; token_is = refl; at_is = refl }) (omega arith) (λ h. absurd (cc)) refl refl
+  whole = codes "<html>";
+  part = [];
+  byte = 0;
+  rest = [];
+  items = html_item ∷ [];
+  line = opened html_item;
+  phase = within;
+  run = [];
+  are = refl;
+  reached = after_html;
+  pending = inl refl;
+  is_part = inl refl;
+  token_is = refl;
+  at_is = refl;
+}) (omega arith) (λ h. absurd (cc)) refl refl
 
 half_byte : FaultAt Html limits (codes "<html>" ++ 195 ∷ []) (record { kind = kind.Unended; token = 6; at = 7 })
 half_byte = unended (codes "<html>") (195 ∷ []) (html_item ∷ []) (opened html_item) within [] refl after_html (inl refl) (inr first_byte) (λ _ e. absurd (cc)) (omega arith) (λ h. absurd (cc))
@@ -296,23 +346,31 @@ strict_opens = record { content = refl; token = refl; start = refl; allowed = re
 no_reference_here : FaultAt Xhtml limits (codes "<html>a & b</html>") (record { kind = kind.StrictText; token = 8; at = 9 })
 unfolding lib.Utf8.encode
 no_reference_here = decided (codes "<html>a & ") (codes "b</html>") (html_item ∷ strict_char 97 6 ∷ strict_char 32 7 ∷ []) (opened html_item) within (entry 38 8 ∷ []) (entry 32 9) refl
-  (record {
-    front = placed 0 (codes "<html>a "); read = record { characters = codes "<html>a & "; scalars = refl; forms = refl; read = refl }; no_nul = refl;
-    spelled = one (entry 60 0) (placed 1 (codes "html>")) (placed 6 (codes "a ")) html_item (a_tag (codes "html>") (a_start_tag (codes "html")) refl strict_tag) refl refl
-      (one (entry 97 6) [] (placed 7 (codes " ")) (strict_char 97 6) (a_character 97 refl) refl refl (one (entry 32 7) [] [] (strict_char 32 7) (a_character 32 refl) refl refl no_more));
-    fit = (omega arith, (tt, (tt, tt))); sections = refl;
-    stands = still_open {left = 511} 512 (a_root {left = 511} [] html_item (a_start_tag (codes "html")) pages.no_more strict_opens refl refl (pages.another (strict_char 97 6) refl)
-      (a_text (strict_char 97 6) (97 ∷ []) refl refl (a_text (strict_char 32 7) (32 ∷ []) refl refl nothing))) refl })
-  (inr (run_begun [] refl refl)) (in_run (32 ∷ []) refl (no_reference [] 32 refl refl refl)) (λ h. absurd (cc)) (omega arith)
+    (record {
+      front = placed 0 (codes "<html>a ");
+      read = record { characters = codes "<html>a & "; scalars = refl; forms = refl; read = refl };
+      no_nul = refl;
+      spelled = one (entry 60 0) (placed 1 (codes "html>")) (placed 6 (codes "a ")) html_item (a_tag (codes "html>") (a_start_tag (codes "html")) refl strict_tag) refl refl
+          (one (entry 97 6) [] (placed 7 (codes " ")) (strict_char 97 6) (a_character 97 refl) refl refl (one (entry 32 7) [] [] (strict_char 32 7) (a_character 32 refl) refl refl no_more));
+      fit = (omega arith, (tt, (tt, tt)));
+      sections = refl;
+      stands = still_open {left = 511} 512 (a_root {left = 511} [] html_item (a_start_tag (codes "html")) pages.no_more strict_opens refl refl (pages.another (strict_char 97 6) refl)
+          (a_text (strict_char 97 6) (97 ∷ []) refl refl (a_text (strict_char 32 7) (32 ∷ []) refl refl nothing))) refl;
+    })
+    (inr (run_begun [] refl refl)) (in_run (32 ∷ []) refl (no_reference [] 32 refl refl refl)) (λ h. absurd (cc)) (omega arith)
 
 end_of_section : FaultAt Xhtml limits (codes "<html>a]]></html>") (record { kind = kind.StrictText; token = 9; at = 9 })
 unfolding lib.Utf8.encode
 end_of_section = decided (codes "<html>a]]>") (codes "</html>") (html_item ∷ strict_char 97 6 ∷ strict_char 93 7 ∷ strict_char 93 8 ∷ []) (opened html_item) within [] (entry 62 9) refl
-  (record {
-    front = placed 0 (codes "<html>a]]"); read = record { characters = codes "<html>a]]>"; scalars = refl; forms = refl; read = refl }; no_nul = refl;
-    spelled = one (entry 60 0) (placed 1 (codes "html>")) (placed 6 (codes "a]]")) html_item (a_tag (codes "html>") (a_start_tag (codes "html")) refl strict_tag) refl refl
-      (one (entry 97 6) [] (placed 7 (codes "]]")) (strict_char 97 6) (a_character 97 refl) refl refl (one (entry 93 7) [] (placed 8 (codes "]")) (strict_char 93 7) (a_character 93 refl) refl refl (one (entry 93 8) [] [] (strict_char 93 8) (a_character 93 refl) refl refl no_more)));
-    fit = (omega arith, (tt, (tt, (tt, tt)))); sections = refl;
-    stands = still_open {left = 511} 512 (a_root {left = 511} [] html_item (a_start_tag (codes "html")) pages.no_more strict_opens refl refl (pages.another (strict_char 97 6) refl)
-      (a_text (strict_char 97 6) (97 ∷ []) refl refl (a_text (strict_char 93 7) (93 ∷ []) refl refl (a_text (strict_char 93 8) (93 ∷ []) refl refl nothing)))) refl })
-  (inl refl) (section_end refl refl) (λ h. absurd (cc)) (omega arith)
+    (record {
+      front = placed 0 (codes "<html>a]]");
+      read = record { characters = codes "<html>a]]>"; scalars = refl; forms = refl; read = refl };
+      no_nul = refl;
+      spelled = one (entry 60 0) (placed 1 (codes "html>")) (placed 6 (codes "a]]")) html_item (a_tag (codes "html>") (a_start_tag (codes "html")) refl strict_tag) refl refl
+          (one (entry 97 6) [] (placed 7 (codes "]]")) (strict_char 97 6) (a_character 97 refl) refl refl (one (entry 93 7) [] (placed 8 (codes "]")) (strict_char 93 7) (a_character 93 refl) refl refl (one (entry 93 8) [] [] (strict_char 93 8) (a_character 93 refl) refl refl no_more)));
+      fit = (omega arith, (tt, (tt, (tt, tt))));
+      sections = refl;
+      stands = still_open {left = 511} 512 (a_root {left = 511} [] html_item (a_start_tag (codes "html")) pages.no_more strict_opens refl refl (pages.another (strict_char 97 6) refl)
+          (a_text (strict_char 97 6) (97 ∷ []) refl refl (a_text (strict_char 93 7) (93 ∷ []) refl refl (a_text (strict_char 93 8) (93 ∷ []) refl refl nothing)))) refl;
+    })
+    (inl refl) (section_end refl refl) (λ h. absurd (cc)) (omega arith)
