@@ -15,3 +15,6 @@ mod vocabulary;
 pub use copying::copy_patterns;
 pub use graphs::Graph;
 pub use numbering::relabel;
+
+#[cfg(test)]
+mod tests;

@@ -2,3 +2,4 @@ pub mod Cuts
 pub mod OneMeaning
 pub mod Adding
 pub mod Denoting
+pub mod Proper

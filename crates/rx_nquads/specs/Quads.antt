@@ -1,5 +1,5 @@
 -- Quads: RDF 1.1 Concepts, 4. Blank nodes are numbers.
-use Rattle.std.specs.Prelude.{ℕ, List, map, Option, option_map, bytes_eq, if◌then◌else◌}
+use Rattle.std.specs.Prelude.{◌≡◌, ◌≢◌, ℕ, List, map, Option, option_map, bytes_eq, if◌then◌else◌}
 use Rattle.rx_terms.specs.Text.{Chars}
 use Rattle.rx_terms.specs.Literal.{xsd_string}
 use Rattle.rx_model.specs.Terms.{Kind, Plain, Tagged, Typed, Node, Iri, Term, Resource, Literal, Triple}
@@ -32,3 +32,12 @@ quad_of name t = record {
 -- the quads of a list of triples, all in the graph of one name
 abbrev pub quads : List (Triple ℕ) → Option Chars → List Quad
 quads list name = map (quad_of name) list
+
+-- a term that is no xsd:string written as a typed literal
+abbrev pub IsProper : Term ℕ → Type 0
+IsProper (Resource node) = Unit {0}
+IsProper (Literal text kind) = kind ≢ Typed xsd_string
+
+-- law: the quad of a triple whose object is proper has that triple
+abbrev pub ProperStays : Type 0
+ProperStays = (name : Option Chars) (t : Triple ℕ) → IsProper t.object → (quad_of name t).triple ≡ t

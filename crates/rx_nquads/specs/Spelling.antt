@@ -15,10 +15,19 @@ pub record SpellsIri (spelling : Chars) (iri : Chars) : Type 0 where
   pub is_iri : IsIri iri
   pub spelled : spelling ≡ less_than_sign ∷ (iri ++ greater_than_sign ∷ [])
 
+abbrev pub digit_zero : ℕ
+digit_zero = 48
+
+abbrev pub small_n : ℕ
+small_n = 110
+
+abbrev pub small_r : ℕ
+small_r = 114
+
 abbrev pub has_leading_zero : Chars → Bool
 has_leading_zero [] = false
 has_leading_zero (c ∷ []) = false
-has_leading_zero (c ∷ d ∷ digits) = c == 48
+has_leading_zero (c ∷ d ∷ digits) = c == digit_zero
 
 -- BLANK_NODE_LABEL: `_:b` and digits
 pub record SpellsLabel (spelling : Chars) (number : ℕ) : Type 0 where
@@ -41,8 +50,8 @@ abbrev pub escape : ℕ → Option ℕ
 escape c =
     if c == quotation_mark then Some quotation_mark
     else if c == reverse_solidus then Some reverse_solidus
-    else if c == 110 then Some line_feed
-    else if c == 114 then Some carriage_return
+    else if c == small_n then Some line_feed
+    else if c == small_r then Some carriage_return
     else None
 
 -- what stands between the quotes of a string

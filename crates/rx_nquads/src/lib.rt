@@ -5,6 +5,7 @@
 #![tactic(auto)]
 
 ghost use Rattle.rx_nquads.specs.Document.{StatesOne, DenotesOne};
+ghost use Rattle.rx_nquads.specs.Quads.{ProperStays};
 
 mod terms;
 mod writing;
@@ -20,3 +21,11 @@ pub fn a_line_states_one()
 pub fn a_text_denotes_one()
     ensures { DenotesOne }
 {}
+
+/// The quad of a triple has that triple, but for a literal that is typed xsd:string in place of plain.
+pub fn proper_triples_stay()
+    ensures { ProperStays }
+{}
+
+#[cfg(test)]
+mod tests;
