@@ -1,13 +1,41 @@
-// A library with one function.
+//! Worked examples of RDFa's rules: of each page the triples that are written, computed on the definitions.
+//!
+//! A wrong edit of a definition fails here. Each function is a group of examples, and does nothing when it is called.
 #![tactic(auto)]
 
-ghost use Rattle.std.specs.Prelude.{◌≡◌};
-ghost use Rattle.rx_rows.specs.Echo.{echo_of};
+ghost use Rattle.rx_rows.specs.Inlist.{InlistHold};
+ghost use Rattle.rx_rows.specs.Links.{LinksHold};
+ghost use Rattle.rx_rows.specs.Patterns.{PatternsHold};
+ghost use Rattle.rx_rows.specs.Subjects.{SubjectsHold};
+ghost use Rattle.rx_rows.specs.Values.{ValuesHold};
+ghost use Rattle.rx_rows.specs.Words.{WordsHold};
 
-// The `ensures` clause is the contract: what `echo` returns is `echo_of` of its argument, a definition
-// in `specs/Echo.antt`, which a caller's clause can cite too.
-pub fn echo(x: usize) -> usize
-    ensures { result ≡ echo_of x }
-{
-    x
-}
+/// Subjects: about, references, the base.
+pub fn subjects_hold()
+    ensures { SubjectsHold }
+{}
+
+/// Links: rel and rev, resources, elements that are skipped.
+pub fn links_hold()
+    ensures { LinksHold }
+{}
+
+/// Names: prefixes, the vocabulary, terms and CURIEs.
+pub fn words_hold()
+    ensures { WordsHold }
+{}
+
+/// Values of property: content, datatypes, times, languages.
+pub fn values_hold()
+    ensures { ValuesHold }
+{}
+
+/// Lists.
+pub fn inlist_hold()
+    ensures { InlistHold }
+{}
+
+/// Property copying.
+pub fn patterns_hold()
+    ensures { PatternsHold }
+{}

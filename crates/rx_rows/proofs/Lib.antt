@@ -1,0 +1,6 @@
+pub mod Subjects
+pub mod Links
+pub mod Words
+pub mod Values
+pub mod Inlist
+pub mod Patterns

@@ -1,0 +1,13 @@
+-- Each row of Patterns by computation.
+use Rattle.std.proofs.Common.{refl}
+use Rattle.rx_rows.specs.Pages.{graph}
+use Rattle.rx_rows.specs.Patterns.{PatternsHold}
+
+pub rows : PatternsHold
+unfolding graph
+rows = record {
+  two_levels = refl;
+  cycle = refl;
+  cycle_that_nothing_copies = refl;
+  copied_resource_is_no_pattern = refl;
+}

@@ -1,0 +1,7 @@
+pub mod Pages
+pub mod Subjects
+pub mod Links
+pub mod Words
+pub mod Values
+pub mod Inlist
+pub mod Patterns

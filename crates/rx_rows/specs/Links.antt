@@ -1,0 +1,95 @@
+-- Links: rel and rev, resources, elements that are skipped.
+use Rattle.std.specs.Prelude.{◌≡◌, [], ◌∷◌, codes}
+use Rattle.rx_rdfa.specs.Iris.{rdf_type, uses_vocabulary}
+use Rattle.rx_rows.specs.Pages.{graph, here, body, page, tag, chars, says, v, iri, blank, at, plain, tagged}
+
+pub record LinksHold : Type 0 where
+  pub product_with_offer :
+    graph (codes "http://shop.example/anvil") (page (
+        tag "html" (("lang", "en") ∷ []) (
+            chars "\n"
+            ∷ tag "head" [] (tag "title" [] (chars "Anvil" ∷ []) ∷ [])
+            ∷ chars "\n"
+            ∷ tag "body" (("vocab", "http://schema.org/") ∷ ("typeof", "Product") ∷ []) (
+                chars "\n"
+                ∷ tag "h1" (("property", "name") ∷ []) (chars "Anvil" ∷ [])
+                ∷ chars "\n"
+                ∷ tag "img" (("property", "image") ∷ ("src", "anvil.jpg") ∷ ("alt", "") ∷ []) []
+                ∷ chars "\n"
+                ∷ tag "div" (("property", "offers") ∷ ("typeof", "Offer") ∷ []) (
+                    chars "\n"
+                    ∷ tag "meta" (("property", "priceCurrency") ∷ ("content", "USD") ∷ []) []
+                    ∷ chars "\n"
+                    ∷ tag "span" (("property", "price") ∷ ("content", "119.99") ∷ []) (chars "$119.99" ∷ [])
+                    ∷ chars "\n"
+                    ∷ tag "link" (("property", "availability") ∷ ("href", "http://schema.org/InStock") ∷ []) []
+                    ∷ chars "\n"
+                    ∷ []
+                )
+                ∷ chars "\n"
+                ∷ []
+            )
+            ∷ chars "\n"
+            ∷ []
+        )
+      ))
+      ≡ says (iri "http://shop.example/anvil") uses_vocabulary (at (iri "http://schema.org/"))
+        ∷ says (iri "http://shop.example/anvil") rdf_type (at (iri "http://schema.org/Product"))
+        ∷ says (iri "http://shop.example/anvil") (codes "http://schema.org/name") (tagged "Anvil" "en")
+        ∷ says (iri "http://shop.example/anvil") (codes "http://schema.org/image") (at (iri "http://shop.example/anvil.jpg"))
+        ∷ says (blank 0) rdf_type (at (iri "http://schema.org/Offer"))
+        ∷ says (iri "http://shop.example/anvil") (codes "http://schema.org/offers") (at (blank 0))
+        ∷ says (blank 0) (codes "http://schema.org/priceCurrency") (tagged "USD" "en")
+        ∷ says (blank 0) (codes "http://schema.org/price") (tagged "119.99" "en")
+        ∷ says (blank 0) (codes "http://schema.org/availability") (at (iri "http://schema.org/InStock"))
+        ∷ []
+
+  pub rel_waits_for_subject :
+    graph here (body (
+        tag "div" (("rel", "http://v.example/p") ∷ []) (
+            tag "i" (("property", "http://v.example/n") ∷ []) (chars "1" ∷ [])
+            ∷ []
+        )
+        ∷ []
+      ))
+      ≡ says (iri "http://h.example/d") (v "p") (at (blank 0))
+        ∷ says (blank 0) (v "n") (plain "1")
+        ∷ []
+
+  pub rel_beside_property :
+    graph here (body (
+        tag "a" (("property", "http://v.example/p") ∷ ("rel", "nofollow http://v.example/r") ∷ ("href", "/x") ∷ []) (
+            chars "t"
+            ∷ []
+        )
+        ∷ []
+      ))
+      ≡ says (iri "http://h.example/d") (v "r") (at (iri "http://h.example/x"))
+        ∷ says (iri "http://h.example/d") (v "p") (plain "t")
+        ∷ []
+
+  pub rel_without_iri_beside_property :
+    graph here (body (
+        tag "a" (("property", "http://v.example/p") ∷ ("rel", "nofollow") ∷ ("href", "/x") ∷ []) (
+            chars "t"
+            ∷ []
+        )
+        ∷ []
+      ))
+      ≡ says (iri "http://h.example/d") (v "p") (at (iri "http://h.example/x"))
+        ∷ []
+
+  pub rev_waits_for_subject :
+    graph here (body (
+        tag "div" (("about", "#a") ∷ ("rev", "http://v.example/p") ∷ []) (
+            tag "div" (("resource", "#b") ∷ []) []
+            ∷ []
+        )
+        ∷ []
+      ))
+      ≡ says (iri "http://h.example/d#b") (v "p") (at (iri "http://h.example/d#a"))
+        ∷ []
+
+  pub skipped_element_completes_nothing :
+    graph here (body (tag "div" (("rel", "http://v.example/p") ∷ []) (tag "span" [] [] ∷ []) ∷ []))
+      ≡ []

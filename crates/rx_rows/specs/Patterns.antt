@@ -1,0 +1,72 @@
+-- Property copying.
+use Rattle.std.specs.Prelude.{◌≡◌, [], ◌∷◌}
+use Rattle.rx_model.specs.Copied.{rdfa_copy}
+use Rattle.rx_rdfa.specs.Iris.{rdf_type}
+use Rattle.rx_rows.specs.Pages.{graph, here, body, tag, chars, says, v, iri, at, plain}
+
+pub record PatternsHold : Type 0 where
+  pub two_levels :
+    graph here (body (
+        tag "div" (("resource", "#a") ∷ ("typeof", "rdfa:Pattern") ∷ []) (
+            tag "p" (("property", "http://v.example/p") ∷ []) (chars "1" ∷ [])
+            ∷ tag "link" (("property", "rdfa:copy") ∷ ("href", "#b") ∷ []) []
+            ∷ []
+        )
+        ∷ tag "div" (("resource", "#b") ∷ ("typeof", "rdfa:Pattern") ∷ []) (
+            tag "p" (("property", "http://v.example/q") ∷ []) (chars "2" ∷ [])
+            ∷ []
+        )
+        ∷ tag "div" (("resource", "#s") ∷ ("typeof", "http://v.example/T") ∷ []) (
+            tag "link" (("property", "rdfa:copy") ∷ ("href", "#a") ∷ []) []
+            ∷ []
+        )
+        ∷ []
+      ))
+      ≡ says (iri "http://h.example/d#s") rdf_type (at (iri "http://v.example/T"))
+        ∷ says (iri "http://h.example/d#s") (v "p") (plain "1")
+        ∷ says (iri "http://h.example/d#s") (v "q") (plain "2")
+        ∷ []
+
+  pub cycle :
+    graph here (body (
+        tag "div" (("resource", "#a") ∷ ("typeof", "rdfa:Pattern") ∷ []) (
+            tag "p" (("property", "http://v.example/p") ∷ []) (chars "1" ∷ [])
+            ∷ tag "link" (("property", "rdfa:copy") ∷ ("href", "#b") ∷ []) []
+            ∷ []
+        )
+        ∷ tag "div" (("resource", "#b") ∷ ("typeof", "rdfa:Pattern") ∷ []) (
+            tag "p" (("property", "http://v.example/q") ∷ []) (chars "2" ∷ [])
+            ∷ tag "link" (("property", "rdfa:copy") ∷ ("href", "#a") ∷ []) []
+            ∷ []
+        )
+        ∷ tag "div" (("resource", "#s") ∷ ("typeof", "http://v.example/T") ∷ []) (
+            tag "link" (("property", "rdfa:copy") ∷ ("href", "#a") ∷ []) []
+            ∷ []
+        )
+        ∷ []
+      ))
+      ≡ says (iri "http://h.example/d#s") rdf_type (at (iri "http://v.example/T"))
+        ∷ says (iri "http://h.example/d#s") (v "p") (plain "1")
+        ∷ says (iri "http://h.example/d#s") (v "q") (plain "2")
+        ∷ []
+
+  pub cycle_that_nothing_copies :
+    graph here (body (
+        tag "div" (("resource", "#a") ∷ ("typeof", "rdfa:Pattern") ∷ []) (
+            tag "p" (("property", "http://v.example/p") ∷ []) (chars "1" ∷ [])
+            ∷ tag "link" (("property", "rdfa:copy") ∷ ("href", "#b") ∷ []) []
+            ∷ []
+        )
+        ∷ tag "div" (("resource", "#b") ∷ ("typeof", "rdfa:Pattern") ∷ []) (
+            tag "p" (("property", "http://v.example/q") ∷ []) (chars "2" ∷ [])
+            ∷ tag "link" (("property", "rdfa:copy") ∷ ("href", "#a") ∷ []) []
+            ∷ []
+        )
+        ∷ []
+      ))
+      ≡ []
+
+  pub copied_resource_is_no_pattern :
+    graph here (body (tag "link" (("property", "rdfa:copy") ∷ ("href", "#a") ∷ []) [] ∷ []))
+      ≡ says (iri "http://h.example/d") rdfa_copy (at (iri "http://h.example/d#a"))
+        ∷ []
