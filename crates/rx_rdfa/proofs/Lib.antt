@@ -5,3 +5,5 @@ pub mod Tables
 pub mod Local
 pub mod Machine
 pub mod Calls
+pub mod Sent
+pub mod RenamedResources

@@ -20,3 +20,4 @@ pub mod Local
 pub mod Machine
 pub mod Calls
 pub mod Tables
+pub mod Renaming

@@ -123,7 +123,7 @@ abbrev pub is_duration : Chars → Bool
 is_duration text = follows (λ rest. are_time_parts (part 68 (part 77 (part 89 (false, rest))))) (after_char 80 (without_minus text))
 
 -- the name of the datatype whose form the text has; no text has the form of two
-abbrev pub time_kind : Chars → Option Chars
+unfoldable pub time_kind : Chars → Option Chars
 time_kind text =
     if follows is_zone (after_year text) then Some (codes "gYear")
     else if follows is_zone (after_month text) then Some (codes "gYearMonth")

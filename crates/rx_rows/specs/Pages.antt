@@ -14,6 +14,7 @@ use Rattle.rx_rdfa.specs.Facts.{with_facts}
 use Rattle.rx_rdfa.specs.Base.{base_of}
 use Rattle.rx_rdfa.specs.Resources.{resources}
 use Rattle.rx_rdfa.specs.Inherited.{below}
+use Rattle.rx_rdfa.specs.Times.{time_kind}
 use Rattle.rx_rdfa.specs.Element.{start_of, end_of}
 use Rattle.rx_rdfa.specs.Lists.{entries_at, cells}
 use Rattle.rx_rdfa.specs.Whole.{written}
@@ -53,7 +54,7 @@ v name = codes "http://v.example/" ++ codes name
 
 -- the triples that are written of a page at an address
 unfoldable pub graph : Chars → Nodes Tag → List (Triple ℕ)
-unfolding components_of step without_dots target resolved resources below start_of end_of entries_at cells
+unfolding time_kind components_of step without_dots target resolved resources below start_of end_of entries_at cells
 graph address tree = written (base_of tree address) (with_facts standard [] tree)
 
 abbrev pub iri : String → Node ℕ
