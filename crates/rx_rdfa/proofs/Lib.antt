@@ -7,3 +7,4 @@ pub mod Machine
 pub mod Calls
 pub mod Sent
 pub mod RenamedResources
+pub mod RenamedElement
