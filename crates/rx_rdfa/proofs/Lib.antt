@@ -8,3 +8,4 @@ pub mod Calls
 pub mod Sent
 pub mod RenamedResources
 pub mod RenamedElement
+pub mod RenamedLists
