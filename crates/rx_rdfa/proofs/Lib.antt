@@ -9,3 +9,4 @@ pub mod Sent
 pub mod RenamedResources
 pub mod RenamedElement
 pub mod RenamedLists
+pub mod RenamedMade
