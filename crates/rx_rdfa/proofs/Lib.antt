@@ -10,3 +10,4 @@ pub mod RenamedResources
 pub mod RenamedElement
 pub mod RenamedLists
 pub mod RenamedMade
+pub mod RenamedMachine

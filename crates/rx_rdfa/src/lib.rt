@@ -10,6 +10,7 @@ ghost use Rattle.rx_rdfa.specs.Calls.{CallsRead, FramesAreContexts};
 ghost use Rattle.rx_rdfa.specs.Local.{ListsAreLocal};
 ghost use Rattle.rx_rdfa.specs.Machine.{ReadingMakes};
 ghost use Rattle.rx_rdfa.specs.Made.{MadeIsRaw};
+ghost use Rattle.rx_rdfa.specs.Renaming.{MadeRenames};
 ghost use Rattle.rx_rdfa.specs.Tables.{TablesAreLists};
 ghost use Rattle.rx_rdfa.specs.Whole.{WrittenDenotes};
 
@@ -49,4 +50,10 @@ pub fn frames_are_contexts()
 /// A table that grows by one item or touch at a time gives an owner's lists.
 pub fn tables_are_lists()
     ensures { TablesAreLists Owner (Term Bnode) }
+{}
+
+/// Where blank nodes and owners have other names, each its own, the list of a tree and what its reading makes are the
+/// model's list with these names.
+pub fn made_renames()
+    ensures { MadeRenames }
 {}
