@@ -10,4 +10,6 @@ rows = record {
   cycle = refl;
   cycle_that_nothing_copies = refl;
   copied_resource_is_no_pattern = refl;
+  pattern_that_nothing_copies = refl;
+  other_types_are_copied = refl;
 }

@@ -70,3 +70,24 @@ pub record PatternsHold : Type 0 where
     graph here (body (tag "link" (("property", "rdfa:copy") ∷ ("href", "#a") ∷ []) [] ∷ []))
       ≡ says (iri "http://h.example/d") rdfa_copy (at (iri "http://h.example/d#a"))
         ∷ []
+
+  pub pattern_that_nothing_copies :
+    graph here (body (
+        tag "div" (("resource", "#a") ∷ ("typeof", "rdfa:Pattern") ∷ []) (
+            tag "p" (("property", "http://v.example/p") ∷ []) (chars "1" ∷ [])
+            ∷ []
+        )
+        ∷ []
+      ))
+      ≡ says (iri "http://h.example/d#a") rdf_type (at (iri "http://www.w3.org/ns/rdfa#Pattern"))
+        ∷ says (iri "http://h.example/d#a") (v "p") (plain "1")
+        ∷ []
+
+  pub other_types_are_copied :
+    graph here (body (
+        tag "div" (("resource", "#a") ∷ ("typeof", "rdfa:Pattern http://v.example/T") ∷ []) []
+        ∷ tag "div" (("about", "#s") ∷ []) (tag "link" (("property", "rdfa:copy") ∷ ("href", "#a") ∷ []) [] ∷ [])
+        ∷ []
+      ))
+      ≡ says (iri "http://h.example/d#s") rdf_type (at (iri "http://v.example/T"))
+        ∷ []
