@@ -1,5 +1,4 @@
 pub mod Tree
-pub mod NcName
 pub mod Names
 pub mod Standard
 pub mod Readings

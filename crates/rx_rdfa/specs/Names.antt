@@ -1,12 +1,13 @@
 -- The names in force at an element: RDFa Core 1.1, sections 6 and 9, and 7.5, steps 2 to 4. A line is an element's
 -- start tag, its parent's, and so on up to the root's.
-use Rattle.std.specs.Prelude.{Bool, not, ◌&&◌, ◌==◌, List, [], ◌∷◌, ◌++◌, drop, reverse, filter, find, flat_map, Option, Some, None, option_map, bytes_eq, codes, if◌then◌else◌}
+use Rattle.std.specs.Prelude.{Bool, false, not, ◌&&◌, ◌==◌, List, [], ◌∷◌, ◌++◌, drop, reverse, filter, find, flat_map, Option, Some, None, option_map, bytes_eq, codes, if◌then◌else◌}
 use Rattle.std.specs.Option.{option_or}
+use Rattle.std.specs.List.{list_all}
+use Rattle.rx_chars.specs.NcName.{is_nc_start, is_nc}
 use Rattle.rx_terms.specs.Ascii.{colon}
 use Rattle.rx_terms.specs.Text.{Chars, trimmed, lowered, tokens, begins_with}
 use Rattle.rx_terms.specs.Iri.{has_scheme}
 use Rattle.rx_terms.specs.Lang.{is_lang}
-use Rattle.rx_rdfa.specs.NcName.{is_nc_name}
 use Rattle.rx_rdfa.specs.Tree.{Tag, attribute}
 
 -- a table from names to IRIs
@@ -21,6 +22,11 @@ pub record Context : Type 0 where
 -- what the table has first at a name
 abbrev pub value_at : Chars → Table → Option Chars
 value_at name table = option_map (λ (row : Chars × Chars). row.1) (find (λ row. bytes_eq row.0 name) table)
+
+-- Namespaces in XML 1.0, 3, [4] NCName
+abbrev pub is_nc_name : Chars → Bool
+is_nc_name [] = false
+is_nc_name (c ∷ name) = is_nc_start c && list_all is_nc name
 
 -- RDFa Core 1.1, 7.5, step 3: a name other than `_`. Own rule: its value has a scheme.
 abbrev pub counts : Chars × Chars → Bool

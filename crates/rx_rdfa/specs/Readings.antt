@@ -5,7 +5,7 @@ use Rattle.std.specs.List.{list_all}
 use Rattle.rx_terms.specs.Ascii.{colon, solidus, left_bracket, right_bracket}
 use Rattle.rx_terms.specs.Text.{Chars, trimmed, lowered, split_at, begins_with}
 use Rattle.rx_terms.specs.Iri.{has_scheme}
-use Rattle.rx_rdfa.specs.NcName.{is_nc_start, is_nc}
+use Rattle.rx_chars.specs.NcName.{is_nc_start, is_nc}
 use Rattle.rx_rdfa.specs.Tree.{Tag}
 use Rattle.rx_rdfa.specs.Names.{Context, prefix, vocab, term}
 
