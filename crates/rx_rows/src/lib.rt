@@ -3,6 +3,7 @@
 //! A wrong edit of a definition fails here. Each function is a group of examples, and does nothing when it is called.
 #![tactic(auto)]
 
+ghost use Rattle.rx_rows.specs.Forms.{FormsHold};
 ghost use Rattle.rx_rows.specs.Inlist.{InlistHold};
 ghost use Rattle.rx_rows.specs.Links.{LinksHold};
 ghost use Rattle.rx_rows.specs.Patterns.{PatternsHold};
@@ -38,4 +39,9 @@ pub fn inlist_hold()
 /// Property copying.
 pub fn patterns_hold()
     ensures { PatternsHold }
+{}
+
+/// The forms of times.
+pub fn forms_hold()
+    ensures { FormsHold }
 {}
