@@ -11,3 +11,4 @@ pub mod RenamedElement
 pub mod RenamedLists
 pub mod RenamedMade
 pub mod RenamedMachine
+pub mod Growing
