@@ -3,7 +3,7 @@ use Rattle.std.proofs.Common.{◌≡◌, ◌≢◌, ℕ, suc, ◌≤◌, Bool, t
 use Rattle.std.proofs.lemmas.List.Elements.{filter-append}
 use Rattle.rx_terms.specs.Text.{Chars}
 use Rattle.rx_model.specs.Sets.{Among}
-use Rattle.rx_model.specs.Terms.{Iri, Term, Resource, same_node}
+use Rattle.rx_model.specs.Terms.{Term, Resource, same_node}
 use Rattle.rx_model.proofs.Sets.{Among_cases, Among_of_map, Among_of_filter_map, Among_of_flat_map, false_unless}
 use Rattle.rx_rdfa.specs.Tree.{Nodes, end, element, text, all_text}
 use Rattle.rx_rdfa.specs.Naming.{Path}

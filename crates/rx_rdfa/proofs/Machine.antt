@@ -5,12 +5,12 @@ use Rattle.std.proofs.lemmas.List.{map-append}
 use Rattle.std.proofs.lemmas.List.Elements.{filter_map-append}
 use Rattle.rx_terms.specs.Text.{Chars}
 use Rattle.rx_model.specs.Sets.{Among}
-use Rattle.rx_model.specs.Terms.{Iri, Term, Resource}
+use Rattle.rx_model.specs.Terms.{Term, Resource}
 use Rattle.rx_model.proofs.Sets.{Among_of_filter_map, false_unless}
 use Rattle.rx_model.proofs.Exact.{exact_texts}
 use Rattle.rx_rdfa.specs.Tree.{Nodes, end, element, text, all_text}
 use Rattle.rx_rdfa.specs.Naming.{Path}
-use Rattle.rx_rdfa.specs.Blanks.{Owner, First, Of, Below, Bnode, ModelNode, ModelTriple, model}
+use Rattle.rx_rdfa.specs.Blanks.{Owner, Of, Below, Bnode, ModelNode, ModelTriple, model}
 use Rattle.rx_rdfa.specs.Facts.{Facts}
 use Rattle.rx_rdfa.specs.Resources.{Hanging, Forward, Reverse, InList, Inherited, Resources, Standing, resources}
 use Rattle.rx_rdfa.specs.Inherited.{listed, hangs, own_owner, below, up, inherited}

@@ -1,10 +1,9 @@
 -- Renaming goes through the value of property, and the triples of one element.
-use Rattle.std.proofs.Common.{◌≡◌, Bool, true, false, cond, not, ◌&&◌, List, [], ◌∷◌, ◌++◌, map, flat_map, filter_map, Option, Some, None, option_map, option_to_list, is_none, is_some, unwrap_or, refl, sym, ap, ap₂, ◌∙◌}
+use Rattle.std.proofs.Common.{◌≡◌, Bool, true, false, cond, not, ◌&&◌, List, [], ◌∷◌, ◌++◌, map, flat_map, filter_map, Option, Some, None, option_map, option_to_list, is_none, is_some, unwrap_or, refl, ap, ap₂, ◌∙◌}
 use Rattle.std.proofs.lemmas.List.{map-append}
 use Rattle.std.specs.Option.{option_or}
-use Rattle.std.specs.List.{cons_option}
 use Rattle.rx_terms.specs.Text.{Chars}
-use Rattle.rx_model.specs.Terms.{Node, Iri, Term, Resource, Literal, Triple}
+use Rattle.rx_model.specs.Terms.{Node, Iri, Term}
 use Rattle.rx_model.specs.Copied.{spo}
 use Rattle.rx_model.specs.Numbered.{rename_node, rename_term, rename}
 use Rattle.rx_rdfa.specs.Iris.{rdf_type, uses_vocabulary}
@@ -15,7 +14,7 @@ use Rattle.rx_rdfa.specs.Inherited.{listed}
 use Rattle.rx_rdfa.specs.Times.{time_datatype}
 use Rattle.rx_rdfa.specs.Value.{Rule, ByDatatype, ByContent, ByDatetime, ByTimeText, ByResource, ByTyped, ByText, rule_or, rule, literal_by, time_literal_by, is_time, value_now, value_of_text, value}
 use Rattle.rx_rdfa.specs.Element.{to_node, of_vocabulary, types_by, links_by, properties_by, completed, text_value, start_of, end_of}
-use Rattle.rx_rdfa.specs.Renaming.{rename_hanging, rename_standing, rename_resources, rename_rule, label_of, label_of_option, AgreeAt}
+use Rattle.rx_rdfa.specs.Renaming.{rename_hanging, rename_standing, rename_resources, rename_rule, label_of, AgreeAt}
 use Rattle.rx_rdfa.proofs.Sent.{map_only, map_unwrap, map_cond}
 use Rattle.rx_rdfa.proofs.RenamedResources.{Alike, alike_left, alike_right, alike_at, named, named_option, resources_rename}
 

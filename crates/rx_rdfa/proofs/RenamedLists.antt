@@ -1,11 +1,9 @@
 -- Renaming goes through the entries of an element, and the lists of an owner.
 use Rattle.std.proofs.Common.{◌≡◌, ℕ, suc, Bool, true, false, cond, List, [], ◌∷◌, ◌++◌, map, filter, flat_map, filter_map, Option, Some, None, option_map, refl, sym, ap, ap₂, ◌∙◌, inl, inr, bytes_eq}
-use Rattle.std.proofs.lemmas.List.{map-append}
-use Rattle.std.specs.List.{cons_option}
 use Rattle.rx_terms.specs.Text.{Chars}
 use Rattle.rx_model.specs.Sets.{Among, distinct}
 use Rattle.rx_model.specs.Copied.{spo}
-use Rattle.rx_model.specs.Terms.{Node, Blank, Term, Resource, Triple}
+use Rattle.rx_model.specs.Terms.{Node, Blank, Term, Resource}
 use Rattle.rx_model.specs.Numbered.{rename_node, rename_term, rename}
 use Rattle.rx_rdfa.specs.Iris.{rdf_first, rdf_rest}
 use Rattle.rx_rdfa.specs.Naming.{Naming}
@@ -14,7 +12,7 @@ use Rattle.rx_rdfa.specs.Inherited.{listed, hangs, own_owner}
 use Rattle.rx_rdfa.specs.Value.{rule, value}
 use Rattle.rx_rdfa.specs.Element.{to_node}
 use Rattle.rx_rdfa.specs.Lists.{Entry, entry, linked, touched, valued, awaited, entries_by, entries_at, of_owner, lists, items, cell_or_nil, chain, list_of, cells_from, cells}
-use Rattle.rx_rdfa.specs.Renaming.{rename_entry, rename_hanging, rename_standing, rename_resources, rename_rule, AgreeAt}
+use Rattle.rx_rdfa.specs.Renaming.{rename_entry, rename_hanging, rename_standing, rename_resources, AgreeAt}
 use Rattle.rx_rdfa.proofs.RenamedResources.{owner_is, hangs_is, resources_rename}
 use Rattle.rx_rdfa.proofs.RenamedElement.{map_cond_nil, map_unless, map_both, map_each, rule_rename, value_rename}
 

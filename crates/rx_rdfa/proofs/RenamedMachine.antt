@@ -1,21 +1,21 @@
 -- Renaming goes through reading with frames.
-use Rattle.std.proofs.Common.{◌≡◌, ℕ, suc, Bool, true, false, cond, List, [], ◌∷◌, ◌++◌, map, filter_map, Option, Some, None, option_map, refl, sym, ap, ap₂, ◌∙◌, bytes_eq}
+use Rattle.std.proofs.Common.{◌≡◌, suc, Bool, true, false, cond, List, [], ◌∷◌, ◌++◌, map, Option, Some, None, option_map, refl, sym, ap, ap₂, ◌∙◌, bytes_eq}
 use Rattle.std.proofs.lemmas.List.{map-append}
 use Rattle.rx_terms.specs.Text.{Chars}
-use Rattle.rx_model.specs.Terms.{Node, Iri, Term, Triple}
-use Rattle.rx_model.specs.Numbered.{rename_node, rename_term, rename}
+use Rattle.rx_model.specs.Terms.{Term, Triple}
+use Rattle.rx_model.specs.Numbered.{rename_term, rename}
 use Rattle.rx_rdfa.specs.Naming.{Path, Naming}
-use Rattle.rx_rdfa.specs.Blanks.{Bnode, Owner, model}
+use Rattle.rx_rdfa.specs.Blanks.{model}
 use Rattle.rx_rdfa.specs.Tree.{Nodes, end, element, text}
 use Rattle.rx_rdfa.specs.Facts.{Facts}
 use Rattle.rx_rdfa.specs.Resources.{Inherited, Standing, Resources, resources}
-use Rattle.rx_rdfa.specs.Inherited.{below, up, at_page}
+use Rattle.rx_rdfa.specs.Inherited.{up}
 use Rattle.rx_rdfa.specs.Value.{Rule, value_now, value, rule}
 use Rattle.rx_rdfa.specs.Element.{start_of, end_of}
 use Rattle.rx_rdfa.specs.Lists.{Entry, entry, entries_by}
-use Rattle.rx_rdfa.specs.Made.{lists_below, lists_of, page_lists, made}
-use Rattle.rx_rdfa.specs.Machine.{Slot, Full, Waiting, Machine, inherit, slot_of, rule_at, value_at, reserved, fill_slot, fill, settled, settle, entered, enter, read, number, left, leave_with, leave, run, begun, finished}
-use Rattle.rx_rdfa.specs.Renaming.{rename_entry, rename_slot, rename_hanging, rename_inherited, rename_standing, rename_resources, rename_rule, rename_machine, AgreeAt, Agree, MadeRenames}
+use Rattle.rx_rdfa.specs.Made.{lists_below, lists_of, page_lists}
+use Rattle.rx_rdfa.specs.Machine.{Slot, Full, Waiting, Machine, inherit, slot_of, rule_at, value_at, reserved, fill_slot, fill, settle, entered, enter, read, number, left, leave_with, leave, run, begun, finished}
+use Rattle.rx_rdfa.specs.Renaming.{rename_entry, rename_slot, rename_inherited, rename_standing, rename_resources, rename_rule, rename_machine, AgreeAt, Agree, MadeRenames}
 use Rattle.rx_rdfa.proofs.RenamedResources.{resources_rename, below_rename}
 use Rattle.rx_rdfa.proofs.RenamedElement.{rule_rename, value_now_rename, value_rename, start_rename, end_rename}
 use Rattle.rx_rdfa.proofs.RenamedLists.{entries_by_rename}
@@ -108,8 +108,8 @@ module _ {B O C P : Type 0} (f : B → C) (g : O → P) (n : Naming B O) (m : Na
       let filled : List (Entry O (Slot B)) = fill at.path (value_at n base at s) slots in
       let after : List (Entry P (Slot C)) = fill at.path (value_at m base there s) (map (rename_entry g (rename_slot f)) slots) in
       let slots_are : map (rename_entry g (rename_slot f)) filled ≡ after =
-        fill_rename f g at.path (value_at n base at s) slots
-        ∙ ap (λ z. fill at.path z (map (rename_entry g (rename_slot f)) slots)) (value_at_rename f g n m base at a s)
+      fill_rename f g at.path (value_at n base at s) slots
+      ∙ ap (λ z. fill at.path z (map (rename_entry g (rename_slot f)) slots)) (value_at_rename f g n m base at a s)
       in
       let settled_are : map (rename_entry g (rename_term f)) (settle filled) ≡ settle after = settle_rename f g filled ∙ ap settle slots_are in
       λ i. record {
@@ -153,7 +153,7 @@ pub made_renames : MadeRenames
 made_renames to to_owner naming k base tree = record {
   list = sym (made_rename to to_owner model naming k base tree);
   reading =
-    ap (finished naming base) (sym (run_rename to to_owner model naming k base tree begun))
-    ∙ sym (finished_rename to to_owner model naming k base (run model base tree begun))
-    ∙ ap (map (rename to)) (reading_makes base tree);
+      ap (finished naming base) (sym (run_rename to to_owner model naming k base tree begun))
+      ∙ sym (finished_rename to to_owner model naming k base (run model base tree begun))
+      ∙ ap (map (rename to)) (reading_makes base tree);
 }

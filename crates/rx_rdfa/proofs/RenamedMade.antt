@@ -1,18 +1,17 @@
 -- Renaming goes through the list of a tree's triples.
 use Rattle.std.proofs.Common.{◌≡◌, ℕ, suc, List, [], ◌∷◌, ◌++◌, map, flat_map, refl, ap, ap₂, ◌∙◌}
-use Rattle.std.proofs.lemmas.List.{map-append}
 use Rattle.rx_terms.specs.Text.{Chars}
-use Rattle.rx_model.specs.Terms.{Node, Iri, Term, Triple}
+use Rattle.rx_model.specs.Terms.{Node, Iri, Term}
 use Rattle.rx_model.specs.Numbered.{rename_node, rename_term, rename}
 use Rattle.rx_rdfa.specs.Naming.{Path, Naming}
 use Rattle.rx_rdfa.specs.Tree.{Nodes, end, element, text, all_text}
 use Rattle.rx_rdfa.specs.Facts.{Facts}
 use Rattle.rx_rdfa.specs.Resources.{Inherited, Standing, Resources, resources}
 use Rattle.rx_rdfa.specs.Inherited.{below, inherited, up, at_page}
-use Rattle.rx_rdfa.specs.Element.{Place, places_from, places, in_order_from, in_order, standing, start, start_of, end', end_of}
+use Rattle.rx_rdfa.specs.Element.{Place, places, in_order_from, in_order, standing, start, start_of, end', end_of}
 use Rattle.rx_rdfa.specs.Lists.{Entry, entries_of, entries_at, entries, cells}
 use Rattle.rx_rdfa.specs.Made.{lists_below, lists_of, page_lists, end_and_lists, made}
-use Rattle.rx_rdfa.specs.Renaming.{rename_entry, rename_inherited, rename_standing, rename_resources, AgreeAt, Agree}
+use Rattle.rx_rdfa.specs.Renaming.{rename_entry, rename_inherited, rename_standing, AgreeAt, Agree}
 use Rattle.rx_rdfa.proofs.RenamedResources.{resources_rename, below_rename}
 use Rattle.rx_rdfa.proofs.RenamedElement.{map_both, start_rename, end_rename}
 use Rattle.rx_rdfa.proofs.RenamedLists.{entries_at_rename, cells_alike, cells_rename}

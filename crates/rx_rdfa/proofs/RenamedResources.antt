@@ -1,5 +1,5 @@
 -- Renaming goes through the resources of an element, and what its children inherit.
-use Rattle.std.proofs.Common.{◌≡◌, Bool, true, false, cond, not, ◌&&◌, ◌||◌, List, [], ◌∷◌, ◌++◌, map, flat_map, Option, Some, None, option_map, is_none, is_some, unwrap_or, refl, ap, ap₂, ◌∙◌, inl, inr}
+use Rattle.std.proofs.Common.{◌≡◌, Bool, true, false, cond, not, ◌&&◌, ◌||◌, List, [], ◌∷◌, ◌++◌, map, flat_map, Option, Some, None, option_map, is_none, unwrap_or, refl, ap, ap₂, ◌∙◌, inl}
 use Rattle.std.proofs.lemmas.List.{map-append}
 use Rattle.std.specs.Option.{option_or}
 use Rattle.std.specs.Bool.{then_some}
@@ -10,7 +10,7 @@ use Rattle.rx_model.specs.Numbered.{rename_node}
 use Rattle.rx_model.proofs.Sets.{Among_left, Among_right}
 use Rattle.rx_rdfa.specs.Naming.{Naming}
 use Rattle.rx_rdfa.specs.Facts.{Facts, Ref, IriRef, LabelRef, RelativeRef}
-use Rattle.rx_rdfa.specs.Resources.{Forward, Reverse, InList, Inherited, Standing, Resources, resource_named, about, linked_resource, base_at_root, parent_for_head_and_body, has_typeof, has_link, is_plain_property, is_root, is_root_child, is_head_or_body, new_blank, default_subject, of_property, of_no_link, of_link, only, resources}
+use Rattle.rx_rdfa.specs.Resources.{Forward, Reverse, InList, Standing, Resources, resource_named, about, linked_resource, base_at_root, parent_for_head_and_body, has_typeof, has_link, is_plain_property, is_root, is_root_child, is_head_or_body, new_blank, default_subject, of_property, of_no_link, of_link, only, resources}
 use Rattle.rx_rdfa.specs.Inherited.{listed, holds_some, hangs, object_below, own_owner, hanging_of, owner_below, handed, below}
 use Rattle.rx_rdfa.specs.Renaming.{rename_hanging, rename_inherited, rename_standing, rename_resources, label_of, label_of_option, labels, AgreeAt}
 use Rattle.rx_rdfa.proofs.Sent.{Sent, SentOption, map_or, map_then, map_unwrap, none_map, map_cond, or_is, then_is, only_is, unwrap_is, none_is, cond_is}
@@ -67,8 +67,8 @@ module _ {B O C P : Type 0} (f : B → C) (n : Naming B O) (m : Naming C P) wher
       record {
         about_labels = alike_left a (r ++ (h ++ (s ++ t))) k;
         resource_labels =
-          alike_or facts.resource (option_or facts.href facts.src) (alike_left r (h ++ (s ++ t)) k₁)
-          (alike_or facts.href facts.src (alike_left h (s ++ t) k₂) (alike_left s t k₃));
+            alike_or facts.resource (option_or facts.href facts.src) (alike_left r (h ++ (s ++ t)) k₁)
+            (alike_or facts.href facts.src (alike_left h (s ++ t) k₂) (alike_left s t k₃));
         type_labels = alike_right s t k₃;
       }
 

@@ -1,5 +1,4 @@
 -- What is written denotes the graph.
-use Rattle.std.proofs.Common.{◌≡◌}
 use Rattle.rx_model.specs.Terms.{Triple, Graph, set_of}
 use Rattle.rx_model.specs.Copied.{Closed, held, copied_from, patterned, copied}
 use Rattle.rx_model.specs.Numbered.{Renamed}

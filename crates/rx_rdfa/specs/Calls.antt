@@ -57,7 +57,7 @@ no_line = record { facts = []; path = []; next = 0 }
 pub record FramesAt {B O : Type 0} (naming : Naming B O) (base : Chars) (list : List Call) : Type 0 where
   pub open_elements : length (after naming base list begun).standings ≡ length (line_after list no_line).facts
   pub context :
-    inherit naming base (after naming base list begun).standings
+      inherit naming base (after naming base list begun).standings
       ≡ inherited naming base (line_after list no_line).facts (line_after list no_line).path
 
 -- law: that holds after any front of calls

@@ -91,9 +91,9 @@ start_of naming base at =
     of_vocabulary naming base at
     ++ (if here.skipped then []
     else types_by naming base at here.typed
-        ++ links_by naming base at here here.object
-        ++ properties_by naming base at here (value_now (rule naming base at.facts here) at.facts)
-        ++ filter_map (completed naming base at here) at.around.hanging)
+    ++ links_by naming base at here here.object
+    ++ properties_by naming base at here (value_now (rule naming base at.facts here) at.facts)
+    ++ filter_map (completed naming base at here) at.around.hanging)
 
 -- what it gives at its end: the values that are its text
 unfoldable pub end_of : {B O : Type 0} → Naming B O → Chars → Standing B O → Chars → List (Triple B)

@@ -5,7 +5,7 @@ use Rattle.rx_model.specs.Sets.{Among}
 use Rattle.rx_model.specs.Terms.{Iri, Term, Triple, Graph}
 use Rattle.rx_rdfa.specs.Tree.{Nodes}
 use Rattle.rx_rdfa.specs.Naming.{Naming}
-use Rattle.rx_rdfa.specs.Blanks.{Bnode, Owner, ModelTriple, model}
+use Rattle.rx_rdfa.specs.Blanks.{ModelTriple, model}
 use Rattle.rx_rdfa.specs.Facts.{Facts}
 use Rattle.rx_rdfa.specs.Resources.{Standing, resources}
 use Rattle.rx_rdfa.specs.Inherited.{below}

@@ -97,8 +97,8 @@ module _ {B O : Type 0} (naming : Naming B O) (base : Chars) where
     abbrev pub of_property : Resources B
     of_property =
         let typed =
-            then_some has_typeof
-            (unwrap_or (option_or about (option_or base_at_root (option_or linked_resource parent_for_head_and_body))) (new_blank naming at))
+        then_some has_typeof
+        (unwrap_or (option_or about (option_or base_at_root (option_or linked_resource parent_for_head_and_body))) (new_blank naming at))
         in
         record { subject = default_subject; typed = typed; object = typed; skipped = false }
 
@@ -106,9 +106,9 @@ module _ {B O : Type 0} (naming : Naming B O) (base : Chars) where
     abbrev pub of_no_link : Resources B
     of_no_link =
         let subject =
-            unwrap_or
-            (option_or about (option_or linked_resource (option_or base_at_root (option_or parent_for_head_and_body (then_some has_typeof (new_blank naming at))))))
-            at.around.object
+        unwrap_or
+        (option_or about (option_or linked_resource (option_or base_at_root (option_or parent_for_head_and_body (then_some has_typeof (new_blank naming at))))))
+        at.around.object
         in
         record {
           subject = subject;
