@@ -1,11 +1,11 @@
--- Each row of Inlist by computation.
+-- Each example of Inlist by computation.
 use Rattle.std.proofs.Common.{refl}
 use Rattle.rx_rows.specs.Pages.{graph}
-use Rattle.rx_rows.specs.Inlist.{InlistHold}
+use Rattle.rx_rows.specs.Hold.{InlistHold}
 
-pub rows : InlistHold
+pub examples : InlistHold
 unfolding graph
-rows = record {
+examples = record {
   text_at_its_start = refl;
   waiting_list = refl;
   empty_list = refl;

@@ -1,11 +1,11 @@
--- Each row of Links by computation.
+-- Each example of Links by computation.
 use Rattle.std.proofs.Common.{refl}
 use Rattle.rx_rows.specs.Pages.{graph}
-use Rattle.rx_rows.specs.Links.{LinksHold}
+use Rattle.rx_rows.specs.Hold.{LinksHold}
 
-pub rows : LinksHold
+pub examples : LinksHold
 unfolding graph
-rows = record {
+examples = record {
   product_with_offer = refl;
   rel_waits_for_subject = refl;
   rel_beside_property = refl;

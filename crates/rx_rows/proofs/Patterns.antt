@@ -1,11 +1,11 @@
--- Each row of Patterns by computation.
+-- Each example of Patterns by computation.
 use Rattle.std.proofs.Common.{refl}
 use Rattle.rx_rows.specs.Pages.{graph}
-use Rattle.rx_rows.specs.Patterns.{PatternsHold}
+use Rattle.rx_rows.specs.Hold.{PatternsHold}
 
-pub rows : PatternsHold
+pub examples : PatternsHold
 unfolding graph
-rows = record {
+examples = record {
   two_levels = refl;
   cycle = refl;
   cycle_that_nothing_copies = refl;

@@ -1,11 +1,11 @@
--- Each row of Subjects by computation.
+-- Each example of Subjects by computation.
 use Rattle.std.proofs.Common.{refl}
 use Rattle.rx_rows.specs.Pages.{graph}
-use Rattle.rx_rows.specs.Subjects.{SubjectsHold}
+use Rattle.rx_rows.specs.Hold.{SubjectsHold}
 
-pub rows : SubjectsHold
+pub examples : SubjectsHold
 unfolding graph
-rows = record {
+examples = record {
   one_paragraph = refl;
   empty_page = refl;
   paragraph_in_paragraph = refl;

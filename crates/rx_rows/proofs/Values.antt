@@ -1,11 +1,11 @@
--- Each row of Values by computation.
+-- Each example of Values by computation.
 use Rattle.std.proofs.Common.{refl}
 use Rattle.rx_rows.specs.Pages.{graph}
-use Rattle.rx_rows.specs.Values.{ValuesHold}
+use Rattle.rx_rows.specs.Hold.{ValuesHold}
 
-pub rows : ValuesHold
+pub examples : ValuesHold
 unfolding graph
-rows = record {
+examples = record {
   times = refl;
   languages_and_datatypes = refl;
   unreadable_datatype = refl;

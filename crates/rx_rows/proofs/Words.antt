@@ -1,11 +1,11 @@
--- Each row of Words by computation.
+-- Each example of Words by computation.
 use Rattle.std.proofs.Common.{refl}
 use Rattle.rx_rows.specs.Pages.{graph}
-use Rattle.rx_rows.specs.Words.{WordsHold}
+use Rattle.rx_rows.specs.Hold.{WordsHold}
 
-pub rows : WordsHold
+pub examples : WordsHold
 unfolding graph
-rows = record {
+examples = record {
   prefix_on_skipped_element = refl;
   vocabulary_and_safe_curie = refl;
   vocabulary_is_reset = refl;

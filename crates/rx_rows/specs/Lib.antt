@@ -5,4 +5,5 @@ pub mod Words
 pub mod Values
 pub mod Inlist
 pub mod Patterns
+pub mod Hold
 pub mod Forms

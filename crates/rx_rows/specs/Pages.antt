@@ -1,5 +1,5 @@
 -- How the pages of examples are written, and what is written of them.
-use Rattle.std.specs.Prelude.{ℕ, List, [], ◌∷◌, ◌++◌, map, codes}
+use Rattle.std.specs.Prelude.{◌≡◌, ℕ, List, [], ◌∷◌, ◌++◌, map, codes}
 use Prim.Native.String.{String}
 use Rattle.rx_terms.specs.Text.{Chars}
 use Rattle.rx_refs.specs.Parts.{components_of}
@@ -56,6 +56,15 @@ v name = codes "http://v.example/" ++ codes name
 unfoldable pub graph : Chars → Nodes Tag → List (Triple ℕ)
 unfolding time_kind components_of step without_dots target resolved resources below start_of end_of entries_at cells
 graph address tree = written (base_of tree address) (with_facts standard [] tree)
+
+-- a page with the triples that are to be written of it, in order
+pub record Example : Type 0 where
+  pub address : Chars
+  pub page : Nodes Tag
+  pub triples : List (Triple ℕ)
+
+abbrev pub Holds : Example → Type 0
+Holds example = graph example.address example.page ≡ example.triples
 
 abbrev pub iri : String → Node ℕ
 iri characters = Iri (codes characters)

@@ -4,12 +4,7 @@
 #![tactic(auto)]
 
 ghost use Rattle.rx_rows.specs.Forms.{FormsHold};
-ghost use Rattle.rx_rows.specs.Inlist.{InlistHold};
-ghost use Rattle.rx_rows.specs.Links.{LinksHold};
-ghost use Rattle.rx_rows.specs.Patterns.{PatternsHold};
-ghost use Rattle.rx_rows.specs.Subjects.{SubjectsHold};
-ghost use Rattle.rx_rows.specs.Values.{ValuesHold};
-ghost use Rattle.rx_rows.specs.Words.{WordsHold};
+ghost use Rattle.rx_rows.specs.Hold.{InlistHold, LinksHold, PatternsHold, SubjectsHold, ValuesHold, WordsHold};
 
 /// Subjects: about, references, the base.
 pub fn subjects_hold()
