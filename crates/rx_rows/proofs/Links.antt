@@ -11,6 +11,7 @@ examples = record {
   rel_beside_property = refl;
   rel_without_iri_beside_property = refl;
   rel_with_label_beside_property = refl;
+  empty_rel_beside_property = refl;
   rev_waits_for_subject = refl;
   skipped_element_completes_nothing = refl;
   rel_waits_through_skipped_elements = refl;

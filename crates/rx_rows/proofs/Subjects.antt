@@ -22,6 +22,7 @@ examples = record {
   body_stands_for_the_page = refl;
   body_is_its_own_value = refl;
   body_further_down = refl;
+  every_head_stands_for_the_page = refl;
   root_with_property = refl;
   root_with_resource = refl;
   root_with_rel = refl;

@@ -9,6 +9,7 @@ examples = record {
   times = refl;
   languages_and_datatypes = refl;
   unreadable_datatype = refl;
+  datatype_with_white_space = refl;
   no_text = refl;
   two_predicates = refl;
   datatype_of_content = refl;

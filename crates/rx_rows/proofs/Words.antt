@@ -22,6 +22,9 @@ examples = record {
   tokens_that_are_no_pair = refl;
   underscore_is_no_prefix = refl;
   safe_curie_without_curie = refl;
+  safe_curie_is_not_trimmed_inside = refl;
+  bracket_alone_is_a_reference = refl;
+  pair_with_a_name_that_does_not_count = refl;
   curie_or_reference = refl;
   resource_as_curie = refl;
 }

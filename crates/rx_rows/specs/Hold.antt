@@ -24,6 +24,7 @@ pub record SubjectsHold : Type 0 where
   pub body_stands_for_the_page : Holds subjects.body_stands_for_the_page
   pub body_is_its_own_value : Holds subjects.body_is_its_own_value
   pub body_further_down : Holds subjects.body_further_down
+  pub every_head_stands_for_the_page : Holds subjects.every_head_stands_for_the_page
   pub root_with_property : Holds subjects.root_with_property
   pub root_with_resource : Holds subjects.root_with_resource
   pub root_with_rel : Holds subjects.root_with_rel
@@ -39,6 +40,7 @@ pub record LinksHold : Type 0 where
   pub rel_beside_property : Holds links.rel_beside_property
   pub rel_without_iri_beside_property : Holds links.rel_without_iri_beside_property
   pub rel_with_label_beside_property : Holds links.rel_with_label_beside_property
+  pub empty_rel_beside_property : Holds links.empty_rel_beside_property
   pub rev_waits_for_subject : Holds links.rev_waits_for_subject
   pub skipped_element_completes_nothing : Holds links.skipped_element_completes_nothing
   pub rel_waits_through_skipped_elements : Holds links.rel_waits_through_skipped_elements
@@ -75,6 +77,9 @@ pub record WordsHold : Type 0 where
   pub tokens_that_are_no_pair : Holds words.tokens_that_are_no_pair
   pub underscore_is_no_prefix : Holds words.underscore_is_no_prefix
   pub safe_curie_without_curie : Holds words.safe_curie_without_curie
+  pub safe_curie_is_not_trimmed_inside : Holds words.safe_curie_is_not_trimmed_inside
+  pub bracket_alone_is_a_reference : Holds words.bracket_alone_is_a_reference
+  pub pair_with_a_name_that_does_not_count : Holds words.pair_with_a_name_that_does_not_count
   pub curie_or_reference : Holds words.curie_or_reference
   pub resource_as_curie : Holds words.resource_as_curie
 
@@ -82,6 +87,7 @@ pub record ValuesHold : Type 0 where
   pub times : Holds values.times
   pub languages_and_datatypes : Holds values.languages_and_datatypes
   pub unreadable_datatype : Holds values.unreadable_datatype
+  pub datatype_with_white_space : Holds values.datatype_with_white_space
   pub no_text : Holds values.no_text
   pub two_predicates : Holds values.two_predicates
   pub datatype_of_content : Holds values.datatype_of_content

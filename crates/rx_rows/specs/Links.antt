@@ -85,6 +85,13 @@ rel_with_label_beside_property = record {
   triples = says (iri "http://h.example/d") (v "p") (plain "t") ∷ [];
 }
 
+abbrev pub empty_rel_beside_property : Example
+empty_rel_beside_property = record {
+  address = here;
+  page = body (tag "a" (("property", "http://v.example/p") ∷ ("rel", "") ∷ ("href", "#b") ∷ []) (chars "t" ∷ []) ∷ []);
+  triples = says (iri "http://h.example/d") (v "p") (at (iri "http://h.example/d#b")) ∷ [];
+}
+
 abbrev pub rev_waits_for_subject : Example
 rev_waits_for_subject = record {
   address = here;

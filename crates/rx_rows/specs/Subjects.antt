@@ -179,6 +179,14 @@ body_further_down = record {
   triples = says (blank 0) rdf_type (at (iri "http://v.example/T")) ∷ [];
 }
 
+-- own rule
+abbrev pub every_head_stands_for_the_page : Example
+every_head_stands_for_the_page = record {
+  address = here;
+  page = page (tag "html" [] (tag "head" [] [] ∷ tag "head" (("typeof", "http://v.example/T") ∷ []) [] ∷ []));
+  triples = says (iri "http://h.example/d") rdf_type (at (iri "http://v.example/T")) ∷ [];
+}
+
 abbrev pub root_with_property : Example
 root_with_property = record {
   address = here;

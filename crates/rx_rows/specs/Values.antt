@@ -48,6 +48,14 @@ unreadable_datatype = record {
   triples = says (iri "http://h.example/d#a") (v "p") (tagged "2012" "en") ∷ [];
 }
 
+-- own rule: trimmed, it is one token
+abbrev pub datatype_with_white_space : Example
+datatype_with_white_space = record {
+  address = here;
+  page = body (tag "p" (("property", "http://v.example/p") ∷ ("datatype", " dc:x y ") ∷ []) (chars "t" ∷ []) ∷ []);
+  triples = says (iri "http://h.example/d") (v "p") (typed "t" "http://purl.org/dc/terms/x%20y") ∷ [];
+}
+
 abbrev pub no_text : Example
 no_text = record {
   address = here;

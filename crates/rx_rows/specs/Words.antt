@@ -161,6 +161,33 @@ safe_curie_without_curie = record {
   triples = says (iri "http://h.example/d#a") (v "p") (plain "x") ∷ [];
 }
 
+-- own rule
+abbrev pub safe_curie_is_not_trimmed_inside : Example
+safe_curie_is_not_trimmed_inside = record {
+  address = here;
+  page = body (
+      tag "div" (("about", "#a") ∷ []) (tag "p" (("about", "[ dc:x]") ∷ ("property", "http://v.example/p") ∷ []) (chars "x" ∷ []) ∷ [])
+      ∷ []
+      );
+  triples = says (iri "http://h.example/d#a") (v "p") (plain "x") ∷ [];
+}
+
+-- own rule
+abbrev pub bracket_alone_is_a_reference : Example
+bracket_alone_is_a_reference = record {
+  address = here;
+  page = body (tag "p" (("about", "[") ∷ ("property", "http://v.example/p") ∷ []) (chars "x" ∷ []) ∷ []);
+  triples = says (iri "http://h.example/[") (v "p") (plain "x") ∷ [];
+}
+
+-- own rule: pairs are made first and judged afterwards
+abbrev pub pair_with_a_name_that_does_not_count : Example
+pair_with_a_name_that_does_not_count = record {
+  address = here;
+  page = body (tag "p" (("prefix", "1: f: http://v.example/") ∷ ("property", "f:p") ∷ []) (chars "x" ∷ []) ∷ []);
+  triples = says (iri "http://h.example/d") (codes "f:p") (plain "x") ∷ [];
+}
+
 abbrev pub curie_or_reference : Example
 curie_or_reference = record {
   address = here;
