@@ -66,6 +66,7 @@ entries_of naming base place = entries_at naming base (standing naming base plac
 abbrev pub entries : {B O : Type 0} → Naming B O → Chars → Nodes Facts → List (Entry O (Term B))
 entries naming base tree = flat_map (entries_of naming base) (places tree)
 
+-- an owner's own entries
 abbrev pub of_owner : {O T : Type 0} → (O → O → Bool) → O → List (Entry O T) → List (Entry O T)
 of_owner same owner entries = filter (λ e. same e.owner owner) entries
 

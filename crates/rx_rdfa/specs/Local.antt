@@ -20,6 +20,7 @@ module _ {B O : Type 0} (naming : Naming B O) (base : Chars) where
   abbrev pub local_end : Place → List (Triple B)
   local_end place = end_and_lists naming base (entries_within place) place
 
+  -- the list, where each element writes its lists with what is known at its end
   abbrev pub made_locally : Nodes Facts → List (Triple B)
   made_locally tree = in_order (start naming base) local_end tree ++ page_lists naming base (entries naming base tree)
 

@@ -51,7 +51,7 @@ is_head_or_body Other = false
 abbrev pub has_link : Facts → Bool
 has_link facts = is_some facts.rel || is_some facts.rev
 
--- step 5.1: property, and neither content nor datatype
+-- step 5.1: property, and neither content nor datatype. Own rule: datetime has no part in it.
 abbrev pub is_plain_property : Facts → Bool
 is_plain_property facts = is_some facts.property && is_none facts.content && is_none facts.datatype
 
@@ -64,12 +64,13 @@ abbrev pub new_blank : {B O : Type 0} → Naming B O → Standing B O → Node B
 new_blank naming at = Blank (naming.made at.path)
 
 module _ {B O : Type 0} (naming : Naming B O) (base : Chars) where
+  -- what a reading names: references are resolved against the base
   abbrev pub resource_named : Ref → Node B
   resource_named (IriRef iri) = Iri iri
   resource_named (LabelRef label) = Blank (naming.author label)
   resource_named (RelativeRef reference) = Iri (resolved base reference)
 
-  -- the first present of resource, href and src
+  -- 5.1 and 5.2: the first present of resource, href and src
   abbrev pub resource_attribute : Facts → Option (Node B)
   resource_attribute facts = option_map resource_named (option_or facts.resource (option_or facts.href facts.src))
 
@@ -90,10 +91,11 @@ module _ {B O : Type 0} (naming : Naming B O) (base : Chars) where
     abbrev pub has_typeof : Bool
     has_typeof = is_some at.facts.types
 
+    -- 5.1 and 6: the new subject where the resource attributes don't name it
     abbrev pub default_subject : Node B
     default_subject = unwrap_or (option_or about base_at_root) at.around.object
 
-    -- step 5.1
+    -- step 5.1. Own rule: head and body with typeof stand for the parent object here too.
     abbrev pub of_property : Resources B
     of_property =
         let typed =
@@ -102,7 +104,8 @@ module _ {B O : Type 0} (naming : Naming B O) (base : Chars) where
         in
         record { subject = default_subject; typed = typed; object = typed; skipped = false }
 
-    -- step 5.2
+    -- step 5.2. An element is skipped where its subject comes from above and no property speaks of it; so are head and
+    -- body that say nothing (own rule).
     abbrev pub of_no_link : Resources B
     of_no_link =
         let subject =
