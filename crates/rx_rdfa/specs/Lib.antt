@@ -3,6 +3,7 @@ pub mod Names
 pub mod Standard
 pub mod Readings
 pub mod Facts
+pub mod Refusals
 pub mod Base
 pub mod Times
 pub mod Iris

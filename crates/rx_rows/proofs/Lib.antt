@@ -5,3 +5,4 @@ pub mod Values
 pub mod Inlist
 pub mod Patterns
 pub mod Forms
+pub mod Refused

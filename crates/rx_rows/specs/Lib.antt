@@ -7,3 +7,4 @@ pub mod Inlist
 pub mod Patterns
 pub mod Hold
 pub mod Forms
+pub mod Refused

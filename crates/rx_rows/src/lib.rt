@@ -5,6 +5,7 @@
 
 ghost use Rattle.rx_rows.specs.Forms.{FormsHold};
 ghost use Rattle.rx_rows.specs.Hold.{InlistHold, LinksHold, PatternsHold, SubjectsHold, ValuesHold, WordsHold};
+ghost use Rattle.rx_rows.specs.Refused.{RefusalsHold};
 
 /// Subjects: about, references, the base.
 pub fn subjects_hold()
@@ -39,4 +40,9 @@ pub fn patterns_hold()
 /// The forms of times.
 pub fn forms_hold()
     ensures { FormsHold }
+{}
+
+/// Start tags that are refused for what they mean.
+pub fn refusals_hold()
+    ensures { RefusalsHold }
 {}
