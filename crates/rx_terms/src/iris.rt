@@ -63,10 +63,19 @@ impl Iri {
         }
     }
 
+    /// The IRI that a text is of which this is known, so that nothing is read or copied.
+    pub fn of_text(text: Text) -> Iri
+        requires { IsIri text }
+        ensures { result ≡ text }
+    {
+        Iri { text }
+    }
+
     /// The IRI's characters as UTF-8.
     pub fn as_str(&self) -> &str
         ensures characters { chars result.now ≡ self.now }
         ensures bytes { result.now ≡ encode_utf8_all self.now }
+        ensures iri { IsIri self.now }
     {
         self.text.as_str()
     }
@@ -91,7 +100,8 @@ pub fn has_scheme(text: &str) -> bool
     }
 }
 
-fn is_scheme(text: &str) -> bool
+/// Whether the text is a scheme: a letter, then letters, digits, `+`, `-` and `.` (RFC 3986, section 3.1).
+pub fn is_scheme(text: &str) -> bool
     ensures { result ≡ is_scheme (chars text.now) }
 {
     begins_with_letter(text) && are_scheme_chars(text)
@@ -124,7 +134,9 @@ fn has_forbidden(text: &str) -> bool
     text.chars().any(is_forbidden)
 }
 
-fn is_forbidden(c: char) -> bool
+/// Whether no IRI has the character: U+0000 to U+0020, `<`, `>`, `"`, `{`, `}`, `|`, `\`, `^` and the backquote, which
+/// N-Quads and Turtle leave out of IRIREF.
+pub fn is_forbidden(c: char) -> bool
     ensures { result ≡ is_forbidden c }
 {
     c <= ' ' || matches!(c, '<' | '>' | '"' | '{' | '}' | '|' | '\\' | '^' | '`')

@@ -11,12 +11,14 @@ mod iri_list;
 mod iris;
 mod langs;
 mod literals;
+#[cfg(test)]
+mod tests;
 mod texts;
 mod triple_list;
 mod triples;
 
 pub use iri_list::Iris;
-pub use iris::{Iri, IriError, has_scheme};
+pub use iris::{Iri, IriError, has_scheme, is_forbidden, is_scheme};
 pub use langs::Lang;
 pub use literals::{Literal, LiteralKind};
 pub use texts::{NoMemory, Text};

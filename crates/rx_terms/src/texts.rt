@@ -1,5 +1,5 @@
 //! Text that is owned, and want of memory.
-ghost use Rattle.std.specs.Prelude.{◌≡◌, IfOk, nat_eq, encode_utf8_all};
+ghost use Rattle.std.specs.Prelude.{◌≡◌, IfOk, nat_eq, encode_utf8_all, string_bytes};
 ghost use Rattle.std.specs.Str.{chars};
 ghost use Rattle.std.specs.Cmp.Lexicographic.{pointwise, nat_list_eq_equiv};
 ghost use Rattle.std.specs.Cmp.{partial_equiv_from_equiv};
@@ -44,6 +44,13 @@ impl Text {
         Ok(Text {
             text: String::from_str(alloc, text)?,
         })
+    }
+
+    /// The text that the string holds, without a copy.
+    pub fn of_string(text: String) -> Text
+        ensures { result ≡ chars (string_bytes text) }
+    {
+        Text { text }
     }
 
     /// The characters as UTF-8.

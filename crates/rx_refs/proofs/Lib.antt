@@ -1,0 +1,9 @@
+pub mod PartLemmas
+pub mod DotLemmas
+pub mod CutLemmas
+pub mod TrimLemmas
+pub mod BufferLemmas
+pub mod SchemeLemmas
+pub mod WholeLemmas
+pub mod TargetLemmas
+pub mod EscapeLemmas

@@ -1,0 +1,69 @@
+-- Where a text is cut at its first `mark`.
+use Rattle.std.proofs.Common.{◌≡◌, ◌∙◌, ℕ, Bool, true, false, ◌==◌, [], ◌∷◌, ◌++◌, ap, refl, arith, Option, Some, None}
+use Rattle.std.proofs.lemmas.Bool.Decides.{nat_tests}
+use Rattle.rx_terms.specs.Text.{Chars, split_at, front_grows}
+use Rattle.rx_refs.specs.Parts.{before, from_first, behind}
+use Rattle.rx_refs.specs.Dots.{holds}
+
+pub by_test : {P : Type 0} (b : Bool) → (b ≡ true → P) → (b ≡ false → P) → P
+by_test true f g = f refl
+by_test false f g = g refl
+
+pub same_char : (c mark : ℕ) → (c == mark) ≡ true → c ≡ mark
+same_char c mark e = grind (arith, nat_tests)
+
+pub behind-none : (mark : ℕ) (text : Chars) → behind mark text ≡ None → (before mark text ≡ text) × (from_first mark text ≡ []) × (holds mark text ≡ false)
+behind-none mark [] e = (refl, refl, refl)
+behind-none mark (c ∷ text) e =
+    by_test (c == mark) (λ t. let h : Some text ≡ None = rw t at e in absurd (cc h)) (λ t.
+    let h = behind-none mark text (rw t at e) in
+    (rw t (ap (λ x. c ∷ x) h.0), rw t h.1, rw t h.2))
+
+pub behind-some : (mark : ℕ) (text rest : Chars) → behind mark text ≡ Some rest → (text ≡ before mark text ++ mark ∷ rest) × (from_first mark text ≡ mark ∷ rest)
+behind-some mark [] rest e = absurd (cc e)
+behind-some mark (c ∷ text) rest e =
+    by_test (c == mark) (λ t.
+    let h : Some text ≡ Some rest = rw t at e in
+    let s = same_char c mark t in
+    let r : text ≡ rest = cc h in
+    (rw t cc, rw t cc)) (λ t.
+    let h = behind-some mark text rest (rw t at e) in
+    (rw t (ap (λ x. c ∷ x) h.0), rw t h.1))
+
+pub before-lacks : (mark : ℕ) (text : Chars) → holds mark (before mark text) ≡ false
+before-lacks mark [] = refl
+before-lacks mark (c ∷ text) = by_test (c == mark) (λ t. rw t refl) (λ t. rw (t, t) (before-lacks mark text))
+
+pub before-from : (mark : ℕ) (text : Chars) → before mark text ++ from_first mark text ≡ text
+before-from mark [] = refl
+before-from mark (c ∷ text) = by_test (c == mark) (λ t. rw t refl) (λ t. rw t (ap (λ x. c ∷ x) (before-from mark text)))
+
+abbrev pub with_front : Chars → Option Chars → Option (Chars × Chars)
+with_front front None = None
+with_front front (Some rest) = Some (front, rest)
+
+grown : (c : ℕ) (front : Chars) (o : Option Chars) → front_grows c (with_front front o) ≡ with_front (c ∷ front) o
+grown c front None = refl
+grown c front (Some rest) = refl
+
+-- `split_at` is the two together
+pub split_at-parts : (mark : ℕ) (text : Chars) → split_at mark text ≡ with_front (before mark text) (behind mark text)
+split_at-parts mark [] = refl
+split_at-parts mark (c ∷ text) =
+    by_test (c == mark) (λ t. rw t refl) (λ t. rw t (ap (front_grows c) (split_at-parts mark text) ∙ grown c (before mark text) (behind mark text)))
+
+-- the first `mark`, when nothing before it is one
+pub cut-at : (mark : ℕ) (front rest : Chars) → holds mark front ≡ false
+    → (before mark (front ++ mark ∷ rest) ≡ front) × (from_first mark (front ++ mark ∷ rest) ≡ mark ∷ rest) × (behind mark (front ++ mark ∷ rest) ≡ Some rest)
+cut-at mark [] rest h = let t : (mark == mark) ≡ true = grind (arith, nat_tests) in (rw t refl, rw t refl, rw t refl)
+cut-at mark (c ∷ front) rest h =
+    by_test (c == mark) (λ t. let g : true ≡ false = rw t at h in absurd (cc g)) (λ t.
+    let g = cut-at mark front rest (rw t at h) in
+    (rw t (ap (λ x. c ∷ x) g.0), rw t g.1, rw t g.2))
+
+pub uncut : (mark : ℕ) (text : Chars) → holds mark text ≡ false → (before mark text ≡ text) × (from_first mark text ≡ []) × (behind mark text ≡ None)
+uncut mark [] h = (refl, refl, refl)
+uncut mark (c ∷ text) h =
+    by_test (c == mark) (λ t. let g : true ≡ false = rw t at h in absurd (cc g)) (λ t.
+    let g = uncut mark text (rw t at h) in
+    (rw t (ap (λ x. c ∷ x) g.0), rw t g.1, rw t g.2))

@@ -1,0 +1,138 @@
+-- Schemes, and what of them is left in what a reference means.
+use Rattle.std.proofs.Common.{◌≡◌, ◌∙◌, ℕ, zero, suc, ◌<◌, ◌/◌, ◌%◌, length, get_or, Bool, true, false, ◌==◌, List, [], ◌∷◌, ◌++◌, drop, sym, ap, refl, arith, Option, Some, None}
+use Rattle.std.specs.Prelude.{codes}
+use Rattle.std.specs.List.{list_all, list_any}
+use Rattle.std.proofs.lemmas.Bool.{and_parts}
+use Rattle.std.proofs.lemmas.Bool.Decides.{nat_tests}
+use Rattle.std.proofs.lemmas.List.{append_assoc}
+use Rattle.std.proofs.lemmas.List.Folds.{list_any-append}
+use Rattle.rx_terms.specs.Text.{Chars}
+use Rattle.rx_terms.specs.Iri.{is_scheme_char, begins_with_letter, is_scheme, begins_with_scheme, has_scheme, is_forbidden, has_forbidden, IsIri}
+use Rattle.rx_refs.specs.Resolve.{digit, escaped, cleaned_char, cleaned}
+use Rattle.rx_refs.specs.Parts.{before, behind, scheme_of, behind_scheme}
+use Rattle.rx_refs.specs.Dots.{holds}
+use Rattle.rx_refs.proofs.PartLemmas.{by_test, with_front, split_at-parts, behind-none, behind-some, before-lacks, cut-at, uncut}
+
+pub has_scheme-cut : (front rest : Chars) → holds 58 front ≡ false → has_scheme (front ++ 58 ∷ rest) ≡ is_scheme front
+has_scheme-cut front rest h =
+    let g = cut-at 58 front rest h in
+    let cut : with_front (before 58 (front ++ 58 ∷ rest)) (behind 58 (front ++ 58 ∷ rest)) ≡ Some (front, rest) = rw (g.2, g.0) refl in
+    ap begins_with_scheme (split_at-parts 58 (front ++ 58 ∷ rest) ∙ cut)
+
+pub has_scheme-uncut : (text : Chars) → holds 58 text ≡ false → has_scheme text ≡ false
+has_scheme-uncut text h =
+    let g = uncut 58 text h in
+    let cut : with_front (before 58 text) (behind 58 text) ≡ None = rw g.2 refl in
+    ap begins_with_scheme (split_at-parts 58 text ∙ cut)
+
+pub scheme-cut : (front rest : Chars) → holds 58 front ≡ false → is_scheme front ≡ true
+    → (scheme_of (front ++ 58 ∷ rest) ≡ Some front) × (behind_scheme (front ++ 58 ∷ rest) ≡ rest)
+scheme-cut front rest h s =
+    let has = has_scheme-cut front rest h ∙ s in
+    let g = cut-at 58 front rest h in
+    (rw has (ap (λ (x : Chars). Some x) g.0), rw has (ap (drop 1) g.1))
+
+pub scheme-none : (text : Chars) → has_scheme text ≡ false → (scheme_of text ≡ None) × (behind_scheme text ≡ text)
+scheme-none text h = (rw h refl, rw h refl)
+
+-- a text with a scheme, taken apart
+pub record IsCut (text : Chars) : Type 0 where
+  pub front : Chars
+  pub rest : Chars
+  pub whole : text ≡ front ++ 58 ∷ rest
+  pub lacks : holds 58 front ≡ false
+  pub scheme : is_scheme front ≡ true
+
+pub cut-scheme : (text : Chars) → has_scheme text ≡ true → IsCut text
+cut-scheme text h = go (behind 58 text) refl where
+  go : (o : Option Chars) → behind 58 text ≡ o → IsCut text
+  go None e =
+      let lacks = (behind-none 58 text e).2 in
+      let none : true ≡ false = sym h ∙ has_scheme-uncut text lacks in
+      absurd (cc none)
+  go (Some rest) e =
+      let whole = (behind-some 58 text rest e).0 in
+      let lacks = before-lacks 58 text in
+      record {
+        front = before 58 text;
+        rest = rest;
+        whole = whole;
+        lacks = lacks;
+        scheme = sym (ap has_scheme whole ∙ has_scheme-cut (before 58 text) rest lacks) ∙ h;
+      }
+
+-- the characters of a scheme
+scheme_chars : (text : Chars) → is_scheme text ≡ true → list_all is_scheme_char text ≡ true
+scheme_chars text h = (and_parts (begins_with_letter text) (list_all is_scheme_char text) h).1
+
+no_hash : (text : Chars) → list_all is_scheme_char text ≡ true → holds 35 text ≡ false
+no_hash [] h = refl
+no_hash (c ∷ text) h =
+    let p = and_parts (is_scheme_char c) (list_all is_scheme_char text) h in
+    let s = p.0 in
+    let other : (c == 35) ≡ false = grind (arith, nat_tests) in
+    rw (other, no_hash text p.1) refl
+
+before-append : (front rest : Chars) → holds 35 front ≡ false → before 35 (front ++ rest) ≡ front ++ before 35 rest
+before-append [] rest h = refl
+before-append (c ∷ front) rest h =
+    by_test (c == 35) (λ t. let g : true ≡ false = rw t at h in absurd (cc g)) (λ t. rw t (ap (λ x. c ∷ x) (before-append front rest (rw t at h))))
+
+before-clean : (mark : ℕ) (text : Chars) → has_forbidden text ≡ false → has_forbidden (before mark text) ≡ false
+before-clean mark [] h = refl
+before-clean mark (c ∷ text) h =
+    by_test (c == mark) (λ t. rw t refl) (λ t.
+    by_test (is_forbidden c) (λ f. let g : true ≡ false = rw f at h in absurd (cc g)) (λ f.
+    rw (t, f) (before-clean mark text (rw f at h))))
+
+pub iri-front : (text : Chars) → IsIri text → IsIri (before 35 text)
+iri-front text iri =
+    let c = cut-scheme text iri.scheme in
+    let front : before 35 text ≡ c.front ++ 58 ∷ before 35 c.rest = ap (before 35) c.whole ∙ before-append c.front (58 ∷ c.rest) (no_hash c.front (scheme_chars c.front c.scheme)) in
+    record { scheme = ap has_scheme front ∙ has_scheme-cut c.front (before 35 c.rest) c.lacks ∙ c.scheme; clean = before-clean 35 text iri.clean }
+
+-- Escapes leave a scheme, and no forbidden character
+
+pub cleaned-append : (a b : Chars) → cleaned (a ++ b) ≡ cleaned a ++ cleaned b
+cleaned-append [] b = refl
+cleaned-append (c ∷ a) b = ap (λ (x : Chars). cleaned_char c ++ x) (cleaned-append a b) ∙ sym (append_assoc (cleaned_char c) (cleaned a) (cleaned b))
+
+cleaned-scheme : (text : Chars) → list_all is_scheme_char text ≡ true → cleaned text ≡ text
+cleaned-scheme [] h = refl
+cleaned-scheme (c ∷ text) h =
+    let p = and_parts (is_scheme_char c) (list_all is_scheme_char text) h in
+    let s = p.0 in
+    let fine : is_forbidden c ≡ false = grind (arith, nat_tests) in
+    rw fine (ap (λ x. c ∷ x) (cleaned-scheme text p.1))
+
+pub cleaned-has-scheme : (front rest : Chars) → holds 58 front ≡ false → is_scheme front ≡ true → has_scheme (cleaned (front ++ 58 ∷ rest)) ≡ true
+cleaned-has-scheme front rest lacks h =
+    let whole : cleaned (front ++ 58 ∷ rest) ≡ front ++ 58 ∷ cleaned rest = cleaned-append front (58 ∷ rest) ∙ ap (λ (x : Chars). x ++ 58 ∷ cleaned rest) (cleaned-scheme front (scheme_chars front h)) in
+    ap has_scheme whole ∙ has_scheme-cut front (cleaned rest) lacks ∙ h
+
+none_at : (p : ℕ → Bool) (xs : List ℕ) (n : ℕ) → list_any p xs ≡ false → n < length xs → p (get_or xs n 0) ≡ false
+none_at p [] n h l = absurd (omega arith)
+none_at p (x ∷ xs) zero h l = by_test (p x) (λ t. let g : true ≡ false = rw t at h in absurd (cc g)) (λ t. t)
+none_at p (x ∷ xs) (suc n) h l = by_test (p x) (λ t. let g : true ≡ false = rw t at h in absurd (cc g)) (λ t. none_at p xs n (rw t at h) (omega arith))
+
+pub forbidden-small : (c : ℕ) → is_forbidden c ≡ true → c < 128
+forbidden-small c h = grind (arith, nat_tests)
+
+escaped-clean : (c : ℕ) → is_forbidden c ≡ true → has_forbidden (escaped c) ≡ false
+escaped-clean c h =
+    let small = forbidden-small c h in
+    let high : is_forbidden (digit (c / 16)) ≡ false = none_at is_forbidden (codes "0123456789ABCDEF") (c / 16) refl (omega arith) in
+    let low : is_forbidden (digit (c % 16)) ≡ false = none_at is_forbidden (codes "0123456789ABCDEF") (c % 16) refl (omega arith) in
+    rw (high, low) refl
+
+cleaned_char-clean : (c : ℕ) → has_forbidden (cleaned_char c) ≡ false
+cleaned_char-clean c = by_test (is_forbidden c) (λ t. rw t (escaped-clean c t)) (λ t. rw (t, t) refl)
+
+pub cleaned-clean : (text : Chars) → has_forbidden (cleaned text) ≡ false
+cleaned-clean [] = refl
+cleaned-clean (c ∷ text) = list_any-append is_forbidden (cleaned_char c) (cleaned text) ∙ rw (cleaned_char-clean c, cleaned-clean text) refl
+
+pub uncleaned : (text : Chars) → has_forbidden text ≡ false → cleaned text ≡ text
+uncleaned [] h = refl
+uncleaned (c ∷ text) h =
+    by_test (is_forbidden c) (λ t. let g : true ≡ false = rw t at h in absurd (cc g)) (λ t. rw t (ap (λ x. c ∷ x) (uncleaned text (rw t at h))))

@@ -1,0 +1,24 @@
+-- The cases of 5.2.2 on what the code holds.
+use Rattle.std.proofs.Common.{◌≡◌, ℕ, true, false, ◌&&◌, List, ◌∷◌, ◌++◌, refl, Option, Some, None}
+use Rattle.std.specs.Prelude.{codes, is_some}
+use Rattle.std.specs.Option.{option_or}
+use Rattle.rx_terms.specs.Text.{Chars, begins_with, is_empty}
+use Rattle.rx_refs.specs.Parts.{Components}
+use Rattle.rx_refs.specs.Dots.{without_dots}
+use Rattle.rx_refs.specs.Resolve.{through_last_slash, relative_path}
+use Rattle.rx_refs.specs.Views.{seen_slice}
+use denote.Ref.{Bor}
+
+pub seen-some : (slice : Option (Bor (List ℕ))) → is_some (seen_slice slice) ≡ is_some slice
+seen-some None = refl
+seen-some (Some s) = refl
+
+pub seen-or : (a b : Option (Bor (List ℕ))) → seen_slice (option_or a b) ≡ option_or (seen_slice a) (seen_slice b)
+seen-or None b = refl
+seen-or (Some s) b = refl
+
+pub relative-bare : (base : Components) (path : Chars) → begins_with (codes "/") path ≡ false → (is_some base.authority && is_empty base.path) ≡ true → relative_path base path ≡ without_dots (47 ∷ path)
+relative-bare base path h b = rw (h, b) refl
+
+pub relative-merged : (base : Components) (path : Chars) → begins_with (codes "/") path ≡ false → (is_some base.authority && is_empty base.path) ≡ false → relative_path base path ≡ without_dots (through_last_slash base.path ++ path)
+relative-merged base path h b = rw (h, b) refl

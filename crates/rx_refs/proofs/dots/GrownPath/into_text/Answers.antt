@@ -1,0 +1,11 @@
+use Rattle.std.proofs.Common.{◌∙◌, ap, ◌++◌}
+use Rattle.std.specs.Prelude.{string_bytes}
+use Rattle.std.proofs.lemmas.Str.{IsUtf8-string_bytes}
+use Rattle.rx_refs.specs.Segments.{Grown}
+use Rattle.rx_refs.proofs.BufferLemmas.{shown-whole}
+use Rattle.rx_refs.proofs.dots.GrownPath.into_text.Goals as goal
+
+pub returns : goal.returns
+returns c =
+    shown-whole (string_bytes c.self.inside.text) c.self.inside.start c.self.inside.slash (IsUtf8-string_bytes c.self.inside.text) c.self.invariant
+    ∙ ap (λ (g : Grown). g.front ++ g.path) c.self.view_is

@@ -1,0 +1,14 @@
+use Rattle.std.proofs.Common.{◌≡◌, ◌++◌}
+use Rattle.std.specs.Prelude.{string_bytes}
+use Rattle.std.specs.Str.{chars, IsUtf8}
+use Rattle.std.specs.Str.Iter.{chars_rest}
+use Rattle.rx_refs.specs.Resolve.{cleaned}
+use Rattle.rx_refs.proofs.escapes.push_clean.Given as goal
+
+abbrev pub invariant-loop-c : goal.invariant-loop-c
+invariant-loop-c l = record {
+  can_next : (goal.iterator-loop-c).can_next l.c-iterator;
+  finite : (goal.iterator-loop-c).is_finite l.c-iterator;
+  utf8 : IsUtf8 (chars_rest l.c-iterator);
+  wrote : chars (string_bytes l.fn.out) ++ cleaned (chars l.text) ≡ chars (string_bytes l.out) ++ cleaned (chars (chars_rest l.c-iterator));
+}

@@ -1,0 +1,28 @@
+use Rattle.std.proofs.Common.{◌≡◌, ◌∙◌, sym, subst, refl}
+use Rattle.std.specs.Prelude.{string_bytes}
+use Rattle.std.specs.Str.{chars}
+use Rattle.rx_terms.specs.Text.{Chars, trimmed}
+use Rattle.rx_terms.specs.Iri.{IsIri}
+use Rattle.rx_refs.specs.Parts.{Components, components_of, recomposed}
+use Rattle.rx_refs.specs.Resolve.{target, cleaned, resolved}
+use Rattle.rx_refs.specs.Views.{seen, seen_target}
+use Rattle.rx_refs.proofs.WholeLemmas.{resolved-iri}
+use Rattle.rx_refs.proofs.resolution.resolve.Goals as goal
+use Rattle.rx_refs.proofs.resolution.resolve.Goals.{In_ok-clean}
+
+together : (base reference base_text trim clean text : Chars) (t b r : Components) → clean ≡ cleaned text → text ≡ recomposed t → t ≡ target b r
+    → b ≡ components_of base_text → base_text ≡ base → r ≡ components_of trim → trim ≡ trimmed reference → clean ≡ resolved base reference
+unfolding resolved
+together base reference base_text trim clean text t b r cleans joins aims splits same cuts trims = rw (cleans, joins, aims, splits, same, cuts, trims) refl
+
+meaning : (c : In_ok-clean) → c.in_ok-clean.clean ≡ resolved c.args.base.now (chars c.args.reference.now)
+meaning c =
+    together c.args.base.now (chars c.args.reference.now) (chars c.as_str.result.now) (chars c.trim.result.now) c.in_ok-clean.clean (chars (string_bytes c.in_ok-text.text))
+    (seen_target c.target_of-target.result) (seen c.split.result) (seen c.split-2.result)
+    c.in_ok-clean.ensures c.in_ok-text.ensures c.target_of-target.ensures c.split.ensures c.as_str.ensures.characters c.split-2.ensures c.trim.ensures
+
+pub of_text-requires : goal.of_text-requires
+of_text-requires c = subst IsIri (sym (meaning c)) ((resolved-iri c.args.base.now (chars c.args.reference.now)).iri c.as_str.ensures.iri)
+
+pub returns-clause-meaning : goal.returns-clause-meaning
+returns-clause-meaning c = c.of_text.ensures ∙ meaning (goal.at.returns-clause-meaning c).In_ok-clean

@@ -1,0 +1,7 @@
+pub mod Parts
+pub mod Dots
+pub mod Resolve
+pub mod Views
+pub mod Segments
+pub mod Laws
+pub mod Rows

@@ -1,0 +1,39 @@
+-- What the code's values stand for.
+use Rattle.std.specs.Prelude.{ℕ, List, Option, ◌++◌}
+use Rattle.std.specs.Option.{option_map}
+use Rattle.std.specs.Str.{chars}
+use Rattle.rx_terms.specs.Text.{Chars}
+use Rattle.rx_refs.specs.Parts.{Components}
+use Rattle.rx_refs.specs.Dots.{without_dots}
+use Rattle.rx_refs.specs.Resolve.{through_last_slash}
+use Rattle.rx_refs.specs.declared.parts.Parts.{Parts}
+use Rattle.rx_refs.specs.declared.targets.Target.{Target}
+use Rattle.rx_refs.specs.declared.targets.TargetPath.{TargetPath}
+use Rattle.rx_refs.specs.declared.targets.TargetPath.TheVariants.{Kept, Reduced, Merged}
+use denote.Ref.{Bor}
+
+abbrev pub seen_slice : Option (Bor (List ℕ)) → Option Chars
+seen_slice slice = option_map (λ s. chars s.now) slice
+
+abbrev pub seen : Parts → Components
+seen parts = record {
+  scheme = seen_slice parts.scheme;
+  authority = seen_slice parts.authority;
+  path = chars parts.path.now;
+  query = seen_slice parts.query;
+  fragment = seen_slice parts.fragment;
+}
+
+abbrev pub seen_path : TargetPath → Chars
+seen_path (Kept path) = chars path.now
+seen_path (Reduced path) = without_dots (chars path.now)
+seen_path (Merged base path) = without_dots (through_last_slash (chars base.now) ++ chars path.now)
+
+abbrev pub seen_target : Target → Components
+seen_target target = record {
+  scheme = seen_slice target.scheme;
+  authority = seen_slice target.authority;
+  path = seen_path target.path;
+  query = seen_slice target.query;
+  fragment = seen_slice target.fragment;
+}

@@ -1,0 +1,44 @@
+//! References as RFC 3986 has them: their five components, and what a reference means against a base.
+//!
+//! [`resolve`] gives for every base and every text the IRI of RFC 3986, section 5.2, strict, and refuses nothing: the
+//! text is trimmed first, and a character that no IRI may have becomes its escape last. [`split`] and [`has_scheme`]
+//! take no memory.
+#![tactic(auto)]
+
+ghost use Rattle.rx_refs.specs.Laws.{AbsoluteStandsAlone, PartsAreWhole, ResolvedIsIri, ExamplesHold};
+
+mod dots;
+mod escapes;
+mod parts;
+mod recomposition;
+mod resolution;
+mod slices;
+mod targets;
+
+pub use escapes::clean;
+pub use parts::{Parts, split};
+pub use resolution::{resolve, without_fragment};
+pub use rx_terms::has_scheme;
+
+/// A reference with a scheme is resolved alike against every base.
+pub fn absolute_stands_alone()
+    ensures { AbsoluteStandsAlone }
+{}
+
+/// The components of a text, joined again (RFC 3986, section 5.3), are the text.
+pub fn parts_are_whole()
+    ensures { PartsAreWhole }
+{}
+
+/// What a reference resolves to has no character that an IRI may not have, and against an IRI it has a scheme.
+pub fn resolved_is_iri()
+    ensures { ResolvedIsIri }
+{}
+
+/// The examples of RFC 3986, section 5.4, and some more.
+pub fn examples_hold()
+    ensures { ExamplesHold }
+{}
+
+#[cfg(test)]
+mod tests;
