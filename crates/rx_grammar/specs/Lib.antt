@@ -1,0 +1,15 @@
+pub mod Names
+pub mod References
+pub mod Tokens
+pub mod Shapes
+pub mod Tags
+pub mod TagFaults
+pub mod Spelling
+pub mod Contents
+pub mod Trees
+pub mod Items
+pub mod Omission
+pub mod Pages
+pub mod Begun
+pub mod PageFaults
+pub mod Laws

@@ -1,0 +1,15 @@
+mod Examples
+mod PageExamples
+pub mod Bools
+pub mod Classes
+pub mod Cutting
+pub mod Complete
+pub mod Gaps
+pub mod Sound
+pub mod Runs
+pub mod TextComplete
+pub mod TextSound
+pub mod Moves
+pub mod TagComplete
+pub mod TagSound
+pub mod TagLaws

@@ -1,0 +1,218 @@
+-- Pages and faults that were worked out by hand, as the definitions read them.
+use Rattle.std.proofs.Common.{◌≡◌, ℕ, true, false, [], ◌∷◌, None, refl, arith, inl, inr}
+use Rattle.std.specs.Prelude.{codes}
+use Rattle.rx_terms.specs.Text.{Chars}
+use Rattle.rx_chars.specs.Characters.{Entry, placed}
+use Rattle.rx_chars.specs.declared.syntax.Syntax.TheVariants.{Html}
+use Rattle.rx_grammar.specs.declared.contents.Content.{Content}
+use Rattle.rx_grammar.specs.declared.contents.Content.TheVariants as content
+use Rattle.rx_grammar.specs.declared.faults.Kind.TheVariants as kind
+use Rattle.rx_grammar.specs.declared.limits.Limits.{Limits}
+use Rattle.rx_grammar.specs.Tokens.{Tag, tag, character}
+use Rattle.rx_grammar.specs.Tags.{SpellsTag}
+use Rattle.rx_grammar.specs.Spelling.{a_tag, a_character}
+use Rattle.rx_grammar.specs.Contents.{Place, outside, place_in}
+use Rattle.rx_grammar.specs.Trees.{end, element, text, Tree}
+use Rattle.rx_grammar.specs.Items.{Item, no_more, one, start_of}
+use Rattle.rx_grammar.specs.Pages.{Opens, Closes, Drops, Holds, nothing, a_text, closed, unclosed, Document, Page, Lead}
+use Rattle.rx_grammar.specs.Pages as pages
+use Rattle.rx_grammar.specs.Begun.{before, within, a_root, a_child, not_begun, still_open}
+use Rattle.rx_grammar.specs.PageFaults.{FaultAt, decided, unended, in_token, at_tag}
+use Rattle.rx_reader.proofs.TagLaws.{spells_each}
+
+abbrev limits : Limits
+limits = record { depth = 512; tag = 1048576; page = 1073741824 }
+
+abbrev a_start_tag : Chars → Tag
+a_start_tag name = record { closing = false; name = name; attributes = []; slash = false }
+
+abbrev an_end_tag : Chars → Tag
+an_end_tag name = record { closing = true; name = name; attributes = []; slash = false }
+
+abbrev tag_item : Tag → Content → ℕ → ℕ → Item
+tag_item t inside first last = record { token = tag t; content = inside; first = first; last = last }
+
+abbrev char_item : ℕ → ℕ → Item
+char_item c at = record { token = character c; content = content.Html; first = at; last = at }
+
+abbrev entry : ℕ → ℕ → Entry
+entry c at = record { value = c; first = at; last = at }
+
+spell : (chars : Chars) (t : Tag) → SpellsTag Html chars t → SpellsTag Html chars t
+spell chars t h = h
+
+html_tag : SpellsTag Html (codes "html>") (a_start_tag (codes "html"))
+html_tag = spells_each Html _ _ (record { last = _; run = refl; whole = refl; is_tag = refl })
+
+html_end : SpellsTag Html (codes "/html>") (an_end_tag (codes "html"))
+html_end = spells_each Html _ _ (record { last = _; run = refl; whole = refl; is_tag = refl })
+
+ul_tag : SpellsTag Html (codes "ul>") (a_start_tag (codes "ul"))
+ul_tag = spells_each Html _ _ (record { last = _; run = refl; whole = refl; is_tag = refl })
+
+ul_end : SpellsTag Html (codes "/ul>") (an_end_tag (codes "ul"))
+ul_end = spells_each Html _ _ (record { last = _; run = refl; whole = refl; is_tag = refl })
+
+li_tag : SpellsTag Html (codes "li>") (a_start_tag (codes "li"))
+li_tag = spells_each Html _ _ (record { last = _; run = refl; whole = refl; is_tag = refl })
+
+i_tag : SpellsTag Html (codes "i>") (a_start_tag (codes "i"))
+i_tag = spells_each Html _ _ (record { last = _; run = refl; whole = refl; is_tag = refl })
+
+b_end : SpellsTag Html (codes "/b>") (an_end_tag (codes "b"))
+b_end = spells_each Html _ _ (record { last = _; run = refl; whole = refl; is_tag = refl })
+
+opens : (place : Place) (item : Item) (name : Chars) → item.content ≡ place.content → item.token ≡ tag (a_start_tag name) → Rattle.rx_grammar.specs.Contents.is_self_closed Html place (a_start_tag name) ≡ false → Rattle.rx_grammar.specs.Contents.is_plaintext Html place (a_start_tag name) ≡ false → Opens Html place item (a_start_tag name)
+opens place item name c t a k = record { content = c; token = t; start = refl; allowed = a; known = k }
+
+closes : (name : Chars) (item : Item) → item.content ≡ content.Html → item.token ≡ tag (an_end_tag name) → Closes content.Html name item
+closes name item c t = record { t = an_end_tag name; content = c; token = t; end = refl; same = refl }
+
+-- the smallest page
+abbrev small : Chars
+small = codes "<html></html>"
+
+abbrev html_item : Item
+html_item = tag_item (a_start_tag (codes "html")) content.Outside 0 5
+
+small_page : Page Html limits small (element (start_of html_item (a_start_tag (codes "html"))) end end)
+unfolding lib.Utf8.encode
+small_page = record {
+  entries = placed 0 small;
+  items = html_item ∷ tag_item (an_end_tag (codes "html")) content.Html 6 12 ∷ [];
+  size = omega arith;
+  read = record { characters = small; scalars = refl; forms = refl; read = refl };
+  no_nul = refl;
+  spelled = one (entry 60 0) (placed 1 (codes "html>")) (placed 6 (codes "</html>")) html_item (a_tag (codes "html>") (a_start_tag (codes "html")) refl html_tag) refl refl
+      (one (entry 60 6) (placed 7 (codes "/html>")) [] (tag_item (an_end_tag (codes "html")) content.Html 6 12) (a_tag (codes "/html>") (an_end_tag (codes "html")) refl html_end) refl refl no_more);
+  fit = (omega arith, (omega arith, tt));
+  sections = refl;
+  document = record {
+    before = [];
+    root = html_item;
+    from = tag_item (an_end_tag (codes "html")) content.Html 6 12 ∷ [];
+    after = [];
+    doctype_stands = false;
+    t = a_start_tag (codes "html");
+    inside = end;
+    are = refl;
+    lead = pages.no_more;
+    opens = opens outside html_item (codes "html") refl refl refl refl;
+    named = refl;
+    tree_is = refl;
+    holds = closed {left = 511} html_item (tag_item (an_end_tag (codes "html")) content.Html 6 12) (a_start_tag (codes "html")) (opens outside html_item (codes "html") refl refl refl refl) refl
+        (pages.another (tag_item (an_end_tag (codes "html")) content.Html 6 12) refl) nothing refl (closes (codes "html") _ refl refl) nothing;
+    trail = pages.no_more;
+  };
+}
+
+-- an end tag where nothing is open
+nothing_open : FaultAt Html limits (codes "</html>") (record { kind = kind.NothingOpen; token = 0; at = 6 })
+unfolding lib.Utf8.encode
+nothing_open = decided (codes "</html>") [] [] [] (before false) (placed 0 (codes "</html")) (entry 62 6) refl
+    (record { front = []; read = record { characters = codes "</html>"; scalars = refl; forms = refl; read = refl }; no_nul = refl; spelled = no_more; fit = tt; sections = refl; stands = not_begun false pages.no_more })
+    (inr (in_token 60 62 (codes "/html") [] (tag (an_end_tag (codes "html"))) (a_tag {next = None} (codes "/html>") (an_end_tag (codes "html")) refl html_end)))
+    (at_tag (codes "</html>") (an_end_tag (codes "html")) (a_tag (codes "/html>") (an_end_tag (codes "html")) refl html_end) refl)
+    (λ _. omega arith) (omega arith)
+
+-- the empty page
+empty_page : FaultAt Html limits [] (record { kind = kind.Unended; token = 0; at = 0 })
+empty_page = unended [] [] [] [] (before false) [] refl
+    (record { front = []; read = record { characters = []; scalars = refl; forms = refl; read = refl }; no_nul = refl; spelled = no_more; fit = tt; sections = refl; stands = not_begun false pages.no_more })
+    (inl refl) (inl refl) (λ _ _ e. cc) (omega arith) (λ _. omega arith)
+
+-- `<html><i>x</b></i></html>`: the end tag isn't that of the open element
+abbrev wrong_end : Chars
+wrong_end = codes "<html><i>x</b>"
+
+abbrev i_item : Item
+i_item = tag_item (a_start_tag (codes "i")) content.Html 6 8
+
+mismatch : FaultAt Html limits (codes "<html><i>x</b></i></html>") (record { kind = kind.Mismatch; token = 10; at = 13 })
+unfolding lib.Utf8.encode
+mismatch = decided wrong_end (codes "</i></html>") (html_item ∷ i_item ∷ char_item 120 9 ∷ []) (start_of i_item (a_start_tag (codes "i")) ∷ start_of html_item (a_start_tag (codes "html")) ∷ []) within (placed 10 (codes "</b")) (entry 62 13) refl
+    (record {
+      front = placed 0 (codes "<html><i>x");
+      read = record { characters = wrong_end; scalars = refl; forms = refl; read = refl };
+      no_nul = refl;
+      spelled = one (entry 60 0) (placed 1 (codes "html>")) (placed 6 (codes "<i>x")) html_item (a_tag (codes "html>") (a_start_tag (codes "html")) refl html_tag) refl refl
+          (one (entry 60 6) (placed 7 (codes "i>")) (placed 9 (codes "x")) i_item (a_tag (codes "i>") (a_start_tag (codes "i")) refl i_tag) refl refl
+          (one (entry 120 9) [] [] (char_item 120 9) (a_character 120 refl) refl refl no_more));
+      fit = (omega arith, (omega arith, (tt, tt)));
+      sections = refl;
+      stands = still_open {left = 510} 512
+          (a_child i_item (a_start_tag (codes "i"))
+          (a_root {left = 511} [] html_item (a_start_tag (codes "html")) pages.no_more (opens outside html_item (codes "html") refl refl refl refl) refl refl (pages.another i_item refl) nothing)
+          (opens _ i_item (codes "i") refl refl refl refl) refl refl (pages.another (char_item 120 9) refl) (a_text (char_item 120 9) (120 ∷ []) refl refl nothing) refl) refl;
+    })
+    (inr (in_token 60 62 (codes "/b") [] (tag (an_end_tag (codes "b"))) (a_tag {next = None} (codes "/b>") (an_end_tag (codes "b")) refl b_end)))
+    (at_tag (codes "</b>") (an_end_tag (codes "b")) (a_tag (codes "/b>") (an_end_tag (codes "b")) refl b_end) refl)
+    (λ _. omega arith) (omega arith)
+
+-- end tags that are omitted: before a sibling of the same name, and before the parent's end
+abbrev items : Chars
+items = codes "<html><ul><li>a<li>b</ul></html>"
+
+abbrev ul_item : Item
+ul_item = tag_item (a_start_tag (codes "ul")) content.Html 6 9
+
+abbrev first_item : Item
+first_item = tag_item (a_start_tag (codes "li")) content.Html 10 13
+
+abbrev second_item : Item
+second_item = tag_item (a_start_tag (codes "li")) content.Html 15 18
+
+abbrev ul_end_item : Item
+ul_end_item = tag_item (an_end_tag (codes "ul")) content.Html 20 24
+
+abbrev html_end_item : Item
+html_end_item = tag_item (an_end_tag (codes "html")) content.Html 25 31
+
+abbrev list_tree : Tree
+list_tree = element (start_of html_item (a_start_tag (codes "html")))
+    (element (start_of ul_item (a_start_tag (codes "ul")))
+    (element (start_of first_item (a_start_tag (codes "li"))) (text (codes "a") end)
+    (element (start_of second_item (a_start_tag (codes "li"))) (text (codes "b") end) end)) end) end
+
+list_page : Page Html limits items list_tree
+unfolding lib.Utf8.encode
+list_page = record {
+  entries = placed 0 items;
+  items = html_item ∷ ul_item ∷ first_item ∷ char_item 97 14 ∷ second_item ∷ char_item 98 19 ∷ ul_end_item ∷ html_end_item ∷ [];
+  size = omega arith;
+  read = record { characters = items; scalars = refl; forms = refl; read = refl };
+  no_nul = refl;
+  spelled = one (entry 60 0) (placed 1 (codes "html>")) (placed 6 (codes "<ul><li>a<li>b</ul></html>")) html_item (a_tag (codes "html>") (a_start_tag (codes "html")) refl html_tag) refl refl
+      (one (entry 60 6) (placed 7 (codes "ul>")) (placed 10 (codes "<li>a<li>b</ul></html>")) ul_item (a_tag (codes "ul>") (a_start_tag (codes "ul")) refl ul_tag) refl refl
+      (one (entry 60 10) (placed 11 (codes "li>")) (placed 14 (codes "a<li>b</ul></html>")) first_item (a_tag (codes "li>") (a_start_tag (codes "li")) refl li_tag) refl refl
+      (one (entry 97 14) [] (placed 15 (codes "<li>b</ul></html>")) (char_item 97 14) (a_character 97 refl) refl refl
+      (one (entry 60 15) (placed 16 (codes "li>")) (placed 19 (codes "b</ul></html>")) second_item (a_tag (codes "li>") (a_start_tag (codes "li")) refl li_tag) refl refl
+      (one (entry 98 19) [] (placed 20 (codes "</ul></html>")) (char_item 98 19) (a_character 98 refl) refl refl
+      (one (entry 60 20) (placed 21 (codes "/ul>")) (placed 25 (codes "</html>")) ul_end_item (a_tag (codes "/ul>") (an_end_tag (codes "ul")) refl ul_end) refl refl
+      (one (entry 60 25) (placed 26 (codes "/html>")) [] html_end_item (a_tag (codes "/html>") (an_end_tag (codes "html")) refl html_end) refl refl no_more)))))));
+  fit = (omega arith, (omega arith, (omega arith, (tt, (omega arith, (tt, (omega arith, (omega arith, tt))))))));
+  sections = refl;
+  document = record {
+    before = [];
+    root = html_item;
+    from = _;
+    after = [];
+    doctype_stands = false;
+    t = a_start_tag (codes "html");
+    inside = _;
+    are = refl;
+    lead = pages.no_more;
+    opens = opens outside html_item (codes "html") refl refl refl refl;
+    named = refl;
+    tree_is = refl;
+    holds = closed {left = 511} html_item html_end_item (a_start_tag (codes "html")) (opens outside html_item (codes "html") refl refl refl refl) refl (pages.another ul_item refl)
+        (closed {left = 510} ul_item ul_end_item (a_start_tag (codes "ul")) (opens _ ul_item (codes "ul") refl refl refl refl) refl (pages.another first_item refl)
+        (unclosed {left = 509} first_item (a_start_tag (codes "li")) (opens _ first_item (codes "li") refl refl refl refl) refl (pages.another (char_item 97 14) refl)
+        (a_text (char_item 97 14) (97 ∷ []) refl refl nothing) refl refl
+        (unclosed {left = 509} second_item (a_start_tag (codes "li")) (opens _ second_item (codes "li") refl refl refl refl) refl (pages.another (char_item 98 19) refl)
+        (a_text (char_item 98 19) (98 ∷ []) refl refl nothing) refl refl nothing))
+        refl (closes (codes "ul") ul_end_item refl refl) nothing)
+        refl (closes (codes "html") html_end_item refl refl) nothing;
+    trail = pages.no_more;
+  };
+}

@@ -1,0 +1,38 @@
+-- The reader reads exactly what the grammar spells.
+use Rattle.std.specs.Prelude.{◌≡◌, ℕ, true, [], ◌++◌, Option, Ok}
+use Rattle.rx_terms.specs.Text.{Chars}
+use Rattle.rx_chars.specs.declared.syntax.Syntax.{Syntax}
+use Rattle.rx_grammar.specs.References.{Denotes, meaning}
+use Rattle.rx_grammar.specs.Tokens.{Tag}
+use Rattle.rx_grammar.specs.Tags.{SpellsTag}
+use Rattle.rx_reader.specs.Tables.{is_last}
+use Rattle.rx_reader.specs.Values.{value_read}
+use Rattle.rx_reader.specs.TagReader.{TagState, fresh, tag_on, tag_of}
+
+-- The characters after `<` are read to the end of this tag, and that at their last one.
+pub record ReadsTag (syntax : Syntax) (chars : Chars) (tag : Tag) : Type 0 where
+  pub last : TagState
+  pub run : tag_on syntax (meaning syntax) (Ok fresh) chars ≡ Ok last
+  pub whole : is_last last.phase ≡ true
+  pub is_tag : tag_of last ≡ tag
+
+abbrev pub ReadsEachTag : Type 0
+ReadsEachTag = (syntax : Syntax) (chars : Chars) (tag : Tag) → SpellsTag syntax chars tag → ReadsTag syntax chars tag
+
+abbrev pub SpellsEachTag : Type 0
+SpellsEachTag = (syntax : Syntax) (chars : Chars) (tag : Tag) → ReadsTag syntax chars tag → SpellsTag syntax chars tag
+
+-- a list of characters spells one tag at most
+abbrev pub OneTag : Type 0
+OneTag = (syntax : Syntax) (chars : Chars) (a b : Tag) → SpellsTag syntax chars a → SpellsTag syntax chars b → a ≡ b
+
+-- and only one of its fronts does
+abbrev pub OneTagFront : Type 0
+OneTagFront = (syntax : Syntax) (chars more : Chars) (a b : Tag) → SpellsTag syntax chars a → SpellsTag syntax (chars ++ more) b → more ≡ []
+
+-- a value in which nothing is refused denotes one text, which is read
+abbrev pub ReadsEachValue : Type 0
+ReadsEachValue = (syntax : Syntax) (means : Chars → Option ℕ) (text value : Chars) → Denotes syntax means text value → value_read syntax means text ≡ Ok value
+
+abbrev pub DenotesEachValue : Type 0
+DenotesEachValue = (syntax : Syntax) (means : Chars → Option ℕ) (text value : Chars) → value_read syntax means text ≡ Ok value → Denotes syntax means text value

@@ -1,0 +1,41 @@
+//! How a page is read from left to right: the tables of a reader that takes one character at a time.
+//!
+//! The reader is a means: its laws say that it reads exactly what the grammar spells, and that it stops exactly at the
+//! grammar's faults. The code of the layers above does what these tables say.
+#![tactic(auto)]
+
+ghost use Rattle.rx_reader.specs.Laws.{ReadsEachTag, SpellsEachTag, OneTag, OneTagFront, ReadsEachValue, DenotesEachValue};
+
+mod phases;
+
+pub use phases::{RunMove, RunPhase, TagAction, TagPhase};
+
+/// Characters that spell a tag are read to its end, with that tag.
+pub fn reads_each_tag()
+    ensures { ReadsEachTag }
+{}
+
+/// Characters that are read to a tag's end spell that tag.
+pub fn spells_each_tag()
+    ensures { SpellsEachTag }
+{}
+
+/// A list of characters spells one tag at most.
+pub fn one_tag()
+    ensures { OneTag }
+{}
+
+/// At most one front of a list of characters spells a tag.
+pub fn one_tag_front()
+    ensures { OneTagFront }
+{}
+
+/// A value is read as what its characters denote.
+pub fn reads_each_value()
+    ensures { ReadsEachValue }
+{}
+
+/// What is read of a value is what its characters denote.
+pub fn denotes_each_value()
+    ensures { DenotesEachValue }
+{}
