@@ -6,6 +6,7 @@
 #![tactic(auto)]
 
 
+mod attributes;
 mod moves;
 
 
