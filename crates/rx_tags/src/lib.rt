@@ -8,6 +8,8 @@
 
 mod attributes;
 mod moves;
+mod references;
+mod values;
 
 
 

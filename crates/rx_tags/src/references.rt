@@ -1,5 +1,6 @@
 //! What references stand for (HTML, 13.2.5.72 to 13.2.5.80; XML 1.0, 4.1 and 4.6).
 ghost use Rattle.std.specs.Prelude.{◌≡◌, ℕ, ◌≤◌, nat_le, min};
+ghost use Rattle.std.specs.List.{list_all};
 ghost use Rattle.rx_terms.specs.Ascii as ascii;
 ghost use Rattle.rx_grammar.specs.References as texts;
 ghost use Rattle.rx_reader.specs.Tables as tables;
@@ -80,8 +81,8 @@ const PAST_LAST: u32 = 0x11_0000;
 
 // The number that digits to a base have, or 110000 (hexadecimal) where it is larger.
 fn number(base: u32, digits: &[u8]) -> u32
-    requires { base ≤ 16 }
-    requires { 1 ≤ base }
+    requires most { base ≤ 16 }
+    requires least { 1 ≤ base }
     ensures { result ≡ capped (texts.number_from base 0 digits.now) }
 {
     let mut number = 0;
@@ -102,14 +103,29 @@ fn number_after(body: &[u8]) -> u32
     }
 }
 
+fn is_letter_or_digit(c: u8) -> bool
+    ensures { result ≡ ascii.is_letter_or_digit c }
+{
+    matches!(c, b'A'..=b'Z' | b'a'..=b'z' | b'0'..=b'9')
+}
+
+fn are_letters_or_digits(text: &[u8]) -> bool
+    ensures { result ≡ list_all ascii.is_letter_or_digit text.now }
+{
+    for c in text {
+        if !is_letter_or_digit(*c) {
+            return false;
+        }
+    }
+    true
+}
+
 fn is_name(body: &[u8]) -> bool
     ensures { result ≡ texts.is_name body.now }
 {
     match body {
         [] => false,
-        [first, rest @ ..] => {
-            first.is_ascii_alphabetic() && rest.iter().all(|c| c.is_ascii_alphanumeric())
-        }
+        [first, rest @ ..] => is_letter(char::from(*first)) && are_letters_or_digits(rest),
     }
 }
 

@@ -15,7 +15,7 @@ pub text_between-requires-clause-rises : goal.text_between-requires-clause-rises
 text_between-requires-clause-rises c = let d = (goal.at.text_between-requires-clause-rises c).After-deref in let r = (row_is d).0 in r.rises
 
 pub text_between-requires-clause-within : goal.text_between-requires-clause-within
-text_between-requires-clause-within c = let d = (goal.at.text_between-requires-clause-within c).After-deref in let r = (row_is d).0 in omega (arith, r.on, r.within, d.self.invariant.rises, d.self.invariant.on, d.self.invariant.within, d.deref.ensures.value, d.deref.ensures.len, ap length d.deref.ensures.value)
+text_between-requires-clause-within c = let d = (goal.at.text_between-requires-clause-within c).After-deref in let r = (row_is d).0 in omega (arith, r.on, r.within, d.self.invariant.rises, d.self.invariant.on, d.self.invariant.within, ap length d.deref.ensures.value)
 
 pub text_between-requires-clause-utf8 : goal.text_between-requires-clause-utf8
 text_between-requires-clause-utf8 c = let d = (goal.at.text_between-requires-clause-utf8 c).After-deref in let r = (row_is d).0 in rw d.deref.ensures.value r.name
@@ -24,12 +24,12 @@ pub text_between-requires-2-clause-rises : goal.text_between-requires-2-clause-r
 text_between-requires-2-clause-rises c = let d = (goal.at.text_between-requires-2-clause-rises c).After-deref in let r = (row_is d).0 in r.on
 
 pub text_between-requires-2-clause-within : goal.text_between-requires-2-clause-within
-text_between-requires-2-clause-within c = let d = (goal.at.text_between-requires-2-clause-within c).After-deref in let r = (row_is d).0 in omega (arith, r.on, r.within, d.self.invariant.rises, d.self.invariant.on, d.self.invariant.within, d.deref.ensures.value, d.deref.ensures.len, ap length d.deref.ensures.value)
+text_between-requires-2-clause-within c = let d = (goal.at.text_between-requires-2-clause-within c).After-deref in let r = (row_is d).0 in omega (arith, r.on, r.within, d.self.invariant.rises, d.self.invariant.on, d.self.invariant.within, ap length c.deref-2.ensures.value)
 
 pub text_between-requires-2-clause-utf8 : goal.text_between-requires-2-clause-utf8
-text_between-requires-2-clause-utf8 c = let d = (goal.at.text_between-requires-2-clause-utf8 c).After-deref in let r = (row_is d).0 in rw d.deref.ensures.value r.value
+text_between-requires-2-clause-utf8 c = let d = (goal.at.text_between-requires-2-clause-utf8 c).After-deref in let r = (row_is d).0 in rw c.deref-2.ensures.value r.value
 
 pub returns : goal.returns
 returns c =
     let d = (goal.at.returns c).After-deref in
-    rw (← c.self.view_is, c.text_between.ensures, c.text_between-2.ensures, d.deref.ensures.value) (row_is d).1
+    rw (← c.self.view_is, c.text_between.ensures, c.text_between-2.ensures, d.deref.ensures.value, c.deref-2.ensures.value) (row_is d).1
