@@ -8,6 +8,7 @@
 
 mod attributes;
 mod moves;
+mod pairs;
 mod references;
 mod values;
 
@@ -15,3 +16,4 @@ mod values;
 
 pub use rx_chars::Syntax;
 pub use rx_grammar::{Fault, Kind, Limits};
+pub use pairs::TagError;

@@ -1,0 +1,125 @@
+//! The attributes of a tag while their values are read.
+ghost use Rattle.std.specs.Prelude.{◌≡◌, ℕ, List, [], ◌∷◌, ◌++◌, IfErr, OnErr, OnOk};
+ghost use Rattle.rx_terms.specs.Ascii.{ampersand};
+ghost use Rattle.rx_reader.specs.Values.{no_value_yet};
+
+use crate::attributes::Attributes;
+use crate::references::meaning;
+use crate::values::{ValueMove, no_meaning, value_move};
+use rx_chars::Syntax;
+use rx_grammar::Kind;
+use rx_reader::RunPhase;
+use rx_terms::NoMemory;
+use std::alloc::Global;
+use std::marker::Model;
+
+/// Why a step gives nothing.
+#[derive(Clone, Copy, Debug, PartialEq, Eq)]
+pub enum TagError {
+    /// The tag has a fault of this kind at this character.
+    Bad(Kind),
+    /// There was no memory.
+    NoMemory,
+}
+
+/// The attributes that are whole, and the one that is read with the phase of its value.
+#[derive(Drop)]
+pub(crate) struct Pairs {
+    attributes: Attributes,
+    run: RunPhase,
+}
+
+impl Model for Pairs {
+    ghost use Rattle.rx_tags.specs.Pairs.{Pairs as PairsRead, pairs_read, IsPending};
+
+    ghost Value = { PairsRead };
+
+    ghost view = { λ p. pairs_read p.run p.attributes };
+
+    ghost invariant = { λ p. IsPending p.run p.attributes.pending };
+}
+
+impl Pairs {
+    ghost use Rattle.rx_tags.specs.Pairs.{no_pairs, TakeGives, AddGives};
+
+    pub(crate) fn new(alloc: Global) -> Pairs
+        ensures { result ≡ no_pairs }
+    {
+        Pairs {
+            attributes: Attributes::new(alloc),
+            run: RunPhase::Plain,
+        }
+    }
+
+    /// Forgets all, and keeps the memory.
+    pub(crate) fn clear(&mut self)
+        ensures { self.new ≡ no_pairs }
+    {
+        self.attributes.clear();
+        self.run = RunPhase::Plain;
+    }
+
+    /// One more character of the name, where no value was begun.
+    pub(crate) fn push_key(&mut self, c: char) -> Result<(), TagError>
+        requires { self.old.value ≡ no_value_yet }
+        ensures ok { OnOk result (self.new ≡ record self.old { key = self.old.key ++ c ∷ [] }) }
+        ensures err { OnErr result (self.new ≡ self.old) }
+        ensures memory { IfErr result (λ error. error ≡ TagError.NoMemory) }
+    {
+        match self.attributes.push_key(c) {
+            Ok(()) => Ok(()),
+            Err(NoMemory) => Err(TagError::NoMemory),
+        }
+    }
+
+    /// One more character of the value, in which references are decoded.
+    pub(crate) fn take(&mut self, syntax: Syntax, c: char) -> Result<(), TagError>
+        ensures gives { TakeGives syntax self.old c result self.new }
+        ensures err { OnErr result (self.new ≡ self.old) }
+    {
+        let (done, run) = match value_move(syntax, self.run, c) {
+            ValueMove::Begins => (self.attributes.begin_run(c), RunPhase::Ampersand),
+            ValueMove::Is(given) => (self.attributes.push(given), RunPhase::Plain),
+            ValueMove::Goes(next) => (self.attributes.push_run(c), next),
+            ValueMove::Closes => {
+                let Some(given) = meaning(syntax, body_of(self.attributes.run())) else {
+                    return Err(TagError::Bad(no_meaning(self.run)));
+                };
+                (self.attributes.replace_run(given), RunPhase::Plain)
+            }
+            ValueMove::Bad => return Err(TagError::Bad(Kind::StrictText)),
+        };
+        if done.is_err() {
+            return Err(TagError::NoMemory);
+        }
+        self.run = run;
+        Ok(())
+    }
+
+    /// The attribute that is read is whole.
+    pub(crate) fn add(&mut self, syntax: Syntax) -> Result<(), TagError>
+        ensures gives { AddGives syntax self.old result self.new }
+        ensures err { OnErr result (self.new ≡ self.old) }
+    {
+        if self.run != RunPhase::Plain && syntax == Syntax::Xhtml {
+            return Err(TagError::Bad(Kind::StrictText));
+        }
+        match self.attributes.add() {
+            Ok(()) => {
+                self.run = RunPhase::Plain;
+                Ok(())
+            }
+            Err(NoMemory) => Err(TagError::NoMemory),
+        }
+    }
+}
+
+// What stands after the `&` of a run.
+fn body_of(run: &str) -> &str
+    ensures { (body : List ℕ) → run.now ≡ ampersand ∷ body → result.now ≡ body }
+{
+    match run.strip_prefix('&') {
+        Some(body) => body,
+        None => run,
+    }
+}
