@@ -1,5 +1,5 @@
 -- A start tag's attributes as the reader has them, with the value that is read.
-use Rattle.std.specs.Prelude.{◌≡◌, ℕ, Bool, true, List, [], ◌∷◌, ◌++◌, Result, Ok, Err, if◌then◌else◌}
+use Rattle.std.specs.Prelude.{◌≡◌, ℕ, Bool, true, not, ◌||◌, List, [], ◌∷◌, ◌++◌, Result, Ok, Err, if◌then◌else◌}
 use Rattle.std.specs.List.{list_all}
 use Rattle.rx_terms.specs.Ascii.{ampersand, is_ascii}
 use Rattle.rx_terms.specs.Text.{Chars}
@@ -8,6 +8,7 @@ use Rattle.rx_grammar.specs.References.{meaning}
 use Rattle.rx_grammar.specs.Tokens.{Attribute}
 use Rattle.rx_reader.specs.declared.phases.RunPhase.{RunPhase}
 use Rattle.rx_reader.specs.declared.phases.RunPhase.TheVariants as run
+use Rattle.rx_reader.specs.Tables.{is_html}
 use Rattle.rx_reader.specs.Values.{Value, no_value_yet, value_step, value_end, is_run}
 use Rattle.rx_tags.specs.Reading.{Reading}
 use Rattle.rx_tags.specs.declared.pairs.TagError.{TagError}
@@ -33,6 +34,10 @@ pairs_read phase reading =
 abbrev pub IsPending : RunPhase → Chars → Type 0
 IsPending run.Plain pending = pending ≡ []
 IsPending _ pending = (pending ≡ ampersand ∷ after_first pending) × (list_all is_ascii (after_first pending) ≡ true)
+
+-- XHTML has no run that is no reference
+abbrev pub may_end : Syntax → RunPhase → Bool
+may_end syntax phase = is_html syntax || not (is_run phase)
 
 -- one more character of the value
 abbrev pub TakeGives : Syntax → Pairs → ℕ → Result (Unit {0}) TagError → Pairs → Type 0

@@ -2,6 +2,7 @@
 ghost use Rattle.std.specs.Prelude.{◌≡◌, ℕ, List, [], ◌∷◌, ◌++◌, IfErr, OnErr, OnOk};
 ghost use Rattle.rx_terms.specs.Ascii.{ampersand};
 ghost use Rattle.rx_reader.specs.Values.{no_value_yet};
+ghost use Rattle.rx_tags.specs.Pairs as ends;
 
 use crate::attributes::Attributes;
 use crate::references::meaning;
@@ -77,23 +78,41 @@ impl Pairs {
         ensures gives { TakeGives syntax self.old c result self.new }
         ensures err { OnErr result (self.new ≡ self.old) }
     {
-        let (done, run) = match value_move(syntax, self.run, c) {
-            ValueMove::Begins => (self.attributes.begin_run(c), RunPhase::Ampersand),
-            ValueMove::Is(given) => (self.attributes.push(given), RunPhase::Plain),
-            ValueMove::Goes(next) => (self.attributes.push_run(c), next),
+        match value_move(syntax, self.run, c) {
+            ValueMove::Begins => {
+                if self.attributes.begin_run(c).is_err() {
+                    return Err(TagError::NoMemory);
+                }
+                self.run = RunPhase::Ampersand;
+                Ok(())
+            }
+            ValueMove::Is(given) => {
+                if self.attributes.push(given).is_err() {
+                    return Err(TagError::NoMemory);
+                }
+                self.run = RunPhase::Plain;
+                Ok(())
+            }
+            ValueMove::Goes(next) => {
+                if self.attributes.push_run(c).is_err() {
+                    return Err(TagError::NoMemory);
+                }
+                self.run = next;
+                Ok(())
+            }
             ValueMove::Closes => {
-                let Some(given) = meaning(syntax, body_of(self.attributes.run())) else {
+                let body = body_of(self.attributes.run());
+                let Some(given) = meaning(syntax, body) else {
                     return Err(TagError::Bad(no_meaning(self.run)));
                 };
-                (self.attributes.replace_run(given), RunPhase::Plain)
+                if self.attributes.replace_run(given).is_err() {
+                    return Err(TagError::NoMemory);
+                }
+                self.run = RunPhase::Plain;
+                Ok(())
             }
-            ValueMove::Bad => return Err(TagError::Bad(Kind::StrictText)),
-        };
-        if done.is_err() {
-            return Err(TagError::NoMemory);
+            ValueMove::Bad => Err(TagError::Bad(Kind::StrictText)),
         }
-        self.run = run;
-        Ok(())
     }
 
     /// The attribute that is read is whole.
@@ -101,7 +120,7 @@ impl Pairs {
         ensures gives { AddGives syntax self.old result self.new }
         ensures err { OnErr result (self.new ≡ self.old) }
     {
-        if self.run != RunPhase::Plain && syntax == Syntax::Xhtml {
+        if !may_end(syntax, self.run) {
             return Err(TagError::Bad(Kind::StrictText));
         }
         match self.attributes.add() {
@@ -114,11 +133,18 @@ impl Pairs {
     }
 }
 
+// Whether a value may end in this phase.
+fn may_end(syntax: Syntax, run: RunPhase) -> bool
+    ensures { result ≡ ends.may_end syntax run }
+{
+    syntax == Syntax::Html || run == RunPhase::Plain
+}
+
 // What stands after the `&` of a run.
 fn body_of(run: &str) -> &str
     ensures { (body : List ℕ) → run.now ≡ ampersand ∷ body → result.now ≡ body }
 {
-    match run.strip_prefix('&') {
+    match run.strip_prefix("&") {
         Some(body) => body,
         None => run,
     }
