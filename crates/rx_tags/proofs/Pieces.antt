@@ -292,3 +292,18 @@ pub row_at : (text : List ℕ) (limit : ℕ) (rows : List Row) (i : ℕ) (row ot
     → RowFits text limit row × (slice_get (rows_read text rows) i ≡ Some (row_read text row))
 row_at text limit rows i row other f h e = rw e (row_of text limit rows i other f (omega (arith, h, rows_count text rows)))
 
+
+-- an attribute is whole, and the next one's name begins
+pub key_added : (text grown : List ℕ) (rows more : List Row) (start middle end n m c : ℕ) → Fits text rows start middle end → IsScalar c
+    → grown ≡ text ++ encode_utf8 c → more ≡ rows ++ record { start = start; middle = middle; end = n } ∷ [] → n ≡ length text → m ≡ length grown
+    → Fits grown more n m m
+    × (read_as grown more n m m ≡ record { whole = rows_read text rows ++ (chars (piece text start middle), chars (piece text middle end) ++ chars (drop end text)) ∷ []; key = c ∷ []; known = []; pending = [] })
+key_added text grown rows more start middle end n m c f s g h k l =
+    let a = added text rows more start middle end n f h k in
+    let known : chars (piece text n n) ≡ [] = ap (λ (r : Reading). r.known) a.1 in
+    let pending : chars (drop n text) ≡ [] = ap (λ (r : Reading). r.pending) a.1 in
+    let b = key_pushed text grown more n n n m c a.0 s g l known pending in
+    (b.0, b.1 ∙ ap (λ (r : Reading). record { whole = r.whole; key = r.key ++ c ∷ []; known = r.known; pending = r.pending }) a.1)
+
+pub taken_back : (text more grown : List ℕ) (n : ℕ) → n ≡ length text → grown ≡ text ++ more → take n grown ≡ text
+taken_back text more grown n h g = rw g (take-append-le n text more (omega (arith, h)) ∙ take_all n text h)

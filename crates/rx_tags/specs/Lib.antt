@@ -2,3 +2,4 @@ pub mod Reading
 pub mod Numbers
 pub mod ValueMoves
 pub mod Pairs
+pub mod TagReads

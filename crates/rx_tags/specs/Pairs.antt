@@ -51,3 +51,10 @@ AddGives syntax old (Ok done) new =
     (value : Chars) × (value_end syntax old.value ≡ Ok value) × (new ≡ record { whole = old.whole ++ (old.key, value) ∷ []; key = []; value = no_value_yet })
 AddGives syntax old (Err (Bad kind)) new = value_end syntax old.value ≡ Err kind
 AddGives syntax old (Err NoMemory) new = Unit {0}
+
+-- the end of the attribute, and the first character of the next one's name
+abbrev pub AddKeyGives : Syntax → Pairs → ℕ → Result (Unit {0}) TagError → Pairs → Type 0
+AddKeyGives syntax old c (Ok done) new =
+    (value : Chars) × (value_end syntax old.value ≡ Ok value) × (new ≡ record { whole = old.whole ++ (old.key, value) ∷ []; key = c ∷ []; value = no_value_yet })
+AddKeyGives syntax old c (Err (Bad kind)) new = value_end syntax old.value ≡ Err kind
+AddKeyGives syntax old c (Err NoMemory) new = Unit {0}

@@ -140,6 +140,28 @@ impl Attributes {
         Ok(())
     }
 
+    /// The attribute is whole, and the character begins the name of the next one.
+    pub(crate) fn add_key(&mut self, c: char) -> Result<(), NoMemory>
+        ensures ok { OnOk result (self.new ≡ record { whole = self.old.whole ++ (self.old.key, self.old.known ++ self.old.pending) ∷ []; key = c ∷ []; known = []; pending = [] }) }
+        ensures err { OnErr result (self.new ≡ self.old) }
+    {
+        let end = self.text.len();
+        push_char(&mut self.text, c)?;
+        let row = Row {
+            start: self.start,
+            middle: self.middle,
+            end,
+        };
+        if self.rows.push(row).is_err() {
+            self.text.truncate(end);
+            return Err(NoMemory);
+        }
+        self.start = end;
+        self.middle = self.text.len();
+        self.end = self.middle;
+        Ok(())
+    }
+
     /// The run, as it is written.
     pub(crate) fn run(&self) -> &str
         ensures { result.now ≡ encode_utf8_all self.now.pending }

@@ -10,6 +10,7 @@ mod attributes;
 mod moves;
 mod pairs;
 mod references;
+mod tag_buf;
 mod values;
 
 

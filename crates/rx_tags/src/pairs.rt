@@ -133,6 +133,27 @@ impl Pairs {
     }
 }
 
+impl Pairs {
+    ghost use Rattle.rx_tags.specs.Pairs.{AddKeyGives};
+
+    /// The attribute that is read is whole, and the character begins the name of the next one.
+    pub(crate) fn add_key(&mut self, syntax: Syntax, c: char) -> Result<(), TagError>
+        ensures gives { AddKeyGives syntax self.old c result self.new }
+        ensures err { OnErr result (self.new ≡ self.old) }
+    {
+        if !may_end(syntax, self.run) {
+            return Err(TagError::Bad(Kind::StrictText));
+        }
+        match self.attributes.add_key(c) {
+            Ok(()) => {
+                self.run = RunPhase::Plain;
+                Ok(())
+            }
+            Err(NoMemory) => Err(TagError::NoMemory),
+        }
+    }
+}
+
 // Whether a value may end in this phase.
 fn may_end(syntax: Syntax, run: RunPhase) -> bool
     ensures { result ≡ ends.may_end syntax run }
