@@ -3,3 +3,4 @@ pub mod Numbers
 pub mod ValueMoves
 pub mod Pairs
 pub mod TagReads
+pub mod Seen

@@ -11,6 +11,7 @@ mod moves;
 mod pairs;
 mod references;
 mod tag_buf;
+mod tags;
 mod values;
 
 
@@ -18,3 +19,4 @@ mod values;
 pub use rx_chars::Syntax;
 pub use rx_grammar::{Fault, Kind, Limits};
 pub use pairs::TagError;
+pub use tags::Tag;

@@ -154,6 +154,26 @@ impl Pairs {
     }
 }
 
+impl Pairs {
+    ghost use Rattle.std.specs.Prelude.{◌<◌, length, slice_get, Some};
+    ghost use Rattle.std.specs.Str.{chars};
+
+    /// How many attributes are whole.
+    pub(crate) fn count(&self) -> usize
+        ensures { result ≡ length self.now.whole }
+    {
+        self.attributes.count()
+    }
+
+    /// The name and the value of an attribute that is whole.
+    pub(crate) fn at(&self, i: usize) -> (&str, &str)
+        requires { i < length self.now.whole }
+        ensures { slice_get self.now.whole i ≡ Some (chars result.0.now, chars result.1.now) }
+    {
+        self.attributes.at(i)
+    }
+}
+
 // Whether a value may end in this phase.
 fn may_end(syntax: Syntax, run: RunPhase) -> bool
     ensures { result ≡ ends.may_end syntax run }

@@ -77,6 +77,38 @@ impl TagText {
     }
 }
 
+impl TagText {
+    ghost use Rattle.std.specs.Prelude.{◌<◌, length, slice_get, Some};
+
+    pub(crate) fn phase(&self) -> TagPhase
+        ensures { result ≡ self.now.state.phase }
+    {
+        self.phase
+    }
+
+    /// The tag's name.
+    pub(crate) fn name(&self) -> &str
+        ensures { chars result.now ≡ self.now.state.name }
+    {
+        self.name.as_str()
+    }
+
+    /// How many attributes are whole.
+    pub(crate) fn count(&self) -> usize
+        ensures { result ≡ length self.now.state.attributes }
+    {
+        self.pairs.count()
+    }
+
+    /// The name and the value of an attribute that is whole.
+    pub(crate) fn attr_at(&self, i: usize) -> (&str, &str)
+        requires { i < length self.now.state.attributes }
+        ensures { slice_get self.now.state.attributes i ≡ Some (chars result.0.now, chars result.1.now) }
+    {
+        self.pairs.at(i)
+    }
+}
+
 fn act(
     syntax: Syntax,
     action: TagAction,
