@@ -1,5 +1,7 @@
 //! A tag as borrowed slices.
-ghost use Rattle.std.specs.Prelude.{◌≡◌, ◌<◌, length, slice_get, Some};
+ghost use Rattle.std.specs.Prelude.{◌≡◌, ◌<◌, length, slice_get, MatchOption, None, Some};
+ghost use Rattle.rx_grammar.specs.Names.{same};
+ghost use Rattle.rx_grammar.specs.Tokens.{value_of};
 ghost use Rattle.std.specs.Str.{chars};
 ghost use Rattle.rx_reader.specs.TagReader.{parts_of};
 ghost use Rattle.rx_tags.specs.Seen.{tag_seen};
@@ -68,5 +70,23 @@ impl<'a> Tag<'a> {
         let text = self.text;
         text.attr_at(i)
     }
+
+    /// The value of the first attribute of that name, or `None` exactly where the tag has none.
+    pub fn attr(&self, name: &str) -> Option<&'a str>
+        ensures { MatchOption result (value_of (tag_seen self.now).attributes (chars name.now) ≡ None) (λ value. value_of (tag_seen self.now).attributes (chars name.now) ≡ Some (chars value.now)) }
+    {
+        for i in 0..self.count() {
+            let (key, value) = self.attr_at(i);
+            if is_same(key, name) {
+                return Some(value);
+            }
+        }
+        None
+    }
 }
 
+fn is_same(a: &str, b: &str) -> bool
+    ensures { result ≡ same (chars a.now) (chars b.now) }
+{
+    a == b
+}
