@@ -1,10 +1,9 @@
 -- Numbers past the last code point may be cut down to the first one past it.
-use Rattle.std.proofs.Common.{◌≡◌, ◌∙◌, sym, ap, refl, ℕ, ◌+◌, ◌*◌, ◌≤◌, ◌<◌, List, [], ◌∷◌, arith, min, inl, inr, ◌⊎◌, true, false, zero, suc, length, drop, get_or}
+use Rattle.std.proofs.Common.{◌≡◌, ◌∙◌, sym, refl, ℕ, ◌+◌, ◌*◌, ◌≤◌, ◌<◌, List, [], ◌∷◌, arith, inl, inr, ◌⊎◌, true, zero, suc, length, drop, get_or}
 use Rattle.rx_chars.specs.declared.syntax.Syntax.{Syntax}
 use Rattle.rx_chars.specs.Numeric.{numeric, is_refused}
 use Rattle.rx_grammar.specs.References.{number_from, digit_value}
 use Rattle.rx_tags.specs.Numbers.{capped}
-use Rattle.std.proofs.lemmas.Grind.{common_steps}
 use Rattle.std.proofs.Math.Nat.{min-eq_left, min-eq_right, min-le_right}
 use Rattle.std.proofs.lemmas.Bool.Decides.{nat_tests}
 

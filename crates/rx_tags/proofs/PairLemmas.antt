@@ -1,5 +1,5 @@
 -- What the moves of a value do is what the reader does.
-use Rattle.std.proofs.Common.{◌≡◌, ◌∙◌, sym, ap, subst, refl, Some, None, ℕ, ◌==◌, Bool, true, false, ◌&&◌, List, [], ◌∷◌, ◌++◌, Option, Result, Ok, Err, arith, if◌then◌else◌}
+use Rattle.std.proofs.Common.{◌≡◌, ◌∙◌, sym, ap, subst, refl, Some, None, ℕ, ◌==◌, true, false, [], ◌∷◌, ◌++◌, Option, Result, Ok, Err, arith, if◌then◌else◌}
 use Rattle.std.proofs.lemmas.Bool.Decides.{nat_tests}
 use Rattle.std.proofs.lemmas.Bool.{and_parts, and_from}
 use Rattle.std.proofs.lemmas.List.{append-nil, append_assoc}
@@ -14,7 +14,7 @@ use Rattle.rx_chars.specs.declared.syntax.Syntax.{Syntax}
 use Rattle.rx_chars.specs.declared.syntax.Syntax.TheVariants.{Html, Xhtml}
 use Rattle.rx_grammar.specs.declared.faults.Kind.{Kind}
 use Rattle.rx_grammar.specs.declared.faults.Kind.TheVariants.{StrictText}
-use Rattle.rx_grammar.specs.References.{is_plain, value_char, is_x, is_hexadecimal_digit}
+use Rattle.rx_grammar.specs.References.{is_plain, is_x, is_hexadecimal_digit}
 use Rattle.rx_reader.specs.declared.phases.RunPhase.{RunPhase}
 use Rattle.rx_reader.specs.declared.phases.RunPhase.TheVariants as run
 use Rattle.rx_reader.specs.declared.phases.RunMove.{RunMove}
@@ -24,7 +24,7 @@ use Rattle.rx_reader.specs.Values.{Value, no_meaning, known_as, plain_step, mean
 use Rattle.rx_reader.proofs.Bools.{by_test, split}
 use Rattle.rx_tags.specs.declared.values.ValueMove.{ValueMove}
 use Rattle.rx_tags.specs.declared.values.ValueMove.TheVariants.{Begins, Is, Goes, Closes, Bad}
-use Rattle.rx_tags.specs.ValueMoves.{plain_move, after_stop, of_run, value_move}
+use Rattle.rx_tags.specs.ValueMoves.{plain_move, of_run, value_move}
 use Rattle.rx_tags.specs.Pairs.{after_first, IsPending, may_end}
 
 -- what a move does to a value; `text` is the value with a run before the character

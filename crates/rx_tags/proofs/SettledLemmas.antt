@@ -4,7 +4,6 @@ use Rattle.rx_terms.specs.Ascii.{quotation_mark, apostrophe, solidus, equals_sig
 use Rattle.rx_terms.specs.Text.{Chars}
 use Rattle.rx_chars.specs.declared.syntax.Syntax.{Syntax}
 use Rattle.rx_grammar.specs.Shapes.{begins_tag, is_tag_char, begins_attribute, continues_attribute}
-use Rattle.rx_grammar.specs.References.{meaning}
 use Rattle.rx_grammar.specs.declared.faults.Kind.{Kind}
 use Rattle.rx_reader.specs.declared.phases.TagPhase.{TagPhase}
 use Rattle.rx_reader.specs.declared.phases.TagPhase.TheVariants as phase

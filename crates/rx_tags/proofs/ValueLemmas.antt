@@ -1,5 +1,5 @@
 -- The first attribute of a name.
-use Rattle.std.proofs.Common.{◌≡◌, ◌∙◌, sym, ap, refl, ℕ, suc, zero, ◌+◌, true, false, List, [], ◌∷◌, Option, Some, None, slice_get, drop, arith}
+use Rattle.std.proofs.Common.{◌≡◌, ap, refl, ℕ, suc, zero, ◌+◌, true, false, List, [], ◌∷◌, Some, slice_get, drop, arith}
 use Rattle.rx_terms.specs.Text.{Chars}
 use Rattle.rx_grammar.specs.Names.{same}
 use Rattle.rx_grammar.specs.Tokens.{Attribute, value_of}

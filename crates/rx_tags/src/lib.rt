@@ -5,7 +5,6 @@
 //! they were decoded. The buffer keeps its memory from tag to tag.
 #![tactic(auto)]
 
-
 mod attributes;
 mod moves;
 mod pairs;
@@ -13,8 +12,6 @@ mod references;
 mod tag_buf;
 mod tags;
 mod values;
-
-
 
 pub use rx_chars::Syntax;
 pub use rx_grammar::{Fault, Kind, Limits};

@@ -1,4 +1,4 @@
-use Rattle.std.proofs.Common.{◌≡◌, ◌∙◌, ◌≤◌, ◌<◌, arith, ap, sym, length, List, ℕ, Some, slice_get, get_or}
+use Rattle.std.proofs.Common.{◌≡◌, ◌<◌, arith, ap, length, Some, slice_get}
 use Rattle.rx_tags.specs.Reading.{Reading, rows_read, RowFits, row_read}
 use Rattle.rx_tags.proofs.Pieces.{row_at}
 use Rattle.rx_tags.proofs.attributes.Attributes.at.Goals as goal

@@ -1,4 +1,4 @@
-use Rattle.std.proofs.Common.{refl, ◌≡◌, ◌∙◌, ap, arith, ◌++◌, take, encode_utf8}
+use Rattle.std.proofs.Common.{refl, ◌∙◌, arith}
 use Rattle.rx_tags.proofs.Pieces.{replaced}
 use Rattle.rx_tags.proofs.attributes.Attributes.replace_run.Goals as goal
 

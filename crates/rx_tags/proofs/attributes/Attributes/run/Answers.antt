@@ -1,4 +1,4 @@
-use Rattle.std.proofs.Common.{refl, sym, ◌∙◌, ap, arith, drop, length}
+use Rattle.std.proofs.Common.{sym, ◌∙◌, arith, drop}
 use Rattle.std.proofs.lemmas.Str.{encodes-chars}
 use Rattle.rx_tags.proofs.Pieces.{piece_rest}
 use Rattle.rx_tags.proofs.attributes.Attributes.run.Goals as goal

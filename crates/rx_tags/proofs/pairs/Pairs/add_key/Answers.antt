@@ -1,5 +1,5 @@
-use Rattle.std.proofs.Common.{◌∙◌, sym, ap, refl, ◌++◌, rules}
-use Rattle.rx_tags.proofs.PairLemmas.{ends_as, ends_badly}
+use Rattle.std.proofs.Common.{◌++◌, rules}
+use Rattle.rx_tags.proofs.PairLemmas.{ends_as}
 use Rattle.rx_tags.proofs.pairs.Pairs.add_key.Goals as goal
 
 pub returns-in-Ok-clause-gives : goal.returns-in-Ok-clause-gives

@@ -1,6 +1,5 @@
-use Rattle.std.proofs.Common.{◌≡◌, ◌∙◌, sym, ap, refl, Ok, ℕ, ◌++◌, ◌∷◌, []}
+use Rattle.std.proofs.Common.{◌∙◌, sym, ap, refl, Ok, ◌++◌}
 use Rattle.rx_grammar.specs.References.{meaning}
-use Rattle.rx_reader.specs.Values.{meant}
 use Rattle.rx_tags.specs.Pairs.{after_first}
 use Rattle.rx_tags.proofs.PairLemmas.{applied, step_law, goes_pending, run_is, on_ok, pushed_value, closes_none, closes_some}
 use Rattle.rx_tags.proofs.pairs.Pairs.take.Goals as goal
