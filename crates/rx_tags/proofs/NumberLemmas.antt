@@ -29,17 +29,17 @@ capped_large n h = min-eq_right h
 pub capped_on : (base m : ℕ) (digits : List ℕ) → 1 ≤ base → capped (number_from base (capped m) digits) ≡ capped (number_from base m digits)
 capped_on base m digits h =
     elim (le_cases m 0x110000) [
-      inl k ↦ rw (capped_small m k) refl
-    | inr k ↦ rw (capped_large m k) (capped_large _ (stays_large base 0x110000 digits h (omega arith)) ∙ sym (capped_large _ (stays_large base m digits h k)))
+      | inl k ↦ rw (capped_small m k) refl
+      | inr k ↦ rw (capped_large m k) (capped_large _ (stays_large base 0x110000 digits h (omega arith)) ∙ sym (capped_large _ (stays_large base m digits h k)))
     ]
 
 pub numeric_capped : (syntax : Syntax) (n : ℕ) → numeric syntax (capped n) ≡ numeric syntax n
 numeric_capped syntax n =
     elim (le_cases n 0x110000) [
-      inl k ↦ rw (capped_small n k) refl
-    | inr k ↦
-        let past : is_refused n ≡ true = grind (arith, nat_tests) in
-        rw (capped_large n k, past) refl
+      | inl k ↦ rw (capped_small n k) refl
+      | inr k ↦
+          let past : is_refused n ≡ true = grind (arith, nat_tests) in
+          rw (capped_large n k, past) refl
     ]
 
 drop_next : (digits : List ℕ) (i d : ℕ) → i < length digits → drop i digits ≡ get_or digits i d ∷ drop (i + 1) digits

@@ -41,12 +41,12 @@ rows_on text more limit (row ∷ rows) l f = rw (row_on text more limit row l f.
 
 pub row_fit_on : (text more : List ℕ) (limit past : ℕ) (row : Row) → limit ≤ length text → limit ≤ past → RowFits text limit row → RowFits (text ++ more) past row
 row_fit_on text more limit past row l p f = record {
-    rises = f.rises;
-    on = f.on;
-    within = omega (arith, f.within);
-    name = rw (piece_on text more row.start row.middle f.rises (omega (arith, f.on, f.within))) f.name;
-    value = rw (piece_on text more row.middle row.end f.on (omega (arith, f.within))) f.value;
-  }
+  rises = f.rises;
+  on = f.on;
+  within = omega (arith, f.within);
+  name = rw (piece_on text more row.start row.middle f.rises (omega (arith, f.on, f.within))) f.name;
+  value = rw (piece_on text more row.middle row.end f.on (omega (arith, f.within))) f.value;
+}
 
 pub rows_fit_on : (text more : List ℕ) (limit past : ℕ) (rows : List Row) → limit ≤ length text → limit ≤ past → RowsFit text limit rows → RowsFit (text ++ more) past rows
 rows_fit_on text more limit past [] l p f = tt
@@ -55,12 +55,12 @@ rows_fit_on text more limit past (row ∷ rows) l p f = (row_fit_on text more li
 -- the same the other way: rows that lie in a front of the text
 row_fit_off : (text more : List ℕ) (limit : ℕ) (row : Row) → limit ≤ length text → RowFits (text ++ more) limit row → RowFits text limit row
 row_fit_off text more limit row l f = record {
-    rises = f.rises;
-    on = f.on;
-    within = f.within;
-    name = rw (piece_on text more row.start row.middle f.rises (omega (arith, f.on, f.within))) at f.name;
-    value = rw (piece_on text more row.middle row.end f.on (omega (arith, f.within))) at f.value;
-  }
+  rises = f.rises;
+  on = f.on;
+  within = f.within;
+  name = rw (piece_on text more row.start row.middle f.rises (omega (arith, f.on, f.within))) at f.name;
+  value = rw (piece_on text more row.middle row.end f.on (omega (arith, f.within))) at f.value;
+}
 
 rows_fit_off : (text more : List ℕ) (limit : ℕ) (rows : List Row) → limit ≤ length text → RowsFit (text ++ more) limit rows → RowsFit text limit rows
 rows_fit_off text more limit [] l f = tt
@@ -80,8 +80,8 @@ cut_back text rows start middle end f =
     let all : RowsFit (take end text ++ drop end text) start rows = rw e f.rows_fit in
     let key : piece text start middle ≡ piece (take end text) start middle = ap (λ t. piece t start middle) (sym e) ∙ piece_on (take end text) (drop end text) start middle f.rises (omega (arith, f.on, n)) in
     let known : piece text middle end ≡ piece (take end text) middle end = ap (λ t. piece t middle end) (sym e) ∙ piece_on (take end text) (drop end text) middle end f.on (omega (arith, n)) in
-    let past = nothing_past (take end text) end (sym n) in
-    (record {
+    let past = nothing_past (take end text) end (sym n) in (
+      record {
         rows_fit = rows_fit_off (take end text) (drop end text) start rows low all;
         rises = f.rises;
         on = f.on;
@@ -89,12 +89,14 @@ cut_back text rows start middle end f =
         key = rw (← key) f.key;
         known = rw (← known) f.known;
         pending = past.0;
-      }, λ i. record {
+      },
+      λ i. record {
         whole = (sym (rows_on (take end text) (drop end text) start rows low (rows_fit_off (take end text) (drop end text) start rows low all)) ∙ ap (λ t. rows_read t rows) e) i;
         key = chars (sym key i);
         known = chars (sym known i);
         pending = past.1 i;
-      })
+      },
+    )
 
 pub with_char : (bs : List ℕ) (c : ℕ) → IsUtf8 bs → IsScalar c → IsUtf8 (bs ++ encode_utf8 c) × (chars (bs ++ encode_utf8 c) ≡ chars bs ++ c ∷ [])
 with_char bs c u s =
@@ -121,7 +123,8 @@ pushed text grown rows start middle end n c f s g h =
     let key : piece (text ++ encode_utf8 c) start middle ≡ piece text start middle = piece_on text (encode_utf8 c) start middle f.rises within in
     let value : piece (text ++ encode_utf8 c) middle n ≡ drop middle text ++ encode_utf8 c = piece_rest (text ++ encode_utf8 c) middle n count ∙ drop-append-le middle text (encode_utf8 c) within in
     let past = nothing_past (text ++ encode_utf8 c) n count in
-    rw g (record {
+    rw g (
+      record {
         rows_fit = rows_fit_on text (encode_utf8 c) start start rows (omega (arith, f.rises, f.on, f.within)) (omega arith) f.rows_fit;
         rises = f.rises;
         on = omega (arith, f.on, f.within, longer, count);
@@ -129,12 +132,14 @@ pushed text grown rows start middle end n c f s g h =
         key = rw key f.key;
         known = rw value w.0;
         pending = past.0;
-      }, λ i. record {
+      },
+      λ i. record {
         whole = rows_on text (encode_utf8 c) start rows (omega (arith, f.rises, f.on, f.within)) f.rows_fit i;
         key = chars (key i);
         known = (ap chars value ∙ w.1 ∙ ap (λ front. front ++ c ∷ []) m.1 ∙ append_assoc (chars (piece text middle end)) (chars (drop end text)) (c ∷ [])) i;
         pending = past.1 i;
-      })
+      },
+    )
 
 -- a run begins
 pub begun : (text grown : List ℕ) (rows : List Row) (start middle end n c : ℕ) → Fits text rows start middle end → IsScalar c
@@ -150,7 +155,8 @@ begun text grown rows start middle end n c f s g h =
     let key : piece (text ++ encode_utf8 c) start middle ≡ piece text start middle = piece_on text (encode_utf8 c) start middle f.rises within in
     let value : piece (text ++ encode_utf8 c) middle n ≡ drop middle text = piece_on text (encode_utf8 c) middle n (omega (arith, within, h)) (omega (arith, h)) ∙ piece_rest text middle n h in
     let run : drop n (text ++ encode_utf8 c) ≡ drop n text ++ encode_utf8 c = drop-append-le n text (encode_utf8 c) (omega (arith, h)) in
-    rw g (record {
+    rw g (
+      record {
         rows_fit = rows_fit_on text (encode_utf8 c) start start rows (omega (arith, f.rises, f.on, f.within)) (omega arith) f.rows_fit;
         rises = f.rises;
         on = omega (arith, within, h);
@@ -158,12 +164,14 @@ begun text grown rows start middle end n c f s g h =
         key = rw key f.key;
         known = rw value m.0;
         pending = rw run w.0;
-      }, λ i. record {
+      },
+      λ i. record {
         whole = rows_on text (encode_utf8 c) start rows (omega (arith, f.rises, f.on, f.within)) f.rows_fit i;
         key = chars (key i);
         known = (ap chars value ∙ m.1) i;
         pending = (ap chars run ∙ w.1 ∙ ap (λ front. front ++ c ∷ []) none.1) i;
-      })
+      },
+    )
 
 -- a run goes on
 pub gone_on : (text grown : List ℕ) (rows : List Row) (start middle end c : ℕ) → Fits text rows start middle end → IsScalar c
@@ -177,7 +185,8 @@ gone_on text grown rows start middle end c f s g =
     let key : piece (text ++ encode_utf8 c) start middle ≡ piece text start middle = piece_on text (encode_utf8 c) start middle f.rises within in
     let value : piece (text ++ encode_utf8 c) middle end ≡ piece text middle end = piece_on text (encode_utf8 c) middle end f.on f.within in
     let run : drop end (text ++ encode_utf8 c) ≡ drop end text ++ encode_utf8 c = drop-append-le end text (encode_utf8 c) f.within in
-    rw g (record {
+    rw g (
+      record {
         rows_fit = rows_fit_on text (encode_utf8 c) start start rows (omega (arith, f.rises, f.on, f.within)) (omega arith) f.rows_fit;
         rises = f.rises;
         on = f.on;
@@ -185,12 +194,14 @@ gone_on text grown rows start middle end c f s g =
         key = rw key f.key;
         known = rw value f.known;
         pending = rw run w.0;
-      }, λ i. record {
+      },
+      λ i. record {
         whole = rows_on text (encode_utf8 c) start rows (omega (arith, f.rises, f.on, f.within)) f.rows_fit i;
         key = chars (key i);
         known = chars (value i);
         pending = (ap chars run ∙ w.1) i;
-      })
+      },
+    )
 
 none_of : (bs : List ℕ) → IsUtf8 bs → chars bs ≡ [] → bs ≡ []
 none_of bs u e = sym (encodes-chars bs u) ∙ ap encode_utf8_all e
@@ -209,11 +220,12 @@ key_pushed text grown rows start middle end n c f s g h k p =
     let all : drop start text ≡ piece text start middle = piece_then text start middle f.rises ∙ ap (λ rest. piece text start middle ++ rest) no_value ∙ append-nil (piece text start middle) in
     let w = with_char (piece text start middle) c f.key s in
     let key : piece (text ++ encode_utf8 c) start n ≡ piece text start middle ++ encode_utf8 c =
-        piece_rest (text ++ encode_utf8 c) start n count ∙ drop-append-le start text (encode_utf8 c) within ∙ ap (λ front. front ++ encode_utf8 c) all in
+    piece_rest (text ++ encode_utf8 c) start n count ∙ drop-append-le start text (encode_utf8 c) within ∙ ap (λ front. front ++ encode_utf8 c) all in
     let past = nothing_past (text ++ encode_utf8 c) n count in
     let z : n - n ≡ 0 = omega arith in
     let value : piece (text ++ encode_utf8 c) n n ≡ [] = rw z refl in
-    rw g (record {
+    rw g (
+      record {
         rows_fit = rows_fit_on text (encode_utf8 c) start start rows (omega (arith, f.rises, f.on, f.within)) (omega arith) f.rows_fit;
         rises = omega (arith, within, count, longer);
         on = omega arith;
@@ -221,12 +233,14 @@ key_pushed text grown rows start middle end n c f s g h k p =
         key = rw key w.0;
         known = rw value IsUtf8-nil;
         pending = past.0;
-      }, λ i. record {
+      },
+      λ i. record {
         whole = rows_on text (encode_utf8 c) start rows (omega (arith, f.rises, f.on, f.within)) f.rows_fit i;
         key = (ap chars key ∙ w.1) i;
         known = (ap chars value ∙ chars-nil ∙ sym k) i;
         pending = (past.1 ∙ sym p) i;
-      })
+      },
+    )
 
 rows_fit_append : (text : List ℕ) (limit : ℕ) (rows : List Row) (row : Row) → RowsFit text limit rows → RowFits text limit row → RowsFit text limit (rows ++ row ∷ [])
 rows_fit_append text limit [] row f r = (r, tt)
@@ -249,7 +263,8 @@ added text rows grown start middle end n f g h =
     let z : n - n ≡ 0 = omega arith in
     let none : piece text n n ≡ [] = rw z refl in
     let row : Row = record { start = start; middle = middle; end = n } in
-    rw g (record {
+    rw g (
+      record {
         rows_fit = rows_fit_append text n rows row (rows_fit_past text start n rows (omega (arith, f.rises, f.on, f.within, h)) f.rows_fit) (record { rises = f.rises; on = omega (arith, f.on, f.within, h); within = omega arith; name = f.key; value = rw value m.0 });
         rises = omega arith;
         on = omega arith;
@@ -257,12 +272,14 @@ added text rows grown start middle end n f g h =
         key = rw none IsUtf8-nil;
         known = rw none IsUtf8-nil;
         pending = past.0;
-      }, λ i. record {
+      },
+      λ i. record {
         whole = (map-append (row_read text) rows (row ∷ []) ∙ ap (λ v. rows_read text rows ++ (chars (piece text start middle), v) ∷ []) (ap chars value ∙ m.1)) i;
         key = (ap chars none ∙ chars-nil) i;
         known = (ap chars none ∙ chars-nil) i;
         pending = past.1 i;
-      })
+      },
+    )
 
 pub fresh : Fits [] [] 0 0 0 × (read_as [] [] 0 0 0 ≡ nothing_read)
 fresh = (record { rows_fit = tt; rises = omega arith; on = omega arith; within = omega arith; key = IsUtf8-nil; known = IsUtf8-nil; pending = IsUtf8-nil }, λ i. record { whole = []; key = chars-nil i; known = chars-nil i; pending = chars-nil i })
@@ -291,7 +308,6 @@ row_of text limit (first ∷ rows) (suc i) other f h = row_of text limit rows i 
 pub row_at : (text : List ℕ) (limit : ℕ) (rows : List Row) (i : ℕ) (row other : Row) → RowsFit text limit rows → i < length (rows_read text rows) → row ≡ get_or rows i other
     → RowFits text limit row × (slice_get (rows_read text rows) i ≡ Some (row_read text row))
 row_at text limit rows i row other f h e = rw e (row_of text limit rows i other f (omega (arith, h, rows_count text rows)))
-
 
 -- an attribute is whole, and the next one's name begins
 pub key_added : (text grown : List ℕ) (rows more : List Row) (start middle end n m c : ℕ) → Fits text rows start middle end → IsScalar c

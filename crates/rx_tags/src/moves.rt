@@ -230,5 +230,8 @@ fn in_end_gap(c: char) -> Option<(TagPhase, TagAction)>
 pub(crate) fn is_last(phase: TagPhase) -> bool
     ensures { result ≡ tables.is_last phase }
 {
-    matches!(phase, TagPhase::Opened | TagPhase::Emptied | TagPhase::Closed)
+    matches!(
+        phase,
+        TagPhase::Opened | TagPhase::Emptied | TagPhase::Closed
+    )
 }

@@ -71,4 +71,3 @@ pub(crate) fn cased(syntax: Syntax, c: char) -> char
         Syntax::Xhtml => c,
     }
 }
-

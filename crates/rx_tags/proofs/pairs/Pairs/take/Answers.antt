@@ -11,10 +11,13 @@ invariant_of-self-in-Goes c =
 
 pub returns-else-is_err-2-clause-gives : goal.returns-else-is_err-2-clause-gives
 returns-else-is_err-2-clause-gives c =
-    rw (← c.self.view_is, on_ok _ c.if-is_err-2.ensures.value c.push.ensures.ok)
-    (step_law c.args.syntax (meaning c.args.syntax) c.self.inside.run c.self.inside.attributes.known c.self.inside.attributes.pending c.args.c c.self.invariant
-      ∙ ap (applied (meaning c.args.syntax) _ (c.self.inside.attributes.known ++ c.self.inside.attributes.pending) c.args.c) (sym c.value_move.ensures ∙ c.in-Is.is)
-      ∙ ap Ok (pushed_value c.self.inside.attributes.known c.self.inside.attributes.pending c.in-Is.given), refl, refl)
+    rw (← c.self.view_is, on_ok _ c.if-is_err-2.ensures.value c.push.ensures.ok) (
+      step_law c.args.syntax (meaning c.args.syntax) c.self.inside.run c.self.inside.attributes.known c.self.inside.attributes.pending c.args.c c.self.invariant
+          ∙ ap (applied (meaning c.args.syntax) _ (c.self.inside.attributes.known ++ c.self.inside.attributes.pending) c.args.c) (sym c.value_move.ensures ∙ c.in-Is.is)
+          ∙ ap Ok (pushed_value c.self.inside.attributes.known c.self.inside.attributes.pending c.in-Is.given),
+      refl,
+      refl,
+    )
 
 pub returns-in_default-clause-gives : goal.returns-in_default-clause-gives
 returns-in_default-clause-gives c =
