@@ -9,7 +9,7 @@ use Rattle.rx_command.specs.declared.jobs.Job.TheVariants.{Extract}
 use Rattle.rx_command.specs.Jobs.{asked_by, page_of}
 use Rattle.rx_command.specs.Words.{Asked, job}
 use Rattle.rx_command.specs.Page.{IsPage}
-use Rattle.rx_command.specs.Outcome.{HasText, IsNotBuilt, NamesPage, Yields, Refuses, LacksPage, not_built}
+use Rattle.rx_command.specs.Outcome.{HasText, Denotes, IsNotBuilt, NamesPage, Yields, YieldsGraph, Refuses, LacksPage, not_built}
 use Rattle.rx_command.specs.Files.{ReadsFile, TakesOf, size_of}
 use Rattle.rx_command.specs.Runs.{TakesPage, page_size, IsAtEnd}
 
@@ -42,6 +42,22 @@ yields words told now asked name bytes text t a m e h =
         file = ap (file_of t.files) (sym a.named) ∙ whole name bytes t r.0 r.1 h.page.size;
       };
       has_text = h;
+    }
+
+pub yields_graph : (words : List (List ℕ)) (told now : Option Told) (asked : Asked) (name bytes text : List ℕ) (t : Told)
+    → HasAsked words asked name → Moves (ReadsFile name 1048576 bytes) told now → told ≡ Some t → Denotes bytes text → YieldsGraph words told text
+yields_graph words told now asked name bytes text t a m e h =
+    let r = moves_at t m e in
+    record {
+      bytes = bytes;
+      page = record {
+        asked = asked;
+        shelf = t;
+        asks = a.asks;
+        tells = e;
+        file = ap (file_of t.files) (sym a.named) ∙ whole name bytes t r.0 r.1 h.page.size;
+      };
+      graph = h;
     }
 
 -- more bytes than those read are no page either

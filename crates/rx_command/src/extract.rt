@@ -1,13 +1,15 @@
 //! From the bytes of a page to the text of its triples.
-ghost use Rattle.std.specs.Prelude.{◌≡◌, IfOk, MatchOption, true, string_bytes};
-ghost use Rattle.std.specs.Str.{chars};
-ghost use Rattle.rx_terms.specs.Iri.{is_iri};
-ghost use Rattle.rx_command.specs.Outcome.{HasText, IsNotBuilt, page_triple};
+ghost use Rattle.std.specs.Prelude.{◌≡◌, ◌∷◌, [], IfOk, MatchOption};
+ghost use Rattle.rx_model.specs.Seen.{triple_seen, triples_seen};
+ghost use Rattle.rx_command.specs.Outcome.{HasText, Denotes, IsNotBuilt, page_triple};
 ghost use Rattle.rx_command.specs.Page.{IsPlainIri, IsPage, AllAscii};
 
-use crate::nquads::push_triple;
 use crate::pages::{Parts, read_page};
-use rx_terms::{Iri, IriError, Literal, LiteralKind, NoMemory, Node, Term, Text, Triple};
+use rx_graph::Graph;
+use rx_nquads::text;
+use rx_terms::{
+    Iri, IriError, Literal, LiteralKind, NoMemory, Node, Term, Text, Triple, TripleList,
+};
 use std::alloc::Global;
 use std::str;
 
@@ -36,7 +38,7 @@ fn triple_of(alloc: Global, parts: Parts<'_>) -> Result<Triple, NoMemory>
     requires about { IsPlainIri parts.about.now }
     requires property { IsPlainIri parts.property.now }
     requires run { AllAscii parts.run.now }
-    ensures { IfOk result (λ triple. triple ≡ page_triple parts.entry.about.now parts.entry.property.now parts.entry.run.now) }
+    ensures { IfOk result (λ triple. triple_seen triple ≡ page_triple parts.entry.about.now parts.entry.property.now parts.entry.run.now) }
 {
     let subject = Node::Iri(plain_iri(alloc, parts.about)?);
     let predicate = plain_iri(alloc, parts.property)?;
@@ -58,15 +60,26 @@ fn read_text(page: &[u8]) -> Option<Parts<'_>>
     }
 }
 
+/// The graph of the page's one triple.
+fn graph_of(alloc: Global, parts: Parts<'_>) -> Result<Graph, NoMemory>
+    requires about { IsPlainIri parts.about.now }
+    requires property { IsPlainIri parts.property.now }
+    requires run { AllAscii parts.run.now }
+    ensures { IfOk result (λ graph. triples_seen graph ≡ page_triple parts.entry.about.now parts.entry.property.now parts.entry.run.now ∷ []) }
+{
+    let mut triples = TripleList::new(alloc);
+    triples.push(triple_of(alloc, parts)?)?;
+    Graph::of(alloc, &triples)
+}
+
 /// The text of a page's triples, or `None` where the page isn't of the form.
-pub fn text_of(alloc: Global, page: &[u8]) -> Result<Option<String>, NoMemory>
-    ensures { IfOk result (λ text. MatchOption text (IsNotBuilt page.now) (λ text. HasText page.now (string_bytes text))) }
+pub fn text_of(alloc: Global, page: &[u8]) -> Result<Option<Vec<u8>>, NoMemory>
+    ensures text { IfOk result (λ text. MatchOption text (IsNotBuilt page.now) (λ bytes. HasText page.now bytes.items)) }
+    ensures denotes { IfOk result (λ text. MatchOption text (IsNotBuilt page.now) (λ bytes. Denotes page.now bytes.items)) }
 {
     let Some(parts) = read_text(page) else {
         return Ok(None);
     };
-    let triple = triple_of(alloc, parts)?;
-    let mut text = String::new(alloc);
-    push_triple(&mut text, &triple)?;
-    Ok(Some(text))
+    let graph = graph_of(alloc, parts)?;
+    Ok(Some(text(alloc, &graph, None)?))
 }

@@ -10,7 +10,6 @@ ghost use Rattle.rx_command.specs.Page.{OneReading};
 mod extract;
 mod files;
 mod jobs;
-mod nquads;
 mod pages;
 mod statuses;
 #[cfg(test)]

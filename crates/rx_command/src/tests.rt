@@ -1,4 +1,4 @@
-//! The worked rows of the top call, over shelves and sinks in memory.
+//! The worked examples of the top call, over shelves and sinks in memory.
 use crate::{Fault, Kind, Status, run};
 use rx_ports::{FileList, MemShelf, MemSink};
 use rx_terms::Text;

@@ -3,7 +3,7 @@ ghost use Rattle.std.specs.Prelude.{◌≡◌, ◌≢◌, ◌⊎◌, ℕ, List, 
 ghost use Rattle.rx_ports.specs.Counts.{Rose};
 ghost use Rattle.rx_ports.specs.Told.{Told, Moves, GrowsBy, GrowsByPart, Stays};
 ghost use Rattle.rx_command.specs.Words.{job};
-ghost use Rattle.rx_command.specs.Outcome.{Yields, Refuses, LacksPage};
+ghost use Rattle.rx_command.specs.Outcome.{Yields, YieldsGraph, Refuses, LacksPage};
 ghost use Rattle.rx_command.specs.Runs.{ReadCause, TakesPage, IsAtEnd, Says, usage_line, refused_line};
 
 use crate::extract::text_of;
@@ -42,6 +42,9 @@ pub fn run<F: Shelf, O: Sink, E: Sink>(
     // Done comes only where the page has a text: out has then grown by exactly that, and the page was read to its end.
     ensures done { result ≡ Status.Done → (told : Told) → F.told shelf.old ≡ Some told →
         (text : List ℕ) × Yields words.now (F.told shelf.old) text × Moves (GrowsBy text) (O.held out.old) (O.held out.new) }
+    // That text denotes exactly the graph of the page.
+    ensures denotes { result ≡ Status.Done → (told : Told) → F.told shelf.old ≡ Some told →
+        (text : List ℕ) × YieldsGraph words.now (F.told shelf.old) text × Moves (GrowsBy text) (O.held out.old) (O.held out.new) }
     ensures to_end { result ≡ Status.Done → IsAtEnd (F.told shelf.new) }
 
     // Refused comes only where the page has this fault.
@@ -91,7 +94,7 @@ pub fn run<F: Shelf, O: Sink, E: Sink>(
         Err(ReadError::NoMemory) => return Status::Memory,
     };
     match text_of(alloc, bytes.as_slice()) {
-        Ok(Some(text)) => match put_all(out, text.as_bytes()) {
+        Ok(Some(text)) => match put_all(out, text.as_slice()) {
             Ok(()) => Status::Done,
             Err(_failed) => Status::WriteFault,
         },

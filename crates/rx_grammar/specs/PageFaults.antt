@@ -56,10 +56,10 @@ is_opening_begun text = list_any (λ opening. begins_with text opening) openings
 
 -- These characters begin a token and aren't yet one.
 pub data Unfinished (syntax : Syntax) (inside : Content) : Chars → Type 0 where
-  in_token : (c d : ℕ) (run rest : Chars) {next : Option ℕ} (token : Token) → Spells syntax inside (c ∷ (run ++ d ∷ rest)) next token → Unfinished syntax inside (c ∷ run)
-  in_tag : (text : Chars) → is_known_tag syntax inside (less_than_sign ∷ text) ≡ true → BeginsTag syntax text → Unfinished syntax inside (less_than_sign ∷ text)
-  in_run : (run : Chars) → has_references inside ≡ true → is_begun run ≡ true → Unfinished syntax inside (ampersand ∷ run)
-  in_opening : (text : Chars) → syntax ≡ Xhtml → has_markup inside ≡ true → is_opening_begun text ≡ true → Unfinished syntax inside (less_than_sign ∷ text)
+  token_begun : (c d : ℕ) (run rest : Chars) {next : Option ℕ} (token : Token) → Spells syntax inside (c ∷ (run ++ d ∷ rest)) next token → Unfinished syntax inside (c ∷ run)
+  tag_begun : (text : Chars) → is_known_tag syntax inside (less_than_sign ∷ text) ≡ true → BeginsTag syntax text → Unfinished syntax inside (less_than_sign ∷ text)
+  run_begun : (run : Chars) → has_references inside ≡ true → is_begun run ≡ true → Unfinished syntax inside (ampersand ∷ run)
+  opening_begun : (text : Chars) → syntax ≡ Xhtml → has_markup inside ≡ true → is_opening_begun text ≡ true → Unfinished syntax inside (less_than_sign ∷ text)
 
 -- nothing is left, or what begins a token
 abbrev pub IsPending : Syntax → Content → Chars → Type 0

@@ -1,5 +1,5 @@
 -- Which characters spell which token, in each content.
-use Rattle.std.specs.Prelude.{◌≡◌, ◌≢◌, ℕ, Bool, true, false, not, ◌||◌, ◌&&◌, ◌==◌, [], ◌∷◌, ◌++◌, reverse, codes, Option, Some, None}
+use Rattle.std.specs.Prelude.{◌≡◌, ◌≢◌, ℕ, Bool, true, false, not, ◌||◌, ◌&&◌, ◌==◌, [], ◌∷◌, ◌++◌, codes, Option, Some, None}
 use Rattle.std.specs.List.{list_all}
 use Rattle.rx_terms.specs.Ascii.{ampersand, solidus, semicolon, less_than_sign, greater_than_sign, question_mark, left_bracket, is_letter, is_white_space}
 use Rattle.rx_terms.specs.Text.{Chars, lowered, begins_with}
@@ -18,7 +18,8 @@ exclamation_mark = 33
 
 -- the text ends with this
 abbrev pub ends_with : Chars → Chars → Bool
-ends_with end text = begins_with (reverse end) (reverse text)
+ends_with end [] = same end []
+ends_with end (c ∷ text) = same end (c ∷ text) || ends_with end text
 
 -- The text meets a test, and nothing shorter that it begins with does.
 pub record IsFirst (test : Chars → Bool) (text : Chars) : Type 0 where

@@ -13,3 +13,6 @@ pub mod Moves
 pub mod TagComplete
 pub mod TagSound
 pub mod TagLaws
+pub mod Fronts
+pub mod OneToken
+pub mod Automaton

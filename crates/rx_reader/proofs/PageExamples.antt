@@ -1,9 +1,9 @@
 -- Pages and faults that were worked out by hand, as the definitions read them.
-use Rattle.std.proofs.Common.{◌≡◌, ℕ, true, false, [], ◌∷◌, None, refl, arith, inl, inr}
+use Rattle.std.proofs.Common.{◌≡◌, ℕ, ◌+◌, ◌≤◌, true, false, List, [], ◌∷◌, ◌++◌, Option, Some, None, refl, sym, subst, arith, inl, inr}
 use Rattle.std.specs.Prelude.{codes}
 use Rattle.rx_terms.specs.Text.{Chars}
 use Rattle.rx_chars.specs.Characters.{Entry, placed}
-use Rattle.rx_chars.specs.declared.syntax.Syntax.TheVariants.{Html}
+use Rattle.rx_chars.specs.declared.syntax.Syntax.TheVariants.{Html, Xhtml}
 use Rattle.rx_grammar.specs.declared.contents.Content.{Content}
 use Rattle.rx_grammar.specs.declared.contents.Content.TheVariants as content
 use Rattle.rx_grammar.specs.declared.faults.Kind.TheVariants as kind
@@ -12,12 +12,14 @@ use Rattle.rx_grammar.specs.Tokens.{Tag, tag, character}
 use Rattle.rx_grammar.specs.Tags.{SpellsTag}
 use Rattle.rx_grammar.specs.Spelling.{a_tag, a_character}
 use Rattle.rx_grammar.specs.Contents.{Place, outside, place_in}
-use Rattle.rx_grammar.specs.Trees.{end, element, text, Tree}
-use Rattle.rx_grammar.specs.Items.{Item, no_more, one, start_of}
+use Rattle.rx_grammar.specs.Trees.{StartTag, end, element, text, Tree}
+use Rattle.rx_grammar.specs.Items.{Spelled, Item, no_more, one, start_of}
 use Rattle.rx_grammar.specs.Pages.{Opens, Closes, Drops, Holds, nothing, a_text, closed, unclosed, Document, Page, Lead}
 use Rattle.rx_grammar.specs.Pages as pages
-use Rattle.rx_grammar.specs.Begun.{before, within, a_root, a_child, not_begun, still_open}
-use Rattle.rx_grammar.specs.PageFaults.{FaultAt, decided, unended, in_token, at_tag}
+use Rattle.rx_grammar.specs.Begun.{Stands, before, within, a_root, a_child, not_begun, still_open}
+use Rattle.rx_grammar.specs.PageFaults.{FaultAt, page_too_long, not_utf8, nul, tag_too_long, decided, unended, Reached, Before, is_one, Unfinished, token_begun, run_begun, in_run, at_tag, section_end}
+use Rattle.rx_grammar.specs.TagFaults.{no_reference}
+use Rattle.rx_chars.specs.Utf8.{BeginsCharacter}
 use Rattle.rx_reader.proofs.TagLaws.{spells_each}
 
 abbrev limits : Limits
@@ -111,7 +113,7 @@ nothing_open : FaultAt Html limits (codes "</html>") (record { kind = kind.Nothi
 unfolding lib.Utf8.encode
 nothing_open = decided (codes "</html>") [] [] [] (before false) (placed 0 (codes "</html")) (entry 62 6) refl
     (record { front = []; read = record { characters = codes "</html>"; scalars = refl; forms = refl; read = refl }; no_nul = refl; spelled = no_more; fit = tt; sections = refl; stands = not_begun false pages.no_more })
-    (inr (in_token 60 62 (codes "/html") [] (tag (an_end_tag (codes "html"))) (a_tag {next = None} (codes "/html>") (an_end_tag (codes "html")) refl html_end)))
+    (inr (token_begun 60 62 (codes "/html") [] (tag (an_end_tag (codes "html"))) (a_tag {next = None} (codes "/html>") (an_end_tag (codes "html")) refl html_end)))
     (at_tag (codes "</html>") (an_end_tag (codes "html")) (a_tag (codes "/html>") (an_end_tag (codes "html")) refl html_end) refl)
     (λ _. omega arith) (omega arith)
 
@@ -145,7 +147,7 @@ mismatch = decided wrong_end (codes "</i></html>") (html_item ∷ i_item ∷ cha
           (a_root {left = 511} [] html_item (a_start_tag (codes "html")) pages.no_more (opens outside html_item (codes "html") refl refl refl refl) refl refl (pages.another i_item refl) nothing)
           (opens _ i_item (codes "i") refl refl refl refl) refl refl (pages.another (char_item 120 9) refl) (a_text (char_item 120 9) (120 ∷ []) refl refl nothing) refl) refl;
     })
-    (inr (in_token 60 62 (codes "/b") [] (tag (an_end_tag (codes "b"))) (a_tag {next = None} (codes "/b>") (an_end_tag (codes "b")) refl b_end)))
+    (inr (token_begun 60 62 (codes "/b") [] (tag (an_end_tag (codes "b"))) (a_tag {next = None} (codes "/b>") (an_end_tag (codes "b")) refl b_end)))
     (at_tag (codes "</b>") (an_end_tag (codes "b")) (a_tag (codes "/b>") (an_end_tag (codes "b")) refl b_end) refl)
     (λ _. omega arith) (omega arith)
 
@@ -216,3 +218,159 @@ list_page = record {
     trail = pages.no_more;
   };
 }
+
+-- limits, bytes that are no characters, and XHTML
+abbrev narrow : Limits
+narrow = record { depth = 512; tag = 6; page = 1073741824 }
+
+abbrev short : Limits
+short = record { depth = 512; tag = 1048576; page = 12 }
+
+abbrev opened : Item → List StartTag
+opened item = start_of item (a_start_tag (codes "html")) ∷ []
+
+open_html : (left : ℕ) → Stands Html (left + 1) (html_item ∷ []) (opened html_item) within
+open_html left = still_open {left = left} (left + 1) (a_root {left = left} [] html_item (a_start_tag (codes "html")) pages.no_more (opens outside html_item (codes "html") refl refl refl refl) refl refl pages.no_more nothing) (omega arith)
+
+html_spelled : (next : Option ℕ) → Spelled Html (placed 0 (codes "<html>")) next (html_item ∷ [])
+html_spelled next = one (entry 60 0) (placed 1 (codes "html>")) [] html_item (a_tag (codes "html>") (a_start_tag (codes "html")) refl html_tag) refl refl no_more
+
+abbrev before_end : Chars
+before_end = codes "<html></html"
+
+ending : (limits : Limits) → limits.depth ≡ 512 → 6 ≤ limits.tag → Reached Html limits before_end (html_item ∷ []) (opened html_item) within (placed 6 (codes "</html"))
+unfolding lib.Utf8.encode
+ending limits d t = record {
+  front = placed 0 (codes "<html>");
+  read = record { characters = before_end; scalars = refl; forms = refl; read = refl };
+  no_nul = refl;
+  spelled = html_spelled (Some 60);
+  fit = (omega (arith, t), tt);
+  sections = refl;
+  stands = subst (λ (x : ℕ). Stands Html x (html_item ∷ []) (opened html_item) within) (sym d) (open_html 511);
+}
+
+end_begun : Unfinished Html content.Html (codes "</html")
+end_begun = token_begun 60 62 (codes "/html") [] (tag (an_end_tag (codes "html"))) (a_tag {next = None} (codes "/html>") (an_end_tag (codes "html")) refl html_end)
+
+ending_before : (limits : Limits) → limits.depth ≡ 512 → 6 ≤ limits.tag → Before Html limits small 6 12
+ending_before limits d t = record {
+  whole = before_end;
+  part = [];
+  byte = 62;
+  rest = [];
+  items = html_item ∷ [];
+  line = opened html_item;
+  phase = within;
+  run = placed 6 (codes "</html");
+  are = refl;
+  reached = ending limits d t;
+  pending = inr end_begun;
+  is_part = inl refl;
+  token_is = refl;
+  at_is = refl;
+}
+
+too_long : FaultAt Html narrow small (record { kind = kind.TagTooLong; token = 6; at = 12 })
+unfolding ending_before
+too_long = tag_too_long 6 12 (ending_before narrow refl (omega arith)) (omega arith) refl refl (is_one 62 (record { well_formed = refl; scalar = refl }) (λ e. cc))
+
+page_long : FaultAt Html short small (record { kind = kind.PageTooLong; token = 6; at = 12 })
+unfolding ending_before
+page_long = page_too_long 6 12 (ending_before short refl (omega arith)) refl (λ _. omega arith)
+
+after_html : Reached Html limits (codes "<html>") (html_item ∷ []) (opened html_item) within []
+unfolding lib.Utf8.encode
+after_html = record {
+  front = placed 0 (codes "<html>");
+  read = record { characters = codes "<html>"; scalars = refl; forms = refl; read = refl };
+  no_nul = refl;
+  spelled = html_spelled None;
+  fit = (omega arith, tt);
+  sections = refl;
+  stands = open_html 511;
+}
+
+first_byte : BeginsCharacter (195 ∷ [])
+first_byte = record { more = 168 ∷ []; value = 232; longer = λ e. cc; character = record { well_formed = refl; scalar = refl } }
+
+bad_byte : FaultAt Html limits (codes "<html>" ++ 195 ∷ 40 ∷ []) (record { kind = kind.NotUtf8; token = 6; at = 7 })
+bad_byte = not_utf8 6 7 (record {
+  whole = codes "<html>";
+  part = 195 ∷ [];
+  byte = 40;
+  rest = [];
+  items = html_item ∷ [];
+  line = opened html_item;
+  phase = within;
+  run = [];
+  are = refl;
+  reached = after_html;
+  pending = inl refl;
+  is_part = inr first_byte;
+  token_is = refl;
+  at_is = refl;
+}) (omega arith) (λ h. absurd (cc)) (λ more value c. let q = c.well_formed in cc)
+
+nul_byte : FaultAt Html limits (codes "<html>" ++ 0 ∷ []) (record { kind = kind.Nul; token = 6; at = 6 })
+nul_byte = nul 6 6 (record {
+  whole = codes "<html>";
+  part = [];
+  byte = 0;
+  rest = [];
+  items = html_item ∷ [];
+  line = opened html_item;
+  phase = within;
+  run = [];
+  are = refl;
+  reached = after_html;
+  pending = inl refl;
+  is_part = inl refl;
+  token_is = refl;
+  at_is = refl;
+}) (omega arith) (λ h. absurd (cc)) refl refl
+
+half_byte : FaultAt Html limits (codes "<html>" ++ 195 ∷ []) (record { kind = kind.Unended; token = 6; at = 7 })
+half_byte = unended (codes "<html>") (195 ∷ []) (html_item ∷ []) (opened html_item) within [] refl after_html (inl refl) (inr first_byte) (λ _ e. absurd (cc)) (omega arith) (λ h. absurd (cc))
+
+-- XHTML
+strict_tag : SpellsTag Xhtml (codes "html>") (a_start_tag (codes "html"))
+strict_tag = spells_each Xhtml _ _ (record { last = _; run = refl; whole = refl; is_tag = refl })
+
+abbrev strict_char : ℕ → ℕ → Item
+strict_char c at = record { token = character c; content = content.Strict; first = at; last = at }
+
+strict_opens : Opens Xhtml outside html_item (a_start_tag (codes "html"))
+strict_opens = record { content = refl; token = refl; start = refl; allowed = refl; known = refl }
+
+no_reference_here : FaultAt Xhtml limits (codes "<html>a & b</html>") (record { kind = kind.StrictText; token = 8; at = 9 })
+unfolding lib.Utf8.encode
+no_reference_here = decided (codes "<html>a & ") (codes "b</html>") (html_item ∷ strict_char 97 6 ∷ strict_char 32 7 ∷ []) (opened html_item) within (entry 38 8 ∷ []) (entry 32 9) refl
+    (record {
+      front = placed 0 (codes "<html>a ");
+      read = record { characters = codes "<html>a & "; scalars = refl; forms = refl; read = refl };
+      no_nul = refl;
+      spelled = one (entry 60 0) (placed 1 (codes "html>")) (placed 6 (codes "a ")) html_item (a_tag (codes "html>") (a_start_tag (codes "html")) refl strict_tag) refl refl
+          (one (entry 97 6) [] (placed 7 (codes " ")) (strict_char 97 6) (a_character 97 refl) refl refl (one (entry 32 7) [] [] (strict_char 32 7) (a_character 32 refl) refl refl no_more));
+      fit = (omega arith, (tt, (tt, tt)));
+      sections = refl;
+      stands = still_open {left = 511} 512 (a_root {left = 511} [] html_item (a_start_tag (codes "html")) pages.no_more strict_opens refl refl (pages.another (strict_char 97 6) refl)
+          (a_text (strict_char 97 6) (97 ∷ []) refl refl (a_text (strict_char 32 7) (32 ∷ []) refl refl nothing))) refl;
+    })
+    (inr (run_begun [] refl refl)) (in_run (32 ∷ []) refl (no_reference [] 32 refl refl refl)) (λ h. absurd (cc)) (omega arith)
+
+end_of_section : FaultAt Xhtml limits (codes "<html>a]]></html>") (record { kind = kind.StrictText; token = 9; at = 9 })
+unfolding lib.Utf8.encode
+end_of_section = decided (codes "<html>a]]>") (codes "</html>") (html_item ∷ strict_char 97 6 ∷ strict_char 93 7 ∷ strict_char 93 8 ∷ []) (opened html_item) within [] (entry 62 9) refl
+    (record {
+      front = placed 0 (codes "<html>a]]");
+      read = record { characters = codes "<html>a]]>"; scalars = refl; forms = refl; read = refl };
+      no_nul = refl;
+      spelled = one (entry 60 0) (placed 1 (codes "html>")) (placed 6 (codes "a]]")) html_item (a_tag (codes "html>") (a_start_tag (codes "html")) refl strict_tag) refl refl
+          (one (entry 97 6) [] (placed 7 (codes "]]")) (strict_char 97 6) (a_character 97 refl) refl refl (one (entry 93 7) [] (placed 8 (codes "]")) (strict_char 93 7) (a_character 93 refl) refl refl (one (entry 93 8) [] [] (strict_char 93 8) (a_character 93 refl) refl refl no_more)));
+      fit = (omega arith, (tt, (tt, (tt, tt))));
+      sections = refl;
+      stands = still_open {left = 511} 512 (a_root {left = 511} [] html_item (a_start_tag (codes "html")) pages.no_more strict_opens refl refl (pages.another (strict_char 97 6) refl)
+          (a_text (strict_char 97 6) (97 ∷ []) refl refl (a_text (strict_char 93 7) (93 ∷ []) refl refl (a_text (strict_char 93 8) (93 ∷ []) refl refl nothing)))) refl;
+    })
+    (inl refl) (section_end refl refl) (λ h. absurd (cc)) (omega arith)

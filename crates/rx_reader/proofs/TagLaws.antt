@@ -12,11 +12,12 @@ use Rattle.rx_reader.specs.declared.phases.TagPhase.{TagPhase}
 use Rattle.rx_reader.specs.declared.phases.TagPhase.TheVariants as phase
 use Rattle.rx_reader.specs.Tables.{move_of, is_last}
 use Rattle.rx_reader.specs.TagReader.{TagState, fresh, moved, tag_move, tag_move_on, moves_on, checked, tag_step, tag_step_on, tag_on, is_closing, is_emptied, parts_of, tag_of}
-use Rattle.rx_reader.specs.Laws.{ReadsEachTag, SpellsEachTag, OneTag, OneTagFront, ReadsEachValue, DenotesEachValue}
+use Rattle.rx_reader.specs.Laws.{TableIsExact, ReadsEachTag, SpellsEachTag, OneTag, OneTagFront, ReadsEachValue, DenotesEachValue}
 use Rattle.rx_reader.proofs.Bools.{by_test}
 use Rattle.rx_reader.proofs.TextComplete.{complete as text_complete}
 use Rattle.rx_reader.proofs.TextSound.{sound as text_sound}
 use Rattle.rx_reader.proofs.TagComplete.{each_read}
+use Rattle.rx_reader.proofs.Automaton.{reader_phases, begins_shape, begins_none, none_begins}
 use Rattle.rx_reader.proofs.TagSound.{moves_err, no_way, tag_read}
 
 pub reads_value : ReadsEachValue
@@ -158,3 +159,8 @@ one_front s chars more a b x y =
     let dp = through s (meaning s) chars fresh p.last refl p.run in
     let dq = through s (meaning s) (chars ++ more) fresh q.last refl q.run in
     no_more_after s more p.last q.last p.whole (ap (λ o. moves_on s (meaning s) o more) (sym dp.reads) ∙ (sym (moves-append s (meaning s) (Ok fresh) chars more) ∙ dq.reads))
+
+pub table_is_exact : TableIsExact
+table_is_exact s means front st h n =
+    let at = reader_phases s means front fresh st (through s means front fresh st refl h).reads in
+    record { begins = begins_shape s front st.phase at n; refused = λ c. (begins_none s front st.phase at c, none_begins s front st.phase at c) }

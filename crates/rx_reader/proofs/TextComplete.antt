@@ -134,7 +134,7 @@ module _ (s : Syntax) (means : Chars → Option ℕ) where
     | inr e ↦ let b = both (is_x c) _ e in one_two (is_digit c && list_all is_digit text) (is_x c && list_all is_hexadecimal_digit text) true (rw (b.0, some_all text b.1) refl)
   ]
 
-  body_begun : (text : Chars) → is_body text ≡ true → is_begun text ≡ true
+  pub body_begun : (text : Chars) → is_body text ≡ true → is_begun text ≡ true
   body_begun [] h = refl
   body_begun (c ∷ text) h = elim (either (is_letter c && list_all is_letter_or_digit text) _ h) [
     | inl e ↦ rw e refl

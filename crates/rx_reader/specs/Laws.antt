@@ -1,11 +1,13 @@
 -- The reader reads exactly what the grammar spells.
-use Rattle.std.specs.Prelude.{◌≡◌, ℕ, true, [], ◌++◌, Option, Ok}
+use Rattle.std.specs.Prelude.{◌≡◌, ◌↔◌, ℕ, true, false, [], ◌∷◌, ◌++◌, Option, None, Ok}
 use Rattle.rx_terms.specs.Text.{Chars}
 use Rattle.rx_chars.specs.declared.syntax.Syntax.{Syntax}
 use Rattle.rx_grammar.specs.References.{Denotes, meaning}
 use Rattle.rx_grammar.specs.Tokens.{Tag}
 use Rattle.rx_grammar.specs.Tags.{SpellsTag}
-use Rattle.rx_reader.specs.Tables.{is_last}
+use Rattle.rx_grammar.specs.TagFaults.{BeginsShape, BeginsNoShape}
+use Rattle.rx_reader.specs.declared.phases.TagPhase.{TagPhase}
+use Rattle.rx_reader.specs.Tables.{move_of, is_last}
 use Rattle.rx_reader.specs.Values.{value_read}
 use Rattle.rx_reader.specs.TagReader.{TagState, fresh, tag_on, tag_of}
 
@@ -36,3 +38,12 @@ ReadsEachValue = (syntax : Syntax) (means : Chars → Option ℕ) (text value : 
 
 abbrev pub DenotesEachValue : Type 0
 DenotesEachValue = (syntax : Syntax) (means : Chars → Option ℕ) (text value : Chars) → value_read syntax means text ≡ Ok value → Denotes syntax means text value
+
+-- What the reader has taken of a tag begins one, and the table refuses exactly the characters with which no tag goes on, whatever its values hold.
+pub record RefusesExactly (syntax : Syntax) (front : Chars) (phase : TagPhase) : Type 0 where
+  pub begins : BeginsShape syntax front
+  pub refused : (c : ℕ) → (move_of syntax phase c ≡ None) ↔ BeginsNoShape syntax (front ++ c ∷ [])
+
+abbrev pub TableIsExact : Type 0
+TableIsExact = (syntax : Syntax) (means : Chars → Option ℕ) (front : Chars) (reached : TagState) → tag_on syntax means (Ok fresh) front ≡ Ok reached → is_last reached.phase ≡ false
+    → RefusesExactly syntax front reached.phase

@@ -4,7 +4,8 @@
 //! grammar's faults. The code of the layers above does what these tables say.
 #![tactic(auto)]
 
-ghost use Rattle.rx_reader.specs.Laws.{ReadsEachTag, SpellsEachTag, OneTag, OneTagFront, ReadsEachValue, DenotesEachValue};
+ghost use Rattle.rx_reader.specs.Laws.{TableIsExact, ReadsEachTag, SpellsEachTag, OneTag, OneTagFront, ReadsEachValue, DenotesEachValue};
+ghost use Rattle.rx_grammar.specs.Laws.{OneToken};
 
 mod phases;
 
@@ -38,4 +39,14 @@ pub fn reads_each_value()
 /// What is read of a value is what its characters denote.
 pub fn denotes_each_value()
     ensures { DenotesEachValue }
+{}
+
+/// In one syntax and content at most one front of a list of characters spells a token, and it spells one token only.
+pub fn one_token()
+    ensures { OneToken }
+{}
+
+/// What is read of a tag begins one, and the table refuses exactly the characters with which no tag goes on.
+pub fn table_is_exact()
+    ensures { TableIsExact }
 {}

@@ -10,7 +10,7 @@ use Rattle.rx_refs.specs.Dots.{Buffers, is, holds, without_last_segment, step, a
 use Rattle.rx_refs.specs.Segments.{Grown, slashed, buffers_at, reduced, pushed, cut_back, after_segment, after_last, Takes}
 use Rattle.rx_refs.proofs.PartLemmas.{by_test, cut-at, uncut}
 
-abbrev at : Chars → Chars → Buffers
+abbrev pub at : Chars → Chars → Buffers
 at input output = record { input = input; output = output }
 
 -- One pass makes the input shorter
@@ -19,7 +19,7 @@ chosen : (n : ℕ) (b : Bool) (x y : Buffers) → (b ≡ true → length x.input
 chosen n true x y f g = f refl
 chosen n false x y f g = g refl
 
-from_first-shorter : (mark : ℕ) (text : Chars) → length (from_first mark text) ≤ length text
+pub from_first-shorter : (mark : ℕ) (text : Chars) → length (from_first mark text) ≤ length text
 from_first-shorter mark [] = omega arith
 from_first-shorter mark (c ∷ text) =
     let h = from_first-shorter mark text in

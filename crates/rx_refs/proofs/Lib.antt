@@ -1,5 +1,6 @@
 pub mod PartLemmas
 pub mod DotLemmas
+pub mod RuleLemmas
 pub mod CutLemmas
 pub mod TrimLemmas
 pub mod BufferLemmas

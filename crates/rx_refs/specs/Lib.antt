@@ -1,5 +1,6 @@
 pub mod Parts
 pub mod Dots
+pub mod Rules
 pub mod Resolve
 pub mod Views
 pub mod Segments

@@ -1,6 +1,7 @@
 //! Paths without their dot segments (RFC 3986, section 5.2.4), written at the end of one buffer.
 ghost use Rattle.std.specs.Prelude.{◌≡◌, [], ◌++◌, IfOk, OnOk, false, string_bytes};
 ghost use Rattle.std.specs.Str.{chars};
+ghost use Rattle.rx_terms.specs.Ascii.{solidus};
 ghost use Rattle.rx_refs.specs.Dots.{holds, without_dots, without_last_segment};
 ghost use Rattle.rx_refs.specs.Resolve.{through_last_slash};
 ghost use Rattle.rx_refs.specs.Segments.{Takes, pushed, cut_back, after_segment, after_last};
@@ -73,7 +74,7 @@ impl GrownPath {
     fn push_closed<'a>(&mut self, path: &'a str) -> Result<&'a str, NoMemory>
         ensures takes { OnOk result (Takes self.old self.new (through_last_slash (chars path.now))) }
         ensures rest { IfOk result (λ rest. chars path.now ≡ through_last_slash (chars path.now) ++ chars rest.now) }
-        ensures last { IfOk result (λ rest. holds 47 (chars rest.now) ≡ false) }
+        ensures last { IfOk result (λ rest. holds solidus (chars rest.now) ≡ false) }
     {
         let mut rest = path;
         while let Some((segment, behind)) = split_once(rest, '/') {

@@ -5,6 +5,7 @@
 //! take no memory.
 #![tactic(auto)]
 
+ghost use Rattle.rx_refs.specs.Rules.{DotsByRules};
 ghost use Rattle.rx_refs.specs.Laws.{AbsoluteStandsAlone, PartsAreWhole, ResolvedIsIri, ExamplesHold};
 
 mod dots;
@@ -28,6 +29,12 @@ pub fn absolute_stands_alone()
 /// The components of a text, joined again (RFC 3986, section 5.3), are the text.
 pub fn parts_are_whole()
     ensures { PartsAreWhole }
+{}
+
+/// The rules of RFC 3986, section 5.2.4, taken as they stand, lead from every path to one end, and it is the path
+/// without its dot segments.
+pub fn dots_by_rules()
+    ensures { DotsByRules }
 {}
 
 /// What a reference resolves to has no character that an IRI may not have, and against an IRI it has a scheme.

@@ -1,6 +1,7 @@
 //! Slices of a text, cut at characters of ASCII.
 ghost use Rattle.std.specs.Prelude.{◌≡◌, ◌<◌, ◌++◌, ◌∷◌, false, MatchOption, take, codes};
 ghost use Rattle.std.specs.Str.{chars, IsCharBoundary};
+ghost use Rattle.rx_terms.specs.Ascii.{solidus};
 ghost use Rattle.rx_terms.specs.Text.{trimmed, begins_with, is_empty};
 ghost use Rattle.rx_refs.specs.Parts.{before, behind, from_first};
 ghost use Rattle.rx_refs.specs.Dots.{holds, without_last_segment};
@@ -28,8 +29,8 @@ pub fn cut(text: &str, mark: char) -> (&str, Option<&str>)
 
 /// What stands before the first `/`, and the rest from it on.
 pub fn cut_at_slash(text: &str) -> (&str, &str)
-    ensures front { chars result.0.now ≡ before 47 (chars text.now) }
-    ensures rest { chars result.1.now ≡ from_first 47 (chars text.now) }
+    ensures front { chars result.0.now ≡ before solidus (chars text.now) }
+    ensures rest { chars result.1.now ≡ from_first solidus (chars text.now) }
 {
     let at = text.find('/').unwrap_or(text.len());
     text.split_at(at)

@@ -75,7 +75,7 @@ impl Iri {
     pub fn as_str(&self) -> &str
         ensures characters { chars result.now ≡ self.now }
         ensures bytes { result.now ≡ encode_utf8_all self.now }
-        ensures iri { IsIri self.now }
+        ensures form { IsIri self.now }
     {
         self.text.as_str()
     }

@@ -45,6 +45,7 @@ impl Lang {
     pub fn as_str(&self) -> &str
         ensures characters { chars result.now ≡ self.now }
         ensures bytes { result.now ≡ encode_utf8_all self.now }
+        ensures form { is_lang self.now ≡ true }
     {
         self.text.as_str()
     }

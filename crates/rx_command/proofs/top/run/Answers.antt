@@ -1,12 +1,12 @@
-use Rattle.std.proofs.Common.{◌≡◌, subst, refl, List, [], ◌∷◌, ℕ, lit<, string_bytes, codes}
+use Rattle.std.proofs.Common.{◌≡◌, subst, refl, List, [], ◌∷◌, ℕ, lit<, codes}
 use Rattle.std.specs.Fmt.{decimal}
 use Rattle.std.proofs.lemmas.Fmt.{decimal_digit}
 use Rattle.rx_ports.specs.Told.{Moves, GrowsBy, GrowsByPart}
 use Rattle.rx_ports.proofs.MoveLemmas.{moves_weaker}
-use Rattle.rx_command.specs.Outcome.{HasText, IsNotBuilt, Refuses, not_built}
+use Rattle.rx_command.specs.Outcome.{HasText, Denotes, IsNotBuilt, Refuses, not_built}
 use Rattle.rx_command.specs.Runs.{Says, refused_line}
 use Rattle.rx_command.specs.declared.statuses.Fault.{Fault}
-use Rattle.rx_command.proofs.RunLemmas.{has_asked, yields, refuses, not_both, not_lacking, at_end, takes_page}
+use Rattle.rx_command.proofs.RunLemmas.{has_asked, yields, yields_graph, refuses, not_both, not_lacking, at_end, takes_page}
 use Rattle.rx_command.proofs.top.run.Goals as goal
 
 -- the line of the refusal, written out
@@ -15,15 +15,22 @@ line = let zero : decimal 0 ≡ 48 ∷ [] = decimal_digit 0 (lit< tt) in rw zero
 
 pub returns-in-Ok-put_all-clause-done : goal.returns-in-Ok-put_all-clause-done
 returns-in-Ok-put_all-clause-done g c =
-    let Has : List ℕ → Type 0 = λ bytes. HasText bytes (string_bytes c.in-Ok-Some.text) in
-    let has = subst Has c.as_slice.ensures.value (rw c.in-Ok-Some.field-0-is at c.in-Ok-Some.ensures) in
+    let Has : List ℕ → Type 0 = λ bytes. HasText bytes (c.in-Ok-Some.text.items) in
+    let has = subst Has c.as_slice.ensures.value (rw c.in-Ok-Some.field-0-is at c.in-Ok-Some.ensures.text) in
     let Grown : List ℕ → Type 0 = λ text. Moves (GrowsBy text) (g.O.Sink.held c.args.out.now) (g.O.Sink.held c.put_all.new.sink) in
-    λ is told e. (string_bytes c.in-Ok-Some.text, yields c.args.words.now _ _ _ _ _ _ told (has_asked c.args.words.now c.in-Ok.job _ _ c.in-Ok.ensures c.page.ensures c.as_str.ensures.bytes) c.in-Ok-read_file.ensures.ok e has, subst Grown c.as_bytes.ensures.value c.in-Ok-put_all.ensures.ok)
+    λ is told e. (c.in-Ok-Some.text.items, yields c.args.words.now _ _ _ _ _ _ told (has_asked c.args.words.now c.in-Ok.job _ _ c.in-Ok.ensures c.page.ensures c.as_str.ensures.bytes) c.in-Ok-read_file.ensures.ok e has, subst Grown c.as_slice-in-Ok-Some.ensures.value c.in-Ok-put_all.ensures.ok)
+
+pub returns-in-Ok-put_all-clause-denotes : goal.returns-in-Ok-put_all-clause-denotes
+returns-in-Ok-put_all-clause-denotes g c =
+    let Has : List ℕ → Type 0 = λ bytes. Denotes bytes (c.in-Ok-Some.text.items) in
+    let has = subst Has c.as_slice.ensures.value (rw c.in-Ok-Some.field-0-is at c.in-Ok-Some.ensures.denotes) in
+    let Grown : List ℕ → Type 0 = λ text. Moves (GrowsBy text) (g.O.Sink.held c.args.out.now) (g.O.Sink.held c.put_all.new.sink) in
+    λ is told e. (c.in-Ok-Some.text.items, yields_graph c.args.words.now _ _ _ _ _ _ told (has_asked c.args.words.now c.in-Ok.job _ _ c.in-Ok.ensures c.page.ensures c.as_str.ensures.bytes) c.in-Ok-read_file.ensures.ok e has, subst Grown c.as_slice-in-Ok-Some.ensures.value c.in-Ok-put_all.ensures.ok)
 
 pub returns-in-Ok-put_all-clause-to_end : goal.returns-in-Ok-put_all-clause-to_end
 returns-in-Ok-put_all-clause-to_end g c =
-    let Has : List ℕ → Type 0 = λ bytes. HasText bytes (string_bytes c.in-Ok-Some.text) in
-    let has = subst Has c.as_slice.ensures.value (rw c.in-Ok-Some.field-0-is at c.in-Ok-Some.ensures) in
+    let Has : List ℕ → Type 0 = λ bytes. HasText bytes (c.in-Ok-Some.text.items) in
+    let has = subst Has c.as_slice.ensures.value (rw c.in-Ok-Some.field-0-is at c.in-Ok-Some.ensures.text) in
     λ is. at_end _ _ _ _ _ c.in-Ok-read_file.ensures.ok has
 
 pub returns-in-Ok-put_all-clause-lacking : goal.returns-in-Ok-put_all-clause-lacking
@@ -31,29 +38,29 @@ returns-in-Ok-put_all-clause-lacking g c = λ lacks. absurd (not_lacking _ _ _ _
 
 pub returns-in-Ok-put_all-clause-refuses : goal.returns-in-Ok-put_all-clause-refuses
 returns-in-Ok-put_all-clause-refuses g c =
-    let Has : List ℕ → Type 0 = λ bytes. HasText bytes (string_bytes c.in-Ok-Some.text) in
-    let has = subst Has c.as_slice.ensures.value (rw c.in-Ok-Some.field-0-is at c.in-Ok-Some.ensures) in
+    let Has : List ℕ → Type 0 = λ bytes. HasText bytes (c.in-Ok-Some.text.items) in
+    let has = subst Has c.as_slice.ensures.value (rw c.in-Ok-Some.field-0-is at c.in-Ok-Some.ensures.text) in
     λ fault r quiet. absurd (not_both _ _ _ _ (yields c.args.words.now _ _ _ _ _ _ r.page.shelf (has_asked c.args.words.now c.in-Ok.job _ _ c.in-Ok.ensures c.page.ensures c.as_str.ensures.bytes) c.in-Ok-read_file.ensures.ok r.page.tells has) r)
 
 pub returns-in-Ok-Some-clause-partly : goal.returns-in-Ok-Some-clause-partly
 returns-in-Ok-Some-clause-partly g c =
-    let Has : List ℕ → Type 0 = λ bytes. HasText bytes (string_bytes c.in-Ok-Some.text) in
-    let has = subst Has c.as_slice.ensures.value (rw c.in-Ok-Some.field-0-is at c.in-Ok-Some.ensures) in
+    let Has : List ℕ → Type 0 = λ bytes. HasText bytes (c.in-Ok-Some.text.items) in
+    let has = subst Has c.as_slice.ensures.value (rw c.in-Ok-Some.field-0-is at c.in-Ok-Some.ensures.text) in
     let Grown : List ℕ → Type 0 = λ text. Moves (GrowsByPart text) (g.O.Sink.held c.args.out.now) (g.O.Sink.held c.put_all.new.sink) in
-    λ is told e. (string_bytes c.in-Ok-Some.text, yields c.args.words.now _ _ _ _ _ _ told (has_asked c.args.words.now c.in-Ok.job _ _ c.in-Ok.ensures c.page.ensures c.as_str.ensures.bytes) c.in-Ok-read_file.ensures.ok e has, subst Grown c.as_bytes.ensures.value c.in-Err-put_all.ensures.err)
+    λ is told e. (c.in-Ok-Some.text.items, yields c.args.words.now _ _ _ _ _ _ told (has_asked c.args.words.now c.in-Ok.job _ _ c.in-Ok.ensures c.page.ensures c.as_str.ensures.bytes) c.in-Ok-read_file.ensures.ok e has, subst Grown c.as_slice-in-Ok-Some.ensures.value c.in-Err-put_all.ensures.err)
 
 pub returns-in-Ok-Some-clause-lacking : goal.returns-in-Ok-Some-clause-lacking
 returns-in-Ok-Some-clause-lacking g c = λ lacks. absurd (not_lacking _ _ _ _ _ _ (has_asked c.args.words.now c.in-Ok.job _ _ c.in-Ok.ensures c.page.ensures c.as_str.ensures.bytes) c.in-Ok-read_file.ensures.ok lacks)
 
 pub returns-in-Ok-Some-clause-refuses : goal.returns-in-Ok-Some-clause-refuses
 returns-in-Ok-Some-clause-refuses g c =
-    let Has : List ℕ → Type 0 = λ bytes. HasText bytes (string_bytes c.in-Ok-Some.text) in
-    let has = subst Has c.as_slice.ensures.value (rw c.in-Ok-Some.field-0-is at c.in-Ok-Some.ensures) in
+    let Has : List ℕ → Type 0 = λ bytes. HasText bytes (c.in-Ok-Some.text.items) in
+    let has = subst Has c.as_slice.ensures.value (rw c.in-Ok-Some.field-0-is at c.in-Ok-Some.ensures.text) in
     λ fault r quiet. absurd (not_both _ _ _ _ (yields c.args.words.now _ _ _ _ _ _ r.page.shelf (has_asked c.args.words.now c.in-Ok.job _ _ c.in-Ok.ensures c.page.ensures c.as_str.ensures.bytes) c.in-Ok-read_file.ensures.ok r.page.tells has) r)
 
 pub returns-in-Ok-None-clause-refused : goal.returns-in-Ok-None-clause-refused
 returns-in-Ok-None-clause-refused g c =
-    let none = subst IsNotBuilt c.as_slice.ensures.value (rw c.in-Ok-None.field-0-is at c.in-Ok-None.ensures) in
+    let none = subst IsNotBuilt c.as_slice.ensures.value (rw c.in-Ok-None.field-0-is at c.in-Ok-None.ensures.text) in
     λ fault is told e. let same : not_built ≡ fault = (cc) in subst (Refuses c.args.words.now (g.F.Shelf.told c.args.shelf.now)) same (refuses c.args.words.now _ _ _ _ _ told (has_asked c.args.words.now c.in-Ok.job _ _ c.in-Ok.ensures c.page.ensures c.as_str.ensures.bytes) c.in-Ok-read_file.ensures.ok e none)
 
 pub returns-in-Ok-None-clause-lacking : goal.returns-in-Ok-None-clause-lacking
@@ -66,7 +73,7 @@ returns-in-Ok-None-clause-says_refused g c =
 
 pub returns-in-Ok-None-clause-completes : goal.returns-in-Ok-None-clause-completes
 returns-in-Ok-None-clause-completes g c =
-    let none = subst IsNotBuilt c.as_slice.ensures.value (rw c.in-Ok-None.field-0-is at c.in-Ok-None.ensures) in
+    let none = subst IsNotBuilt c.as_slice.ensures.value (rw c.in-Ok-None.field-0-is at c.in-Ok-None.ensures.text) in
     λ text y quiet calm. absurd (not_both _ _ _ _ y (refuses c.args.words.now _ _ _ _ _ y.page.shelf (has_asked c.args.words.now c.in-Ok.job _ _ c.in-Ok.ensures c.page.ensures c.as_str.ensures.bytes) c.in-Ok-read_file.ensures.ok y.page.tells none))
 
 pub returns-in-Err-Failed-clause-takes : goal.returns-in-Err-Failed-clause-takes

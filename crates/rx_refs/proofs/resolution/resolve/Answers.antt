@@ -22,7 +22,7 @@ meaning c =
     c.in_ok-clean.ensures c.in_ok-text.ensures c.target_of-target.ensures c.split.ensures c.as_str.ensures.characters c.split-2.ensures c.trim.ensures
 
 pub of_text-requires : goal.of_text-requires
-of_text-requires c = subst IsIri (sym (meaning c)) ((resolved-iri c.args.base.now (chars c.args.reference.now)).iri c.as_str.ensures.iri)
+of_text-requires c = subst IsIri (sym (meaning c)) ((resolved-iri c.args.base.now (chars c.args.reference.now)).iri c.as_str.ensures.form)
 
 pub returns-clause-meaning : goal.returns-clause-meaning
 returns-clause-meaning c = c.of_text.ensures ∙ meaning (goal.at.returns-clause-meaning c).In_ok-clean

@@ -1,0 +1,42 @@
+-- Borrowed nodes and their list.
+use Rattle.std.proofs.Common.{◌≡◌, suc, ◌+◌, Bool, true, false, nat_lt, nat_eq, List, [], ◌∷◌, map, length, position, Some, option_map, refl, sym, ap, ◌∙◌, arith, if◌then◌else◌}
+use Rattle.std.specs.List.{IsDistinct, AllByRecursion, position_or_len}
+use Rattle.std.proofs.lemmas.Bool.Decides.{nat_tests}
+use Rattle.rx_graph.specs.declared.resources.Resource.{Resource}
+use Rattle.rx_graph.specs.Resources.{resource_seen, node_added, number_in, AreDistinct}
+use Rattle.indexmap.specs.IndexSet.{insert_key}
+use Rattle.rx_model.specs.Sets.{contains}
+use Rattle.rx_model.specs.Terms.{same_node}
+use Rattle.rx_graph.proofs.CodeEq.{resource_eq, resources_agree_back}
+use Rattle.rx_graph.proofs.SetLemmas.{insert_seen}
+
+pub node_added_seen : (list : List Resource) (r : Resource) → map resource_seen (insert_key resource_eq list r) ≡ node_added (map resource_seen list) (resource_seen r)
+node_added_seen list r = insert_seen resource_seen resource_eq (same_node nat_eq) resources_agree_back list r
+
+none_alike : (x : Resource) (list : List Resource) → AllByRecursion (λ y. resource_eq x y ≡ false) list → contains (same_node nat_eq) (map resource_seen list) (resource_seen x) ≡ false
+none_alike x [] h = refl
+none_alike x (y ∷ list) h = rw (sym (resources_agree_back x y) ∙ h.0) (none_alike x list h.1)
+
+pub nodes_once : (list : List Resource) → IsDistinct resource_eq list → AreDistinct (map resource_seen list)
+unfolding IsDistinct
+nodes_once [] h = tt
+nodes_once (x ∷ list) h = (none_alike x list h.0, nodes_once list h.1)
+
+position_more : (p : Resource → Bool) (x : Resource) (list : List Resource) → position p (x ∷ list) ≡ (if p x then Some 0 else option_map suc (position p list))
+position_more p x list = go (p x) refl (nat_lt (position_or_len p list) (length list)) refl
+  where
+    go : (b : Bool) → p x ≡ b → (t : Bool) → nat_lt (position_or_len p list) (length list) ≡ t → position p (x ∷ list) ≡ (if p x then Some 0 else option_map suc (position p list))
+    go true e t f =
+        let some : nat_lt 0 (suc (length list)) ≡ true = grind (arith, nat_tests) in
+        rw (e, some) refl
+    go false e true f =
+        let more : nat_lt (1 + position_or_len p list) (suc (length list)) ≡ true = grind (arith, nat_tests, f) in
+        let next : 1 + position_or_len p list ≡ suc (position_or_len p list) = omega arith in
+        rw (e, f, more) (ap Some next)
+    go false e false f =
+        let more : nat_lt (1 + position_or_len p list) (suc (length list)) ≡ false = grind (arith, nat_tests, f) in
+        rw (e, f, more) refl
+
+pub number_seen : (list : List Resource) (r : Resource) → position (resource_eq r) list ≡ number_in (map resource_seen list) (resource_seen r)
+number_seen [] r = refl
+number_seen (x ∷ list) r = position_more (resource_eq r) x list ∙ rw (resources_agree_back r x, number_seen list r) refl

@@ -1,0 +1,246 @@
+-- The patterns of a list, from left to right.
+use Rattle.std.proofs.Common.{◌≡◌, ℕ, suc, zero, ◌+◌, ◌≤◌, Bool, true, false, ◌&&◌, ◌||◌, nat_eq, List, [], ◌∷◌, ◌++◌, map, filter_map, length, take, slice_get, Option, Some, None, option_map, refl, sym, ap, ap₂, subst, ◌∙◌, true≢false, arith, if◌then◌else◌, append-nil, bytes_eq}
+use Rattle.std.proofs.lemmas.List.Elements.{filter_map-append}
+use Rattle.std.proofs.lemmas.List.{take_all}
+use Rattle.std.specs.List.{cons_option}
+use Rattle.rx_terms.specs.declared.triples.Triple.{Triple as CodeTriple}
+use Rattle.rx_model.specs.Sets.{contains}
+use Rattle.rx_model.specs.Terms.{Node, Iri, Term, Resource, Literal, Triple, same_node, same_term, same_triple}
+use Rattle.rx_model.specs.Copied.{rdf_type, rdfa_copy, rdfa_pattern, type_pattern, is_pattern, pattern_object, live, edge, says_pattern, is_referenced}
+use Rattle.rx_model.specs.Seen.{triple_seen, triples_seen}
+use Rattle.rx_model.proofs.Exact.{exact_numbers, exact_nodes}
+use Rattle.rx_graph.specs.Resources.{node_added, number_in, object_by, live_by, AreDistinct}
+use Rattle.rx_graph.specs.Rows.{pushed, empty_rows}
+use Rattle.rx_graph.specs.Patterns.{places, has_subject, places_of, ArePatterns, AreReferenced, edge_by, edges_by}
+use Rattle.rx_graph.proofs.SetLemmas.{seen_more}
+
+-- ---- one more element
+
+or_none : (b : Bool) → (b || false) ≡ b
+or_none true = refl
+or_none false = refl
+
+or_last : (a b c : Bool) → (a || (b || c)) ≡ ((a || b) || c)
+or_last true b c = refl
+or_last false b c = refl
+
+pub contains_more : {A : Type 0} (same : A → A → Bool) (list : List A) (x a : A) → contains same (list ++ x ∷ []) a ≡ (contains same list a || same x a)
+contains_more same [] x a = or_none (same x a)
+contains_more same (y ∷ list) x a = ap (λ b. same y a || b) (contains_more same list x a) ∙ or_last (same y a) (contains same list a) (same x a)
+
+pub referenced_more : (pairs : List (Node ℕ × Node ℕ)) (e : Node ℕ × Node ℕ) (t : Node ℕ) → is_referenced nat_eq (pairs ++ e ∷ []) t ≡ (is_referenced nat_eq pairs t || same_node nat_eq e.1 t)
+referenced_more [] e t = or_none (same_node nat_eq e.1 t)
+referenced_more (f ∷ pairs) e t = ap (λ b. same_node nat_eq f.1 t || b) (referenced_more pairs e t) ∙ or_last (same_node nat_eq f.1 t) (is_referenced nat_eq pairs t) (same_node nat_eq e.1 t)
+
+pub contains_added : (nodes : List (Node ℕ)) (s t : Node ℕ) → contains (same_node nat_eq) (node_added nodes s) t ≡ (contains (same_node nat_eq) nodes t || same_node nat_eq s t)
+contains_added nodes s t = go (contains (same_node nat_eq) nodes s) refl (same_node nat_eq s t) refl
+  where
+    go : (b : Bool) → contains (same_node nat_eq) nodes s ≡ b → (c : Bool) → same_node nat_eq s t ≡ c
+        → contains (same_node nat_eq) (if b then nodes else nodes ++ s ∷ []) t ≡ (contains (same_node nat_eq) nodes t || c)
+    go false e c f = contains_more (same_node nat_eq) nodes s t ∙ ap (λ z. contains (same_node nat_eq) nodes t || z) f
+    go true e false f = sym (or_none (contains (same_node nat_eq) nodes t))
+    go true e true f =
+        let same : s ≡ t = (exact_nodes nat_eq exact_numbers s t).0 f in
+        let there : contains (same_node nat_eq) nodes t ≡ true = ap (contains (same_node nat_eq) nodes) (sym same) ∙ e in
+        rw there refl
+
+-- ---- the nodes that are said to be patterns
+
+pattern_more : (list : List (Triple ℕ)) (u : Triple ℕ) (t : Node ℕ) → is_pattern nat_eq (list ++ u ∷ []) t ≡ (is_pattern nat_eq list t || same_triple nat_eq u (type_pattern t))
+pattern_more list u t = contains_more (same_triple nat_eq) list u (type_pattern t)
+
+three : (a b c : Bool) → ((a && b) && c) ≡ (if b && c then a else false)
+three true true c = go c where
+  go : (c : Bool) → c ≡ (if c then true else false)
+  go true = refl
+  go false = refl
+three true false c = refl
+three false true c = go c where
+  go : (c : Bool) → false ≡ (if c then false else false)
+  go true = refl
+  go false = refl
+three false false c = refl
+
+-- a triple says of one node alone that it is a pattern
+says_of : (u : Triple ℕ) (t : Node ℕ) → same_triple nat_eq u (type_pattern t) ≡ (if says_pattern nat_eq u.predicate u.object then same_node nat_eq u.subject t else false)
+says_of u t = three (same_node nat_eq u.subject t) (bytes_eq u.predicate rdf_type) (same_term nat_eq u.object (Resource (Iri rdfa_pattern)))
+
+pub patterns_start : ArePatterns [] []
+patterns_start = record { each = λ t. refl }
+
+pub patterns_found : (list : List CodeTriple) (i : ℕ) (u : CodeTriple) (nodes new : List (Node ℕ)) → slice_get list i ≡ Some u
+    → says_pattern nat_eq (triple_seen u).predicate (triple_seen u).object ≡ true → new ≡ node_added nodes (triple_seen u).subject
+    → ArePatterns (triples_seen (take i list)) nodes → ArePatterns (triples_seen (take (i + 1) list)) new
+patterns_found list i u nodes new at says grows h = record {
+  each = λ t. ap (λ z. contains (same_node nat_eq) z t) grows ∙ contains_added nodes (triple_seen u).subject t ∙ ap (λ b. b || same_node nat_eq (triple_seen u).subject t) (h.each t)
+      ∙ sym (ap (λ z. is_pattern nat_eq z t) (seen_more list i u at) ∙ pattern_more (triples_seen (take i list)) (triple_seen u) t
+      ∙ ap (λ b. is_pattern nat_eq (triples_seen (take i list)) t || b) (says_of (triple_seen u) t ∙ ap (λ b. if b then same_node nat_eq (triple_seen u).subject t else false) says));
+}
+
+pub patterns_kept : (list : List CodeTriple) (i : ℕ) (u : CodeTriple) (nodes : List (Node ℕ)) → slice_get list i ≡ Some u
+    → says_pattern nat_eq (triple_seen u).predicate (triple_seen u).object ≡ false
+    → ArePatterns (triples_seen (take i list)) nodes → ArePatterns (triples_seen (take (i + 1) list)) nodes
+patterns_kept list i u nodes at says h = record {
+  each = λ t. h.each t ∙ sym (ap (λ z. is_pattern nat_eq z t) (seen_more list i u at) ∙ pattern_more (triples_seen (take i list)) (triple_seen u) t
+      ∙ ap (λ b. is_pattern nat_eq (triples_seen (take i list)) t || b) (says_of (triple_seen u) t ∙ ap (λ b. if b then same_node nat_eq (triple_seen u).subject t else false) says)
+      ∙ or_none (is_pattern nat_eq (triples_seen (take i list)) t));
+}
+
+pub patterns_end : (list : List CodeTriple) (i : ℕ) (nodes : List (Node ℕ)) → length list ≤ i → ArePatterns (triples_seen (take i list)) nodes → ArePatterns (triples_seen list) nodes
+patterns_end list i nodes all h = subst (λ (z : List CodeTriple). ArePatterns (triples_seen z) nodes) (take_all i list all) h
+
+-- ---- live copy triples by the nodes
+
+pub live_is : (list : List (Triple ℕ)) (nodes : List (Node ℕ)) → ArePatterns list nodes → (u : Triple ℕ) → live_by nodes u ≡ live nat_eq list u.predicate u.object
+live_is list nodes h u = ap (λ z. if bytes_eq u.predicate rdfa_copy then z else None) (objects u.object)
+  where
+    objects : (o : Term ℕ) → object_by nodes o ≡ pattern_object nat_eq list o
+    objects (Resource t) = ap (λ b. if b then Some t else None) (h.each t)
+    objects (Literal text kind) = refl
+
+pub edges_are : (list whole : List (Triple ℕ)) (nodes : List (Node ℕ)) → ArePatterns whole nodes → edges_by nodes list ≡ filter_map (edge nat_eq whole) list
+edges_are [] whole nodes h = refl
+edges_are (u ∷ list) whole nodes h = ap₂ cons_option (ap (option_map (λ (to : Node ℕ). (u.subject, to))) (live_is whole nodes h u)) (edges_are list whole nodes h)
+
+-- ---- what is copied
+
+edges_more : (nodes : List (Node ℕ)) (list : List CodeTriple) (i : ℕ) (u : CodeTriple) → slice_get list i ≡ Some u
+    → edges_by nodes (triples_seen (take (i + 1) list)) ≡ edges_by nodes (triples_seen (take i list)) ++ edges_by nodes (triple_seen u ∷ [])
+edges_more nodes list i u at = ap (edges_by nodes) (seen_more list i u at) ∙ filter_map-append (edge_by nodes) (triples_seen (take i list)) (triple_seen u ∷ [])
+
+pub references_start : (nodes : List (Node ℕ)) → AreReferenced (edges_by nodes []) []
+references_start nodes = record { each = λ t. refl }
+
+pub references_found : (nodes : List (Node ℕ)) (list : List CodeTriple) (i : ℕ) (u : CodeTriple) (copied : Node ℕ) (old new : List (Node ℕ)) → slice_get list i ≡ Some u
+    → live_by nodes (triple_seen u) ≡ Some copied → new ≡ node_added old copied
+    → AreReferenced (edges_by nodes (triples_seen (take i list))) old → AreReferenced (edges_by nodes (triples_seen (take (i + 1) list))) new
+references_found nodes list i u copied old new at says grows h =
+    let one : edges_by nodes (triple_seen u ∷ []) ≡ ((triple_seen u).subject, copied) ∷ [] = rw says refl in
+    record {
+      each = λ t. ap (λ z. contains (same_node nat_eq) z t) grows ∙ contains_added old copied t ∙ ap (λ b. b || same_node nat_eq copied t) (h.each t)
+          ∙ sym (ap (λ z. is_referenced nat_eq z t) (edges_more nodes list i u at ∙ ap (λ z. edges_by nodes (triples_seen (take i list)) ++ z) one)
+          ∙ referenced_more (edges_by nodes (triples_seen (take i list))) ((triple_seen u).subject, copied) t);
+    }
+
+pub references_kept : (nodes : List (Node ℕ)) (list : List CodeTriple) (i : ℕ) (u : CodeTriple) (old : List (Node ℕ)) → slice_get list i ≡ Some u
+    → live_by nodes (triple_seen u) ≡ None
+    → AreReferenced (edges_by nodes (triples_seen (take i list))) old → AreReferenced (edges_by nodes (triples_seen (take (i + 1) list))) old
+references_kept nodes list i u old at says h =
+    let none : edges_by nodes (triple_seen u ∷ []) ≡ [] = rw says refl in
+    subst (λ (z : List (Node ℕ × Node ℕ)). AreReferenced z old) (sym (edges_more nodes list i u at ∙ ap (λ z. edges_by nodes (triples_seen (take i list)) ++ z) none ∙ append-nil (edges_by nodes (triples_seen (take i list))))) h
+
+pub references_end : (nodes : List (Node ℕ)) (list : List CodeTriple) (i : ℕ) (new : List (Node ℕ)) → length list ≤ i
+    → AreReferenced (edges_by nodes (triples_seen (take i list))) new → AreReferenced (edges_by nodes (triples_seen list)) new
+references_end nodes list i new all h = subst (λ (z : List CodeTriple). AreReferenced (edges_by nodes (triples_seen z)) new) (take_all i list all) h
+
+-- ---- the rows of places
+
+pub empty_more : (n : ℕ) → empty_rows (n + 1) ≡ empty_rows n ++ [] ∷ []
+empty_more zero = refl
+empty_more (suc n) = let up : suc n + 1 ≡ suc (n + 1) = omega arith in ap empty_rows up ∙ ap (λ z. [] ∷ z) (empty_more n)
+
+pub empty_start : (nodes : List (Node ℕ)) → empty_rows (length nodes) ≡ map (places_of []) nodes
+empty_start [] = refl
+empty_start (t ∷ nodes) = ap (λ z. [] ∷ z) (empty_start nodes)
+
+pub places_more : (test : Triple ℕ → Bool) (j : ℕ) (list : List (Triple ℕ)) (u : Triple ℕ) → places test j (list ++ u ∷ []) ≡ places test j list ++ (if test u then (j + length list) ∷ [] else [])
+places_more test j [] u = let same : j ≡ j + 0 = omega arith in ap (λ n. if test u then n ∷ [] else []) same
+places_more test j (t ∷ list) u = go (test t) (places_more test (suc j) list u)
+  where
+    further : suc j + length list ≡ j + suc (length list)
+    further = omega arith
+
+    go : (b : Bool) → places test (suc j) (list ++ u ∷ []) ≡ places test (suc j) list ++ (if test u then (suc j + length list) ∷ [] else [])
+        → (if b then j ∷ places test (suc j) (list ++ u ∷ []) else places test (suc j) (list ++ u ∷ [])) ≡ (if b then j ∷ places test (suc j) list else places test (suc j) list) ++ (if test u then (j + suc (length list)) ∷ [] else [])
+    go true ih = ap (λ z. j ∷ z) (ih ∙ ap (λ n. places test (suc j) list ++ (if test u then n ∷ [] else [])) further)
+    go false ih = ih ∙ ap (λ n. places test (suc j) list ++ (if test u then n ∷ [] else [])) further
+
+-- the rows after a place of s
+rows_with : (Node ℕ → List ℕ) → ℕ → Node ℕ → Node ℕ → List ℕ
+rows_with f i s t = f t ++ (if same_node nat_eq t s then i ∷ [] else [])
+
+rows_same : (f : Node ℕ → List ℕ) (i : ℕ) (s : Node ℕ) (nodes : List (Node ℕ)) → contains (same_node nat_eq) nodes s ≡ false → map (rows_with f i s) nodes ≡ map f nodes
+unfolding rows_with
+rows_same f i s [] h = refl
+rows_same f i s (t ∷ nodes) h = go (same_node nat_eq t s) refl h (rows_same f i s nodes)
+  where
+    go : (b : Bool) → same_node nat_eq t s ≡ b → (b || contains (same_node nat_eq) nodes s) ≡ false → (contains (same_node nat_eq) nodes s ≡ false → map (rows_with f i s) nodes ≡ map f nodes)
+        → rows_with f i s t ∷ map (rows_with f i s) nodes ≡ f t ∷ map f nodes
+    go true e k ih = absurd (true≢false k)
+    go false e k ih = ap₂ ◌∷◌ (rw e (append-nil (f t))) (ih k)
+
+rows_pushed : (f : Node ℕ → List ℕ) (i : ℕ) (s : Node ℕ) (nodes : List (Node ℕ)) (n : ℕ) → AreDistinct nodes → number_in nodes s ≡ Some n → pushed (map f nodes) n i ≡ map (rows_with f i s) nodes
+unfolding rows_with
+rows_pushed f i s [] n d h = cc
+rows_pushed f i s (t ∷ nodes) n d h = go (same_node nat_eq t s) refl (number_in nodes s) refl h (λ m. rows_pushed f i s nodes m d.1)
+  where
+    go : (b : Bool) → same_node nat_eq t s ≡ b → (o : Option ℕ) → number_in nodes s ≡ o → (if b then Some 0 else option_map suc o) ≡ Some n → ((m : ℕ) → number_in nodes s ≡ Some m → pushed (map f nodes) m i ≡ map (rows_with f i s) nodes)
+        → pushed (f t ∷ map f nodes) n i ≡ rows_with f i s t ∷ map (rows_with f i s) nodes
+    go true e o q k ih =
+        let first : 0 ≡ n = cc in
+        let same : t ≡ s = (exact_nodes nat_eq exact_numbers t s).0 e in
+        ap (λ m. pushed (f t ∷ map f nodes) m i) (sym first)
+        ∙ ap₂ ◌∷◌ (rw e refl) (sym (rows_same f i s nodes (ap (contains (same_node nat_eq) nodes) (sym same) ∙ d.0)))
+    go false e (Some m) q k ih =
+        let next : suc m ≡ n = cc in
+        ap (λ z. pushed (f t ∷ map f nodes) z i) (sym next) ∙ ap₂ ◌∷◌ (rw e (sym (append-nil (f t)))) (ih m q)
+    go false e None q k ih = cc
+
+none_there : (nodes : List (Node ℕ)) (s : Node ℕ) → number_in nodes s ≡ None → contains (same_node nat_eq) nodes s ≡ false
+none_there [] s h = refl
+none_there (t ∷ nodes) s h = go (same_node nat_eq t s) refl (number_in nodes s) refl h (none_there nodes s)
+  where
+    go : (b : Bool) → same_node nat_eq t s ≡ b → (o : Option ℕ) → number_in nodes s ≡ o → (if b then Some 0 else option_map suc o) ≡ None → (number_in nodes s ≡ None → contains (same_node nat_eq) nodes s ≡ false) → (same_node nat_eq t s || contains (same_node nat_eq) nodes s) ≡ false
+    go true e o q k ih = cc
+    go false e None q k ih = rw e (ih q)
+    go false e (Some m) q k ih = cc
+
+places_turn : (list : List CodeTriple) (i : ℕ) (u : CodeTriple) → slice_get list i ≡ Some u → (nodes : List (Node ℕ)) → map (places_of (triples_seen (take (i + 1) list))) nodes ≡ map (rows_with (places_of (triples_seen (take i list))) i (triple_seen u).subject) nodes
+unfolding rows_with
+places_turn list i u at [] = refl
+places_turn list i u at (t ∷ nodes) = ap₂ ◌∷◌
+    (ap (λ z. places_of z t) (seen_more list i u at) ∙ places_more (has_subject t) 0 (triples_seen (take i list)) (triple_seen u) ∙ ap (λ n. places_of (triples_seen (take i list)) t ++ (if has_subject t (triple_seen u) then n ∷ [] else [])) (length_so_far list i u at))
+    (places_turn list i u at nodes)
+  where
+    length_so_far : (list : List CodeTriple) (i : ℕ) (u : CodeTriple) → slice_get list i ≡ Some u → 0 + length (triples_seen (take i list)) ≡ i
+    length_so_far [] i u at = cc
+    length_so_far (t ∷ list) zero u at = refl
+    length_so_far (t ∷ list) (suc i) u at = let rest = length_so_far list i u at in omega (arith, rest)
+
+pub rows_found : (list : List CodeTriple) (i : ℕ) (u : CodeTriple) (nodes : List (Node ℕ)) (n : ℕ) (old new : List (List ℕ)) → slice_get list i ≡ Some u → AreDistinct nodes
+    → number_in nodes (triple_seen u).subject ≡ Some n → new ≡ pushed old n i
+    → old ≡ map (places_of (triples_seen (take i list))) nodes → new ≡ map (places_of (triples_seen (take (i + 1) list))) nodes
+rows_found list i u nodes n old new at d found grows before =
+    grows ∙ ap (λ z. pushed z n i) before ∙ rows_pushed (places_of (triples_seen (take i list))) i (triple_seen u).subject nodes n d found ∙ sym (places_turn list i u at nodes)
+
+pub rows_kept : (list : List CodeTriple) (i : ℕ) (u : CodeTriple) (nodes : List (Node ℕ)) (old : List (List ℕ)) → slice_get list i ≡ Some u
+    → number_in nodes (triple_seen u).subject ≡ None
+    → old ≡ map (places_of (triples_seen (take i list))) nodes → old ≡ map (places_of (triples_seen (take (i + 1) list))) nodes
+rows_kept list i u nodes old at none before =
+    before ∙ sym (places_turn list i u at nodes ∙ rows_same (places_of (triples_seen (take i list))) i (triple_seen u).subject nodes (none_there nodes (triple_seen u).subject none))
+
+pub rows_end : (list : List CodeTriple) (i : ℕ) (nodes : List (Node ℕ)) (rows : List (List ℕ)) → length list ≤ i
+    → rows ≡ map (places_of (triples_seen (take i list))) nodes → rows ≡ map (places_of (triples_seen list)) nodes
+rows_end list i nodes rows all h = h ∙ ap (λ z. map (places_of (triples_seen z)) nodes) (take_all i list all)
+
+-- ---- a row is found by its number
+
+pub number_row : (f : Node ℕ → List ℕ) (nodes : List (Node ℕ)) (s : Node ℕ) (n : ℕ) → number_in nodes s ≡ Some n → slice_get (map f nodes) n ≡ Some (f s)
+number_row f [] s n h = cc
+number_row f (t ∷ nodes) s n h = go (same_node nat_eq t s) refl (number_in nodes s) refl h (λ m. number_row f nodes s m)
+  where
+    go : (b : Bool) → same_node nat_eq t s ≡ b → (o : Option ℕ) → number_in nodes s ≡ o → (if b then Some 0 else option_map suc o) ≡ Some n → ((m : ℕ) → number_in nodes s ≡ Some m → slice_get (map f nodes) m ≡ Some (f s)) → slice_get (f t ∷ map f nodes) n ≡ Some (f s)
+    go true e o q k ih =
+        let first : 0 ≡ n = cc in
+        let same : t ≡ s = (exact_nodes nat_eq exact_numbers t s).0 e in
+        ap (slice_get (f t ∷ map f nodes)) (sym first) ∙ ap (λ z. Some (f z)) same
+    go false e (Some m) q k ih =
+        let next : suc m ≡ n = cc in
+        ap (slice_get (f t ∷ map f nodes)) (sym next) ∙ ih m q
+    go false e None q k ih = cc
+
+pub no_number : (list : List (Triple ℕ)) (nodes : List (Node ℕ)) (s : Node ℕ) → ArePatterns list nodes → is_pattern nat_eq list s ≡ true → number_in nodes s ≡ None → ⊥
+no_number list nodes s h p none = true≢false (sym p ∙ sym (h.each s) ∙ none_there nodes s none)
+
+pub number_row_by : (f : Node ℕ → List ℕ) (nodes : List (Node ℕ)) (rows : List (List ℕ)) (s : Node ℕ) (n : ℕ) → rows ≡ map f nodes → number_in nodes s ≡ Some n → slice_get rows n ≡ Some (f s)
+number_row_by f nodes rows s n e h = ap (λ (z : List (List ℕ)). slice_get z n) e ∙ number_row f nodes s n h

@@ -1,0 +1,162 @@
+-- Lists that grow by what they lack.
+use Rattle.std.proofs.Common.{◌≡◌, Bool, true, false, not, ◌||◌, List, [], ◌∷◌, ◌++◌, map, filter, refl, sym, ap, ap₂, ◌∙◌, inl, inr, true≢false, if◌then◌else◌, nat_eq, ℕ, append-nil, Result, Ok, Err, is_err, is_ok, IfOk, suc, ◌+◌, take, length, slice_get, slice_set, get_or, zero, ◌<◌, Some, arith}
+use Rattle.std.proofs.Math.Seq.{take-suc}
+use Rattle.std.proofs.lemmas.Option.{slice_get_within, get_or_from_slice_get}
+use Rattle.std.specs.List.{IsDistinct, AllByRecursion}
+use Rattle.std.proofs.lemmas.List.Elements.{filter-append}
+use Rattle.std.specs.List.{list_any}
+use Rattle.std.proofs.lemmas.List.{map-append}
+use Rattle.indexmap.specs.IndexSet.{insert_key}
+use Rattle.rx_terms.specs.declared.triples.Triple.{Triple as CodeTriple}
+use Rattle.rx_model.specs.Sets.{Among, IsExact, contains, distinct}
+use Rattle.rx_model.specs.Terms.{Triple, same_triple}
+use Rattle.rx_model.specs.Seen.{triple_seen, triples_seen}
+use Rattle.rx_model.proofs.Sets.{false_unless, Among_of_distinct}
+use Rattle.rx_model.proofs.Exact.{exact_numbers, exact_triples}
+use Rattle.rx_model.proofs.Seen.{triple_tells}
+use Rattle.rx_graph.specs.Graph.{added}
+use Rattle.rx_graph.specs.Rows.{pushed}
+
+-- two tests that have one truth are the same
+pub same_truth : (a b : Bool) → (a ≡ true → b ≡ true) → (b ≡ true → a ≡ true) → a ≡ b
+same_truth true b h k = sym (h refl)
+same_truth false b h k = sym (false_unless b (λ e. true≢false (sym (k e))))
+
+-- ---- a set of the code and its list in the model
+
+module _ {A B : Type 0} (seen : A → B) (eq : A → A → Bool) (same : B → B → Bool) (agrees : (a b : A) → eq a b ≡ same (seen b) (seen a)) where
+  pub any_seen : (list : List A) (a : A) → list_any (eq a) list ≡ contains same (map seen list) (seen a)
+  any_seen [] a = refl
+  any_seen (x ∷ list) a = ap₂ ◌||◌ (agrees a x) (any_seen list a)
+
+  pub insert_seen : (list : List A) (a : A) → map seen (insert_key eq list a) ≡ (if contains same (map seen list) (seen a) then map seen list else map seen list ++ seen a ∷ [])
+  insert_seen list a = go (list_any (eq a) list) refl
+    where
+      go : (b : Bool) → list_any (eq a) list ≡ b → map seen (insert_key eq list a) ≡ (if contains same (map seen list) (seen a) then map seen list else map seen list ++ seen a ∷ [])
+      go true e = rw (sym (any_seen list a) ∙ e, e) refl
+      go false e = rw (sym (any_seen list a) ∙ e, e) (map-append seen list (a ∷ []))
+
+triples_agree : (eq : CodeTriple → CodeTriple → Bool) → IsExact eq → (a b : CodeTriple) → eq a b ≡ same_triple nat_eq (triple_seen b) (triple_seen a)
+triples_agree eq exact a b =
+    let model = exact_triples nat_eq exact_numbers (triple_seen b) (triple_seen a) in
+    same_truth (eq a b) (same_triple nat_eq (triple_seen b) (triple_seen a))
+    (λ h. model.1 (ap triple_seen (sym ((exact a b).0 h))))
+    (λ h. (exact a b).1 (sym (triple_tells b a (model.0 h))))
+
+pub triples_agree_on : (eq : CodeTriple → CodeTriple → Bool) → IsExact eq → (a b : CodeTriple) → eq a b ≡ same_triple nat_eq (triple_seen a) (triple_seen b)
+triples_agree_on eq exact a b =
+    let model = exact_triples nat_eq exact_numbers (triple_seen a) (triple_seen b) in
+    same_truth (eq a b) (same_triple nat_eq (triple_seen a) (triple_seen b))
+    (λ h. model.1 (ap triple_seen ((exact a b).0 h)))
+    (λ h. (exact a b).1 (triple_tells a b (model.0 h)))
+
+pub added_seen : (eq : CodeTriple → CodeTriple → Bool) → IsExact eq → (list : List CodeTriple) (t : CodeTriple) → triples_seen (insert_key eq list t) ≡ added (triples_seen list) (triple_seen t)
+added_seen eq exact list t = insert_seen triple_seen eq (same_triple nat_eq) (triples_agree eq exact) list t
+
+-- ---- `distinct` from left to right
+
+module _ {A : Type 0} (same : A → A → Bool) (exact : IsExact same) where
+  -- what is unlike x is among those that are unlike x
+  contains_filter : (x a : A) → same x a ≡ false → (list : List A) → contains same (filter (λ y. not (same x y)) list) a ≡ contains same list a
+  contains_filter x a h [] = refl
+  contains_filter x a h (y ∷ list) = go (same x y) refl (contains_filter x a h list)
+    where
+      go : (b : Bool) → same x y ≡ b → contains same (filter (λ y. not (same x y)) list) a ≡ contains same list a
+          → contains same (if not b then y ∷ filter (λ y. not (same x y)) list else filter (λ y. not (same x y)) list) a ≡ (same y a || contains same list a)
+      go true e ih = ih ∙ ap (λ b. b || contains same list a) (sym h ∙ ap (λ z. same z a) ((exact x y).0 e))
+      go false e ih = ap (λ b. same y a || b) ih
+
+  -- one more element
+  abbrev pub grown : List A → A → List A
+  grown list a = if contains same list a then list else list ++ a ∷ []
+
+  pub distinct_grows : (list : List A) (a : A) → distinct same (list ++ a ∷ []) ≡ grown (distinct same list) a
+  distinct_grows [] a = refl
+  distinct_grows (x ∷ list) a = ap (λ z. x ∷ filter (λ y. not (same x y)) z) (distinct_grows list a) ∙ go (same x a) refl (contains same (distinct same list) a) refl
+    where
+      keeps : (p : A → Bool) (rest : List A) (b : Bool) → same x a ≡ b → p a ≡ not (same x a) → filter p (rest ++ a ∷ []) ≡ (if b then filter p rest else filter p rest ++ a ∷ [])
+      keeps p rest true e q = filter-append p rest (a ∷ []) ∙ rw (q, e) (append-nil (filter p rest))
+      keeps p rest false e q = filter-append p rest (a ∷ []) ∙ rw (q, e) refl
+
+      go : (b : Bool) → same x a ≡ b → (c : Bool) → contains same (distinct same list) a ≡ c
+          → x ∷ filter (λ y. not (same x y)) (if contains same (distinct same list) a then distinct same list else distinct same list ++ a ∷ []) ≡ grown (x ∷ filter (λ y. not (same x y)) (distinct same list)) a
+      go true e true f = rw (e, f) refl
+      go true e false f = rw (e, f) (ap (λ z. x ∷ z) (keeps (λ y. not (same x y)) (distinct same list) true e refl))
+      go false e true f = rw (e, f, contains_filter x a e (distinct same list) ∙ f) refl
+      go false e false f = rw (e, f, contains_filter x a e (distinct same list) ∙ f) (ap (λ z. x ∷ z) (keeps (λ y. not (same x y)) (distinct same list) false e refl))
+
+-- what a list grows to is the graph of it
+pub graph_grows : (list : List (Triple ℕ)) (t : Triple ℕ) → added (distinct (same_triple nat_eq) list) t ≡ distinct (same_triple nat_eq) (list ++ t ∷ [])
+graph_grows list t = sym (distinct_grows (same_triple nat_eq) (exact_triples nat_eq exact_numbers) list t)
+
+-- what holds of a result that is no error
+pub of_ok : {A E P : Type 0} (r : Result A E) → is_err r ≡ false → IfOk r (λ a. P) → P
+of_ok (Ok a) e h = h
+of_ok (Err x) e h = absurd (true≢false e)
+
+-- ---- a list as far as a place
+
+pub one_more : {A : Type 0} (list : List A) (i : ℕ) (a : A) → slice_get list i ≡ Some a → take (i + 1) list ≡ take i list ++ a ∷ []
+one_more list i a at =
+    ap (λ n. take n list) (one_up i) ∙ take-suc list i a (slice_get_within list i a at) ∙ ap (λ z. take i list ++ z ∷ []) (get_or_from_slice_get list i a a at)
+  where
+    one_up : (n : ℕ) → n + 1 ≡ suc n
+    one_up n = omega arith
+
+pub seen_more : (list : List CodeTriple) (i : ℕ) (t : CodeTriple) → slice_get list i ≡ Some t → triples_seen (take (i + 1) list) ≡ triples_seen (take i list) ++ triple_seen t ∷ []
+seen_more list i t at = ap triples_seen (one_more list i t at) ∙ map-append triple_seen (take i list) (t ∷ [])
+
+pub graph_turn : (list : List CodeTriple) (i : ℕ) (t u : CodeTriple) (old new : List CodeTriple) → slice_get list i ≡ Some t → u ≡ t
+    → triples_seen old ≡ distinct (same_triple nat_eq) (triples_seen (take i list))
+    → triples_seen new ≡ added (triples_seen old) (triple_seen u)
+    → triples_seen new ≡ distinct (same_triple nat_eq) (triples_seen (take (i + 1) list))
+graph_turn list i t u old new at same before turn =
+    turn ∙ ap₂ added before (ap triple_seen same) ∙ graph_grows (triples_seen (take i list)) (triple_seen t) ∙ ap (distinct (same_triple nat_eq)) (sym (seen_more list i t at))
+
+-- ---- where each stands once
+
+module _ {A B : Type 0} (seen : A → B) (eq : A → A → Bool) (same : B → B → Bool) (agrees : (a b : A) → eq a b ≡ same (seen a) (seen b)) where
+  others_stay : (a : A) (list : List A) → AllByRecursion (λ y. eq a y ≡ false) list → filter (λ y. not (same (seen a) y)) (map seen list) ≡ map seen list
+  others_stay a [] h = refl
+  others_stay a (x ∷ list) h = rw (sym (agrees a x) ∙ h.0) (ap (λ z. seen x ∷ z) (others_stay a list h.1))
+
+  pub each_once : (list : List A) → IsDistinct eq list → distinct same (map seen list) ≡ map seen list
+  unfolding IsDistinct
+  each_once [] h = refl
+  each_once (x ∷ list) h = ap (λ z. seen x ∷ filter (λ y. not (same (seen x) y)) z) (each_once list h.1) ∙ ap (λ z. seen x ∷ z) (others_stay x list h.0)
+
+pub graph_once : (eq : CodeTriple → CodeTriple → Bool) → IsExact eq → (list : List CodeTriple) → IsDistinct eq list → distinct (same_triple nat_eq) (triples_seen list) ≡ triples_seen list
+graph_once eq exact list h = each_once triple_seen eq (same_triple nat_eq) (triples_agree_on eq exact) list h
+
+-- ---- where a function tells its arguments apart
+
+module _ {A B : Type 0} (same : A → A → Bool) (exact : IsExact same) (same' : B → B → Bool) (exact' : IsExact same') (f : A → B) where
+  others_map : (x : A) (list : List A) → ((y : A) → Among list y → f x ≡ f y → x ≡ y) → filter (λ y. not (same' (f x) y)) (map f list) ≡ map f (filter (λ y. not (same x y)) list)
+  others_map x [] h = refl
+  others_map x (y ∷ list) h = go (same x y) refl (others_map x list (λ z m. h z (inr m)))
+    where
+      alike : same' (f x) (f y) ≡ same x y
+      alike = same_truth (same' (f x) (f y)) (same x y) (λ e. (exact x y).1 (h y (inl refl) ((exact' (f x) (f y)).0 e))) (λ e. (exact' (f x) (f y)).1 (ap f ((exact x y).0 e)))
+
+      go : (b : Bool) → same x y ≡ b → filter (λ y. not (same' (f x) y)) (map f list) ≡ map f (filter (λ y. not (same x y)) list)
+          → (if not (same' (f x) (f y)) then f y ∷ filter (λ y. not (same' (f x) y)) (map f list) else filter (λ y. not (same' (f x) y)) (map f list))
+          ≡ map f (if not (same x y) then y ∷ filter (λ y. not (same x y)) list else filter (λ y. not (same x y)) list)
+      go true e ih = rw (alike, e) ih
+      go false e ih = rw (alike, e) (ap (λ z. f y ∷ z) ih)
+
+  pub distinct_apart : (list : List A) → ((x y : A) → Among list x → Among list y → f x ≡ f y → x ≡ y) → distinct same' (map f list) ≡ map f (distinct same list)
+  distinct_apart [] h = refl
+  distinct_apart (x ∷ list) h = ap (λ z. f x ∷ filter (λ y. not (same' (f x) y)) z) (distinct_apart list (λ y z m n. h y z (inr m) (inr n)))
+      ∙ ap (λ z. f x ∷ z) (others_map x (distinct same list) (λ y m e. h x y (inl refl) (inr (Among_of_distinct same list y m)) e))
+
+-- ---- a row that grows
+
+pub row_pushed : {V : Type 0} (items : V → List ℕ) (rows : List V) (i : ℕ) (d new : V) (number : ℕ) → i < length rows → items new ≡ items (get_or rows i d) ++ number ∷ [] → map items (slice_set rows i new) ≡ pushed (map items rows) i number
+row_pushed items [] i d new number h e = absurd (omega arith)
+row_pushed items (row ∷ rows) zero d new number h e = ap (λ z. z ∷ map items rows) e
+row_pushed items (row ∷ rows) (suc i) d new number h e = ap (λ z. items row ∷ z) (row_pushed items rows i d new number (omega arith) e)
+
+pub row_grown : {V A E : Type 0} (items : V → List ℕ) (r : Result A E) (old new row : V) (number : ℕ) → is_err r ≡ false
+    → items new ≡ (if is_ok r then items old ++ number ∷ [] else items old) → old ≡ row → items new ≡ items row ++ number ∷ []
+row_grown items (Ok a) old new row number e h k = h ∙ ap (λ z. items z ++ number ∷ []) k
+row_grown items (Err x) old new row number e h k = absurd (true≢false e)

@@ -1,0 +1,15 @@
+use Rattle.std.proofs.Common.{◌∙◌, ap, sym, arith}
+use Rattle.rx_graph.specs.Resources.{node_added}
+use Rattle.rx_graph.proofs.PatternLemmas.{patterns_found, patterns_kept, patterns_end}
+use Rattle.rx_graph.proofs.patterns.pattern_nodes.Goals.{then-says_pattern+in_ok-add, else-says_pattern}
+use Rattle.rx_graph.proofs.patterns.pattern_nodes.Goals as goal
+
+pub loop-i-preserved : goal.loop-i-preserved
+loop-i-preserved c = elim c.if-says_pattern.branch [
+  | then-says_pattern+in_ok-add w ↦ rw w.nodes-is (patterns_found c.args.triples.now c.loop-i.i c.at-triple.result.now c.loop-i.nodes _ c.at-triple.ensures (sym c.says_pattern.ensures ∙ w.if-says_pattern.true)
+      (w.in_ok-add.ensures ∙ ap (node_added c.loop-i.nodes) w.of_node.ensures) c.loop-i.invariant)
+  | else-says_pattern w ↦ rw w.nodes-is (patterns_kept c.args.triples.now c.loop-i.i c.at-triple.result.now c.loop-i.nodes c.at-triple.ensures (sym c.says_pattern.ensures ∙ w.if-says_pattern.false) c.loop-i.invariant)
+]
+
+pub returns : goal.returns
+returns c = patterns_end c.args.triples.now c.loop-i.i _ (omega (arith, c.loop-i-test.false, c.len-i-end.ensures)) c.loop-i.invariant

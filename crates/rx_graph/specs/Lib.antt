@@ -1,0 +1,5 @@
+pub mod Graph
+pub mod Numbering
+pub mod Resources
+pub mod Rows
+pub mod Patterns

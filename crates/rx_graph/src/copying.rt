@@ -1,0 +1,24 @@
+//! Property copying (HTML+RDFa 1.1, section 3.5).
+ghost use Rattle.std.specs.Prelude.{◌≡◌, IfOk, nat_eq};
+ghost use Rattle.rx_model.specs.Copied.{copied};
+ghost use Rattle.rx_model.specs.Seen.{triples_seen};
+
+use crate::graphs::Graph;
+use crate::patterns::Patterns;
+use rx_terms::{NoMemory, TripleList};
+use std::alloc::Global;
+
+/// The graph of the list with its patterns copied: each triple in order, dropped where its subject is a pattern that is
+/// copied, replaced by what it copies where it is a live copy triple, and kept otherwise.
+///
+/// The time is that of the list's length and of what is copied, but for sorting what several patterns give at once.
+pub fn copy_patterns(alloc: Global, triples: &TripleList) -> Result<Graph, NoMemory>
+    ensures { IfOk result (λ graph. triples_seen graph ≡ copied nat_eq (triples_seen triples.now)) }
+{
+    let patterns = Patterns::of(alloc, triples)?;
+    let mut graph = Graph::new(alloc);
+    for i in 0..triples.len() {
+        patterns.treat(alloc, triples.at(i), &mut graph)?;
+    }
+    Ok(graph)
+}

@@ -1,0 +1,20 @@
+//! Graphs of RDF: a set of triples in order of first appearance, the copying of RDFa's patterns, and the numbering of
+//! blank nodes.
+//!
+//! What each call gives is exactly what `rx_model` defines.
+#![tactic(auto)]
+
+mod copying;
+mod graphs;
+mod numbering;
+mod patterns;
+mod resources;
+mod rows;
+mod vocabulary;
+
+pub use copying::copy_patterns;
+pub use graphs::Graph;
+pub use numbering::relabel;
+
+#[cfg(test)]
+mod tests;

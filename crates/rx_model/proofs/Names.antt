@@ -1,0 +1,75 @@
+-- The law of names.
+use Rattle.std.proofs.Common.{◌≡◌, ◌⊎◌, ℕ, Bool, true, false, cond, nat_eq, List, [], ◌∷◌, ◌++◌, map, refl, sym, ap, ap₂, ◌∙◌, inl, inr, true≢false}
+use Rattle.std.proofs.lemmas.Bool.Decides.{Decides-eqb}
+use Rattle.rx_model.specs.Sets.{Among, IsExact, contains}
+use Rattle.rx_model.specs.Terms.{Node, Iri, Blank, Term, Resource, Literal, Triple}
+use Rattle.rx_model.specs.Numbered.{rename_node, rename_term, rename, blank_of_node, blank_of_term, blanks, numbered}
+use Rattle.rx_model.specs.Copied.{copied}
+use Rattle.rx_model.specs.Renaming.{NamesDoNotMatter}
+use Rattle.rx_model.proofs.Sets.{Among_left, Among_right, Among-contains, Among_by_contains, false_unless}
+use Rattle.rx_model.proofs.Renaming.{numbers_forget_names, copying_keeps_names}
+
+-- a number, or a blank node that has none
+abbrev same_sum : {A : Type 0} → (A → A → Bool) → ℕ ⊎ A → ℕ ⊎ A → Bool
+same_sum same (inl n) (inl m) = nat_eq n m
+same_sum same (inr a) (inr b) = same a b
+same_sum same (inl n) (inr b) = false
+same_sum same (inr a) (inl m) = false
+
+module _ {A : Type 0} (same : A → A → Bool) (exact : IsExact same) (table : List A) (to : A → ℕ) (one_to_one : (a b : A) → Among table a → Among table b → to a ≡ to b → a ≡ b) where
+  number : A → ℕ ⊎ A
+  number b = cond (contains same table b) (inl (to b)) (inr b)
+
+  same_truth : (b c : Bool) → (b ≡ true → c ≡ true) → (c ≡ true → b ≡ true) → b ≡ c
+  same_truth true c h k = sym (h refl)
+  same_truth false c h k = sym (false_unless c (λ e. true≢false (sym (k e))))
+
+  number_keeps : (a b : A) → same a b ≡ same_sum same (number a) (number b)
+  unfolding number
+  number_keeps a b = go (contains same table a) refl (contains same table b) refl
+    where
+      apart : contains same table a ≡ true → contains same table b ≡ false → same a b ≡ false
+      apart p q = false_unless (same a b) (λ h. true≢false (sym p ∙ ap (contains same table) ((exact a b).0 h) ∙ q))
+
+      apart' : contains same table a ≡ false → contains same table b ≡ true → same a b ≡ false
+      apart' p q = false_unless (same a b) (λ h. true≢false (sym q ∙ ap (contains same table) (sym ((exact a b).0 h)) ∙ p))
+
+      go : (s : Bool) → contains same table a ≡ s → (t : Bool) → contains same table b ≡ t
+          → same a b ≡ same_sum same (cond (contains same table a) (inl (to a)) (inr a)) (cond (contains same table b) (inl (to b)) (inr b))
+      go true p true q = rw (p, q) (same_truth (same a b) (nat_eq (to a) (to b))
+          (λ h. (Decides-eqb (to a) (to b)).1 (ap to ((exact a b).0 h)))
+          (λ h. (exact a b).1 (one_to_one a b (Among_by_contains same exact table a p) (Among_by_contains same exact table b q) ((Decides-eqb (to a) (to b)).0 h))))
+      go true p false q = rw (p, q) (apart p q)
+      go false p true q = rw (p, q) (apart' p q)
+      go false p false q = rw (p, q) refl
+
+  agree_node : (n : Node A) → ((b : A) → Among (blank_of_node n) b → Among table b) → rename_node {B = ℕ ⊎ A} inl (rename_node to n) ≡ rename_node number n
+  unfolding number
+  agree_node (Iri iri) h = refl
+  agree_node (Blank b) h = ap Blank (rw (Among-contains same exact table b (h b (inl refl))) refl)
+
+  agree_term : (t : Term A) → ((b : A) → Among (blank_of_term t) b → Among table b) → rename_term {B = ℕ ⊎ A} inl (rename_term to t) ≡ rename_term number t
+  agree_term (Resource n) h = ap Resource (agree_node n h)
+  agree_term (Literal lexical kind) h = refl
+
+  agree : (list : List (Triple A)) → ((b : A) → Among (blanks list) b → Among table b) → map (rename {B = ℕ ⊎ A} inl) (map (rename to) list) ≡ map (rename number) list
+  agree [] h = refl
+  agree (t ∷ list) h =
+      let here : (b : A) → Among (blank_of_node t.subject ++ blank_of_term t.object) b → Among table b = λ b m. h b (Among_left (blank_of_node t.subject ++ blank_of_term t.object) (blanks list) b m) in
+      ap₂ ◌∷◌ (λ i. record {
+        subject = agree_node t.subject (λ b m. here b (Among_left (blank_of_node t.subject) (blank_of_term t.object) b m)) i;
+        predicate = t.predicate;
+        object = agree_term t.object (λ b m. here b (Among_right (blank_of_node t.subject) (blank_of_term t.object) b m)) i;
+      })
+      (agree list (λ b m. h b (Among_right (blank_of_node t.subject ++ blank_of_term t.object) (blanks list) b m)))
+
+  drawn : (list : List (Triple A)) → ((b : A) → Among (blanks list) b → Among table b)
+      → numbered nat_eq (copied nat_eq (map (rename to) list)) ≡ numbered same (copied same list)
+  drawn list h =
+      let L : List (Triple ℕ) = map (rename to) list in
+      sym (numbers_forget_names nat_eq (same_sum same) inl (λ a b. refl) (copied nat_eq L))
+      ∙ ap (numbered (same_sum same)) (sym (copying_keeps_names nat_eq (same_sum same) inl (λ a b. refl) L) ∙ ap (copied (same_sum same)) (agree list h) ∙ copying_keeps_names same (same_sum same) number number_keeps list)
+      ∙ numbers_forget_names same (same_sum same) number number_keeps (copied same list)
+
+pub names_do_not_matter : {A : Type 0} (same : A → A → Bool) → IsExact same → NamesDoNotMatter same
+names_do_not_matter same exact list to one_to_one = drawn same exact (blanks list) to one_to_one list (λ b m. m)

@@ -1,0 +1,7 @@
+use Rattle.std.specs.Prelude.{nat_eq}
+use Rattle.rx_model.proofs.Exact.{exact_numbers}
+use Rattle.rx_model.proofs.Numbered.{numbers_one_to_one}
+use Rattle.rx_model.proofs.numbering_renames.Goals as goal
+
+pub returns : goal.returns
+returns c = numbers_one_to_one nat_eq exact_numbers

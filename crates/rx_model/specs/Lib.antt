@@ -1,0 +1,6 @@
+pub mod Sets
+pub mod Terms
+pub mod Numbered
+pub mod Copied
+pub mod Renaming
+pub mod Seen

@@ -1,0 +1,72 @@
+-- Characters added to a text, one part after another.
+use Rattle.std.proofs.Common.{◌≡◌, ◌∙◌, ℕ, ◌<◌, ◌^◌, true, List, [], ◌∷◌, ◌++◌, sym, ap, refl, subst, append_assoc, append-nil, Result, Ok, Err, OnOk, IsAscii, suc, codes, arith}
+use Rattle.std.proofs.lemmas.Bool.{and_from}
+use Rattle.std.proofs.lemmas.Bool.Decides.{nat_tests}
+use Rattle.std.specs.Str.{chars, IsUtf8, encode_utf8_all}
+use Rattle.std.specs.Fmt.{decimal}
+use Rattle.std.specs.List.{list_all}
+use Rattle.std.proofs.lemmas.Str.{encodes-append, scalars-chars}
+use Rattle.std.proofs.lemmas.Fmt.{IsAscii-decimal}
+use Rattle.rx_terms.specs.Ascii.{is_ascii}
+use Rattle.rx_terms.specs.Text.{Chars}
+use Rattle.rx_terms.specs.Iri.{IsIri}
+use Rattle.rx_terms.specs.Lang.{is_lang}
+use Rattle.rx_terms.proofs.CharLemmas.{ascii-chars, ascii-same}
+use Rattle.rx_nquads.specs.Writing.{escaped_char, escaped_text}
+use Rattle.rx_nquads.specs.Writable.{Adds, WritableText, WritableIri, WritableTag}
+
+pub if_ok : {A E P Q : Type 0} (r : Result A E) → (P → Q) → OnOk r P → OnOk r Q
+if_ok (Ok a) f h = f h
+if_ok (Err e) f h = h
+
+pub adds_then : {a b c : List ℕ} {x y : Chars} → Adds a b x → Adds b c y → Adds a c (x ++ y)
+adds_then {a} {b} {c} {x} {y} h k = record {
+  bytes = k.bytes ∙ ap (λ z. z ++ encode_utf8_all y) h.bytes ∙ append_assoc a (encode_utf8_all x) (encode_utf8_all y) ∙ ap (λ z. a ++ z) (sym (encodes-append x y));
+}
+
+pub adds_nothing : (a : List ℕ) → Adds a a []
+adds_nothing a = record { bytes = sym (append-nil a) }
+
+pub adds_by : {a b : List ℕ} {x y : Chars} → x ≡ y → Adds a b x → Adds a b y
+adds_by {a} e h = record { bytes = h.bytes ∙ ap (λ z. a ++ encode_utf8_all z) e }
+
+-- a literal of ASCII is its own characters
+pub literal : {a b : List ℕ} (text : List ℕ) → list_all is_ascii text ≡ true → Adds a b (chars text) → Adds a b text
+literal text h k = adds_by (ascii-chars text h) k
+
+pub ascii_bytes : (a b text : List ℕ) → list_all is_ascii text ≡ true → b ≡ a ++ text → Adds a b text
+ascii_bytes a b text h k = record { bytes = k ∙ ap (λ z. a ++ z) (sym (ascii-same text h).0) }
+
+pub text_of : (bs : List ℕ) (text : Chars) → IsUtf8 bs → chars bs ≡ text → WritableText text
+text_of bs text u e = subst WritableText e (record { scalars = scalars-chars bs u })
+
+pub iri_of : (bs : List ℕ) (iri : Chars) → IsUtf8 bs → chars bs ≡ iri → IsIri iri → WritableIri iri
+iri_of bs iri u e h = record { text = text_of bs iri u e; is_iri = h }
+
+pub tag_of : (bs : List ℕ) (tag : Chars) → IsUtf8 bs → chars bs ≡ tag → is_lang tag ≡ true → WritableTag tag
+tag_of bs tag u e h = record { text = text_of bs tag u e; is_tag = h }
+
+pub all_ascii : (bs : List ℕ) → IsAscii bs → list_all is_ascii bs ≡ true
+all_ascii [] h = refl
+all_ascii (b ∷ bs) h = let low : b < 128 = h 0 in and_from _ _ (grind (arith, nat_tests, low)) (all_ascii bs (λ i. h (suc i)))
+
+pub adds_blank : (a b : List ℕ) (number : ℕ) → number < 2 ^ 64 → b ≡ a ++ (codes "_:b" ++ decimal number) → Adds a b (codes "_:b" ++ decimal number)
+adds_blank a b number h e = ascii_bytes a b (codes "_:b" ++ decimal number) (all_ascii (decimal number) (IsAscii-decimal number h)) e
+
+-- ---- a string, character by character
+
+-- with what is left of the text
+pub record Left (start out : List ℕ) (whole left : Chars) : Type 0 where
+  pub bytes : start ++ encode_utf8_all (escaped_text whole) ≡ out ++ encode_utf8_all (escaped_text left)
+
+pub left_start : (start : List ℕ) (whole left : Chars) → left ≡ whole → Left start start whole left
+left_start start whole left e = record { bytes = ap (λ z. start ++ encode_utf8_all (escaped_text z)) (sym e) }
+
+pub left_less : {start out next : List ℕ} {whole left : Chars} (c : ℕ) (rest : Chars) → Left start out whole left → left ≡ c ∷ rest → Adds out next (escaped_char c) → Left start next whole rest
+left_less {start} {out} {next} c rest h e k = record {
+  bytes = h.bytes ∙ ap (λ z. out ++ encode_utf8_all (escaped_text z)) e ∙ ap (λ z. out ++ z) (encodes-append (escaped_char c) (escaped_text rest))
+      ∙ sym (append_assoc out (encode_utf8_all (escaped_char c)) (encode_utf8_all (escaped_text rest))) ∙ ap (λ z. z ++ encode_utf8_all (escaped_text rest)) (sym k.bytes);
+}
+
+pub left_none : {start out : List ℕ} {whole left : Chars} → Left start out whole left → left ≡ [] → Adds start out (escaped_text whole)
+left_none {start} {out} h e = record { bytes = sym (h.bytes ∙ ap (λ z. out ++ encode_utf8_all (escaped_text z)) e ∙ append-nil out) }

@@ -1,0 +1,5 @@
+pub mod Cuts
+pub mod OneMeaning
+pub mod Adding
+pub mod Denoting
+pub mod Proper

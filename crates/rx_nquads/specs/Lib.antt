@@ -1,0 +1,5 @@
+pub mod Quads
+pub mod Spelling
+pub mod Document
+pub mod Writing
+pub mod Writable

@@ -1,0 +1,31 @@
+//! N-Quads: the text of a graph, and what a text denotes.
+//!
+//! [`text`] gives exactly the text that `specs/Writing.antt` defines. By the relation of `specs/Document.antt`, which is
+//! stated of whole texts and apart from the writer, that text denotes exactly the graph's quads.
+#![tactic(auto)]
+
+ghost use Rattle.rx_nquads.specs.Document.{StatesOne, DenotesOne};
+ghost use Rattle.rx_nquads.specs.Quads.{ProperStays};
+
+mod terms;
+mod writing;
+
+pub use writing::text;
+
+/// A line states at most one quad.
+pub fn a_line_states_one()
+    ensures { StatesOne }
+{}
+
+/// A text denotes at most one set of quads.
+pub fn a_text_denotes_one()
+    ensures { DenotesOne }
+{}
+
+/// The quad of a triple has that triple, but for a literal that is typed xsd:string in place of plain.
+pub fn proper_triples_stay()
+    ensures { ProperStays }
+{}
+
+#[cfg(test)]
+mod tests;

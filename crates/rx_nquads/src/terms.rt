@@ -1,0 +1,115 @@
+//! How terms are written.
+ghost use Rattle.std.specs.Prelude.{◌≡◌, ◌<◌, ◌^◌, ℕ, OnOk, string_bytes, flat_map};
+ghost use Rattle.std.specs.Str.{chars};
+ghost use Rattle.rx_model.specs.Seen.{kind_seen, node_seen, term_seen};
+ghost use Rattle.rx_nquads.specs.Writing.{escaped_char, escaped_text, string_text, iri_text, blank_text, node_text, kind_text, term_text};
+ghost use Rattle.rx_nquads.specs.Writable.{Adds, WritableText, WritableIri, WritableTag, WritableNode, WritableKind, WritableTerm};
+
+use rx_terms::{Blank, Iri, Lang, LiteralKind, NoMemory, Node, Term, Text};
+
+pub(crate) fn push(out: &mut String, text: &str) -> Result<(), NoMemory>
+    ensures { OnOk result (Adds (string_bytes out.old) (string_bytes out.new) (chars text.now)) }
+{
+    out.push_str(text)?;
+    Ok(())
+}
+
+pub(crate) fn push_iri(out: &mut String, iri: &Iri) -> Result<(), NoMemory>
+    ensures adds { OnOk result (Adds (string_bytes out.old) (string_bytes out.new) (iri_text iri.now)) }
+    ensures writable { OnOk result (WritableIri iri.now) }
+{
+    push(out, "<")?;
+    push(out, iri.as_str())?;
+    push(out, ">")
+}
+
+fn push_blank(out: &mut String, blank: Blank) -> Result<(), NoMemory>
+    ensures adds { OnOk result (Adds (string_bytes out.old) (string_bytes out.new) (blank_text blank.0)) }
+    ensures writable { OnOk result (blank.0 < 2 ^ 64) }
+{
+    let number = blank.0;
+    write!(out, "_:b{number}")?;
+    Ok(())
+}
+
+pub(crate) fn push_node(out: &mut String, node: &Node) -> Result<(), NoMemory>
+    ensures adds { OnOk result (Adds (string_bytes out.old) (string_bytes out.new) (node_text (node_seen node.now))) }
+    ensures writable { OnOk result (WritableNode (node_seen node.now)) }
+{
+    match node {
+        Node::Iri(iri) => push_iri(out, iri),
+        Node::Blank(blank) => push_blank(out, *blank),
+    }
+}
+
+fn push_tag(out: &mut String, tag: &Lang) -> Result<(), NoMemory>
+    ensures adds { OnOk result (Adds (string_bytes out.old) (string_bytes out.new) (kind_text (kind_seen (LiteralKind.Tagged tag.now)))) }
+    ensures writable { OnOk result (WritableTag tag.now) }
+{
+    push(out, "@")?;
+    push(out, tag.as_str())
+}
+
+fn push_datatype(out: &mut String, datatype: &Iri) -> Result<(), NoMemory>
+    ensures adds { OnOk result (Adds (string_bytes out.old) (string_bytes out.new) (kind_text (kind_seen (LiteralKind.Typed datatype.now)))) }
+    ensures writable { OnOk result (WritableIri datatype.now) }
+{
+    push(out, "^^")?;
+    push_iri(out, datatype)
+}
+
+fn push_kind(out: &mut String, kind: &LiteralKind) -> Result<(), NoMemory>
+    ensures adds { OnOk result (Adds (string_bytes out.old) (string_bytes out.new) (kind_text (kind_seen kind.now))) }
+    ensures writable { OnOk result (WritableKind (kind_seen kind.now)) }
+{
+    match kind {
+        LiteralKind::Plain => Ok(()),
+        LiteralKind::Tagged(tag) => push_tag(out, tag),
+        LiteralKind::Typed(datatype) => push_datatype(out, datatype),
+    }
+}
+
+fn push_char(out: &mut String, c: char) -> Result<(), NoMemory>
+    ensures { OnOk result (Adds (string_bytes out.old) (string_bytes out.new) (escaped_char c)) }
+{
+    match c {
+        '"' => out.push_str("\\\"")?,
+        '\\' => out.push_str("\\\\")?,
+        '\n' => out.push_str("\\n")?,
+        '\r' => out.push_str("\\r")?,
+        _ => out.push(c)?,
+    }
+    Ok(())
+}
+
+fn push_escaped(out: &mut String, text: &str) -> Result<(), NoMemory>
+    ensures { OnOk result (Adds (string_bytes out.old) (string_bytes out.new) (escaped_text (chars text.now))) }
+{
+    for c in text.chars() {
+        push_char(out, c)?;
+    }
+    Ok(())
+}
+
+fn push_string(out: &mut String, text: &Text) -> Result<(), NoMemory>
+    ensures adds { OnOk result (Adds (string_bytes out.old) (string_bytes out.new) (string_text text.now)) }
+    ensures writable { OnOk result (WritableText text.now) }
+{
+    push(out, "\"")?;
+    push_escaped(out, text.as_str())?;
+    push(out, "\"")
+}
+
+pub(crate) fn push_term(out: &mut String, term: &Term) -> Result<(), NoMemory>
+    ensures adds { OnOk result (Adds (string_bytes out.old) (string_bytes out.new) (term_text (term_seen term.now))) }
+    ensures writable { OnOk result (WritableTerm (term_seen term.now)) }
+{
+    match term {
+        Term::Iri(iri) => push_iri(out, iri),
+        Term::Blank(blank) => push_blank(out, *blank),
+        Term::Literal(literal) => {
+            push_string(out, &literal.lexical)?;
+            push_kind(out, &literal.kind)
+        }
+    }
+}

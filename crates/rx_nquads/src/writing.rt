@@ -1,0 +1,54 @@
+//! The text of a graph.
+ghost use Rattle.std.specs.Prelude.{◌≡◌, IfOk, OnOk, string_bytes, encode_utf8_all, option_map};
+ghost use Rattle.std.specs.Str.{chars};
+ghost use Rattle.rx_model.specs.Seen.{triple_seen, triples_seen};
+ghost use Rattle.rx_nquads.specs.Quads.{quads};
+ghost use Rattle.rx_nquads.specs.Document.{Nquads};
+ghost use Rattle.rx_nquads.specs.Writing.{graph_text, line_text, nquads};
+ghost use Rattle.rx_nquads.specs.Writable.{Adds, WritableName, WritableTriple};
+
+use crate::terms::{push, push_iri, push_node, push_term};
+use rx_graph::Graph;
+use rx_terms::{Iri, NoMemory, Triple};
+use std::alloc::Global;
+
+/// The graph's text in N-Quads: a line for each triple, in the graph's order, each quad in the graph of this name where
+/// one is given. The bytes are UTF-8.
+pub fn text(alloc: Global, graph: &Graph, name: Option<&Iri>) -> Result<Vec<u8>, NoMemory>
+    ensures bytes { IfOk result (λ bytes. bytes.items ≡ encode_utf8_all (nquads (triples_seen graph.now) (option_map (λ iri. iri.now) name.entry))) }
+    ensures denotes { IfOk result (λ bytes. Nquads (chars bytes.items) (quads (triples_seen graph.now) (option_map (λ iri. iri.now) name.entry))) }
+{
+    let mut out = String::new(alloc);
+    for i in 0..graph.len() {
+        push_line(&mut out, graph.at(i), name)?;
+    }
+    Ok(out.into_bytes())
+}
+
+/// Adds the line of a triple in the graph of this name.
+fn push_line(out: &mut String, triple: &Triple, name: Option<&Iri>) -> Result<(), NoMemory>
+    ensures adds { OnOk result (Adds (string_bytes out.old) (string_bytes out.new) (line_text (option_map (λ iri. iri.now) name.entry) (triple_seen triple.now))) }
+    ensures writable { OnOk result (WritableTriple (option_map (λ iri. iri.now) name.entry) (triple_seen triple.now)) }
+{
+    push_node(out, &triple.subject)?;
+    push(out, " ")?;
+    push_iri(out, &triple.predicate)?;
+    push(out, " ")?;
+    push_term(out, &triple.object)?;
+    push(out, " ")?;
+    push_name(out, name)?;
+    push(out, ".\n")
+}
+
+fn push_name(out: &mut String, name: Option<&Iri>) -> Result<(), NoMemory>
+    ensures adds { OnOk result (Adds (string_bytes out.old) (string_bytes out.new) (graph_text (option_map (λ iri. iri.now) name.entry))) }
+    ensures writable { OnOk result (WritableName (option_map (λ iri. iri.now) name.entry)) }
+{
+    match name {
+        None => Ok(()),
+        Some(iri) => {
+            push_iri(out, iri)?;
+            push(out, " ")
+        }
+    }
+}
