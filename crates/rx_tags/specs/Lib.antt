@@ -4,3 +4,4 @@ pub mod ValueMoves
 pub mod Pairs
 pub mod TagReads
 pub mod Seen
+pub mod Repeats

@@ -1,10 +1,14 @@
 //! The attributes of one tag in one buffer.
-ghost use Rattle.std.specs.Prelude.{◌≡◌, ℕ, ◌<◌, ◌≤◌, List, [], ◌∷◌, ◌++◌, length, OnErr, OnOk, encode_utf8, encode_utf8_all, Some, slice_get};
+ghost use Rattle.std.specs.Prelude.{◌≡◌, ℕ, ◌<◌, ◌≤◌, List, [], ◌∷◌, ◌++◌, ◌||◌, not, length, IfOk, OnErr, OnOk, encode_utf8, encode_utf8_all, Some, slice_get};
 ghost use Rattle.std.specs.Str.{chars, IsUtf8};
-ghost use Rattle.rx_tags.specs.Reading.{piece};
+ghost use Rattle.rx_grammar.specs.Names.{same};
+ghost use Rattle.rx_grammar.specs.Tags.{firsts, has_repeat};
+ghost use Rattle.rx_tags.specs.Reading.{piece, rows_read, RowsFit};
+ghost use Rattle.rx_tags.specs.Repeats.{has_text};
 
 use rx_terms::NoMemory;
 use std::alloc::Global;
+use std::collections::BTreeSet;
 use std::marker::Model;
 
 /// Where an attribute stands in the buffer: its name from `start` to `middle`, its value from there to `end`.
@@ -186,6 +190,52 @@ impl Attributes {
             text_between(&self.text, row.start, row.middle),
             text_between(&self.text, row.middle, row.end),
         )
+    }
+}
+
+impl Attributes {
+    /// Forgets each attribute whose name stands before it, and tells whether there was one.
+    pub(crate) fn keep_firsts(&mut self, alloc: Global) -> Result<bool, NoMemory>
+        ensures kept { OnOk result (self.new ≡ record self.old { whole = firsts self.old.whole }) }
+        ensures repeated { IfOk result (λ repeated. repeated ≡ has_repeat self.old.whole) }
+        ensures err { OnErr result (self.new ≡ self.old) }
+    {
+        let kept = first_rows(alloc, &self.text, &self.rows)?;
+        if kept.len() == self.rows.len() {
+            return Ok(false);
+        }
+        self.rows = kept;
+        Ok(true)
+    }
+}
+
+// The rows whose names stand in no row before them.
+fn first_rows(alloc: Global, text: &[u8], rows: &[Row]) -> Result<Vec<Row>, NoMemory>
+    requires { RowsFit text.now (length text.now) rows.now }
+    ensures read { IfOk result (λ kept. rows_read text.now kept.items ≡ firsts (rows_read text.now rows.now)) }
+    ensures fit { IfOk result (λ kept. (limit : ℕ) → RowsFit text.now limit rows.now → RowsFit text.now limit kept.items) }
+{
+    let mut names = BTreeSet::new(alloc);
+    let mut kept = Vec::new(alloc);
+    for row in rows {
+        if !add_name(&mut names, text_between(text, row.start, row.middle))? {
+            continue;
+        }
+        if kept.push(*row).is_err() {
+            return Err(NoMemory);
+        }
+    }
+    Ok(kept)
+}
+
+// Adds a name, and tells whether it is new.
+fn add_name<'a>(names: &mut BTreeSet<&'a str>, name: &'a str) -> Result<bool, NoMemory>
+    ensures is_new { IfOk result (λ is_new. is_new ≡ not (has_text names.old name.now)) }
+    ensures added { OnOk result ((text : List ℕ) → has_text names.new text ≡ (same name.now text || has_text names.old text)) }
+{
+    match names.insert(name) {
+        Ok(is_new) => Ok(is_new),
+        Err(_) => Err(NoMemory),
     }
 }
 
