@@ -3,12 +3,17 @@ use Rattle.std.specs.Prelude.{◌≡◌, ℕ, Bool, true, false, Result, Ok, Err
 use Rattle.rx_terms.specs.Text.{Chars}
 use Rattle.rx_chars.specs.declared.syntax.Syntax.{Syntax}
 use Rattle.rx_grammar.specs.References.{meaning}
+use Rattle.rx_grammar.specs.Tags.{firsts, is_repeated}
+use Rattle.rx_grammar.specs.declared.faults.Kind.TheVariants.{RepeatedAttribute}
 use Rattle.rx_reader.specs.declared.phases.TagPhase.{TagPhase}
 use Rattle.rx_reader.specs.declared.phases.TagPhase.TheVariants as phase
 use Rattle.rx_reader.specs.declared.phases.TagAction.{TagAction}
 use Rattle.rx_reader.specs.Values.{Value, no_value_yet}
-use Rattle.rx_reader.specs.TagReader.{TagState, done_by, tag_move}
+use Rattle.rx_reader.specs.Tables.{is_last}
+use Rattle.rx_reader.specs.TagReader.{TagState, done_by, tag_move, tag_step}
 use Rattle.rx_tags.specs.Pairs.{Pairs}
+use Rattle.rx_tags.specs.declared.tag_buf.TagStep.{TagStep}
+use Rattle.rx_tags.specs.declared.tag_buf.TagStep.TheVariants.{More, Done}
 use Rattle.rx_tags.specs.declared.pairs.TagError.{TagError}
 use Rattle.rx_tags.specs.declared.pairs.TagError.TheVariants.{Bad, NoMemory}
 
@@ -42,3 +47,27 @@ abbrev pub MoveGives : TagRead → ℕ → Result (Unit {0}) TagError → TagRea
 MoveGives old c (Ok done) new = tag_move old.syntax (meaning old.syntax) old.state c ≡ Ok new.state
 MoveGives old c (Err (Bad kind)) new = tag_move old.syntax (meaning old.syntax) old.state c ≡ Err kind
 MoveGives old c (Err NoMemory) new = Unit {0}
+
+-- the state without the attributes whose name stands before them
+abbrev pub firsts_of : TagState → TagState
+firsts_of s = record { phase = s.phase; name = s.name; attributes = firsts s.attributes; key = s.key; value = s.value }
+
+-- the reader has read the tag to its `>`, and it is kept without the attributes whose name stands before them
+pub record Ends (old : TagRead) (c : ℕ) (new : TagState) : Type 0 where
+  pub last : TagState
+  pub step : tag_step old.syntax (meaning old.syntax) old.state c ≡ Ok last
+  pub whole : is_last last.phase ≡ true
+  pub kept : new ≡ firsts_of last
+
+-- one more character
+abbrev pub ReadGives : TagRead → ℕ → Result TagStep TagError → TagState → Type 0
+ReadGives old c (Ok More) new = (tag_step old.syntax (meaning old.syntax) old.state c ≡ Ok new) × (is_last new.phase ≡ false)
+ReadGives old c (Ok Done) new = Ends old c new
+ReadGives old c (Err (Bad kind)) new = tag_step old.syntax (meaning old.syntax) old.state c ≡ Err kind
+ReadGives old c (Err NoMemory) new = Unit {0}
+
+-- names that stand twice
+abbrev pub FinishGives : TagRead → Result (Unit {0}) TagError → TagState → Type 0
+FinishGives old (Ok done) new = (is_repeated old.syntax old.state.attributes ≡ false) × (new ≡ firsts_of old.state)
+FinishGives old (Err (Bad kind)) new = (is_repeated old.syntax old.state.attributes ≡ true) × (kind ≡ RepeatedAttribute)
+FinishGives old (Err NoMemory) new = Unit {0}

@@ -16,4 +16,5 @@ mod values;
 pub use pairs::TagError;
 pub use rx_chars::Syntax;
 pub use rx_grammar::{Fault, Kind, Limits};
+pub use tag_buf::TagStep;
 pub use tags::Tag;

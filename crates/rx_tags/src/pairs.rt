@@ -155,6 +155,20 @@ impl Pairs {
 }
 
 impl Pairs {
+    ghost use Rattle.std.specs.Prelude.{IfOk};
+    ghost use Rattle.rx_grammar.specs.Tags.{firsts, has_repeat};
+
+    /// Forgets each attribute whose name stands before it, and tells whether there was one.
+    pub(crate) fn keep_firsts(&mut self, alloc: Global) -> Result<bool, NoMemory>
+        ensures kept { OnOk result (self.new ≡ record self.old { whole = firsts self.old.whole }) }
+        ensures repeated { IfOk result (λ repeated. repeated ≡ has_repeat self.old.whole) }
+        ensures err { OnErr result (self.new ≡ self.old) }
+    {
+        self.attributes.keep_firsts(alloc)
+    }
+}
+
+impl Pairs {
     ghost use Rattle.std.specs.Prelude.{◌<◌, length, slice_get, Some};
     ghost use Rattle.std.specs.Str.{chars};
 

@@ -1,17 +1,28 @@
 //! A tag that is read a character at a time.
-ghost use Rattle.std.specs.Prelude.{◌≡◌, [], ◌∷◌, ◌++◌, IfErr, OnErr, OnOk, string_bytes};
+ghost use Rattle.std.specs.Prelude.{◌≡◌, [], ◌∷◌, ◌++◌, ◌&&◌, not, IfErr, OnErr, OnOk, string_bytes};
 ghost use Rattle.std.specs.Str.{chars};
+ghost use Rattle.rx_reader.specs.Tables.{is_html};
 ghost use Rattle.rx_reader.specs.Values.{no_value_yet};
 ghost use Rattle.rx_tags.specs.TagReads.{ActGives};
 
-use crate::moves::move_at;
+use crate::moves::{is_last, move_at};
 use crate::pairs::{Pairs, TagError};
 use crate::values::cased;
 use rx_chars::Syntax;
 use rx_grammar::Kind;
 use rx_reader::{TagAction, TagPhase};
+use rx_terms::NoMemory;
 use std::alloc::Global;
 use std::marker::Model;
+
+/// What one more character makes of a tag.
+#[derive(Clone, Copy, Debug, PartialEq, Eq)]
+pub enum TagStep {
+    /// The tag goes on.
+    More,
+    /// The character was the tag's `>`.
+    Done,
+}
 
 /// The characters of one tag after its `<`, as far as they were read. Names and values are decoded into one buffer.
 #[derive(Drop)]
@@ -78,6 +89,43 @@ impl TagText {
 }
 
 impl TagText {
+    ghost use Rattle.rx_tags.specs.TagReads.{ReadGives, FinishGives};
+
+    /// Reads one more character, and at the tag's `>` keeps the first attribute of each name.
+    pub(crate) fn step(&mut self, alloc: Global, c: char) -> Result<TagStep, TagError>
+        ensures gives { ReadGives self.old c result self.new.state }
+        ensures syntax { self.new.syntax ≡ self.old.syntax }
+    {
+        match self.read(c) {
+            Ok(()) => {}
+            Err(error) => return Err(error),
+        }
+        if !is_last(self.phase) {
+            return Ok(TagStep::More);
+        }
+        match self.finish(alloc) {
+            Ok(()) => Ok(TagStep::Done),
+            Err(error) => Err(error),
+        }
+    }
+
+    fn finish(&mut self, alloc: Global) -> Result<(), TagError>
+        ensures gives { FinishGives self.old result self.new.state }
+        ensures syntax { self.new.syntax ≡ self.old.syntax }
+    {
+        match self.pairs.keep_firsts(alloc) {
+            Ok(repeated) => {
+                if refuses(self.syntax, repeated) {
+                    return Err(TagError::Bad(Kind::RepeatedAttribute));
+                }
+                Ok(())
+            }
+            Err(NoMemory) => Err(TagError::NoMemory),
+        }
+    }
+}
+
+impl TagText {
     ghost use Rattle.std.specs.Prelude.{◌<◌, length, slice_get, Some};
 
     pub(crate) fn phase(&self) -> TagPhase
@@ -107,6 +155,13 @@ impl TagText {
     {
         self.pairs.at(i)
     }
+}
+
+// XHTML refuses a name that stands twice.
+fn refuses(syntax: Syntax, repeated: bool) -> bool
+    ensures { result ≡ (not (is_html syntax) && repeated) }
+{
+    syntax == Syntax::Xhtml && repeated
 }
 
 fn act(
