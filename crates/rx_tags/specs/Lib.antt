@@ -5,3 +5,4 @@ pub mod Pairs
 pub mod TagReads
 pub mod Seen
 pub mod Repeats
+pub mod TagBufs

@@ -12,8 +12,8 @@ use Rattle.rx_reader.specs.Values.{Value, no_value_yet}
 use Rattle.rx_reader.specs.Tables.{is_last}
 use Rattle.rx_reader.specs.TagReader.{TagState, done_by, tag_move, tag_step}
 use Rattle.rx_tags.specs.Pairs.{Pairs}
-use Rattle.rx_tags.specs.declared.tag_buf.TagStep.{TagStep}
-use Rattle.rx_tags.specs.declared.tag_buf.TagStep.TheVariants.{More, Done}
+use Rattle.rx_tags.specs.declared.tag_text.TagStep.{TagStep}
+use Rattle.rx_tags.specs.declared.tag_text.TagStep.TheVariants.{More, Done}
 use Rattle.rx_tags.specs.declared.pairs.TagError.{TagError}
 use Rattle.rx_tags.specs.declared.pairs.TagError.TheVariants.{Bad, NoMemory}
 

@@ -10,11 +10,13 @@ mod moves;
 mod pairs;
 mod references;
 mod tag_buf;
+mod tag_text;
 mod tags;
 mod values;
 
 pub use pairs::TagError;
 pub use rx_chars::Syntax;
 pub use rx_grammar::{Fault, Kind, Limits};
-pub use tag_buf::TagStep;
+pub use tag_buf::TagBuf;
+pub use tag_text::TagStep;
 pub use tags::Tag;

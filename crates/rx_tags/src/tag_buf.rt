@@ -1,198 +1,98 @@
-//! A tag that is read a character at a time.
-ghost use Rattle.std.specs.Prelude.{◌≡◌, [], ◌∷◌, ◌++◌, ◌&&◌, not, IfErr, OnErr, OnOk, string_bytes};
-ghost use Rattle.std.specs.Str.{chars};
-ghost use Rattle.rx_reader.specs.Tables.{is_html};
-ghost use Rattle.rx_reader.specs.Values.{no_value_yet};
-ghost use Rattle.rx_tags.specs.TagReads.{ActGives};
+//! One tag that is read a character at a time.
+ghost use Rattle.std.specs.Prelude.{◌≡◌, true, [], ◌∷◌, ◌++◌, IfOk};
+ghost use Rattle.rx_terms.specs.Text.{Chars};
+ghost use Rattle.rx_reader.specs.Tables.{is_last};
+ghost use Rattle.rx_reader.specs.TagReader.{parts_of};
+ghost use Rattle.rx_tags.specs.Seen.{tag_seen};
+ghost use Rattle.rx_tags.specs.TagBufs.{no_tag, MayStep, StepGives, Stands, StepTells};
 
-use crate::moves::{is_last, move_at};
-use crate::pairs::{Pairs, TagError};
-use crate::values::cased;
+use crate::pairs::TagError;
+use crate::tag_text::{TagStep, TagText};
+use crate::tags::Tag;
 use rx_chars::Syntax;
-use rx_grammar::Kind;
-use rx_reader::{TagAction, TagPhase};
 use rx_terms::NoMemory;
 use std::alloc::Global;
 use std::marker::Model;
 
-/// What one more character makes of a tag.
-#[derive(Clone, Copy, Debug, PartialEq, Eq)]
-pub enum TagStep {
-    /// The tag goes on.
-    More,
-    /// The character was the tag's `>`.
-    Done,
-}
-
-/// The characters of one tag after its `<`, as far as they were read. Names and values are decoded into one buffer.
+/// Reads the characters of one tag after its `<`, and lends the tag when it is whole. A contract sees how the reader
+/// stands after these characters, and whether a fault or want of memory was answered.
 #[derive(Drop)]
-pub(crate) struct TagText {
-    syntax: Syntax,
-    phase: TagPhase,
-    name: String,
-    pairs: Pairs,
+pub struct TagBuf {
+    text: TagText,
+    alloc: Global,
+    refused: bool,
+    spent: bool,
 }
 
-impl Model for TagText {
-    ghost use Rattle.std.specs.Prelude.{string_bytes};
-    ghost use Rattle.std.specs.Str.{chars};
-    ghost use Rattle.rx_tags.specs.TagReads.{TagRead, state_of, IsSettled};
+impl Model for TagBuf {
+    ghost use Rattle.rx_tags.specs.TagBufs.{TagSoFar};
 
-    ghost Value = { TagRead };
+    ghost Value = { TagSoFar };
 
-    ghost view = { λ t. record { syntax = t.syntax; state = state_of t.phase (chars (string_bytes t.name)) t.pairs } };
-
-    ghost invariant = { λ t. IsSettled t.phase t.pairs.value };
+    ghost view = { λ buf. record { syntax = buf.text.syntax; state = buf.text.state; refused = buf.refused; spent = buf.spent } };
 }
 
-impl TagText {
-    ghost use Rattle.rx_tags.specs.TagReads.{MoveGives};
-    ghost use Rattle.rx_reader.specs.TagReader.{fresh};
-
-    pub(crate) fn new(alloc: Global, syntax: Syntax) -> TagText
-        ensures { result ≡ record { syntax = syntax; state = fresh } }
+impl TagBuf {
+    /// Before the first character of a tag.
+    pub fn new(alloc: Global, syntax: Syntax) -> Result<TagBuf, NoMemory>
+        ensures { IfOk result (λ buf. buf ≡ no_tag syntax) }
     {
-        TagText {
-            syntax,
-            phase: TagPhase::Start,
-            name: String::new(alloc),
-            pairs: Pairs::new(alloc),
+        Ok(TagBuf {
+            text: TagText::new(alloc, syntax),
+            alloc,
+            refused: false,
+            spent: false,
+        })
+    }
+
+    /// Reads the tag's next character. `Done` comes exactly at the tag's `>`. `Bad` comes exactly where the reader has a
+    /// fault at this character, with its kind. After want of memory nothing else is answered until the tag is cleared.
+    pub fn step(&mut self, c: char) -> Result<TagStep, TagError>
+        requires { MayStep self.old }
+        ensures gives { StepGives self.old c result self.new }
+        ensures tells { (chars : Chars) → Stands self.old chars → StepTells (chars ++ c ∷ []) result self.new }
+    {
+        self.read(c)
+    }
+
+    fn read(&mut self, c: char) -> Result<TagStep, TagError>
+        requires { MayStep self.old }
+        ensures { StepGives self.old c result self.new }
+    {
+        if self.spent {
+            return Err(TagError::NoMemory);
         }
-    }
-
-    /// Forgets the tag, and keeps the memory.
-    pub(crate) fn clear(&mut self)
-        ensures { self.new ≡ record self.old { state = fresh } }
-    {
-        self.phase = TagPhase::Start;
-        self.name.clear();
-        self.pairs.clear();
-    }
-
-    /// Reads one more character. Names that stand twice aren't looked at.
-    pub(crate) fn read(&mut self, c: char) -> Result<(), TagError>
-        ensures gives { MoveGives self.old c result self.new }
-        ensures syntax { self.new.syntax ≡ self.old.syntax }
-        ensures err { OnErr result (self.new ≡ self.old) }
-    {
-        let Some((phase, action)) = move_at(self.syntax, self.phase, c) else {
-            return Err(TagError::Bad(Kind::BadTag));
-        };
-        match act(self.syntax, action, c, &mut self.name, &mut self.pairs) {
-            Ok(()) => {
-                self.phase = phase;
-                Ok(())
+        match self.text.step(self.alloc, c) {
+            Ok(step) => Ok(step),
+            Err(TagError::Bad(kind)) => {
+                self.text.clear();
+                self.refused = true;
+                Err(TagError::Bad(kind))
             }
-            Err(error) => Err(error),
-        }
-    }
-}
-
-impl TagText {
-    ghost use Rattle.rx_tags.specs.TagReads.{ReadGives, FinishGives};
-
-    /// Reads one more character, and at the tag's `>` keeps the first attribute of each name.
-    pub(crate) fn step(&mut self, alloc: Global, c: char) -> Result<TagStep, TagError>
-        ensures gives { ReadGives self.old c result self.new.state }
-        ensures syntax { self.new.syntax ≡ self.old.syntax }
-    {
-        match self.read(c) {
-            Ok(()) => {}
-            Err(error) => return Err(error),
-        }
-        if !is_last(self.phase) {
-            return Ok(TagStep::More);
-        }
-        match self.finish(alloc) {
-            Ok(()) => Ok(TagStep::Done),
-            Err(error) => Err(error),
-        }
-    }
-
-    fn finish(&mut self, alloc: Global) -> Result<(), TagError>
-        ensures gives { FinishGives self.old result self.new.state }
-        ensures syntax { self.new.syntax ≡ self.old.syntax }
-    {
-        match self.pairs.keep_firsts(alloc) {
-            Ok(repeated) => {
-                if refuses(self.syntax, repeated) {
-                    return Err(TagError::Bad(Kind::RepeatedAttribute));
-                }
-                Ok(())
+            Err(TagError::NoMemory) => {
+                self.text.clear();
+                self.spent = true;
+                Err(TagError::NoMemory)
             }
-            Err(NoMemory) => Err(TagError::NoMemory),
         }
     }
-}
 
-impl TagText {
-    ghost use Rattle.std.specs.Prelude.{◌<◌, length, slice_get, Some};
-
-    pub(crate) fn phase(&self) -> TagPhase
-        ensures { result ≡ self.now.state.phase }
+    /// The tag that was read, with the byte offsets of its `<` and its `>`.
+    pub fn tag(&self, token: u64, at: u64) -> Tag<'_>
+        requires { is_last self.now.state.phase ≡ true }
+        ensures tag { tag_seen result ≡ parts_of self.now.state }
+        ensures token { result.token ≡ token }
+        ensures at { result.at ≡ at }
     {
-        self.phase
+        Tag::of(&self.text, token, at)
     }
 
-    /// The tag's name.
-    pub(crate) fn name(&self) -> &str
-        ensures { chars result.now ≡ self.now.state.name }
+    /// Forgets the tag, so that another one can be read. The memory is kept.
+    pub fn clear(&mut self)
+        ensures { self.new ≡ no_tag self.old.syntax }
     {
-        self.name.as_str()
+        self.text.clear();
+        self.refused = false;
+        self.spent = false;
     }
-
-    /// How many attributes are whole.
-    pub(crate) fn count(&self) -> usize
-        ensures { result ≡ length self.now.state.attributes }
-    {
-        self.pairs.count()
-    }
-
-    /// The name and the value of an attribute that is whole.
-    pub(crate) fn attr_at(&self, i: usize) -> (&str, &str)
-        requires { i < length self.now.state.attributes }
-        ensures { slice_get self.now.state.attributes i ≡ Some (chars result.0.now, chars result.1.now) }
-    {
-        self.pairs.at(i)
-    }
-}
-
-// XHTML refuses a name that stands twice.
-fn refuses(syntax: Syntax, repeated: bool) -> bool
-    ensures { result ≡ (not (is_html syntax) && repeated) }
-{
-    syntax == Syntax::Xhtml && repeated
-}
-
-fn act(
-    syntax: Syntax,
-    action: TagAction,
-    c: char,
-    name: &mut String,
-    pairs: &mut Pairs,
-) -> Result<(), TagError>
-    requires { action ≡ TagAction.Key → pairs.old.value ≡ no_value_yet }
-    ensures gives { ActGives syntax action c (chars (string_bytes name.old)) pairs.old result (chars (string_bytes name.new)) pairs.new }
-    ensures name { OnErr result (chars (string_bytes name.new) ≡ chars (string_bytes name.old)) }
-    ensures pairs { OnErr result (pairs.new ≡ pairs.old) }
-{
-    match action {
-        TagAction::Skip => Ok(()),
-        TagAction::Name => push_name(name, cased(syntax, c)),
-        TagAction::Key => pairs.push_key(cased(syntax, c)),
-        TagAction::Value => pairs.take(syntax, c),
-        TagAction::Add => pairs.add(syntax),
-        TagAction::AddKey => pairs.add_key(syntax, cased(syntax, c)),
-    }
-}
-
-fn push_name(name: &mut String, c: char) -> Result<(), TagError>
-    ensures ok { OnOk result (chars (string_bytes name.new) ≡ chars (string_bytes name.old) ++ c ∷ []) }
-    ensures err { OnErr result (chars (string_bytes name.new) ≡ chars (string_bytes name.old)) }
-    ensures memory { IfErr result (λ error. error ≡ TagError.NoMemory) }
-{
-    if name.push(c).is_err() {
-        return Err(TagError::NoMemory);
-    }
-    Ok(())
 }

@@ -6,7 +6,7 @@ ghost use Rattle.std.specs.Str.{chars};
 ghost use Rattle.rx_reader.specs.TagReader.{parts_of};
 ghost use Rattle.rx_tags.specs.Seen.{tag_seen};
 
-use crate::tag_buf::TagText;
+use crate::tag_text::TagText;
 use rx_reader::TagPhase;
 
 /// A tag that was read to its `>`. Its name, its attributes' names and their values are slices of the buffer in which

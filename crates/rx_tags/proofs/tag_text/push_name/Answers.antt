@@ -1,7 +1,7 @@
 use Rattle.std.specs.Prelude.{string_bytes}
 use Rattle.std.proofs.lemmas.Str.{IsUtf8-string_bytes}
 use Rattle.rx_tags.proofs.Pieces.{with_char}
-use Rattle.rx_tags.proofs.tag_buf.push_name.Goals as goal
+use Rattle.rx_tags.proofs.tag_text.push_name.Goals as goal
 
 pub returns-clause-ok : goal.returns-clause-ok
 returns-clause-ok c =

@@ -1,6 +1,6 @@
 use Rattle.std.proofs.Common.{◌∙◌, sym}
 use Rattle.rx_tags.proofs.SettledLemmas.{settled}
-use Rattle.rx_tags.proofs.tag_buf.TagText.read.Goals as goal
+use Rattle.rx_tags.proofs.tag_text.TagText.read.Goals as goal
 
 pub invariant_of-self : goal.invariant_of-self
 invariant_of-self c =
