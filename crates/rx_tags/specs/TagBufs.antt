@@ -2,9 +2,10 @@
 use Rattle.std.specs.Prelude.{◌≡◌, ℕ, Bool, true, false, Result, Ok, Err}
 use Rattle.rx_terms.specs.Text.{Chars}
 use Rattle.rx_chars.specs.declared.syntax.Syntax.{Syntax}
+use Rattle.rx_grammar.specs.declared.faults.Kind.TheVariants.{BadTag}
 use Rattle.rx_grammar.specs.References.{meaning}
 use Rattle.rx_grammar.specs.Tags.{SpellsTag}
-use Rattle.rx_grammar.specs.TagFaults.{BeginsShape}
+use Rattle.rx_grammar.specs.TagFaults.{BeginsShape, BeginsNoShape}
 use Rattle.rx_reader.specs.Tables.{is_last}
 use Rattle.rx_reader.specs.TagReader.{TagState, fresh, tag_on, parts_of}
 use Rattle.rx_tags.specs.declared.tag_text.TagStep.{TagStep}
@@ -63,4 +64,5 @@ pub record GoesOn (tag : TagSoFar) (chars : Chars) : Type 0 where
 abbrev pub StepTells : Chars → Result TagStep TagError → TagSoFar → Type 0
 StepTells chars (Ok More) new = GoesOn new chars
 StepTells chars (Ok Done) new = SpellsTag new.syntax chars (parts_of new.state)
-StepTells chars (Err error) new = Unit {0}
+StepTells chars (Err (Bad kind)) new = kind ≡ BadTag → BeginsNoShape new.syntax chars
+StepTells chars (Err NoMemory) new = Unit {0}
