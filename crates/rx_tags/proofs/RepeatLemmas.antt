@@ -207,3 +207,8 @@ kept_some text rows kept n m read k r e = not_all_kept (rows_read text rows) (λ
 
 pub nothing_left : (r : Reading) → has_repeat r.whole ≡ false → r ≡ record { whole = firsts r.whole; key = r.key; known = r.known; pending = r.pending }
 nothing_left r h = λ i. record { whole = sym (unrepeated r.whole h) i; key = r.key; known = r.known; pending = r.pending }
+
+pub too_few : (text : List ℕ) (rows : List Row) (n : ℕ) → n ≡ length rows → n < 2 → has_repeat (rows_read text rows) ≡ false
+too_few text [] n e h = refl
+too_few text (row ∷ []) n e h = refl
+too_few text (row ∷ other ∷ rows) n e h = absurd (omega (arith, e, h))

@@ -2,10 +2,11 @@
 use Rattle.std.specs.Prelude.{◌≡◌, ℕ, Bool, true, false, Result, Ok, Err}
 use Rattle.rx_terms.specs.Text.{Chars}
 use Rattle.rx_chars.specs.declared.syntax.Syntax.{Syntax}
-use Rattle.rx_grammar.specs.declared.faults.Kind.TheVariants.{BadTag}
+use Rattle.rx_grammar.specs.declared.faults.Kind.{Kind}
+use Rattle.rx_grammar.specs.declared.faults.Kind.TheVariants.{BadTag, RepeatedAttribute}
 use Rattle.rx_grammar.specs.References.{meaning}
 use Rattle.rx_grammar.specs.Tags.{SpellsTag}
-use Rattle.rx_grammar.specs.TagFaults.{BeginsShape, BeginsNoShape}
+use Rattle.rx_grammar.specs.TagFaults.{BeginsShape, BeginsNoShape, TagFault}
 use Rattle.rx_reader.specs.Tables.{is_last}
 use Rattle.rx_reader.specs.TagReader.{TagState, fresh, tag_on, parts_of}
 use Rattle.rx_tags.specs.declared.tag_text.TagStep.{TagStep}
@@ -60,9 +61,14 @@ pub record GoesOn (tag : TagSoFar) (chars : Chars) : Type 0 where
   pub stands : Stands tag chars
   pub begins : BeginsShape tag.syntax chars
 
+-- What a fault tells: with these characters no tag begins, or they are a whole tag of XHTML in which a name stands twice.
+pub record RefusalTells (syntax : Syntax) (chars : Chars) (kind : Kind) : Type 0 where
+  pub bad_tag : kind ≡ BadTag → BeginsNoShape syntax chars
+  pub repeated : kind ≡ RepeatedAttribute → TagFault syntax RepeatedAttribute chars
+
 -- what a step's answer tells of the characters through its own
 abbrev pub StepTells : Chars → Result TagStep TagError → TagSoFar → Type 0
 StepTells chars (Ok More) new = GoesOn new chars
 StepTells chars (Ok Done) new = SpellsTag new.syntax chars (parts_of new.state)
-StepTells chars (Err (Bad kind)) new = kind ≡ BadTag → BeginsNoShape new.syntax chars
+StepTells chars (Err (Bad kind)) new = RefusalTells new.syntax chars kind
 StepTells chars (Err NoMemory) new = Unit {0}

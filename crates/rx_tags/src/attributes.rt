@@ -200,6 +200,9 @@ impl Attributes {
         ensures repeated { IfOk result (λ repeated. repeated ≡ has_repeat self.old.whole) }
         ensures err { OnErr result (self.new ≡ self.old) }
     {
+        if self.rows.len() < 2 {
+            return Ok(false);
+        }
         let kept = first_rows(alloc, &self.text, &self.rows)?;
         if kept.len() == self.rows.len() {
             return Ok(false);

@@ -9,6 +9,7 @@ mod attributes;
 mod moves;
 mod pairs;
 mod references;
+mod stops;
 mod tag_buf;
 mod tag_text;
 mod tags;
@@ -17,6 +18,10 @@ mod values;
 pub use pairs::TagError;
 pub use rx_chars::Syntax;
 pub use rx_grammar::{Fault, Kind, Limits};
+pub use stops::Stop;
 pub use tag_buf::TagBuf;
 pub use tag_text::TagStep;
 pub use tags::Tag;
+
+#[cfg(test)]
+mod tests;
