@@ -12,9 +12,10 @@ fn read(buf: &mut TagBuf, text: &[u8]) -> (usize, Result<TagStep, TagError>)
     ensures { result.1 ≡ Ok TagStep.Done → is_last buf.new.state.phase ≡ true }
 {
     for i in 0..text.len() {
-        let answer = buf.step(char::from(text[i]));
-        if answer != Ok(TagStep::More) {
-            return (i + 1, answer);
+        match buf.step(char::from(text[i])) {
+            Ok(TagStep::More) => {}
+            Ok(TagStep::Done) => return (i + 1, Ok(TagStep::Done)),
+            Err(error) => return (i + 1, Err(error)),
         }
     }
     (text.len(), Ok(TagStep::More))
