@@ -8,7 +8,8 @@ use Rattle.rx_chars.specs.declared.syntax.Syntax.TheVariants.{Html, Xhtml}
 use Rattle.rx_grammar.specs.declared.faults.Kind.{Kind}
 use Rattle.rx_grammar.specs.declared.faults.Kind.TheVariants.{BadTag, RepeatedAttribute}
 use Rattle.rx_grammar.specs.References.{meaning, is_plain}
-use Rattle.rx_grammar.specs.Tags.{is_repeated}
+use Rattle.rx_grammar.specs.Tokens.{Tag}
+use Rattle.rx_grammar.specs.Tags.{SpellsTag, is_repeated}
 use Rattle.rx_grammar.specs.TagFaults.{TagFault, repeated}
 use Rattle.rx_reader.specs.declared.phases.TagPhase.{TagPhase}
 use Rattle.rx_reader.specs.declared.phases.TagAction.{TagAction}
@@ -21,8 +22,8 @@ use Rattle.rx_reader.specs.Tables.{move_of, run_move, is_last}
 use Rattle.rx_reader.specs.Values.{Value, is_run, no_meaning, plain_step, meant, stopped, run_step, value_step, run_end, value_end}
 use Rattle.rx_reader.specs.TagReader.{TagState, fresh, with_value, with_attribute, done_by, moved, checked, tag_step, tag_step_on, tag_on, tag_move_on, moves_on, parts_of}
 use Rattle.rx_reader.specs.Laws.{ReadsTag}
-use Rattle.rx_reader.proofs.Bools.{split, both}
-use Rattle.rx_reader.proofs.TagLaws.{spells_each, table_is_exact, tag_on-append, moves-append, through}
+use Rattle.rx_reader.proofs.Bools.{split, both, not_both_ways}
+use Rattle.rx_reader.proofs.TagLaws.{spells_each, reads_each, on_err, table_is_exact, tag_on-append, moves-append, through}
 use Rattle.rx_reader.proofs.TagSound.{tag_read}
 use Rattle.rx_tags.specs.declared.tag_text.TagStep.{TagStep}
 use Rattle.rx_tags.specs.declared.tag_text.TagStep.TheVariants.{More, Done}
@@ -130,12 +131,29 @@ on : (s : Syntax) (st : TagState) (chars : Chars) (c : ℕ) (r : Result TagState
     → tag_on s (meaning s) (Ok fresh) (chars ++ c ∷ []) ≡ r
 on s st chars c r run step = tag_on-append s (meaning s) (Ok fresh) chars (c ∷ []) ∙ (ap (λ o. tag_step_on s (meaning s) o c) run ∙ step)
 
+-- what is read and unfinished spells no tag
+no_tag_yet : (s : Syntax) (st : TagState) (chars : Chars) → tag_on s (meaning s) (Ok fresh) chars ≡ Ok st → is_last st.phase ≡ false → (spelled : Tag) → SpellsTag s chars spelled → ⊥
+no_tag_yet s st chars run open_yet spelled sp =
+    let r = reads_each s chars spelled sp in
+    let same_end : st ≡ r.last = let both_ways : Ok st ≡ Ok r.last = sym run ∙ r.run in cc in
+    not_both_ways (is_last st.phase) (ap (λ (x : TagState). is_last x.phase) same_end ∙ r.whole) open_yet
+
+-- what is refused begins nothing that spells a tag
+never : (s : Syntax) (chars : Chars) (kind : Kind) → tag_on s (meaning s) (Ok fresh) chars ≡ Err kind → (more : Chars) (spelled : Tag) → SpellsTag s (chars ++ more) spelled → ⊥
+never s chars kind run more spelled sp =
+    let r = reads_each s (chars ++ more) spelled sp in
+    let refused : tag_on s (meaning s) (Ok fresh) (chars ++ more) ≡ Err kind =
+      tag_on-append s (meaning s) (Ok fresh) chars more ∙ (ap (λ o. tag_on s (meaning s) o more) run ∙ on_err s (meaning s) kind more) in
+    let both_ways : Ok r.last ≡ Err kind = sym r.run ∙ refused in
+    cc
+
 pub tells : (old new : TagSoFar) (c : ℕ) (r : Result TagStep TagError) → StepGives old c r new → (chars : Chars) → Stands old chars → StepTells (chars ++ c ∷ []) r new
 tells old new c (Ok More) g chars h =
     let run : tag_on old.syntax (meaning old.syntax) (Ok fresh) (chars ++ c ∷ []) ≡ Ok new.state = on old.syntax old.state chars c (Ok new.state) h.run g.1.0 in
     subst (StepTells (chars ++ c ∷ []) (Ok More)) (sym g.2) (record {
       stands = record { run = run; may_step = record { unfinished = g.1.1; unrefused = h.may_step.unrefused }; unspent = h.unspent };
       begins = (table_is_exact old.syntax (meaning old.syntax) (chars ++ c ∷ []) new.state run g.1.1).begins;
+      unspelled = no_tag_yet old.syntax new.state (chars ++ c ∷ []) run g.1.1;
     })
 tells old new c (Ok Done) g chars h =
     let e : Ends (record { syntax = old.syntax; state = old.state }) c new.state = g.1 in
@@ -143,6 +161,7 @@ tells old new c (Ok Done) g chars h =
       (spells_each old.syntax (chars ++ c ∷ []) (parts_of new.state) (record { last = e.last; run = on old.syntax old.state chars c (Ok e.last) h.run e.step; whole = e.whole; is_tag = sym (ap parts_of e.kept) }))
 tells old new c (Err (Bad kind)) g chars h =
     subst (StepTells (chars ++ c ∷ []) (Err (Bad kind))) (sym g.2) (record {
+      unspelled = never old.syntax (chars ++ c ∷ []) kind (on old.syntax old.state chars c (Err kind) h.run g.1);
       bad_tag = λ e.
         ((table_is_exact old.syntax (meaning old.syntax) chars old.state h.run h.may_step.unfinished).refused c).0
           (bad_move old.syntax (meaning old.syntax) old.state c (move_of old.syntax old.state.phase c) (g.1 ∙ ap Err e));

@@ -1,10 +1,11 @@
 -- One tag while it is read: what contracts see, and what each answer tells of the characters so far.
-use Rattle.std.specs.Prelude.{◌≡◌, ℕ, Bool, true, false, Result, Ok, Err}
+use Rattle.std.specs.Prelude.{◌≡◌, ℕ, Bool, true, false, ◌++◌, Result, Ok, Err}
 use Rattle.rx_terms.specs.Text.{Chars}
 use Rattle.rx_chars.specs.declared.syntax.Syntax.{Syntax}
 use Rattle.rx_grammar.specs.declared.faults.Kind.{Kind}
 use Rattle.rx_grammar.specs.declared.faults.Kind.TheVariants.{BadTag, RepeatedAttribute}
 use Rattle.rx_grammar.specs.References.{meaning}
+use Rattle.rx_grammar.specs.Tokens.{Tag}
 use Rattle.rx_grammar.specs.Tags.{SpellsTag}
 use Rattle.rx_grammar.specs.TagFaults.{BeginsShape, BeginsNoShape, TagFault}
 use Rattle.rx_reader.specs.Tables.{is_last}
@@ -56,13 +57,16 @@ pub record Stands (tag : TagSoFar) (chars : Chars) : Type 0 where
   pub may_step : MayStep tag
   pub unspent : tag.spent ≡ false
 
--- They begin a tag and are none yet, and stand on.
+-- They stand on: they begin a tag, whatever its values hold, and spell none yet.
 pub record GoesOn (tag : TagSoFar) (chars : Chars) : Type 0 where
   pub stands : Stands tag chars
   pub begins : BeginsShape tag.syntax chars
+  pub unspelled : (spelled : Tag) → SpellsTag tag.syntax chars spelled → ⊥
 
--- What a fault tells: with these characters no tag begins, or they are a whole tag of XHTML in which a name stands twice.
+-- What a fault tells: no tag that is spelled goes on from these characters. Where the kind is BadTag, none does, whatever
+-- its values hold. Where it is RepeatedAttribute, they are a whole tag of XHTML in which a name stands twice.
 pub record RefusalTells (syntax : Syntax) (chars : Chars) (kind : Kind) : Type 0 where
+  pub unspelled : (more : Chars) (spelled : Tag) → SpellsTag syntax (chars ++ more) spelled → ⊥
   pub bad_tag : kind ≡ BadTag → BeginsNoShape syntax chars
   pub repeated : kind ≡ RepeatedAttribute → TagFault syntax RepeatedAttribute chars
 
