@@ -46,7 +46,8 @@ impl TagBuf {
     }
 
     /// Reads the tag's next character. `Done` comes exactly at the tag's `>`. `Bad` comes exactly where the reader has a
-    /// fault at this character, with its kind. After want of memory nothing else is answered until the tag is cleared.
+    /// fault at this character, with its kind: BadTag, UnknownReference, BadReference, StrictText, and at the `>` in XHTML
+    /// RepeatedAttribute. After want of memory nothing else is answered until the tag is cleared.
     pub fn step(&mut self, c: char) -> Result<TagStep, TagError>
         requires { MayStep self.old }
         ensures gives { StepGives self.old c result self.new }
