@@ -1,0 +1,66 @@
+-- Outside a value's phases no value is being read.
+use Rattle.std.proofs.Common.{◌≡◌, ◌∙◌, sym, ap, refl, subst, ℕ, [], ◌==◌, Bool, true, false, Some, None, Option, Result, Ok, Err, if◌then◌else◌}
+use Rattle.rx_terms.specs.Ascii.{quotation_mark, apostrophe, solidus, equals_sign, greater_than_sign, is_white_space}
+use Rattle.rx_terms.specs.Text.{Chars}
+use Rattle.rx_chars.specs.declared.syntax.Syntax.{Syntax}
+use Rattle.rx_grammar.specs.Shapes.{begins_tag, is_tag_char, begins_attribute, continues_attribute}
+use Rattle.rx_grammar.specs.declared.faults.Kind.{Kind}
+use Rattle.rx_reader.specs.declared.phases.TagPhase.{TagPhase}
+use Rattle.rx_reader.specs.declared.phases.TagPhase.TheVariants as phase
+use Rattle.rx_reader.specs.declared.phases.TagAction.{TagAction}
+use Rattle.rx_reader.specs.declared.phases.TagAction.TheVariants as action
+use Rattle.rx_reader.specs.Tables.{move_of, is_html}
+use Rattle.rx_reader.specs.Values.{Value, no_value_yet, value_end}
+use Rattle.rx_reader.specs.TagReader.{TagState, with_attribute}
+use Rattle.rx_reader.proofs.Bools.{split, not_both_ways}
+use Rattle.rx_tags.specs.Pairs.{Pairs}
+use Rattle.rx_tags.specs.TagReads.{is_value_phase, IsSettled, ActGives, state_of}
+
+abbrev pub NextOk : TagPhase → Option (TagPhase × TagAction) → Type 0
+NextOk p None = Unit {0}
+NextOk p (Some (q, action.Value)) = is_value_phase q ≡ true
+NextOk p (Some (q, action.Add)) = Unit {0}
+NextOk p (Some (q, action.AddKey)) = Unit {0}
+NextOk p (Some (q, _)) = is_value_phase p ≡ false
+
+choose : (p : TagPhase) (b : Bool) (x y : Option (TagPhase × TagAction)) → NextOk p x → NextOk p y → NextOk p (if b then x else y)
+choose p b x y h k = split (NextOk p) b x y (λ _. h) (λ _. k)
+
+pub next_ok : (s : Syntax) (p : TagPhase) (c : ℕ) → NextOk p (move_of s p c)
+next_ok s phase.Start c = choose phase.Start (begins_tag s c) _ _ refl (choose phase.Start (c == solidus) _ _ refl tt)
+next_ok s phase.Name c = choose phase.Name (is_white_space c) _ _ refl (choose phase.Name (c == solidus) _ _ refl (choose phase.Name (c == greater_than_sign) _ _ refl (choose phase.Name (is_tag_char s c) _ _ refl tt)))
+next_ok s phase.Gap c = choose phase.Gap (is_white_space c) _ _ refl (choose phase.Gap (c == solidus) _ _ refl (choose phase.Gap (c == greater_than_sign) _ _ refl (choose phase.Gap (begins_attribute s c) _ _ refl tt)))
+next_ok s phase.Solidus c = choose phase.Solidus (c == greater_than_sign) _ _ refl (choose phase.Solidus (is_html s) _ _ (choose phase.Solidus (is_white_space c) _ _ refl (choose phase.Solidus (c == solidus) _ _ refl (choose phase.Solidus (c == greater_than_sign) _ _ refl (choose phase.Solidus (begins_attribute s c) _ _ refl tt)))) tt)
+next_ok s phase.Key c = choose phase.Key (is_white_space c) _ _ refl (choose phase.Key (c == equals_sign) _ _ refl (choose phase.Key (c == solidus) _ _ (choose phase.Key (is_html s) _ _ tt tt) (choose phase.Key (c == greater_than_sign) _ _ (choose phase.Key (is_html s) _ _ tt tt) (choose phase.Key (continues_attribute s c) _ _ refl tt))))
+next_ok s phase.AfterKey c = choose phase.AfterKey (is_white_space c) _ _ refl (choose phase.AfterKey (c == equals_sign) _ _ refl (choose phase.AfterKey (is_html s) _ _ (choose phase.AfterKey (c == solidus) _ _ tt (choose phase.AfterKey (c == greater_than_sign) _ _ tt (choose phase.AfterKey (begins_attribute s c) _ _ tt tt))) tt))
+next_ok s phase.BeforeValue c = choose phase.BeforeValue (is_white_space c) _ _ refl (choose phase.BeforeValue (c == quotation_mark) _ _ refl (choose phase.BeforeValue (c == apostrophe) _ _ refl (choose phase.BeforeValue (c == greater_than_sign) _ _ tt (choose phase.BeforeValue (is_html s) _ _ refl tt))))
+next_ok s phase.DoubleQuoted c = choose phase.DoubleQuoted (c == quotation_mark) _ _ tt refl
+next_ok s phase.SingleQuoted c = choose phase.SingleQuoted (c == apostrophe) _ _ tt refl
+next_ok s phase.Unquoted c = choose phase.Unquoted (is_white_space c) _ _ tt (choose phase.Unquoted (c == greater_than_sign) _ _ tt refl)
+next_ok s phase.AfterValue c = choose phase.AfterValue (is_white_space c) _ _ refl (choose phase.AfterValue (c == solidus) _ _ refl (choose phase.AfterValue (c == greater_than_sign) _ _ refl (choose phase.AfterValue (is_html s) _ _ (choose phase.AfterValue (begins_attribute s c) _ _ refl tt) tt)))
+next_ok s phase.EndStart c = choose phase.EndStart (begins_tag s c) _ _ refl tt
+next_ok s phase.EndName c = choose phase.EndName (is_white_space c) _ _ refl (choose phase.EndName (c == greater_than_sign) _ _ refl (choose phase.EndName (is_tag_char s c) _ _ refl tt))
+next_ok s phase.EndGap c = choose phase.EndGap (is_white_space c) _ _ refl (choose phase.EndGap (c == greater_than_sign) _ _ refl tt)
+next_ok s phase.Opened c = tt
+next_ok s phase.Emptied c = tt
+next_ok s phase.Closed c = tt
+
+abbrev value_in : Result TagState Kind → Value
+value_in (Ok s) = s.value
+value_in (Err k) = no_value_yet
+
+-- an attribute that is whole leaves no value
+left : (q : TagPhase) (s : TagState) (key : Chars) (r : Result Chars Kind) (t : TagState) → with_attribute q s key r ≡ Ok t → t.value ≡ no_value_yet
+left q s key (Ok v) t h = ap value_in (sym h)
+left q s key (Err k) t h = absurd (cc)
+
+by_action : (s : Syntax) (p q : TagPhase) (a : TagAction) (c : ℕ) (name more : Chars) (old new : Pairs) → NextOk p (Some (q, a)) → IsSettled p old.value → ActGives s a c name old (Ok tt) more new → IsSettled q new.value
+by_action s p q action.Skip c name more old new n h g k = ap value_in (sym (g p q)) ∙ h n
+by_action s p q action.Name c name more old new n h g k = ap value_in (sym (g p q)) ∙ h n
+by_action s p q action.Key c name more old new n h g k = ap value_in (sym (g p q)) ∙ h n
+by_action s p q action.Value c name more old new n h g k = absurd (not_both_ways (is_value_phase q) n k)
+by_action s p q action.Add c name more old new n h g k = left q (state_of p name old) [] (value_end s old.value) (state_of q more new) (g p q)
+by_action s p q action.AddKey c name more old new n h g k = left q (state_of p name old) _ (value_end s old.value) (state_of q more new) (g p q)
+
+pub settled : (s : Syntax) (p q : TagPhase) (a : TagAction) (c : ℕ) (name more : Chars) (old new : Pairs) → move_of s p c ≡ Some (q, a) → IsSettled p old.value → ActGives s a c name old (Ok tt) more new → IsSettled q new.value
+settled s p q a c name more old new e h g = by_action s p q a c name more old new (subst (NextOk p) e (next_ok s p c)) h g

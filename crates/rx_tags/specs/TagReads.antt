@@ -1,0 +1,73 @@
+-- A tag as the buffer has it.
+use Rattle.std.specs.Prelude.{◌≡◌, ℕ, Bool, true, false, Result, Ok, Err}
+use Rattle.rx_terms.specs.Text.{Chars}
+use Rattle.rx_chars.specs.declared.syntax.Syntax.{Syntax}
+use Rattle.rx_grammar.specs.References.{meaning}
+use Rattle.rx_grammar.specs.Tags.{firsts, is_repeated}
+use Rattle.rx_grammar.specs.declared.faults.Kind.TheVariants.{RepeatedAttribute}
+use Rattle.rx_reader.specs.declared.phases.TagPhase.{TagPhase}
+use Rattle.rx_reader.specs.declared.phases.TagPhase.TheVariants as phase
+use Rattle.rx_reader.specs.declared.phases.TagAction.{TagAction}
+use Rattle.rx_reader.specs.Values.{Value, no_value_yet}
+use Rattle.rx_reader.specs.Tables.{is_last}
+use Rattle.rx_reader.specs.TagReader.{TagState, done_by, tag_move, tag_step}
+use Rattle.rx_tags.specs.Pairs.{Pairs}
+use Rattle.rx_tags.specs.declared.tag_text.TagStep.{TagStep}
+use Rattle.rx_tags.specs.declared.tag_text.TagStep.TheVariants.{More, Done}
+use Rattle.rx_tags.specs.declared.pairs.TagError.{TagError}
+use Rattle.rx_tags.specs.declared.pairs.TagError.TheVariants.{Bad, NoMemory}
+
+pub record TagRead : Type 0 where
+  pub syntax : Syntax
+  pub state : TagState
+
+abbrev pub state_of : TagPhase → Chars → Pairs → TagState
+state_of phase name pairs = record { phase = phase; name = name; attributes = pairs.whole; key = pairs.key; value = pairs.value }
+
+-- A value is read in these phases alone.
+abbrev pub is_value_phase : TagPhase → Bool
+is_value_phase phase.DoubleQuoted = true
+is_value_phase phase.SingleQuoted = true
+is_value_phase phase.Unquoted = true
+is_value_phase _ = false
+
+abbrev pub IsSettled : TagPhase → Value → Type 0
+IsSettled phase value = is_value_phase phase ≡ false → value ≡ no_value_yet
+
+-- what an action does, whatever the phases before and after it
+abbrev pub ActGives : Syntax → TagAction → ℕ → Chars → Pairs → Result (Unit {0}) TagError → Chars → Pairs → Type 0
+ActGives syntax action c name pairs (Ok done) new_name new_pairs =
+    (p q : TagPhase) → done_by syntax (meaning syntax) (state_of p name pairs) c q action ≡ Ok (state_of q new_name new_pairs)
+ActGives syntax action c name pairs (Err (Bad kind)) new_name new_pairs =
+    (p q : TagPhase) → done_by syntax (meaning syntax) (state_of p name pairs) c q action ≡ Err kind
+ActGives syntax action c name pairs (Err NoMemory) new_name new_pairs = Unit {0}
+
+-- one more character, names that stand twice not being looked at
+abbrev pub MoveGives : TagRead → ℕ → Result (Unit {0}) TagError → TagRead → Type 0
+MoveGives old c (Ok done) new = tag_move old.syntax (meaning old.syntax) old.state c ≡ Ok new.state
+MoveGives old c (Err (Bad kind)) new = tag_move old.syntax (meaning old.syntax) old.state c ≡ Err kind
+MoveGives old c (Err NoMemory) new = Unit {0}
+
+-- the state without the attributes whose name stands before them
+abbrev pub firsts_of : TagState → TagState
+firsts_of s = record { phase = s.phase; name = s.name; attributes = firsts s.attributes; key = s.key; value = s.value }
+
+-- the reader has read the tag to its `>`, and it is kept without the attributes whose name stands before them
+pub record Ends (old : TagRead) (c : ℕ) (new : TagState) : Type 0 where
+  pub last : TagState
+  pub step : tag_step old.syntax (meaning old.syntax) old.state c ≡ Ok last
+  pub whole : is_last last.phase ≡ true
+  pub kept : new ≡ firsts_of last
+
+-- one more character
+abbrev pub ReadGives : TagRead → ℕ → Result TagStep TagError → TagState → Type 0
+ReadGives old c (Ok More) new = (tag_step old.syntax (meaning old.syntax) old.state c ≡ Ok new) × (is_last new.phase ≡ false)
+ReadGives old c (Ok Done) new = Ends old c new
+ReadGives old c (Err (Bad kind)) new = tag_step old.syntax (meaning old.syntax) old.state c ≡ Err kind
+ReadGives old c (Err NoMemory) new = Unit {0}
+
+-- names that stand twice
+abbrev pub FinishGives : TagRead → Result (Unit {0}) TagError → TagState → Type 0
+FinishGives old (Ok done) new = (is_repeated old.syntax old.state.attributes ≡ false) × (new ≡ firsts_of old.state)
+FinishGives old (Err (Bad kind)) new = (is_repeated old.syntax old.state.attributes ≡ true) × (kind ≡ RepeatedAttribute)
+FinishGives old (Err NoMemory) new = Unit {0}

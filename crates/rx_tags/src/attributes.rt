@@ -1,0 +1,263 @@
+//! The attributes of one tag in one buffer.
+ghost use Rattle.std.specs.Prelude.{◌≡◌, ℕ, ◌<◌, ◌≤◌, List, [], ◌∷◌, ◌++◌, ◌||◌, not, length, IfOk, OnErr, OnOk, encode_utf8, encode_utf8_all, Some, slice_get};
+ghost use Rattle.std.specs.Str.{chars, IsUtf8};
+ghost use Rattle.rx_grammar.specs.Names.{same};
+ghost use Rattle.rx_grammar.specs.Tags.{firsts, has_repeat};
+ghost use Rattle.rx_tags.specs.Reading.{piece, rows_read, RowsFit};
+ghost use Rattle.rx_tags.specs.Repeats.{has_text};
+
+use rx_terms::NoMemory;
+use std::alloc::Global;
+use std::collections::BTreeSet;
+use std::marker::Model;
+
+/// Where an attribute stands in the buffer: its name from `start` to `middle`, its value from there to `end`.
+#[derive(Clone, Copy, Drop)]
+pub(crate) struct Row {
+    start: usize,
+    middle: usize,
+    end: usize,
+}
+
+/// Names and values one after another in one buffer: those of the attributes that are whole, and of the one that is read.
+#[derive(Drop)]
+pub(crate) struct Attributes {
+    text: Vec<u8>,
+    rows: Vec<Row>,
+    // the attribute that is read: its name from `start` to `middle`, what is known of its value from there to `end`, and
+    // after that nothing or a run that may become a reference
+    start: usize,
+    middle: usize,
+    end: usize,
+}
+
+impl Model for Attributes {
+    ghost use Rattle.rx_tags.specs.Reading.{Reading, read_as, Fits};
+
+    ghost Value = { Reading };
+
+    ghost view = { λ a. read_as a.text.items a.rows.items a.start a.middle a.end };
+
+    ghost invariant = { λ a. Fits a.text.items a.rows.items a.start a.middle a.end };
+}
+
+impl Attributes {
+    ghost use Rattle.rx_tags.specs.Reading.{nothing_read};
+
+    pub(crate) fn new(alloc: Global) -> Attributes
+        ensures { result ≡ nothing_read }
+    {
+        Attributes {
+            text: Vec::new(alloc),
+            rows: Vec::new(alloc),
+            start: 0,
+            middle: 0,
+            end: 0,
+        }
+    }
+
+    /// Forgets all, and keeps the memory.
+    pub(crate) fn clear(&mut self)
+        ensures { self.new ≡ nothing_read }
+    {
+        self.text.clear();
+        self.rows.clear();
+        self.start = 0;
+        self.middle = 0;
+        self.end = 0;
+    }
+
+    /// One more character of the name, where no value was begun.
+    pub(crate) fn push_key(&mut self, c: char) -> Result<(), NoMemory>
+        requires known { self.old.known ≡ [] }
+        requires pending { self.old.pending ≡ [] }
+        ensures ok { OnOk result (self.new ≡ record self.old { key = self.old.key ++ c ∷ [] }) }
+        ensures err { OnErr result (self.new ≡ self.old) }
+    {
+        push_char(&mut self.text, c)?;
+        self.middle = self.text.len();
+        self.end = self.middle;
+        Ok(())
+    }
+
+    /// One more character of the value. A run before it is text.
+    pub(crate) fn push(&mut self, c: char) -> Result<(), NoMemory>
+        ensures ok { OnOk result (self.new ≡ record self.old { known = self.old.known ++ (self.old.pending ++ c ∷ []); pending = [] }) }
+        ensures err { OnErr result (self.new ≡ self.old) }
+    {
+        push_char(&mut self.text, c)?;
+        self.end = self.text.len();
+        Ok(())
+    }
+
+    /// The character that begins a run. A run before it is text.
+    pub(crate) fn begin_run(&mut self, c: char) -> Result<(), NoMemory>
+        ensures ok { OnOk result (self.new ≡ record self.old { known = self.old.known ++ self.old.pending; pending = c ∷ [] }) }
+        ensures err { OnErr result (self.new ≡ self.old) }
+    {
+        let end = self.text.len();
+        push_char(&mut self.text, c)?;
+        self.end = end;
+        Ok(())
+    }
+
+    /// One more character of the run.
+    pub(crate) fn push_run(&mut self, c: char) -> Result<(), NoMemory>
+        ensures ok { OnOk result (self.new ≡ record self.old { pending = self.old.pending ++ c ∷ [] }) }
+        ensures err { OnErr result (self.new ≡ self.old) }
+    {
+        push_char(&mut self.text, c)?;
+        Ok(())
+    }
+
+    /// The character for which the run stands takes its place.
+    pub(crate) fn replace_run(&mut self, c: char) -> Result<(), NoMemory>
+        ensures ok { OnOk result (self.new ≡ record self.old { known = self.old.known ++ c ∷ []; pending = [] }) }
+        ensures err { OnErr result (self.new ≡ self.old) }
+    {
+        let mut room = [0; 4];
+        let bytes = c.encode_utf8(&mut room).as_bytes();
+        self.text.reserve(4)?;
+        self.text.truncate(self.end);
+        self.text.extend_from_slice(bytes)?;
+        self.end = self.text.len();
+        Ok(())
+    }
+
+    /// The attribute is whole. A run at its end is text.
+    pub(crate) fn add(&mut self) -> Result<(), NoMemory>
+        ensures ok { OnOk result (self.new ≡ record { whole = self.old.whole ++ (self.old.key, self.old.known ++ self.old.pending) ∷ []; key = []; known = []; pending = [] }) }
+        ensures err { OnErr result (self.new ≡ self.old) }
+    {
+        let end = self.text.len();
+        let row = Row {
+            start: self.start,
+            middle: self.middle,
+            end,
+        };
+        if self.rows.push(row).is_err() {
+            return Err(NoMemory);
+        }
+        self.start = end;
+        self.middle = end;
+        self.end = end;
+        Ok(())
+    }
+
+    /// The attribute is whole, and the character begins the name of the next one.
+    pub(crate) fn add_key(&mut self, c: char) -> Result<(), NoMemory>
+        ensures ok { OnOk result (self.new ≡ record { whole = self.old.whole ++ (self.old.key, self.old.known ++ self.old.pending) ∷ []; key = c ∷ []; known = []; pending = [] }) }
+        ensures err { OnErr result (self.new ≡ self.old) }
+    {
+        let end = self.text.len();
+        push_char(&mut self.text, c)?;
+        let row = Row {
+            start: self.start,
+            middle: self.middle,
+            end,
+        };
+        if self.rows.push(row).is_err() {
+            self.text.truncate(end);
+            return Err(NoMemory);
+        }
+        self.start = end;
+        self.middle = self.text.len();
+        self.end = self.middle;
+        Ok(())
+    }
+
+    /// The run, as it is written.
+    pub(crate) fn run(&self) -> &str
+        ensures { result.now ≡ encode_utf8_all self.now.pending }
+    {
+        text_between(&self.text, self.end, self.text.len())
+    }
+
+    /// How many attributes are whole.
+    pub(crate) fn count(&self) -> usize
+        ensures { result ≡ length self.now.whole }
+    {
+        self.rows.len()
+    }
+
+    /// The name and the value of an attribute that is whole.
+    pub(crate) fn at(&self, i: usize) -> (&str, &str)
+        requires { i < length self.now.whole }
+        ensures { slice_get self.now.whole i ≡ Some (chars result.0.now, chars result.1.now) }
+    {
+        let row = self.rows[i];
+        (
+            text_between(&self.text, row.start, row.middle),
+            text_between(&self.text, row.middle, row.end),
+        )
+    }
+}
+
+impl Attributes {
+    /// Forgets each attribute whose name stands before it, and tells whether there was one.
+    pub(crate) fn keep_firsts(&mut self, alloc: Global) -> Result<bool, NoMemory>
+        ensures kept { OnOk result (self.new ≡ record self.old { whole = firsts self.old.whole }) }
+        ensures repeated { IfOk result (λ repeated. repeated ≡ has_repeat self.old.whole) }
+        ensures err { OnErr result (self.new ≡ self.old) }
+    {
+        if self.rows.len() < 2 {
+            return Ok(false);
+        }
+        let kept = first_rows(alloc, &self.text, &self.rows)?;
+        if kept.len() == self.rows.len() {
+            return Ok(false);
+        }
+        self.rows = kept;
+        Ok(true)
+    }
+}
+
+// The rows whose names stand in no row before them.
+fn first_rows(alloc: Global, text: &[u8], rows: &[Row]) -> Result<Vec<Row>, NoMemory>
+    requires { RowsFit text.now (length text.now) rows.now }
+    ensures read { IfOk result (λ kept. rows_read text.now kept.items ≡ firsts (rows_read text.now rows.now)) }
+    ensures fit { IfOk result (λ kept. (limit : ℕ) → RowsFit text.now limit rows.now → RowsFit text.now limit kept.items) }
+{
+    let mut names = BTreeSet::new(alloc);
+    let mut kept = Vec::new(alloc);
+    for row in rows {
+        if !add_name(&mut names, text_between(text, row.start, row.middle))? {
+            continue;
+        }
+        if kept.push(*row).is_err() {
+            return Err(NoMemory);
+        }
+    }
+    Ok(kept)
+}
+
+// Adds a name, and tells whether it is new.
+fn add_name<'a>(names: &mut BTreeSet<&'a str>, name: &'a str) -> Result<bool, NoMemory>
+    ensures is_new { IfOk result (λ is_new. is_new ≡ not (has_text names.old name.now)) }
+    ensures added { OnOk result ((text : List ℕ) → has_text names.new text ≡ (same name.now text || has_text names.old text)) }
+{
+    match names.insert(name) {
+        Ok(is_new) => Ok(is_new),
+        Err(_) => Err(NoMemory),
+    }
+}
+
+fn push_char(text: &mut Vec<u8>, c: char) -> Result<(), NoMemory>
+    ensures ok { OnOk result (text.new.items ≡ text.old.items ++ encode_utf8 c) }
+    ensures err { OnErr result (text.new.items ≡ text.old.items) }
+{
+    let mut room = [0; 4];
+    let bytes = c.encode_utf8(&mut room).as_bytes();
+    text.extend_from_slice(bytes)?;
+    Ok(())
+}
+
+// The bytes from one place to another. They are known to be UTF-8, so they aren't looked at again.
+fn text_between(bytes: &[u8], start: usize, end: usize) -> &str
+    requires rises { start ≤ end }
+    requires within { end ≤ length bytes.now }
+    requires utf8 { IsUtf8 (piece bytes.now start end) }
+    ensures { result.now ≡ piece bytes.now start end }
+{
+    unsafe { str::from_utf8_unchecked(&bytes[start..end]) }
+}

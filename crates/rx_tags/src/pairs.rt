@@ -1,0 +1,206 @@
+//! The attributes of a tag while their values are read.
+ghost use Rattle.std.specs.Prelude.{◌≡◌, ℕ, List, [], ◌∷◌, ◌++◌, IfErr, OnErr, OnOk};
+ghost use Rattle.rx_terms.specs.Ascii.{ampersand};
+ghost use Rattle.rx_reader.specs.Values.{no_value_yet};
+ghost use Rattle.rx_tags.specs.Pairs as ends;
+
+use crate::attributes::Attributes;
+use crate::references::meaning;
+use crate::values::{ValueMove, no_meaning, value_move};
+use rx_chars::Syntax;
+use rx_grammar::Kind;
+use rx_reader::RunPhase;
+use rx_terms::NoMemory;
+use std::alloc::Global;
+use std::marker::Model;
+
+/// Why a step gives nothing.
+#[derive(Clone, Copy, Debug, PartialEq, Eq)]
+pub enum TagError {
+    /// The tag has a fault of this kind at this character.
+    Bad(Kind),
+    /// There was no memory.
+    NoMemory,
+}
+
+/// The attributes that are whole, and the one that is read with the phase of its value.
+#[derive(Drop)]
+pub(crate) struct Pairs {
+    attributes: Attributes,
+    run: RunPhase,
+}
+
+impl Model for Pairs {
+    ghost use Rattle.rx_tags.specs.Pairs.{Pairs as PairsRead, pairs_read, IsPending};
+
+    ghost Value = { PairsRead };
+
+    ghost view = { λ p. pairs_read p.run p.attributes };
+
+    ghost invariant = { λ p. IsPending p.run p.attributes.pending };
+}
+
+impl Pairs {
+    ghost use Rattle.rx_tags.specs.Pairs.{no_pairs, TakeGives, AddGives};
+
+    pub(crate) fn new(alloc: Global) -> Pairs
+        ensures { result ≡ no_pairs }
+    {
+        Pairs {
+            attributes: Attributes::new(alloc),
+            run: RunPhase::Plain,
+        }
+    }
+
+    /// Forgets all, and keeps the memory.
+    pub(crate) fn clear(&mut self)
+        ensures { self.new ≡ no_pairs }
+    {
+        self.attributes.clear();
+        self.run = RunPhase::Plain;
+    }
+
+    /// One more character of the name, where no value was begun.
+    pub(crate) fn push_key(&mut self, c: char) -> Result<(), TagError>
+        requires { self.old.value ≡ no_value_yet }
+        ensures ok { OnOk result (self.new ≡ record self.old { key = self.old.key ++ c ∷ [] }) }
+        ensures err { OnErr result (self.new ≡ self.old) }
+        ensures memory { IfErr result (λ error. error ≡ TagError.NoMemory) }
+    {
+        match self.attributes.push_key(c) {
+            Ok(()) => Ok(()),
+            Err(NoMemory) => Err(TagError::NoMemory),
+        }
+    }
+
+    /// One more character of the value, in which references are decoded.
+    pub(crate) fn take(&mut self, syntax: Syntax, c: char) -> Result<(), TagError>
+        ensures gives { TakeGives syntax self.old c result self.new }
+        ensures err { OnErr result (self.new ≡ self.old) }
+    {
+        match value_move(syntax, self.run, c) {
+            ValueMove::Begins => {
+                if self.attributes.begin_run(c).is_err() {
+                    return Err(TagError::NoMemory);
+                }
+                self.run = RunPhase::Ampersand;
+                Ok(())
+            }
+            ValueMove::Is(given) => {
+                if self.attributes.push(given).is_err() {
+                    return Err(TagError::NoMemory);
+                }
+                self.run = RunPhase::Plain;
+                Ok(())
+            }
+            ValueMove::Goes(next) => {
+                if self.attributes.push_run(c).is_err() {
+                    return Err(TagError::NoMemory);
+                }
+                self.run = next;
+                Ok(())
+            }
+            ValueMove::Closes => {
+                let body = body_of(self.attributes.run());
+                let Some(given) = meaning(syntax, body) else {
+                    return Err(TagError::Bad(no_meaning(self.run)));
+                };
+                if self.attributes.replace_run(given).is_err() {
+                    return Err(TagError::NoMemory);
+                }
+                self.run = RunPhase::Plain;
+                Ok(())
+            }
+            ValueMove::Bad => Err(TagError::Bad(Kind::StrictText)),
+        }
+    }
+
+    /// The attribute that is read is whole.
+    pub(crate) fn add(&mut self, syntax: Syntax) -> Result<(), TagError>
+        ensures gives { AddGives syntax self.old result self.new }
+        ensures err { OnErr result (self.new ≡ self.old) }
+    {
+        if !may_end(syntax, self.run) {
+            return Err(TagError::Bad(Kind::StrictText));
+        }
+        match self.attributes.add() {
+            Ok(()) => {
+                self.run = RunPhase::Plain;
+                Ok(())
+            }
+            Err(NoMemory) => Err(TagError::NoMemory),
+        }
+    }
+}
+
+impl Pairs {
+    ghost use Rattle.rx_tags.specs.Pairs.{AddKeyGives};
+
+    /// The attribute that is read is whole, and the character begins the name of the next one.
+    pub(crate) fn add_key(&mut self, syntax: Syntax, c: char) -> Result<(), TagError>
+        ensures gives { AddKeyGives syntax self.old c result self.new }
+        ensures err { OnErr result (self.new ≡ self.old) }
+    {
+        if !may_end(syntax, self.run) {
+            return Err(TagError::Bad(Kind::StrictText));
+        }
+        match self.attributes.add_key(c) {
+            Ok(()) => {
+                self.run = RunPhase::Plain;
+                Ok(())
+            }
+            Err(NoMemory) => Err(TagError::NoMemory),
+        }
+    }
+}
+
+impl Pairs {
+    ghost use Rattle.std.specs.Prelude.{IfOk};
+    ghost use Rattle.rx_grammar.specs.Tags.{firsts, has_repeat};
+
+    /// Forgets each attribute whose name stands before it, and tells whether there was one.
+    pub(crate) fn keep_firsts(&mut self, alloc: Global) -> Result<bool, NoMemory>
+        ensures kept { OnOk result (self.new ≡ record self.old { whole = firsts self.old.whole }) }
+        ensures repeated { IfOk result (λ repeated. repeated ≡ has_repeat self.old.whole) }
+        ensures err { OnErr result (self.new ≡ self.old) }
+    {
+        self.attributes.keep_firsts(alloc)
+    }
+}
+
+impl Pairs {
+    ghost use Rattle.std.specs.Prelude.{◌<◌, length, slice_get, Some};
+    ghost use Rattle.std.specs.Str.{chars};
+
+    /// How many attributes are whole.
+    pub(crate) fn count(&self) -> usize
+        ensures { result ≡ length self.now.whole }
+    {
+        self.attributes.count()
+    }
+
+    /// The name and the value of an attribute that is whole.
+    pub(crate) fn at(&self, i: usize) -> (&str, &str)
+        requires { i < length self.now.whole }
+        ensures { slice_get self.now.whole i ≡ Some (chars result.0.now, chars result.1.now) }
+    {
+        self.attributes.at(i)
+    }
+}
+
+// Whether a value may end in this phase.
+fn may_end(syntax: Syntax, run: RunPhase) -> bool
+    ensures { result ≡ ends.may_end syntax run }
+{
+    syntax == Syntax::Html || run == RunPhase::Plain
+}
+
+// What stands after the `&` of a run.
+fn body_of(run: &str) -> &str
+    ensures { (body : List ℕ) → run.now ≡ ampersand ∷ body → result.now ≡ body }
+{
+    match run.strip_prefix("&") {
+        Some(body) => body,
+        None => run,
+    }
+}

@@ -1,0 +1,99 @@
+//! One tag that is read a character at a time.
+ghost use Rattle.std.specs.Prelude.{◌≡◌, true, [], ◌∷◌, ◌++◌, IfOk};
+ghost use Rattle.rx_terms.specs.Text.{Chars};
+ghost use Rattle.rx_reader.specs.Tables.{is_last};
+ghost use Rattle.rx_reader.specs.TagReader.{parts_of};
+ghost use Rattle.rx_tags.specs.Seen.{tag_seen};
+ghost use Rattle.rx_tags.specs.TagBufs.{no_tag, MayStep, StepGives, Stands, StepTells};
+
+use crate::pairs::TagError;
+use crate::tag_text::{TagStep, TagText};
+use crate::tags::Tag;
+use rx_chars::Syntax;
+use rx_terms::NoMemory;
+use std::alloc::Global;
+use std::marker::Model;
+
+/// Reads the characters of one tag after its `<`, and lends the tag when it is whole. A contract sees how the reader
+/// stands after these characters, and whether a fault or want of memory was answered.
+#[derive(Drop)]
+pub struct TagBuf {
+    text: TagText,
+    alloc: Global,
+    refused: bool,
+    spent: bool,
+}
+
+impl Model for TagBuf {
+    ghost use Rattle.rx_tags.specs.TagBufs.{TagSoFar};
+
+    ghost Value = { TagSoFar };
+
+    ghost view = { λ buf. record { syntax = buf.text.syntax; state = buf.text.state; refused = buf.refused; spent = buf.spent } };
+}
+
+impl TagBuf {
+    /// Before the first character of a tag.
+    pub fn new(alloc: Global, syntax: Syntax) -> Result<TagBuf, NoMemory>
+        ensures { IfOk result (λ buf. buf ≡ no_tag syntax) }
+    {
+        Ok(TagBuf {
+            text: TagText::new(alloc, syntax),
+            alloc,
+            refused: false,
+            spent: false,
+        })
+    }
+
+    /// Reads the tag's next character. `Done` comes exactly at the tag's `>`. `Bad` comes exactly where the reader has a
+    /// fault at this character, with its kind: BadTag, UnknownReference, BadReference, StrictText, and at the `>` in XHTML
+    /// RepeatedAttribute. After want of memory nothing else is answered until the tag is cleared.
+    pub fn step(&mut self, c: char) -> Result<TagStep, TagError>
+        requires { MayStep self.old }
+        ensures gives { StepGives self.old c result self.new }
+        ensures tells { (chars : Chars) → Stands self.old chars → StepTells (chars ++ c ∷ []) result self.new }
+    {
+        self.read(c)
+    }
+
+    fn read(&mut self, c: char) -> Result<TagStep, TagError>
+        requires { MayStep self.old }
+        ensures { StepGives self.old c result self.new }
+    {
+        if self.spent {
+            return Err(TagError::NoMemory);
+        }
+        match self.text.step(self.alloc, c) {
+            Ok(step) => Ok(step),
+            Err(TagError::Bad(kind)) => {
+                self.text.clear();
+                self.refused = true;
+                Err(TagError::Bad(kind))
+            }
+            Err(TagError::NoMemory) => {
+                self.text.clear();
+                self.spent = true;
+                Err(TagError::NoMemory)
+            }
+        }
+    }
+
+    /// The tag that was read, with the byte offsets of its `<` and its `>`.
+    pub fn tag(&self, token: u64, at: u64) -> Tag<'_>
+        requires { is_last self.now.state.phase ≡ true }
+        ensures tag { tag_seen result ≡ parts_of self.now.state }
+        ensures token { result.token ≡ token }
+        ensures at { result.at ≡ at }
+    {
+        Tag::of(&self.text, token, at)
+    }
+
+    /// Forgets the tag, so that another one can be read. The memory is kept.
+    pub fn clear(&mut self)
+        ensures { self.new ≡ no_tag self.old.syntax }
+    {
+        self.text.clear();
+        self.refused = false;
+        self.spent = false;
+    }
+}

@@ -1,0 +1,198 @@
+//! The text of one tag, read a character at a time.
+ghost use Rattle.std.specs.Prelude.{◌≡◌, [], ◌∷◌, ◌++◌, ◌&&◌, not, IfErr, OnErr, OnOk, string_bytes};
+ghost use Rattle.std.specs.Str.{chars};
+ghost use Rattle.rx_reader.specs.Tables.{is_html};
+ghost use Rattle.rx_reader.specs.Values.{no_value_yet};
+ghost use Rattle.rx_tags.specs.TagReads.{ActGives};
+
+use crate::moves::{is_last, move_at};
+use crate::pairs::{Pairs, TagError};
+use crate::values::cased;
+use rx_chars::Syntax;
+use rx_grammar::Kind;
+use rx_reader::{TagAction, TagPhase};
+use rx_terms::NoMemory;
+use std::alloc::Global;
+use std::marker::Model;
+
+/// What one more character makes of a tag.
+#[derive(Clone, Copy, Debug, PartialEq, Eq)]
+pub enum TagStep {
+    /// The tag goes on.
+    More,
+    /// The character was the tag's `>`.
+    Done,
+}
+
+/// The characters of one tag after its `<`, as far as they were read. Names and values are decoded into one buffer.
+#[derive(Drop)]
+pub(crate) struct TagText {
+    syntax: Syntax,
+    phase: TagPhase,
+    name: String,
+    pairs: Pairs,
+}
+
+impl Model for TagText {
+    ghost use Rattle.std.specs.Prelude.{string_bytes};
+    ghost use Rattle.std.specs.Str.{chars};
+    ghost use Rattle.rx_tags.specs.TagReads.{TagRead, state_of, IsSettled};
+
+    ghost Value = { TagRead };
+
+    ghost view = { λ t. record { syntax = t.syntax; state = state_of t.phase (chars (string_bytes t.name)) t.pairs } };
+
+    ghost invariant = { λ t. IsSettled t.phase t.pairs.value };
+}
+
+impl TagText {
+    ghost use Rattle.rx_tags.specs.TagReads.{MoveGives};
+    ghost use Rattle.rx_reader.specs.TagReader.{fresh};
+
+    pub(crate) fn new(alloc: Global, syntax: Syntax) -> TagText
+        ensures { result ≡ record { syntax = syntax; state = fresh } }
+    {
+        TagText {
+            syntax,
+            phase: TagPhase::Start,
+            name: String::new(alloc),
+            pairs: Pairs::new(alloc),
+        }
+    }
+
+    /// Forgets the tag, and keeps the memory.
+    pub(crate) fn clear(&mut self)
+        ensures { self.new ≡ record self.old { state = fresh } }
+    {
+        self.phase = TagPhase::Start;
+        self.name.clear();
+        self.pairs.clear();
+    }
+
+    /// Reads one more character. Names that stand twice aren't looked at.
+    pub(crate) fn read(&mut self, c: char) -> Result<(), TagError>
+        ensures gives { MoveGives self.old c result self.new }
+        ensures syntax { self.new.syntax ≡ self.old.syntax }
+        ensures err { OnErr result (self.new ≡ self.old) }
+    {
+        let Some((phase, action)) = move_at(self.syntax, self.phase, c) else {
+            return Err(TagError::Bad(Kind::BadTag));
+        };
+        match act(self.syntax, action, c, &mut self.name, &mut self.pairs) {
+            Ok(()) => {
+                self.phase = phase;
+                Ok(())
+            }
+            Err(error) => Err(error),
+        }
+    }
+}
+
+impl TagText {
+    ghost use Rattle.rx_tags.specs.TagReads.{ReadGives, FinishGives};
+
+    /// Reads one more character, and at the tag's `>` keeps the first attribute of each name.
+    pub(crate) fn step(&mut self, alloc: Global, c: char) -> Result<TagStep, TagError>
+        ensures gives { ReadGives self.old c result self.new.state }
+        ensures syntax { self.new.syntax ≡ self.old.syntax }
+    {
+        match self.read(c) {
+            Ok(()) => {}
+            Err(error) => return Err(error),
+        }
+        if !is_last(self.phase) {
+            return Ok(TagStep::More);
+        }
+        match self.finish(alloc) {
+            Ok(()) => Ok(TagStep::Done),
+            Err(error) => Err(error),
+        }
+    }
+
+    fn finish(&mut self, alloc: Global) -> Result<(), TagError>
+        ensures gives { FinishGives self.old result self.new.state }
+        ensures syntax { self.new.syntax ≡ self.old.syntax }
+    {
+        match self.pairs.keep_firsts(alloc) {
+            Ok(repeated) => {
+                if refuses(self.syntax, repeated) {
+                    return Err(TagError::Bad(Kind::RepeatedAttribute));
+                }
+                Ok(())
+            }
+            Err(NoMemory) => Err(TagError::NoMemory),
+        }
+    }
+}
+
+impl TagText {
+    ghost use Rattle.std.specs.Prelude.{◌<◌, length, slice_get, Some};
+
+    pub(crate) fn phase(&self) -> TagPhase
+        ensures { result ≡ self.now.state.phase }
+    {
+        self.phase
+    }
+
+    /// The tag's name.
+    pub(crate) fn name(&self) -> &str
+        ensures { chars result.now ≡ self.now.state.name }
+    {
+        self.name.as_str()
+    }
+
+    /// How many attributes are whole.
+    pub(crate) fn count(&self) -> usize
+        ensures { result ≡ length self.now.state.attributes }
+    {
+        self.pairs.count()
+    }
+
+    /// The name and the value of an attribute that is whole.
+    pub(crate) fn attr_at(&self, i: usize) -> (&str, &str)
+        requires { i < length self.now.state.attributes }
+        ensures { slice_get self.now.state.attributes i ≡ Some (chars result.0.now, chars result.1.now) }
+    {
+        self.pairs.at(i)
+    }
+}
+
+// XHTML refuses a name that stands twice.
+fn refuses(syntax: Syntax, repeated: bool) -> bool
+    ensures { result ≡ (not (is_html syntax) && repeated) }
+{
+    syntax == Syntax::Xhtml && repeated
+}
+
+fn act(
+    syntax: Syntax,
+    action: TagAction,
+    c: char,
+    name: &mut String,
+    pairs: &mut Pairs,
+) -> Result<(), TagError>
+    requires { action ≡ TagAction.Key → pairs.old.value ≡ no_value_yet }
+    ensures gives { ActGives syntax action c (chars (string_bytes name.old)) pairs.old result (chars (string_bytes name.new)) pairs.new }
+    ensures name { OnErr result (chars (string_bytes name.new) ≡ chars (string_bytes name.old)) }
+    ensures pairs { OnErr result (pairs.new ≡ pairs.old) }
+{
+    match action {
+        TagAction::Skip => Ok(()),
+        TagAction::Name => push_name(name, cased(syntax, c)),
+        TagAction::Key => pairs.push_key(cased(syntax, c)),
+        TagAction::Value => pairs.take(syntax, c),
+        TagAction::Add => pairs.add(syntax),
+        TagAction::AddKey => pairs.add_key(syntax, cased(syntax, c)),
+    }
+}
+
+fn push_name(name: &mut String, c: char) -> Result<(), TagError>
+    ensures ok { OnOk result (chars (string_bytes name.new) ≡ chars (string_bytes name.old) ++ c ∷ []) }
+    ensures err { OnErr result (chars (string_bytes name.new) ≡ chars (string_bytes name.old)) }
+    ensures memory { IfErr result (λ error. error ≡ TagError.NoMemory) }
+{
+    if name.push(c).is_err() {
+        return Err(TagError::NoMemory);
+    }
+    Ok(())
+}

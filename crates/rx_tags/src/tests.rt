@@ -1,0 +1,178 @@
+ghost use Rattle.std.specs.Prelude.{◌≡◌, true, Ok};
+ghost use Rattle.rx_reader.specs.Tables.{is_last};
+ghost use Rattle.rx_tags.specs.TagBufs.{MayStep};
+
+use crate::{Kind, Syntax, Tag, TagBuf, TagError, TagStep};
+use std::alloc::{AllocError, Global};
+use std::test::Fail;
+
+/// How many characters were read, and what the last of them answered. The characters are those of Latin-1.
+fn read(buf: &mut TagBuf, text: &[u8]) -> (usize, Result<TagStep, TagError>)
+    requires { MayStep buf.old }
+    ensures { result.1 ≡ Ok TagStep.Done → is_last buf.new.state.phase ≡ true }
+{
+    for i in 0..text.len() {
+        match buf.step(char::from(text[i])) {
+            Ok(TagStep::More) => {}
+            Ok(TagStep::Done) => return (i + 1, Ok(TagStep::Done)),
+            Err(error) => return (i + 1, Err(error)),
+        }
+    }
+    (text.len(), Ok(TagStep::More))
+}
+
+/// The tag with its marks, its name, and each attribute's name and value.
+fn shown(alloc: Global, tag: Tag<'_>) -> Result<String, AllocError> {
+    let mut text = String::new(alloc);
+    if tag.closing() {
+        text.push('/')?;
+    }
+    text.push_str(tag.name())?;
+    for i in 0..tag.count() {
+        let (name, value) = tag.attr_at(i);
+        text.push('|')?;
+        text.push_str(name)?;
+        text.push('=')?;
+        text.push_str(value)?;
+    }
+    if tag.slash() {
+        text.push_str("|/")?;
+    }
+    Ok(text)
+}
+
+#[test]
+fn whole_tags(rt: HostRuntime) -> Result<(), Fail> {
+    let rows: [(Syntax, &[u8], &str); 31] = [
+        (Syntax::Html, b"p>", "p"),
+        (Syntax::Html, b"P\t>", "p"),
+        (Syntax::Html, b"h1/>", "h1|/"),
+        (Syntax::Html, b"a<\"'=b>", "a<\"'=b"),
+        (Syntax::Html, b"br / >", "br"),
+        (Syntax::Html, b"p/a/b>", "p|a=|b="),
+        (Syntax::Html, b"/P \n>", "/p"),
+        (Syntax::Html, b"p A>", "p|a="),
+        (Syntax::Html, b"p a/>", "p|a=|/"),
+        (Syntax::Html, b"p a  =b>", "p|a=b"),
+        (Syntax::Html, b"p a =\x0C'b'c>", "p|a=b|c="),
+        (Syntax::Html, b"p a=\"b\"/>", "p|a=b|/"),
+        (Syntax::Html, b"p a=b/>", "p|a=b/"),
+        (Syntax::Html, b"p a=b=\"<` c>", "p|a=b=\"<`|c="),
+        (Syntax::Html, b"p a=\"'>\" b='\"'>", "p|a='>|b=\""),
+        (Syntax::Html, b"p \xC9=\xE9>", "p|É=é"),
+        (Syntax::Html, b"p a=\"&lt;&amp;&#65;&#x42;&#X43;\">", "p|a=<&ABC"),
+        (Syntax::Html, b"p a='&eacute;&#128;'>", "p|a=é€"),
+        (Syntax::Html, b"p a='& &a &#z &#x&lt' b=&c>", "p|a=& &a &#z &#x&lt|b=&c"),
+        (Syntax::Html, b"p a='&&lt;&\xE9;'>", "p|a=&<&é;"),
+        (Syntax::Html, b"p a=1 A=2 b=3 a=4 B c=5>", "p|a=1|b=3|c=5"),
+        (Syntax::Html, b"p a a a>", "p|a="),
+        (Syntax::Xhtml, b"P>", "P"),
+        (Syntax::Xhtml, b":p-1.x_\xE9/>", ":p-1.x_é|/"),
+        (Syntax::Xhtml, b"/p >", "/p"),
+        (Syntax::Xhtml, b"p a='1' A=\"2\" a:b = '3'>", "p|a=1|A=2|a:b=3"),
+        (Syntax::Xhtml, b"p a='1' />", "p|a=1|/"),
+        (Syntax::Xhtml, b"p a='1\t2\n3>'>", "p|a=1 2 3>"),
+        (Syntax::Xhtml, b"p a='&lt;&gt;&amp;&quot;&apos;'>", "p|a=<>&\"'"),
+        (Syntax::Xhtml, b"p a='&#65;&#x10FFFF;&#128;'>", "p|a=A\u{10FFFF}\u{80}"),
+        (Syntax::Xhtml, b"p a=''>", "p|a="),
+    ];
+    for (syntax, text, tag) in rows {
+        let mut buf = TagBuf::new(rt.alloc(), syntax)?;
+        let (taken, answer) = read(&mut buf, text);
+        assert_eq!(rt; taken, text.len());
+        assert_eq!(rt; answer, Ok(TagStep::Done));
+        assert_eq!(rt; shown(rt.alloc(), buf.tag(7, 9))?.as_str(), tag);
+    }
+    Ok(())
+}
+
+#[test]
+fn faults(rt: HostRuntime) -> Result<(), Fail> {
+    let rows: [(Syntax, &[u8], Kind); 33] = [
+        (Syntax::Html, b"1", Kind::BadTag),
+        (Syntax::Html, b"/>", Kind::BadTag),
+        (Syntax::Html, b"/p/", Kind::BadTag),
+        (Syntax::Html, b"/p a", Kind::BadTag),
+        (Syntax::Html, b"p =", Kind::BadTag),
+        (Syntax::Html, b"p \"", Kind::BadTag),
+        (Syntax::Html, b"p/'", Kind::BadTag),
+        (Syntax::Html, b"p a<", Kind::BadTag),
+        (Syntax::Html, b"p a'", Kind::BadTag),
+        (Syntax::Html, b"p a \"", Kind::BadTag),
+        (Syntax::Html, b"p a= >", Kind::BadTag),
+        (Syntax::Html, b"p a='b'=", Kind::BadTag),
+        (Syntax::Html, b"p a='&no;", Kind::UnknownReference),
+        (Syntax::Html, b"p a=&LT;", Kind::UnknownReference),
+        (Syntax::Html, b"p a=&#0;", Kind::BadReference),
+        (Syntax::Html, b"p a=\"&#xD800;", Kind::BadReference),
+        (Syntax::Html, b"p a=\"&#1114112;", Kind::BadReference),
+        (Syntax::Xhtml, b"-", Kind::BadTag),
+        (Syntax::Xhtml, b"p<", Kind::BadTag),
+        (Syntax::Xhtml, b"p/ ", Kind::BadTag),
+        (Syntax::Xhtml, b"p a>", Kind::BadTag),
+        (Syntax::Xhtml, b"p a b", Kind::BadTag),
+        (Syntax::Xhtml, b"p a=b", Kind::BadTag),
+        (Syntax::Xhtml, b"p a='1'b", Kind::BadTag),
+        (Syntax::Xhtml, b"p a='<", Kind::StrictText),
+        (Syntax::Xhtml, b"p a='& ", Kind::StrictText),
+        (Syntax::Xhtml, b"p a='&lt'", Kind::StrictText),
+        (Syntax::Xhtml, b"p a='&#;", Kind::StrictText),
+        (Syntax::Xhtml, b"p a='&#xg", Kind::StrictText),
+        (Syntax::Xhtml, b"p a='&nbsp;", Kind::UnknownReference),
+        (Syntax::Xhtml, b"p a='&#x110000;", Kind::BadReference),
+        (Syntax::Xhtml, b"p a='1' b='2' a='3'>", Kind::RepeatedAttribute),
+        (Syntax::Xhtml, b"p a='1' a='2'/>", Kind::RepeatedAttribute),
+    ];
+    for (syntax, text, kind) in rows {
+        let mut buf = TagBuf::new(rt.alloc(), syntax)?;
+        let (taken, answer) = read(&mut buf, text);
+        assert_eq!(rt; taken, text.len());
+        assert_eq!(rt; answer, Err(TagError::Bad(kind)));
+    }
+    Ok(())
+}
+
+#[test]
+fn one_buffer_for_many_tags(rt: HostRuntime) -> Result<(), Fail> {
+    let rows: [(&[u8], Result<TagStep, TagError>); 5] = [
+        (b"p a=1 b>", Ok(TagStep::Done)),
+        (b"q c='&", Ok(TagStep::More)),
+        (b"p =", Err(TagError::Bad(Kind::BadTag))),
+        (b"/p>", Ok(TagStep::Done)),
+        (b"i a=2>", Ok(TagStep::Done)),
+    ];
+    let mut buf = TagBuf::new(rt.alloc(), Syntax::Html)?;
+    for (text, expected) in rows {
+        buf.clear();
+        let (_taken, answer) = read(&mut buf, text);
+        assert_eq!(rt; answer, expected);
+    }
+    buf.clear();
+    let (_taken, answer) = read(&mut buf, b"p b='1' c='&lt;' b=2>");
+    assert_eq!(rt; answer, Ok(TagStep::Done));
+    let tag = buf.tag(3, 24);
+    assert_eq!(rt; tag.token, 3);
+    assert_eq!(rt; tag.at, 24);
+    assert_eq!(rt; tag.attr("b"), Some("1"));
+    assert_eq!(rt; tag.attr("c"), Some("<"));
+    assert_eq!(rt; tag.attr("d"), None);
+    Ok(())
+}
+
+#[test]
+fn five_thousand_attributes(rt: HostRuntime) -> Result<(), Fail> {
+    let mut text = String::new(rt.alloc());
+    text.push_str("p")?;
+    for i in 0..5_000u32 {
+        write!(text, " a{i}={i}")?;
+    }
+    text.push_str(" a7 a4999>")?;
+    let mut buf = TagBuf::new(rt.alloc(), Syntax::Html)?;
+    let (taken, answer) = read(&mut buf, text.as_bytes());
+    assert_eq!(rt; taken, text.as_str().len());
+    assert_eq!(rt; answer, Ok(TagStep::Done));
+    let tag = buf.tag(0, 0);
+    assert_eq!(rt; tag.count(), 5_000);
+    assert_eq!(rt; tag.attr("a4999"), Some("4999"));
+    Ok(())
+}
