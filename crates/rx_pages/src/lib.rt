@@ -1,0 +1,13 @@
+//! How a page is read from its first byte to its last: the tokens of a page nest one after another, and a byte list has
+//! one tree at most.
+//!
+//! The tables here are a means, as those of `rx_reader`: laws tie them to the grammar, and the code of the layers above
+//! does what they say.
+#![tactic(auto)]
+
+ghost use Rattle.rx_grammar.specs.Laws.{OneTree};
+
+/// A byte list has at most one tree.
+pub fn one_tree()
+    ensures { OneTree }
+{}
