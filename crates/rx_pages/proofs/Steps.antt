@@ -71,10 +71,10 @@ abbrev two_rows : Bool → Bool → Bool → Option Kind
 two_rows p s d = first_row ((p, kind.Plaintext) ∷ (s, kind.SelfClosed) ∷ (d, kind.TooDeep) ∷ [])
 
 -- the step of a start tag, and of an end tag
-of_start : (b : Bool) (x y : Rows) (p q : Step) → b ≡ false → unless_refused (first_row (cond b x y)) (cond b p q) ≡ unless_refused (first_row y) q
+pub of_start : (b : Bool) (x y : Rows) (p q : Step) → b ≡ false → unless_refused (first_row (cond b x y)) (cond b p q) ≡ unless_refused (first_row y) q
 of_start b x y p q h = ap (λ b. unless_refused (first_row (cond b x y)) (cond b p q)) h
 
-of_end : (b : Bool) (x y : Rows) (p q : Step) → b ≡ true → unless_refused (first_row (cond b x y)) (cond b p q) ≡ unless_refused (first_row x) p
+pub of_end : (b : Bool) (x y : Rows) (p q : Step) → b ≡ true → unless_refused (first_row (cond b x y)) (cond b p q) ≡ unless_refused (first_row x) p
 of_end b x y p q h = ap (λ b. unless_refused (first_row (cond b x y)) (cond b p q)) h
 
 -- nothing is refused
