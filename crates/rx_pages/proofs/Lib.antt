@@ -1,3 +1,4 @@
 pub mod Contents
 pub mod Steps
 pub mod Nested
+pub mod Documents

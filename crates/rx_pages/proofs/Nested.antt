@@ -143,22 +143,22 @@ module _ (syntax : Syntax) (depth : ℕ) (meant : Nesting → Type 0) (careless 
   ready_within : (name : Chars) → Ready within name
   ready_within name = record { not_ended = refl; named = refl }
 
-  nothing_shown : (hidden : Bool) → shown hidden end ≡ end
+  pub nothing_shown : (hidden : Bool) → shown hidden end ≡ end
   nothing_shown true = refl
   nothing_shown false = refl
 
-  one_level : (left n : ℕ) → n + suc left ≡ depth → suc n + left ≡ depth
+  pub one_level : (left n : ℕ) → n + suc left ≡ depth → suc n + left ≡ depth
   one_level left n e = omega arith
 
   -- a whole element that isn't its start tag alone, and the nodes behind it
-  whole : (line : Line) (left : ℕ) (item : Item) (t : Tag) (from inner : List Item) (inside nodes : Tree) (later behind : List Event) → Reads syntax depth meant (in_line (start_of item t ∷ line)) inner (finishes ∷ behind) inside
-      → Opens syntax (inside_of syntax line) item t → is_among (enders_of syntax line) t.name ≡ false → length line + suc left ≡ depth → is_alone syntax (inside_of syntax line) t ≡ false
+  pub whole : (line : Line) (phase : Phase) (left : ℕ) (item : Item) (t : Tag) (from inner : List Item) (inside nodes : Tree) (later behind : List Event) → Reads syntax depth meant (in_line (start_of item t ∷ line)) inner (finishes ∷ behind) inside
+      → Opens syntax (inside_of syntax line) item t → is_among (enders_of syntax line) t.name ≡ false → length line + suc left ≡ depth → Ready phase t.name → is_alone syntax (inside_of syntax line) t ≡ false
       → Drops (drops_line_feed (inside_of syntax line) t) (place_in syntax (inside_of syntax line) t.name).content from inner → {hidden : Bool} → hidden ≡ hides (inside_of syntax line) t → ((more : List Tree) → told_trees later ≡ end ∷ more → told_trees behind ≡ nodes ∷ more)
-      → Reads syntax depth meant (in_line line) (item ∷ from) later (element (start_of item t) (shown hidden inside) nodes)
-  whole line left item t from inner inside nodes later behind i o among d isnt drop hid tells =
+      → Reads syntax depth meant (record { line = line; phase = phase; drops = false }) (item ∷ from) later (element (start_of item t) (shown hidden inside) nodes)
+  whole line phase left item t from inner inside nodes later behind i o among d ready isnt drop hid tells =
       record {
         events = begins (start_of item t) (hides (inside_of syntax line) t) ∷ i.events;
-        going = open_goes line within item t from inner i.events o among (not_deeper depth (length line) left d) (ready_within t.name) isnt drop i.going;
+        going = open_goes line phase item t from inner i.events o among (not_deeper depth (length line) left d) ready isnt drop i.going;
         tells = λ more e. ap (with_element (start_of item t) (hides (inside_of syntax line) t)) (i.tells (nodes ∷ more) (ap (λ ts. end ∷ ts) (tells more e)))
           ∙ ap (λ x. element (start_of item t) (shown x inside) nodes ∷ more) (sym hid);
       }
@@ -196,7 +196,7 @@ module _ (syntax : Syntax) (depth : ℕ) (meant : Nesting → Type 0) (careless 
       let line = s ∷ above in
       let g2 = close_goes line (start_of item t) close rest r.events (subst (λ x. Closes (place_in syntax x t.name).content t.name close) p c) r.going in
       let i = runs hin (start_of item t) line (ap (λ x. place_in syntax x t.name) p) refl (one_level left (length line) d) (sym (ap (λ x. has_element (enders x t.name) inside) p) ∙ no_row) (finishes ∷ r.events) g2 in
-      whole line left item t from inner inside nodes later r.events i (subst (λ x. Opens syntax x item t) p o) k.0 d (sym (ap (λ x. is_alone syntax x t) p) ∙ isnt)
+      whole line within left item t from inner inside nodes later r.events i (subst (λ x. Opens syntax x item t) p o) k.0 d (ready_within t.name) (sym (ap (λ x. is_alone syntax x t) p) ∙ isnt)
       (subst (λ x. Drops (drops_line_feed x t) (place_in syntax x t.name).content from inner) p drop) (ap (λ x. hides x t) p) r.tells
   runs (unclosed {left = left} {parent = parent} {from = from} {inner = inner} {after = rest} {inside = inside} {nodes = nodes} item t o isnt drop hin no_row omits hs) s above p q d no_child later g =
       let k = neither (is_among (enders_of syntax (s ∷ above)) t.name) _ no_child in
@@ -204,5 +204,5 @@ module _ (syntax : Syntax) (depth : ℕ) (meant : Nesting → Type 0) (careless 
       let line = s ∷ above in
       let g2 = omitted_goes line (start_of item t) rest r.events (sym (ap (λ x. is_ended_by x parent t.name rest) p ∙ ap (λ x. is_ended_by (inside_of syntax line) x t.name rest) q) ∙ omits) r.going in
       let i = runs hin (start_of item t) line (ap (λ x. place_in syntax x t.name) p) refl (one_level left (length line) d) (sym (ap (λ x. has_element (enders x t.name) inside) p) ∙ no_row) (finishes ∷ r.events) g2 in
-      whole line left item t from inner inside nodes later r.events i (subst (λ x. Opens syntax x item t) p o) k.0 d (sym (ap (λ x. is_alone syntax x t) p) ∙ isnt)
+      whole line within left item t from inner inside nodes later r.events i (subst (λ x. Opens syntax x item t) p o) k.0 d (ready_within t.name) (sym (ap (λ x. is_alone syntax x t) p) ∙ isnt)
       (subst (λ x. Drops (drops_line_feed x t) (place_in syntax x t.name).content from inner) p drop) (ap (λ x. hides x t) p) r.tells
