@@ -2,3 +2,4 @@ pub mod Contents
 pub mod Steps
 pub mod Nested
 pub mod Documents
+pub mod Tokens
