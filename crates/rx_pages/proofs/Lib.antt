@@ -3,3 +3,4 @@ pub mod Steps
 pub mod Nested
 pub mod Documents
 pub mod Tokens
+pub mod Trees

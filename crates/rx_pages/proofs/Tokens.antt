@@ -58,4 +58,15 @@ pub record SameTokens (some others : List Item) (es fs : List Event) : Type 0 wh
 
 module _ (syntax : Syntax) (depth : ℕ) (meant expected : Nesting → Type 0) where
   pub same_tokens : {n : Nesting} {xs ys : List Entry} {some others : List Item} {es fs : List Event} → Spelled syntax xs None some → Spelled syntax ys None others → xs ≡ ys → Goes syntax depth meant n some es → Goes syntax depth expected n others fs → SameTokens some others es fs
-  same_tokens no_more no_more e g h = ?
+  same_tokens no_more no_more e (stands n p) (stands m q) = record { items = refl; events = refl }
+  same_tokens no_more (one d other others item sp f l more) e g h = absurd (cc)
+  same_tokens (one c run rest item sp f l more) no_more e g h = absurd (cc)
+  same_tokens {n = n} (one c run rest a {items = items} sp f l more) (one d other others b {items = behind} sq k m most) e (goes {events = es} a2 step ci st g) (goes {events = fs} b2 next di nt h) =
+      let i = same_item syntax c d run other rest others a b (ci ∙ sym di) e sp sq f l k m in
+      let same_ok : Ok step ≡ Ok next = sym st ∙ (ap (nest_step syntax depth n) i.item ∙ nt) in
+      let same_step : step ≡ next = cc in
+      let r = same_tokens more most i.rest_is g (subst (λ (x : Step). Goes syntax depth expected x.next behind fs) (sym same_step) h) in
+      record {
+        items = ap (λ x. x ∷ items) i.item ∙ ap (λ x. b ∷ x) r.items;
+        events = ap (λ x. x.events ++ es) same_step ∙ ap (λ x. next.events ++ x) r.events;
+      }
