@@ -4,3 +4,4 @@ pub mod Nested
 pub mod Documents
 pub mod Tokens
 pub mod Trees
+pub mod Reading
