@@ -5,3 +5,5 @@ pub mod Documents
 pub mod Tokens
 pub mod Trees
 pub mod Reading
+pub mod Comments
+pub mod Texts
