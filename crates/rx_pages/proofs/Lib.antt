@@ -7,3 +7,4 @@ pub mod Trees
 pub mod Reading
 pub mod Comments
 pub mod Texts
+pub mod Markup
