@@ -8,3 +8,4 @@ pub mod Reading
 pub mod Comments
 pub mod Texts
 pub mod Markup
+pub mod RawText

@@ -10,8 +10,8 @@ use Rattle.rx_grammar.specs.declared.faults.Kind.TheVariants.{BadTag, BadDoctype
 use Rattle.rx_grammar.specs.References.{is_name, is_body, is_begun, meaning}
 use Rattle.rx_grammar.specs.Tokens.{Token, tag, character, reference, kept, section, comment, doctype}
 use Rattle.rx_grammar.specs.Tags.{cased_char}
-use Rattle.rx_grammar.specs.Spelling.{exclamation_mark, ends_with, has_references, keeps_runs, has_sections, has_less_than, is_text, begins_markup, raw_name, begins_end, ends_comment}
-use Rattle.rx_grammar.specs.PageFaults.{is_known_end, meets_opening}
+use Rattle.rx_grammar.specs.Spelling.{exclamation_mark, ends_with, has_references, keeps_runs, has_sections, has_less_than, is_text, begins_markup, raw_name, begins_end, stops_end, ends_comment}
+use Rattle.rx_grammar.specs.PageFaults.{meets_opening}
 use Rattle.rx_reader.specs.Tables.{is_html, is_last}
 use Rattle.rx_reader.specs.TagReader.{TagState, fresh, tag_on, tag_of}
 
@@ -46,7 +46,7 @@ in_run syntax inside run c =
 -- in raw text after `<`
 abbrev pub in_raw : Syntax → Chars → Chars → ℕ → Verdict
 in_raw syntax name text c =
-    if is_known_end name (text ++ c ∷ []) then in_tag syntax text c else if begins_end name (text ++ c ∷ []) then goes_on else ended (kept (less_than_sign ∷ text))
+    if begins_end name (text ++ c ∷ []) then goes_on else if begins_end name text && stops_end name text c then ended (kept (less_than_sign ∷ text)) else in_tag syntax text c
 
 -- What is read of a document type after its first word.
 pub data DoctypePhase : Type 0 where

@@ -490,7 +490,7 @@ nonempty [] e = cc
 nonempty (c ∷ spaces) e = cc
 
 -- a whole end tag isn't the front of one
-not_front : (name y z : Chars) → RawEnd name y → begins_end name (y ++ z) ≡ true → ⊥
+pub not_front : (name y z : Chars) → RawEnd name y → begins_end name (y ++ z) ≡ true → ⊥
 not_front name y z r h =
     let e : lowered (y ++ z) ≡ (47 ∷ name) ++ (lowered (r.spaces ++ 62 ∷ []) ++ lowered z) =
     map-append lowered_char y z ∙ (ap (λ u. lowered u ++ lowered z) r.is
@@ -547,7 +547,7 @@ module _ (name x : Chars) (d : ℕ) (z : Chars) (r : RawEnd name (x ++ d ∷ z))
       let m : u ≡ [] = nothing_lowered u n in
       not_both_ways (same (lowered x) (solidus ∷ name) && ends_name d) (whole (e ∙ no_text (47 ∷ r.w) u m) (sym (q ∙ ap (λ y. y ++ d ∷ z) m))) n2
 
-  run_not_end : begins_end name x ≡ true → stops_end name x d ≡ true → ⊥
+  pub run_not_end : begins_end name x ≡ true → stops_end name x d ≡ true → ⊥
   run_not_end h k =
       let b = both (not (begins_end name (x ++ d ∷ []))) _ k in
       let n1 : begins_end name (x ++ d ∷ []) ≡ false = untrue (begins_end name (x ++ d ∷ [])) b.0 in
