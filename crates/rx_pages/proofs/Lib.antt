@@ -9,3 +9,4 @@ pub mod Comments
 pub mod Texts
 pub mod Markup
 pub mod RawText
+pub mod Doctypes

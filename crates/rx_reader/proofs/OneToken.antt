@@ -456,7 +456,7 @@ low_raw content.Strict name h = absurd (cc)
 low_raw (content.Raw r) name h = let q : name_of_raw r ≡ name = cc in sym (ap lowered q) ∙ (low_name r ∙ q)
 low_raw (content.Rcdata r) name h = let q : name_of_raw r ≡ name = cc in sym (ap lowered q) ∙ (low_name r ∙ q)
 
-kept_case : (w : Chars) → cased Xhtml w ≡ w
+pub kept_case : (w : Chars) → cased Xhtml w ≡ w
 kept_case [] = refl
 kept_case (c ∷ w) = ap (λ x. c ∷ x) (kept_case w)
 
