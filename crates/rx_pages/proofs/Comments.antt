@@ -17,18 +17,18 @@ use Rattle.rx_pages.proofs.Reading.{Last, no_last, a_last, last_of, all_go, go_a
 use Rattle.rx_reader.proofs.Bools.{both, neither, either, not_both_ways, by_test}
 use Rattle.rx_reader.proofs.Fronts.{begins_more, or_right}
 
-none_if : (b : Bool) (t : Token) → b ≡ false → whole_if b t ≡ goes_on
+pub none_if : (b : Bool) (t : Token) → b ≡ false → whole_if b t ≡ goes_on
 none_if b t h = rw h refl
 
 whole_where : (b : Bool) (t : Token) → b ≡ true → whole_if b t ≡ whole t
 whole_where b t h = rw h refl
 
-and_none : (b : Bool) → (b && false) ≡ false
+pub and_none : (b : Bool) → (b && false) ≡ false
 and_none true = refl
 and_none false = refl
 
 -- after `<!` in HTML, where nothing that begins otherwise has begun
-bogus_at : (i : Content) (text : Chars) (c : ℕ) → begins_declaration i text ≡ false → after_mark Html i text c ≡ whole_if (ends_with (codes ">") (text ++ c ∷ [])) comment
+pub bogus_at : (i : Content) (text : Chars) (c : ℕ) → begins_declaration i text ≡ false → after_mark Html i text c ≡ whole_if (ends_with (codes ">") (text ++ c ∷ [])) comment
 bogus_at i text c h =
     let a = neither (begins_with (codes "--") text || begins_with (codes "doctype") (lowered text)) _ h in
     let b = neither (begins_with (codes "--") text) _ a.0 in

@@ -10,3 +10,4 @@ pub mod Texts
 pub mod Markup
 pub mod RawText
 pub mod Doctypes
+pub mod Spellings

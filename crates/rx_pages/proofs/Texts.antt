@@ -51,7 +51,7 @@ less_markup content.Strict h = refl
 less_markup (content.Raw name) h = absurd (cc)
 less_markup (content.Rcdata name) h = absurd (cc)
 
-or_none : (a b : Bool) → a ≡ false → b ≡ false → (a || b) ≡ false
+pub or_none : (a b : Bool) → a ≡ false → b ≡ false → (a || b) ≡ false
 or_none a b h k = rw (h, k) refl
 
 module _ (s : Syntax) (i : Content) where

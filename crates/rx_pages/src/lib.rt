@@ -6,8 +6,14 @@
 #![tactic(auto)]
 
 ghost use Rattle.rx_grammar.specs.Laws.{OneTree};
+ghost use Rattle.rx_pages.specs.Laws.{ReadsEachToken};
 
 /// A byte list has at most one tree.
 pub fn one_tree()
     ensures { OneTree }
+{}
+
+/// Characters that spell a token are read as it.
+pub fn reads_each_token()
+    ensures { ReadsEachToken }
 {}
