@@ -79,7 +79,7 @@ no_end_outside parent name [] = refl
 no_end_outside parent name (item ∷ items) = refl
 
 module _ (syntax : Syntax) (depth : ℕ) (meant : Nesting → Type 0) (careless : Careless meant) where
-  root_ready : (stood : Bool) (name : Chars) → name ≡ root_name → Ready (before stood) name
+  pub root_ready : (stood : Bool) (name : Chars) → name ≡ root_name → Ready (before stood) name
   root_ready stood name e = record { not_ended = refl; named = ap not ((bytes_decides name root_name).1 e) }
 
   room : (left : ℕ) → suc left ≡ depth → 0 + suc left ≡ depth
@@ -131,16 +131,15 @@ module _ (syntax : Syntax) (depth : ℕ) (meant : Nesting → Type 0) (careless 
       no_way h = cc
 
 -- what a page's tokens tell
-pub record TellsTree (syntax : Syntax) (depth : ℕ) (items : List Item) (tree : Tree) : Type 0 where
+pub record TellsTree (syntax : Syntax) (depth : ℕ) (meant : Nesting → Type 0) (items : List Item) (tree : Tree) : Type 0 where
   pub events : List Event
-  pub going : Goes syntax depth (λ n. n.phase ≡ after) not_begun items events
+  pub going : Goes syntax depth meant not_begun items events
   pub tree_is : told_trees events ≡ tree ∷ []
 
-pub document_tells : (syntax : Syntax) (depth : ℕ) (items : List Item) (tree : Tree) → Document syntax depth items tree → TellsTree syntax depth items tree
-document_tells syntax depth items tree d =
-    let meant : Nesting → Type 0 = λ n. n.phase ≡ after in
-    let last : Goes syntax depth meant (over []) d.after [] = subst (λ xs. Goes syntax depth meant (over []) xs []) (append-nil d.after) (lead_goes syntax depth meant d.trail refl after (λ chars. refl) [] [] (stands (over []) refl)) in
-    let r = root_reads syntax depth meant (λ line h. h) d.root d.t d.inside d.doctype_stands d.holds refl refl d.opens.token d.named d.tree_is [] last refl in
+pub document_tells : (syntax : Syntax) (depth : ℕ) (meant : Nesting → Type 0) → Careless meant → meant (over []) → (items : List Item) (tree : Tree) → Document syntax depth items tree → TellsTree syntax depth meant items tree
+document_tells syntax depth meant careless at_end items tree d =
+    let last : Goes syntax depth meant (over []) d.after [] = subst (λ xs. Goes syntax depth meant (over []) xs []) (append-nil d.after) (lead_goes syntax depth meant d.trail refl after (λ chars. refl) [] [] (stands (over []) at_end)) in
+    let r = root_reads syntax depth meant careless d.root d.t d.inside d.doctype_stands d.holds refl refl d.opens.token d.named d.tree_is [] last refl in
     record {
       events = r.events;
       going = subst (λ xs. Goes syntax depth meant not_begun xs r.events) (sym d.are) (lead_reads syntax depth meant d.lead (d.root ∷ d.from) r.events r.going);

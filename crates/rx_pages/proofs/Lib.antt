@@ -11,3 +11,4 @@ pub mod Markup
 pub mod RawText
 pub mod Doctypes
 pub mod Spellings
+pub mod Front

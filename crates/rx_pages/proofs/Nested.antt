@@ -140,7 +140,7 @@ module _ (syntax : Syntax) (depth : ℕ) (meant : Nesting → Type 0) (careless 
       let all = omissible_html syntax line s.name k.0 in
       goes item (after_one step) (c ∙ (all.here ∙ sym all.inside)) (ended syntax depth s line item item.token k.0 k.1 step e) g
 
-  ready_within : (name : Chars) → Ready within name
+  pub ready_within : (name : Chars) → Ready within name
   ready_within name = record { not_ended = refl; named = refl }
 
   pub nothing_shown : (hidden : Bool) → shown hidden end ≡ end

@@ -127,3 +127,8 @@ told_trees [] = end ∷ []
 told_trees (begins t hidden ∷ events) = with_element t hidden (told_trees events)
 told_trees (says chars ∷ events) = with_text chars (told_trees events)
 told_trees (finishes ∷ events) = end ∷ told_trees events
+
+-- at these open elements, in this phase
+pub record IsAt (line : Line) (phase : Phase) (n : Nesting) : Type 0 where
+  pub line_is : n.line ≡ line
+  pub phase_is : n.phase ≡ phase

@@ -6,7 +6,7 @@
 #![tactic(auto)]
 
 ghost use Rattle.rx_grammar.specs.Laws.{OneTree};
-ghost use Rattle.rx_pages.specs.Laws.{ReadsEachToken};
+ghost use Rattle.rx_pages.specs.Laws.{FrontsLead, ReadsEachToken};
 
 /// A byte list has at most one tree.
 pub fn one_tree()
@@ -16,4 +16,9 @@ pub fn one_tree()
 /// Characters that spell a token are read as it.
 pub fn reads_each_token()
     ensures { ReadsEachToken }
+{}
+
+/// Tokens that can stand at the front of a page lead to its open elements.
+pub fn fronts_lead()
+    ensures { FrontsLead }
 {}
