@@ -74,7 +74,7 @@ module _ (syntax : Syntax) (depth : ℕ) (meant : Nesting → Type 0) where
   trails (closed item close t o isnt drop hin no_row c hs) p e later g = absurd (cc)
   trails (unclosed item t o isnt drop hin no_row omits hs) p e later g = absurd (cc)
 
-no_end_outside : (parent name : Chars) (items : List Item) → is_ended_by outside parent name items ≡ false
+pub no_end_outside : (parent name : Chars) (items : List Item) → is_ended_by outside parent name items ≡ false
 no_end_outside parent name [] = refl
 no_end_outside parent name (item ∷ items) = refl
 

@@ -17,7 +17,7 @@ pub record Going (syntax : Syntax) (depth : ℕ) (meant : Nesting → Type 0) (i
   pub events : List Event
   pub going : Goes syntax depth meant nesting.not_begun items events
 
-none_among : (nodes : Tree) → has_element [] nodes ≡ false
+pub none_among : (nodes : Tree) → has_element [] nodes ≡ false
 none_among end = refl
 none_among (element t inside nodes) = none_among nodes
 none_among (text chars nodes) = none_among nodes

@@ -12,3 +12,5 @@ pub mod RawText
 pub mod Doctypes
 pub mod Spellings
 pub mod Front
+pub mod Growing
+pub mod Popping
