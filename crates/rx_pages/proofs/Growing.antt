@@ -117,7 +117,7 @@ module _ (syntax : Syntax) where
     | inr k ↦ inr (k.0, a_child first t (open_suffix (item ∷ []) op (λ e. cc)) o isnt among k.1 hs no_row)
   ]
 
-  no_open : {left : ℕ} {all to : List Item} {line : Line} → Open syntax left all to line → line ≡ [] → ⊥
+  pub no_open : {left : ℕ} {all to : List Item} {line : Line} → Open syntax left all to line → line ≡ [] → ⊥
   no_open (a_root lead item t l o named isnt drop hs) e = cc
   no_open (a_child item t op o isnt among drop hs no_row) e = cc
 

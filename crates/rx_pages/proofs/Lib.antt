@@ -14,3 +14,4 @@ pub mod Spellings
 pub mod Front
 pub mod Growing
 pub mod Popping
+pub mod Standing
