@@ -15,3 +15,4 @@ pub mod Front
 pub mod Growing
 pub mod Popping
 pub mod Standing
+pub mod FrontBack

@@ -5,7 +5,8 @@ use Rattle.rx_chars.specs.declared.syntax.Syntax.{Syntax}
 use Rattle.rx_grammar.specs.declared.contents.Content.{Content}
 use Rattle.rx_grammar.specs.Tokens.{Token}
 use Rattle.rx_grammar.specs.Spelling.{Spells}
-use Rattle.rx_grammar.specs.Items.{Item}
+use Rattle.rx_chars.specs.Characters.{Entry}
+use Rattle.rx_grammar.specs.Items.{Item, Spelled}
 use Rattle.rx_grammar.specs.Begun.{Line, Phase, Stands}
 use Rattle.rx_pages.specs.Nesting.{Event, not_begun, Goes, IsAt}
 use Rattle.rx_pages.specs.Scanner.{ReadAs}
@@ -21,3 +22,7 @@ pub record Leads (syntax : Syntax) (depth : ℕ) (items : List Item) (line : Lin
 
 abbrev pub FrontsLead : Type 0
 FrontsLead = (syntax : Syntax) (depth : ℕ) (items : List Item) (line : Line) (phase : Phase) → Stands syntax depth items line phase → Leads syntax depth items line phase
+
+-- and spelled tokens that lead to open elements can stand at the front of a page
+abbrev pub FrontsStand : Type 0
+FrontsStand = (syntax : Syntax) (depth : ℕ) (entries : List Entry) (next : Option ℕ) (items : List Item) (line : Line) (phase : Phase) → Spelled syntax entries next items → Leads syntax depth items line phase → Stands syntax depth items line phase

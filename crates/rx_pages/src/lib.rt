@@ -6,7 +6,7 @@
 #![tactic(auto)]
 
 ghost use Rattle.rx_grammar.specs.Laws.{OneTree};
-ghost use Rattle.rx_pages.specs.Laws.{FrontsLead, ReadsEachToken};
+ghost use Rattle.rx_pages.specs.Laws.{FrontsLead, FrontsStand, ReadsEachToken};
 
 /// A byte list has at most one tree.
 pub fn one_tree()
@@ -21,4 +21,9 @@ pub fn reads_each_token()
 /// Tokens that can stand at the front of a page lead to its open elements.
 pub fn fronts_lead()
     ensures { FrontsLead }
+{}
+
+/// Spelled tokens that lead to open elements can stand at the front of a page.
+pub fn fronts_stand()
+    ensures { FrontsStand }
 {}
