@@ -402,16 +402,16 @@ or_left' : (a b : Bool) → a ≡ true → (a || b) ≡ true
 or_left' true b h = refl
 or_left' false b h = absurd (cc)
 
-tag_first : (s : Syntax) (text : Chars) (w : Tag) → Shape s text w → TagFirst s text
+pub tag_first : (s : Syntax) (text : Chars) (w : Tag) → Shape s text w → TagFirst s text
 tag_first s text w (a_start [] rest n b k) = absurd (cc)
 tag_first s text w (a_start (c ∷ name) rest n b k) = record { c = c; rest = name ++ rest; is = refl; test = or_left' (begins_tag s c) _ (both (begins_tag s c) _ n).0 }
 tag_first s text w (an_end name spaces n b) = record { c = 47; rest = name ++ (spaces ++ 62 ∷ []); is = refl; test = or_right (begins_tag s 47) true refl }
 
-no_bang : (s : Syntax) → (begins_tag s 33 || 33 == solidus) ≡ false
+pub no_bang : (s : Syntax) → (begins_tag s 33 || 33 == solidus) ≡ false
 no_bang Html = refl
 no_bang Xhtml = refl
 
-no_question : (s : Syntax) → (begins_tag s 63 || 63 == solidus) ≡ false
+pub no_question : (s : Syntax) → (begins_tag s 63 || 63 == solidus) ≡ false
 no_question Html = refl
 no_question Xhtml = refl
 
@@ -425,11 +425,11 @@ tag_then : (s : Syntax) (text z rest : Chars) (t : Tag) (d : ℕ) → (begins_ta
 tag_then s [] z rest t d n sp e = let f = tag_first s [] sp.reads.written sp.reads.shape in let q = f.is in cc
 tag_then s (c ∷ text) z rest t d n sp e = let q : c ≡ d = cc in tag_not s (c ∷ text) text t d n sp (ap (λ x. x ∷ text) q)
 
-markup_begins : (s : Syntax) → s ≡ Html → (c : ℕ) → (begins_tag s c || c == solidus) ≡ true → not (begins_markup c) ≡ false
+pub markup_begins : (s : Syntax) → s ≡ Html → (c : ℕ) → (begins_tag s c || c == solidus) ≡ true → not (begins_markup c) ≡ false
 markup_begins Html z c h = elim (either (is_letter c) (c == solidus) h) [ inl e ↦ rw e refl | inr e ↦ of_one (λ x. not (begins_markup x) ≡ false) c solidus e refl ]
 markup_begins Xhtml z c h = absurd (cc)
 
-no_raw : (i : Content) (name : Chars) → raw_name i ≡ Some name → has_markup i ≡ true → ⊥
+pub no_raw : (i : Content) (name : Chars) → raw_name i ≡ Some name → has_markup i ≡ true → ⊥
 no_raw content.Outside name h k = cc
 no_raw content.Html name h k = cc
 no_raw content.Foreign name h k = cc
@@ -448,7 +448,7 @@ low_name raw.Xmp = refl
 low_name raw.Title = refl
 low_name raw.Textarea = refl
 
-low_raw : (i : Content) (name : Chars) → raw_name i ≡ Some name → lowered name ≡ name
+pub low_raw : (i : Content) (name : Chars) → raw_name i ≡ Some name → lowered name ≡ name
 low_raw content.Outside name h = absurd (cc)
 low_raw content.Html name h = absurd (cc)
 low_raw content.Foreign name h = absurd (cc)
@@ -456,7 +456,7 @@ low_raw content.Strict name h = absurd (cc)
 low_raw (content.Raw r) name h = let q : name_of_raw r ≡ name = cc in sym (ap lowered q) ∙ (low_name r ∙ q)
 low_raw (content.Rcdata r) name h = let q : name_of_raw r ≡ name = cc in sym (ap lowered q) ∙ (low_name r ∙ q)
 
-kept_case : (w : Chars) → cased Xhtml w ≡ w
+pub kept_case : (w : Chars) → cased Xhtml w ≡ w
 kept_case [] = refl
 kept_case (c ∷ w) = ap (λ x. c ∷ x) (kept_case w)
 
@@ -476,11 +476,11 @@ raw_shape : (s : Syntax) (name y : Chars) (t : Tag) → Shape s y t → t.closin
 raw_shape s name y t (a_start n rest a b k) c e l = absurd (cc)
 raw_shape s name y t (an_end n spaces a b) c e l = record { w = n; spaces = spaces; is = refl; named = lowered_is s n name e l; white = b }
 
-raw_end : (s : Syntax) (i : Content) (name y : Chars) (t : Tag) → raw_name i ≡ Some name → SpellsTag s y t → t.closing ≡ true → t.name ≡ name → RawEnd name y
+pub raw_end : (s : Syntax) (i : Content) (name y : Chars) (t : Tag) → raw_name i ≡ Some name → SpellsTag s y t → t.closing ≡ true → t.name ≡ name → RawEnd name y
 raw_end s i name y t r sp c n =
     raw_shape s name y sp.reads.written sp.reads.shape (sym sp.reads.closing ∙ (sym (ap (λ (x : Tag). x.closing) sp.is_tag) ∙ c)) (sym n ∙ (ap (λ (x : Tag). x.name) sp.is_tag ∙ sp.reads.name)) (low_raw i name r)
 
-begins_self : (p q : Chars) → begins_with (p ++ q) p ≡ true → q ≡ []
+pub begins_self : (p q : Chars) → begins_with (p ++ q) p ≡ true → q ≡ []
 begins_self [] [] h = refl
 begins_self [] (c ∷ q) h = absurd (cc)
 begins_self (c ∷ p) q h = begins_self p q (both (c == c) _ h).1
@@ -490,7 +490,7 @@ nonempty [] e = cc
 nonempty (c ∷ spaces) e = cc
 
 -- a whole end tag isn't the front of one
-not_front : (name y z : Chars) → RawEnd name y → begins_end name (y ++ z) ≡ true → ⊥
+pub not_front : (name y z : Chars) → RawEnd name y → begins_end name (y ++ z) ≡ true → ⊥
 not_front name y z r h =
     let e : lowered (y ++ z) ≡ (47 ∷ name) ++ (lowered (r.spaces ++ 62 ∷ []) ++ lowered z) =
     map-append lowered_char y z ∙ (ap (λ u. lowered u ++ lowered z) r.is
@@ -503,15 +503,15 @@ not_front name y z r h =
     by_left [] v e = refl
     by_left (c ∷ u) v e = absurd (cc)
 
-same_self : (x : Chars) → same x x ≡ true
+pub same_self : (x : Chars) → same x x ≡ true
 same_self [] = refl
 same_self (c ∷ x) = rw (equal c, same_self x) refl
 
-nothing_lowered : (u : Chars) → lowered u ≡ [] → u ≡ []
+pub nothing_lowered : (u : Chars) → lowered u ≡ [] → u ≡ []
 nothing_lowered [] e = refl
 nothing_lowered (c ∷ u) e = absurd (cc)
 
-and_both : (a b : Bool) → a ≡ true → b ≡ true → (a && b) ≡ true
+pub and_both : (a b : Bool) → a ≡ true → b ≡ true → (a && b) ≡ true
 and_both true b h k = k
 and_both false b h k = absurd (cc)
 
@@ -547,7 +547,7 @@ module _ (name x : Chars) (d : ℕ) (z : Chars) (r : RawEnd name (x ++ d ∷ z))
       let m : u ≡ [] = nothing_lowered u n in
       not_both_ways (same (lowered x) (solidus ∷ name) && ends_name d) (whole (e ∙ no_text (47 ∷ r.w) u m) (sym (q ∙ ap (λ y. y ++ d ∷ z) m))) n2
 
-  run_not_end : begins_end name x ≡ true → stops_end name x d ≡ true → ⊥
+  pub run_not_end : begins_end name x ≡ true → stops_end name x d ≡ true → ⊥
   run_not_end h k =
       let b = both (not (begins_end name (x ++ d ∷ []))) _ k in
       let n1 : begins_end name (x ++ d ∷ []) ≡ false = untrue (begins_end name (x ++ d ∷ [])) b.0 in

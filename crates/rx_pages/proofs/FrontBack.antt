@@ -1,0 +1,47 @@
+-- Spelled tokens that lead to open elements stand at the front of a page.
+use Rattle.std.proofs.Common.{◌≡◌, ◌∙◌, ℕ, Bool, true, false, List, [], ◌∷◌, ◌++◌, Option, Some, None, refl, ap, sym, subst, append-nil, append_assoc}
+use Rattle.rx_terms.specs.Text.{Chars}
+use Rattle.rx_chars.specs.Characters.{Entry}
+use Rattle.rx_chars.specs.declared.syntax.Syntax.{Syntax}
+use Rattle.rx_grammar.specs.declared.contents.Content.{Content}
+use Rattle.rx_grammar.specs.declared.contents.Content.TheVariants as content
+use Rattle.rx_grammar.specs.Tokens.{Token}
+use Rattle.rx_grammar.specs.Spelling.{Spells, has_references, keeps_runs, has_sections, has_less_than, raw_name, a_tag, an_end_of_raw, a_character, a_less_than, a_raw_run, a_reference, a_kept_run, a_comment, a_bogus_comment, a_question, a_strict_comment, an_instruction, a_section, a_doctype}
+use Rattle.rx_grammar.specs.Items.{Item, Spelled, no_more, one}
+use Rattle.rx_grammar.specs.Pages as pages
+use Rattle.rx_grammar.specs.Begun.{Line, Phase, before, Stands, not_begun}
+use Rattle.rx_pages.specs.Nesting as nesting
+use Rattle.rx_pages.specs.Nesting.{Event, Nesting, Step, Goes, stands, goes, IsAt}
+use Rattle.rx_pages.specs.Laws.{FrontsStand}
+use Rattle.rx_pages.proofs.Standing.{may_stand, one_more}
+use Rattle.rx_reader.proofs.Bools.{not_both_ways}
+
+spelled_outside : (syntax : Syntax) (inside : Content) (text : Chars) (next : Option ℕ) (token : Token) → Spells syntax inside text next token → inside ≡ content.Outside → may_stand token ≡ true
+spelled_outside s i _ next _ (a_tag text t m sp) o = refl
+spelled_outside s i _ next _ (an_end_of_raw text name t r sp c n) o = refl
+spelled_outside s i _ next _ (a_character c h) o = refl
+spelled_outside s i _ next _ (a_less_than e h b) o = absurd (not_both_ways _ h (ap has_less_than o))
+spelled_outside s i _ next _ (a_raw_run text name r h b) o = absurd (none (sym (ap raw_name o) ∙ r))
+  where
+    none : None ≡ Some name → ⊥
+    none e = cc
+spelled_outside s i _ next _ (a_reference body c r b m) o = absurd (not_both_ways _ r (ap has_references o))
+spelled_outside s i _ next _ (a_kept_run run k h b) o = absurd (not_both_ways _ k (ap keeps_runs o))
+spelled_outside s i _ next _ (a_comment text e m f) o = refl
+spelled_outside s i _ next _ (a_bogus_comment text e m n f) o = refl
+spelled_outside s i _ next _ (a_question text e m f) o = refl
+spelled_outside s i _ next _ (a_strict_comment text e m f) o = refl
+spelled_outside s i _ next _ (an_instruction text e m f) o = refl
+spelled_outside s i _ next _ (a_section text h f) o = absurd (not_both_ways _ h (ap has_sections o))
+spelled_outside s i _ next _ (a_doctype text m d) o = refl
+
+module _ (syntax : Syntax) (depth : ℕ) (line : Line) (phase : Phase) where
+  pub walk : {n : Nesting} {entries : List Entry} {next : Option ℕ} {items : List Item} {events : List Event} (first : List Item) → Stands syntax depth first n.line n.phase → Spelled syntax entries next items → Goes syntax depth (IsAt line phase) n items events
+      → Stands syntax depth (first ++ items) line phase
+  walk first h no_more (stands n at) = subst (λ l. Stands syntax depth (first ++ []) l phase) at.line_is (subst (λ p. Stands syntax depth (first ++ []) n.line p) at.phase_is (subst (λ xs. Stands syntax depth xs n.line n.phase) (sym (append-nil first)) h))
+  walk {n = n} first h (one c run rest item {items = items} sp f l more) (goes item2 step ci e g) =
+      subst (λ xs. Stands syntax depth xs line phase) (append_assoc first (item ∷ []) items)
+      (walk (first ++ item ∷ []) (one_more syntax depth item (spelled_outside syntax item.content _ _ item.token sp) first n.line n.phase n.drops h ci step e) more g)
+
+pub fronts_stand : FrontsStand
+fronts_stand syntax depth entries next items line phase spelled l = walk syntax depth line phase [] (not_begun false pages.no_more) spelled l.going

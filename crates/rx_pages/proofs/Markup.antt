@@ -1,0 +1,86 @@
+-- Tags are read as they are spelled.
+use Rattle.std.proofs.Common.{◌≡◌, ◌≢◌, ◌∙◌, ℕ, Bool, true, false, cond, List, [], ◌∷◌, ◌++◌, Option, Some, None, refl, ap, sym, subst, append-nil, append_assoc, inl, inr}
+use Rattle.std.specs.Prelude.{◌&&◌, ◌||◌, ◌==◌, not, Result, Ok, Err}
+use Rattle.std.proofs.lemmas.Bool.{cond-true, cond-false}
+use Rattle.rx_terms.specs.Ascii.{solidus}
+use Rattle.rx_terms.specs.Text.{Chars}
+use Rattle.rx_chars.specs.declared.syntax.Syntax.{Syntax}
+use Rattle.rx_chars.specs.declared.syntax.Syntax.TheVariants.{Html, Xhtml}
+use Rattle.rx_grammar.specs.declared.contents.Content.{Content}
+use Rattle.rx_grammar.specs.declared.faults.Kind.{Kind}
+use Rattle.rx_grammar.specs.declared.faults.Kind.TheVariants.{BadTag}
+use Rattle.rx_grammar.specs.References.{meaning}
+use Rattle.rx_grammar.specs.Tokens.{Tag, Token, tag}
+use Rattle.rx_grammar.specs.Shapes.{begins_tag}
+use Rattle.rx_grammar.specs.Tags.{SpellsTag}
+use Rattle.rx_grammar.specs.Spelling.{has_markup, begins_markup}
+use Rattle.rx_reader.specs.Tables.{is_html, is_last}
+use Rattle.rx_reader.specs.TagReader.{TagState, fresh, tag_on, tag_of, checked}
+use Rattle.rx_pages.specs.Scanner.{Verdict, goes_on, whole, whole_if, told_of_tag, in_tag, in_markup, is_mark, verdict, ReadAs}
+use Rattle.rx_pages.proofs.Reading.{Last, no_last, a_last, last_of, all_go, read_to, markup_is}
+use Rattle.rx_reader.proofs.Bools.{both, neither, not_both_ways, by_test}
+use Rattle.rx_reader.proofs.Classes.{of_one}
+use Rattle.rx_reader.proofs.TagLaws.{reads_each, on_err, stuck, tag_on-append}
+use Rattle.rx_reader.proofs.OneToken.{TagFirst, tag_first, no_bang, no_question, markup_begins}
+
+-- before its end a tag goes on
+before_end : (s : Syntax) (o : Result TagState Kind) (more : Chars) (last : TagState) → tag_on s (meaning s) o more ≡ Ok last → more ≢ [] → told_of_tag o ≡ goes_on
+before_end s o [] last h n = absurd (n refl)
+before_end s (Err kind) (x ∷ more) last h n = absurd (let k = on_err s (meaning s) kind more in cc)
+before_end s (Ok st) (x ∷ more) last h n =
+    by_test {G = told_of_tag (Ok st) ≡ goes_on} (is_last st.phase)
+    (λ w. absurd (let k : tag_on s (meaning s) (checked s (Err BadTag)) more ≡ Ok last = sym (ap (λ o. tag_on s (meaning s) (checked s o) more) (stuck s (meaning s) st x [] w)) ∙ h in let e = on_err s (meaning s) BadTag more in cc))
+    (λ w. cond-false _ _ _ w)
+
+module _ (s : Syntax) (text : Chars) (t : Tag) (sp : SpellsTag s text t) where
+  pub tag_goes : (f : Chars) (d : ℕ) (more : Chars) → text ≡ (f ++ d ∷ []) ++ more → more ≢ [] → in_tag s f d ≡ goes_on
+  tag_goes f d more e n =
+      let r = reads_each s text t sp in
+      before_end s (tag_on s (meaning s) (Ok fresh) (f ++ d ∷ [])) more r.last (sym (ap (tag_on s (meaning s) (Ok fresh)) e ∙ tag_on-append s (meaning s) (Ok fresh) (f ++ d ∷ []) more) ∙ r.run) n
+
+  pub tag_ends : (f : Chars) (d : ℕ) → text ≡ f ++ d ∷ [] → in_tag s f d ≡ whole (tag t)
+  tag_ends f d e =
+      let r = reads_each s text t sp in
+      ap told_of_tag (ap (tag_on s (meaning s) (Ok fresh)) (sym e) ∙ r.run) ∙ (cond-true _ _ _ r.whole ∙ ap (λ x. whole (tag x)) r.is_tag)
+
+  -- after `<` the tag's first character tells that it is one
+  first_of : TagFirst s text
+  first_of = tag_first s text sp.reads.written sp.reads.shape
+
+  not_this : (c d : ℕ) → (begins_tag s c || c == solidus) ≡ true → (begins_tag s d || d == solidus) ≡ false → (c == d) ≡ false
+  not_this c d h n = by_test {G = (c == d) ≡ false} (c == d) (λ e. absurd (not_both_ways (begins_tag s c || c == solidus) h (of_one (λ x. (begins_tag s x || x == solidus) ≡ false) c d e n))) (λ e. e)
+
+  pub markup_tag : (i : Content) (f : Chars) (d : ℕ) (more : Chars) → text ≡ f ++ d ∷ more → in_markup s i f d ≡ in_tag s f d
+  markup_tag i [] d more e =
+      let q : first_of.c ≡ d = (let k : first_of.c ∷ first_of.rest ≡ d ∷ more = sym first_of.is ∙ e in cc) in
+      let test = subst (λ x. (begins_tag s x || x == solidus) ≡ true) q first_of.test in
+      cond-false _ _ _ (no_mark d test) ∙ cond-false _ _ _ (no_text s d test)
+    where
+      no_mark : (d : ℕ) → (begins_tag s d || d == solidus) ≡ true → is_mark d ≡ false
+      no_mark d test = rw (not_this d 33 test (no_bang s), not_this d 63 test (no_question s)) refl
+      no_text : (s : Syntax) (d : ℕ) → (begins_tag s d || d == solidus) ≡ true → (is_html s && not (begins_markup d)) ≡ false
+      no_text Html d test = markup_begins Html refl d test
+      no_text Xhtml d test = refl
+  markup_tag i (x ∷ f) d more e =
+      let q : first_of.c ≡ x = (let k : first_of.c ∷ first_of.rest ≡ x ∷ (f ++ d ∷ more) = sym first_of.is ∙ e in cc) in
+      let test = subst (λ x. (begins_tag s x || x == solidus) ≡ true) q first_of.test in
+      cond-false _ _ _ (not_this x 33 test (no_bang s)) ∙ cond-false _ _ _ (not_this x 63 test (no_question s))
+
+  nonempty : text ≡ [] → ⊥
+  nonempty e = let k : first_of.c ∷ first_of.rest ≡ [] = sym first_of.is ∙ e in cc
+
+  pub more_left : (more : Chars) (c : ℕ) → more ++ c ∷ [] ≢ []
+  more_left [] c h = cc
+  more_left (z ∷ more) c h = cc
+
+  pub reads_tag : (i : Content) (next : Option ℕ) → has_markup i ≡ true → ReadAs s i (60 ∷ text) next (tag t)
+  reads_tag i next markup = by (last_of text)
+    where
+      by : Last text → ReadAs s i (60 ∷ text) next (tag t)
+      by (no_last e) = absurd (nonempty e)
+      by (a_last f c e) =
+          read_to s i (60 ∷ f) c next (tag t) (ap (λ x. 60 ∷ x) e)
+          (refl, all_go s i (60 ∷ []) f (λ a d more k.
+          let q : text ≡ a ++ d ∷ (more ++ c ∷ []) = e ∙ (ap (λ x. x ++ c ∷ []) k ∙ append_assoc a (d ∷ more) (c ∷ [])) in
+          markup_is s i a d markup ∙ (markup_tag i a d (more ++ c ∷ []) q ∙ tag_goes a d (more ++ c ∷ []) (q ∙ sym (append_assoc a (d ∷ []) (more ++ c ∷ []))) (more_left more c))))
+          (markup_is s i f c markup ∙ (markup_tag i f c [] e ∙ tag_ends f c e))

@@ -1,0 +1,81 @@
+-- What leads from character to character to a verdict.
+use Rattle.std.proofs.Common.{◌≡◌, ◌≢◌, ◌∙◌, ℕ, Bool, true, false, cond, List, [], ◌∷◌, ◌++◌, Option, Some, None, refl, ap, sym, subst, append-nil, append_assoc}
+use Rattle.std.specs.Prelude.{◌&&◌, ◌||◌, not, codes}
+use Rattle.rx_terms.specs.Text.{Chars, begins_with, lowered}
+use Rattle.rx_chars.specs.declared.syntax.Syntax.{Syntax}
+use Rattle.rx_chars.specs.declared.syntax.Syntax.TheVariants.{Html, Xhtml}
+use Rattle.rx_grammar.specs.declared.contents.Content.{Content}
+use Rattle.rx_grammar.specs.declared.contents.Content.TheVariants as content
+use Rattle.rx_grammar.specs.Tokens.{Token}
+use Rattle.rx_grammar.specs.Spelling.{IsFirst, has_markup, has_sections, raw_name}
+use Rattle.rx_pages.specs.Scanner.{Verdict, goes_on, whole, ended, refused, whole_if, after_less_than, in_markup, verdict, GoesOn, ReadAs, at_last, at_next}
+use Rattle.rx_reader.proofs.Bools.{both, not_both_ways, by_test}
+
+-- a text by its last character
+pub data Last (text : Chars) : Type 0 where
+  no_last : text ≡ [] → Last text
+  a_last : (front : Chars) (c : ℕ) → text ≡ front ++ c ∷ [] → Last text
+
+pub last_of : (text : Chars) → Last text
+last_of [] = no_last refl
+last_of (c ∷ text) = by (last_of text)
+  where
+    by : Last text → Last (c ∷ text)
+    by (no_last e) = a_last [] c (ap (λ x. c ∷ x) e)
+    by (a_last front d e) = a_last (c ∷ front) d (ap (λ x. c ∷ x) e)
+
+module _ (s : Syntax) (i : Content) where
+  pub all_go : (before text : Chars) → ((f : Chars) (d : ℕ) (more : Chars) → text ≡ f ++ d ∷ more → verdict s i (before ++ f) d ≡ goes_on) → GoesOn s i before text
+  all_go before [] h = tt
+  all_go before (c ∷ text) h =
+      (subst (λ x. verdict s i x c ≡ goes_on) (append-nil before) (h [] c text refl),
+      all_go (before ++ c ∷ []) text (λ f d more e. subst (λ x. verdict s i x d ≡ goes_on) (sym (append_assoc before (c ∷ []) f)) (h (c ∷ f) d more (ap (λ x. c ∷ x) e))))
+
+  pub go_append : (before a b : Chars) → GoesOn s i before a → GoesOn s i (before ++ a) b → GoesOn s i before (a ++ b)
+  go_append before [] b g h = subst (λ x. GoesOn s i x b) (append-nil before) h
+  go_append before (c ∷ a) b g h = (g.0, go_append (before ++ c ∷ []) a b g.1 (subst (λ x. GoesOn s i x b) (sym (append_assoc before (c ∷ []) a)) h))
+
+  -- read to a last character
+  pub read_to : (front : Chars) (c : ℕ) (next : Option ℕ) (token : Token) {text : Chars} → text ≡ front ++ c ∷ [] → GoesOn s i [] front → verdict s i front c ≡ whole token → ReadAs s i text next token
+  read_to front c next token e g h = subst (λ x. ReadAs s i x next token) (sym e) (at_last front c token g h)
+
+  -- what ends at the first front that meets a test, behind a fixed opening
+  pub reads_first : (opening x : Chars) (test : Chars → Bool) (next : Option ℕ) (token : Token) → IsFirst test x → test [] ≡ false → GoesOn s i [] opening
+      → ((f : Chars) (d : ℕ) (more : Chars) → x ≡ f ++ d ∷ more → test (f ++ d ∷ []) ≡ false → verdict s i (opening ++ f) d ≡ goes_on)
+      → ((f : Chars) (d : ℕ) → x ≡ f ++ d ∷ [] → test (f ++ d ∷ []) ≡ true → verdict s i (opening ++ f) d ≡ whole token) → ReadAs s i (opening ++ x) next token
+  reads_first opening x test next token first none g on off = by (last_of x)
+    where
+      by : Last x → ReadAs s i (opening ++ x) next token
+      by (no_last e) = absurd (not_both_ways (test []) (ap test (sym e) ∙ first.whole) none)
+      by (a_last f c e) =
+          read_to (opening ++ f) c next token (ap (λ y. opening ++ y) e ∙ sym (append_assoc opening f (c ∷ [])))
+          (go_append [] opening f g (all_go opening f (λ a d more k. on a d (more ++ c ∷ []) (longer a d more k) (first.first (a ++ d ∷ []) (more ++ c ∷ []) (longer a d more k ∙ sym (append_assoc a (d ∷ []) (more ++ c ∷ []))) (more_left more)))))
+          (off f c e (ap test (sym e) ∙ first.whole))
+        where
+          longer : (a : Chars) (d : ℕ) (more : Chars) → f ≡ a ++ d ∷ more → x ≡ a ++ d ∷ (more ++ c ∷ [])
+          longer a d more k = e ∙ (ap (λ y. y ++ c ∷ []) k ∙ append_assoc a (d ∷ more) (c ∷ []))
+          more_left : (more : Chars) → more ++ c ∷ [] ≢ []
+          more_left [] h = cc
+          more_left (z ∷ more) h = cc
+
+pub markup_raw : (i : Content) → has_markup i ≡ true → raw_name i ≡ None
+markup_raw content.Outside h = refl
+markup_raw content.Html h = refl
+markup_raw content.Foreign h = refl
+markup_raw content.Strict h = refl
+markup_raw (content.Raw name) h = absurd (cc)
+markup_raw (content.Rcdata name) h = absurd (cc)
+
+pub sections_markup : (i : Content) → has_sections i ≡ true → has_markup i ≡ true
+sections_markup content.Outside h = refl
+sections_markup content.Html h = refl
+sections_markup content.Foreign h = refl
+sections_markup content.Strict h = refl
+sections_markup (content.Raw name) h = absurd (cc)
+sections_markup (content.Rcdata name) h = absurd (cc)
+
+pub markup_is : (s : Syntax) (i : Content) (text : Chars) (c : ℕ) → has_markup i ≡ true → verdict s i (60 ∷ text) c ≡ in_markup s i text c
+markup_is s i text c h = ap (λ o. after_less_than s i o text c) (markup_raw i h)
+
+pub raw_is : (s : Syntax) (i : Content) (text name : Chars) (c : ℕ) → raw_name i ≡ Some name → verdict s i (60 ∷ text) c ≡ after_less_than s i (Some name) text c
+raw_is s i text name c h = ap (λ o. after_less_than s i o text c) h

@@ -1,0 +1,28 @@
+-- What holds of the tables.
+use Rattle.std.specs.Prelude.{ℕ, List, Option}
+use Rattle.rx_terms.specs.Text.{Chars}
+use Rattle.rx_chars.specs.declared.syntax.Syntax.{Syntax}
+use Rattle.rx_grammar.specs.declared.contents.Content.{Content}
+use Rattle.rx_grammar.specs.Tokens.{Token}
+use Rattle.rx_grammar.specs.Spelling.{Spells}
+use Rattle.rx_chars.specs.Characters.{Entry}
+use Rattle.rx_grammar.specs.Items.{Item, Spelled}
+use Rattle.rx_grammar.specs.Begun.{Line, Phase, Stands}
+use Rattle.rx_pages.specs.Nesting.{Event, not_begun, Goes, IsAt}
+use Rattle.rx_pages.specs.Scanner.{ReadAs}
+
+-- characters that spell a token are read as it
+abbrev pub ReadsEachToken : Type 0
+ReadsEachToken = (syntax : Syntax) (inside : Content) (text : Chars) (next : Option ℕ) (token : Token) → Spells syntax inside text next token → ReadAs syntax inside text next token
+
+-- tokens that can stand at the front of a page lead to its open elements
+pub record Leads (syntax : Syntax) (depth : ℕ) (items : List Item) (line : Line) (phase : Phase) : Type 0 where
+  pub events : List Event
+  pub going : Goes syntax depth (IsAt line phase) not_begun items events
+
+abbrev pub FrontsLead : Type 0
+FrontsLead = (syntax : Syntax) (depth : ℕ) (items : List Item) (line : Line) (phase : Phase) → Stands syntax depth items line phase → Leads syntax depth items line phase
+
+-- and spelled tokens that lead to open elements can stand at the front of a page
+abbrev pub FrontsStand : Type 0
+FrontsStand = (syntax : Syntax) (depth : ℕ) (entries : List Entry) (next : Option ℕ) (items : List Item) (line : Line) (phase : Phase) → Spelled syntax entries next items → Leads syntax depth items line phase → Stands syntax depth items line phase

@@ -1,0 +1,29 @@
+//! How a page is read from its first byte to its last: the tokens of a page nest one after another, and a byte list has
+//! one tree at most.
+//!
+//! The tables here are a means, as those of `rx_reader`: laws tie them to the grammar, and the code of the layers above
+//! does what they say.
+#![tactic(auto)]
+
+ghost use Rattle.rx_grammar.specs.Laws.{OneTree};
+ghost use Rattle.rx_pages.specs.Laws.{FrontsLead, FrontsStand, ReadsEachToken};
+
+/// A byte list has at most one tree.
+pub fn one_tree()
+    ensures { OneTree }
+{}
+
+/// Characters that spell a token are read as it.
+pub fn reads_each_token()
+    ensures { ReadsEachToken }
+{}
+
+/// Tokens that can stand at the front of a page lead to its open elements.
+pub fn fronts_lead()
+    ensures { FrontsLead }
+{}
+
+/// Spelled tokens that lead to open elements can stand at the front of a page.
+pub fn fronts_stand()
+    ensures { FrontsStand }
+{}
