@@ -1,10 +1,9 @@
 -- Names that stand twice.
-use Rattle.std.proofs.Common.{◌≡◌, ◌∙◌, sym, ap, refl, ℕ, ◌+◌, ◌≤◌, ◌<◌, zero, suc, List, [], ◌∷◌, ◌++◌, length, take, arith, get_or, Bool, true, false, cond, if◌then◌else◌, map}
+use Rattle.std.proofs.Common.{◌≡◌, ◌∙◌, sym, ap, refl, ℕ, ◌+◌, ◌≤◌, ◌<◌, zero, suc, List, [], ◌∷◌, ◌++◌, length, take, arith, Bool, true, false, cond}
 use Rattle.std.specs.Prelude.{◌||◌, not, nat_eq, slice_index_or}
-use Rattle.std.specs.Cmp.Lexicographic.{pointwise, slice_cmp}
+use Rattle.std.specs.Cmp.Lexicographic.{slice_cmp}
 use Rattle.std.specs.Ordering.{is_eq, nat_cmp}
 use Rattle.std.proofs.lemmas.Map.Text.{is_eq-slice_cmp}
-use Rattle.std.specs.List.{list_any}
 use Rattle.std.specs.Str.{chars, IsUtf8}
 use Rattle.std.proofs.lemmas.List.{length-append, length-map, append_assoc, append-nil, map-append}
 use Rattle.std.proofs.lemmas.List.Folds.{list_any-append}
@@ -43,7 +42,6 @@ has_more xs x name = list_any-append (λ (a : Attribute). same a.0 name) xs (x �
 
 -- the first ones of a longer list, where its last name stands before
 firsts_new : (xs : List Attribute) (x : Attribute) → has_name xs x.0 ≡ false → firsts (xs ++ x ∷ []) ≡ firsts xs ++ x ∷ []
-
 firsts_new [] x h = refl
 firsts_new (y ∷ xs) x h =
     let parts = neither (same y.0 x.0) (has_name xs x.0) h in
@@ -54,11 +52,11 @@ pub firsts_same : (xs : List Attribute) (x : Attribute) → has_name xs x.0 ≡ 
 firsts_same [] x h = absurd (cc)
 firsts_same (y ∷ xs) x h =
     by_test (has_name xs x.0)
-      (λ e. ap (λ rest. y ∷ without y.0 rest) (firsts_same xs x e))
-      (λ e.
-        let it : same y.0 x.0 ≡ true = sym (or_false (same y.0 x.0)) ∙ ap (λ b. same y.0 x.0 || b) (sym e) ∙ h in
-        let back : same x.0 y.0 ≡ true = same_swap x.0 y.0 ∙ it in
-        ap (λ rest. y ∷ without y.0 rest) (firsts_new xs x e) ∙ ap (λ rest. y ∷ rest) (without_append y.0 (firsts xs) (x ∷ []) ∙ rw back (append-nil (without y.0 (firsts xs)))))
+    (λ e. ap (λ rest. y ∷ without y.0 rest) (firsts_same xs x e))
+    (λ e.
+    let it : same y.0 x.0 ≡ true = sym (or_false (same y.0 x.0)) ∙ ap (λ b. same y.0 x.0 || b) (sym e) ∙ h in
+    let back : same x.0 y.0 ≡ true = same_swap x.0 y.0 ∙ it in
+    ap (λ rest. y ∷ without y.0 rest) (firsts_new xs x e) ∙ ap (λ rest. y ∷ rest) (without_append y.0 (firsts xs) (x ∷ []) ∙ rw back (append-nil (without y.0 (firsts xs)))))
 
 or_four : (a b c d : Bool) → ((a || b) || (c || d)) ≡ ((a || c) || (b || d))
 or_four true b c d = refl
@@ -91,18 +89,18 @@ record Counted (xs : List Attribute) : Type 0 where
 counted_more : (xs : List Attribute) (x : Attribute) → Counted xs → Counted (xs ++ x ∷ [])
 counted_more xs x h =
     by_test (has_name xs x.0)
-      (λ e.
-        let f : length (firsts (xs ++ x ∷ [])) ≡ length (firsts xs) = ap length (firsts_same xs x e) in
-        record {
-          fewer = omega (arith, f, h.fewer, length-append xs (x ∷ []));
-          all = λ k. absurd (omega (arith, f, h.fewer, k, length-append xs (x ∷ [])));
-        })
-      (λ e.
-        let f : length (firsts (xs ++ x ∷ [])) ≡ length (firsts xs) + 1 = ap length (firsts_new xs x e) ∙ length-append (firsts xs) (x ∷ []) in
-        record {
-          fewer = omega (arith, f, h.fewer, length-append xs (x ∷ []));
-          all = λ k. let n : length (firsts xs) ≡ length xs = omega (arith, f, k, length-append xs (x ∷ [])) in repeat_more xs x ∙ rw (h.all n, e) refl;
-        })
+    (λ e.
+    let f : length (firsts (xs ++ x ∷ [])) ≡ length (firsts xs) = ap length (firsts_same xs x e) in
+    record {
+      fewer = omega (arith, f, h.fewer, length-append xs (x ∷ []));
+      all = λ k. absurd (omega (arith, f, h.fewer, k, length-append xs (x ∷ [])));
+    })
+    (λ e.
+    let f : length (firsts (xs ++ x ∷ [])) ≡ length (firsts xs) + 1 = ap length (firsts_new xs x e) ∙ length-append (firsts xs) (x ∷ []) in
+    record {
+      fewer = omega (arith, f, h.fewer, length-append xs (x ∷ []));
+      all = λ k. let n : length (firsts xs) ≡ length xs = omega (arith, f, k, length-append xs (x ∷ [])) in repeat_more xs x ∙ rw (h.all n, e) refl;
+    })
 
 counted_on : (xs ys : List Attribute) → Counted xs → Counted (xs ++ ys)
 counted_on xs [] h = rw (append-nil xs) h
@@ -175,9 +173,9 @@ pub names_turn : (text : List ℕ) (rows : List Row) (i : ℕ) (name : List ℕ)
     → before ≡ is_named text (take i rows) name → after ≡ (same (piece text (at rows i).start (at rows i).middle) name || before) → after ≡ is_named text (take (i + 1) rows) name
 names_turn text rows i name before after h b a =
     a ∙ ap (λ d. same (piece text (at rows i).start (at rows i).middle) name || d) b ∙ or_swap (same (piece text (at rows i).start (at rows i).middle) name) (is_named text (take i rows) name)
-      ∙ ap (λ d. is_named text (take i rows) name || d) (sym (or_false (same (piece text (at rows i).start (at rows i).middle) name)))
-      ∙ sym (list_any-append (λ (row : Row). same (piece text row.start row.middle) name) (take i rows) (at rows i ∷ []))
-      ∙ ap (λ some. is_named text some name) (sym (take_more rows i h))
+    ∙ ap (λ d. is_named text (take i rows) name || d) (sym (or_false (same (piece text (at rows i).start (at rows i).middle) name)))
+    ∙ sym (list_any-append (λ (row : Row). same (piece text row.start row.middle) name) (take i rows) (at rows i ∷ []))
+    ∙ ap (λ some. is_named text some name) (sym (take_more rows i h))
 
 module _ (text : List ℕ) (limit : ℕ) (rows kept : List Row) (i : ℕ) (fit : RowsFit text limit rows) (h : i < length rows)
     (read : rows_read text kept ≡ firsts (rows_read text (take i rows))) (is_new before : Bool)
@@ -191,7 +189,7 @@ module _ (text : List ℕ) (limit : ℕ) (rows kept : List Row) (i : ℕ) (fit :
   pub new_turn : is_new ≡ true → rows_read text (kept ++ at rows i ∷ []) ≡ firsts (rows_read text (take (i + 1) rows))
   new_turn e =
       map-append (row_read text) kept (at rows i ∷ []) ∙ ap (λ front. front ++ row_read text (at rows i) ∷ []) read
-        ∙ sym (firsts_new (rows_read text (take i rows)) (row_read text (at rows i)) (named ∙ not_false is_new before n e)) ∙ ap firsts (sym read_more)
+      ∙ sym (firsts_new (rows_read text (take i rows)) (row_read text (at rows i)) (named ∙ not_false is_new before n e)) ∙ ap firsts (sym read_more)
 
   pub old_turn : is_new ≡ false → rows_read text kept ≡ firsts (rows_read text (take (i + 1) rows))
   old_turn e = read ∙ sym (firsts_same (rows_read text (take i rows)) (row_read text (at rows i)) (named ∙ not_true is_new before n e)) ∙ ap firsts (sym read_more)

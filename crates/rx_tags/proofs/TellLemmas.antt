@@ -1,5 +1,5 @@
 -- What the reader's answers tell of the characters so far, by the grammar.
-use Rattle.std.proofs.Common.{◌≡◌, ◌∙◌, sym, ap, subst, refl, ℕ, Bool, true, false, [], ◌∷◌, ◌++◌, Option, Some, None, Result, Ok, Err}
+use Rattle.std.proofs.Common.{◌≡◌, ◌∙◌, sym, ap, subst, refl, ℕ, true, false, [], ◌∷◌, ◌++◌, Option, Some, None, Result, Ok, Err}
 use Rattle.std.specs.Prelude.{◌==◌, ◌&&◌}
 use Rattle.rx_terms.specs.Ascii.{ampersand}
 use Rattle.rx_terms.specs.Text.{Chars}
@@ -21,7 +21,6 @@ use Rattle.rx_reader.specs.declared.phases.RunMove.TheVariants.{Goes, Closes, St
 use Rattle.rx_reader.specs.Tables.{move_of, run_move, is_last}
 use Rattle.rx_reader.specs.Values.{Value, is_run, no_meaning, plain_step, meant, stopped, run_step, value_step, run_end, value_end}
 use Rattle.rx_reader.specs.TagReader.{TagState, fresh, with_value, with_attribute, done_by, moved, checked, tag_step, tag_step_on, tag_on, tag_move_on, moves_on, parts_of}
-use Rattle.rx_reader.specs.Laws.{ReadsTag}
 use Rattle.rx_reader.proofs.Bools.{split, both, not_both_ways}
 use Rattle.rx_reader.proofs.TagLaws.{spells_each, reads_each, on_err, table_is_exact, tag_on-append, moves-append, through}
 use Rattle.rx_reader.proofs.TagSound.{tag_read}
@@ -124,7 +123,7 @@ repeated_fault s st chars c run step =
     let r = repeats_move s (meaning s) st c (move_of s st.phase c) step in
     let d = through s (meaning s) chars fresh st refl run in
     let reads : moves_on s (meaning s) (Ok fresh) (chars ++ c ∷ []) ≡ Ok r.last =
-      moves-append s (meaning s) (Ok fresh) chars (c ∷ []) ∙ (ap (λ o. tag_move_on s (meaning s) o c) d.reads ∙ r.was) in
+    moves-append s (meaning s) (Ok fresh) chars (c ∷ []) ∙ (ap (λ o. tag_move_on s (meaning s) o c) d.reads ∙ r.was) in
     repeated (chars ++ c ∷ []) (parts_of r.last) (tag_read s (meaning s) r.last r.whole (chars ++ c ∷ []) reads) r.repeated
 
 on : (s : Syntax) (st : TagState) (chars : Chars) (c : ℕ) (r : Result TagState Kind) → tag_on s (meaning s) (Ok fresh) chars ≡ Ok st → tag_step s (meaning s) st c ≡ r
@@ -143,7 +142,7 @@ never : (s : Syntax) (chars : Chars) (kind : Kind) → tag_on s (meaning s) (Ok 
 never s chars kind run more spelled sp =
     let r = reads_each s (chars ++ more) spelled sp in
     let refused : tag_on s (meaning s) (Ok fresh) (chars ++ more) ≡ Err kind =
-      tag_on-append s (meaning s) (Ok fresh) chars more ∙ (ap (λ o. tag_on s (meaning s) o more) run ∙ on_err s (meaning s) kind more) in
+    tag_on-append s (meaning s) (Ok fresh) chars more ∙ (ap (λ o. tag_on s (meaning s) o more) run ∙ on_err s (meaning s) kind more) in
     let both_ways : Ok r.last ≡ Err kind = sym r.run ∙ refused in
     cc
 
@@ -158,12 +157,12 @@ tells old new c (Ok More) g chars h =
 tells old new c (Ok Done) g chars h =
     let e : Ends (record { syntax = old.syntax; state = old.state }) c new.state = g.1 in
     subst (StepTells (chars ++ c ∷ []) (Ok Done)) (sym g.2)
-      (spells_each old.syntax (chars ++ c ∷ []) (parts_of new.state) (record { last = e.last; run = on old.syntax old.state chars c (Ok e.last) h.run e.step; whole = e.whole; is_tag = sym (ap parts_of e.kept) }))
+    (spells_each old.syntax (chars ++ c ∷ []) (parts_of new.state) (record { last = e.last; run = on old.syntax old.state chars c (Ok e.last) h.run e.step; whole = e.whole; is_tag = sym (ap parts_of e.kept) }))
 tells old new c (Err (Bad kind)) g chars h =
     subst (StepTells (chars ++ c ∷ []) (Err (Bad kind))) (sym g.2) (record {
       unspelled = never old.syntax (chars ++ c ∷ []) kind (on old.syntax old.state chars c (Err kind) h.run g.1);
       bad_tag = λ e.
-        ((table_is_exact old.syntax (meaning old.syntax) chars old.state h.run h.may_step.unfinished).refused c).0
+          ((table_is_exact old.syntax (meaning old.syntax) chars old.state h.run h.may_step.unfinished).refused c).0
           (bad_move old.syntax (meaning old.syntax) old.state c (move_of old.syntax old.state.phase c) (g.1 ∙ ap Err e));
       repeated = λ e. repeated_fault old.syntax old.state chars c h.run (g.1 ∙ ap Err e);
     })

@@ -45,10 +45,10 @@ pub record Spends (old new : TagSoFar) : Type 0 where
 abbrev pub StepGives : TagSoFar → ℕ → Result TagStep TagError → TagSoFar → Type 0
 StepGives old c (Ok step) new =
     (old.spent ≡ false) × ReadGives (read_of old) c (Ok step) new.state
-      × (new ≡ record { syntax = old.syntax; state = new.state; refused = old.refused; spent = old.spent })
+    × (new ≡ record { syntax = old.syntax; state = new.state; refused = old.refused; spent = old.spent })
 StepGives old c (Err (Bad kind)) new =
     (old.spent ≡ false) × ReadGives (read_of old) c (Err (Bad kind)) new.state
-      × (new ≡ record { syntax = old.syntax; state = fresh; refused = true; spent = false })
+    × (new ≡ record { syntax = old.syntax; state = fresh; refused = true; spent = false })
 StepGives old c (Err NoMemory) new = Spends old new
 
 -- These are the characters since the buffer was made or cleared, and no fault was answered.

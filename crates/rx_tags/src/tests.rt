@@ -60,20 +60,40 @@ fn whole_tags(rt: HostRuntime) -> Result<(), Fail> {
         (Syntax::Html, b"p a=b=\"<` c>", "p|a=b=\"<`|c="),
         (Syntax::Html, b"p a=\"'>\" b='\"'>", "p|a='>|b=\""),
         (Syntax::Html, b"p \xC9=\xE9>", "p|É=é"),
-        (Syntax::Html, b"p a=\"&lt;&amp;&#65;&#x42;&#X43;\">", "p|a=<&ABC"),
+        (
+            Syntax::Html,
+            b"p a=\"&lt;&amp;&#65;&#x42;&#X43;\">",
+            "p|a=<&ABC",
+        ),
         (Syntax::Html, b"p a='&eacute;&#128;'>", "p|a=é€"),
-        (Syntax::Html, b"p a='& &a &#z &#x&lt' b=&c>", "p|a=& &a &#z &#x&lt|b=&c"),
+        (
+            Syntax::Html,
+            b"p a='& &a &#z &#x&lt' b=&c>",
+            "p|a=& &a &#z &#x&lt|b=&c",
+        ),
         (Syntax::Html, b"p a='&&lt;&\xE9;'>", "p|a=&<&é;"),
         (Syntax::Html, b"p a=1 A=2 b=3 a=4 B c=5>", "p|a=1|b=3|c=5"),
         (Syntax::Html, b"p a a a>", "p|a="),
         (Syntax::Xhtml, b"P>", "P"),
         (Syntax::Xhtml, b":p-1.x_\xE9/>", ":p-1.x_é|/"),
         (Syntax::Xhtml, b"/p >", "/p"),
-        (Syntax::Xhtml, b"p a='1' A=\"2\" a:b = '3'>", "p|a=1|A=2|a:b=3"),
+        (
+            Syntax::Xhtml,
+            b"p a='1' A=\"2\" a:b = '3'>",
+            "p|a=1|A=2|a:b=3",
+        ),
         (Syntax::Xhtml, b"p a='1' />", "p|a=1|/"),
         (Syntax::Xhtml, b"p a='1\t2\n3>'>", "p|a=1 2 3>"),
-        (Syntax::Xhtml, b"p a='&lt;&gt;&amp;&quot;&apos;'>", "p|a=<>&\"'"),
-        (Syntax::Xhtml, b"p a='&#65;&#x10FFFF;&#128;'>", "p|a=A\u{10FFFF}\u{80}"),
+        (
+            Syntax::Xhtml,
+            b"p a='&lt;&gt;&amp;&quot;&apos;'>",
+            "p|a=<>&\"'",
+        ),
+        (
+            Syntax::Xhtml,
+            b"p a='&#65;&#x10FFFF;&#128;'>",
+            "p|a=A\u{10FFFF}\u{80}",
+        ),
         (Syntax::Xhtml, b"p a=''>", "p|a="),
     ];
     for (syntax, text, tag) in rows {
@@ -120,7 +140,11 @@ fn faults(rt: HostRuntime) -> Result<(), Fail> {
         (Syntax::Xhtml, b"p a='&#xg", Kind::StrictText),
         (Syntax::Xhtml, b"p a='&nbsp;", Kind::UnknownReference),
         (Syntax::Xhtml, b"p a='&#x110000;", Kind::BadReference),
-        (Syntax::Xhtml, b"p a='1' b='2' a='3'>", Kind::RepeatedAttribute),
+        (
+            Syntax::Xhtml,
+            b"p a='1' b='2' a='3'>",
+            Kind::RepeatedAttribute,
+        ),
         (Syntax::Xhtml, b"p a='1' a='2'/>", Kind::RepeatedAttribute),
     ];
     for (syntax, text, kind) in rows {

@@ -13,8 +13,8 @@ first_rows-requires c =
 unrepeated_then : (c : After-drop-kept) → has_repeat c.args.self.now.whole ≡ false
 unrepeated_then c =
     ap (λ (r : Reading). has_repeat r.whole) (sym c.self.view_is)
-      ∙ kept_all c.self.inside.text.items c.self.inside.rows.items c.in_ok-kept.kept.items c.len-2.result c.len-3.result (rw (c.deref.ensures.value, c.deref-2.ensures.value) at c.in_ok-kept.ensures.read)
-        (omega (arith, c.len-2.ensures, c.in_ok-kept.kept.ok.0)) (omega (arith, c.len-3.ensures, c.self.inside.rows.ok.0)) c.if-len.true
+    ∙ kept_all c.self.inside.text.items c.self.inside.rows.items c.in_ok-kept.kept.items c.len-2.result c.len-3.result (rw (c.deref.ensures.value, c.deref-2.ensures.value) at c.in_ok-kept.ensures.read)
+    (omega (arith, c.len-2.ensures, c.in_ok-kept.kept.ok.0)) (omega (arith, c.len-3.ensures, c.self.inside.rows.ok.0)) c.if-len.true
 
 pub returns-then-len-clause-repeated : goal.returns-then-len-clause-repeated
 returns-then-len-clause-repeated c = sym (unrepeated_then c)
@@ -36,8 +36,8 @@ invariant_of-self c = record {
 pub returns-clause-repeated : goal.returns-clause-repeated
 returns-clause-repeated c =
     sym (ap (λ (r : Reading). has_repeat r.whole) (sym c.self.view_is)
-      ∙ kept_some c.self.inside.text.items c.self.inside.rows.items c.in_ok-kept.kept.items c.len-2.result c.len-3.result (rw (c.deref.ensures.value, c.deref-2.ensures.value) at c.in_ok-kept.ensures.read)
-        (omega (arith, c.len-2.ensures, c.in_ok-kept.kept.ok.0)) (omega (arith, c.len-3.ensures, c.self.inside.rows.ok.0)) c.if-len.false)
+    ∙ kept_some c.self.inside.text.items c.self.inside.rows.items c.in_ok-kept.kept.items c.len-2.result c.len-3.result (rw (c.deref.ensures.value, c.deref-2.ensures.value) at c.in_ok-kept.ensures.read)
+    (omega (arith, c.len-2.ensures, c.in_ok-kept.kept.ok.0)) (omega (arith, c.len-3.ensures, c.self.inside.rows.ok.0)) c.if-len.false)
 
 few : (c : Then-len-lt2) → has_repeat c.args.self.now.whole ≡ false
 few c = ap (λ (r : Reading). has_repeat r.whole) (sym c.self.view_is) ∙ too_few c.self.inside.text.items c.self.inside.rows.items c.len.result (omega (arith, c.len.ensures, c.self.inside.rows.ok.0)) c.if-len-lt2.true
