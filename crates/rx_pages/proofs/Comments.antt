@@ -108,12 +108,47 @@ module _ (i : Content) (next : Option ℕ) (sections : has_sections i ≡ true) 
 
   begin_section : (s : Syntax) → GoesOn s i [] (codes "<![CDATA[")
   begin_section Html =
-      let n = and_none (has_sections i) in
-      (refl, (marks Html [] 33, (marks Html (codes "!") 91 ∙ bogus_at i [] 91 n, (marks Html (codes "![") 67 ∙ bogus_at i (codes "[") 67 n, (marks Html (codes "![C") 68 ∙ bogus_at i (codes "[C") 68 n,
-      (marks Html (codes "![CD") 65 ∙ bogus_at i (codes "[CD") 65 n, (marks Html (codes "![CDA") 84 ∙ bogus_at i (codes "[CDA") 84 n, (marks Html (codes "![CDAT") 65 ∙ bogus_at i (codes "[CDAT") 65 n, (marks Html (codes "![CDATA") 91 ∙ bogus_at i (codes "[CDATA") 91 n, tt)))))))))
-  begin_section Xhtml =
-      (refl, (marks Xhtml [] 33, (marks Xhtml (codes "!") 91, (marks Xhtml (codes "![") 67, (marks Xhtml (codes "![C") 68, (marks Xhtml (codes "![CD") 65, (marks Xhtml (codes "![CDA") 84, (marks Xhtml (codes "![CDAT") 65,
-      (marks Xhtml (codes "![CDATA") 91 ∙ cond-false _ _ _ (ap not sections), tt)))))))))
+      let n = and_none (has_sections i) in (
+        refl,
+        (
+          marks Html [] 33,
+          (
+            marks Html (codes "!") 91 ∙ bogus_at i [] 91 n,
+            (
+              marks Html (codes "![") 67 ∙ bogus_at i (codes "[") 67 n,
+              (
+                marks Html (codes "![C") 68 ∙ bogus_at i (codes "[C") 68 n,
+                (marks Html (codes "![CD") 65 ∙ bogus_at i (codes "[CD") 65 n, (marks Html (codes "![CDA") 84 ∙ bogus_at i (codes "[CDA") 84 n, (marks Html (codes "![CDAT") 65 ∙ bogus_at i (codes "[CDAT") 65 n, (marks Html (codes "![CDATA") 91 ∙ bogus_at i (codes "[CDATA") 91 n, tt)))),
+              ),
+            ),
+          ),
+        ),
+      )
+  begin_section Xhtml = (
+    refl,
+    (
+      marks Xhtml [] 33,
+      (
+        marks Xhtml (codes "!") 91,
+        (
+          marks Xhtml (codes "![") 67,
+          (
+            marks Xhtml (codes "![C") 68,
+            (
+              marks Xhtml (codes "![CD") 65,
+              (
+                marks Xhtml (codes "![CDA") 84,
+                (
+                  marks Xhtml (codes "![CDAT") 65,
+                  (marks Xhtml (codes "![CDATA") 91 ∙ cond-false _ _ _ (ap not sections), tt),
+                ),
+              ),
+            ),
+          ),
+        ),
+      ),
+    ),
+  )
 
   pub reads_section : (s : Syntax) (t : Chars) → IsFirst (ends_with (codes "]]>")) (t ++ codes "]]>") → ReadAs s i (60 ∷ 33 ∷ (codes "[CDATA[" ++ (t ++ codes "]]>"))) next (section t)
   reads_section s t f =

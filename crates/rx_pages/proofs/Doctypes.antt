@@ -149,7 +149,7 @@ module _ (i : Content) (next : Option ℕ) (markup : has_markup i ≡ true) wher
       where
         no_greater : (f : Chars) (d : ℕ) (more : Chars) → word ≡ f ++ d ∷ more → ends_with (codes ">") (f ++ d ∷ []) ≡ false
         no_greater f d more e = by_test {G = ends_with (codes ">") (f ++ d ∷ []) ≡ false} (ends_with (codes ">") (f ++ d ∷ []))
-          (λ h. absurd (not_both_ways (list_any (λ c. c == 62) (f ++ d ∷ [])) (has_end (f ++ d ∷ []) h) (any_front (λ c. c == 62) (f ++ d ∷ []) more (sym (ap (list_any (λ c. c == 62)) (e ∙ sym (append_assoc f (d ∷ []) more))) ∙ no_end word (codes "doctype") is_word refl)))) (λ h. h)
+            (λ h. absurd (not_both_ways (list_any (λ c. c == 62) (f ++ d ∷ [])) (has_end (f ++ d ∷ []) h) (any_front (λ c. c == 62) (f ++ d ∷ []) more (sym (ap (list_any (λ c. c == 62)) (e ∙ sym (append_assoc f (d ∷ []) more))) ∙ no_end word (codes "doctype") is_word refl)))) (λ h. h)
 
     html_behind : (f : Chars) (d : ℕ) → after_mark Html i (word ++ f) d ≡ in_doctype Html f d
     html_behind f d =
@@ -176,6 +176,7 @@ module _ (i : Content) (next : Option ℕ) (markup : has_markup i ≡ true) wher
     where
       after : Chars
       after = d.spaces ++ (d.name ++ (d.rest ++ 62 ∷ []))
+
       by : Last after → ReadAs s i (60 ∷ 33 ∷ text) next doctype
       by (no_last e) = absurd (no_space d.spaces d.apart e)
         where
@@ -189,9 +190,10 @@ module _ (i : Content) (next : Option ℕ) (markup : has_markup i ≡ true) wher
         where
           within : (a : Chars) (x : ℕ) → verdict s i (60 ∷ 33 ∷ (d.keyword ++ a)) x ≡ in_doctype s a x
           within a x = markup_is s i (33 ∷ (d.keyword ++ a)) x markup ∙ behind s d.keyword d.keyword_is a x
+
           close : (a : Chars) (x : ℕ) (more : Chars) → f ≡ a ++ x ∷ more → doctype_on s (doctype_on s (Some keyword) (a ++ x ∷ [])) (more ++ c ∷ []) ≡ Some closed
           close a x more k = sym (on_append s (Some keyword) (a ++ x ∷ []) (more ++ c ∷ [])) ∙ (ap (doctype_on s (Some keyword)) (append_assoc a (x ∷ []) (more ++ c ∷ []) ∙ (sym (append_assoc a (x ∷ more) (c ∷ [])) ∙ (ap (λ y. y ++ c ∷ []) (sym k) ∙ sym e))) ∙ behind_word s text d)
+
           more_left : (more : Chars) → more ++ c ∷ [] ≢ []
           more_left [] h = cc
           more_left (z ∷ more) h = cc
-

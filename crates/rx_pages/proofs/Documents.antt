@@ -115,7 +115,7 @@ module _ (syntax : Syntax) (depth : ℕ) (meant : Nesting → Type 0) (careless 
       subst (λ x. Reads syntax depth meant (outside_at (before stood)) (root ∷ from) later x) f.is (record {
         events = begins (start_of root u) (hides outside u) ∷ finishes ∷ later;
         going = alone_goes syntax depth meant careless [] (before stood) root u from later (subst (λ x. Opens syntax x root u) p o) refl (not_deeper depth 0 left (room left d)) (root_ready stood u.name (f.is_name ∙ n)) (sym (ap (λ x. is_alone syntax x u) p) ∙ is)
-          (trails syntax depth meant hs p f.ends later g);
+            (trails syntax depth meant hs p f.ends later g);
         tells = λ more e2. ap (λ ts. with_element (start_of root u) (hides outside u) (end ∷ ts)) e2 ∙ ap (λ x. element (start_of root u) x end ∷ more) (nothing_shown syntax depth meant careless (hides outside u));
       })
   root_reads root t inside stood (closed {left = left} {place = place} {from = from} {inner = inner} {after = rest} {inside = inner_tree} {nodes = nodes} item close u o isnt drop hin no_row c hs) p d k n e later g told =

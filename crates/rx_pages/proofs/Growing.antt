@@ -128,20 +128,22 @@ module _ (syntax : Syntax) where
 
   pub closes_root : {left : ℕ} {all : List Item} {s : StartTag} {line : Line} (depth : ℕ) (item : Item) → Open syntax left all (item ∷ []) (s ∷ line) → Closes (inside_of syntax (s ∷ line)).content s.name item → line ≡ [] → suc left ≡ depth → (tree : Tree) × Document syntax depth all tree
   closes_root depth item (a_child first t op o isnt among drop hs no_row) c n d = absurd (no_open op n)
-  closes_root {left = left} depth item (a_root {from = from} {inside = inside} {stood = stood} lead first t l o named isnt drop hs) c n d =
-      (element (start_of first t) (shown (hides outside t) inside) end, record {
-        before = lead;
-        root = first;
-        from = from;
-        after = [];
-        doctype_stands = stood;
-        t = t;
-        inside = shown (hides outside t) inside;
-        are = refl;
-        lead = l;
-        opens = o;
-        named = named;
-        tree_is = refl;
-        holds = subst (λ x. Holds syntax x outside [] (first ∷ from) [] (element (start_of first t) (shown (hides outside t) inside) end)) d (closed first item t o isnt drop hs (none_among inside) c nothing);
-        trail = pages.no_more;
-      })
+  closes_root {left = left} depth item (a_root {from = from} {inside = inside} {stood = stood} lead first t l o named isnt drop hs) c n d = (
+    element (start_of first t) (shown (hides outside t) inside) end,
+    record {
+      before = lead;
+      root = first;
+      from = from;
+      after = [];
+      doctype_stands = stood;
+      t = t;
+      inside = shown (hides outside t) inside;
+      are = refl;
+      lead = l;
+      opens = o;
+      named = named;
+      tree_is = refl;
+      holds = subst (λ x. Holds syntax x outside [] (first ∷ from) [] (element (start_of first t) (shown (hides outside t) inside) end)) d (closed first item t o isnt drop hs (none_among inside) c nothing);
+      trail = pages.no_more;
+    },
+  )

@@ -58,6 +58,7 @@ module _ (s : Syntax) (text : Chars) (t : Tag) (sp : SpellsTag s text t) where
     where
       no_mark : (d : ℕ) → (begins_tag s d || d == solidus) ≡ true → is_mark d ≡ false
       no_mark d test = rw (not_this d 33 test (no_bang s), not_this d 63 test (no_question s)) refl
+
       no_text : (s : Syntax) (d : ℕ) → (begins_tag s d || d == solidus) ≡ true → (is_html s && not (begins_markup d)) ≡ false
       no_text Html d test = markup_begins Html refl d test
       no_text Xhtml d test = refl
@@ -79,8 +80,10 @@ module _ (s : Syntax) (text : Chars) (t : Tag) (sp : SpellsTag s text t) where
       by : Last text → ReadAs s i (60 ∷ text) next (tag t)
       by (no_last e) = absurd (nonempty e)
       by (a_last f c e) =
-          read_to s i (60 ∷ f) c next (tag t) (ap (λ x. 60 ∷ x) e)
-          (refl, all_go s i (60 ∷ []) f (λ a d more k.
-          let q : text ≡ a ++ d ∷ (more ++ c ∷ []) = e ∙ (ap (λ x. x ++ c ∷ []) k ∙ append_assoc a (d ∷ more) (c ∷ [])) in
-          markup_is s i a d markup ∙ (markup_tag i a d (more ++ c ∷ []) q ∙ tag_goes a d (more ++ c ∷ []) (q ∙ sym (append_assoc a (d ∷ []) (more ++ c ∷ []))) (more_left more c))))
+          read_to s i (60 ∷ f) c next (tag t) (ap (λ x. 60 ∷ x) e) (
+            refl,
+            all_go s i (60 ∷ []) f (λ a d more k.
+                let q : text ≡ a ++ d ∷ (more ++ c ∷ []) = e ∙ (ap (λ x. x ++ c ∷ []) k ∙ append_assoc a (d ∷ more) (c ∷ [])) in
+                markup_is s i a d markup ∙ (markup_tag i a d (more ++ c ∷ []) q ∙ tag_goes a d (more ++ c ∷ []) (q ∙ sym (append_assoc a (d ∷ []) (more ++ c ∷ []))) (more_left more c))),
+          )
           (markup_is s i f c markup ∙ (markup_tag i f c [] e ∙ tag_ends f c e))

@@ -71,9 +71,11 @@ closing syntax depth line s item t c e =
   where
     is_same : same s.name t.name ≡ true
     is_same = (bytes_decides s.name t.name).1 e
+
     stays : (a b o : Bool) → b ≡ true → (a && not b && o) ≡ false
     stays true b o h = rw h refl
     stays false b o h = refl
+
     stay : after_end syntax t.name (s ∷ line) ≡ s ∷ line
     stay = cond-false _ _ _ (stays (is_omissible (inside_of syntax line) s.name) (same s.name t.name) (not (is_held (parent_of line) s.name)) is_same)
 
@@ -160,7 +162,7 @@ module _ (syntax : Syntax) (depth : ℕ) (meant : Nesting → Type 0) (careless 
         events = begins (start_of item t) (hides (inside_of syntax line) t) ∷ i.events;
         going = open_goes line phase item t from inner i.events o among (not_deeper depth (length line) left d) ready isnt drop i.going;
         tells = λ more e. ap (with_element (start_of item t) (hides (inside_of syntax line) t)) (i.tells (nodes ∷ more) (ap (λ ts. end ∷ ts) (tells more e)))
-          ∙ ap (λ x. element (start_of item t) (shown x inside) nodes ∷ more) (sym hid);
+            ∙ ap (λ x. element (start_of item t) (shown x inside) nodes ∷ more) (sym hid);
       }
 
   -- From where nodes begin to where they end, in an open element, the tokens tell them.

@@ -70,7 +70,6 @@ module _ (syntax : Syntax) (depth : ℕ) (all : List Item) (item : Item) (u : Ta
       (λ k. absurd (not_both_ways (is_html (inside_of syntax (s ∷ above)).content) (ap is_html (omissible_html syntax above s.name (ender_omits (inside_of syntax above) s.name u.name k)).inside) h)) (λ k. k)
 
   module _ (closing : u.closing ≡ true) where
-
     closed_by : (above : Line) (s : StartTag) → (is_omissible (inside_of syntax above) s.name && not (same s.name u.name) && not (is_held (parent_of above) s.name)) ≡ true → is_ended_by (inside_of syntax above) (parent_of above) s.name (item ∷ []) ≡ true
     closed_by above s h =
         let k = both (is_omissible (inside_of syntax above) s.name && not (same s.name u.name)) _ h in

@@ -44,7 +44,7 @@ module _ (s : Syntax) (i : Content) (name : Chars) (raw : raw_name i ≡ Some na
       where
         no_front : begins_end name (f ++ d ∷ []) ≡ false
         no_front = by_test {G = begins_end name (f ++ d ∷ []) ≡ false} (begins_end name (f ++ d ∷ []))
-          (λ h. absurd (not_front name text [] (raw_end s i name text t raw sp closing named) (ap (begins_end name) (append-nil text ∙ e) ∙ h))) (λ h. h)
+            (λ h. absurd (not_front name text [] (raw_end s i name text t raw sp closing named) (ap (begins_end name) (append-nil text ∙ e) ∙ h))) (λ h. h)
 
     pub reads_end_of_raw : (next : Option ℕ) → ReadAs s i (60 ∷ text) next (tag t)
     reads_end_of_raw next = by (last_of text)
@@ -55,8 +55,10 @@ module _ (s : Syntax) (i : Content) (name : Chars) (raw : raw_name i ≡ Some na
             not_nothing : RawEnd name text → text ≡ [] → ⊥
             not_nothing r e = let k = sym r.is ∙ e in cc
         by (a_last f c e) =
-            read_to s i (60 ∷ f) c next (tag t) (ap (λ x. 60 ∷ x) e)
-            (refl, all_go s i (60 ∷ []) f (λ a d more k.
-            let q : text ≡ a ++ d ∷ (more ++ c ∷ []) = e ∙ (ap (λ x. x ++ c ∷ []) k ∙ append_assoc a (d ∷ more) (c ∷ [])) in
-            raw_is s i a name d raw ∙ goes a d (more ++ c ∷ []) q (more_left s text t sp more c)))
+            read_to s i (60 ∷ f) c next (tag t) (ap (λ x. 60 ∷ x) e) (
+              refl,
+              all_go s i (60 ∷ []) f (λ a d more k.
+                  let q : text ≡ a ++ d ∷ (more ++ c ∷ []) = e ∙ (ap (λ x. x ++ c ∷ []) k ∙ append_assoc a (d ∷ more) (c ∷ [])) in
+                  raw_is s i a name d raw ∙ goes a d (more ++ c ∷ []) q (more_left s text t sp more c)),
+            )
             (raw_is s i f name c raw ∙ ends f c e)

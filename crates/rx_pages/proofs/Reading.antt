@@ -27,9 +27,10 @@ last_of (c ∷ text) = by (last_of text)
 module _ (s : Syntax) (i : Content) where
   pub all_go : (before text : Chars) → ((f : Chars) (d : ℕ) (more : Chars) → text ≡ f ++ d ∷ more → verdict s i (before ++ f) d ≡ goes_on) → GoesOn s i before text
   all_go before [] h = tt
-  all_go before (c ∷ text) h =
-      (subst (λ x. verdict s i x c ≡ goes_on) (append-nil before) (h [] c text refl),
-      all_go (before ++ c ∷ []) text (λ f d more e. subst (λ x. verdict s i x d ≡ goes_on) (sym (append_assoc before (c ∷ []) f)) (h (c ∷ f) d more (ap (λ x. c ∷ x) e))))
+  all_go before (c ∷ text) h = (
+    subst (λ x. verdict s i x c ≡ goes_on) (append-nil before) (h [] c text refl),
+    all_go (before ++ c ∷ []) text (λ f d more e. subst (λ x. verdict s i x d ≡ goes_on) (sym (append_assoc before (c ∷ []) f)) (h (c ∷ f) d more (ap (λ x. c ∷ x) e))),
+  )
 
   pub go_append : (before a b : Chars) → GoesOn s i before a → GoesOn s i (before ++ a) b → GoesOn s i before (a ++ b)
   go_append before [] b g h = subst (λ x. GoesOn s i x b) (append-nil before) h
@@ -54,6 +55,7 @@ module _ (s : Syntax) (i : Content) where
         where
           longer : (a : Chars) (d : ℕ) (more : Chars) → f ≡ a ++ d ∷ more → x ≡ a ++ d ∷ (more ++ c ∷ [])
           longer a d more k = e ∙ (ap (λ y. y ++ c ∷ []) k ∙ append_assoc a (d ∷ more) (c ∷ []))
+
           more_left : (more : Chars) → more ++ c ∷ [] ≢ []
           more_left [] h = cc
           more_left (z ∷ more) h = cc

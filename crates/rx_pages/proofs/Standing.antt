@@ -189,6 +189,7 @@ module _ (syntax : Syntax) (depth : ℕ) (all : List Item) (item : Item) where
     where
       pages_element : Tag → Tree
       pages_element u = element (start_of item u) end end
+
       one_more : (left : ℕ) → suc left ≡ depth → 1 + left ≡ depth
       one_more left d = omega arith
 
@@ -203,6 +204,7 @@ module _ (syntax : Syntax) (depth : ℕ) (all : List Item) (item : Item) where
       truth : (b : Bool) → not b ≡ false → b ≡ true
       truth true h = refl
       truth false h = absurd (cc)
+
       room : 0 < depth → suc (depth - 1) ≡ depth
       room h = omega arith
 
@@ -229,11 +231,14 @@ module _ (syntax : Syntax) (depth : ℕ) (item : Item) (outside_has : item.conte
     where
       all : List Item
       all = items ++ item ∷ []
+
       line : Line
       line = t ∷ above
+
       stays : (chars : Chars) → text_of item.token ≡ Some chars → (Open syntax left all (item ∷ []) line) ⊎ ((is_line_feed item.token ≡ true) × Open syntax left all [] line) → Stands syntax depth all line within
       stays chars h (inl o) = still_open depth (text_within syntax depth all item t above chars o c h) levels
       stays chars h (inr o) = still_open depth o.1 levels
+
       by : (Open syntax left all (item ∷ []) line) ⊎ ((is_line_feed item.token ≡ true) × Open syntax left all [] line) → (token : Token) → item.token ≡ token → step_by syntax depth (record { line = line; phase = within; drops = d }) item token ≡ Ok step → More items step
       by (inl o) (tag u) k e = by_test {G = More items step} u.closing (λ closing. end_within syntax depth all item t above u step o levels c k closing e) (λ start. start_within syntax depth all item line u step o levels c k start e)
       by (inr o) (tag u) k e = absurd (not_both_ways (is_line_feed item.token) o.0 (ap is_line_feed k))

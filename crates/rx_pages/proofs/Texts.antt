@@ -60,9 +60,10 @@ module _ (s : Syntax) (i : Content) where
     where
       not_less : (c == less_than_sign) ≡ false
       not_less = by_test {G = (c == less_than_sign) ≡ false} (c == less_than_sign) (λ e. absurd (not_both_ways (is_text i c) h (of_one (λ x. is_text i x ≡ false) c 60 e (no_less i)))) (λ e. e)
+
       not_reference : (c == ampersand && has_references i) ≡ false
       not_reference = by_test {G = (c == ampersand && has_references i) ≡ false} (c == ampersand && has_references i)
-        (λ e. let k = both (c == ampersand) _ e in absurd (not_both_ways (is_text i c) h (of_one (λ x. is_text i x ≡ false) c 38 k.0 (no_ampersand i k.1)))) (λ e. e)
+          (λ e. let k = both (c == ampersand) _ e in absurd (not_both_ways (is_text i c) h (of_one (λ x. is_text i x ≡ false) c 38 k.0 (no_ampersand i k.1)))) (λ e. e)
 
   pub reads_character : (next : Option ℕ) (c : ℕ) → is_text i c ≡ true → ReadAs s i (c ∷ []) next (character c)
   reads_character next c h = at_last [] c (character c) tt (first_text c h)

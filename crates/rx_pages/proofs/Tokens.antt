@@ -46,8 +46,8 @@ same_item syntax c d run other rest others a b ci e h k af al bf bl =
     let lasts : a.last ≡ b.last = al ∙ (ap (λ x. last_from x.last run) same_c ∙ (ap (λ x. last_from d.last x) same_run ∙ sym bl)) in
     record {
       item = ap (λ x. record { token = x; content = a.content; first = a.first; last = a.last }) s.token_is
-        ∙ (ap (λ x. record { token = b.token; content = x; first = a.first; last = a.last }) ci
-        ∙ (ap (λ x. record { token = b.token; content = b.content; first = x; last = a.last }) firsts ∙ ap (λ x. record { token = b.token; content = b.content; first = b.first; last = x }) lasts));
+          ∙ (ap (λ x. record { token = b.token; content = x; first = a.first; last = a.last }) ci
+          ∙ (ap (λ x. record { token = b.token; content = b.content; first = x; last = a.last }) firsts ∙ ap (λ x. record { token = b.token; content = b.content; first = b.first; last = x }) lasts));
       rest_is = f.rest;
     }
 
