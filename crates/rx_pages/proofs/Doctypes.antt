@@ -1,8 +1,8 @@
 -- The document type is read as it is spelled.
-use Rattle.std.proofs.Common.{◌≡◌, ◌≢◌, ◌∙◌, ℕ, suc, ◌+◌, ◌<◌, length, Bool, true, false, cond, List, [], ◌∷◌, ◌++◌, Option, Some, None, refl, ap, sym, subst, append-nil, append_assoc, inl, inr, arith, eqb-true}
-use Rattle.std.specs.Prelude.{◌&&◌, ◌||◌, ◌==◌, not, codes, drop, map}
+use Rattle.std.proofs.Common.{◌≡◌, ◌≢◌, ◌∙◌, ℕ, suc, ◌+◌, ◌<◌, length, Bool, true, false, [], ◌∷◌, ◌++◌, Option, Some, None, refl, ap, sym, subst, append_assoc, arith, eqb-true}
+use Rattle.std.specs.Prelude.{◌&&◌, ◌||◌, ◌==◌, not, codes, drop}
 use Rattle.std.specs.List.{list_all, list_any}
-use Rattle.std.proofs.lemmas.Bool.{cond-true, cond-false, and_from}
+use Rattle.std.proofs.lemmas.Bool.{cond-true, cond-false}
 use Rattle.std.proofs.lemmas.List.{map-append, length-append, length-map}
 use Rattle.rx_terms.specs.Ascii.{lowered_char, greater_than_sign, left_bracket, is_white_space}
 use Rattle.rx_terms.specs.Text.{Chars, begins_with, lowered}
@@ -10,10 +10,10 @@ use Rattle.rx_chars.specs.declared.syntax.Syntax.{Syntax}
 use Rattle.rx_chars.specs.declared.syntax.Syntax.TheVariants.{Html, Xhtml}
 use Rattle.rx_grammar.specs.declared.contents.Content.{Content}
 use Rattle.rx_grammar.specs.References.{one_or_more}
-use Rattle.rx_grammar.specs.Tokens.{Token, doctype, comment}
+use Rattle.rx_grammar.specs.Tokens.{doctype, comment}
 use Rattle.rx_grammar.specs.Tags.{cased, cased_char}
 use Rattle.rx_grammar.specs.Spelling.{has_markup, has_sections, ends_with, begins_declaration, doctype_word, IsDoctype}
-use Rattle.rx_pages.specs.Scanner.{Verdict, goes_on, whole, whole_if, DoctypePhase, keyword, spaces, naming, passed, closed, in_name, doctype_move, doctype_move_on, doctype_on, told_of_doctype, in_doctype, after_mark, in_markup, verdict, GoesOn, ReadAs}
+use Rattle.rx_pages.specs.Scanner.{goes_on, DoctypePhase, keyword, spaces, naming, passed, closed, doctype_move, doctype_move_on, doctype_on, told_of_doctype, in_doctype, after_mark, in_markup, verdict, GoesOn, ReadAs}
 use Rattle.rx_pages.proofs.Reading.{Last, no_last, a_last, last_of, all_go, go_append, read_to, markup_is}
 use Rattle.std.proofs.Math.Seq.{drop-append_seam}
 use Rattle.rx_pages.proofs.Comments.{none_if, and_none, bogus_at}
@@ -149,7 +149,7 @@ module _ (i : Content) (next : Option ℕ) (markup : has_markup i ≡ true) wher
       where
         no_greater : (f : Chars) (d : ℕ) (more : Chars) → word ≡ f ++ d ∷ more → ends_with (codes ">") (f ++ d ∷ []) ≡ false
         no_greater f d more e = by_test {G = ends_with (codes ">") (f ++ d ∷ []) ≡ false} (ends_with (codes ">") (f ++ d ∷ []))
-          (λ h. absurd (not_both_ways (list_any (λ c. c == 62) (f ++ d ∷ [])) (has_end (f ++ d ∷ []) h) (any_front (λ c. c == 62) (f ++ d ∷ []) more (sym (ap (list_any (λ c. c == 62)) (e ∙ sym (append_assoc f (d ∷ []) more))) ∙ no_end word (codes "doctype") is_word refl)))) (λ h. h)
+            (λ h. absurd (not_both_ways (list_any (λ c. c == 62) (f ++ d ∷ [])) (has_end (f ++ d ∷ []) h) (any_front (λ c. c == 62) (f ++ d ∷ []) more (sym (ap (list_any (λ c. c == 62)) (e ∙ sym (append_assoc f (d ∷ []) more))) ∙ no_end word (codes "doctype") is_word refl)))) (λ h. h)
 
     html_behind : (f : Chars) (d : ℕ) → after_mark Html i (word ++ f) d ≡ in_doctype Html f d
     html_behind f d =
@@ -176,6 +176,7 @@ module _ (i : Content) (next : Option ℕ) (markup : has_markup i ≡ true) wher
     where
       after : Chars
       after = d.spaces ++ (d.name ++ (d.rest ++ 62 ∷ []))
+
       by : Last after → ReadAs s i (60 ∷ 33 ∷ text) next doctype
       by (no_last e) = absurd (no_space d.spaces d.apart e)
         where
@@ -189,9 +190,10 @@ module _ (i : Content) (next : Option ℕ) (markup : has_markup i ≡ true) wher
         where
           within : (a : Chars) (x : ℕ) → verdict s i (60 ∷ 33 ∷ (d.keyword ++ a)) x ≡ in_doctype s a x
           within a x = markup_is s i (33 ∷ (d.keyword ++ a)) x markup ∙ behind s d.keyword d.keyword_is a x
+
           close : (a : Chars) (x : ℕ) (more : Chars) → f ≡ a ++ x ∷ more → doctype_on s (doctype_on s (Some keyword) (a ++ x ∷ [])) (more ++ c ∷ []) ≡ Some closed
           close a x more k = sym (on_append s (Some keyword) (a ++ x ∷ []) (more ++ c ∷ [])) ∙ (ap (doctype_on s (Some keyword)) (append_assoc a (x ∷ []) (more ++ c ∷ []) ∙ (sym (append_assoc a (x ∷ more) (c ∷ [])) ∙ (ap (λ y. y ++ c ∷ []) (sym k) ∙ sym e))) ∙ behind_word s text d)
+
           more_left : (more : Chars) → more ++ c ∷ [] ≢ []
           more_left [] h = cc
           more_left (z ∷ more) h = cc
-

@@ -1,12 +1,9 @@
 -- The tokens of a whole page lead to its end, and tell its tree.
-use Rattle.std.proofs.Common.{◌≡◌, ◌∙◌, ℕ, suc, ◌+◌, Bool, true, false, cond, List, [], ◌∷◌, ◌++◌, Option, Some, None, refl, ap, sym, subst, arith, append-nil}
-use Rattle.std.specs.Prelude.{◌&&◌, not, Result, Ok, Err, length, nat_le}
+use Rattle.std.proofs.Common.{◌≡◌, ◌∙◌, ℕ, suc, ◌+◌, Bool, true, false, List, [], ◌∷◌, ◌++◌, Some, refl, ap, sym, subst, arith, append-nil}
+use Rattle.std.specs.Prelude.{not, Ok}
 use Rattle.std.specs.Cmp.Lexicographic.{bytes_decides}
 use Rattle.rx_terms.specs.Text.{Chars}
 use Rattle.rx_chars.specs.declared.syntax.Syntax.{Syntax}
-use Rattle.rx_grammar.specs.declared.contents.Content.TheVariants as content
-use Rattle.rx_grammar.specs.declared.faults.Kind.{Kind}
-use Rattle.rx_grammar.specs.Names.{same, is_among}
 use Rattle.rx_grammar.specs.Tokens.{Tag, Token, tag, character, reference, kept, section, comment, doctype}
 use Rattle.rx_grammar.specs.Contents.{Place, outside, place_in, is_alone, hides, drops_line_feed}
 use Rattle.rx_grammar.specs.Trees.{StartTag, Tree, end, element, text, after_text, has_element}
@@ -14,9 +11,8 @@ use Rattle.rx_grammar.specs.Items.{Item, start_of, text_of}
 use Rattle.rx_grammar.specs.Omission.{enders, is_ended_by}
 use Rattle.rx_grammar.specs.Pages.{Opens, Closes, Drops, shown, Holds, nothing, a_text, a_comment, alone, closed, unclosed, is_between, Lead, passed, a_doctype, root_name, Document}
 use Rattle.rx_grammar.specs.Pages as pages
-use Rattle.rx_grammar.specs.Begun.{Line, inside_of, Phase, before, within, after}
-use Rattle.rx_pages.specs.Nesting.{Event, begins, says, finishes, Nesting, not_begun, Step, over, step_by, nest_step, told, Goes, stands, goes, with_element, told_trees}
-use Rattle.rx_pages.proofs.Steps.{in_line}
+use Rattle.rx_grammar.specs.Begun.{Phase, before, after}
+use Rattle.rx_pages.specs.Nesting.{Event, begins, finishes, Nesting, not_begun, over, step_by, told, Goes, stands, goes, with_element, told_trees}
 use Rattle.rx_pages.proofs.Nested.{Ready, Reads, Careless, not_deeper, of_token, alone_goes, close_goes, whole, runs, nothing_shown}
 
 -- outside the root
@@ -115,7 +111,7 @@ module _ (syntax : Syntax) (depth : ℕ) (meant : Nesting → Type 0) (careless 
       subst (λ x. Reads syntax depth meant (outside_at (before stood)) (root ∷ from) later x) f.is (record {
         events = begins (start_of root u) (hides outside u) ∷ finishes ∷ later;
         going = alone_goes syntax depth meant careless [] (before stood) root u from later (subst (λ x. Opens syntax x root u) p o) refl (not_deeper depth 0 left (room left d)) (root_ready stood u.name (f.is_name ∙ n)) (sym (ap (λ x. is_alone syntax x u) p) ∙ is)
-          (trails syntax depth meant hs p f.ends later g);
+            (trails syntax depth meant hs p f.ends later g);
         tells = λ more e2. ap (λ ts. with_element (start_of root u) (hides outside u) (end ∷ ts)) e2 ∙ ap (λ x. element (start_of root u) x end ∷ more) (nothing_shown syntax depth meant careless (hides outside u));
       })
   root_reads root t inside stood (closed {left = left} {place = place} {from = from} {inner = inner} {after = rest} {inside = inner_tree} {nodes = nodes} item close u o isnt drop hin no_row c hs) p d k n e later g told =

@@ -1,5 +1,5 @@
 -- Raw text and its end tag are read as they are spelled.
-use Rattle.std.proofs.Common.{◌≡◌, ◌≢◌, ◌∙◌, ℕ, Bool, true, false, cond, List, [], ◌∷◌, ◌++◌, Option, Some, None, refl, ap, sym, subst, append-nil, append_assoc}
+use Rattle.std.proofs.Common.{◌≡◌, ◌≢◌, ◌∙◌, ℕ, true, false, [], ◌∷◌, ◌++◌, Option, Some, None, refl, ap, sym, subst, append-nil, append_assoc}
 use Rattle.std.specs.Prelude.{◌&&◌, not}
 use Rattle.std.proofs.lemmas.Bool.{cond-true, cond-false, and_from}
 use Rattle.std.proofs.lemmas.List.{map-append}
@@ -7,13 +7,13 @@ use Rattle.rx_terms.specs.Ascii.{lowered_char, solidus}
 use Rattle.rx_terms.specs.Text.{Chars, begins_with, lowered}
 use Rattle.rx_chars.specs.declared.syntax.Syntax.{Syntax}
 use Rattle.rx_grammar.specs.declared.contents.Content.{Content}
-use Rattle.rx_grammar.specs.Tokens.{Tag, Token, tag, kept}
+use Rattle.rx_grammar.specs.Tokens.{Tag, tag, kept}
 use Rattle.rx_grammar.specs.Tags.{SpellsTag}
 use Rattle.rx_grammar.specs.Spelling.{raw_name, begins_end, stops_end, IsBefore}
-use Rattle.rx_pages.specs.Scanner.{Verdict, goes_on, whole, ended, in_tag, in_raw, verdict, GoesOn, ReadAs, at_next}
+use Rattle.rx_pages.specs.Scanner.{goes_on, whole, in_raw, ReadAs, at_next}
 use Rattle.rx_pages.proofs.Reading.{Last, no_last, a_last, last_of, all_go, read_to, raw_is}
 use Rattle.rx_pages.proofs.Markup.{tag_goes, tag_ends, more_left}
-use Rattle.rx_reader.proofs.Bools.{both, not_both_ways, by_test, untrue}
+use Rattle.rx_reader.proofs.Bools.{both, by_test, untrue}
 use Rattle.rx_reader.proofs.Fronts.{begins_front}
 use Rattle.rx_reader.proofs.OneToken.{RawEnd, raw_end, not_front, run_not_end}
 
@@ -44,7 +44,7 @@ module _ (s : Syntax) (i : Content) (name : Chars) (raw : raw_name i ≡ Some na
       where
         no_front : begins_end name (f ++ d ∷ []) ≡ false
         no_front = by_test {G = begins_end name (f ++ d ∷ []) ≡ false} (begins_end name (f ++ d ∷ []))
-          (λ h. absurd (not_front name text [] (raw_end s i name text t raw sp closing named) (ap (begins_end name) (append-nil text ∙ e) ∙ h))) (λ h. h)
+            (λ h. absurd (not_front name text [] (raw_end s i name text t raw sp closing named) (ap (begins_end name) (append-nil text ∙ e) ∙ h))) (λ h. h)
 
     pub reads_end_of_raw : (next : Option ℕ) → ReadAs s i (60 ∷ text) next (tag t)
     reads_end_of_raw next = by (last_of text)
@@ -55,8 +55,10 @@ module _ (s : Syntax) (i : Content) (name : Chars) (raw : raw_name i ≡ Some na
             not_nothing : RawEnd name text → text ≡ [] → ⊥
             not_nothing r e = let k = sym r.is ∙ e in cc
         by (a_last f c e) =
-            read_to s i (60 ∷ f) c next (tag t) (ap (λ x. 60 ∷ x) e)
-            (refl, all_go s i (60 ∷ []) f (λ a d more k.
-            let q : text ≡ a ++ d ∷ (more ++ c ∷ []) = e ∙ (ap (λ x. x ++ c ∷ []) k ∙ append_assoc a (d ∷ more) (c ∷ [])) in
-            raw_is s i a name d raw ∙ goes a d (more ++ c ∷ []) q (more_left s text t sp more c)))
+            read_to s i (60 ∷ f) c next (tag t) (ap (λ x. 60 ∷ x) e) (
+              refl,
+              all_go s i (60 ∷ []) f (λ a d more k.
+                  let q : text ≡ a ++ d ∷ (more ++ c ∷ []) = e ∙ (ap (λ x. x ++ c ∷ []) k ∙ append_assoc a (d ∷ more) (c ∷ [])) in
+                  raw_is s i a name d raw ∙ goes a d (more ++ c ∷ []) q (more_left s text t sp more c)),
+            )
             (raw_is s i f name c raw ∙ ends f c e)

@@ -1,15 +1,13 @@
 -- What leads from character to character to a verdict.
-use Rattle.std.proofs.Common.{◌≡◌, ◌≢◌, ◌∙◌, ℕ, Bool, true, false, cond, List, [], ◌∷◌, ◌++◌, Option, Some, None, refl, ap, sym, subst, append-nil, append_assoc}
-use Rattle.std.specs.Prelude.{◌&&◌, ◌||◌, not, codes}
-use Rattle.rx_terms.specs.Text.{Chars, begins_with, lowered}
+use Rattle.std.proofs.Common.{◌≡◌, ◌≢◌, ◌∙◌, ℕ, Bool, true, false, [], ◌∷◌, ◌++◌, Option, Some, None, refl, ap, sym, subst, append-nil, append_assoc}
+use Rattle.rx_terms.specs.Text.{Chars}
 use Rattle.rx_chars.specs.declared.syntax.Syntax.{Syntax}
-use Rattle.rx_chars.specs.declared.syntax.Syntax.TheVariants.{Html, Xhtml}
 use Rattle.rx_grammar.specs.declared.contents.Content.{Content}
 use Rattle.rx_grammar.specs.declared.contents.Content.TheVariants as content
 use Rattle.rx_grammar.specs.Tokens.{Token}
 use Rattle.rx_grammar.specs.Spelling.{IsFirst, has_markup, has_sections, raw_name}
-use Rattle.rx_pages.specs.Scanner.{Verdict, goes_on, whole, ended, refused, whole_if, after_less_than, in_markup, verdict, GoesOn, ReadAs, at_last, at_next}
-use Rattle.rx_reader.proofs.Bools.{both, not_both_ways, by_test}
+use Rattle.rx_pages.specs.Scanner.{goes_on, whole, after_less_than, in_markup, verdict, GoesOn, ReadAs, at_last}
+use Rattle.rx_reader.proofs.Bools.{not_both_ways}
 
 -- a text by its last character
 pub data Last (text : Chars) : Type 0 where
@@ -27,9 +25,10 @@ last_of (c ∷ text) = by (last_of text)
 module _ (s : Syntax) (i : Content) where
   pub all_go : (before text : Chars) → ((f : Chars) (d : ℕ) (more : Chars) → text ≡ f ++ d ∷ more → verdict s i (before ++ f) d ≡ goes_on) → GoesOn s i before text
   all_go before [] h = tt
-  all_go before (c ∷ text) h =
-      (subst (λ x. verdict s i x c ≡ goes_on) (append-nil before) (h [] c text refl),
-      all_go (before ++ c ∷ []) text (λ f d more e. subst (λ x. verdict s i x d ≡ goes_on) (sym (append_assoc before (c ∷ []) f)) (h (c ∷ f) d more (ap (λ x. c ∷ x) e))))
+  all_go before (c ∷ text) h = (
+    subst (λ x. verdict s i x c ≡ goes_on) (append-nil before) (h [] c text refl),
+    all_go (before ++ c ∷ []) text (λ f d more e. subst (λ x. verdict s i x d ≡ goes_on) (sym (append_assoc before (c ∷ []) f)) (h (c ∷ f) d more (ap (λ x. c ∷ x) e))),
+  )
 
   pub go_append : (before a b : Chars) → GoesOn s i before a → GoesOn s i (before ++ a) b → GoesOn s i before (a ++ b)
   go_append before [] b g h = subst (λ x. GoesOn s i x b) (append-nil before) h
@@ -54,6 +53,7 @@ module _ (s : Syntax) (i : Content) where
         where
           longer : (a : Chars) (d : ℕ) (more : Chars) → f ≡ a ++ d ∷ more → x ≡ a ++ d ∷ (more ++ c ∷ [])
           longer a d more k = e ∙ (ap (λ y. y ++ c ∷ []) k ∙ append_assoc a (d ∷ more) (c ∷ []))
+
           more_left : (more : Chars) → more ++ c ∷ [] ≢ []
           more_left [] h = cc
           more_left (z ∷ more) h = cc

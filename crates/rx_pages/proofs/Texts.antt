@@ -1,20 +1,20 @@
 -- Text and references are read as they are spelled.
-use Rattle.std.proofs.Common.{◌≡◌, ◌≢◌, ◌∙◌, ℕ, Bool, true, false, cond, List, [], ◌∷◌, ◌++◌, Option, Some, None, refl, ap, sym, subst, append-nil, append_assoc, inl, inr}
+use Rattle.std.proofs.Common.{◌≡◌, ◌∙◌, ℕ, Bool, true, false, [], ◌∷◌, ◌++◌, Option, Some, None, refl, ap, sym, append_assoc}
 use Rattle.std.specs.Prelude.{◌&&◌, ◌||◌, ◌==◌, not}
 use Rattle.std.specs.List.{list_all}
-use Rattle.std.proofs.lemmas.Bool.{cond-true, cond-false, and_from}
+use Rattle.std.proofs.lemmas.Bool.{cond-true, cond-false}
 use Rattle.rx_terms.specs.Ascii.{ampersand, semicolon, less_than_sign}
 use Rattle.rx_terms.specs.Text.{Chars}
 use Rattle.rx_chars.specs.declared.syntax.Syntax.{Syntax}
-use Rattle.rx_chars.specs.declared.syntax.Syntax.TheVariants.{Html, Xhtml}
+use Rattle.rx_chars.specs.declared.syntax.Syntax.TheVariants.{Html}
 use Rattle.rx_grammar.specs.declared.contents.Content.{Content}
 use Rattle.rx_grammar.specs.declared.contents.Content.TheVariants as content
 use Rattle.rx_grammar.specs.References.{is_body, is_begun, stops_at, meaning}
-use Rattle.rx_grammar.specs.Tokens.{Token, character, reference, kept}
+use Rattle.rx_grammar.specs.Tokens.{character, reference, kept}
 use Rattle.rx_grammar.specs.Spelling.{has_references, keeps_runs, has_less_than, has_markup, is_text, begins_markup, IsBefore}
-use Rattle.rx_pages.specs.Scanner.{Verdict, goes_on, whole, ended, refused, told_of_reference, in_run, in_markup, less_than_text, is_mark, verdict, GoesOn, ReadAs, at_last, at_next}
-use Rattle.rx_pages.proofs.Reading.{all_go, go_append, read_to, markup_is}
-use Rattle.rx_reader.proofs.Bools.{both, neither, either, untrue, not_both_ways, by_test}
+use Rattle.rx_pages.specs.Scanner.{whole, told_of_reference, is_mark, verdict, GoesOn, ReadAs, at_last, at_next}
+use Rattle.rx_pages.proofs.Reading.{all_go, read_to, markup_is}
+use Rattle.rx_reader.proofs.Bools.{both, neither, untrue, not_both_ways, by_test}
 use Rattle.rx_reader.proofs.Classes.{of_one}
 use Rattle.rx_reader.proofs.Fronts.{begun_front, begun_no_mark}
 use Rattle.rx_reader.proofs.TextComplete.{body_begun}
@@ -60,9 +60,10 @@ module _ (s : Syntax) (i : Content) where
     where
       not_less : (c == less_than_sign) ≡ false
       not_less = by_test {G = (c == less_than_sign) ≡ false} (c == less_than_sign) (λ e. absurd (not_both_ways (is_text i c) h (of_one (λ x. is_text i x ≡ false) c 60 e (no_less i)))) (λ e. e)
+
       not_reference : (c == ampersand && has_references i) ≡ false
       not_reference = by_test {G = (c == ampersand && has_references i) ≡ false} (c == ampersand && has_references i)
-        (λ e. let k = both (c == ampersand) _ e in absurd (not_both_ways (is_text i c) h (of_one (λ x. is_text i x ≡ false) c 38 k.0 (no_ampersand i k.1)))) (λ e. e)
+          (λ e. let k = both (c == ampersand) _ e in absurd (not_both_ways (is_text i c) h (of_one (λ x. is_text i x ≡ false) c 38 k.0 (no_ampersand i k.1)))) (λ e. e)
 
   pub reads_character : (next : Option ℕ) (c : ℕ) → is_text i c ≡ true → ReadAs s i (c ∷ []) next (character c)
   reads_character next c h = at_last [] c (character c) tt (first_text c h)

@@ -1,17 +1,12 @@
 -- The tokens of a page are determined by its characters: two lists of tokens that are spelled by the same characters, and both nest, tell the same.
-use Rattle.std.proofs.Common.{◌≡◌, ◌∙◌, ℕ, suc, ◌+◌, Bool, true, false, List, [], ◌∷◌, ◌++◌, Option, Some, None, refl, ap, sym, subst, arith}
-use Rattle.std.specs.Prelude.{Result, Ok, Err, length, map}
+use Rattle.std.proofs.Common.{◌≡◌, ◌∙◌, ℕ, List, [], ◌∷◌, ◌++◌, None, refl, ap, sym, subst}
+use Rattle.std.specs.Prelude.{Ok}
 use Rattle.std.proofs.lemmas.List.{map-append}
-use Rattle.rx_terms.specs.Text.{Chars}
 use Rattle.rx_chars.specs.Characters.{Entry}
 use Rattle.rx_chars.specs.declared.syntax.Syntax.{Syntax}
-use Rattle.rx_grammar.specs.declared.contents.Content.{Content}
-use Rattle.rx_grammar.specs.declared.faults.Kind.{Kind}
-use Rattle.rx_grammar.specs.Tokens.{Token}
 use Rattle.rx_grammar.specs.Spelling.{Spells}
 use Rattle.rx_grammar.specs.Items.{Item, Spelled, no_more, one, values, next_of, last_from}
-use Rattle.rx_grammar.specs.Laws.{IsSameToken}
-use Rattle.rx_pages.specs.Nesting.{Event, Nesting, content_at, Step, nest_step, Goes, stands, goes}
+use Rattle.rx_pages.specs.Nesting.{Event, Nesting, Step, nest_step, Goes, stands, goes}
 use Rattle.rx_reader.proofs.OneToken.{one_token}
 
 -- two lists of entries with equal characters in front are equal, and so is what follows
@@ -46,8 +41,8 @@ same_item syntax c d run other rest others a b ci e h k af al bf bl =
     let lasts : a.last ≡ b.last = al ∙ (ap (λ x. last_from x.last run) same_c ∙ (ap (λ x. last_from d.last x) same_run ∙ sym bl)) in
     record {
       item = ap (λ x. record { token = x; content = a.content; first = a.first; last = a.last }) s.token_is
-        ∙ (ap (λ x. record { token = b.token; content = x; first = a.first; last = a.last }) ci
-        ∙ (ap (λ x. record { token = b.token; content = b.content; first = x; last = a.last }) firsts ∙ ap (λ x. record { token = b.token; content = b.content; first = b.first; last = x }) lasts));
+          ∙ (ap (λ x. record { token = b.token; content = x; first = a.first; last = a.last }) ci
+          ∙ (ap (λ x. record { token = b.token; content = b.content; first = x; last = a.last }) firsts ∙ ap (λ x. record { token = b.token; content = b.content; first = b.first; last = x }) lasts));
       rest_is = f.rest;
     }
 
