@@ -16,3 +16,4 @@ pub mod Growing
 pub mod Popping
 pub mod Standing
 pub mod FrontBack
+pub mod Pending
