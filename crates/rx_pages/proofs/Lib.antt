@@ -17,3 +17,4 @@ pub mod Popping
 pub mod Standing
 pub mod FrontBack
 pub mod Pending
+pub mod Refusals
