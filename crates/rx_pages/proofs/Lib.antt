@@ -18,3 +18,4 @@ pub mod Standing
 pub mod FrontBack
 pub mod Pending
 pub mod Refusals
+pub mod Openings

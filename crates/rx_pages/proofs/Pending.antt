@@ -43,20 +43,22 @@ module _ (s : Syntax) (i : Content) where
           not_whole (verdict s i front c) token (goes_at [] front c more (subst (λ x. GoesOn s i [] x) (ap (λ x. x ++ more) (sym e) ∙ append_assoc front (c ∷ []) more) g)) k
       by _ _ _ (at_next x c token go k) e n = at_more x c token more (subst (λ y. GoesOn s i [] (y ++ more)) (sym e) g) n last k
 
+  -- what stands before the last character
+  pub goes_within : (front : Chars) (c : ℕ) (run : Chars) (d : ℕ) (rest : Chars) → GoesOn s i [] front → front ++ c ∷ [] ≡ run ++ d ∷ rest → GoesOn s i [] run
+  goes_within front c run d rest go e = elim (two_fronts front run (c ∷ []) (d ∷ rest) e) [
+    | inl f ↦ by_longer f.z f.is f.rest
+    | inr f ↦ goes_front [] run f.z (subst (λ x. GoesOn s i [] x) f.is go)
+  ]
+    where
+      by_longer : (z : Chars) → run ≡ front ++ z → c ∷ [] ≡ z ++ d ∷ rest → GoesOn s i [] run
+      by_longer [] e q = subst (λ x. GoesOn s i [] x) (sym (e ∙ append-nil front)) go
+      by_longer (x ∷ []) e q = absurd (cc)
+      by_longer (x ∷ y ∷ z) e q = absurd (cc)
+
   -- what begins a token goes on
   pub begun_goes : (run : Chars) (d : ℕ) (rest : Chars) (next : Option ℕ) (token : Token) → Spells s i (run ++ d ∷ rest) next token → GoesOn s i [] run
   begun_goes run d rest next token sp = by (run ++ d ∷ rest) next token (reads_each s i (run ++ d ∷ rest) next token sp) refl
     where
-      by_last : (front : Chars) (c : ℕ) → GoesOn s i [] front → front ++ c ∷ [] ≡ run ++ d ∷ rest → GoesOn s i [] run
-      by_last front c go e = elim (two_fronts front run (c ∷ []) (d ∷ rest) e) [
-        | inl f ↦ by_longer f.z f.is f.rest
-        | inr f ↦ goes_front [] run f.z (subst (λ x. GoesOn s i [] x) f.is go)
-      ]
-        where
-          by_longer : (z : Chars) → run ≡ front ++ z → c ∷ [] ≡ z ++ d ∷ rest → GoesOn s i [] run
-          by_longer [] e q = subst (λ x. GoesOn s i [] x) (sym (e ∙ append-nil front)) go
-          by_longer (x ∷ []) e q = absurd (cc)
-          by_longer (x ∷ y ∷ z) e q = absurd (cc)
       by : (x : Chars) (n : Option ℕ) (token : Token) → ReadAs s i x n token → x ≡ run ++ d ∷ rest → GoesOn s i [] run
-      by _ _ _ (at_last front c token go k) e = by_last front c go e
+      by _ _ _ (at_last front c token go k) e = goes_within front c run d rest go e
       by _ _ _ (at_next x c token go k) e = goes_front [] run (d ∷ rest) (subst (λ x. GoesOn s i [] x) e go)
