@@ -103,3 +103,44 @@ module _ (i : Content) (markup : has_markup i ≡ true) where
   opening_goes text h =
       let k = both (list_any (λ opening. begins_with text opening) openings) _ h in
       by_begun text (begun text (no_opening text (untrue _ k.1)) k.0)
+
+  first_mark : (x : ℕ) (t : Chars) → Begun (x ∷ t) → x ≡ 33
+  first_mark x [] (an_end r) = absurd (let e = r.is in cc)
+  first_mark x (y ∷ t) (an_end r) = absurd (let e = r.is in cc)
+  first_mark x [] (a_question r) = absurd (let e = r.is in cc)
+  first_mark x (y ∷ t) (a_question r) = absurd (let e = r.is in cc)
+  first_mark x t (a_comment r) = let e = sym r.is in cc
+  first_mark x t (a_section r) = let e = sym r.is in cc
+  first_mark x t (a_doctype r) = let e = sym r.is in cc
+
+  -- where the first character begins none
+  refused_first : (c : ℕ) → meets_opening (c ∷ []) ≡ false → begins_tag Xhtml c ≡ false → in_markup Xhtml i [] c ≡ refused BadTag
+  refused_first c m b = cond-false _ _ _ (or_none (c == 33) (c == 63) (not_this 33 refl) (not_this 63 refl)) ∙ ap (λ move. told_of_tag (checked Xhtml (moved Xhtml (meaning Xhtml) fresh c move))) (cond-false _ _ _ b ∙ cond-false _ _ _ (not_this 47 refl))
+    where
+      not_this : (d : ℕ) → meets_opening (d ∷ []) ≡ true → (c == d) ≡ false
+      not_this d h = by_test {G = (c == d) ≡ false} (c == d) (λ e. absurd (not_both_ways (meets_opening (c ∷ [])) (of_one (λ x. meets_opening (x ∷ []) ≡ true) c d e h) m)) (λ e. e)
+
+  -- and a further one
+  refused_further : (t : Chars) (c : ℕ) → NoOpening (33 ∷ t) → meets_opening (33 ∷ (t ++ c ∷ [])) ≡ false → in_markup Xhtml i (33 ∷ t) c ≡ refused BadTag
+  refused_further t c n m =
+      cond-false _ _ _ n.no_comment ∙ (cond-false _ _ _ n.no_doctype ∙ (cond-false _ _ _ n.no_section
+      ∙ (cond-false _ _ _ (ap (λ b. b && not (has_sections i)) (no_opening (33 ∷ (t ++ c ∷ [])) (none (33 ∷ (t ++ c ∷ [])) m)).no_section) ∙ cond-false _ _ _ m)))
+    where
+      some : (text : Chars) (all : List Chars) → list_any (λ opening. begins_with text opening || begins_with opening text) all ≡ false → list_any (λ opening. begins_with opening text) all ≡ false
+      some text [] h = refl
+      some text (opening ∷ all) h =
+          let k = neither (begins_with text opening || begins_with opening text) _ h in
+          or_none (begins_with opening text) _ (neither (begins_with text opening) _ k.0).1 (some text all k.1)
+      none : (text : Chars) → meets_opening text ≡ false → list_any (λ opening. begins_with opening text) openings ≡ false
+      none text h = some text openings h
+
+  pub refuses_opening : (text : Chars) (c : ℕ) → is_opening_begun text ≡ true → meets_opening (text ++ c ∷ []) ≡ false → begins (begins_tag Xhtml) (text ++ c ∷ []) ≡ false → IsRefused Xhtml i BadTag (60 ∷ (text ++ c ∷ []))
+  refuses_opening text c h m b = record { front = 60 ∷ text; c = c; are = refl; go = opening_goes text h; refuses = at text c ∙ by text h m b }
+    where
+      by : (text : Chars) → is_opening_begun text ≡ true → meets_opening (text ++ c ∷ []) ≡ false → begins (begins_tag Xhtml) (text ++ c ∷ []) ≡ false → in_markup Xhtml i text c ≡ refused BadTag
+      by [] h m b = refused_first c m b
+      by (x ∷ t) h m b =
+          let k = both (list_any (λ opening. begins_with (x ∷ t) opening) openings) _ h in
+          let n = no_opening (x ∷ t) (untrue _ k.1) in
+          let q : x ≡ 33 = first_mark x t (begun (x ∷ t) n k.0) in
+          subst (λ y. in_markup Xhtml i (y ∷ t) c ≡ refused BadTag) (sym q) (refused_further t c (subst (λ y. NoOpening (y ∷ t)) q n) (subst (λ y. meets_opening (y ∷ (t ++ c ∷ [])) ≡ false) q m))
