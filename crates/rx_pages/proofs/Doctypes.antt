@@ -23,11 +23,11 @@ use Rattle.rx_reader.proofs.Classes.{of_one, of_white}
 use Rattle.rx_reader.proofs.Fronts.{equal, begins_append, has_end}
 use Rattle.rx_reader.proofs.OneToken.{kept_case}
 
-on_none : (s : Syntax) (text : Chars) → doctype_on s None text ≡ None
+pub on_none : (s : Syntax) (text : Chars) → doctype_on s None text ≡ None
 on_none s [] = refl
 on_none s (c ∷ text) = on_none s text
 
-on_append : (s : Syntax) (o : Option DoctypePhase) (a b : Chars) → doctype_on s o (a ++ b) ≡ doctype_on s (doctype_on s o a) b
+pub on_append : (s : Syntax) (o : Option DoctypePhase) (a b : Chars) → doctype_on s o (a ++ b) ≡ doctype_on s (doctype_on s o a) b
 on_append s o [] b = refl
 on_append s o (c ∷ a) b = on_append s (doctype_move_on s o c) a b
 

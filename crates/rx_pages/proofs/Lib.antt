@@ -19,3 +19,4 @@ pub mod FrontBack
 pub mod Pending
 pub mod Refusals
 pub mod Openings
+pub mod DoctypeFaults
