@@ -5,10 +5,18 @@ use Rattle.std.specs.List.{list_all}
 use Rattle.rx_terms.specs.Ascii.{greater_than_sign, left_bracket, is_white_space}
 use Rattle.rx_terms.specs.Text.{Chars}
 use Rattle.rx_chars.specs.declared.syntax.Syntax.{Syntax}
+use Rattle.rx_chars.specs.declared.syntax.Syntax.TheVariants.{Html, Xhtml}
+use Rattle.rx_grammar.specs.declared.contents.Content.{Content}
+use Rattle.rx_grammar.specs.declared.faults.Kind.TheVariants.{BadDoctype}
+use Rattle.rx_grammar.specs.Tokens.{doctype}
+use Rattle.rx_grammar.specs.PageFaults.{BeginsDoctype, BeginsNoDoctype}
 use Rattle.rx_grammar.specs.Tags.{cased, cased_char}
-use Rattle.rx_grammar.specs.Spelling.{doctype_word, IsDoctype}
-use Rattle.rx_pages.specs.Scanner.{DoctypePhase, keyword, spaces, naming, passed, closed, in_name, doctype_move, doctype_on}
-use Rattle.rx_pages.proofs.Doctypes.{on_none}
+use Rattle.rx_grammar.specs.Spelling.{has_markup, doctype_word, IsDoctype, a_doctype}
+use Rattle.rx_pages.specs.Scanner.{DoctypePhase, keyword, spaces, naming, passed, closed, in_name, doctype_move, doctype_on, refused, told_of_doctype}
+use Rattle.rx_pages.proofs.Doctypes.{on_none, on_append, behind}
+use Rattle.rx_pages.proofs.Pending.{begun_goes}
+use Rattle.rx_pages.proofs.Reading.{markup_is}
+use Rattle.rx_pages.proofs.Refusals.{IsRefused}
 use Rattle.rx_pages.proofs.Texts.{or_none}
 use Rattle.rx_reader.proofs.Bools.{both, neither, by_test, split}
 use Rattle.rx_reader.proofs.Classes.{of_one, of_white, unless}
@@ -27,7 +35,7 @@ module _ (s : Syntax) where
   at_end [] h = refl
   at_end (c ∷ text) h = absurd (let k = on_none s text in cc)
 
-  no_way : (text : Chars) (G : Type 0) → Ends None text → G
+  pub no_way : (text : Chars) (G : Type 0) → Ends None text → G
   no_way text G h = absurd (let k = on_none s text in cc)
 
   ends_by : (c : ℕ) (text : Chars) → (c == 62) ≡ true → Ends (Some closed) text → c ∷ text ≡ 62 ∷ []
@@ -116,3 +124,66 @@ module _ (s : Syntax) where
         after = b.white;
       })
       (λ e k. no_way text _ k) h
+
+-- what completes a document type
+abbrev completion : DoctypePhase → Chars
+completion keyword = codes " html>"
+completion spaces = codes "html>"
+completion (naming left) = left ++ 62 ∷ []
+completion passed = codes ">"
+completion closed = []
+
+abbrev Closable : Syntax → DoctypePhase → Type 0
+Closable s p = doctype_on s (Some p) (completion p) ≡ Some closed
+
+spaces_close : (s : Syntax) → Closable s spaces
+spaces_close Html = refl
+spaces_close Xhtml = refl
+
+name_closes : (s : Syntax) → Closable s (naming (codes "tml"))
+name_closes Html = refl
+name_closes Xhtml = refl
+
+keyword_closes : (s : Syntax) → Closable s keyword
+keyword_closes Html = refl
+keyword_closes Xhtml = refl
+
+-- where the next phase is one, it can be completed as well
+abbrev Next : Syntax → Option DoctypePhase → Type 0
+Next s None = Unit {0}
+Next s (Some q) = Closable s q
+
+next_closes : (s : Syntax) (p : DoctypePhase) (c : ℕ) → Closable s p → Next s (doctype_move s p c)
+next_closes s keyword c h = split (Next s) (is_white_space c) (Some spaces) None (λ e. spaces_close s) (λ e. tt)
+next_closes s spaces c h = split (Next s) (is_white_space c) (Some spaces) (in_name s (codes "html") c) (λ e. spaces_close s) (λ e. split (Next s) (cased_char s c == 104) (Some (naming (codes "tml"))) None (λ f. name_closes s) (λ f. tt))
+next_closes s (naming []) c h = split (Next s) (is_white_space c) (Some passed) (cond (c == greater_than_sign) (Some closed) None) (λ e. refl) (λ e. split (Next s) (c == greater_than_sign) (Some closed) None (λ f. refl) (λ f. tt))
+next_closes s (naming (d ∷ left)) c h =
+    split (Next s) (cased_char s c == d) (Some (naming left)) None
+    (λ e. split (λ o. doctype_on s o (left ++ 62 ∷ []) ≡ Some closed → Closable s (naming left)) (cased_char s d == d) (Some (naming left)) None (λ f k. k) (λ f k. no_way s (left ++ 62 ∷ []) _ k) h)
+    (λ e. tt)
+next_closes s passed c h = split (Next s) (c == greater_than_sign) (Some closed) (cond (c == left_bracket) None (Some passed)) (λ e. refl) (λ e. split (Next s) (c == left_bracket) None (Some passed) (λ f. tt) (λ f. refl))
+next_closes s closed c h = tt
+
+closes_on : (s : Syntax) (o : Option DoctypePhase) (text : Chars) → Next s o → Next s (doctype_on s o text)
+closes_on s o [] h = h
+closes_on s None (c ∷ text) h = closes_on s None text tt
+closes_on s (Some p) (c ∷ text) h = closes_on s (doctype_move s p c) text (next_closes s p c h)
+
+-- the character with which no document type goes on
+pub refuses_doctype : (s : Syntax) (i : Content) → has_markup i ≡ true → (word text : Chars) (c : ℕ) → cased s word ≡ doctype_word s → BeginsDoctype s (word ++ text) → BeginsNoDoctype s (word ++ (text ++ c ∷ []))
+    → IsRefused s i BadDoctype (60 ∷ 33 ∷ (word ++ (text ++ c ∷ [])))
+refuses_doctype s i markup word text c w b n =
+    record {
+      front = 60 ∷ 33 ∷ (word ++ text);
+      c = c;
+      are = ap (λ x. 60 ∷ 33 ∷ x) (sym (append_assoc word text (c ∷ [])));
+      go = begun_goes s i (60 ∷ 33 ∷ (word ++ text)) b.c b.rest None doctype (a_doctype ((word ++ text) ++ b.c ∷ b.rest) markup b.is_doctype);
+      refuses = markup_is s i (33 ∷ (word ++ text)) c markup ∙ (behind i None markup s word w text c ∙ refused_at (doctype_on s (Some keyword) (text ++ c ∷ [])) refl);
+    }
+  where
+    refused_at : (o : Option DoctypePhase) → doctype_on s (Some keyword) (text ++ c ∷ []) ≡ o → told_of_doctype o ≡ refused BadDoctype
+    refused_at None e = refl
+    refused_at (Some q) e =
+        let k : Closable s q = subst (Next s) e (closes_on s (Some keyword) (text ++ c ∷ []) (keyword_closes s)) in
+        let d = is_doctype s word ((text ++ c ∷ []) ++ completion q) w (on_append s (Some keyword) (text ++ c ∷ []) (completion q) ∙ (ap (λ o. doctype_on s o (completion q)) e ∙ k)) in
+        absurd (n (completion q) (subst (IsDoctype s) (sym (append_assoc word (text ++ c ∷ []) (completion q))) d))

@@ -167,7 +167,7 @@ module _ (i : Content) (next : Option ℕ) (markup : has_markup i ≡ true) wher
   word_goes Html word e = html_word word e
   word_goes Xhtml word e = subst (λ w. GoesOn Xhtml i (codes "<!") w) (sym (sym (kept_case word) ∙ e)) xhtml_word
 
-  behind : (s : Syntax) (word : Chars) → cased s word ≡ doctype_word s → (f : Chars) (d : ℕ) → after_mark s i (word ++ f) d ≡ in_doctype s f d
+  pub behind : (s : Syntax) (word : Chars) → cased s word ≡ doctype_word s → (f : Chars) (d : ℕ) → after_mark s i (word ++ f) d ≡ in_doctype s f d
   behind Html word e f d = html_behind word e f d
   behind Xhtml word e f d = subst (λ w. after_mark Xhtml i (w ++ f) d ≡ in_doctype Xhtml f d) (sym (sym (kept_case word) ∙ e)) refl
 
