@@ -20,3 +20,4 @@ pub mod Pending
 pub mod Refusals
 pub mod Openings
 pub mod DoctypeFaults
+pub mod Prefix
