@@ -21,3 +21,4 @@ pub mod Refusals
 pub mod Openings
 pub mod DoctypeFaults
 pub mod Prefix
+pub mod ReadOn
