@@ -22,3 +22,4 @@ pub mod Openings
 pub mod DoctypeFaults
 pub mod Prefix
 pub mod ReadOn
+pub mod Going
