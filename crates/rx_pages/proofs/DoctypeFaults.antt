@@ -1,6 +1,6 @@
 -- What is read as a document type is one, and where none goes on a character is refused.
-use Rattle.std.proofs.Common.{◌≡◌, ◌∙◌, ℕ, Bool, true, false, cond, List, [], ◌∷◌, ◌++◌, Option, Some, None, refl, ap, sym, subst, append_assoc, append-nil, eqb-true}
-use Rattle.std.specs.Prelude.{◌&&◌, ◌||◌, ◌==◌, not, codes}
+use Rattle.std.proofs.Common.{◌≡◌, ◌∙◌, ℕ, true, cond, [], ◌∷◌, ◌++◌, Option, Some, None, refl, ap, sym, subst, append_assoc, eqb-true}
+use Rattle.std.specs.Prelude.{◌||◌, ◌==◌, not, codes}
 use Rattle.std.specs.List.{list_all}
 use Rattle.rx_terms.specs.Ascii.{greater_than_sign, left_bracket, is_white_space}
 use Rattle.rx_terms.specs.Text.{Chars}
@@ -17,9 +17,8 @@ use Rattle.rx_pages.proofs.Doctypes.{on_none, on_append, behind}
 use Rattle.rx_pages.proofs.Pending.{begun_goes}
 use Rattle.rx_pages.proofs.Reading.{markup_is}
 use Rattle.rx_pages.proofs.Refusals.{IsRefused}
-use Rattle.rx_pages.proofs.Texts.{or_none}
-use Rattle.rx_reader.proofs.Bools.{both, neither, by_test, split}
-use Rattle.rx_reader.proofs.Classes.{of_one, of_white, unless}
+use Rattle.rx_reader.proofs.Bools.{split}
+use Rattle.rx_reader.proofs.Classes.{of_white}
 
 -- what stands behind the name
 pub record Rest (text : Chars) : Type 0 where

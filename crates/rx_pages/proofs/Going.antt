@@ -1,6 +1,5 @@
 -- A page goes on from each of its fronts.
-use Rattle.std.proofs.Common.{◌≡◌, ◌∙◌, ℕ, List, [], ◌∷◌, ◌++◌, None, refl, ap, sym, append_assoc}
-use Rattle.rx_grammar.specs.Items.{values, next_of}
+use Rattle.std.proofs.Common.{◌∙◌, [], ◌++◌, refl, append_assoc}
 use Rattle.rx_grammar.specs.Begun.{after}
 use Rattle.rx_pages.specs.Nesting.{IsAt}
 use Rattle.rx_pages.specs.Laws.{PagesGoOn}

@@ -1,11 +1,9 @@
 -- In XHTML `<` and what begins an opening goes on, and what begins none is refused.
-use Rattle.std.proofs.Common.{◌≡◌, ◌∙◌, ℕ, Bool, true, false, List, [], ◌∷◌, ◌++◌, Option, Some, None, refl, ap, sym, subst, append-nil, inl, inr, eqb-true}
+use Rattle.std.proofs.Common.{◌≡◌, ◌∙◌, ℕ, true, false, List, [], ◌∷◌, ◌++◌, refl, ap, sym, subst, inl, inr, eqb-true}
 use Rattle.std.specs.Prelude.{◌&&◌, ◌||◌, ◌==◌, not, codes}
 use Rattle.std.specs.List.{list_any}
-use Rattle.std.proofs.lemmas.Bool.{cond-true, cond-false}
-use Rattle.rx_terms.specs.Ascii.{solidus}
+use Rattle.std.proofs.lemmas.Bool.{cond-false}
 use Rattle.rx_terms.specs.Text.{Chars, begins_with}
-use Rattle.rx_chars.specs.declared.syntax.Syntax.{Syntax}
 use Rattle.rx_chars.specs.declared.syntax.Syntax.TheVariants.{Xhtml}
 use Rattle.rx_grammar.specs.declared.contents.Content.{Content}
 use Rattle.rx_grammar.specs.declared.faults.Kind.TheVariants.{BadTag}
@@ -14,14 +12,14 @@ use Rattle.rx_grammar.specs.Shapes.{begins_tag, begins}
 use Rattle.rx_grammar.specs.Spelling.{has_markup, has_sections}
 use Rattle.rx_grammar.specs.PageFaults.{openings, meets_opening, is_opening_begun}
 use Rattle.rx_reader.specs.TagReader.{fresh, moved, checked}
-use Rattle.rx_pages.specs.Scanner.{goes_on, refused, told_of_tag, is_mark, in_markup, verdict, GoesOn}
+use Rattle.rx_pages.specs.Scanner.{refused, told_of_tag, in_markup, verdict, GoesOn}
 use Rattle.rx_pages.proofs.Reading.{markup_is}
 use Rattle.rx_pages.proofs.Texts.{or_none}
 use Rattle.rx_pages.proofs.Pending.{goes_within}
 use Rattle.rx_pages.proofs.Refusals.{IsRefused}
 use Rattle.rx_reader.proofs.Bools.{both, neither, either, untrue, not_both_ways, by_test}
 use Rattle.rx_reader.proofs.Classes.{of_one}
-use Rattle.rx_reader.proofs.Fronts.{equal, begins_append}
+use Rattle.rx_reader.proofs.Fronts.{equal}
 
 -- the text, one more character, and the rest of the opening
 pub record Goes (text opening : Chars) : Type 0 where
@@ -131,6 +129,7 @@ module _ (i : Content) (markup : has_markup i ≡ true) where
       some text (opening ∷ all) h =
           let k = neither (begins_with text opening || begins_with opening text) _ h in
           or_none (begins_with opening text) _ (neither (begins_with text opening) _ k.0).1 (some text all k.1)
+
       none : (text : Chars) → meets_opening text ≡ false → list_any (λ opening. begins_with opening text) openings ≡ false
       none text h = some text openings h
 

@@ -1,17 +1,14 @@
 -- Characters that begin a token go on, and no token is read within them.
-use Rattle.std.proofs.Common.{◌≡◌, ◌≢◌, ◌∙◌, ℕ, Bool, true, false, List, [], ◌∷◌, ◌++◌, Option, Some, None, refl, ap, sym, subst, append-nil, append_assoc, inl, inr, ◌⊎◌}
-use Rattle.rx_terms.specs.Ascii.{ampersand}
+use Rattle.std.proofs.Common.{◌≡◌, ◌∙◌, ℕ, [], ◌∷◌, ◌++◌, Option, Some, None, refl, ap, sym, subst, append-nil, append_assoc, inl, inr}
 use Rattle.rx_terms.specs.Text.{Chars}
 use Rattle.rx_chars.specs.declared.syntax.Syntax.{Syntax}
 use Rattle.rx_grammar.specs.declared.contents.Content.{Content}
-use Rattle.rx_grammar.specs.References.{is_begun}
 use Rattle.rx_grammar.specs.Tokens.{Token}
-use Rattle.rx_grammar.specs.Spelling.{Spells, has_references}
+use Rattle.rx_grammar.specs.Spelling.{Spells}
 use Rattle.rx_grammar.specs.Items.{next_of}
 use Rattle.rx_pages.specs.Scanner.{Verdict, goes_on, whole, ended, verdict, GoesOn, ReadAs, at_last, at_next}
-use Rattle.rx_pages.proofs.Comments.{same_init}
 use Rattle.rx_pages.proofs.Spellings.{reads_each}
-use Rattle.rx_reader.proofs.Fronts.{Longer, two_fronts}
+use Rattle.rx_reader.proofs.Fronts.{two_fronts}
 
 module _ (s : Syntax) (i : Content) where
   pub goes_front : (before a b : Chars) → GoesOn s i before (a ++ b) → GoesOn s i before a
@@ -38,6 +35,7 @@ module _ (s : Syntax) (i : Content) where
       at_more text c token (d ∷ more) g n last k =
           let q : c ≡ d = cc in
           not_ended (verdict s i text d) token (goes_at [] text d more g) (ap (verdict s i text) (sym q) ∙ k)
+
       by : (x : Chars) (n : Option ℕ) (token : Token) → ReadAs s i x n token → x ≡ text → n ≡ next_of more next → ⊥
       by _ _ _ (at_last front c token go k) e n =
           not_whole (verdict s i front c) token (goes_at [] front c more (subst (λ x. GoesOn s i [] x) (ap (λ x. x ++ more) (sym e) ∙ append_assoc front (c ∷ []) more) g)) k

@@ -1,11 +1,10 @@
 -- The tokens at the front of a page's characters are the first of the page's tokens.
-use Rattle.std.proofs.Common.{◌≡◌, ◌∙◌, ℕ, Bool, true, false, List, [], ◌∷◌, ◌++◌, Option, Some, None, refl, ap, sym, subst, append_assoc}
-use Rattle.std.specs.Prelude.{Result, Ok, Err}
+use Rattle.std.proofs.Common.{◌≡◌, ◌∙◌, ℕ, List, [], ◌∷◌, ◌++◌, Option, None, refl, ap, sym, subst, append_assoc}
+use Rattle.std.specs.Prelude.{Ok}
 use Rattle.rx_terms.specs.Text.{Chars}
 use Rattle.rx_chars.specs.Characters.{Entry}
 use Rattle.rx_chars.specs.declared.syntax.Syntax.{Syntax}
 use Rattle.rx_grammar.specs.declared.contents.Content.{Content}
-use Rattle.rx_grammar.specs.declared.faults.Kind.{Kind}
 use Rattle.rx_grammar.specs.Tokens.{Token}
 use Rattle.rx_grammar.specs.Spelling.{Spells, a_tag, an_end_of_raw, a_character, a_less_than, a_raw_run, a_reference, a_kept_run, a_comment, a_bogus_comment, a_question, a_strict_comment, an_instruction, a_section, a_doctype}
 use Rattle.rx_grammar.specs.Items.{Item, Spelled, no_more, one, values, next_of}
@@ -51,7 +50,7 @@ module _ (syntax : Syntax) (depth : ℕ) (meant expected : Nesting → Type 0) w
   first_tokens run rest (one c r front a sp f l more) no_more w e g h = absurd (cc)
   first_tokens run rest {n = n} (one c r front a {items = items} sp f l more) (one d other others b {items = behind} sq k m most) w e (goes {events = es} a2 step ci st g) (goes {events = fs} b2 next di nt h) =
       let i = same_item syntax c d r other (front ++ (run ++ rest)) others a b (ci ∙ sym di) (sym (append_assoc (c ∷ r) front (run ++ rest)) ∙ sym e)
-        (next_more syntax a.content _ a.token front run rest (subst (λ x. Spells syntax a.content (values (c ∷ r)) (next_of (values front) x) a.token) w sp)) sq f l k m in
+      (next_more syntax a.content _ a.token front run rest (subst (λ x. Spells syntax a.content (values (c ∷ r)) (next_of (values front) x) a.token) w sp)) sq f l k m in
       let same_ok : Ok step ≡ Ok next = sym st ∙ (ap (nest_step syntax depth n) i.item ∙ nt) in
       let same_step : step ≡ next = cc in
       let r = first_tokens run rest more most w (sym i.rest_is) g (subst (λ (x : Step). Goes syntax depth expected x.next behind fs) (sym same_step) h) in

@@ -1,6 +1,6 @@
 -- The characters of the front of a page's bytes are the first of the page's characters.
-use Rattle.std.proofs.Common.{◌≡◌, ◌∙◌, ℕ, ◌+◌, ◌-◌, Bool, true, false, cond, List, [], ◌∷◌, ◌++◌, refl, ap, sym, subst}
-use Rattle.std.specs.Prelude.{◌&&◌, ◌==◌, encode_utf8_all}
+use Rattle.std.proofs.Common.{◌≡◌, ◌∙◌, ℕ, ◌+◌, ◌-◌, Bool, false, List, [], ◌∷◌, ◌++◌, refl, ap, sym}
+use Rattle.std.specs.Prelude.{◌&&◌, ◌==◌}
 use Rattle.std.specs.Char.{len_utf8}
 use Rattle.std.specs.Str.{chars}
 use Rattle.std.proofs.lemmas.Str.{chars-append, chars-encodes}
@@ -34,7 +34,7 @@ unmarked-front (e ∷ a) m =
 pub read_on : (whole rest : List ℕ) (front all : List Entry) → IsRead whole front → IsRead (whole ++ rest) all → Begins all front
 read_on whole rest front all r s =
     let split : s.characters ≡ r.characters ++ chars rest =
-      sym (chars-encodes s.characters s.scalars) ∙ (ap chars s.forms ∙ (chars-append whole rest (r.characters, (r.scalars, r.forms)) ∙ ap (λ x. x ++ chars rest) (sym (ap chars r.forms) ∙ chars-encodes r.characters r.scalars))) in
+    sym (chars-encodes s.characters s.scalars) ∙ (ap chars s.forms ∙ (chars-append whole rest (r.characters, (r.scalars, r.forms)) ∙ ap (λ x. x ++ chars rest) (sym (ap chars r.forms) ∙ chars-encodes r.characters r.scalars))) in
     let p = placed-front 0 r.characters (chars rest) in
     let u = unmarked-front (placed 0 r.characters) p.more in
     record { more = u.more; are = s.read ∙ (ap (λ x. entered false (without_mark (placed 0 x))) split ∙ (ap (λ x. entered false (without_mark x)) p.are ∙ (u.are ∙ ap (λ x. x ++ u.more) (sym r.read)))) }

@@ -1,9 +1,8 @@
 -- Faults that a character decides outside tags and document types are refused at it.
-use Rattle.std.proofs.Common.{◌≡◌, ◌≢◌, ◌∙◌, ℕ, Bool, true, false, List, [], ◌∷◌, ◌++◌, Option, Some, None, refl, ap, sym, subst, append_assoc, eqb-true}
-use Rattle.std.specs.Prelude.{◌&&◌, ◌||◌, ◌==◌, not, codes}
-use Rattle.std.specs.List.{list_all}
+use Rattle.std.proofs.Common.{◌≡◌, ◌≢◌, ◌∙◌, ℕ, Bool, true, false, [], ◌∷◌, ◌++◌, None, refl, ap, eqb-true}
+use Rattle.std.specs.Prelude.{◌&&◌, ◌==◌, not, codes}
 use Rattle.std.proofs.lemmas.Bool.{cond-true, cond-false}
-use Rattle.rx_terms.specs.Ascii.{ampersand, semicolon, less_than_sign, greater_than_sign, is_letter, is_letter_or_digit, is_white_space}
+use Rattle.rx_terms.specs.Ascii.{ampersand, semicolon, less_than_sign, greater_than_sign, is_white_space}
 use Rattle.rx_terms.specs.Text.{Chars}
 use Rattle.rx_chars.specs.declared.syntax.Syntax.{Syntax}
 use Rattle.rx_chars.specs.declared.syntax.Syntax.TheVariants.{Html, Xhtml}
@@ -11,13 +10,13 @@ use Rattle.rx_grammar.specs.declared.contents.Content.{Content}
 use Rattle.rx_grammar.specs.declared.contents.Content.TheVariants as content
 use Rattle.rx_grammar.specs.declared.faults.Kind.{Kind}
 use Rattle.rx_grammar.specs.declared.faults.Kind.TheVariants.{Outside, StrictText, UnknownReference, BadReference}
-use Rattle.rx_grammar.specs.References.{is_name, is_body, is_begun, stops_at, meaning}
+use Rattle.rx_grammar.specs.References.{is_name, is_body, is_begun, meaning}
 use Rattle.rx_grammar.specs.TagFaults.{RunFault, unknown, bad, no_reference}
 use Rattle.rx_grammar.specs.Spelling.{ends_with, IsFirst, has_markup, has_references, keeps_runs, begins_markup}
-use Rattle.rx_pages.specs.Scanner.{Verdict, goes_on, refused, told_of_reference, is_mark, in_markup, verdict, GoesOn}
+use Rattle.rx_pages.specs.Scanner.{refused, told_of_reference, is_mark, in_markup, verdict, GoesOn}
 use Rattle.rx_pages.proofs.Reading.{all_go, go_append, markup_is}
 use Rattle.rx_pages.proofs.Texts.{run_goes, or_none, semicolon_stops}
-use Rattle.rx_reader.proofs.Bools.{both, neither, untrue, not_both_ways, by_test}
+use Rattle.rx_reader.proofs.Bools.{both, neither, untrue, by_test}
 use Rattle.rx_reader.proofs.TextComplete.{body_begun}
 
 -- All characters but the last go on, and the last one is refused.
@@ -62,7 +61,7 @@ refuses_comment i markup text c f n =
       c = c;
       are = refl;
       go = go_append Xhtml i [] (codes "<!--") text (refl, (at [] 33, (at (33 ∷ []) 45, (at (33 ∷ 45 ∷ []) 45, tt))))
-        (all_go Xhtml i (codes "<!--") text (λ a d more e. at (33 ∷ 45 ∷ 45 ∷ a) d ∙ cond-false _ _ _ (f.first a (d ∷ more) e (λ h. cc))));
+          (all_go Xhtml i (codes "<!--") text (λ a d more e. at (33 ∷ 45 ∷ 45 ∷ a) d ∙ cond-false _ _ _ (f.first a (d ∷ more) e (λ h. cc))));
       refuses = at (33 ∷ 45 ∷ 45 ∷ text) c ∙ (cond-true _ _ _ f.whole ∙ cond-false _ _ _ (other_than c 62 n));
     }
   where
