@@ -23,3 +23,4 @@ pub mod DoctypeFaults
 pub mod Prefix
 pub mod ReadOn
 pub mod Going
+pub mod Bare
