@@ -1,18 +1,15 @@
 -- The line machine looks at the names of open elements alone: a line that keeps nothing else steps as the whole line does.
-use Rattle.std.proofs.Common.{◌≡◌, ◌∙◌, ℕ, suc, Bool, true, false, cond, List, [], ◌∷◌, ◌++◌, refl, ap, sym, length}
-use Rattle.std.specs.Prelude.{◌&&◌, not, map, nat_le}
+use Rattle.std.proofs.Common.{◌≡◌, ◌∙◌, suc, Bool, true, false, cond, [], ◌∷◌, refl, ap, length}
+use Rattle.std.specs.Prelude.{◌&&◌, not, map}
 use Rattle.rx_terms.specs.Text.{Chars}
 use Rattle.rx_chars.specs.declared.syntax.Syntax.{Syntax}
-use Rattle.rx_grammar.specs.declared.faults.Kind.{Kind}
 use Rattle.rx_grammar.specs.Names.{same, is_among}
-use Rattle.rx_grammar.specs.Tokens.{Tag}
-use Rattle.rx_grammar.specs.Contents.{Place, place_in, is_html, is_plaintext, is_self_closed}
+use Rattle.rx_grammar.specs.Contents.{place_in, is_html}
 use Rattle.rx_grammar.specs.Trees.{StartTag}
 use Rattle.rx_grammar.specs.Omission.{enders, is_omissible, is_held}
-use Rattle.rx_grammar.specs.Begun.{Line, inside_of, parent_of, Phase}
-use Rattle.rx_grammar.specs.PageFaults.{under_start, after_start, after_end, is_innermost, is_no_line}
-use Rattle.rx_pages.specs.Nesting.{Event, finishes, ended_by_start, ended_under, ended_by_end}
-use Rattle.rx_reader.proofs.Bools.{by_test}
+use Rattle.rx_grammar.specs.Begun.{Line, inside_of, parent_of}
+use Rattle.rx_grammar.specs.PageFaults.{under_start, after_start, after_end, is_innermost}
+use Rattle.rx_pages.specs.Nesting.{finishes, ended_by_start, ended_by_end}
 
 -- an open element of which the name alone is kept
 abbrev pub bare : StartTag → StartTag
