@@ -30,9 +30,6 @@ merge : (p q : Triple ℕ → Bool) → ((t : Triple ℕ) → p t ≡ true → q
 merge p q apart j [] = IsPermutation-refl []
 merge p q apart j (t ∷ list) = go (p t) refl (q t) refl (merge p q apart (suc j) list)
   where
-    P : List ℕ
-    P = places p (suc j) list
-
     go : (b : Bool) → p t ≡ b → (c : Bool) → q t ≡ c → IsPermutation (places p (suc j) list ++ places q (suc j) list) (places (λ t. p t || q t) (suc j) list)
         → IsPermutation ((if p t then j ∷ places p (suc j) list else places p (suc j) list) ++ (if q t then j ∷ places q (suc j) list else places q (suc j) list))
         (if p t || q t then j ∷ places (λ t. p t || q t) (suc j) list else places (λ t. p t || q t) (suc j) list)
@@ -252,9 +249,6 @@ given_end list s t reached row k start new h e past turn =
     zero_more n = let same : 0 + n ≡ n = omega arith in ap (slice_get list) same
 
 -- ---- what is treated
-
-pub treated_none : (list : List (Triple ℕ)) (u : Triple ℕ) (start new : List (Triple ℕ)) → is_referenced nat_eq (edges nat_eq list) u.subject ≡ true → new ≡ start → new ≡ added_all start (treated nat_eq list (edges nat_eq list) u)
-treated_none list u start new h e = e ∙ rw h refl
 
 pub treated_kept : (list : List (Triple ℕ)) (u : Triple ℕ) (start new : List (Triple ℕ)) → is_referenced nat_eq (edges nat_eq list) u.subject ≡ false → live nat_eq list u.predicate u.object ≡ None
     → new ≡ added start u → new ≡ added_all start (treated nat_eq list (edges nat_eq list) u)

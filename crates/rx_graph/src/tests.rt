@@ -22,7 +22,12 @@ fn repeats_vanish(rt: HostRuntime) -> Result<(), Fail> {
     let mut triples = TripleList::new(alloc);
     for i in 0u64..10_000 {
         let subject = Node::Blank(Blank(1_000 - i % 1_000));
-        triples.push(link(alloc, subject, "http://v.example/p", Node::Blank(Blank(5_000)))?)?;
+        triples.push(link(
+            alloc,
+            subject,
+            "http://v.example/p",
+            Node::Blank(Blank(5_000)),
+        )?)?;
     }
     let graph = Graph::of(alloc, &triples)?;
     assert_eq!(rt; graph.len(), 1_000);
@@ -30,7 +35,10 @@ fn repeats_vanish(rt: HostRuntime) -> Result<(), Fail> {
     assert_eq!(rt; copied.len(), 1_000);
     let relabelled = relabel(alloc, &graph)?;
     assert_eq!(rt; relabelled.len(), 1_000);
-    assert_eq!(rt; relabelled.at(999).subject == Node::Blank(Blank(1_000)), true);
+    assert_eq!(rt;
+        relabelled.at(999).subject == Node::Blank(Blank(1_000)),
+        true
+    );
     assert_eq!(rt; relabelled.at(999).object == Term::Blank(Blank(1)), true);
     Ok(())
 }
@@ -42,11 +50,31 @@ fn a_long_chain_is_copied(rt: HostRuntime) -> Result<(), Fail> {
     let copy = "http://www.w3.org/ns/rdfa#copy";
     for i in 0u64..2_000 {
         let pattern = Node::Iri(Iri::of(alloc, "http://www.w3.org/ns/rdfa#Pattern")?);
-        triples.push(link(alloc, Node::Blank(Blank(i)), "http://www.w3.org/1999/02/22-rdf-syntax-ns#type", pattern)?)?;
-        triples.push(link(alloc, Node::Blank(Blank(i)), copy, Node::Blank(Blank(i + 1)))?)?;
-        triples.push(link(alloc, Node::Blank(Blank(i)), "http://v.example/p", Node::Blank(Blank(i)))?)?;
+        triples.push(link(
+            alloc,
+            Node::Blank(Blank(i)),
+            "http://www.w3.org/1999/02/22-rdf-syntax-ns#type",
+            pattern,
+        )?)?;
+        triples.push(link(
+            alloc,
+            Node::Blank(Blank(i)),
+            copy,
+            Node::Blank(Blank(i + 1)),
+        )?)?;
+        triples.push(link(
+            alloc,
+            Node::Blank(Blank(i)),
+            "http://v.example/p",
+            Node::Blank(Blank(i)),
+        )?)?;
     }
-    triples.push(link(alloc, Node::Blank(Blank(9_000)), copy, Node::Blank(Blank(0)))?)?;
+    triples.push(link(
+        alloc,
+        Node::Blank(Blank(9_000)),
+        copy,
+        Node::Blank(Blank(0)),
+    )?)?;
     let copied = copy_patterns(alloc, &triples)?;
     // The last pattern's copy triple isn't live. It is copied with the 2,000 others.
     assert_eq!(rt; copied.is_empty(), false);

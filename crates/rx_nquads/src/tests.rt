@@ -33,7 +33,13 @@ fn link(alloc: Global, subject: &str, predicate: &str, object: &str) -> Result<T
     })
 }
 
-fn says(alloc: Global, subject: &str, predicate: &str, text: &str, kind: LiteralKind) -> Result<Triple, Fail> {
+fn says(
+    alloc: Global,
+    subject: &str,
+    predicate: &str,
+    text: &str,
+    kind: LiteralKind,
+) -> Result<Triple, Fail> {
     Ok(Triple {
         subject: node(alloc, subject, None)?,
         predicate: Iri::of(alloc, predicate)?,
@@ -72,7 +78,8 @@ fn patterns(alloc: Global, cycle: bool, subject: bool) -> Result<TripleList, Fai
 #[test]
 fn patterns_are_copied(rt: HostRuntime) -> Result<(), Fail> {
     let alloc = rt.alloc();
-    let copied = b"<http://h.example/d#s> <http://www.w3.org/1999/02/22-rdf-syntax-ns#type> <http://v.example/T> .\n<http://h.example/d#s> <http://v.example/p> \"1\" .\n<http://h.example/d#s> <http://v.example/q> \"2\" .\n";
+    let copied =
+        b"<http://h.example/d#s> <http://www.w3.org/1999/02/22-rdf-syntax-ns#type> <http://v.example/T> .\n<http://h.example/d#s> <http://v.example/p> \"1\" .\n<http://h.example/d#s> <http://v.example/q> \"2\" .\n";
     let chain = written(alloc, &patterns(alloc, false, true)?, None)?;
     assert_eq!(rt; chain.as_slice(), copied.as_slice());
     let cycle = written(alloc, &patterns(alloc, true, true)?, None)?;
@@ -122,7 +129,13 @@ fn blank_nodes_are_numbered(rt: HostRuntime) -> Result<(), Fail> {
 fn quads_have_the_graph_name(rt: HostRuntime) -> Result<(), Fail> {
     let alloc = rt.alloc();
     let mut triples = TripleList::new(alloc);
-    triples.push(says(alloc, "http://h.example/s", "http://v.example/p", "Hi", LiteralKind::Plain)?)?;
+    triples.push(says(
+        alloc,
+        "http://h.example/s",
+        "http://v.example/p",
+        "Hi",
+        LiteralKind::Plain,
+    )?)?;
     let name = Iri::of(alloc, "http://g.example/")?;
     assert_eq!(rt;
         written(alloc, &triples, Some(&name))?.as_slice(),
@@ -142,7 +155,8 @@ fn literals_are_escaped(rt: HostRuntime) -> Result<(), Fail> {
     }
     triples.push(says(alloc, "x:s", "x:p", "x", LiteralKind::Tagged(lang))?)?;
     triples.push(says(alloc, "x:s", "x:p", "7", LiteralKind::Typed(int))?)?;
-    let want = "<x:s> <x:p> \"a\\\"b\\\\c\" .\n<x:s> <x:p> \"one\\ntwo\\r\\n\" .\n<x:s> <x:p> \"\té€😀\" .\n<x:s> <x:p> \"\" .\n<x:s> <x:p> \"x\"@de-CH .\n<x:s> <x:p> \"7\"^^<http://www.w3.org/2001/XMLSchema#int> .\n";
+    let want =
+        "<x:s> <x:p> \"a\\\"b\\\\c\" .\n<x:s> <x:p> \"one\\ntwo\\r\\n\" .\n<x:s> <x:p> \"\té€😀\" .\n<x:s> <x:p> \"\" .\n<x:s> <x:p> \"x\"@de-CH .\n<x:s> <x:p> \"7\"^^<http://www.w3.org/2001/XMLSchema#int> .\n";
     assert_eq!(rt; written(alloc, &triples, None)?.as_slice(), want.as_bytes());
     Ok(())
 }

@@ -1,0 +1,35 @@
+-- The tests of the model's names are exact.
+use Rattle.std.proofs.Common.{◌≡◌, ◌&&◌, ◌==◌, refl, ap, bytes_eq}
+use Rattle.std.proofs.lemmas.Bool.Decides.{Decides-eqb}
+use Rattle.rx_model.specs.Sets.{IsExact}
+use Rattle.rx_model.proofs.Sets.{and_left, and_right, and_both}
+use Rattle.rx_model.proofs.Exact.{exact_texts}
+use Rattle.rx_rdfa.specs.Blanks.{First, Of, Below, Author, Made, Cell, same_owner, same_bnode}
+
+pub exact_owners : IsExact same_owner
+exact_owners First First = (λ h. refl, λ e. refl)
+exact_owners (Of a) (Of b) = (λ h. ap Of ((exact_texts a b).0 h), λ e. (exact_texts a b).1 (cc))
+exact_owners (Below a) (Below b) = (λ h. ap Below ((exact_texts a b).0 h), λ e. (exact_texts a b).1 (cc))
+exact_owners First (Of b) = (λ h. cc, λ e. cc)
+exact_owners First (Below b) = (λ h. cc, λ e. cc)
+exact_owners (Of a) First = (λ h. cc, λ e. cc)
+exact_owners (Of a) (Below b) = (λ h. cc, λ e. cc)
+exact_owners (Below a) First = (λ h. cc, λ e. cc)
+exact_owners (Below a) (Of b) = (λ h. cc, λ e. cc)
+
+pub exact_bnodes : IsExact same_bnode
+exact_bnodes (Author a) (Author b) = (λ h. ap Author ((exact_texts a b).0 h), λ e. (exact_texts a b).1 (cc))
+exact_bnodes (Made a) (Made b) = (λ h. ap Made ((exact_texts a b).0 h), λ e. (exact_texts a b).1 (cc))
+exact_bnodes (Cell o p i) (Cell q r j) = (
+  λ h. let a : o ≡ q = (exact_owners o q).0 (and_left (same_owner o q) (bytes_eq p r) (and_left (same_owner o q && bytes_eq p r) (i == j) h)) in
+      let b : p ≡ r = (exact_texts p r).0 (and_right (same_owner o q) (bytes_eq p r) (and_left (same_owner o q && bytes_eq p r) (i == j) h)) in
+      let c : i ≡ j = (Decides-eqb i j).0 (and_right (same_owner o q && bytes_eq p r) (i == j) h) in
+      λ k. Cell (a k) (b k) (c k),
+  λ e. and_both (same_owner o q && bytes_eq p r) (i == j) (and_both (same_owner o q) (bytes_eq p r) ((exact_owners o q).1 (cc)) ((exact_texts p r).1 (cc))) ((Decides-eqb i j).1 (cc)),
+)
+exact_bnodes (Author a) (Made b) = (λ h. cc, λ e. cc)
+exact_bnodes (Author a) (Cell q r j) = (λ h. cc, λ e. cc)
+exact_bnodes (Made a) (Author b) = (λ h. cc, λ e. cc)
+exact_bnodes (Made a) (Cell q r j) = (λ h. cc, λ e. cc)
+exact_bnodes (Cell o p i) (Author b) = (λ h. cc, λ e. cc)
+exact_bnodes (Cell o p i) (Made b) = (λ h. cc, λ e. cc)

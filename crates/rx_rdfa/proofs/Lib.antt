@@ -1,0 +1,14 @@
+pub mod Exact
+pub mod Made
+pub mod Whole
+pub mod Tables
+pub mod Local
+pub mod Machine
+pub mod Calls
+pub mod Sent
+pub mod RenamedResources
+pub mod RenamedElement
+pub mod RenamedLists
+pub mod RenamedMade
+pub mod RenamedMachine
+pub mod Growing

@@ -1,0 +1,17 @@
+-- Each start tag by computation.
+use Rattle.std.proofs.Common.{refl}
+use Rattle.rx_rows.specs.Refused.{refused, RefusalsHold}
+
+pub examples : RefusalsHold
+unfolding refused
+examples = record {
+  relative_vocabulary = refl;
+  empty_vocabulary = refl;
+  absolute_vocabulary = refl;
+  html_literal = refl;
+  xml_literal = refl;
+  datatype_without_property = refl;
+  vocabulary_first = refl;
+  by_vocabulary = refl;
+  other_prefix = refl;
+}

@@ -1,0 +1,10 @@
+pub mod Pages
+pub mod Subjects
+pub mod Links
+pub mod Words
+pub mod Values
+pub mod Inlist
+pub mod Patterns
+pub mod Hold
+pub mod Forms
+pub mod Refused
