@@ -1,6 +1,6 @@
 -- What an element whose end tag may be omitted says of the contents round it.
-use Rattle.std.proofs.Common.{◌≡◌, ◌∙◌, Bool, true, false, cond, List, [], ◌∷◌, Option, Some, None, refl, ap, sym, subst}
-use Rattle.std.specs.Prelude.{◌&&◌, ◌||◌, not, codes}
+use Rattle.std.proofs.Common.{◌≡◌, ◌∙◌, Bool, true, false, List, [], ◌∷◌, refl, ap}
+use Rattle.std.specs.Prelude.{◌&&◌, not, codes}
 use Rattle.std.specs.List.{list_all}
 use Rattle.std.specs.Cmp.Lexicographic.{bytes_decides}
 use Rattle.rx_terms.specs.Text.{Chars}

@@ -1,8 +1,8 @@
 -- The document type is read as it is spelled.
-use Rattle.std.proofs.Common.{◌≡◌, ◌≢◌, ◌∙◌, ℕ, suc, ◌+◌, ◌<◌, length, Bool, true, false, cond, List, [], ◌∷◌, ◌++◌, Option, Some, None, refl, ap, sym, subst, append-nil, append_assoc, inl, inr, arith, eqb-true}
-use Rattle.std.specs.Prelude.{◌&&◌, ◌||◌, ◌==◌, not, codes, drop, map}
+use Rattle.std.proofs.Common.{◌≡◌, ◌≢◌, ◌∙◌, ℕ, suc, ◌+◌, ◌<◌, length, Bool, true, false, [], ◌∷◌, ◌++◌, Option, Some, None, refl, ap, sym, subst, append_assoc, arith, eqb-true}
+use Rattle.std.specs.Prelude.{◌&&◌, ◌||◌, ◌==◌, not, codes, drop}
 use Rattle.std.specs.List.{list_all, list_any}
-use Rattle.std.proofs.lemmas.Bool.{cond-true, cond-false, and_from}
+use Rattle.std.proofs.lemmas.Bool.{cond-true, cond-false}
 use Rattle.std.proofs.lemmas.List.{map-append, length-append, length-map}
 use Rattle.rx_terms.specs.Ascii.{lowered_char, greater_than_sign, left_bracket, is_white_space}
 use Rattle.rx_terms.specs.Text.{Chars, begins_with, lowered}
@@ -10,10 +10,10 @@ use Rattle.rx_chars.specs.declared.syntax.Syntax.{Syntax}
 use Rattle.rx_chars.specs.declared.syntax.Syntax.TheVariants.{Html, Xhtml}
 use Rattle.rx_grammar.specs.declared.contents.Content.{Content}
 use Rattle.rx_grammar.specs.References.{one_or_more}
-use Rattle.rx_grammar.specs.Tokens.{Token, doctype, comment}
+use Rattle.rx_grammar.specs.Tokens.{doctype, comment}
 use Rattle.rx_grammar.specs.Tags.{cased, cased_char}
 use Rattle.rx_grammar.specs.Spelling.{has_markup, has_sections, ends_with, begins_declaration, doctype_word, IsDoctype}
-use Rattle.rx_pages.specs.Scanner.{Verdict, goes_on, whole, whole_if, DoctypePhase, keyword, spaces, naming, passed, closed, in_name, doctype_move, doctype_move_on, doctype_on, told_of_doctype, in_doctype, after_mark, in_markup, verdict, GoesOn, ReadAs}
+use Rattle.rx_pages.specs.Scanner.{goes_on, DoctypePhase, keyword, spaces, naming, passed, closed, doctype_move, doctype_move_on, doctype_on, told_of_doctype, in_doctype, after_mark, in_markup, verdict, GoesOn, ReadAs}
 use Rattle.rx_pages.proofs.Reading.{Last, no_last, a_last, last_of, all_go, go_append, read_to, markup_is}
 use Rattle.std.proofs.Math.Seq.{drop-append_seam}
 use Rattle.rx_pages.proofs.Comments.{none_if, and_none, bogus_at}
@@ -23,11 +23,11 @@ use Rattle.rx_reader.proofs.Classes.{of_one, of_white}
 use Rattle.rx_reader.proofs.Fronts.{equal, begins_append, has_end}
 use Rattle.rx_reader.proofs.OneToken.{kept_case}
 
-on_none : (s : Syntax) (text : Chars) → doctype_on s None text ≡ None
+pub on_none : (s : Syntax) (text : Chars) → doctype_on s None text ≡ None
 on_none s [] = refl
 on_none s (c ∷ text) = on_none s text
 
-on_append : (s : Syntax) (o : Option DoctypePhase) (a b : Chars) → doctype_on s o (a ++ b) ≡ doctype_on s (doctype_on s o a) b
+pub on_append : (s : Syntax) (o : Option DoctypePhase) (a b : Chars) → doctype_on s o (a ++ b) ≡ doctype_on s (doctype_on s o a) b
 on_append s o [] b = refl
 on_append s o (c ∷ a) b = on_append s (doctype_move_on s o c) a b
 
@@ -167,7 +167,7 @@ module _ (i : Content) (next : Option ℕ) (markup : has_markup i ≡ true) wher
   word_goes Html word e = html_word word e
   word_goes Xhtml word e = subst (λ w. GoesOn Xhtml i (codes "<!") w) (sym (sym (kept_case word) ∙ e)) xhtml_word
 
-  behind : (s : Syntax) (word : Chars) → cased s word ≡ doctype_word s → (f : Chars) (d : ℕ) → after_mark s i (word ++ f) d ≡ in_doctype s f d
+  pub behind : (s : Syntax) (word : Chars) → cased s word ≡ doctype_word s → (f : Chars) (d : ℕ) → after_mark s i (word ++ f) d ≡ in_doctype s f d
   behind Html word e f d = html_behind word e f d
   behind Xhtml word e f d = subst (λ w. after_mark Xhtml i (w ++ f) d ≡ in_doctype Xhtml f d) (sym (sym (kept_case word) ∙ e)) refl
 

@@ -1,12 +1,9 @@
 -- The tokens of a whole page lead to its end, and tell its tree.
-use Rattle.std.proofs.Common.{◌≡◌, ◌∙◌, ℕ, suc, ◌+◌, Bool, true, false, cond, List, [], ◌∷◌, ◌++◌, Option, Some, None, refl, ap, sym, subst, arith, append-nil}
-use Rattle.std.specs.Prelude.{◌&&◌, not, Result, Ok, Err, length, nat_le}
+use Rattle.std.proofs.Common.{◌≡◌, ◌∙◌, ℕ, suc, ◌+◌, Bool, true, false, List, [], ◌∷◌, ◌++◌, Some, refl, ap, sym, subst, arith, append-nil}
+use Rattle.std.specs.Prelude.{not, Ok}
 use Rattle.std.specs.Cmp.Lexicographic.{bytes_decides}
 use Rattle.rx_terms.specs.Text.{Chars}
 use Rattle.rx_chars.specs.declared.syntax.Syntax.{Syntax}
-use Rattle.rx_grammar.specs.declared.contents.Content.TheVariants as content
-use Rattle.rx_grammar.specs.declared.faults.Kind.{Kind}
-use Rattle.rx_grammar.specs.Names.{same, is_among}
 use Rattle.rx_grammar.specs.Tokens.{Tag, Token, tag, character, reference, kept, section, comment, doctype}
 use Rattle.rx_grammar.specs.Contents.{Place, outside, place_in, is_alone, hides, drops_line_feed}
 use Rattle.rx_grammar.specs.Trees.{StartTag, Tree, end, element, text, after_text, has_element}
@@ -14,9 +11,8 @@ use Rattle.rx_grammar.specs.Items.{Item, start_of, text_of}
 use Rattle.rx_grammar.specs.Omission.{enders, is_ended_by}
 use Rattle.rx_grammar.specs.Pages.{Opens, Closes, Drops, shown, Holds, nothing, a_text, a_comment, alone, closed, unclosed, is_between, Lead, passed, a_doctype, root_name, Document}
 use Rattle.rx_grammar.specs.Pages as pages
-use Rattle.rx_grammar.specs.Begun.{Line, inside_of, Phase, before, within, after}
-use Rattle.rx_pages.specs.Nesting.{Event, begins, says, finishes, Nesting, not_begun, Step, over, step_by, nest_step, told, Goes, stands, goes, with_element, told_trees}
-use Rattle.rx_pages.proofs.Steps.{in_line}
+use Rattle.rx_grammar.specs.Begun.{Phase, before, after}
+use Rattle.rx_pages.specs.Nesting.{Event, begins, finishes, Nesting, not_begun, over, step_by, told, Goes, stands, goes, with_element, told_trees}
 use Rattle.rx_pages.proofs.Nested.{Ready, Reads, Careless, not_deeper, of_token, alone_goes, close_goes, whole, runs, nothing_shown}
 
 -- outside the root

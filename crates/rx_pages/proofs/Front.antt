@@ -1,15 +1,14 @@
 -- The tokens at the front of a page lead to its open elements.
-use Rattle.std.proofs.Common.{◌≡◌, ◌∙◌, ℕ, suc, ◌+◌, Bool, true, false, List, [], ◌∷◌, ◌++◌, refl, ap, sym, subst, arith, append-nil, length}
-use Rattle.rx_terms.specs.Text.{Chars}
+use Rattle.std.proofs.Common.{◌≡◌, ℕ, suc, ◌+◌, false, List, [], ◌∷◌, refl, subst, arith, append-nil, length}
 use Rattle.rx_chars.specs.declared.syntax.Syntax.{Syntax}
 use Rattle.rx_grammar.specs.Trees.{Tree, end, element, text, has_element}
 use Rattle.rx_grammar.specs.Items.{Item, start_of}
-use Rattle.rx_grammar.specs.Begun.{Line, inside_of, Phase, before, within, after, Open, a_root, a_child, Stands, not_begun, still_open, ended}
+use Rattle.rx_grammar.specs.Begun.{Line, before, within, after, Open, a_root, a_child, not_begun, still_open, ended}
 use Rattle.rx_pages.specs.Nesting as nesting
 use Rattle.rx_pages.specs.Nesting.{Event, Nesting, Goes, stands, IsAt}
-use Rattle.rx_pages.specs.Laws.{Leads, FrontsLead}
+use Rattle.rx_pages.specs.Laws.{FrontsLead}
 use Rattle.rx_pages.proofs.Steps.{in_line}
-use Rattle.rx_pages.proofs.Nested.{Careless, not_deeper, open_goes, runs, one_level, ready_within}
+use Rattle.rx_pages.proofs.Nested.{Careless, not_deeper, open_goes, runs, ready_within}
 use Rattle.rx_pages.proofs.Documents.{lead_reads, root_ready, document_tells}
 
 -- the tokens lead from the page's beginning

@@ -16,3 +16,11 @@ pub mod Growing
 pub mod Popping
 pub mod Standing
 pub mod FrontBack
+pub mod Pending
+pub mod Refusals
+pub mod Openings
+pub mod DoctypeFaults
+pub mod Prefix
+pub mod ReadOn
+pub mod Going
+pub mod Bare

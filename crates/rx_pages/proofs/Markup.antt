@@ -1,5 +1,5 @@
 -- Tags are read as they are spelled.
-use Rattle.std.proofs.Common.{◌≡◌, ◌≢◌, ◌∙◌, ℕ, Bool, true, false, cond, List, [], ◌∷◌, ◌++◌, Option, Some, None, refl, ap, sym, subst, append-nil, append_assoc, inl, inr}
+use Rattle.std.proofs.Common.{◌≡◌, ◌≢◌, ◌∙◌, ℕ, true, false, [], ◌∷◌, ◌++◌, Option, refl, ap, sym, subst, append_assoc}
 use Rattle.std.specs.Prelude.{◌&&◌, ◌||◌, ◌==◌, not, Result, Ok, Err}
 use Rattle.std.proofs.lemmas.Bool.{cond-true, cond-false}
 use Rattle.rx_terms.specs.Ascii.{solidus}
@@ -10,15 +10,15 @@ use Rattle.rx_grammar.specs.declared.contents.Content.{Content}
 use Rattle.rx_grammar.specs.declared.faults.Kind.{Kind}
 use Rattle.rx_grammar.specs.declared.faults.Kind.TheVariants.{BadTag}
 use Rattle.rx_grammar.specs.References.{meaning}
-use Rattle.rx_grammar.specs.Tokens.{Tag, Token, tag}
+use Rattle.rx_grammar.specs.Tokens.{Tag, tag}
 use Rattle.rx_grammar.specs.Shapes.{begins_tag}
 use Rattle.rx_grammar.specs.Tags.{SpellsTag}
 use Rattle.rx_grammar.specs.Spelling.{has_markup, begins_markup}
 use Rattle.rx_reader.specs.Tables.{is_html, is_last}
-use Rattle.rx_reader.specs.TagReader.{TagState, fresh, tag_on, tag_of, checked}
-use Rattle.rx_pages.specs.Scanner.{Verdict, goes_on, whole, whole_if, told_of_tag, in_tag, in_markup, is_mark, verdict, ReadAs}
+use Rattle.rx_reader.specs.TagReader.{TagState, fresh, tag_on, checked}
+use Rattle.rx_pages.specs.Scanner.{goes_on, whole, told_of_tag, in_tag, in_markup, is_mark, ReadAs}
 use Rattle.rx_pages.proofs.Reading.{Last, no_last, a_last, last_of, all_go, read_to, markup_is}
-use Rattle.rx_reader.proofs.Bools.{both, neither, not_both_ways, by_test}
+use Rattle.rx_reader.proofs.Bools.{not_both_ways, by_test}
 use Rattle.rx_reader.proofs.Classes.{of_one}
 use Rattle.rx_reader.proofs.TagLaws.{reads_each, on_err, stuck, tag_on-append}
 use Rattle.rx_reader.proofs.OneToken.{TagFirst, tag_first, no_bang, no_question, markup_begins}

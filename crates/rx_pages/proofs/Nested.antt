@@ -3,8 +3,8 @@ use Rattle.std.proofs.lemmas.Bool.{cond-true, cond-false}
 use Rattle.std.proofs.lemmas.Grind.{common_steps}
 use Rattle.std.proofs.lemmas.Bool.Decides.{nat_tests}
 use Rattle.std.specs.Cmp.Lexicographic.{bytes_decides}
-use Rattle.std.proofs.Common.{◌≡◌, ◌∙◌, ℕ, suc, ◌+◌, Bool, true, false, cond, List, [], ◌∷◌, ◌++◌, Option, Some, None, refl, ap, sym, subst, arith}
-use Rattle.std.specs.Prelude.{◌&&◌, ◌||◌, not, codes, Result, Ok, Err, length, nat_le}
+use Rattle.std.proofs.Common.{◌≡◌, ◌∙◌, ℕ, suc, ◌+◌, Bool, true, false, List, [], ◌∷◌, ◌++◌, Some, None, refl, ap, sym, subst, arith}
+use Rattle.std.specs.Prelude.{◌&&◌, not, Result, Ok, length, nat_le}
 use Rattle.rx_terms.specs.Text.{Chars}
 use Rattle.rx_chars.specs.declared.syntax.Syntax.{Syntax}
 use Rattle.rx_grammar.specs.declared.contents.Content.{Content}
@@ -13,16 +13,16 @@ use Rattle.rx_grammar.specs.declared.faults.Kind.TheVariants as kind
 use Rattle.rx_grammar.specs.Names.{same, is_among}
 use Rattle.rx_grammar.specs.Tokens.{Tag, Token, tag, character, reference, kept, section, comment, doctype}
 use Rattle.rx_grammar.specs.Contents.{Place, outside, place_in, is_alone, is_html, is_plaintext, is_self_closed, hides, drops_line_feed}
-use Rattle.rx_grammar.specs.Trees.{StartTag, Tree, Nodes, end, element, text, after_text, has_element}
-use Rattle.rx_grammar.specs.Items.{Item, is_line_feed, start_of, text_of}
-use Rattle.rx_grammar.specs.Omission.{enders, is_omissible, is_held, ends_by, is_ended_by}
+use Rattle.rx_grammar.specs.Trees.{StartTag, Tree, end, element, text, after_text, has_element}
+use Rattle.rx_grammar.specs.Items.{Item, start_of, text_of}
+use Rattle.rx_grammar.specs.Omission.{enders, is_omissible, is_held, is_ended_by}
 use Rattle.rx_grammar.specs.Pages.{Opens, Closes, Drops, a_line_feed, another, no_more, shown, Holds, nothing, a_text, a_comment, alone, closed, unclosed, root_name}
-use Rattle.rx_grammar.specs.Begun.{Line, inside_of, parent_of, enders_of, Phase, before, within, after}
-use Rattle.rx_grammar.specs.PageFaults.{under_start, after_start, after_end, is_innermost, is_no_line, has_ended, is_before, first_row, tag_rows, start_rows, end_rows}
-use Rattle.rx_pages.specs.Nesting.{Event, begins, says, finishes, Nesting, content_at, Step, ended_by_start, ended_under, ended_by_end, over, begun_under, line_above, tag_passes, unless_refused, step_by, nest_step, Goes, stands, goes, with_element, with_text, told_trees}
-use Rattle.rx_pages.proofs.Contents.{AllHtml, omissible_html}
+use Rattle.rx_grammar.specs.Begun.{Line, inside_of, parent_of, enders_of, Phase, within}
+use Rattle.rx_grammar.specs.PageFaults.{under_start, after_end, is_innermost, has_ended, is_before, first_row}
+use Rattle.rx_pages.specs.Nesting.{Event, begins, says, finishes, Nesting, Step, ended_under, ended_by_end, over, begun_under, line_above, step_by, nest_step, Goes, stands, goes, with_element, with_text, told_trees}
+use Rattle.rx_pages.proofs.Contents.{omissible_html}
 use Rattle.rx_pages.proofs.Steps.{inside_at, in_line, after_one, undropped, dropped, of_start, of_end, passing, ended}
-use Rattle.rx_reader.proofs.Bools.{both, neither, not_both_ways, by_test, untrue}
+use Rattle.rx_reader.proofs.Bools.{both, neither, by_test}
 
 pub has_after_text : (names : List Chars) (chars : Chars) (nodes : Tree) → has_element names (after_text chars nodes) ≡ has_element names nodes
 has_after_text names [] nodes = refl

@@ -1,21 +1,18 @@
 -- What a tag leaves open of the elements at the front of a page.
 use Rattle.std.proofs.lemmas.Bool.{cond-true, cond-false, and_from}
-use Rattle.std.proofs.Common.{◌≡◌, ◌≢◌, ◌∙◌, ℕ, suc, ◌+◌, Bool, true, false, cond, List, [], ◌∷◌, ◌++◌, Option, Some, None, refl, ap, sym, subst, arith, length}
-use Rattle.std.specs.Prelude.{◌||◌, ◌&&◌, not}
-use Rattle.std.specs.Cmp.Lexicographic.{bytes_decides}
+use Rattle.std.proofs.Common.{◌≡◌, ◌∙◌, ℕ, suc, ◌+◌, Bool, true, false, cond, List, [], ◌∷◌, Option, Some, None, refl, ap, sym, arith, length}
+use Rattle.std.specs.Prelude.{◌&&◌, not}
 use Rattle.rx_terms.specs.Text.{Chars}
 use Rattle.rx_chars.specs.declared.syntax.Syntax.{Syntax}
-use Rattle.rx_grammar.specs.declared.contents.Content.{Content}
-use Rattle.rx_grammar.specs.declared.contents.Content.TheVariants as content
 use Rattle.rx_grammar.specs.Names.{same, is_among, row_of}
-use Rattle.rx_grammar.specs.Tokens.{Tag, Token, tag}
+use Rattle.rx_grammar.specs.Tokens.{Tag, tag}
 use Rattle.rx_grammar.specs.Contents.{Place, is_html}
 use Rattle.rx_grammar.specs.Trees.{StartTag}
 use Rattle.rx_grammar.specs.Items.{Item}
 use Rattle.rx_grammar.specs.Omission.{enders, names_of, has_row, is_omissible, is_held, ends_by, is_ended_by}
 use Rattle.rx_grammar.specs.Begun.{Line, inside_of, parent_of, enders_of, Open}
-use Rattle.rx_grammar.specs.PageFaults.{under_start, after_start, after_end}
-use Rattle.rx_pages.proofs.Contents.{AllHtml, omissible_html, html_is}
+use Rattle.rx_grammar.specs.PageFaults.{after_start, after_end}
+use Rattle.rx_pages.proofs.Contents.{omissible_html}
 use Rattle.rx_pages.proofs.Steps.{same_turned}
 use Rattle.rx_pages.proofs.Growing.{pops}
 use Rattle.rx_reader.proofs.Bools.{both, untrue, not_both_ways, by_test, split}

@@ -1,15 +1,13 @@
 -- What leads from character to character to a verdict.
-use Rattle.std.proofs.Common.{◌≡◌, ◌≢◌, ◌∙◌, ℕ, Bool, true, false, cond, List, [], ◌∷◌, ◌++◌, Option, Some, None, refl, ap, sym, subst, append-nil, append_assoc}
-use Rattle.std.specs.Prelude.{◌&&◌, ◌||◌, not, codes}
-use Rattle.rx_terms.specs.Text.{Chars, begins_with, lowered}
+use Rattle.std.proofs.Common.{◌≡◌, ◌≢◌, ◌∙◌, ℕ, Bool, true, false, [], ◌∷◌, ◌++◌, Option, Some, None, refl, ap, sym, subst, append-nil, append_assoc}
+use Rattle.rx_terms.specs.Text.{Chars}
 use Rattle.rx_chars.specs.declared.syntax.Syntax.{Syntax}
-use Rattle.rx_chars.specs.declared.syntax.Syntax.TheVariants.{Html, Xhtml}
 use Rattle.rx_grammar.specs.declared.contents.Content.{Content}
 use Rattle.rx_grammar.specs.declared.contents.Content.TheVariants as content
 use Rattle.rx_grammar.specs.Tokens.{Token}
 use Rattle.rx_grammar.specs.Spelling.{IsFirst, has_markup, has_sections, raw_name}
-use Rattle.rx_pages.specs.Scanner.{Verdict, goes_on, whole, ended, refused, whole_if, after_less_than, in_markup, verdict, GoesOn, ReadAs, at_last, at_next}
-use Rattle.rx_reader.proofs.Bools.{both, not_both_ways, by_test}
+use Rattle.rx_pages.specs.Scanner.{goes_on, whole, after_less_than, in_markup, verdict, GoesOn, ReadAs, at_last}
+use Rattle.rx_reader.proofs.Bools.{not_both_ways}
 
 -- a text by its last character
 pub data Last (text : Chars) : Type 0 where

@@ -1,25 +1,22 @@
 -- How one token steps: after a dropped line feed, and where it ends elements whose end tags are omitted.
 use Rattle.std.proofs.lemmas.Bool.{cond-true}
-use Rattle.std.proofs.Common.{◌≡◌, ◌∙◌, ℕ, Bool, true, false, cond, List, [], ◌∷◌, ◌++◌, Option, Some, None, refl, ap, sym, subst, append-nil, append_assoc}
-use Rattle.std.specs.Prelude.{◌&&◌, ◌||◌, not, codes, Result, Ok, Err, length, nat_le}
+use Rattle.std.proofs.Common.{◌≡◌, ◌∙◌, ℕ, Bool, true, false, cond, List, [], ◌∷◌, ◌++◌, Option, Some, None, refl, ap, sym}
+use Rattle.std.specs.Prelude.{◌&&◌, not, Ok, length, nat_le}
 use Rattle.std.specs.Cmp.Lexicographic.{bytes_decides}
 use Rattle.rx_terms.specs.Text.{Chars}
 use Rattle.rx_chars.specs.declared.syntax.Syntax.{Syntax}
-use Rattle.rx_chars.specs.declared.syntax.Syntax.TheVariants.{Html, Xhtml}
-use Rattle.rx_grammar.specs.declared.contents.Content.{Content}
-use Rattle.rx_grammar.specs.declared.contents.Content.TheVariants as content
 use Rattle.rx_grammar.specs.declared.faults.Kind.{Kind}
 use Rattle.rx_grammar.specs.declared.faults.Kind.TheVariants as kind
 use Rattle.rx_grammar.specs.Names.{same, is_among}
 use Rattle.rx_grammar.specs.Tokens.{Tag, Token, tag, character, reference, kept, section, comment, doctype}
-use Rattle.rx_grammar.specs.Contents.{Place, place_in, is_alone, is_html, is_plaintext, is_self_closed}
+use Rattle.rx_grammar.specs.Contents.{is_alone, is_html, is_plaintext, is_self_closed}
 use Rattle.rx_grammar.specs.Trees.{StartTag}
 use Rattle.rx_grammar.specs.Items.{Item, is_line_feed}
-use Rattle.rx_grammar.specs.Omission.{enders, is_omissible, is_held, ends_by, is_ended_by}
-use Rattle.rx_grammar.specs.Begun.{Line, inside_of, parent_of, Phase, before, within, after}
-use Rattle.rx_grammar.specs.PageFaults.{Rows, under_start, after_start, after_end, is_innermost, is_no_line, has_ended, is_before, first_row, tag_rows, start_rows, end_rows}
-use Rattle.rx_pages.specs.Nesting.{Event, finishes, Nesting, Step, ended_by_start, ended_under, ended_by_end, over, begun_under, line_above, tag_passes, unless_refused, text_step, going_on, step_by, nest_step, told}
-use Rattle.rx_pages.proofs.Contents.{same_is, AllHtml, omissible_html, html_is, plaintext_by, self_closed_by}
+use Rattle.rx_grammar.specs.Omission.{enders, is_omissible, is_held, ends_by}
+use Rattle.rx_grammar.specs.Begun.{Line, inside_of, parent_of, Phase, within}
+use Rattle.rx_grammar.specs.PageFaults.{Rows, under_start, after_end, is_innermost, first_row, tag_rows, start_rows, end_rows}
+use Rattle.rx_pages.specs.Nesting.{Event, finishes, Nesting, Step, ended_under, ended_by_end, over, begun_under, line_above, tag_passes, unless_refused, step_by}
+use Rattle.rx_pages.proofs.Contents.{same_is, AllHtml, omissible_html, plaintext_by, self_closed_by}
 use Rattle.rx_reader.proofs.Bools.{both, not_both_ways, by_test, untrue}
 
 -- in open elements, where a line feed that comes next is dropped or isn't

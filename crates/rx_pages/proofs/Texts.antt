@@ -1,20 +1,20 @@
 -- Text and references are read as they are spelled.
-use Rattle.std.proofs.Common.{◌≡◌, ◌≢◌, ◌∙◌, ℕ, Bool, true, false, cond, List, [], ◌∷◌, ◌++◌, Option, Some, None, refl, ap, sym, subst, append-nil, append_assoc, inl, inr}
+use Rattle.std.proofs.Common.{◌≡◌, ◌∙◌, ℕ, Bool, true, false, [], ◌∷◌, ◌++◌, Option, Some, None, refl, ap, sym, append_assoc}
 use Rattle.std.specs.Prelude.{◌&&◌, ◌||◌, ◌==◌, not}
 use Rattle.std.specs.List.{list_all}
-use Rattle.std.proofs.lemmas.Bool.{cond-true, cond-false, and_from}
+use Rattle.std.proofs.lemmas.Bool.{cond-true, cond-false}
 use Rattle.rx_terms.specs.Ascii.{ampersand, semicolon, less_than_sign}
 use Rattle.rx_terms.specs.Text.{Chars}
 use Rattle.rx_chars.specs.declared.syntax.Syntax.{Syntax}
-use Rattle.rx_chars.specs.declared.syntax.Syntax.TheVariants.{Html, Xhtml}
+use Rattle.rx_chars.specs.declared.syntax.Syntax.TheVariants.{Html}
 use Rattle.rx_grammar.specs.declared.contents.Content.{Content}
 use Rattle.rx_grammar.specs.declared.contents.Content.TheVariants as content
 use Rattle.rx_grammar.specs.References.{is_body, is_begun, stops_at, meaning}
-use Rattle.rx_grammar.specs.Tokens.{Token, character, reference, kept}
+use Rattle.rx_grammar.specs.Tokens.{character, reference, kept}
 use Rattle.rx_grammar.specs.Spelling.{has_references, keeps_runs, has_less_than, has_markup, is_text, begins_markup, IsBefore}
-use Rattle.rx_pages.specs.Scanner.{Verdict, goes_on, whole, ended, refused, told_of_reference, in_run, in_markup, less_than_text, is_mark, verdict, GoesOn, ReadAs, at_last, at_next}
-use Rattle.rx_pages.proofs.Reading.{all_go, go_append, read_to, markup_is}
-use Rattle.rx_reader.proofs.Bools.{both, neither, either, untrue, not_both_ways, by_test}
+use Rattle.rx_pages.specs.Scanner.{whole, told_of_reference, is_mark, verdict, GoesOn, ReadAs, at_last, at_next}
+use Rattle.rx_pages.proofs.Reading.{all_go, read_to, markup_is}
+use Rattle.rx_reader.proofs.Bools.{both, neither, untrue, not_both_ways, by_test}
 use Rattle.rx_reader.proofs.Classes.{of_one}
 use Rattle.rx_reader.proofs.Fronts.{begun_front, begun_no_mark}
 use Rattle.rx_reader.proofs.TextComplete.{body_begun}
@@ -54,6 +54,14 @@ less_markup (content.Rcdata name) h = absurd (cc)
 pub or_none : (a b : Bool) → a ≡ false → b ≡ false → (a || b) ≡ false
 or_none a b h k = rw (h, k) refl
 
+-- no run goes on with a semicolon
+pub semicolon_stops : (body : Chars) → is_begun (body ++ 59 ∷ []) ≡ false
+semicolon_stops body = by_test {G = is_begun (body ++ 59 ∷ []) ≡ false} (is_begun (body ++ 59 ∷ [])) (λ h. absurd (no_semicolon body (begun_no_mark (body ++ 59 ∷ []) h))) (λ h. h)
+  where
+    no_semicolon : (x : Chars) → list_all (λ c. not (c == semicolon)) (x ++ 59 ∷ []) ≡ true → ⊥
+    no_semicolon [] h = cc
+    no_semicolon (y ∷ x) h = no_semicolon x (both (not (y == semicolon)) _ h).1
+
 module _ (s : Syntax) (i : Content) where
   pub first_text : (c : ℕ) → is_text i c ≡ true → verdict s i [] c ≡ whole (character c)
   first_text c h = cond-false _ _ _ (or_none _ _ not_less not_reference) ∙ cond-true _ _ _ h
@@ -75,14 +83,7 @@ module _ (s : Syntax) (i : Content) where
   pub reads_reference : (next : Option ℕ) (body : Chars) (c : ℕ) → has_references i ≡ true → is_body body ≡ true → meaning s body ≡ Some c → ReadAs s i (ampersand ∷ (body ++ semicolon ∷ [])) next (reference c)
   reads_reference next body c r b m =
       read_to s i (38 ∷ body) 59 next (reference c) refl (run_goes body r (body_begun s (meaning s) body b))
-      (cond-false _ _ _ stopped ∙ (cond-true _ _ _ b ∙ ap (told_of_reference body) m))
-    where
-      stopped : is_begun (body ++ 59 ∷ []) ≡ false
-      stopped = by_test {G = is_begun (body ++ 59 ∷ []) ≡ false} (is_begun (body ++ 59 ∷ [])) (λ h. absurd (no_semicolon body (begun_no_mark (body ++ 59 ∷ []) h))) (λ h. h)
-        where
-          no_semicolon : (x : Chars) → list_all (λ c. not (c == semicolon)) (x ++ 59 ∷ []) ≡ true → ⊥
-          no_semicolon [] h = cc
-          no_semicolon (y ∷ x) h = no_semicolon x (both (not (y == semicolon)) _ h).1
+      (cond-false _ _ _ (semicolon_stops body) ∙ (cond-true _ _ _ b ∙ ap (told_of_reference body) m))
 
   pub reads_kept_run : (next : Option ℕ) (run : Chars) → keeps_runs i ≡ true → is_begun run ≡ true → IsBefore (stops_at run) next → ReadAs s i (ampersand ∷ run) next (kept (ampersand ∷ run))
   reads_kept_run None run k b h = absurd h

@@ -1,17 +1,12 @@
 -- The tokens of a page are determined by its characters: two lists of tokens that are spelled by the same characters, and both nest, tell the same.
-use Rattle.std.proofs.Common.{◌≡◌, ◌∙◌, ℕ, suc, ◌+◌, Bool, true, false, List, [], ◌∷◌, ◌++◌, Option, Some, None, refl, ap, sym, subst, arith}
-use Rattle.std.specs.Prelude.{Result, Ok, Err, length, map}
+use Rattle.std.proofs.Common.{◌≡◌, ◌∙◌, ℕ, List, [], ◌∷◌, ◌++◌, None, refl, ap, sym, subst}
+use Rattle.std.specs.Prelude.{Ok}
 use Rattle.std.proofs.lemmas.List.{map-append}
-use Rattle.rx_terms.specs.Text.{Chars}
 use Rattle.rx_chars.specs.Characters.{Entry}
 use Rattle.rx_chars.specs.declared.syntax.Syntax.{Syntax}
-use Rattle.rx_grammar.specs.declared.contents.Content.{Content}
-use Rattle.rx_grammar.specs.declared.faults.Kind.{Kind}
-use Rattle.rx_grammar.specs.Tokens.{Token}
 use Rattle.rx_grammar.specs.Spelling.{Spells}
 use Rattle.rx_grammar.specs.Items.{Item, Spelled, no_more, one, values, next_of, last_from}
-use Rattle.rx_grammar.specs.Laws.{IsSameToken}
-use Rattle.rx_pages.specs.Nesting.{Event, Nesting, content_at, Step, nest_step, Goes, stands, goes}
+use Rattle.rx_pages.specs.Nesting.{Event, Nesting, Step, nest_step, Goes, stands, goes}
 use Rattle.rx_reader.proofs.OneToken.{one_token}
 
 -- two lists of entries with equal characters in front are equal, and so is what follows
@@ -28,6 +23,9 @@ same_front (x ∷ xs) (y ∷ ys) m n e v =
     let h : x ≡ y = cc in
     record { front = ap (λ z. z ∷ xs) h ∙ ap (λ zs. y ∷ zs) r.front; rest = r.rest }
 
+values_append : (xs ys : List Entry) → values (xs ++ ys) ≡ values xs ++ values ys
+values_append xs ys = map-append (λ (entry : Entry). entry.value) xs ys
+
 -- what is equal where two tokens are spelled at one place
 pub record SameItem (a b : Item) (rest others : List Entry) : Type 0 where
   pub item : a ≡ b
@@ -37,7 +35,7 @@ pub same_item : (syntax : Syntax) (c d : Entry) (run other rest others : List En
     → Spells syntax a.content (values (c ∷ run)) (next_of (values rest) None) a.token → Spells syntax b.content (values (d ∷ other)) (next_of (values others) None) b.token
     → a.first ≡ c.first → a.last ≡ last_from c.last run → b.first ≡ d.first → b.last ≡ last_from d.last other → SameItem a b rest others
 same_item syntax c d run other rest others a b ci e h k af al bf bl =
-    let chars : values (c ∷ run) ++ values rest ≡ values (d ∷ other) ++ values others = sym (map-append (λ (entry : Entry). entry.value) (c ∷ run) rest) ∙ (ap values e ∙ map-append (λ (entry : Entry). entry.value) (d ∷ other) others) in
+    let chars = sym (values_append (c ∷ run) rest) ∙ (ap values e ∙ values_append (d ∷ other) others) in
     let s = one_token syntax b.content (values (c ∷ run)) (values rest) (values (d ∷ other)) (values others) a.token b.token chars (subst (λ x. Spells syntax x (values (c ∷ run)) (next_of (values rest) None) a.token) ci h) k in
     let f = same_front (c ∷ run) (d ∷ other) rest others e s.front_is in
     let same_c : c ≡ d = (let q = f.front in cc) in
@@ -45,9 +43,7 @@ same_item syntax c d run other rest others a b ci e h k af al bf bl =
     let firsts : a.first ≡ b.first = af ∙ (ap (λ x. x.first) same_c ∙ sym bf) in
     let lasts : a.last ≡ b.last = al ∙ (ap (λ x. last_from x.last run) same_c ∙ (ap (λ x. last_from d.last x) same_run ∙ sym bl)) in
     record {
-      item = ap (λ x. record { token = x; content = a.content; first = a.first; last = a.last }) s.token_is
-          ∙ (ap (λ x. record { token = b.token; content = x; first = a.first; last = a.last }) ci
-          ∙ (ap (λ x. record { token = b.token; content = b.content; first = x; last = a.last }) firsts ∙ ap (λ x. record { token = b.token; content = b.content; first = b.first; last = x }) lasts));
+      item = λ i. record { token = s.token_is i; content = ci i; first = firsts i; last = lasts i };
       rest_is = f.rest;
     }
 

@@ -1,7 +1,6 @@
 -- A byte list has at most one tree.
-use Rattle.std.proofs.Common.{◌≡◌, ◌∙◌, List, [], ◌∷◌, refl, ap, sym, subst}
+use Rattle.std.proofs.Common.{◌≡◌, ◌∙◌, [], ◌∷◌, refl, ap, sym}
 use Rattle.rx_chars.proofs.CharactersLemmas.{one_reading}
-use Rattle.rx_grammar.specs.Trees.{Tree}
 use Rattle.rx_grammar.specs.Begun.{after}
 use Rattle.rx_grammar.specs.Laws.{OneTree}
 use Rattle.rx_pages.specs.Nesting.{told_trees}

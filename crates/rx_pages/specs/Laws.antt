@@ -1,5 +1,5 @@
 -- What holds of the tables.
-use Rattle.std.specs.Prelude.{ℕ, List, Option}
+use Rattle.std.specs.Prelude.{◌≡◌, ℕ, List, [], ◌++◌, Option, None}
 use Rattle.rx_terms.specs.Text.{Chars}
 use Rattle.rx_chars.specs.declared.syntax.Syntax.{Syntax}
 use Rattle.rx_grammar.specs.declared.contents.Content.{Content}
@@ -7,8 +7,12 @@ use Rattle.rx_grammar.specs.Tokens.{Token}
 use Rattle.rx_grammar.specs.Spelling.{Spells}
 use Rattle.rx_chars.specs.Characters.{Entry}
 use Rattle.rx_grammar.specs.Items.{Item, Spelled}
-use Rattle.rx_grammar.specs.Begun.{Line, Phase, Stands}
-use Rattle.rx_pages.specs.Nesting.{Event, not_begun, Goes, IsAt}
+use Rattle.rx_grammar.specs.declared.limits.Limits.{Limits}
+use Rattle.rx_grammar.specs.Trees.{Tree}
+use Rattle.rx_grammar.specs.Pages.{Page}
+use Rattle.rx_grammar.specs.PageFaults.{Reached}
+use Rattle.rx_grammar.specs.Begun.{Line, Phase, after, Stands}
+use Rattle.rx_pages.specs.Nesting.{Event, Nesting, not_begun, Goes, IsAt}
 use Rattle.rx_pages.specs.Scanner.{ReadAs}
 
 -- characters that spell a token are read as it
@@ -26,3 +30,18 @@ FrontsLead = (syntax : Syntax) (depth : ℕ) (items : List Item) (line : Line) (
 -- and spelled tokens that lead to open elements can stand at the front of a page
 abbrev pub FrontsStand : Type 0
 FrontsStand = (syntax : Syntax) (depth : ℕ) (entries : List Entry) (next : Option ℕ) (items : List Item) (line : Line) (phase : Phase) → Spelled syntax entries next items → Leads syntax depth items line phase → Stands syntax depth items line phase
+
+-- What is left of a page behind the whole tokens of its front, and that it leads from the open elements there to the page's end.
+pub record IsLeft (syntax : Syntax) (depth : ℕ) (all some : List Item) (line : Line) (phase : Phase) (run : List Entry) : Type 0 where
+  pub items : List Item
+  pub entries : List Entry
+  pub are : all ≡ some ++ items
+  pub spelled : Spelled syntax (run ++ entries) None items
+  pub place : Nesting
+  pub is_at : IsAt line phase place
+  pub events : List Event
+  pub going : Goes syntax depth (IsAt [] after) place items events
+
+abbrev pub PagesGoOn : Type 0
+PagesGoOn = (syntax : Syntax) (limits : Limits) (whole rest : List ℕ) (items : List Item) (line : Line) (phase : Phase) (run : List Entry) (tree : Tree) → Reached syntax limits whole items line phase run → (page : Page syntax limits (whole ++ rest) tree)
+    → IsLeft syntax limits.depth page.items items line phase run

@@ -7,8 +7,8 @@ use Rattle.rx_grammar.specs.declared.faults.Kind.{Kind}
 use Rattle.rx_grammar.specs.declared.faults.Kind.TheVariants.{BadDoctype}
 use Rattle.rx_grammar.specs.Names.{same, is_among}
 use Rattle.rx_grammar.specs.Tokens.{Tag, Token, tag, character, reference, kept, section, comment, doctype}
-use Rattle.rx_grammar.specs.Contents.{Place, is_alone, is_html, hides, drops_line_feed}
-use Rattle.rx_grammar.specs.Trees.{StartTag, Tree, end, element, text, after_text}
+use Rattle.rx_grammar.specs.Contents.{is_alone, is_html, hides, drops_line_feed}
+use Rattle.rx_grammar.specs.Trees.{StartTag, Tree, end, element, after_text}
 use Rattle.rx_grammar.specs.Items.{Item, is_line_feed, start_of}
 use Rattle.rx_grammar.specs.Omission.{enders, is_omissible, is_held}
 use Rattle.rx_grammar.specs.Pages.{shown}

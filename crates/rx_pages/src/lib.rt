@@ -6,7 +6,7 @@
 #![tactic(auto)]
 
 ghost use Rattle.rx_grammar.specs.Laws.{OneTree};
-ghost use Rattle.rx_pages.specs.Laws.{FrontsLead, FrontsStand, ReadsEachToken};
+ghost use Rattle.rx_pages.specs.Laws.{FrontsLead, FrontsStand, PagesGoOn, ReadsEachToken};
 
 /// A byte list has at most one tree.
 pub fn one_tree()
@@ -26,4 +26,10 @@ pub fn fronts_lead()
 /// Spelled tokens that lead to open elements can stand at the front of a page.
 pub fn fronts_stand()
     ensures { FrontsStand }
+{}
+
+/// A page goes on from each of its fronts: the whole tokens of the front are its first ones, and the others lead from
+/// the front's open elements to the page's end.
+pub fn pages_go_on()
+    ensures { PagesGoOn }
 {}

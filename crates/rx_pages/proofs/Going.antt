@@ -1,0 +1,17 @@
+-- A page goes on from each of its fronts.
+use Rattle.std.proofs.Common.{◌∙◌, [], ◌++◌, refl, append_assoc}
+use Rattle.rx_grammar.specs.Begun.{after}
+use Rattle.rx_pages.specs.Nesting.{IsAt}
+use Rattle.rx_pages.specs.Laws.{PagesGoOn}
+use Rattle.rx_pages.proofs.Documents.{document_tells}
+use Rattle.rx_pages.proofs.Front.{fronts_lead}
+use Rattle.rx_pages.proofs.Prefix.{first_tokens}
+use Rattle.rx_pages.proofs.ReadOn.{read_on}
+
+pub pages_go_on : PagesGoOn
+pages_go_on syntax limits whole rest items line phase run tree r page =
+    let b = read_on whole rest (r.front ++ run) page.entries r.read page.read in
+    let l = fronts_lead syntax limits.depth items line phase r.stands in
+    let d = document_tells syntax limits.depth (IsAt [] after) (λ k h. record { line_is = h.line_is; phase_is = h.phase_is }) (record { line_is = refl; phase_is = refl }) page.items tree page.document in
+    let f = first_tokens syntax limits.depth (IsAt line phase) (IsAt [] after) run b.more r.spelled page.spelled refl (b.are ∙ append_assoc r.front run b.more) l.going d.going in
+    record { items = f.items; entries = b.more; are = f.are; spelled = f.spelled; place = f.reached; is_at = f.is_meant; events = f.events; going = f.going }

@@ -1,0 +1,62 @@
+-- Characters that begin a token go on, and no token is read within them.
+use Rattle.std.proofs.Common.{◌≡◌, ◌∙◌, ℕ, [], ◌∷◌, ◌++◌, Option, Some, None, refl, ap, sym, subst, append-nil, append_assoc, inl, inr}
+use Rattle.rx_terms.specs.Text.{Chars}
+use Rattle.rx_chars.specs.declared.syntax.Syntax.{Syntax}
+use Rattle.rx_grammar.specs.declared.contents.Content.{Content}
+use Rattle.rx_grammar.specs.Tokens.{Token}
+use Rattle.rx_grammar.specs.Spelling.{Spells}
+use Rattle.rx_grammar.specs.Items.{next_of}
+use Rattle.rx_pages.specs.Scanner.{Verdict, goes_on, whole, ended, verdict, GoesOn, ReadAs, at_last, at_next}
+use Rattle.rx_pages.proofs.Spellings.{reads_each}
+use Rattle.rx_reader.proofs.Fronts.{two_fronts}
+
+module _ (s : Syntax) (i : Content) where
+  pub goes_front : (before a b : Chars) → GoesOn s i before (a ++ b) → GoesOn s i before a
+  goes_front before [] b g = tt
+  goes_front before (c ∷ a) b g = (g.0, goes_front (before ++ c ∷ []) a b g.1)
+
+  -- each of them goes on
+  pub goes_at : (before a : Chars) (c : ℕ) (b : Chars) → GoesOn s i before (a ++ c ∷ b) → verdict s i (before ++ a) c ≡ goes_on
+  goes_at before [] c b g = subst (λ x. verdict s i x c ≡ goes_on) (sym (append-nil before)) g.0
+  goes_at before (d ∷ a) c b g = subst (λ x. verdict s i x c ≡ goes_on) (append_assoc before (d ∷ []) a) (goes_at (before ++ d ∷ []) a c b g.1)
+
+  not_whole : (v : Verdict) (token : Token) → v ≡ goes_on → v ≡ whole token → ⊥
+  not_whole v token h k = let e = sym h ∙ k in cc
+
+  not_ended : (v : Verdict) (token : Token) → v ≡ goes_on → v ≡ ended token → ⊥
+  not_ended v token h k = let e = sym h ∙ k in cc
+
+  -- a token isn't read within characters that go on
+  pub none_within : (text more : Chars) (next : Option ℕ) (token : Token) → GoesOn s i [] (text ++ more) → ReadAs s i text (next_of more next) token → (more ≡ [] → next ≡ None) → ⊥
+  none_within text more next token g r last = by (text) (next_of more next) token r refl refl
+    where
+      at_more : (text : Chars) (c : ℕ) (token : Token) (more : Chars) → GoesOn s i [] (text ++ more) → Some c ≡ next_of more next → (more ≡ [] → next ≡ None) → verdict s i text c ≡ ended token → ⊥
+      at_more text c token [] g n last k = absurd (let e : Some c ≡ None = n ∙ last refl in cc)
+      at_more text c token (d ∷ more) g n last k =
+          let q : c ≡ d = cc in
+          not_ended (verdict s i text d) token (goes_at [] text d more g) (ap (verdict s i text) (sym q) ∙ k)
+
+      by : (x : Chars) (n : Option ℕ) (token : Token) → ReadAs s i x n token → x ≡ text → n ≡ next_of more next → ⊥
+      by _ _ _ (at_last front c token go k) e n =
+          not_whole (verdict s i front c) token (goes_at [] front c more (subst (λ x. GoesOn s i [] x) (ap (λ x. x ++ more) (sym e) ∙ append_assoc front (c ∷ []) more) g)) k
+      by _ _ _ (at_next x c token go k) e n = at_more x c token more (subst (λ y. GoesOn s i [] (y ++ more)) (sym e) g) n last k
+
+  -- what stands before the last character
+  pub goes_within : (front : Chars) (c : ℕ) (run : Chars) (d : ℕ) (rest : Chars) → GoesOn s i [] front → front ++ c ∷ [] ≡ run ++ d ∷ rest → GoesOn s i [] run
+  goes_within front c run d rest go e = elim (two_fronts front run (c ∷ []) (d ∷ rest) e) [
+    | inl f ↦ by_longer f.z f.is f.rest
+    | inr f ↦ goes_front [] run f.z (subst (λ x. GoesOn s i [] x) f.is go)
+  ]
+    where
+      by_longer : (z : Chars) → run ≡ front ++ z → c ∷ [] ≡ z ++ d ∷ rest → GoesOn s i [] run
+      by_longer [] e q = subst (λ x. GoesOn s i [] x) (sym (e ∙ append-nil front)) go
+      by_longer (x ∷ []) e q = absurd (cc)
+      by_longer (x ∷ y ∷ z) e q = absurd (cc)
+
+  -- what begins a token goes on
+  pub begun_goes : (run : Chars) (d : ℕ) (rest : Chars) (next : Option ℕ) (token : Token) → Spells s i (run ++ d ∷ rest) next token → GoesOn s i [] run
+  begun_goes run d rest next token sp = by (run ++ d ∷ rest) next token (reads_each s i (run ++ d ∷ rest) next token sp) refl
+    where
+      by : (x : Chars) (n : Option ℕ) (token : Token) → ReadAs s i x n token → x ≡ run ++ d ∷ rest → GoesOn s i [] run
+      by _ _ _ (at_last front c token go k) e = goes_within front c run d rest go e
+      by _ _ _ (at_next x c token go k) e = goes_front [] run (d ∷ rest) (subst (λ x. GoesOn s i [] x) e go)
