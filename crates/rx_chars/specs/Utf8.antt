@@ -1,4 +1,4 @@
--- Well-formed UTF-8, as the Unicode Standard defines it (section 3.9, D92, Tables 3-6 and 3-7).
+-- Well-formed UTF-8, as the Unicode Standard defines it (section 3.9, UTF-8 encoding form, Tables 3-6 and 3-7).
 use Rattle.std.specs.Prelude.{◌≡◌, ◌≢◌, ◌↔◌, ℕ, ◌+◌, ◌-◌, ◌*◌, Bool, true, false, ◌&&◌, nat_le, List, [], ◌∷◌, ◌++◌, encode_utf8, if◌then◌else◌}
 use Rattle.std.specs.List.{list_any}
 use Rattle.std.specs.Char.{IsScalar}
