@@ -148,22 +148,22 @@ never s chars kind run more spelled sp =
 
 pub tells : (old new : TagSoFar) (c : ℕ) (r : Result TagStep TagError) → StepGives old c r new → (chars : Chars) → Stands old chars → StepTells (chars ++ c ∷ []) r new
 tells old new c (Ok More) g chars h =
-    let run : tag_on old.syntax (meaning old.syntax) (Ok fresh) (chars ++ c ∷ []) ≡ Ok new.state = on old.syntax old.state chars c (Ok new.state) h.run g.1.0 in
-    subst (StepTells (chars ++ c ∷ []) (Ok More)) (sym g.2) (record {
-      stands = record { run = run; may_step = record { unfinished = g.1.1; unrefused = h.may_step.unrefused }; unspent = h.unspent };
-      begins = (table_is_exact old.syntax (meaning old.syntax) (chars ++ c ∷ []) new.state run g.1.1).begins;
-      unspelled = no_tag_yet old.syntax new.state (chars ++ c ∷ []) run g.1.1;
+    let run : tag_on old.syntax (meaning old.syntax) (Ok fresh) (chars ++ c ∷ []) ≡ Ok new.state = on old.syntax old.state chars c (Ok new.state) h.run g.0.0 in
+    subst (StepTells (chars ++ c ∷ []) (Ok More)) (sym g.1) (record {
+      stands = record { run = run; may_step = record { unfinished = g.0.1; unrefused = h.may_step.unrefused } };
+      begins = (table_is_exact old.syntax (meaning old.syntax) (chars ++ c ∷ []) new.state run g.0.1).begins;
+      unspelled = no_tag_yet old.syntax new.state (chars ++ c ∷ []) run g.0.1;
     })
 tells old new c (Ok Done) g chars h =
-    let e : Ends (record { syntax = old.syntax; state = old.state }) c new.state = g.1 in
-    subst (StepTells (chars ++ c ∷ []) (Ok Done)) (sym g.2)
+    let e : Ends (record { syntax = old.syntax; state = old.state }) c new.state = g.0 in
+    subst (StepTells (chars ++ c ∷ []) (Ok Done)) (sym g.1)
     (spells_each old.syntax (chars ++ c ∷ []) (parts_of new.state) (record { last = e.last; run = on old.syntax old.state chars c (Ok e.last) h.run e.step; whole = e.whole; is_tag = sym (ap parts_of e.kept) }))
 tells old new c (Err (Bad kind)) g chars h =
-    subst (StepTells (chars ++ c ∷ []) (Err (Bad kind))) (sym g.2) (record {
-      unspelled = never old.syntax (chars ++ c ∷ []) kind (on old.syntax old.state chars c (Err kind) h.run g.1);
+    subst (StepTells (chars ++ c ∷ []) (Err (Bad kind))) (sym g.1) (record {
+      unspelled = never old.syntax (chars ++ c ∷ []) kind (on old.syntax old.state chars c (Err kind) h.run g.0);
       bad_tag = λ e.
           ((table_is_exact old.syntax (meaning old.syntax) chars old.state h.run h.may_step.unfinished).refused c).0
-          (bad_move old.syntax (meaning old.syntax) old.state c (move_of old.syntax old.state.phase c) (g.1 ∙ ap Err e));
-      repeated = λ e. repeated_fault old.syntax old.state chars c h.run (g.1 ∙ ap Err e);
+          (bad_move old.syntax (meaning old.syntax) old.state c (move_of old.syntax old.state.phase c) (g.0 ∙ ap Err e));
+      repeated = λ e. repeated_fault old.syntax old.state chars c h.run (g.0 ∙ ap Err e);
     })
 tells old new c (Err NoMemory) g chars h = tt

@@ -16,16 +16,14 @@ use Rattle.rx_tags.specs.declared.pairs.TagError.{TagError}
 use Rattle.rx_tags.specs.declared.pairs.TagError.TheVariants.{Bad, NoMemory}
 use Rattle.rx_tags.specs.TagReads.{TagRead, ReadGives}
 
--- A tag so far. `refused` says that a fault was answered, and `spent` that there was no memory, since the buffer was
--- made or cleared.
+-- A tag so far. `refused` says that a fault was answered since the buffer was made or cleared.
 pub record TagSoFar : Type 0 where
   pub syntax : Syntax
   pub state : TagState
   pub refused : Bool
-  pub spent : Bool
 
 abbrev pub no_tag : Syntax → TagSoFar
-no_tag syntax = record { syntax = syntax; state = fresh; refused = false; spent = false }
+no_tag syntax = record { syntax = syntax; state = fresh; refused = false }
 
 abbrev pub read_of : TagSoFar → TagRead
 read_of tag = record { syntax = tag.syntax; state = tag.state }
@@ -35,27 +33,18 @@ pub record MayStep (tag : TagSoFar) : Type 0 where
   pub unfinished : is_last tag.state.phase ≡ false
   pub unrefused : tag.refused ≡ false
 
--- there was no memory, and there is none until the tag is cleared
-pub record Spends (old new : TagSoFar) : Type 0 where
-  pub may_step : MayStep new
-  pub syntax : new.syntax ≡ old.syntax
-  pub spent : new.spent ≡ true
-
 -- one more character, exactly by the reader
 abbrev pub StepGives : TagSoFar → ℕ → Result TagStep TagError → TagSoFar → Type 0
 StepGives old c (Ok step) new =
-    (old.spent ≡ false) × ReadGives (read_of old) c (Ok step) new.state
-    × (new ≡ record { syntax = old.syntax; state = new.state; refused = old.refused; spent = old.spent })
+    ReadGives (read_of old) c (Ok step) new.state × (new ≡ record { syntax = old.syntax; state = new.state; refused = old.refused })
 StepGives old c (Err (Bad kind)) new =
-    (old.spent ≡ false) × ReadGives (read_of old) c (Err (Bad kind)) new.state
-    × (new ≡ record { syntax = old.syntax; state = fresh; refused = true; spent = false })
-StepGives old c (Err NoMemory) new = Spends old new
+    ReadGives (read_of old) c (Err (Bad kind)) new.state × (new ≡ record { syntax = old.syntax; state = fresh; refused = true })
+StepGives old c (Err NoMemory) new = new ≡ old
 
 -- These are the characters since the buffer was made or cleared, and no fault was answered.
 pub record Stands (tag : TagSoFar) (chars : Chars) : Type 0 where
   pub run : tag_on tag.syntax (meaning tag.syntax) (Ok fresh) chars ≡ Ok tag.state
   pub may_step : MayStep tag
-  pub unspent : tag.spent ≡ false
 
 -- They stand on: they begin a tag, whatever its values hold, and spell none yet.
 pub record GoesOn (tag : TagSoFar) (chars : Chars) : Type 0 where
