@@ -16,3 +16,5 @@ pub mod TagLaws
 pub mod Fronts
 pub mod OneToken
 pub mod Automaton
+pub mod ValueFaults
+pub mod ValueRefusals
