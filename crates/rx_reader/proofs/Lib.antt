@@ -18,3 +18,4 @@ pub mod OneToken
 pub mod Automaton
 pub mod ValueFaults
 pub mod ValueRefusals
+pub mod Written
