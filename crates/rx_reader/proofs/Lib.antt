@@ -19,3 +19,4 @@ pub mod Automaton
 pub mod ValueFaults
 pub mod ValueRefusals
 pub mod Written
+pub mod InValues

@@ -75,7 +75,7 @@ module _ (means : Chars → Option ℕ) where
   is_open s front text value b h = by_front s text value b (value_on s means (Ok no_value_yet) front) (sym (value-append s means (Ok no_value_yet) front (ampersand ∷ text)) ∙ h)
 
 -- the fault of a reference that stands for nothing
-name_body : (name : Chars) → is_name name ≡ true → is_body name ≡ true
+pub name_body : (name : Chars) → is_name name ≡ true → is_body name ≡ true
 name_body [] h = absurd (cc)
 name_body (c ∷ text) h = rw h refl
 
