@@ -7,7 +7,7 @@ use Rattle.rx_terms.specs.Text.{Chars}
 use Rattle.rx_chars.specs.declared.syntax.Syntax.{Syntax}
 use Rattle.rx_chars.specs.declared.syntax.Syntax.TheVariants.{Html, Xhtml}
 use Rattle.rx_grammar.specs.declared.faults.Kind.{Kind}
-use Rattle.rx_grammar.specs.References.{is_hexadecimal_digit, is_x, begins_number, is_begun}
+use Rattle.rx_grammar.specs.References.{is_hexadecimal_digit, is_x, begins_number, is_begun, meaning}
 use Rattle.rx_grammar.specs.Tokens.{Attribute, Tag}
 use Rattle.rx_grammar.specs.Shapes.{is_quote, begins_tag, is_tag_char, begins_attribute, continues_attribute, Shape}
 use Rattle.rx_grammar.specs.TagFaults.{EndsValue, double, single, no_mark, IsInValue, RunFault, unknown, bad, no_reference, ValueFault, in_run, less_than}
@@ -20,6 +20,7 @@ use Rattle.rx_reader.proofs.Classes.{of_white, of_one, unless}
 use Rattle.rx_reader.proofs.Moves.{is_among, is_value_phase}
 use Rattle.rx_reader.proofs.Sound.{html_is}
 use Rattle.rx_reader.proofs.TextComplete.{body_begun}
+use Rattle.rx_reader.proofs.ValueFaults.{of_quote, snoc_front, snoc_last}
 use Rattle.rx_reader.proofs.ValueRefusals.{name_body}
 use Rattle.rx_reader.proofs.Automaton.{Whole, shaped}
 use Rattle.rx_reader.proofs.Written.{Written, at, nothing_written, written_by, written_step, written_on, written_none, written-append, written_phases, Arrives, shape_written}
@@ -350,3 +351,172 @@ ended_by Html w last _ single h l = single_html w.phase w.attributes w.key w.val
 ended_by Xhtml w last _ single h l = single_xhtml w.phase w.attributes w.key w.value last h l
 ended_by Html w last _ (no_mark e) h l = unmarked_html w.phase w.attributes w.key w.value last h l
 ended_by Xhtml w last _ (no_mark e) h l = absurd (cc)
+
+-- A fault of a value of HTML is decided at a `;`, after a character of its run.
+inner_by : (test : ℕ → Bool) (c : ℕ) → test c ≡ true → test 9 ≡ false → test 10 ≡ false → test 12 ≡ false → test 13 ≡ false → test 32 ≡ false → test 47 ≡ false → test 34 ≡ false → test 39 ≡ false → not (is_outer c) ≡ true
+inner_by test c h p9 p10 p12 p13 p32 p47 p34 p39 =
+    let white : is_white_space c ≡ false = unless test c (is_white_space c) h (λ e. of_white (λ x. test x ≡ false) c e p9 p10 p12 p13 p32) in
+    let slash : (c == solidus) ≡ false = unless test c (c == solidus) h (λ e. of_one (λ x. test x ≡ false) c solidus e p47) in
+    let mark : is_quote c ≡ false = unless test c (is_quote c) h (λ e. of_quote (λ x. test x ≡ false) c e p34 p39) in
+    rw (white, slash, mark) refl
+
+abbrev is_inner : ℕ → Bool
+is_inner c = not (is_outer c)
+
+all_inner : (test : ℕ → Bool) (text : Chars) → ((c : ℕ) → test c ≡ true → is_inner c ≡ true) → list_all test text ≡ true → list_all is_inner text ≡ true
+all_inner test [] f h = refl
+all_inner test (c ∷ text) f h = let b = both (test c) _ h in rw (f c b.0, all_inner test text f b.1) refl
+
+letter_inner : (c : ℕ) → is_letter c ≡ true → is_inner c ≡ true
+letter_inner c h = inner_by is_letter c h refl refl refl refl refl refl refl refl
+
+word_inner : (c : ℕ) → is_letter_or_digit c ≡ true → is_inner c ≡ true
+word_inner c h = inner_by is_letter_or_digit c h refl refl refl refl refl refl refl refl
+
+digit_inner : (c : ℕ) → is_digit c ≡ true → is_inner c ≡ true
+digit_inner c h = inner_by is_digit c h refl refl refl refl refl refl refl refl
+
+hexadecimal_inner : (c : ℕ) → is_hexadecimal_digit c ≡ true → is_inner c ≡ true
+hexadecimal_inner c h = inner_by is_hexadecimal_digit c h refl refl refl refl refl refl refl refl
+
+mark_inner : (c : ℕ) → is_x c ≡ true → is_inner c ≡ true
+mark_inner c h = inner_by is_x c h refl refl refl refl refl refl refl refl
+
+number_inner : (text : Chars) → begins_number text ≡ true → list_all is_inner text ≡ true
+number_inner [] h = refl
+number_inner (c ∷ text) h = elim (either (is_digit c && list_all is_digit text) _ h) [
+  | inl e ↦ let b = both (is_digit c) _ e in rw (digit_inner c b.0, all_inner is_digit text digit_inner b.1) refl
+  | inr e ↦ let b = both (is_x c) _ e in rw (mark_inner c b.0, all_inner is_hexadecimal_digit text hexadecimal_inner b.1) refl
+]
+
+begun_inner : (text : Chars) → is_begun text ≡ true → list_all is_inner text ≡ true
+begun_inner [] h = refl
+begun_inner (c ∷ text) h = elim (either (is_letter c && list_all is_letter_or_digit text) _ h) [
+  | inl e ↦ let b = both (is_letter c) _ e in rw (letter_inner c b.0, all_inner is_letter_or_digit text word_inner b.1) refl
+  | inr e ↦ let b = both (c == number_sign) _ e in of_one (λ x. list_all is_inner (x ∷ text) ≡ true) c number_sign b.0 (number_inner text b.1)
+]
+
+record EndsInner (text : Chars) : Type 0 where
+  init : Chars
+  c : ℕ
+  are : text ≡ init ++ c ∷ []
+  inner : is_outer c ≡ false
+
+last_inner : (c : ℕ) (text : Chars) → is_inner c ≡ true → list_all is_inner text ≡ true → EndsInner (c ∷ text)
+last_inner c [] h k = record { init = []; c = c; are = refl; inner = untrue (is_outer c) h }
+last_inner c (d ∷ text) h k = let b = both (is_inner d) _ k in let e = last_inner d text b.0 b.1 in record { init = c ∷ e.init; c = e.c; are = ap (λ x. c ∷ x) e.are; inner = e.inner }
+
+record HtmlFault (value : Chars) (c : ℕ) : Type 0 where
+  tail : EndsInner value
+  closes : c ≡ semicolon
+
+run_tail : (front body value : Chars) (c : ℕ) → is_begun body ≡ true → front ++ ampersand ∷ (body ++ semicolon ∷ []) ≡ value ++ c ∷ [] → HtmlFault value c
+run_tail front body value c b e =
+    let k : (front ++ ampersand ∷ body) ++ semicolon ∷ [] ≡ value ++ c ∷ [] = append_assoc front (ampersand ∷ body) (semicolon ∷ []) ∙ e in
+    let v : front ++ ampersand ∷ body ≡ value = snoc_front (front ++ ampersand ∷ body) value semicolon c k in
+    let d = last_inner ampersand body refl (begun_inner body b) in
+    record {
+      tail = record { init = front ++ d.init; c = d.c; are = sym v ∙ ap (λ x. front ++ x) d.are ∙ sym (append_assoc front d.init (d.c ∷ [])); inner = d.inner };
+      closes = sym (snoc_last (front ++ ampersand ∷ body) value semicolon c k);
+    }
+
+run_fault : (s : Syntax) (front value : Chars) (c : ℕ) {kind : Kind} {run : Chars} → is_html s ≡ true → RunFault s kind run → front ++ ampersand ∷ run ≡ value ++ c ∷ [] → HtmlFault value c
+run_fault s front value c z (unknown name h n) e = run_tail front name value c (body_begun s (meaning s) name (name_body name h)) e
+run_fault s front value c z (bad body b h n) e = run_tail front body value c (body_begun s (meaning s) body b) e
+run_fault s front value c z (no_reference run d x b h) e = absurd (let y : is_html s ≡ false = ap is_html x in not_both_ways (is_html s) z y)
+
+html_fault : (s : Syntax) (value : Chars) (c : ℕ) {kind : Kind} {faulty : Chars} → is_html s ≡ true → ValueFault s kind faulty → faulty ≡ value ++ c ∷ [] → HtmlFault value c
+html_fault s value c z (in_run front run f) e = run_fault s front value c z f e
+html_fault s value c z (less_than front x) e = absurd (let y : is_html s ≡ false = ap is_html x in not_both_ways (is_html s) z y)
+
+-- no fault of HTML is decided at a value's first character
+pub no_first : (s : Syntax) (c : ℕ) (kind : Kind) → is_html s ≡ true → ValueFault s kind (c ∷ []) → ⊥
+no_first s c kind z f = let d = html_fault s [] c z f refl in no_end d.tail.init d.tail.c d.tail.are
+
+-- Where the grammar has a fault of a value, the reader is in that value.
+pub record InPlace (s : Syntax) (w : Written) (value : Chars) (c : ℕ) : Type 0 where
+  pub within : is_value_phase w.phase ≡ true
+  pub value_is : w.value ≡ value
+  pub closes : is_html s ≡ true → c ≡ semicolon
+
+value_in : (a b : Attribute) → a ≡ b → a.1 ≡ b.1
+value_in a b e = ap (λ x. x.1) e
+
+module _ (s : Syntax) (front : Chars) (w : Written) (reads : written_on s (Some nothing_written) front ≡ Some w) where
+  module _ (value : Chars) (c : ℕ) (kind : Kind) (f : ValueFault s kind (value ++ c ∷ [])) (earlier : List Attribute) (name before : Chars) (are : front ≡ before ++ value) where
+    placed : (attributes : List Attribute) → attributes ≡ earlier ++ (name, value) ∷ [] → Well s front w → Ended s w attributes → InPlace s w value c
+    placed attributes a d (in_this v e) = record {
+      within = v;
+      value_is = value_in (w.key, w.value) (name, value) (last_same w.attributes earlier (w.key, w.value) (name, value) (e ∙ a));
+      closes = λ z. let h = html_fault s value c z f refl in h.closes;
+    }
+    placed attributes a d (in_mark mark q u e) =
+        let v : w.value ++ mark ∷ [] ≡ value = value_in (w.key, w.value ++ mark ∷ []) (name, value) (last_same w.attributes earlier (w.key, w.value ++ mark ∷ []) (name, value) (e ∙ a)) in
+        let h = html_fault s value c (d.html u) f refl in
+        let m : mark ≡ h.tail.c = snoc_last w.value h.tail.init mark h.tail.c (v ∙ h.tail.are) in
+        absurd (not_both_ways (is_outer mark) (of_quote (λ x. is_outer x ≡ true) mark q refl refl) (ap is_outer m ∙ h.tail.inner))
+    placed attributes a d (outside z b) =
+        let h = html_fault s value c z f refl in
+        let o = d.outer b in
+        let m : o.c ≡ h.tail.c = snoc_last o.init (before ++ h.tail.init) o.c h.tail.c (sym o.are ∙ are ∙ ap (λ x. before ++ x) h.tail.are ∙ sym (append_assoc before h.tail.init (h.tail.c ∷ []))) in
+        absurd (not_both_ways (is_outer o.c) o.outer (ap is_outer m ∙ h.tail.inner))
+    placed attributes a d (in_key z n e) =
+        let v : w.value ≡ value = value_in (w.key, w.value) (name, value) (last_same w.attributes earlier (w.key, w.value) (name, value) (e ∙ a)) in
+        let h = html_fault s value c z f refl in
+        absurd (no_end h.tail.init h.tail.c (sym (d.settled n) ∙ v ∙ h.tail.are))
+    placed attributes a d (in_name n e) = absurd (no_end earlier (name, value) (sym (d.bare n) ∙ e ∙ a))
+
+  pub in_place : (value : Chars) (c : ℕ) (kind : Kind) → IsInValue s front value → ValueFault s kind (value ++ c ∷ []) → InPlace s w value c
+  in_place value c kind i f =
+      let a = shape_written s (front ++ i.end) i.tag i.shape in
+      let rest : written_on s (Some w) i.end ≡ Some a.last = ap (λ o. written_on s o i.end) (sym reads) ∙ (sym (written-append s (Some nothing_written) front i.end) ∙ a.reads) in
+      placed value c kind f i.earlier i.name i.before i.are a.last.attributes (a.attributes_are ∙ i.last) (well s front w reads) (ended_by s w a.last i.end i.ends rest a.whole)
+
+-- what may end a value, and its tag
+record Completes (s : Syntax) (w : Written) : Type 0 where
+  end : Chars
+  ends : EndsValue s end
+  last : Written
+  reads : written_on s (Some w) end ≡ Some last
+  whole : is_last last.phase ≡ true
+  attributes_are : last.attributes ≡ w.attributes ++ (w.key, w.value) ∷ []
+
+completes : (s : Syntax) (p : TagPhase) (attributes : List Attribute) (key value : Chars) → is_value_phase p ≡ true → (is_unquoted_phase p ≡ true → is_html s ≡ true) → Completes s (at p attributes key value)
+completes s phase.DoubleQuoted attributes key value h f = record { end = 34 ∷ 62 ∷ []; ends = double; last = at phase.Opened (attributes ++ (key, value) ∷ []) [] []; reads = refl; whole = refl; attributes_are = refl }
+completes s phase.SingleQuoted attributes key value h f = record { end = 39 ∷ 62 ∷ []; ends = single; last = at phase.Opened (attributes ++ (key, value) ∷ []) [] []; reads = refl; whole = refl; attributes_are = refl }
+completes s phase.Unquoted attributes key value h f = record { end = 62 ∷ []; ends = no_mark (html_is s (f refl)); last = at phase.Opened (attributes ++ (key, value) ∷ []) [] []; reads = refl; whole = refl; attributes_are = refl }
+completes s phase.Start attributes key value h f = absurd (cc)
+completes s phase.Name attributes key value h f = absurd (cc)
+completes s phase.Gap attributes key value h f = absurd (cc)
+completes s phase.Solidus attributes key value h f = absurd (cc)
+completes s phase.Key attributes key value h f = absurd (cc)
+completes s phase.AfterKey attributes key value h f = absurd (cc)
+completes s phase.BeforeValue attributes key value h f = absurd (cc)
+completes s phase.AfterValue attributes key value h f = absurd (cc)
+completes s phase.EndStart attributes key value h f = absurd (cc)
+completes s phase.EndName attributes key value h f = absurd (cc)
+completes s phase.EndGap attributes key value h f = absurd (cc)
+completes s phase.Opened attributes key value h f = absurd (cc)
+completes s phase.Emptied attributes key value h f = absurd (cc)
+completes s phase.Closed attributes key value h f = absurd (cc)
+
+-- Where the reader is in a value, the grammar is.
+pub is_in_value : (s : Syntax) (front : Chars) (w : Written) → written_on s (Some nothing_written) front ≡ Some w → is_value_phase w.phase ≡ true → IsInValue s front w.value
+is_in_value s front w reads h =
+    let d = well s front w reads in
+    let k = completes s w.phase w.attributes w.key w.value h d.html in
+    let all : written_on s (Some nothing_written) (front ++ k.end) ≡ Some k.last = written-append s (Some nothing_written) front k.end ∙ (ap (λ o. written_on s o k.end) reads ∙ k.reads) in
+    let t = shaped s (front ++ k.end) (record { q = k.last.phase; reads = written_phases s (front ++ k.end) nothing_written k.last all; whole = k.whole }) in
+    let a = shape_written s (front ++ k.end) t.tag t.shape in
+    let same : a.last ≡ k.last = as_written a.last k.last (sym a.reads ∙ all) in
+    record {
+      before = d.before;
+      are = d.are;
+      end = k.end;
+      ends = k.ends;
+      tag = t.tag;
+      shape = t.shape;
+      earlier = w.attributes;
+      name = w.key;
+      last = sym a.attributes_are ∙ ap (λ x. x.attributes) same ∙ k.attributes_are;
+    }

@@ -20,3 +20,4 @@ pub mod ValueFaults
 pub mod ValueRefusals
 pub mod Written
 pub mod InValues
+pub mod TagFaultLaws
