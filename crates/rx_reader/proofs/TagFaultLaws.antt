@@ -18,6 +18,7 @@ use Rattle.rx_reader.specs.declared.phases.TagAction.TheVariants as action
 use Rattle.rx_reader.specs.Tables.{Move, move_of, is_last, is_html}
 use Rattle.rx_reader.specs.Values.{Value, no_value_yet, is_run, value_step, run_end, value_end, step_on, value_on}
 use Rattle.rx_reader.specs.TagReader.{TagState, fresh, with_value, with_attribute, done_by, moved, tag_move, tag_move_on, moves_on, checked, tag_step, tag_step_on, tag_on, parts_of}
+use Rattle.rx_reader.specs.Laws.{ReadsOn, ReadsEachFront, RefusesEachFault, OneTagFault}
 use Rattle.rx_reader.proofs.Bools.{both, split, by_test, not_both_ways}
 use Rattle.rx_reader.proofs.Classes.{of_one}
 use Rattle.rx_reader.proofs.Moves.{is_value_phase, InValue, in_value as in_value_phase}
@@ -193,3 +194,183 @@ module _ (s : Syntax) (front : Chars) (st : TagState) (run : tag_on s (meaning s
   why : (c : ℕ) (kind : Kind) → is_last st.phase ≡ false → tag_step s (meaning s) st c ≡ Err kind → Why s kind (front ++ c ∷ [])
   why c kind n h =
       by_move written c kind n (move_of s st.phase c) refl (valued_moves s st.phase c) (λ v. in_value_phase s st.phase c v) (λ v. end_moves s st.phase c v) h
+
+-- a character that a value refuses
+module _ (s : Syntax) (st : TagState) (c : ℕ) (kind : Kind) (r : Refuses s st.value c kind) where
+  step_by : (p : TagPhase) (m : Move) → st.phase ≡ p → move_of s p c ≡ m → checked s (moved s (meaning s) st c m) ≡ Err kind → tag_step s (meaning s) st c ≡ Err kind
+  step_by p m e k h = ap (λ x. checked s (moved s (meaning s) st c x)) (ap (λ x. move_of s x c) e ∙ k) ∙ h
+
+  within : (q : TagPhase) → checked s (with_value q st (value_step s (meaning s) st.value c)) ≡ Err kind
+  within q = ap (λ o. checked s (with_value q st o)) r.within
+
+  at_end : (q : TagPhase) → is_quote c ≡ true → checked s (with_attribute q st [] (value_end s st.value)) ≡ Err kind
+  at_end q h = ap (λ o. checked s (with_attribute q st [] o)) (r.at_end h)
+
+  double_ends : (c == quotation_mark) ≡ true → move_of s phase.DoubleQuoted c ≡ Some (phase.AfterValue, action.Add)
+  double_ends h = rw h refl
+
+  double_goes : (c == quotation_mark) ≡ false → move_of s phase.DoubleQuoted c ≡ Some (phase.DoubleQuoted, action.Value)
+  double_goes h = rw h refl
+
+  single_ends : (c == apostrophe) ≡ true → move_of s phase.SingleQuoted c ≡ Some (phase.AfterValue, action.Add)
+  single_ends h = rw h refl
+
+  single_goes : (c == apostrophe) ≡ false → move_of s phase.SingleQuoted c ≡ Some (phase.SingleQuoted, action.Value)
+  single_goes h = rw h refl
+
+  unquoted_goes : c ≡ semicolon → move_of s phase.Unquoted c ≡ Some (phase.Unquoted, action.Value)
+  unquoted_goes h = rw h refl
+
+  by_phase : (p : TagPhase) → st.phase ≡ p → is_value_phase p ≡ true → (is_unquoted_phase p ≡ true → c ≡ semicolon) → tag_step s (meaning s) st c ≡ Err kind
+  by_phase phase.DoubleQuoted e v u = by_test (c == quotation_mark) (λ t. step_by phase.DoubleQuoted _ e (double_ends t) (at_end phase.AfterValue (double_quote c t))) (λ t. step_by phase.DoubleQuoted _ e (double_goes t) (within phase.DoubleQuoted))
+  by_phase phase.SingleQuoted e v u = by_test (c == apostrophe) (λ t. step_by phase.SingleQuoted _ e (single_ends t) (at_end phase.AfterValue (single_quote c t))) (λ t. step_by phase.SingleQuoted _ e (single_goes t) (within phase.SingleQuoted))
+  by_phase phase.Unquoted e v u = step_by phase.Unquoted _ e (unquoted_goes (u refl)) (within phase.Unquoted)
+  by_phase phase.Start e v u = absurd (cc)
+  by_phase phase.Name e v u = absurd (cc)
+  by_phase phase.Gap e v u = absurd (cc)
+  by_phase phase.Solidus e v u = absurd (cc)
+  by_phase phase.Key e v u = absurd (cc)
+  by_phase phase.AfterKey e v u = absurd (cc)
+  by_phase phase.BeforeValue e v u = absurd (cc)
+  by_phase phase.AfterValue e v u = absurd (cc)
+  by_phase phase.EndStart e v u = absurd (cc)
+  by_phase phase.EndName e v u = absurd (cc)
+  by_phase phase.EndGap e v u = absurd (cc)
+  by_phase phase.Opened e v u = absurd (cc)
+  by_phase phase.Emptied e v u = absurd (cc)
+  by_phase phase.Closed e v u = absurd (cc)
+
+-- what the grammar says of a value is refused
+module _ (s : Syntax) (front : Chars) (st : TagState) (run : tag_on s (meaning s) (Ok fresh) front ≡ Ok st) (c : ℕ) (kind : Kind) where
+  value_refused : (value : Chars) → IsInValue s front value → ValueFault s kind (value ++ c ∷ []) → tag_step s (meaning s) st c ≡ Err kind
+  value_refused value i faulty =
+      let f = written s front st run in
+      let d = all_well s front st run f c in
+      let p = in_place s front f.now f.is value c kind i faulty in
+      let r = refused s value st.value c (ap (λ x. value_on s (meaning s) (Ok no_value_yet) x) (sym p.value_is) ∙ f.matches.value_is) kind faulty refl in
+      by_phase s st c kind r st.phase refl (ap is_value_phase (sym f.matches.phase_is) ∙ p.within) (λ u. p.closes (d.html (ap is_unquoted_phase f.matches.phase_is ∙ u)))
+
+  decides : {chars : Chars} → DecidesValue s kind chars → chars ≡ front ++ c ∷ [] → tag_step s (meaning s) st c ≡ Err kind
+  decides {chars = chars} d e =
+      let same = sym d.are ∙ e in
+      value_refused d.value (subst (λ x. IsInValue s x d.value) (snoc_front d.front front d.c c same) d.in_value) (subst (λ x. ValueFault s kind (d.value ++ x ∷ [])) (snoc_last d.front front d.c c same) d.faulty)
+
+  whole_refused : (parts : Tag) → Reads s (meaning s) (front ++ c ∷ []) parts → is_repeated s parts.attributes ≡ true → tag_step s (meaning s) st c ≡ Err RepeatedAttribute
+  whole_refused parts r t =
+      let a = each_read s (meaning s) (front ++ c ∷ []) parts r in
+      let e : tag_move s (meaning s) st c ≡ Ok a.last = ap (λ o. tag_move_on s (meaning s) o c) (sym (reads s front st run)) ∙ (sym (moves-append s (meaning s) (Ok fresh) front (c ∷ [])) ∙ a.reads) in
+      ap (checked s) e ∙ twice_last a.last a.whole (ap (is_repeated s) a.attributes_are ∙ t)
+    where
+      twice_last : (last : TagState) → is_last last.phase ≡ true → is_repeated s last.attributes ≡ true → checked s (Ok last) ≡ Err RepeatedAttribute
+      twice_last last w t = rw (w, t) refl
+
+exact : (s : Syntax) (front : Chars) (st : TagState) → tag_on s (meaning s) (Ok fresh) front ≡ Ok st → is_last st.phase ≡ false → (c : ℕ) {kind : Kind} {chars : Chars} → TagFault s kind chars → chars ≡ front ++ c ∷ [] → tag_step s (meaning s) st c ≡ Err kind
+exact s front st run n c (bad_tag other d b none) e =
+    let x = table_is_exact s (meaning s) front st run n in
+    let t = x.refused c in
+    ap (λ m. checked s (moved s (meaning s) st c m)) (t.1 (subst (BeginsNoShape s) e none))
+exact s front st run n c {kind = kind} (in_value other d b v) e = decides s front st run c kind v e
+exact s front st run n c (repeated chars parts r t) e = whole_refused s front st run c RepeatedAttribute parts (subst (λ x. Reads s (meaning s) x parts) e r) t
+
+-- two parts that are read one after the other
+record Parts (s : Syntax) (a b : Chars) (last : TagState) : Type 0 where
+  between : TagState
+  first : tag_on s (meaning s) (Ok fresh) a ≡ Ok between
+  second : tag_on s (meaning s) (Ok between) b ≡ Ok last
+
+parts_by : (s : Syntax) (a b : Chars) (last : TagState) (o : Result TagState Kind) → tag_on s (meaning s) (Ok fresh) a ≡ o → tag_on s (meaning s) o b ≡ Ok last → Parts s a b last
+parts_by s a b last (Err kind) e h = absurd (let k = on_err s (meaning s) kind b in cc)
+parts_by s a b last (Ok st) e h = record { between = st; first = e; second = h }
+
+parts : (s : Syntax) (a b : Chars) (last : TagState) → tag_on s (meaning s) (Ok fresh) (a ++ b) ≡ Ok last → Parts s a b last
+parts s a b last h = parts_by s a b last (tag_on s (meaning s) (Ok fresh) a) refl (sym (tag_on-append s (meaning s) (Ok fresh) a b) ∙ h)
+
+no_refusal : (s : Syntax) (st : TagState) (c : ℕ) (text : Chars) (last : TagState) (kind : Kind) → tag_on s (meaning s) (Ok st) (c ∷ text) ≡ Ok last → tag_step s (meaning s) st c ≡ Err kind → ⊥
+no_refusal s st c text last kind h e = let k : tag_on s (meaning s) (Err kind) text ≡ Ok last = ap (λ o. tag_on s (meaning s) o text) (sym e) ∙ h in let m = on_err s (meaning s) kind text in cc
+
+-- no fault of a value stands in what is read
+faultless : (s : Syntax) (chars : Chars) (last : TagState) → tag_on s (meaning s) (Ok fresh) chars ≡ Ok last → Faultless s chars
+faultless s chars last run kind front more e d =
+    let all : chars ≡ d.front ++ d.c ∷ more = e ∙ (ap (λ x. x ++ more) d.are ∙ append_assoc d.front (d.c ∷ []) more) in
+    let p = parts s d.front (d.c ∷ more) last (ap (λ x. tag_on s (meaning s) (Ok fresh) x) (sym all) ∙ run) in
+    no_refusal s p.between d.c more last kind p.second (decides s d.front p.between p.first d.c kind d d.are)
+
+pub begins_from : (s : Syntax) (chars : Chars) → ReadsOn s chars → BeginsTag s chars
+begins_from s chars r =
+    let x = table_is_exact s (meaning s) chars r.reached r.run r.unfinished in
+    record { begins = x.begins; faultless = faultless s chars r.reached r.run }
+
+-- what is refused, and what stands before it
+record FirstFault (s : Syntax) (st : TagState) (text : Chars) : Type 0 where
+  front : Chars
+  c : ℕ
+  more : Chars
+  before : TagState
+  kind : Kind
+  are : text ≡ front ++ c ∷ more
+  run : tag_on s (meaning s) (Ok st) front ≡ Ok before
+  refused : tag_step s (meaning s) before c ≡ Err kind
+
+first_by : (s : Syntax) (text : Chars) (ih : (st : TagState) (kind : Kind) → tag_on s (meaning s) (Ok st) text ≡ Err kind → FirstFault s st text) (st : TagState) (c : ℕ) (kind : Kind) (o : Result TagState Kind)
+    → tag_step s (meaning s) st c ≡ o → tag_on s (meaning s) o text ≡ Err kind → FirstFault s st (c ∷ text)
+first_by s text ih st c kind (Err k) e h = record { front = []; c = c; more = text; before = st; kind = k; are = refl; run = refl; refused = e }
+first_by s text ih st c kind (Ok v) e h =
+    let d = ih v kind h in
+    record { front = c ∷ d.front; c = d.c; more = d.more; before = d.before; kind = d.kind; are = ap (λ x. c ∷ x) d.are; run = ap (λ o. tag_on s (meaning s) o d.front) e ∙ d.run; refused = d.refused }
+
+first_fault : (s : Syntax) (text : Chars) (st : TagState) (kind : Kind) → tag_on s (meaning s) (Ok st) text ≡ Err kind → FirstFault s st text
+first_fault s [] st kind h = absurd (cc)
+first_fault s (c ∷ text) st kind h = first_by s text (first_fault s text) st c kind (tag_step s (meaning s) st c) refl h
+
+-- no tag is whole before its end
+unlast : (s : Syntax) (p : TagPhase) (c : ℕ) (rest : Chars) (q : TagPhase) → phases_on s (Some p) (c ∷ rest) ≡ Some q → is_last p ≡ false
+unlast s p c rest q h = by_test (is_last p) (λ l. absurd (let k : phases_on s (Some p) (c ∷ rest) ≡ None = ap (λ m. phases_on s (phase_by m) rest) (last_none s p c l) ∙ phases_none s rest in cc)) (λ n. n)
+
+unfinished : (s : Syntax) (front : Chars) (st : TagState) (c : ℕ) (rest : Chars) (tag : Tag) → tag_on s (meaning s) (Ok fresh) front ≡ Ok st → Shape s (front ++ c ∷ rest) tag → is_last st.phase ≡ false
+unfinished s front st c rest tag run shape =
+    let w = shape_read s (front ++ c ∷ rest) tag shape in
+    unlast s st.phase c rest w.q (ap (λ o. phases_on s o (c ∷ rest)) (sym (reader_phases s (meaning s) front fresh st (reads s front st run))) ∙ (sym (phases-append s (Some phase.Start) front (c ∷ rest)) ∙ w.reads))
+
+shapes_end : (s : Syntax) (a : Chars) (c : ℕ) (rest : Chars) (x y : Tag) → Shape s a x → Shape s (a ++ c ∷ rest) y → ⊥
+shapes_end s a c rest x y h k =
+    let v = shape_read s a x h in
+    let w = shape_read s (a ++ c ∷ rest) y k in
+    not_both_ways (is_last v.q) v.whole (unlast s v.q c rest w.q (ap (λ o. phases_on s o (c ∷ rest)) (sym v.reads) ∙ (sym (phases-append s (Some phase.Start) a (c ∷ rest)) ∙ w.reads)))
+
+longer_end : (s : Syntax) (a more : Chars) (c : ℕ) (rest : Chars) (x y : Tag) → Shape s a x → Shape s (a ++ (more ++ c ∷ rest)) y → ⊥
+longer_end s a [] c rest x y h k = shapes_end s a c rest x y h k
+longer_end s a (d ∷ more) c rest x y h k = shapes_end s a d (more ++ c ∷ rest) x y h k
+
+module _ (s : Syntax) (chars : Chars) (b : BeginsTag s chars) where
+  never : (d : FirstFault s fresh chars) → ⊥
+  never d =
+      let all : chars ≡ (d.front ++ d.c ∷ []) ++ d.more = d.are ∙ sym (append_assoc d.front (d.c ∷ []) d.more) in
+      let shape : Shape s ((d.front ++ d.c ∷ []) ++ (d.more ++ b.begins.c ∷ b.begins.rest)) b.begins.tag =
+      subst (λ x. Shape s x b.begins.tag) (ap (λ x. x ++ b.begins.c ∷ b.begins.rest) all ∙ append_assoc (d.front ++ d.c ∷ []) d.more (b.begins.c ∷ b.begins.rest)) b.begins.shape in
+      let from_c : Shape s (d.front ++ d.c ∷ (d.more ++ b.begins.c ∷ b.begins.rest)) b.begins.tag = subst (λ x. Shape s x b.begins.tag) (append_assoc d.front (d.c ∷ []) (d.more ++ b.begins.c ∷ b.begins.rest)) shape in
+      by_why d all shape (why s d.front d.before d.run d.c d.kind (unfinished s d.front d.before d.c (d.more ++ b.begins.c ∷ b.begins.rest) b.begins.tag d.run from_c) d.refused)
+    where
+      by_why : (d : FirstFault s fresh chars) → chars ≡ (d.front ++ d.c ∷ []) ++ d.more → Shape s ((d.front ++ d.c ∷ []) ++ (d.more ++ b.begins.c ∷ b.begins.rest)) b.begins.tag → Why s d.kind (d.front ++ d.c ∷ []) → ⊥
+      by_why d all shape (no_way e none) = none (d.more ++ b.begins.c ∷ b.begins.rest) b.begins.tag shape
+      by_why d all shape (decided v) = b.faultless d.kind (d.front ++ d.c ∷ []) d.more all v
+      by_why d all shape (twice e t r w) = longer_end s (d.front ++ d.c ∷ []) d.more b.begins.c b.begins.rest r.written b.begins.tag r.shape shape
+
+  reads_by : (o : Result TagState Kind) → tag_on s (meaning s) (Ok fresh) chars ≡ o → ReadsOn s chars
+  reads_by (Err kind) e = absurd (never (first_fault s chars fresh kind e))
+  reads_by (Ok st) e = record { reached = st; run = e; unfinished = unfinished s chars st b.begins.c b.begins.rest b.begins.tag e b.begins.shape }
+
+  pub reads_on : ReadsOn s chars
+  reads_on = reads_by (tag_on s (meaning s) (Ok fresh) chars) refl
+
+pub reads_each_front : ReadsEachFront
+reads_each_front s chars = (λ b. reads_on s chars b, λ r. begins_from s chars r)
+
+fault_of : (s : Syntax) (front : Chars) (c : ℕ) (kind : Kind) → BeginsTag s front → Why s kind (front ++ c ∷ []) → TagFault s kind (front ++ c ∷ [])
+fault_of s front c kind b (no_way e none) = subst (λ k. TagFault s k (front ++ c ∷ [])) (sym e) (bad_tag front c b none)
+fault_of s front c kind b (decided d) = in_value front c b d
+fault_of s front c kind b (twice e t r w) = subst (λ k. TagFault s k (front ++ c ∷ [])) (sym e) (repeated (front ++ c ∷ []) t r w)
+
+pub refuses_each_fault : RefusesEachFault
+refuses_each_fault s front st run n c kind =
+    (λ h. fault_of s front c kind (begins_from s front (record { reached = st; run = run; unfinished = n })) (why s front st run c kind n h),
+    λ f. exact s front st run n c f refl)
