@@ -1,5 +1,5 @@
 -- Where a tag stands within a value, by its shape and by the table.
-use Rattle.std.proofs.Common.{◌≡◌, ℕ, Bool, true, false, cond, List, [], ◌∷◌, ◌++◌, Option, Some, None, Result, Ok, Err, refl, ap, sym, ◌∙◌, append_assoc, append-nil, inl, inr, ◌⊎◌, subst}
+use Rattle.std.proofs.Common.{◌≡◌, ℕ, Bool, true, false, cond, List, [], ◌∷◌, ◌++◌, Option, Some, None, refl, ap, sym, ◌∙◌, append_assoc, append-nil, inl, inr, ◌⊎◌, subst}
 use Rattle.std.specs.Prelude.{◌||◌, ◌&&◌, ◌==◌, not}
 use Rattle.std.specs.List.{list_all}
 use Rattle.rx_terms.specs.Ascii.{is_white_space, is_letter, is_digit, is_letter_or_digit, solidus, equals_sign, greater_than_sign, quotation_mark, apostrophe, ampersand, semicolon, number_sign}
@@ -8,22 +8,22 @@ use Rattle.rx_chars.specs.declared.syntax.Syntax.{Syntax}
 use Rattle.rx_chars.specs.declared.syntax.Syntax.TheVariants.{Html, Xhtml}
 use Rattle.rx_grammar.specs.declared.faults.Kind.{Kind}
 use Rattle.rx_grammar.specs.References.{is_hexadecimal_digit, is_x, begins_number, is_begun, meaning}
-use Rattle.rx_grammar.specs.Tokens.{Attribute, Tag}
-use Rattle.rx_grammar.specs.Shapes.{is_quote, begins_tag, is_tag_char, begins_attribute, continues_attribute, Shape}
+use Rattle.rx_grammar.specs.Tokens.{Attribute}
+use Rattle.rx_grammar.specs.Shapes.{is_quote, begins_tag, is_tag_char, begins_attribute, continues_attribute}
 use Rattle.rx_grammar.specs.TagFaults.{EndsValue, double, single, no_mark, IsInValue, RunFault, unknown, bad, no_reference, ValueFault, in_run, less_than}
 use Rattle.rx_reader.specs.declared.phases.TagPhase.{TagPhase}
 use Rattle.rx_reader.specs.declared.phases.TagPhase.TheVariants as phase
 use Rattle.rx_reader.specs.declared.phases.TagAction.TheVariants as action
 use Rattle.rx_reader.specs.Tables.{Move, move_of, is_last, is_html}
-use Rattle.rx_reader.proofs.Bools.{both, neither, either, untrue, split, not_both_ways}
+use Rattle.rx_reader.proofs.Bools.{both, either, untrue, split, not_both_ways}
 use Rattle.rx_reader.proofs.Classes.{of_white, of_one, unless}
 use Rattle.rx_reader.proofs.Moves.{is_among, is_value_phase}
 use Rattle.rx_reader.proofs.Sound.{html_is}
 use Rattle.rx_reader.proofs.TextComplete.{body_begun}
 use Rattle.rx_reader.proofs.ValueFaults.{of_quote, snoc_front, snoc_last}
 use Rattle.rx_reader.proofs.ValueRefusals.{name_body}
-use Rattle.rx_reader.proofs.Automaton.{Whole, shaped}
-use Rattle.rx_reader.proofs.Written.{Written, at, nothing_written, written_by, written_step, written_on, written_none, written-append, written_phases, Arrives, shape_written}
+use Rattle.rx_reader.proofs.Automaton.{shaped}
+use Rattle.rx_reader.proofs.Written.{Written, at, nothing_written, written_by, written_on, written_none, written-append, written_phases, shape_written}
 
 -- a list's last element
 no_end : {A : Type 0} (ys : List A) (y : A) → [] ≡ ys ++ y ∷ [] → ⊥

@@ -1,37 +1,36 @@
 -- The faults of tags are the reader's, at exactly their character.
-use Rattle.std.proofs.Common.{◌≡◌, ◌↔◌, ℕ, Bool, true, false, cond, List, [], ◌∷◌, ◌++◌, Option, Some, None, Result, Ok, Err, refl, ap, sym, ◌∙◌, append_assoc, append-nil, inl, inr, ◌⊎◌, subst}
-use Rattle.std.specs.Prelude.{◌||◌, ◌&&◌, ◌==◌, not}
+use Rattle.std.proofs.Common.{◌≡◌, ℕ, true, false, [], ◌∷◌, ◌++◌, Some, None, Result, Ok, Err, refl, ap, sym, ◌∙◌, append_assoc, append-nil, inl, inr, ◌⊎◌, subst}
+use Rattle.std.specs.Prelude.{◌&&◌, ◌==◌}
 use Rattle.rx_terms.specs.Ascii.{is_white_space, solidus, equals_sign, greater_than_sign, quotation_mark, apostrophe, semicolon}
 use Rattle.rx_terms.specs.Text.{Chars}
 use Rattle.rx_chars.specs.declared.syntax.Syntax.{Syntax}
 use Rattle.rx_chars.specs.declared.syntax.Syntax.TheVariants.{Html, Xhtml}
 use Rattle.rx_grammar.specs.declared.faults.Kind.{Kind}
-use Rattle.rx_grammar.specs.declared.faults.Kind.TheVariants.{BadTag, StrictText, RepeatedAttribute}
+use Rattle.rx_grammar.specs.declared.faults.Kind.TheVariants.{BadTag, RepeatedAttribute}
 use Rattle.rx_grammar.specs.References.{meaning}
 use Rattle.rx_grammar.specs.Shapes.{is_quote, begins_tag, is_tag_char, begins_attribute, continues_attribute, Shape}
 use Rattle.rx_grammar.specs.Tokens.{Tag}
 use Rattle.rx_grammar.specs.Tags.{is_repeated, Reads}
-use Rattle.rx_grammar.specs.TagFaults.{ValueFault, IsInValue, DecidesValue, Faultless, BeginsShape, BeginsNoShape, BeginsTag, TagFault, bad_tag, in_value, repeated}
+use Rattle.rx_grammar.specs.TagFaults.{ValueFault, IsInValue, DecidesValue, Faultless, BeginsNoShape, BeginsTag, TagFault, bad_tag, in_value, repeated}
 use Rattle.rx_reader.specs.declared.phases.TagPhase.{TagPhase}
 use Rattle.rx_reader.specs.declared.phases.TagPhase.TheVariants as phase
 use Rattle.rx_reader.specs.declared.phases.TagAction.TheVariants as action
 use Rattle.rx_reader.specs.Tables.{Move, move_of, is_last, is_html}
-use Rattle.rx_reader.specs.Values.{Value, no_value_yet, is_run, value_step, run_end, value_end, step_on, value_on}
-use Rattle.rx_reader.specs.TagReader.{TagState, fresh, with_value, with_attribute, done_by, moved, tag_move, tag_move_on, moves_on, checked, tag_step, tag_step_on, tag_on, parts_of}
+use Rattle.rx_reader.specs.Values.{Value, no_value_yet, is_run, value_step, value_end, value_on}
+use Rattle.rx_reader.specs.TagReader.{TagState, fresh, with_value, with_attribute, moved, tag_move, tag_move_on, moves_on, checked, tag_step, tag_on, parts_of}
 use Rattle.rx_reader.specs.Laws.{ReadsOn, ReadsEachFront, RefusesEachFault, OneTagFault}
 use Rattle.rx_reader.proofs.Bools.{both, split, by_test, not_both_ways}
 use Rattle.rx_reader.proofs.Classes.{of_one}
 use Rattle.rx_reader.proofs.Moves.{is_value_phase, InValue, in_value as in_value_phase}
-use Rattle.rx_reader.proofs.Sound.{html_is}
 use Rattle.rx_reader.proofs.TextSound.{err_on}
 use Rattle.rx_reader.proofs.TagComplete.{each_read}
-use Rattle.rx_reader.proofs.TagSound.{tag_read}
-use Rattle.rx_reader.proofs.TagLaws.{last_none, on_err, tag_on-append, moves-append, through, table_is_exact}
-use Rattle.rx_reader.proofs.Automaton.{phase_by, phase_on, phases_on, phases_none, phases-append, reader_phases, Whole, shape_read}
+use Rattle.rx_reader.proofs.TagSound.{no_way as no_reading, tag_read}
+use Rattle.rx_reader.proofs.TagLaws.{last_none, stuck, on_err, tag_on-append, moves-append, through, table_is_exact}
+use Rattle.rx_reader.proofs.Automaton.{phase_by, phases_on, phases_none, phases-append, reader_phases, shape_read}
 use Rattle.rx_reader.proofs.ValueFaults.{snoc_front, snoc_last, Opens, After, steps_after, AtEnd, ends_after}
 use Rattle.rx_reader.proofs.ValueRefusals.{Refuses, refused}
-use Rattle.rx_reader.proofs.Written.{Written, at, nothing_written, written_on, Matches, Follows, follows}
-use Rattle.rx_reader.proofs.InValues.{Well, well, is_unquoted_phase, InPlace, in_place, is_in_value, no_first}
+use Rattle.rx_reader.proofs.Written.{nothing_written, written_on, Follows, follows}
+use Rattle.rx_reader.proofs.InValues.{Well, well, is_unquoted_phase, in_place, is_in_value, no_first}
 
 -- A run that is open stands at the end of a value's text.
 opens_step : (s : Syntax) (text rest : Chars) (c : ℕ) (value last : Value) (ih : (text : Chars) (value last : Value) → Opens text value → value_on s (meaning s) (Ok value) rest ≡ Ok last → Opens (text ++ rest) last) → Opens text value
@@ -371,6 +370,78 @@ fault_of s front c kind b (decided d) = in_value front c b d
 fault_of s front c kind b (twice e t r w) = subst (λ k. TagFault s k (front ++ c ∷ [])) (sym e) (repeated (front ++ c ∷ []) t r w)
 
 pub refuses_each_fault : RefusesEachFault
-refuses_each_fault s front st run n c kind =
-    (λ h. fault_of s front c kind (begins_from s front (record { reached = st; run = run; unfinished = n })) (why s front st run c kind n h),
-    λ f. exact s front st run n c f refl)
+refuses_each_fault s front st run n c kind = (
+  λ h. fault_of s front c kind (begins_from s front (record { reached = st; run = run; unfinished = n })) (why s front st run c kind n h),
+  λ f. exact s front st run n c f refl,
+)
+
+-- where a fault is, the characters before it are read, and its own is refused
+pub record IsRefusedAt (s : Syntax) (kind : Kind) (chars : Chars) : Type 0 where
+  pub front : Chars
+  pub c : ℕ
+  pub are : chars ≡ front ++ c ∷ []
+  pub before : ReadsOn s front
+  pub refused : tag_step s (meaning s) before.reached c ≡ Err kind
+
+refused_at : (s : Syntax) (kind : Kind) (front : Chars) (c : ℕ) → ReadsOn s front → TagFault s kind (front ++ c ∷ []) → IsRefusedAt s kind (front ++ c ∷ [])
+refused_at s kind front c r f = record { front = front; c = c; are = refl; before = r; refused = exact s front r.reached r.run r.unfinished c f refl }
+
+-- a list and its last element
+data IsSnoc : Chars → Type 0 where
+  nothing : IsSnoc []
+  snoc : (front : Chars) (c : ℕ) → IsSnoc (front ++ c ∷ [])
+
+snoc_before : (c : ℕ) (text : Chars) → IsSnoc text → IsSnoc (c ∷ text)
+snoc_before c _ nothing = snoc [] c
+snoc_before c _ (snoc front d) = snoc (c ∷ front) d
+
+is_snoc : (text : Chars) → IsSnoc text
+is_snoc [] = nothing
+is_snoc (c ∷ text) = snoc_before c text (is_snoc text)
+
+none_after : (s : Syntax) (more : Chars) (c : ℕ) (st last : TagState) → is_last st.phase ≡ true → moves_on s (meaning s) (Ok st) (more ++ c ∷ []) ≡ Ok last → ⊥
+none_after s [] c st last l h = let k = stuck s (meaning s) st c [] l in cc
+none_after s (d ∷ more) c st last l h = let k = stuck s (meaning s) st d (more ++ c ∷ []) l in cc
+
+unchecked_yet : (s : Syntax) (more : Chars) (c : ℕ) (o : Result TagState Kind) (last : TagState) (k : Kind) → moves_on s (meaning s) o (more ++ c ∷ []) ≡ Ok last → checked s o ≡ Err k → ⊥
+unchecked_yet s more c (Err j) last k h e = no_reading s (meaning s) j (more ++ c ∷ []) last ⊥ h
+unchecked_yet s more c (Ok st) last k h e =
+    split (λ (r : Result TagState Kind). r ≡ Err k → ⊥) (is_last st.phase && is_repeated s st.attributes) _ _
+    (λ b g. let p = both (is_last st.phase) (is_repeated s st.attributes) b in none_after s more c st last p.0 h)
+    (λ _ g. cc) e
+
+module _ (s : Syntax) (kind : Kind) (tag : Tag) (t : is_repeated s tag.attributes ≡ true) where
+  -- the front of a whole tag is read, whatever names stand in it
+  whole_by : (front : Chars) (c : ℕ) → Reads s (meaning s) (front ++ c ∷ []) tag → (o : Result TagState Kind) → tag_on s (meaning s) (Ok fresh) front ≡ o → ReadsOn s front
+  whole_by front c r (Ok st) e = record { reached = st; run = e; unfinished = unfinished s front st c [] r.written e r.shape }
+  whole_by front c r (Err k) e = absurd (by_first (first_fault s front fresh k e))
+    where
+      by_first : FirstFault s fresh front → ⊥
+      by_first d =
+          let all : front ++ c ∷ [] ≡ (d.front ++ d.c ∷ []) ++ (d.more ++ c ∷ []) = ap (λ x. x ++ c ∷ []) (d.are ∙ sym (append_assoc d.front (d.c ∷ []) d.more)) ∙ append_assoc (d.front ++ d.c ∷ []) d.more (c ∷ []) in
+          let shape : Shape s ((d.front ++ d.c ∷ []) ++ (d.more ++ c ∷ [])) r.written = subst (λ x. Shape s x r.written) all r.shape in
+          let from_c : Shape s (d.front ++ d.c ∷ (d.more ++ c ∷ [])) r.written = subst (λ x. Shape s x r.written) (append_assoc d.front (d.c ∷ []) (d.more ++ c ∷ [])) shape in
+          let n = unfinished s d.front d.before d.c (d.more ++ c ∷ []) r.written d.run from_c in
+          let a = each_read s (meaning s) (front ++ c ∷ []) tag r in
+          let moves : moves_on s (meaning s) (tag_move s (meaning s) d.before d.c) (d.more ++ c ∷ []) ≡ Ok a.last =
+          ap (λ o. moves_on s (meaning s) (tag_move_on s (meaning s) o d.c) (d.more ++ c ∷ [])) (sym (reads s d.front d.before d.run))
+          ∙ (sym (moves-append s (meaning s) (Ok fresh) d.front (d.c ∷ (d.more ++ c ∷ []))) ∙ (ap (λ x. moves_on s (meaning s) (Ok fresh) x) (sym (append_assoc d.front (d.c ∷ []) (d.more ++ c ∷ [])) ∙ sym all) ∙ a.reads)) in
+          unchecked_yet s d.more c (tag_move s (meaning s) d.before d.c) a.last d.kind moves d.refused
+
+nothing_reads : (s : Syntax) (tag : Tag) → Reads s (meaning s) [] tag → ⊥
+nothing_reads s tag r = let a = each_read s (meaning s) [] tag r in let e : fresh ≡ a.last = let h = a.reads in cc in not_both_ways (is_last a.last.phase) a.whole (ap (λ (x : TagState). is_last x.phase) (sym e))
+
+whole_at : (s : Syntax) (chars : Chars) (tag : Tag) → IsSnoc chars → Reads s (meaning s) chars tag → is_repeated s tag.attributes ≡ true → IsRefusedAt s RepeatedAttribute chars
+whole_at s _ tag nothing r t = absurd (nothing_reads s tag r)
+whole_at s _ tag (snoc front c) r t = refused_at s RepeatedAttribute front c (whole_by s RepeatedAttribute tag t front c r (tag_on s (meaning s) (Ok fresh) front) refl) (repeated (front ++ c ∷ []) tag r t)
+
+pub is_refused : {s : Syntax} {kind : Kind} {chars : Chars} → TagFault s kind chars → IsRefusedAt s kind chars
+is_refused {s = s} (bad_tag front c b none) = refused_at s BadTag front c (reads_on s front b) (bad_tag front c b none)
+is_refused {s = s} {kind = kind} (in_value front c b d) = refused_at s kind front c (reads_on s front b) (in_value front c b d)
+is_refused {s = s} (repeated chars tag r t) = whole_at s chars tag (is_snoc chars) r t
+
+pub one_fault : OneTagFault
+one_fault s chars a b f g =
+    let r = is_refused f in
+    let e = exact s r.front r.before.reached r.before.run r.before.unfinished r.c g r.are in
+    same_kind {A = TagState} a b (sym r.refused ∙ e)

@@ -1,6 +1,6 @@
 -- What the grammar calls a value's fault is refused, with its kind.
-use Rattle.std.proofs.Common.{◌≡◌, ℕ, Bool, true, false, cond, [], ◌∷◌, ◌++◌, Option, Some, None, Result, Ok, Err, refl, ap, sym, ◌∙◌, append-nil, append_assoc, subst}
-use Rattle.std.specs.Prelude.{◌||◌, ◌&&◌, ◌==◌}
+use Rattle.std.proofs.Common.{◌≡◌, ℕ, true, false, cond, [], ◌∷◌, ◌++◌, Option, None, Result, Ok, Err, refl, ap, sym, ◌∙◌, append-nil, append_assoc, subst}
+use Rattle.std.specs.Prelude.{◌&&◌}
 use Rattle.std.specs.List.{list_all}
 use Rattle.rx_terms.specs.Ascii.{ampersand, semicolon, less_than_sign, is_letter, is_letter_or_digit}
 use Rattle.rx_terms.specs.Text.{Chars}
@@ -14,10 +14,10 @@ use Rattle.rx_grammar.specs.TagFaults.{RunFault, unknown, bad, no_reference, Val
 use Rattle.rx_reader.specs.declared.phases.RunPhase.{RunPhase}
 use Rattle.rx_reader.specs.declared.phases.RunPhase.TheVariants as run
 use Rattle.rx_reader.specs.declared.phases.RunMove.{RunMove}
-use Rattle.rx_reader.specs.declared.phases.RunMove.TheVariants.{Goes, Closes, Stops}
+use Rattle.rx_reader.specs.declared.phases.RunMove.TheVariants.{Closes, Stops}
 use Rattle.rx_reader.specs.Tables.{run_move}
-use Rattle.rx_reader.specs.Values.{Value, no_value_yet, no_meaning, plain_step, meant, is_run, run_step, value_step, run_end, value_end, step_on, value_on}
-use Rattle.rx_reader.proofs.Bools.{both, not_both_ways}
+use Rattle.rx_reader.specs.Values.{Value, no_value_yet, no_meaning, plain_step, meant, is_run, run_step, value_step, run_end, value_end, value_on}
+use Rattle.rx_reader.proofs.Bools.{not_both_ways}
 use Rattle.rx_reader.proofs.Runs.{RunIs, at_ampersand, in_name, at_hash, in_decimal, at_mark, in_hexadecimal, stops_back, closes_back}
 use Rattle.rx_reader.proofs.TextComplete.{at_run, runs_is_run, begun_run, body_begun}
 use Rattle.rx_reader.proofs.TextSound.{err_on}
