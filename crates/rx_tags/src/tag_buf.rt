@@ -4,7 +4,7 @@ ghost use Rattle.rx_terms.specs.Text.{Chars};
 ghost use Rattle.rx_reader.specs.Tables.{is_last};
 ghost use Rattle.rx_reader.specs.TagReader.{parts_of};
 ghost use Rattle.rx_tags.specs.Seen.{tag_seen};
-ghost use Rattle.rx_tags.specs.TagBufs.{no_tag, MayStep, StepGives, Stands, StepTells};
+ghost use Rattle.rx_tags.specs.TagBufs.{no_tag, MayStep, StepGives, Stands, StepTells, AnswersAll};
 
 use crate::pairs::TagError;
 use crate::tag_text::{TagStep, TagText};
@@ -43,13 +43,15 @@ impl TagBuf {
         })
     }
 
-    /// Reads the tag's next character. `Done` comes exactly at the tag's `>`. `Bad` comes exactly where the reader has a
-    /// fault at this character, with its kind: BadTag, UnknownReference, BadReference, StrictText, and at the `>` in XHTML
-    /// RepeatedAttribute. Want of memory leaves the tag as it was before this character.
+    /// Reads the tag's next character. `Done` comes exactly where the characters spell a tag, which ends at this `>`.
+    /// `More` comes exactly where they begin one in which no fault stands, and spell none yet. `Bad` comes exactly where
+    /// this character decides the tag's fault, with its kind: BadTag, UnknownReference, BadReference, StrictText, or at
+    /// the `>` in XHTML RepeatedAttribute. Want of memory leaves the tag as it was before this character.
     pub fn step(&mut self, c: char) -> Result<TagStep, TagError>
         requires { MayStep self.old }
         ensures gives { StepGives self.old c result self.new }
         ensures tells { (chars : Chars) → Stands self.old chars → StepTells (chars ++ c ∷ []) result self.new }
+        ensures answers { (chars : Chars) → Stands self.old chars → AnswersAll self.old.syntax (chars ++ c ∷ []) result }
     {
         self.read(c)
     }
