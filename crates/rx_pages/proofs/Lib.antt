@@ -24,3 +24,4 @@ pub mod Prefix
 pub mod ReadOn
 pub mod Going
 pub mod Bare
+pub mod FirstFronts
