@@ -99,7 +99,7 @@ ends_so end (c ∷ text) h = elim (either (same end (c ∷ text)) _ h) [
   | inr e ↦ let k = ends_so end text e in record { front = c ∷ k.front; are = ap (λ x. c ∷ x) k.are }
 ]
 
-same_self : (text : Chars) → same text text ≡ true
+pub same_self : (text : Chars) → same text text ≡ true
 same_self [] = refl
 same_self (c ∷ text) = rw (equal c, same_self text) refl
 

@@ -25,3 +25,4 @@ pub mod ReadOn
 pub mod Going
 pub mod Bare
 pub mod FirstFronts
+pub mod TagRuns
