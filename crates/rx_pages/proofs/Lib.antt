@@ -26,3 +26,4 @@ pub mod Going
 pub mod Bare
 pub mod FirstFronts
 pub mod TagRuns
+pub mod RawEnds

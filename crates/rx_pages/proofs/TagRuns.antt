@@ -34,7 +34,7 @@ use Rattle.rx_reader.proofs.TagLaws.{last_none, on_err, tag_on-append}
 use Rattle.rx_reader.proofs.TagFaultLaws.{Parts, parts, is_refused}
 
 -- The fronts of what is read as a tag are read so.
-after_last : (s : Syntax) (st : TagState) (c : ℕ) (text : Chars) (last : TagState) → is_last st.phase ≡ true → tag_on s (meaning s) (Ok st) (c ∷ text) ≡ Ok last → ⊥
+pub after_last : (s : Syntax) (st : TagState) (c : ℕ) (text : Chars) (last : TagState) → is_last st.phase ≡ true → tag_on s (meaning s) (Ok st) (c ∷ text) ≡ Ok last → ⊥
 after_last s st c text last w h =
     let e : tag_step s (meaning s) st c ≡ Err BadTag = ap (λ m. checked s (moved s (meaning s) st c m)) (last_none s st.phase c w) in
     let k : tag_on s (meaning s) (Err BadTag) text ≡ Ok last = ap (λ o. tag_on s (meaning s) o text) (sym e) ∙ h in
