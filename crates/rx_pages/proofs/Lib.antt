@@ -27,3 +27,4 @@ pub mod Bare
 pub mod FirstFronts
 pub mod TagRuns
 pub mod RawEnds
+pub mod Pends
