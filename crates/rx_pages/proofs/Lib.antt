@@ -28,3 +28,4 @@ pub mod FirstFronts
 pub mod TagRuns
 pub mod RawEnds
 pub mod Pends
+pub mod PendsMarks
