@@ -29,3 +29,4 @@ pub mod TagRuns
 pub mod RawEnds
 pub mod Pends
 pub mod PendsMarks
+pub mod PendsOpenings
