@@ -31,3 +31,4 @@ pub mod Pends
 pub mod PendsMarks
 pub mod PendsOpenings
 pub mod PendsOn
+pub mod Judged

@@ -1,5 +1,5 @@
 -- Characters that go on begin a token; what is read spells one; what is refused is faulty.
-use Rattle.std.proofs.Common.{◌≡◌, ◌∙◌, ℕ, length, Bool, true, false, [], ◌∷◌, ◌++◌, Option, Some, None, refl, ap, sym, subst, append-nil, append_assoc, eqb-true}
+use Rattle.std.proofs.Common.{◌≡◌, ◌∙◌, ℕ, Bool, true, false, [], ◌∷◌, ◌++◌, Option, Some, None, refl, ap, sym, subst, append-nil, append_assoc, eqb-true}
 use Rattle.std.specs.Prelude.{◌&&◌, ◌||◌, ◌==◌, codes}
 use Rattle.std.proofs.lemmas.List.{map-append, length-map}
 use Rattle.rx_terms.specs.Ascii.{lowered_char, solidus}
@@ -7,7 +7,6 @@ use Rattle.rx_terms.specs.Text.{Chars, lowered, begins_with}
 use Rattle.rx_chars.specs.declared.syntax.Syntax.{Syntax}
 use Rattle.rx_chars.specs.declared.syntax.Syntax.TheVariants.{Html, Xhtml}
 use Rattle.rx_grammar.specs.declared.contents.Content.{Content}
-use Rattle.rx_grammar.specs.declared.contents.Content.TheVariants as content
 use Rattle.rx_grammar.specs.declared.faults.Kind.{Kind}
 use Rattle.rx_grammar.specs.Tokens.{Tag, Token, tag, section, comment, doctype}
 use Rattle.rx_grammar.specs.Tags.{SpellsTag}
@@ -15,10 +14,10 @@ use Rattle.rx_grammar.specs.Spelling.{Spells, IsFirst, has_sections, begins_decl
 use Rattle.rx_grammar.specs.Spelling as spelling
 use Rattle.rx_grammar.specs.PageFaults.{Unfinished, token_begun, tag_begun, run_begun, opening_begun}
 use Rattle.rx_reader.specs.Laws.{ReadsOn}
-use Rattle.rx_pages.specs.Scanner.{goes_on, whole, ended, refused, verdict, GoesOn, ReadAs, at_last, at_next}
+use Rattle.rx_pages.specs.Scanner.{whole, refused, verdict, GoesOn, ReadAs, at_last, at_next}
 use Rattle.rx_pages.proofs.Reading.{raw_is}
-use Rattle.rx_pages.proofs.FirstFronts.{first_here, FirstMore, first_more, whole_first, all_none, begins_exactly, EndsSo, ends_so, ends_append, or_second}
-use Rattle.rx_pages.proofs.TagRuns.{Known, in_markup', in_raw', is_known}
+use Rattle.rx_pages.proofs.FirstFronts.{first_here, FirstMore, first_more, whole_first, all_none, begins_exactly, ends_so, ends_append, or_second}
+use Rattle.rx_pages.proofs.TagRuns.{in_markup', in_raw', is_known}
 use Rattle.rx_pages.proofs.RawEnds.{IsRawName, is_raw_name, spells_end}
 use Rattle.rx_pages.proofs.Pends.{occurs, Pends, nothing, in_reference, at_less_than, in_end, in_raw_tag, in_a_tag, in_question, in_instruction, in_bogus, in_html_comment, in_strict, in_a_doctype, in_a_section, in_an_opening, FaultyBy, Out, from_nothing, from_reference, from_tag, is_known_by, raw_html, from_raw_tag, from_end}
 use Rattle.rx_pages.proofs.PendsMarks.{as_verdict, from_question, from_instruction, from_html_comment, from_strict, from_section, same_word, begins_doctype, from_doctype}

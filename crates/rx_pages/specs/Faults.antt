@@ -7,7 +7,6 @@ use Rattle.rx_grammar.specs.declared.contents.Content.{Content}
 use Rattle.rx_grammar.specs.declared.contents.Content.TheVariants.{Strict}
 use Rattle.rx_grammar.specs.declared.faults.Kind.{Kind}
 use Rattle.rx_grammar.specs.declared.faults.Kind.TheVariants.{StrictText}
-use Rattle.rx_grammar.specs.Tokens.{Token}
 use Rattle.rx_grammar.specs.Items.{Item}
 use Rattle.rx_grammar.specs.Begun.{Line, Phase}
 use Rattle.rx_grammar.specs.PageFaults.{ends_in_brackets}
