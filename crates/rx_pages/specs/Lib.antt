@@ -1,3 +1,4 @@
 pub mod Nesting
 pub mod Scanner
+pub mod PageReader
 pub mod Laws
