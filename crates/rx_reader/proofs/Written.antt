@@ -62,6 +62,9 @@ pub written-append : (s : Syntax) (o : Option Written) (a b : Chars) → written
 written-append s o [] b = refl
 written-append s o (c ∷ a) b = written-append s (written_step s o c) a b
 
+pub as_written : (v w : Written) → ◌≡◌ {A = Option Written} (Some v) (Some w) → v ≡ w
+as_written v w h = cc
+
 -- the phases are the table's
 phase_of : (w : Written) (c : ℕ) (m : Move) (v : Written) → written_by w c m ≡ Some v → phase_by m ≡ Some v.phase
 phase_of w c None v h = absurd (cc)
