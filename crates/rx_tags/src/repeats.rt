@@ -1,9 +1,9 @@
 //! Names that stand twice among the attributes of a tag.
-ghost use Rattle.std.specs.Prelude.{◌≡◌, ℕ, List, ◌||◌, not, false, length, IfOk, MatchOption, OnOk};
+ghost use Rattle.std.specs.Prelude.{◌≡◌, ℕ, List, ◌||◌, not, true, false, length, IfOk, MatchOption, OnOk};
 ghost use Rattle.rx_grammar.specs.Names.{same};
 ghost use Rattle.rx_grammar.specs.Tags.{firsts, has_repeat};
 ghost use Rattle.rx_tags.specs.Reading.{rows_read, RowsFit};
-ghost use Rattle.rx_tags.specs.Repeats.{has_text, KeepsFirsts};
+ghost use Rattle.rx_tags.specs.Repeats.{has_text, is_named, KeepsFirsts};
 
 use crate::attributes::{Row, text_between};
 use rx_terms::NoMemory;
@@ -19,7 +19,7 @@ pub(crate) fn unrepeated(
     requires { RowsFit text.now (length text.now) rows.now }
     ensures { IfOk result (λ kept. MatchOption kept (has_repeat (rows_read text.now rows.now) ≡ false) (λ some. KeepsFirsts text.now rows.now some.items)) }
 {
-    if rows.len() < 2 {
+    if are_few_and_apart(text, rows) {
         return Ok(None);
     }
     let kept = first_rows(alloc, text, rows)?;
@@ -27,6 +27,52 @@ pub(crate) fn unrepeated(
         return Ok(None);
     }
     Ok(Some(kept))
+}
+
+// As many rows as are compared each with each, which takes no memory. Tags have rarely more.
+const FEW: usize = 8;
+
+fn are_few_and_apart(text: &[u8], rows: &[Row]) -> bool
+    requires { RowsFit text.now (length text.now) rows.now }
+    ensures { result ≡ true → has_repeat (rows_read text.now rows.now) ≡ false }
+{
+    if rows.len() > FEW {
+        return false;
+    }
+    !has_pair(text, rows)
+}
+
+// Whether a name stands in two rows.
+fn has_pair(text: &[u8], rows: &[Row]) -> bool
+    requires { RowsFit text.now (length text.now) rows.now }
+    ensures { result ≡ has_repeat (rows_read text.now rows.now) }
+{
+    for i in 0..rows.len() {
+        let name = text_between(text, rows[i].start, rows[i].middle);
+        if is_name_of(text, &rows[i + 1..], name) {
+            return true;
+        }
+    }
+    false
+}
+
+// Whether one of the rows has the name.
+fn is_name_of(text: &[u8], rows: &[Row], name: &str) -> bool
+    requires { RowsFit text.now (length text.now) rows.now }
+    ensures { result ≡ is_named text.now rows.now name.now }
+{
+    for row in rows {
+        if is_same(text_between(text, row.start, row.middle), name) {
+            return true;
+        }
+    }
+    false
+}
+
+fn is_same(a: &str, b: &str) -> bool
+    ensures { result ≡ same a.now b.now }
+{
+    a == b
 }
 
 // The rows whose names stand in no row before them.
