@@ -60,6 +60,10 @@ begun_under syntax t levels = if is_alone syntax (place_under levels) t then lev
 abbrev pub own_of_start : Syntax → Tag → Levels → Own
 own_of_start syntax t levels = if hidden_under levels then Nothing else if is_alone syntax (place_under levels) t then Alone else Begin
 
+-- a line feed directly after the tag is dropped
+abbrev pub drops_under : Syntax → Tag → Levels → Bool
+drops_under syntax t levels = not (is_alone syntax (place_under levels) t) && drops_line_feed (place_under levels) t
+
 abbrev pub is_room : Lines → Tag → Bool
 is_room l t = not (nat_le l.depth (length (kept_at_start t.name l.levels)))
 
@@ -69,6 +73,7 @@ pub record Begins (old : Lines) (t : Tag) (told : Told) (new : Lines) : Type 0 w
   pub room : is_room old t ≡ true
   pub ends : told.ends ≡ ended_at_start t.name old.levels
   pub own : told.own ≡ own_of_start old.syntax t (kept_at_start t.name old.levels)
+  pub drops : told.drops ≡ drops_under old.syntax t (kept_at_start t.name old.levels)
   pub becomes : new ≡ record { syntax = old.syntax; depth = old.depth; begun = true; levels = begun_under old.syntax t (kept_at_start t.name old.levels) }
 
 abbrev pub BeginGives : Lines → Tag → Result Told Refused → Lines → Type 0
@@ -94,6 +99,7 @@ pub record Ends (old : Lines) (t : Tag) (told : Told) (new : Lines) : Type 0 whe
   pub named : is_named t.name (kept (ends_by true t.name) old.levels) ≡ true
   pub ends : told.ends ≡ ended (ends_by true t.name) old.levels
   pub own : told.own ≡ own_of_end (kept (ends_by true t.name) old.levels)
+  pub drops : told.drops ≡ false
   pub becomes : new ≡ record { syntax = old.syntax; depth = old.depth; begun = old.begun; levels = drop 1 (kept (ends_by true t.name) old.levels) }
 
 abbrev pub EndGives : Lines → Tag → Result Told Refused → Lines → Type 0

@@ -32,6 +32,8 @@ pub(crate) enum Own {
 pub(crate) struct Told {
     pub(crate) ends: usize,
     pub(crate) own: Own,
+    /// Whether a line feed directly after the tag is dropped.
+    pub(crate) drops: bool,
 }
 
 /// Why a tag isn't taken.
@@ -147,10 +149,12 @@ impl Line {
             return Err(Refused::Fault(Kind::TooDeep));
         }
         let own = self.own_of_start(tag);
+        let drops = self.drops_line_feed(tag);
         match self.enter(tag) {
             Ok(()) => Ok(Told {
                 ends,
                 own,
+                drops,
             }),
             Err(NoMemory) => Err(Refused::NoMemory),
         }
@@ -184,6 +188,13 @@ impl Line {
         } else {
             Own::Begin
         }
+    }
+
+    fn drops_line_feed(&self, tag: &Tag<'_>) -> bool
+        ensures { result ≡ lines.drops_under self.now.syntax (tag_seen tag.now) self.now.levels }
+    {
+        let place = self.levels.place();
+        !place.is_alone(self.syntax, tag) && place.drops_line_feed(tag)
     }
 
     // The element begins.
@@ -229,6 +240,7 @@ impl Line {
         Ok(Told {
             ends,
             own,
+            drops: false,
         })
     }
 
