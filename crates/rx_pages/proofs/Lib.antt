@@ -24,3 +24,5 @@ pub mod Prefix
 pub mod ReadOn
 pub mod Going
 pub mod Bare
+pub mod EntrySteps
+pub mod ByteSteps
