@@ -26,3 +26,5 @@ pub mod Going
 pub mod Bare
 pub mod EntrySteps
 pub mod ByteSteps
+pub mod CharSteps
+pub mod CharWalk
