@@ -26,6 +26,9 @@ use Rattle.rx_pages.proofs.CharSteps.{passes, passes_on, entry_on, entry_at}
 no_return : (c : ℕ) → (c == line_feed) ≡ true → (c == carriage_return) ≡ false
 no_return c h = grind (arith, nat_tests)
 
+no_mark : (c : ℕ) → (c == byte_order_mark) ≡ true → (c == carriage_return) ≡ false
+no_mark c h = grind (arith, nat_tests)
+
 -- a list by its last element
 pub data Snoc (bytes : List ℕ) : Type 0 where
   none : bytes ≡ [] → Snoc bytes
@@ -104,10 +107,10 @@ module _ (syntax : Syntax) (limits : Limits) where
   no_nuls cs = list_all (λ c. not (c == 0)) cs
 
   -- one character, and the rest of the walk
-  module _ (c : ℕ) (cs rest : List ℕ) (start : ℕ) (after_return : Bool) (st end : Stood) (front : List ℕ) (byte : ℕ) (is_scalar : IsScalar c) (form : encode c ≡ front ++ byte ∷ []) (size : length front + 1 ≡ len_utf8 c)
+  module _ (c : ℕ) (cs rest : List ℕ) (start : ℕ) (started after_return : Bool) (st end : Stood) (front : List ℕ) (byte : ℕ) (is_scalar : IsScalar c) (form : encode c ≡ front ++ byte ∷ []) (size : length front + 1 ≡ len_utf8 c)
       (nonzero : (c == 0) ≡ false) (page : start + len_utf8 c ≤ limits.page) where
     abbrev Goal : Bool → Stood → Type 0
-    Goal ar reached = page_on syntax limits (Ok (progress_at start [] true after_return st)) (encode c ++ rest) ≡ page_on syntax limits (Ok (progress_at (start + len_utf8 c) [] true ar reached)) rest
+    Goal ar reached = page_on syntax limits (Ok (progress_at start [] started after_return st)) (encode c ++ rest) ≡ page_on syntax limits (Ok (progress_at (start + len_utf8 c) [] true ar reached)) rest
 
     last_at : start + len_utf8 c - 1 ≡ start + length front
     last_at = omega arith
@@ -119,25 +122,25 @@ module _ (syntax : Syntax) (limits : Limits) where
     some_bytes e = let v = ap length (sym form ∙ e) in let w = length-append front (byte ∷ []) in absurd (omega arith)
 
     to_last : (is_known st ≡ true → start + length front < first_of st.run start + limits.tag)
-        → page_on syntax limits (Ok (progress_at start [] true after_return st)) (encode c ++ rest) ≡ page_on syntax limits (last_read syntax limits st true after_return c start front byte is_scalar form) rest
+        → page_on syntax limits (Ok (progress_at start [] started after_return st)) (encode c ++ rest) ≡ page_on syntax limits (last_read syntax limits st started after_return c start front byte is_scalar form) rest
     to_last k =
         let e : start + 0 ≡ start = omega arith in
-        ap (λ x. page_on syntax limits (Ok (progress_at x [] true after_return st)) (encode c ++ rest)) (sym e)
-        ∙ bytes_on syntax limits st true after_return c start front byte is_scalar form [] (encode c) rest form some_bytes nonzero (omega arith) k
+        ap (λ x. page_on syntax limits (Ok (progress_at x [] started after_return st)) (encode c ++ rest)) (sym e)
+        ∙ bytes_on syntax limits st started after_return c start front byte is_scalar form [] (encode c) rest form some_bytes nonzero (omega arith) k
 
-    pub passed_on : (after_return && c == line_feed) ≡ true → (is_known st ≡ true → start + length front < first_of st.run start + limits.tag) → Goal false st
+    pub passed_on : passes started after_return c ≡ true → (is_known st ≡ true → start + length front < first_of st.run start + limits.tag) → Goal false st
     passed_on t k =
         to_last k
-        ∙ (ap (λ x. page_on syntax limits x rest) (passes_on syntax limits st true after_return c start front byte is_scalar form t)
+        ∙ (ap (λ x. page_on syntax limits x rest) (passes_on syntax limits st started after_return c start front byte is_scalar form t)
         ∙ ap (λ x. page_on syntax limits (Ok (progress_at x [] true false st)) rest) next_at)
 
-    pub entered_on : (after_return && c == line_feed) ≡ false → (next : Stood)
+    pub entered_on : passes started after_return c ≡ false → (next : Stood)
         → (is_known st ≡ true → start + length front < first_of st.run start + limits.tag)
         → is_too_long syntax limits (spot_of syntax st.nest) (st.run ++ entry_at c start (start + length front) ∷ []) (first_of st.run start) (start + length front) ≡ false
         → entry_step syntax limits st (entry_at c start (start + length front)) ≡ Ok next → Goal (c == carriage_return) next
     entered_on t next k long step =
         to_last k
-        ∙ (ap (λ x. page_on syntax limits x rest) (entry_on syntax limits st true after_return c start front byte is_scalar form t long)
+        ∙ (ap (λ x. page_on syntax limits x rest) (entry_on syntax limits st started after_return c start front byte is_scalar form t long)
         ∙ (ap (λ x. page_on syntax limits (settle (start + length front + 1) (c == carriage_return) (first_of st.run start) (start + length front) x) rest) step
         ∙ ap (λ x. page_on syntax limits (Ok (progress_at x [] true (c == carriage_return) next)) rest) next_at))
 
@@ -183,7 +186,7 @@ module _ (syntax : Syntax) (limits : Limits) where
             let later : (e : Entry) (es : List Entry) → entered false (placed (start + len_utf8 c) cs) ≡ e ∷ es → start + length front < e.last = λ e es h. (let a = first_among false (start + len_utf8 c) cs e es h in let b = a.from in let d = a.order in omega arith) in
             let k : is_known st ≡ true → start + length front < first_of st.run start + limits.tag = λ w. (let b = before_next (start + length (encodes (c ∷ cs))) (start + length front) st end (entered false (placed (start + len_utf8 c) cs)) f2 later (λ h. let a = hi in omega arith) w in let d = first_same st start (start + length front) w in omega arith) in
             let is_return : (c == carriage_return) ≡ false = no_return c (and_parts after_return (c == line_feed) t).1 in
-            more ∙ (passed_on c cs (encodes cs ++ rest) start after_return st end front byte parts.0 form size nonzero page t k
+            more ∙ (passed_on c cs (encodes cs ++ rest) start true after_return st end front byte parts.0 form size nonzero page t k
             ∙ (ih pages false st f3
             ∙ (ap (λ x. page_on syntax limits (Ok (progress_at x [] true (ends_return false cs) end)) rest) (sym hi)
             ∙ ap (λ b. page_on syntax limits (Ok (progress_at (start + length (encodes (c ∷ cs))) [] true (ends_return b cs) end)) rest) (sym is_return)))))
@@ -192,6 +195,60 @@ module _ (syntax : Syntax) (limits : Limits) where
             let f2 : Fine (start + length (encodes (c ∷ cs))) st (entry_at c start (start + len_utf8 c - 1) ∷ entered (c == carriage_return) (placed (start + len_utf8 c) cs)) end = subst (λ es. Fine (start + length (encodes (c ∷ cs))) st es end) (cond-false _ _ _ t) f in
             let f3 : Fine (start + length (encodes (c ∷ cs))) st (entry_at c start (start + length front) ∷ entered (c == carriage_return) (placed (start + len_utf8 c) cs)) end = subst (λ x. Fine (start + length (encodes (c ∷ cs))) st (entry_at c start x ∷ entered (c == carriage_return) (placed (start + len_utf8 c) cs)) end) q f2 in
             let f4 : Fine (start + len_utf8 c + length (encodes cs)) f3.2.0 (entered (c == carriage_return) (placed (start + len_utf8 c) cs)) end = subst (λ x. Fine x f3.2.0 (entered (c == carriage_return) (placed (start + len_utf8 c) cs)) end) hi f3.2.1.1 in
-            more ∙ (entered_on c cs (encodes cs ++ rest) start after_return st end front byte parts.0 form size nonzero page t f3.2.0 f3.0 f3.1 f3.2.1.0
+            more ∙ (entered_on c cs (encodes cs ++ rest) start true after_return st end front byte parts.0 form size nonzero page t f3.2.0 f3.0 f3.1 f3.2.1.0
             ∙ (ih pages (c == carriage_return) f3.2.0 f4
+            ∙ ap (λ x. page_on syntax limits (Ok (progress_at x [] true (ends_return (c == carriage_return) cs) end)) rest) (sym hi))))
+
+  -- a page from its first character on
+  abbrev pub at_first : Stood → Progress
+  at_first st = progress_at 0 [] false false st
+
+  abbrev pub is_started : List ℕ → Bool
+  is_started [] = false
+  is_started (c ∷ cs) = true
+
+  pub page_walk : (cs rest : List ℕ) (st end : Stood) → all_scalars cs ≡ true → no_nuls cs ≡ true → length (encodes cs) ≤ limits.page
+      → Fine (length (encodes cs)) st (entered false (without_mark (placed 0 cs))) end
+      → page_on syntax limits (Ok (at_first st)) (encodes cs ++ rest) ≡ page_on syntax limits (Ok (progress_at (length (encodes cs)) [] (is_started cs) (ends_return false cs) end)) rest
+  page_walk [] rest st end s z p f = ap (λ x. page_on syntax limits (Ok (at_first x)) rest) f.0
+  page_walk (c ∷ cs) rest st end s z p f = by (snoc_of (encode c))
+    where
+      l : length (encode c) ≡ len_utf8 c
+      l = length-encode c
+
+      n : length (encodes (c ∷ cs)) ≡ length (encode c) + length (encodes cs)
+      n = length-append (encode c) (encodes cs)
+
+      hi : length (encodes (c ∷ cs)) ≡ 0 + len_utf8 c + length (encodes cs)
+      hi = let a = n in let b = l in omega arith
+
+      by : Snoc (encode c) → page_on syntax limits (Ok (at_first st)) (encodes (c ∷ cs) ++ rest) ≡ page_on syntax limits (Ok (progress_at (length (encodes (c ∷ cs))) [] true (ends_return false (c ∷ cs)) end)) rest
+      by (none e) = let w = len_positive c in let v : length (encode c) ≡ 0 = ap length e in let a = l in absurd (omega arith)
+      by (some front byte form) =
+          let size : length front + 1 ≡ len_utf8 c = sym (length-append front (byte ∷ [])) ∙ (ap length (sym form) ∙ l) in
+          let parts = and_parts (scalar c) (all_scalars cs) s in
+          let zs = and_parts (not (c == 0)) (no_nuls cs) z in
+          let nonzero : (c == 0) ≡ false = untrue (c == 0) zs.0 in
+          let page : 0 + len_utf8 c ≤ limits.page = (let a = hi in omega arith) in
+          let pages : 0 + len_utf8 c + length (encodes cs) ≤ limits.page = (let a = hi in omega arith) in
+          let more : page_on syntax limits (Ok (at_first st)) (encodes (c ∷ cs) ++ rest) ≡ page_on syntax limits (Ok (at_first st)) (encode c ++ (encodes cs ++ rest))
+            = ap (λ b. page_on syntax limits (Ok (at_first st)) b) (append_assoc (encode c) (encodes cs) rest) in
+          by_test {G = page_on syntax limits (Ok (at_first st)) (encodes (c ∷ cs) ++ rest) ≡ page_on syntax limits (Ok (progress_at (length (encodes (c ∷ cs))) [] true (ends_return false (c ∷ cs)) end)) rest} (c == byte_order_mark)
+          (λ t.
+            let f2 : Fine (length (encodes (c ∷ cs))) st (entered false (placed (0 + len_utf8 c) cs)) end = subst (λ es. Fine (length (encodes (c ∷ cs))) st (entered false es) end) (cond-true _ _ _ t) f in
+            let f3 : Fine (0 + len_utf8 c + length (encodes cs)) st (entered false (placed (0 + len_utf8 c) cs)) end = subst (λ x. Fine x st (entered false (placed (0 + len_utf8 c) cs)) end) hi f2 in
+            let later : (e : Entry) (es : List Entry) → entered false (placed (0 + len_utf8 c) cs) ≡ e ∷ es → 0 + length front < e.last = λ e es h. (let a = first_among false (0 + len_utf8 c) cs e es h in let b = a.from in let d = a.order in omega arith) in
+            let k : is_known st ≡ true → 0 + length front < first_of st.run 0 + limits.tag = λ w. (let b = before_next (length (encodes (c ∷ cs))) (0 + length front) st end (entered false (placed (0 + len_utf8 c) cs)) f2 later (λ h. let a = hi in omega arith) w in let d = first_same st 0 (0 + length front) w in omega arith) in
+            let is_return : (c == carriage_return) ≡ false = no_mark c t in
+            more ∙ (passed_on c cs (encodes cs ++ rest) 0 false false st end front byte parts.0 form size nonzero page (rw t refl) k
+            ∙ (walk cs rest (0 + len_utf8 c) false st end parts.1 zs.1 pages f3
+            ∙ (ap (λ x. page_on syntax limits (Ok (progress_at x [] true (ends_return false cs) end)) rest) (sym hi)
+            ∙ ap (λ b. page_on syntax limits (Ok (progress_at (length (encodes (c ∷ cs))) [] true (ends_return b cs) end)) rest) (sym is_return)))))
+          (λ t.
+            let q : 0 + len_utf8 c - 1 ≡ 0 + length front = omega arith in
+            let f2 : Fine (length (encodes (c ∷ cs))) st (entry_at c 0 (0 + len_utf8 c - 1) ∷ entered (c == carriage_return) (placed (0 + len_utf8 c) cs)) end = subst (λ es. Fine (length (encodes (c ∷ cs))) st (entered false es) end) (cond-false _ _ _ t) f in
+            let f3 : Fine (length (encodes (c ∷ cs))) st (entry_at c 0 (0 + length front) ∷ entered (c == carriage_return) (placed (0 + len_utf8 c) cs)) end = subst (λ x. Fine (length (encodes (c ∷ cs))) st (entry_at c 0 x ∷ entered (c == carriage_return) (placed (0 + len_utf8 c) cs)) end) q f2 in
+            let f4 : Fine (0 + len_utf8 c + length (encodes cs)) f3.2.0 (entered (c == carriage_return) (placed (0 + len_utf8 c) cs)) end = subst (λ x. Fine x f3.2.0 (entered (c == carriage_return) (placed (0 + len_utf8 c) cs)) end) hi f3.2.1.1 in
+            more ∙ (entered_on c cs (encodes cs ++ rest) 0 false false st end front byte parts.0 form size nonzero page (rw t refl) f3.2.0 f3.0 f3.1 f3.2.1.0
+            ∙ (walk cs rest (0 + len_utf8 c) (c == carriage_return) f3.2.0 end parts.1 zs.1 pages f4
             ∙ ap (λ x. page_on syntax limits (Ok (progress_at x [] true (ends_return (c == carriage_return) cs) end)) rest) (sym hi))))
