@@ -28,3 +28,4 @@ pub mod EntrySteps
 pub mod ByteSteps
 pub mod CharSteps
 pub mod CharWalk
+pub mod KnownTags
