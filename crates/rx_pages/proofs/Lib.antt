@@ -29,3 +29,4 @@ pub mod ByteSteps
 pub mod CharSteps
 pub mod CharWalk
 pub mod KnownTags
+pub mod TokenWalk
