@@ -30,3 +30,4 @@ pub mod CharSteps
 pub mod CharWalk
 pub mod KnownTags
 pub mod TokenWalk
+pub mod TokensWalk
