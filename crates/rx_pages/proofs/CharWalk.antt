@@ -42,7 +42,7 @@ snoc_of (b ∷ bytes) = by (snoc_of bytes)
     by (none e) = some [] b (ap (λ x. b ∷ x) e)
     by (some front byte e) = some (b ∷ front) byte (ap (λ x. b ∷ x) e)
 
-len_positive : (c : ℕ) → 1 ≤ len_utf8 c
+pub len_positive : (c : ℕ) → 1 ≤ len_utf8 c
 len_positive c = by_test (nat_lt c 0x80) (λ e. rw e (omega arith)) (λ e. rw e (by_test (nat_lt c 0x800) (λ d. rw d (omega arith)) (λ d. rw d (by_test (nat_lt c 0x1_0000) (λ b. rw b (omega arith)) (λ b. rw b (omega arith))))))
 
 -- the first entry of some characters stands among their bytes
@@ -73,6 +73,18 @@ first_among after_return start (c ∷ cs) e es h =
     (λ t. among_later start c cs e (first_among false (start + len_utf8 c) cs e es (sym (cond-true _ _ _ t) ∙ h)))
     (λ t. let k = sym (cond-false _ _ _ t) ∙ h in let same : line_end_entry (record { value = c; first = start; last = start + len_utf8 c - 1 }) ≡ e = cc in subst (λ x. Among start (c ∷ cs) x) same (among_first start c cs))
 
+-- the flags behind some characters
+abbrev pub ends_return : Bool → List ℕ → Bool
+ends_return after_return [] = after_return
+ends_return after_return (c ∷ cs) = ends_return (c == carriage_return) cs
+
+abbrev pub no_nuls : List ℕ → Bool
+no_nuls cs = list_all (λ c. not (c == 0)) cs
+
+abbrev pub is_started : List ℕ → Bool
+is_started [] = false
+is_started (c ∷ cs) = true
+
 module _ (syntax : Syntax) (limits : Limits) where
   abbrev pub is_known : Stood → Bool
   is_known st = is_known_tag syntax (content_at syntax st.nest) (values st.run)
@@ -97,14 +109,6 @@ module _ (syntax : Syntax) (limits : Limits) where
   pub before_next : (hi at : ℕ) (st end : Stood) (es : List Entry) → Fine hi st es end → ((e : Entry) (more : List Entry) → es ≡ e ∷ more → at < e.last) → (es ≡ [] → at < hi) → is_known st ≡ true → at < first_of st.run at + limits.tag
   before_next hi at st end [] f next last k = let s = first_same st at hi k in let b = f.1 k in let l = last refl in omega arith
   before_next hi at st end (e ∷ es) f next last k = let s = first_same st at e.first k in let b = f.0 k in let l = next e es refl in omega arith
-
-  -- the flags behind some characters
-  abbrev pub ends_return : Bool → List ℕ → Bool
-  ends_return after_return [] = after_return
-  ends_return after_return (c ∷ cs) = ends_return (c == carriage_return) cs
-
-  abbrev pub no_nuls : List ℕ → Bool
-  no_nuls cs = list_all (λ c. not (c == 0)) cs
 
   -- one character, and the rest of the walk
   module _ (c : ℕ) (cs rest : List ℕ) (start : ℕ) (started after_return : Bool) (st end : Stood) (front : List ℕ) (byte : ℕ) (is_scalar : IsScalar c) (form : encode c ≡ front ++ byte ∷ []) (size : length front + 1 ≡ len_utf8 c)
@@ -202,10 +206,6 @@ module _ (syntax : Syntax) (limits : Limits) where
   -- a page from its first character on
   abbrev pub at_first : Stood → Progress
   at_first st = progress_at 0 [] false false st
-
-  abbrev pub is_started : List ℕ → Bool
-  is_started [] = false
-  is_started (c ∷ cs) = true
 
   pub page_walk : (cs rest : List ℕ) (st end : Stood) → all_scalars cs ≡ true → no_nuls cs ≡ true → length (encodes cs) ≤ limits.page
       → Fine (length (encodes cs)) st (entered false (without_mark (placed 0 cs))) end

@@ -31,3 +31,4 @@ pub mod CharWalk
 pub mod KnownTags
 pub mod TokenWalk
 pub mod TokensWalk
+pub mod FrontRead
