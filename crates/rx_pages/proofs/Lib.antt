@@ -32,3 +32,4 @@ pub mod KnownTags
 pub mod TokenWalk
 pub mod TokensWalk
 pub mod FrontRead
+pub mod PageRead

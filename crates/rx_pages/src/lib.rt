@@ -6,7 +6,7 @@
 #![tactic(auto)]
 
 ghost use Rattle.rx_grammar.specs.Laws.{OneTree};
-ghost use Rattle.rx_pages.specs.Laws.{FrontsLead, FrontsStand, PagesGoOn, ReadsEachToken};
+ghost use Rattle.rx_pages.specs.Laws.{FrontsLead, FrontsStand, PagesGoOn, ReadsEachPage, ReadsEachToken};
 
 /// A byte list has at most one tree.
 pub fn one_tree()
@@ -32,4 +32,9 @@ pub fn fronts_stand()
 /// the front's open elements to the page's end.
 pub fn pages_go_on()
     ensures { PagesGoOn }
+{}
+
+/// The reader of bytes reads each page to its end, and tells its tree.
+pub fn reads_each_page()
+    ensures { ReadsEachPage }
 {}
