@@ -23,10 +23,10 @@ use Rattle.rx_pages.proofs.EntrySteps.{Stood, entry_step}
 use Rattle.rx_pages.proofs.ByteSteps.{progress_at, settle, last_read, bytes_on}
 use Rattle.rx_pages.proofs.CharSteps.{passes, passes_on, entry_on, entry_at}
 
-no_return : (c : ℕ) → (c == line_feed) ≡ true → (c == carriage_return) ≡ false
+pub no_return : (c : ℕ) → (c == line_feed) ≡ true → (c == carriage_return) ≡ false
 no_return c h = grind (arith, nat_tests)
 
-no_mark : (c : ℕ) → (c == byte_order_mark) ≡ true → (c == carriage_return) ≡ false
+pub no_mark : (c : ℕ) → (c == byte_order_mark) ≡ true → (c == carriage_return) ≡ false
 no_mark c h = grind (arith, nat_tests)
 
 -- a list by its last element
@@ -125,7 +125,7 @@ module _ (syntax : Syntax) (limits : Limits) where
     some_bytes : encode c ≢ []
     some_bytes e = let v = ap length (sym form ∙ e) in let w = length-append front (byte ∷ []) in absurd (omega arith)
 
-    to_last : (is_known st ≡ true → start + length front < first_of st.run start + limits.tag)
+    pub to_last : (is_known st ≡ true → start + length front < first_of st.run start + limits.tag)
         → page_on syntax limits (Ok (progress_at start [] started after_return st)) (encode c ++ rest) ≡ page_on syntax limits (last_read syntax limits st started after_return c start front byte is_scalar form) rest
     to_last k =
         let e : start + 0 ≡ start = omega arith in

@@ -33,3 +33,4 @@ pub mod TokenWalk
 pub mod TokensWalk
 pub mod FrontRead
 pub mod PageRead
+pub mod FaultWalk
