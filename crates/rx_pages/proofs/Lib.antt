@@ -34,3 +34,4 @@ pub mod TokensWalk
 pub mod FrontRead
 pub mod PageRead
 pub mod FaultWalk
+pub mod FaultRead
