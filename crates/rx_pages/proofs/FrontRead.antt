@@ -24,8 +24,8 @@ use Rattle.rx_pages.proofs.KnownTags.{known_more}
 use Rattle.rx_pages.proofs.EntrySteps.{Stood}
 use Rattle.rx_pages.proofs.ByteSteps.{progress_at}
 use Rattle.rx_pages.proofs.CharWalk.{Among, first_among, Fine, first_same, ends_return, no_nuls, is_started, page_walk, len_positive}
-use Rattle.rx_pages.proofs.TokenWalk.{stood, Bound, go_all, fine_append}
-use Rattle.rx_pages.proofs.TokensWalk.{RisesFrom, Rises, flags_behind, Finish, Walked, tokens_walk}
+use Rattle.rx_pages.proofs.TokenWalk.{stood, Bound, go_all, fine_append, kept_fine}
+use Rattle.rx_pages.proofs.TokensWalk.{RisesFrom, Rises, flags_behind, Appends, Keeps, Finish, Walked, tokens_walk}
 
 -- entries end below a bound
 abbrev pub AllBelow : ℕ → List Entry → Type 0
@@ -150,13 +150,17 @@ front_is_read syntax limits whole meant front run items events read nul spelled 
         let s = short m p known in
         let l = below_at hi a e b run h below in
         omega arith) in
-    let finish : Finish syntax limits hi run meant =
+    let G : Stood → Stood → List Entry → Type 0 = λ end st es. Fine syntax limits hi st es (stood end.nest end.told end.two end.last run) in
+    let appends : Appends syntax limits G = λ end st mid xs ys l f. fine_append syntax limits hi st mid (stood end.nest end.told end.two end.last run) xs ys l f in
+    let keeps : Keeps syntax limits G =
+      λ end n told two last unit e es item step v i h k sp f. kept_fine syntax limits n told two last unit hi e es (stood end.nest end.told end.two end.last run) item step v i h k f in
+    let finish : Finish syntax limits G appends keeps run meant =
       λ m p told two last.
         subst (λ x. Fine syntax limits hi (stood m told two last []) x (stood m told two last run)) (append-nil run)
         (fine_append syntax limits hi (stood m told two last []) (stood m told two last run) (stood m told two last run) run []
         (go_all syntax limits m told two last run (bound m p told two last) [] run [] (sym (append-nil run)) (goes m p))
         (refl, λ k. (let s = short m p k in let f = first_same syntax limits (stood m told two last run) hi 0 k in omega arith))) in
-    let w = tokens_walk syntax limits hi run meant spelled refl going fit false false sections (subst Rises (sym read.read) (page_rises chars)) [] finish in
+    let w = tokens_walk syntax limits G appends keeps run meant spelled refl going fit false false sections (subst Rises (sym read.read) (page_rises chars)) [] finish in
     record {
       place = w.place;
       is_meant = w.is_meant;
