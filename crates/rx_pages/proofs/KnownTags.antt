@@ -153,10 +153,11 @@ module _ (s : Syntax) (i : Content) where
                 subst (λ x. (same (lowered x) (solidus ∷ name) && ends_name c) ≡ true) (take_front text (c ∷ [])) (subst (λ x. (same (lowered (take (length text) (text ++ c ∷ []))) (solidus ∷ name) && begins ends_name x) ≡ true) (drop_front text (c ∷ [])) known) in
               not_both_ways (same (lowered text) (solidus ∷ name) && ends_name c) tells (untrue (same (lowered text) (solidus ∷ name) && ends_name c) (and_parts (not (begins_end name (text ++ c ∷ []))) (not (same (lowered text) (solidus ∷ name) && ends_name c)) parts.1).1)
 
-  pub known_verdict : (x : Chars) (c : ℕ) → is_known_tag s i (x ++ c ∷ []) ≡ true → TagVerdict (verdict s i x c)
-  known_verdict [] c h =
+  -- one character is known to be nothing
+  pub one_unknown : (c : ℕ) → is_known_tag s i (c ∷ []) ≡ true → ⊥
+  one_unknown c h =
       let p = and_parts (c == less_than_sign) (is_known_after s i []) h in
-      absurd (by_test {G = ⊥} (has_markup i) (λ m. false_true (sym (cond-true _ _ _ m) ∙ p.1)) (λ m. none_known (raw_name i) (sym (cond-false _ _ _ m) ∙ p.1)))
+      by_test {G = ⊥} (has_markup i) (λ m. false_true (sym (cond-true _ _ _ m) ∙ p.1)) (λ m. none_known (raw_name i) (sym (cond-false _ _ _ m) ∙ p.1))
     where
       false_true : false ≡ true → ⊥
       false_true e = cc
@@ -169,6 +170,8 @@ module _ (s : Syntax) (i : Content) where
       none_known None e = cc
       none_known (Some name) e = no_cut (length name + 1) (drop_cut (length name + 1) [] ends_name (known_drop name [] e))
 
+  pub known_verdict : (x : Chars) (c : ℕ) → is_known_tag s i (x ++ c ∷ []) ≡ true → TagVerdict (verdict s i x c)
+  known_verdict [] c h = absurd (one_unknown c h)
   known_verdict (d ∷ text) c h =
       let p = and_parts (d == less_than_sign) (is_known_after s i (text ++ c ∷ [])) h in
       subst TagVerdict (sym (cond-true _ _ _ p.0))

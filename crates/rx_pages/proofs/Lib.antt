@@ -35,3 +35,4 @@ pub mod FrontRead
 pub mod PageRead
 pub mod FaultWalk
 pub mod FaultRead
+pub mod HitsRead

@@ -135,7 +135,7 @@ module _ (syntax : Syntax) (limits : Limits) where
     Bound = (a : List Entry) (e : Entry) (b : List Entry) → unit ≡ a ++ e ∷ b → is_known_tag syntax inside (values (a ++ e ∷ [])) ≡ true → e.last < first_of unit 0 + limits.tag
 
     -- the limits at one entry
-    known_next : (a : List Entry) (e : Entry) → is_known_tag syntax inside (values a) ≡ true → is_known_tag syntax inside (values (a ++ e ∷ [])) ≡ true
+    pub known_next : (a : List Entry) (e : Entry) → is_known_tag syntax inside (values a) ≡ true → is_known_tag syntax inside (values (a ++ e ∷ [])) ≡ true
     known_next a e h = subst (λ x. is_known_tag syntax inside x ≡ true) (sym (values_append a (e ∷ []))) (known_more syntax inside (values a) (e.value ∷ []) h)
 
     pub limit_before : Bound → (a : List Entry) (e : Entry) (b : List Entry) → unit ≡ a ++ e ∷ b → is_known_tag syntax inside (values a) ≡ true → e.last < first_of a e.first + limits.tag
