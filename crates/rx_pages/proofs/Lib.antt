@@ -36,3 +36,9 @@ pub mod PageRead
 pub mod FaultWalk
 pub mod FaultRead
 pub mod HitsRead
+pub mod FirstFronts
+pub mod TagRuns
+pub mod RawEnds
+pub mod Pends
+pub mod PendsMarks
+pub mod PendsOpenings

@@ -272,16 +272,16 @@ exact s front st run n c {kind = kind} (in_value other d b v) e = decides s fron
 exact s front st run n c (repeated chars parts r t) e = whole_refused s front st run c RepeatedAttribute parts (subst (λ x. Reads s (meaning s) x parts) e r) t
 
 -- two parts that are read one after the other
-record Parts (s : Syntax) (a b : Chars) (last : TagState) : Type 0 where
-  between : TagState
-  first : tag_on s (meaning s) (Ok fresh) a ≡ Ok between
-  second : tag_on s (meaning s) (Ok between) b ≡ Ok last
+pub record Parts (s : Syntax) (a b : Chars) (last : TagState) : Type 0 where
+  pub between : TagState
+  pub first : tag_on s (meaning s) (Ok fresh) a ≡ Ok between
+  pub second : tag_on s (meaning s) (Ok between) b ≡ Ok last
 
 parts_by : (s : Syntax) (a b : Chars) (last : TagState) (o : Result TagState Kind) → tag_on s (meaning s) (Ok fresh) a ≡ o → tag_on s (meaning s) o b ≡ Ok last → Parts s a b last
 parts_by s a b last (Err kind) e h = absurd (let k = on_err s (meaning s) kind b in cc)
 parts_by s a b last (Ok st) e h = record { between = st; first = e; second = h }
 
-parts : (s : Syntax) (a b : Chars) (last : TagState) → tag_on s (meaning s) (Ok fresh) (a ++ b) ≡ Ok last → Parts s a b last
+pub parts : (s : Syntax) (a b : Chars) (last : TagState) → tag_on s (meaning s) (Ok fresh) (a ++ b) ≡ Ok last → Parts s a b last
 parts s a b last h = parts_by s a b last (tag_on s (meaning s) (Ok fresh) a) refl (sym (tag_on-append s (meaning s) (Ok fresh) a b) ∙ h)
 
 no_refusal : (s : Syntax) (st : TagState) (c : ℕ) (text : Chars) (last : TagState) (kind : Kind) → tag_on s (meaning s) (Ok st) (c ∷ text) ≡ Ok last → tag_step s (meaning s) st c ≡ Err kind → ⊥
