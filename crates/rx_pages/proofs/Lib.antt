@@ -42,3 +42,4 @@ pub mod RawEnds
 pub mod Pends
 pub mod PendsMarks
 pub mod PendsOpenings
+pub mod FaultsRead
