@@ -43,3 +43,4 @@ pub mod Pends
 pub mod PendsMarks
 pub mod PendsOpenings
 pub mod FaultsRead
+pub mod OneOf

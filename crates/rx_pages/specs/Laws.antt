@@ -1,5 +1,5 @@
 -- What holds of the tables.
-use Rattle.std.specs.Prelude.{◌≡◌, ℕ, List, [], ◌∷◌, ◌++◌, Option, None, Result, Ok}
+use Rattle.std.specs.Prelude.{◌≡◌, ℕ, List, [], ◌∷◌, ◌++◌, Option, None, Result, Ok, Err}
 use Rattle.rx_terms.specs.Text.{Chars}
 use Rattle.rx_chars.specs.declared.syntax.Syntax.{Syntax}
 use Rattle.rx_grammar.specs.declared.contents.Content.{Content}
@@ -10,7 +10,8 @@ use Rattle.rx_grammar.specs.Items.{Item, Spelled}
 use Rattle.rx_grammar.specs.declared.limits.Limits.{Limits}
 use Rattle.rx_grammar.specs.Trees.{Tree}
 use Rattle.rx_grammar.specs.Pages.{Page}
-use Rattle.rx_grammar.specs.PageFaults.{Reached}
+use Rattle.rx_grammar.specs.declared.faults.Fault.{Fault}
+use Rattle.rx_grammar.specs.PageFaults.{Reached, FaultAt}
 use Rattle.rx_grammar.specs.Begun.{Line, Phase, after, Stands}
 use Rattle.rx_pages.specs.Nesting.{Event, Nesting, not_begun, Goes, IsAt, told_trees}
 use Rattle.rx_pages.specs.Scanner.{ReadAs}
@@ -55,3 +56,7 @@ pub record PageIsRead (syntax : Syntax) (limits : Limits) (bytes : List ℕ) (tr
 
 abbrev pub ReadsEachPage : Type 0
 ReadsEachPage = (syntax : Syntax) (limits : Limits) (bytes : List ℕ) (tree : Tree) → Page syntax limits bytes tree → PageIsRead syntax limits bytes tree
+
+-- each fault of the grammar is found
+abbrev pub FindsEachFault : Type 0
+FindsEachFault = (syntax : Syntax) (limits : Limits) (bytes : List ℕ) (fault : Fault) → FaultAt syntax limits bytes fault → end_of (page_read syntax limits bytes) ≡ Err fault
