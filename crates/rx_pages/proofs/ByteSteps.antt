@@ -1,14 +1,13 @@
 -- Reading a page byte by byte: what the bytes of one character do.
-use Rattle.std.proofs.Common.{◌≡◌, ◌≢◌, ◌∙◌, ℕ, zero, suc, ◌+◌, ◌-◌, ◌<◌, ◌≤◌, Bool, true, false, cond, List, [], ◌∷◌, ◌++◌, refl, sym, ap, subst, length, nat_le, append_assoc, append-nil, Result, Ok, Err, arith}
+use Rattle.std.proofs.Common.{◌≡◌, ◌≢◌, ◌∙◌, ℕ, suc, ◌+◌, ◌-◌, ◌<◌, ◌≤◌, Bool, true, false, List, [], ◌∷◌, ◌++◌, refl, sym, ap, subst, length, nat_le, append_assoc, append-nil, Result, Ok, Err, arith}
 use Rattle.std.proofs.lemmas.Bool.Decides.{nat_tests}
-use Rattle.std.specs.Prelude.{◌&&◌, ◌||◌, ◌==◌, not, if◌then◌else◌}
+use Rattle.std.specs.Prelude.{◌&&◌, ◌==◌, if◌then◌else◌}
 use Rattle.std.specs.Char.{IsScalar}
 use lib.Utf8.{encode}
 use Rattle.std.proofs.lemmas.List.{length-append}
 use Rattle.rx_chars.specs.declared.syntax.Syntax.{Syntax}
-use Rattle.rx_chars.specs.declared.utf8.Utf8Step.TheVariants.{More, Char, Bad}
-use Rattle.rx_chars.specs.Utf8.{answer_of, IsCharacter, BeginsCharacter}
-use Rattle.rx_chars.specs.Characters.{Entry}
+use Rattle.rx_chars.specs.declared.utf8.Utf8Step.TheVariants.{More, Char}
+use Rattle.rx_chars.specs.Utf8.{answer_of, IsCharacter}
 use Rattle.rx_chars.proofs.Utf8Forms.{character_of_form}
 use Rattle.rx_chars.proofs.Utf8Exact.{answer_is}
 use Rattle.rx_grammar.specs.declared.faults.Fault.{Fault}
@@ -17,9 +16,8 @@ use Rattle.rx_grammar.specs.declared.faults.Kind.TheVariants.{PageTooLong, TagTo
 use Rattle.rx_grammar.specs.declared.limits.Limits.{Limits}
 use Rattle.rx_grammar.specs.Items.{values}
 use Rattle.rx_grammar.specs.PageFaults.{is_known_tag}
-use Rattle.rx_reader.proofs.Bools.{by_test}
-use Rattle.rx_pages.specs.Nesting.{Event, Nesting, Step, content_at}
-use Rattle.rx_pages.specs.PageReader.{Spot, Scanning, Scanned, first_of, starts_at, token_at, is_too_long, holding, read_char, read_answer, read_byte, spot_of, steps_on, no_step, Reading, Progress, progress_of, nested_items, page_byte, page_byte_on, page_on, telling}
+use Rattle.rx_pages.specs.Nesting.{Step, content_at}
+use Rattle.rx_pages.specs.PageReader.{Spot, Scanning, Scanned, first_of, token_at, is_too_long, holding, read_char, read_answer, spot_of, steps_on, no_step, Reading, Progress, progress_of, nested_items, page_byte_on, page_on, telling}
 use Rattle.rx_pages.proofs.EntrySteps.{Stood, placed_at, map_scanned, stood_by, nested_by}
 
 pub not_le : (a b : ℕ) → b < a → nat_le a b ≡ false
@@ -109,7 +107,7 @@ module _ (syntax : Syntax) (limits : Limits) (st : Stood) (started after_return 
   abbrev pub last_read : Result Progress Fault
   last_read =
       telling st.told (nested_items syntax limits.depth (reading_at (start + length front) front started after_return st)
-        (read_char syntax limits (spot syntax limits st started after_return) c (scan_at (start + length front) front started after_return st)))
+      (read_char syntax limits (spot syntax limits st started after_return) c (scan_at (start + length front) front started after_return st)))
 
   rest_longer : (held bytes : List ℕ) (b : ℕ) → held ++ b ∷ bytes ≡ front ++ byte ∷ [] → bytes ≢ [] → length held < length front
   rest_longer held bytes b e n = let q = sym (length-append held (b ∷ bytes)) ∙ (ap length e ∙ length_more front byte) in by bytes refl n q
@@ -124,13 +122,13 @@ module _ (syntax : Syntax) (limits : Limits) (st : Stood) (started after_return 
   bytes_on held (b ∷ []) rest e n z p k =
       let q = two_lasts held front b byte e in
       ap (λ x. page_on syntax limits x rest) (
-        ap (λ h. page_byte_on syntax limits (Ok (progress_at (start + length h) h started after_return st)) b) q.0
-        ∙ (ap (λ x. page_byte_on syntax limits (Ok (progress_at (start + length front) front started after_return st)) x) q.1
-        ∙ char_on syntax limits st started after_return (start + length front) front byte c is_it z p (λ w. let same : start + length front - length front ≡ start = omega arith in let m = k w in subst (λ x. start + length front < first_of st.run x + limits.tag) (sym same) m)))
+      ap (λ h. page_byte_on syntax limits (Ok (progress_at (start + length h) h started after_return st)) b) q.0
+      ∙ (ap (λ x. page_byte_on syntax limits (Ok (progress_at (start + length front) front started after_return st)) x) q.1
+      ∙ char_on syntax limits st started after_return (start + length front) front byte c is_it z p (λ w. let same : start + length front - length front ≡ start = omega arith in let m = k w in subst (λ x. start + length front < first_of st.run x + limits.tag) (sym same) m)))
   bytes_on held (b ∷ d ∷ bytes) rest e n z p k =
       let shorter = rest_longer held (d ∷ bytes) b e (λ h. cc) in
       ap (λ x. page_on syntax limits x (d ∷ (bytes ++ rest))) (
-        held_on syntax limits st started after_return (start + length held) held b (begins_it held (d ∷ bytes) b e (λ h. cc)) (omega arith)
-          (λ w. let same : start + length held - length held ≡ start = omega arith in let m = k w in subst (λ x. start + length held < first_of st.run x + limits.tag) (sym same) (omega arith)))
+      held_on syntax limits st started after_return (start + length held) held b (begins_it held (d ∷ bytes) b e (λ h. cc)) (omega arith)
+      (λ w. let same : start + length held - length held ≡ start = omega arith in let m = k w in subst (λ x. start + length held < first_of st.run x + limits.tag) (sym same) (omega arith)))
       ∙ (ap (λ x. page_on syntax limits (Ok (progress_at x (held ++ b ∷ []) started after_return st)) (d ∷ (bytes ++ rest))) (let l = length_more held b in let w : start + length held + 1 ≡ start + length (held ++ b ∷ []) = omega arith in w)
       ∙ bytes_on (held ++ b ∷ []) (d ∷ bytes) rest (append_assoc held (b ∷ []) (d ∷ bytes) ∙ e) (λ h. cc) z p k)

@@ -1,22 +1,20 @@
 -- Reading a page character by character: what its entries lead to.
-use Rattle.std.proofs.Common.{◌≡◌, ◌≢◌, ◌∙◌, ℕ, zero, suc, ◌+◌, ◌-◌, ◌<◌, ◌≤◌, Bool, true, false, cond, List, [], ◌∷◌, ◌++◌, refl, sym, ap, subst, length, nat_le, append_assoc, append-nil, Result, Ok, Err, arith}
+use Rattle.std.proofs.Common.{◌≡◌, ◌∙◌, ℕ, ◌+◌, ◌-◌, Bool, true, false, List, [], ◌∷◌, ◌++◌, ap, length, append-nil, Result, Ok, Err, arith}
 use Rattle.std.specs.Prelude.{◌&&◌, ◌||◌, ◌==◌, not, if◌then◌else◌}
-use Rattle.std.specs.Char.{IsScalar, len_utf8}
+use Rattle.std.specs.Char.{IsScalar}
 use lib.Utf8.{encode}
-use Rattle.std.proofs.lemmas.List.{length-append}
 use Rattle.rx_chars.specs.declared.syntax.Syntax.{Syntax}
-use Rattle.rx_chars.specs.Characters.{Entry, byte_order_mark, line_feed, carriage_return, as_line_end, line_end_entry}
+use Rattle.rx_chars.specs.Characters.{Entry, byte_order_mark, line_feed, carriage_return, as_line_end}
 use Rattle.rx_grammar.specs.declared.faults.Fault.{Fault}
 use Rattle.rx_grammar.specs.declared.faults.Kind.{Kind}
 use Rattle.rx_grammar.specs.declared.faults.Kind.TheVariants.{TagTooLong}
 use Rattle.rx_grammar.specs.declared.limits.Limits.{Limits}
 use Rattle.rx_grammar.specs.Items.{values}
-use Rattle.rx_grammar.specs.PageFaults.{is_known_tag}
-use Rattle.rx_pages.specs.Nesting.{Event, Nesting, Step, content_at}
+use Rattle.rx_pages.specs.Nesting.{content_at}
 use Rattle.rx_pages.specs.Scanner.{verdict}
-use Rattle.rx_pages.specs.PageReader.{Spot, Scanning, Scanned, first_of, starts_at, token_at, is_too_long, passed, told, read_entry, read_char, spot_of, Reading, Progress, nested_items, page_on, telling}
-use Rattle.rx_pages.proofs.EntrySteps.{Stood, placed_at, map_scanned, told_bare, scanning_of, entry_step}
-use Rattle.rx_pages.proofs.ByteSteps.{scan_at, reading_at, progress_at, known, spot, settle, settled, last_read, bytes_on, is_short}
+use Rattle.rx_pages.specs.PageReader.{Scanning, Scanned, first_of, is_too_long, passed, told, read_entry, spot_of, Progress, nested_items, telling}
+use Rattle.rx_pages.proofs.EntrySteps.{Stood, told_bare, scanning_of, entry_step}
+use Rattle.rx_pages.proofs.ByteSteps.{scan_at, reading_at, progress_at, settle, settled, last_read}
 
 -- a byte order mark at the front, or an LF after a CR
 abbrev pub passes : Bool → Bool → ℕ → Bool

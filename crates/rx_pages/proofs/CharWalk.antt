@@ -1,6 +1,6 @@
 -- Reading the characters of a page from left to right.
-use Rattle.std.proofs.Common.{◌≡◌, ◌≢◌, ◌∙◌, ◌⊎◌, ℕ, zero, suc, ◌+◌, ◌-◌, ◌<◌, ◌≤◌, Bool, true, false, cond, List, [], ◌∷◌, ◌++◌, refl, sym, ap, subst, length, nat_le, nat_lt, append_assoc, append-nil, Result, Ok, Err, arith}
-use Rattle.std.specs.Prelude.{◌&&◌, ◌||◌, ◌==◌, not, if◌then◌else◌}
+use Rattle.std.proofs.Common.{◌≡◌, ◌≢◌, ◌∙◌, ℕ, ◌+◌, ◌-◌, ◌<◌, ◌≤◌, Bool, true, false, List, [], ◌∷◌, ◌++◌, refl, sym, ap, subst, length, nat_lt, append_assoc, Ok, arith}
+use Rattle.std.specs.Prelude.{◌&&◌, ◌==◌, not}
 use Rattle.std.specs.Char.{IsScalar, len_utf8}
 use Rattle.std.specs.Str.{all_scalars}
 use lib.Utf8.{encode, encodes, scalar}
@@ -10,9 +10,7 @@ use Rattle.std.proofs.lemmas.Bool.Decides.{nat_tests}
 use Rattle.std.proofs.lemmas.Bool.{and_parts, cond-true, cond-false}
 use Rattle.std.specs.List.{list_all}
 use Rattle.rx_chars.specs.declared.syntax.Syntax.{Syntax}
-use Rattle.rx_chars.specs.Characters.{Entry, byte_order_mark, line_feed, carriage_return, as_line_end, line_end_entry, placed, entered, without_mark}
-use Rattle.rx_grammar.specs.declared.faults.Fault.{Fault}
-use Rattle.rx_grammar.specs.declared.faults.Kind.{Kind}
+use Rattle.rx_chars.specs.Characters.{Entry, byte_order_mark, line_feed, carriage_return, line_end_entry, placed, entered, without_mark}
 use Rattle.rx_grammar.specs.declared.limits.Limits.{Limits}
 use Rattle.rx_grammar.specs.Items.{values}
 use Rattle.rx_grammar.specs.PageFaults.{is_known_tag}
@@ -182,26 +180,26 @@ module _ (syntax : Syntax) (limits : Limits) where
           let page : start + len_utf8 c ≤ limits.page = (let a = hi in omega arith) in
           let pages : start + len_utf8 c + length (encodes cs) ≤ limits.page = (let a = hi in omega arith) in
           let more : page_on syntax limits (Ok (progress_at start [] true after_return st)) (encodes (c ∷ cs) ++ rest) ≡ page_on syntax limits (Ok (progress_at start [] true after_return st)) (encode c ++ (encodes cs ++ rest))
-            = ap (λ b. page_on syntax limits (Ok (progress_at start [] true after_return st)) b) (append_assoc (encode c) (encodes cs) rest) in
+          = ap (λ b. page_on syntax limits (Ok (progress_at start [] true after_return st)) b) (append_assoc (encode c) (encodes cs) rest) in
           by_test {G = page_on syntax limits (Ok (progress_at start [] true after_return st)) (encodes (c ∷ cs) ++ rest) ≡ page_on syntax limits (Ok (progress_at (start + length (encodes (c ∷ cs))) [] true (ends_return after_return (c ∷ cs)) end)) rest} (after_return && c == line_feed)
           (λ t.
-            let f2 : Fine (start + length (encodes (c ∷ cs))) st (entered false (placed (start + len_utf8 c) cs)) end = subst (λ es. Fine (start + length (encodes (c ∷ cs))) st es end) (cond-true _ _ _ t) f in
-            let f3 : Fine (start + len_utf8 c + length (encodes cs)) st (entered false (placed (start + len_utf8 c) cs)) end = subst (λ x. Fine x st (entered false (placed (start + len_utf8 c) cs)) end) hi f2 in
-            let later : (e : Entry) (es : List Entry) → entered false (placed (start + len_utf8 c) cs) ≡ e ∷ es → start + length front < e.last = λ e es h. (let a = first_among false (start + len_utf8 c) cs e es h in let b = a.from in let d = a.order in omega arith) in
-            let k : is_known st ≡ true → start + length front < first_of st.run start + limits.tag = λ w. (let b = before_next (start + length (encodes (c ∷ cs))) (start + length front) st end (entered false (placed (start + len_utf8 c) cs)) f2 later (λ h. let a = hi in omega arith) w in let d = first_same st start (start + length front) w in omega arith) in
-            let is_return : (c == carriage_return) ≡ false = no_return c (and_parts after_return (c == line_feed) t).1 in
-            more ∙ (passed_on c cs (encodes cs ++ rest) start true after_return st end front byte parts.0 form size nonzero page t k
-            ∙ (ih pages false st f3
-            ∙ (ap (λ x. page_on syntax limits (Ok (progress_at x [] true (ends_return false cs) end)) rest) (sym hi)
-            ∙ ap (λ b. page_on syntax limits (Ok (progress_at (start + length (encodes (c ∷ cs))) [] true (ends_return b cs) end)) rest) (sym is_return)))))
+          let f2 : Fine (start + length (encodes (c ∷ cs))) st (entered false (placed (start + len_utf8 c) cs)) end = subst (λ es. Fine (start + length (encodes (c ∷ cs))) st es end) (cond-true _ _ _ t) f in
+          let f3 : Fine (start + len_utf8 c + length (encodes cs)) st (entered false (placed (start + len_utf8 c) cs)) end = subst (λ x. Fine x st (entered false (placed (start + len_utf8 c) cs)) end) hi f2 in
+          let later : (e : Entry) (es : List Entry) → entered false (placed (start + len_utf8 c) cs) ≡ e ∷ es → start + length front < e.last = λ e es h. (let a = first_among false (start + len_utf8 c) cs e es h in let b = a.from in let d = a.order in omega arith) in
+          let k : is_known st ≡ true → start + length front < first_of st.run start + limits.tag = λ w. (let b = before_next (start + length (encodes (c ∷ cs))) (start + length front) st end (entered false (placed (start + len_utf8 c) cs)) f2 later (λ h. let a = hi in omega arith) w in let d = first_same st start (start + length front) w in omega arith) in
+          let is_return : (c == carriage_return) ≡ false = no_return c (and_parts after_return (c == line_feed) t).1 in
+          more ∙ (passed_on c cs (encodes cs ++ rest) start true after_return st end front byte parts.0 form size nonzero page t k
+          ∙ (ih pages false st f3
+          ∙ (ap (λ x. page_on syntax limits (Ok (progress_at x [] true (ends_return false cs) end)) rest) (sym hi)
+          ∙ ap (λ b. page_on syntax limits (Ok (progress_at (start + length (encodes (c ∷ cs))) [] true (ends_return b cs) end)) rest) (sym is_return)))))
           (λ t.
-            let q : start + len_utf8 c - 1 ≡ start + length front = omega arith in
-            let f2 : Fine (start + length (encodes (c ∷ cs))) st (entry_at c start (start + len_utf8 c - 1) ∷ entered (c == carriage_return) (placed (start + len_utf8 c) cs)) end = subst (λ es. Fine (start + length (encodes (c ∷ cs))) st es end) (cond-false _ _ _ t) f in
-            let f3 : Fine (start + length (encodes (c ∷ cs))) st (entry_at c start (start + length front) ∷ entered (c == carriage_return) (placed (start + len_utf8 c) cs)) end = subst (λ x. Fine (start + length (encodes (c ∷ cs))) st (entry_at c start x ∷ entered (c == carriage_return) (placed (start + len_utf8 c) cs)) end) q f2 in
-            let f4 : Fine (start + len_utf8 c + length (encodes cs)) f3.2.0 (entered (c == carriage_return) (placed (start + len_utf8 c) cs)) end = subst (λ x. Fine x f3.2.0 (entered (c == carriage_return) (placed (start + len_utf8 c) cs)) end) hi f3.2.1.1 in
-            more ∙ (entered_on c cs (encodes cs ++ rest) start true after_return st end front byte parts.0 form size nonzero page t f3.2.0 f3.0 f3.1 f3.2.1.0
-            ∙ (ih pages (c == carriage_return) f3.2.0 f4
-            ∙ ap (λ x. page_on syntax limits (Ok (progress_at x [] true (ends_return (c == carriage_return) cs) end)) rest) (sym hi))))
+          let q : start + len_utf8 c - 1 ≡ start + length front = omega arith in
+          let f2 : Fine (start + length (encodes (c ∷ cs))) st (entry_at c start (start + len_utf8 c - 1) ∷ entered (c == carriage_return) (placed (start + len_utf8 c) cs)) end = subst (λ es. Fine (start + length (encodes (c ∷ cs))) st es end) (cond-false _ _ _ t) f in
+          let f3 : Fine (start + length (encodes (c ∷ cs))) st (entry_at c start (start + length front) ∷ entered (c == carriage_return) (placed (start + len_utf8 c) cs)) end = subst (λ x. Fine (start + length (encodes (c ∷ cs))) st (entry_at c start x ∷ entered (c == carriage_return) (placed (start + len_utf8 c) cs)) end) q f2 in
+          let f4 : Fine (start + len_utf8 c + length (encodes cs)) f3.2.0 (entered (c == carriage_return) (placed (start + len_utf8 c) cs)) end = subst (λ x. Fine x f3.2.0 (entered (c == carriage_return) (placed (start + len_utf8 c) cs)) end) hi f3.2.1.1 in
+          more ∙ (entered_on c cs (encodes cs ++ rest) start true after_return st end front byte parts.0 form size nonzero page t f3.2.0 f3.0 f3.1 f3.2.1.0
+          ∙ (ih pages (c == carriage_return) f3.2.0 f4
+          ∙ ap (λ x. page_on syntax limits (Ok (progress_at x [] true (ends_return (c == carriage_return) cs) end)) rest) (sym hi))))
 
   -- a page from its first character on
   abbrev pub at_first : Stood → Progress
@@ -232,23 +230,23 @@ module _ (syntax : Syntax) (limits : Limits) where
           let page : 0 + len_utf8 c ≤ limits.page = (let a = hi in omega arith) in
           let pages : 0 + len_utf8 c + length (encodes cs) ≤ limits.page = (let a = hi in omega arith) in
           let more : page_on syntax limits (Ok (at_first st)) (encodes (c ∷ cs) ++ rest) ≡ page_on syntax limits (Ok (at_first st)) (encode c ++ (encodes cs ++ rest))
-            = ap (λ b. page_on syntax limits (Ok (at_first st)) b) (append_assoc (encode c) (encodes cs) rest) in
+          = ap (λ b. page_on syntax limits (Ok (at_first st)) b) (append_assoc (encode c) (encodes cs) rest) in
           by_test {G = page_on syntax limits (Ok (at_first st)) (encodes (c ∷ cs) ++ rest) ≡ page_on syntax limits (Ok (progress_at (length (encodes (c ∷ cs))) [] true (ends_return false (c ∷ cs)) end)) rest} (c == byte_order_mark)
           (λ t.
-            let f2 : Fine (length (encodes (c ∷ cs))) st (entered false (placed (0 + len_utf8 c) cs)) end = subst (λ es. Fine (length (encodes (c ∷ cs))) st (entered false es) end) (cond-true _ _ _ t) f in
-            let f3 : Fine (0 + len_utf8 c + length (encodes cs)) st (entered false (placed (0 + len_utf8 c) cs)) end = subst (λ x. Fine x st (entered false (placed (0 + len_utf8 c) cs)) end) hi f2 in
-            let later : (e : Entry) (es : List Entry) → entered false (placed (0 + len_utf8 c) cs) ≡ e ∷ es → 0 + length front < e.last = λ e es h. (let a = first_among false (0 + len_utf8 c) cs e es h in let b = a.from in let d = a.order in omega arith) in
-            let k : is_known st ≡ true → 0 + length front < first_of st.run 0 + limits.tag = λ w. (let b = before_next (length (encodes (c ∷ cs))) (0 + length front) st end (entered false (placed (0 + len_utf8 c) cs)) f2 later (λ h. let a = hi in omega arith) w in let d = first_same st 0 (0 + length front) w in omega arith) in
-            let is_return : (c == carriage_return) ≡ false = no_mark c t in
-            more ∙ (passed_on c cs (encodes cs ++ rest) 0 false false st end front byte parts.0 form size nonzero page (rw t refl) k
-            ∙ (walk cs rest (0 + len_utf8 c) false st end parts.1 zs.1 pages f3
-            ∙ (ap (λ x. page_on syntax limits (Ok (progress_at x [] true (ends_return false cs) end)) rest) (sym hi)
-            ∙ ap (λ b. page_on syntax limits (Ok (progress_at (length (encodes (c ∷ cs))) [] true (ends_return b cs) end)) rest) (sym is_return)))))
+          let f2 : Fine (length (encodes (c ∷ cs))) st (entered false (placed (0 + len_utf8 c) cs)) end = subst (λ es. Fine (length (encodes (c ∷ cs))) st (entered false es) end) (cond-true _ _ _ t) f in
+          let f3 : Fine (0 + len_utf8 c + length (encodes cs)) st (entered false (placed (0 + len_utf8 c) cs)) end = subst (λ x. Fine x st (entered false (placed (0 + len_utf8 c) cs)) end) hi f2 in
+          let later : (e : Entry) (es : List Entry) → entered false (placed (0 + len_utf8 c) cs) ≡ e ∷ es → 0 + length front < e.last = λ e es h. (let a = first_among false (0 + len_utf8 c) cs e es h in let b = a.from in let d = a.order in omega arith) in
+          let k : is_known st ≡ true → 0 + length front < first_of st.run 0 + limits.tag = λ w. (let b = before_next (length (encodes (c ∷ cs))) (0 + length front) st end (entered false (placed (0 + len_utf8 c) cs)) f2 later (λ h. let a = hi in omega arith) w in let d = first_same st 0 (0 + length front) w in omega arith) in
+          let is_return : (c == carriage_return) ≡ false = no_mark c t in
+          more ∙ (passed_on c cs (encodes cs ++ rest) 0 false false st end front byte parts.0 form size nonzero page (rw t refl) k
+          ∙ (walk cs rest (0 + len_utf8 c) false st end parts.1 zs.1 pages f3
+          ∙ (ap (λ x. page_on syntax limits (Ok (progress_at x [] true (ends_return false cs) end)) rest) (sym hi)
+          ∙ ap (λ b. page_on syntax limits (Ok (progress_at (length (encodes (c ∷ cs))) [] true (ends_return b cs) end)) rest) (sym is_return)))))
           (λ t.
-            let q : 0 + len_utf8 c - 1 ≡ 0 + length front = omega arith in
-            let f2 : Fine (length (encodes (c ∷ cs))) st (entry_at c 0 (0 + len_utf8 c - 1) ∷ entered (c == carriage_return) (placed (0 + len_utf8 c) cs)) end = subst (λ es. Fine (length (encodes (c ∷ cs))) st (entered false es) end) (cond-false _ _ _ t) f in
-            let f3 : Fine (length (encodes (c ∷ cs))) st (entry_at c 0 (0 + length front) ∷ entered (c == carriage_return) (placed (0 + len_utf8 c) cs)) end = subst (λ x. Fine (length (encodes (c ∷ cs))) st (entry_at c 0 x ∷ entered (c == carriage_return) (placed (0 + len_utf8 c) cs)) end) q f2 in
-            let f4 : Fine (0 + len_utf8 c + length (encodes cs)) f3.2.0 (entered (c == carriage_return) (placed (0 + len_utf8 c) cs)) end = subst (λ x. Fine x f3.2.0 (entered (c == carriage_return) (placed (0 + len_utf8 c) cs)) end) hi f3.2.1.1 in
-            more ∙ (entered_on c cs (encodes cs ++ rest) 0 false false st end front byte parts.0 form size nonzero page (rw t refl) f3.2.0 f3.0 f3.1 f3.2.1.0
-            ∙ (walk cs rest (0 + len_utf8 c) (c == carriage_return) f3.2.0 end parts.1 zs.1 pages f4
-            ∙ ap (λ x. page_on syntax limits (Ok (progress_at x [] true (ends_return (c == carriage_return) cs) end)) rest) (sym hi))))
+          let q : 0 + len_utf8 c - 1 ≡ 0 + length front = omega arith in
+          let f2 : Fine (length (encodes (c ∷ cs))) st (entry_at c 0 (0 + len_utf8 c - 1) ∷ entered (c == carriage_return) (placed (0 + len_utf8 c) cs)) end = subst (λ es. Fine (length (encodes (c ∷ cs))) st (entered false es) end) (cond-false _ _ _ t) f in
+          let f3 : Fine (length (encodes (c ∷ cs))) st (entry_at c 0 (0 + length front) ∷ entered (c == carriage_return) (placed (0 + len_utf8 c) cs)) end = subst (λ x. Fine (length (encodes (c ∷ cs))) st (entry_at c 0 x ∷ entered (c == carriage_return) (placed (0 + len_utf8 c) cs)) end) q f2 in
+          let f4 : Fine (0 + len_utf8 c + length (encodes cs)) f3.2.0 (entered (c == carriage_return) (placed (0 + len_utf8 c) cs)) end = subst (λ x. Fine x f3.2.0 (entered (c == carriage_return) (placed (0 + len_utf8 c) cs)) end) hi f3.2.1.1 in
+          more ∙ (entered_on c cs (encodes cs ++ rest) 0 false false st end front byte parts.0 form size nonzero page (rw t refl) f3.2.0 f3.0 f3.1 f3.2.1.0
+          ∙ (walk cs rest (0 + len_utf8 c) (c == carriage_return) f3.2.0 end parts.1 zs.1 pages f4
+          ∙ ap (λ x. page_on syntax limits (Ok (progress_at x [] true (ends_return (c == carriage_return) cs) end)) rest) (sym hi))))

@@ -1,5 +1,5 @@
 -- Reading a page entry by entry: what a whole character does, wherever it stands.
-use Rattle.std.proofs.Common.{◌≡◌, ◌∙◌, ℕ, ◌+◌, Bool, true, false, cond, List, [], ◌∷◌, ◌++◌, refl, sym, ap, Result, Ok, Err}
+use Rattle.std.proofs.Common.{◌≡◌, ◌∙◌, ℕ, ◌+◌, Bool, true, false, List, [], ◌∷◌, ◌++◌, refl, sym, ap, Result, Ok, Err}
 use Rattle.std.specs.Prelude.{◌&&◌, not}
 use Rattle.rx_chars.specs.declared.syntax.Syntax.{Syntax}
 use Rattle.rx_chars.specs.Characters.{Entry}
@@ -10,7 +10,7 @@ use Rattle.rx_terms.specs.Ascii.{greater_than_sign}
 use Rattle.rx_reader.proofs.Bools.{by_test}
 use Rattle.rx_pages.specs.Nesting.{Event, Nesting, Step, content_at}
 use Rattle.rx_pages.specs.Scanner.{Verdict, goes_on, whole, ended, refused, verdict}
-use Rattle.rx_pages.specs.PageReader.{Spot, Scanning, Scanned, entering, completed, told_first, with_item, after_token, told, is_doctype, item_of, spot_of, steps_on, no_step}
+use Rattle.rx_pages.specs.PageReader.{Spot, Scanning, Scanned, completed, told_first, with_item, after_token, told, is_doctype, item_of, spot_of, steps_on, no_step}
 
 -- the characters since the last token, the two flags, the open elements, and what was told
 pub record Stood : Type 0 where

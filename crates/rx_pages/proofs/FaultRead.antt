@@ -1,33 +1,30 @@
 -- The reader of bytes finds each fault.
-use Rattle.std.proofs.Common.{◌≡◌, ◌≢◌, ◌∙◌, ◌⊎◌, ⊎_elim, inl, inr, ℕ, zero, suc, ◌+◌, ◌-◌, ◌<◌, ◌≤◌, Bool, true, false, cond, List, [], ◌∷◌, ◌++◌, refl, sym, ap, subst, length, nat_le, append_assoc, append-nil, Option, Some, None, Result, Ok, Err, eqb-true, arith}
-use Rattle.std.specs.Prelude.{◌&&◌, ◌||◌, ◌==◌, not, if◌then◌else◌}
-use lib.Utf8.{encode, encodes}
+use Rattle.std.proofs.Common.{◌≡◌, ◌≢◌, ◌∙◌, ⊎_elim, ℕ, ◌+◌, ◌-◌, ◌<◌, ◌≤◌, true, false, List, [], ◌∷◌, ◌++◌, refl, sym, ap, subst, length, nat_le, append_assoc, append-nil, Ok, Err, eqb-true, arith}
+use Rattle.std.specs.Prelude.{◌&&◌, ◌==◌, if◌then◌else◌}
 use Rattle.std.proofs.lemmas.List.{length-append}
 use Rattle.rx_terms.specs.Text.{Chars}
 use Rattle.rx_chars.specs.declared.syntax.Syntax.{Syntax}
 use Rattle.rx_chars.specs.declared.utf8.Utf8Step.TheVariants.{More, Char, Bad}
 use Rattle.rx_chars.specs.Utf8.{answer_of, IsCharacter, BeginsCharacter, BeginNone}
-use Rattle.rx_chars.specs.Characters.{Entry, IsRead}
+use Rattle.rx_chars.specs.Characters.{Entry}
 use Rattle.rx_chars.proofs.Utf8Exact.{answer_is}
 use Rattle.rx_grammar.specs.declared.contents.Content.{Content}
-use Rattle.rx_grammar.specs.declared.faults.Fault.{Fault}
 use Rattle.rx_grammar.specs.declared.faults.Kind.{Kind}
 use Rattle.rx_grammar.specs.declared.faults.Kind.TheVariants as kind
 use Rattle.rx_grammar.specs.declared.limits.Limits.{Limits}
-use Rattle.rx_grammar.specs.Items.{values, next_of, Item, Spelled, AllFit, no_section_end}
-use Rattle.rx_grammar.specs.Pages.{has_no_nul}
+use Rattle.rx_grammar.specs.Items.{values, Item}
 use Rattle.rx_grammar.specs.Begun.{Line, inside_of, Phase, before, within, after}
 use Rattle.rx_grammar.specs.PageFaults.{is_known_tag, token_of, IsShort, IsPending, Unfinished, Reached, IsPart, Before}
 use Rattle.rx_grammar.specs.PageFaults as faults
 use Rattle.rx_reader.proofs.Bools.{by_test}
-use Rattle.rx_pages.specs.Nesting.{Event, Nesting, not_begun, content_at, Goes, IsAt}
+use Rattle.rx_pages.specs.Nesting.{IsAt}
 use Rattle.rx_pages.specs.Scanner.{GoesOn}
 use Rattle.rx_pages.specs.Laws.{Leads as FrontLeads}
-use Rattle.rx_pages.specs.PageReader.{Scanning, first_of, spot_of, is_too_long, token_at, Progress, page_on, page_byte_on, page_read, nothing_read, end_of, telling, nested_items, read_byte, read_answer, read_char, holding, fault_in, may_end, is_over, is_none_left}
+use Rattle.rx_pages.specs.PageReader.{Scanning, first_of, spot_of, is_too_long, token_at, Progress, page_on, page_read, nothing_read, end_of, telling, nested_items, read_byte, read_answer, read_char, holding, fault_in, is_over, is_none_left}
 use Rattle.rx_pages.proofs.Front.{fronts_lead}
 use Rattle.rx_pages.proofs.EntrySteps.{Stood}
-use Rattle.rx_pages.proofs.ByteSteps.{not_le, is_le, not_long, progress_at, reading_at, scan_at, held_on, known}
-use Rattle.rx_pages.proofs.CharWalk.{first_same, is_known}
+use Rattle.rx_pages.proofs.ByteSteps.{not_le, is_le, progress_at, reading_at, scan_at, held_on}
+use Rattle.rx_pages.proofs.CharWalk.{is_known}
 use Rattle.rx_pages.proofs.TokenWalk.{stood}
 use Rattle.rx_pages.proofs.TokensWalk.{flags_behind}
 use Rattle.rx_pages.proofs.FrontRead.{FrontIsRead, front_is_read}
@@ -79,8 +76,8 @@ module _ (pending_goes : PendingGoes) (syntax : Syntax) (limits : Limits) where
         let grown = length-append held (b ∷ []) in
         let at : length whole + length held + 1 ≡ length whole + length (held ++ b ∷ []) = omega arith in
         ap (λ x. page_on syntax limits x (bytes ++ rest)) (
-          held_on syntax limits state stands_there.started stands_there.after_return (length whole + length held) held b (begun_part held bytes b part e w) (omega arith)
-            (λ v. (let m = k v in let same : length whole + length held - length held ≡ length whole = omega arith in subst (λ x. length whole + length held < first_of run x + limits.tag) (sym same) (omega arith))))
+        held_on syntax limits state stands_there.started stands_there.after_return (length whole + length held) held b (begun_part held bytes b part e w) (omega arith)
+        (λ v. (let m = k v in let same : length whole + length held - length held ≡ length whole = omega arith in subst (λ x. length whole + length held < first_of run x + limits.tag) (sym same) (omega arith))))
         ∙ (ap (λ x. page_on syntax limits (Ok (progress_at x (held ++ b ∷ []) stands_there.started stands_there.after_return state)) (bytes ++ rest)) at
         ∙ part_on (held ++ b ∷ []) bytes rest part (append_assoc held (b ∷ []) bytes ∙ e) w p k)
 

@@ -1,6 +1,6 @@
 -- Reading the characters of a page up to the one that decides a fault.
-use Rattle.std.proofs.Common.{◌≡◌, ◌≢◌, ◌∙◌, ◌⊎◌, ⊎_elim, inl, inr, ℕ, zero, suc, ◌+◌, ◌-◌, ◌<◌, ◌≤◌, Bool, true, false, cond, List, [], ◌∷◌, ◌++◌, refl, sym, ap, subst, length, nat_le, append_assoc, append-nil, Result, Ok, Err, arith}
-use Rattle.std.specs.Prelude.{◌&&◌, ◌||◌, ◌==◌, not, if◌then◌else◌}
+use Rattle.std.proofs.Common.{◌≡◌, ◌∙◌, ◌⊎◌, ⊎_elim, ℕ, ◌+◌, ◌-◌, ◌<◌, ◌≤◌, Bool, true, false, List, [], ◌∷◌, ◌++◌, refl, sym, ap, subst, length, append_assoc, Ok, Err, arith}
+use Rattle.std.specs.Prelude.{◌&&◌, ◌==◌, not}
 use Rattle.std.specs.Char.{IsScalar, len_utf8}
 use Rattle.std.specs.Str.{all_scalars}
 use lib.Utf8.{encode, encodes, scalar}
@@ -8,17 +8,17 @@ use Rattle.std.proofs.lemmas.List.{length-append}
 use Rattle.std.proofs.lemmas.Str.{length-encode}
 use Rattle.std.proofs.lemmas.Bool.{and_parts, cond-true, cond-false}
 use Rattle.rx_chars.specs.declared.syntax.Syntax.{Syntax}
-use Rattle.rx_chars.specs.Characters.{Entry, byte_order_mark, line_feed, carriage_return, as_line_end, line_end_entry, placed, entered, without_mark}
+use Rattle.rx_chars.specs.Characters.{Entry, byte_order_mark, line_feed, carriage_return, placed, entered, without_mark}
 use Rattle.rx_grammar.specs.declared.faults.Fault.{Fault}
 use Rattle.rx_grammar.specs.declared.faults.Kind.{Kind}
 use Rattle.rx_grammar.specs.declared.faults.Kind.TheVariants.{TagTooLong}
 use Rattle.rx_grammar.specs.declared.limits.Limits.{Limits}
 use Rattle.rx_reader.proofs.Bools.{by_test, untrue}
-use Rattle.rx_pages.specs.PageReader.{first_of, is_too_long, spot_of, Progress, page_on}
+use Rattle.rx_pages.specs.PageReader.{first_of, is_too_long, spot_of, page_on}
 use Rattle.rx_pages.proofs.EntrySteps.{Stood, entry_step}
-use Rattle.rx_pages.proofs.ByteSteps.{progress_at, settle, last_read, bytes_on}
-use Rattle.rx_pages.proofs.CharSteps.{passes, passes_on, entry_on, entry_at, too_long_at}
-use Rattle.rx_pages.proofs.CharWalk.{Snoc, none, some, snoc_of, first_among, is_known, first_same, no_nuls, passed_on, entered_on, to_last, len_positive, no_return, no_mark, at_first}
+use Rattle.rx_pages.proofs.ByteSteps.{progress_at, settle}
+use Rattle.rx_pages.proofs.CharSteps.{passes, entry_on, entry_at, too_long_at}
+use Rattle.rx_pages.proofs.CharWalk.{Snoc, none, some, snoc_of, first_among, is_known, first_same, no_nuls, passed_on, entered_on, to_last, len_positive}
 use Rattle.rx_pages.proofs.FrontRead.{AllBelow}
 
 pub fault_stays : (syntax : Syntax) (limits : Limits) (fault : Fault) (bytes : List ℕ) → page_on syntax limits (Err fault) bytes ≡ Err fault
@@ -74,9 +74,9 @@ module _ (syntax : Syntax) (limits : Limits) where
         ∙ ⊎_elim
         (λ w. ap (λ x. page_on syntax limits x rest) (too_long_at syntax limits st started after_return c start front byte is_scalar form t w.0) ∙ (fault_stays syntax limits (fault_of st (entry_at c start (start + length front)) TagTooLong) rest ∙ ap (λ x. Err x) (sym w.1)))
         (λ w.
-          ap (λ x. page_on syntax limits x rest) (entry_on syntax limits st started after_return c start front byte is_scalar form t w.0)
-          ∙ (ap (λ x. page_on syntax limits (settle (start + length front + 1) (c == carriage_return) (first_of st.run start) (start + length front) x) rest) w.1.0
-          ∙ (fault_stays syntax limits (fault_of st (entry_at c start (start + length front)) f.kind) rest ∙ ap (λ x. Err x) (sym w.1.1))))
+        ap (λ x. page_on syntax limits x rest) (entry_on syntax limits st started after_return c start front byte is_scalar form t w.0)
+        ∙ (ap (λ x. page_on syntax limits (settle (start + length front + 1) (c == carriage_return) (first_of st.run start) (start + length front) x) rest) w.1.0
+        ∙ (fault_stays syntax limits (fault_of st (entry_at c start (start + length front)) f.kind) rest ∙ ap (λ x. Err x) (sym w.1.1))))
         d
 
   pub walk_hits : (cs rest : List ℕ) (start : ℕ) (after_return : Bool) (st : Stood) (pre : List Entry) (e : Entry) (post : List Entry) (f : Fault) → all_scalars cs ≡ true → no_nuls cs ≡ true
@@ -99,16 +99,16 @@ module _ (syntax : Syntax) (limits : Limits) where
           let zs = and_parts (not (c == 0)) (no_nuls cs) z in
           let nonzero : (c == 0) ≡ false = untrue (c == 0) zs.0 in
           let more : page_on syntax limits (Ok (progress_at start [] true after_return st)) (encodes (c ∷ cs) ++ rest) ≡ page_on syntax limits (Ok (progress_at start [] true after_return st)) (encode c ++ (encodes cs ++ rest))
-            = ap (λ b. page_on syntax limits (Ok (progress_at start [] true after_return st)) b) (append_assoc (encode c) (encodes cs) rest) in
+          = ap (λ b. page_on syntax limits (Ok (progress_at start [] true after_return st)) b) (append_assoc (encode c) (encodes cs) rest) in
           by_test {G = page_on syntax limits (Ok (progress_at start [] true after_return st)) (encodes (c ∷ cs) ++ rest) ≡ Err f} (after_return && c == line_feed)
           (λ t.
-            let is2 : entered false (placed (start + len_utf8 c) cs) ≡ pre ++ e ∷ post = sym (cond-true _ _ _ t) ∙ is in
-            let among = first_among false (start + len_utf8 c) cs (head_of pre e) (tail_of pre e post) (is2 ∙ head_is pre e post) in
-            let after : start + length front < (head_of pre e).last = (let b2 = among.from in let d = among.order in omega arith) in
-            let page : start + len_utf8 c ≤ limits.page = (let b2 = among.from in let d = among.order in let p = next_page pre e b in omega arith) in
-            more ∙ (passed_on syntax limits c cs (encodes cs ++ rest) start true after_return st st front byte parts.0 form size nonzero page t
-              (λ k. (let m = next_limit (start + length front) st pre e f h after k in let d = first_same syntax limits st start (start + length front) k in omega arith))
-            ∙ ih false st pre is2 b h))
+          let is2 : entered false (placed (start + len_utf8 c) cs) ≡ pre ++ e ∷ post = sym (cond-true _ _ _ t) ∙ is in
+          let among = first_among false (start + len_utf8 c) cs (head_of pre e) (tail_of pre e post) (is2 ∙ head_is pre e post) in
+          let after : start + length front < (head_of pre e).last = (let b2 = among.from in let d = among.order in omega arith) in
+          let page : start + len_utf8 c ≤ limits.page = (let b2 = among.from in let d = among.order in let p = next_page pre e b in omega arith) in
+          more ∙ (passed_on syntax limits c cs (encodes cs ++ rest) start true after_return st st front byte parts.0 form size nonzero page t
+          (λ k. (let m = next_limit (start + length front) st pre e f h after k in let d = first_same syntax limits st start (start + length front) k in omega arith))
+          ∙ ih false st pre is2 b h))
           (λ t. more ∙ at pre h b (sym (cond-false _ _ _ t) ∙ is) front byte form size parts.0 nonzero t ih)
         where
           at : (pre : List Entry) → Hits st pre e f → AllBelow limits.page (pre ++ e ∷ []) → entry_at c start (start + len_utf8 c - 1) ∷ entered (c == carriage_return) (placed (start + len_utf8 c) cs) ≡ pre ++ e ∷ post
@@ -151,16 +151,16 @@ module _ (syntax : Syntax) (limits : Limits) where
           let zs = and_parts (not (c == 0)) (no_nuls cs) z in
           let nonzero : (c == 0) ≡ false = untrue (c == 0) zs.0 in
           let more : page_on syntax limits (Ok (progress_at 0 [] false false st)) (encodes (c ∷ cs) ++ rest) ≡ page_on syntax limits (Ok (progress_at 0 [] false false st)) (encode c ++ (encodes cs ++ rest))
-            = ap (λ b. page_on syntax limits (Ok (progress_at 0 [] false false st)) b) (append_assoc (encode c) (encodes cs) rest) in
+          = ap (λ b. page_on syntax limits (Ok (progress_at 0 [] false false st)) b) (append_assoc (encode c) (encodes cs) rest) in
           by_test {G = page_on syntax limits (Ok (progress_at 0 [] false false st)) (encodes (c ∷ cs) ++ rest) ≡ Err f} (c == byte_order_mark)
           (λ t.
-            let is2 : entered false (placed (0 + len_utf8 c) cs) ≡ pre ++ e ∷ post = sym (ap (λ es. entered false es) (cond-true _ _ _ t)) ∙ is in
-            let among = first_among false (0 + len_utf8 c) cs (head_of pre e) (tail_of pre e post) (is2 ∙ head_is pre e post) in
-            let after : 0 + length front < (head_of pre e).last = (let b2 = among.from in let d = among.order in omega arith) in
-            let page : 0 + len_utf8 c ≤ limits.page = (let b2 = among.from in let d = among.order in let p = next_page pre e b in omega arith) in
-            more ∙ (passed_on syntax limits c cs (encodes cs ++ rest) 0 false false st st front byte parts.0 form size nonzero page (rw t refl)
-              (λ k. (let m = next_limit (0 + length front) st pre e f h after k in let d = first_same syntax limits st 0 (0 + length front) k in omega arith))
-            ∙ walk_hits cs rest (0 + len_utf8 c) false st pre e post f parts.1 zs.1 is2 b h))
+          let is2 : entered false (placed (0 + len_utf8 c) cs) ≡ pre ++ e ∷ post = sym (ap (λ es. entered false es) (cond-true _ _ _ t)) ∙ is in
+          let among = first_among false (0 + len_utf8 c) cs (head_of pre e) (tail_of pre e post) (is2 ∙ head_is pre e post) in
+          let after : 0 + length front < (head_of pre e).last = (let b2 = among.from in let d = among.order in omega arith) in
+          let page : 0 + len_utf8 c ≤ limits.page = (let b2 = among.from in let d = among.order in let p = next_page pre e b in omega arith) in
+          more ∙ (passed_on syntax limits c cs (encodes cs ++ rest) 0 false false st st front byte parts.0 form size nonzero page (rw t refl)
+          (λ k. (let m = next_limit (0 + length front) st pre e f h after k in let d = first_same syntax limits st 0 (0 + length front) k in omega arith))
+          ∙ walk_hits cs rest (0 + len_utf8 c) false st pre e post f parts.1 zs.1 is2 b h))
           (λ t. more ∙ at pre h b (sym (ap (λ es. entered false es) (cond-false _ _ _ t)) ∙ is) front byte form size parts.0 nonzero (rw t refl) parts.1 zs.1)
         where
           at : (pre : List Entry) → Hits st pre e f → AllBelow limits.page (pre ++ e ∷ []) → entry_at c 0 (0 + len_utf8 c - 1) ∷ entered (c == carriage_return) (placed (0 + len_utf8 c) cs) ≡ pre ++ e ∷ post

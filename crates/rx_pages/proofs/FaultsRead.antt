@@ -1,11 +1,11 @@
 -- The reader of bytes finds each fault of the grammar.
-use Rattle.std.proofs.Common.{◌≡◌, ◌≢◌, ◌∙◌, ◌⊎◌, ⊎_elim, inl, inr, ℕ, zero, suc, ◌+◌, ◌<◌, ◌≤◌, Bool, true, false, cond, List, [], ◌∷◌, ◌++◌, refl, sym, ap, subst, length, nat_le, append_assoc, append-nil, Option, Some, None, Result, Ok, Err, arith}
-use Rattle.std.specs.Prelude.{◌&&◌, ◌||◌, ◌==◌, not, codes, if◌then◌else◌}
+use Rattle.std.proofs.Common.{◌≡◌, ◌≢◌, ◌∙◌, ⊎_elim, inl, inr, ℕ, ◌+◌, ◌<◌, ◌≤◌, Bool, true, false, List, [], ◌∷◌, ◌++◌, refl, sym, ap, subst, length, nat_le, Option, Some, None, Result, Ok, Err, arith}
+use Rattle.std.specs.Prelude.{◌&&◌, not, codes, if◌then◌else◌}
 use Rattle.std.proofs.lemmas.List.{length-append}
 use Rattle.rx_terms.specs.Ascii.{greater_than_sign, right_bracket}
 use Rattle.rx_terms.specs.Text.{Chars}
 use Rattle.rx_chars.specs.declared.syntax.Syntax.{Syntax}
-use Rattle.rx_chars.specs.declared.syntax.Syntax.TheVariants.{Html, Xhtml}
+use Rattle.rx_chars.specs.declared.syntax.Syntax.TheVariants.{Xhtml}
 use Rattle.rx_chars.specs.Characters.{Entry}
 use Rattle.rx_grammar.specs.declared.contents.Content.{Content}
 use Rattle.rx_grammar.specs.declared.contents.Content.TheVariants as content
@@ -21,9 +21,9 @@ use Rattle.rx_grammar.specs.Begun.{Line, inside_of, Phase, before, within, after
 use Rattle.rx_grammar.specs.PageFaults.{is_known_tag, token_of, IsPending, IsShort, Unfinished, token_begun, tag_begun, run_begun, opening_begun, Reached, first_row, tag_rows, Faulty, FaultAt, Before, ends_in_brackets}
 use Rattle.rx_grammar.specs.PageFaults as faults
 use Rattle.rx_reader.proofs.TagFaultLaws.{reads_each_front}
-use Rattle.rx_pages.specs.Nesting.{Event, Nesting, content_at, IsAt, nest_step, step_by, unless_refused, tag_passes}
+use Rattle.rx_pages.specs.Nesting.{Event, Nesting, content_at, IsAt, step_by, unless_refused, tag_passes}
 use Rattle.rx_pages.specs.Scanner.{GoesOn, Verdict, whole, refused, verdict, ReadAs, at_last, at_next}
-use Rattle.rx_pages.specs.PageReader.{Scanning, Scanned, first_of, spot_of, may_lead, is_too_long, item_of, is_doctype, entering, completed, told as told_by, with_events, read_byte, page_read, end_of}
+use Rattle.rx_pages.specs.PageReader.{Scanned, first_of, spot_of, may_lead, item_of, is_doctype, entering, told as told_by, with_events, read_byte, page_read, end_of}
 use Rattle.rx_pages.proofs.Texts.{run_goes}
 use Rattle.rx_pages.proofs.Openings.{opening_goes, refuses_opening}
 use Rattle.rx_pages.proofs.Pending.{begun_goes}
@@ -33,10 +33,8 @@ use Rattle.rx_pages.proofs.TagRuns.{tag_goes_on, tag_refused}
 use Rattle.rx_pages.proofs.Spellings.{reads_each}
 use Rattle.rx_pages.proofs.EntrySteps.{Stood, scanning_of, stood_by, nested_by, entry_step}
 use Rattle.rx_pages.proofs.ByteSteps.{not_long, is_le}
-use Rattle.rx_pages.proofs.CharWalk.{is_known}
 use Rattle.rx_pages.proofs.TokenWalk.{stood}
 use Rattle.rx_pages.proofs.TokensWalk.{flags_behind}
-use Rattle.rx_pages.proofs.FaultWalk.{Decides, fault_of}
 use Rattle.rx_pages.proofs.HitsRead.{decided_is_read}
 use Rattle.rx_pages.proofs.KnownTags.{known_more}
 use Rattle.rx_pages.proofs.Tokens.{values_append}
@@ -137,7 +135,7 @@ module _ (syntax : Syntax) (limits : Limits) (m : Nesting) (events : List Event)
       ap reads h
       ∙ (ap (λ b. nested_by syntax limits.depth st (if b && is_literal greater_than_sign (item (character 62)) then Err kind.StrictText else if is_doctype (item (character 62)).token && not (may_lead m.phase) then Err kind.BadDoctype else Ok (done (character 62)))) t
       ∙ ap (λ b. nested_by syntax limits.depth st (if b then Err kind.StrictText else if is_doctype (item (character 62)).token && not (may_lead m.phase) then Err kind.BadDoctype else Ok (done (character 62))))
-        (ap (λ token. is_strict_literal 62 (item (character 62)).content token) (item_token inside (character 62) (run ++ c ∷ [])) ∙ ap (λ x. is_strict_literal 62 x (character 62)) (item_content inside (character 62) run c ∙ i)))
+      (ap (λ token. is_strict_literal 62 (item (character 62)).content token) (item_token inside (character 62) (run ++ c ∷ [])) ∙ ap (λ x. is_strict_literal 62 x (character 62)) (item_content inside (character 62) run c ∙ i)))
 
   no_bracket : (token : Token) → ((d : ℕ) → token ≢ character d) → (two && is_literal greater_than_sign (item token)) ≡ false
   no_bracket token n = ap (λ b. two && b) (ap (λ t. is_strict_literal 62 (item token).content t) (item_token inside token (run ++ c ∷ [])) ∙ no_literal 62 (item token).content token n) ∙ and_false two
@@ -245,11 +243,12 @@ module _ (syntax : Syntax) (limits : Limits) where
       let bound : is_known_tag syntax (inside_of syntax line).content (values (run ++ c ∷ [])) ≡ true → c.last < first_of run c.first + limits.tag = λ k. (let s = short k in omega arith) in
       ap (λ x. end_of (page_read syntax limits x)) are
       ∙ ap end_of (decided_is_read syntax limits bytes_before items line phase run c f reached (pending_goes syntax (inside_of syntax line).content (values run) pending) below
-        (λ k. (let s = bound (known_with (inside_of syntax line).content run c k) in let t = first_there (inside_of syntax line).content run c k in omega arith))
-        (λ m at events. inr (
-          not_long (is_known_tag syntax (content_at syntax m) (values (run ++ c ∷ []))) (first_of run c.first + limits.tag) c.last (λ k. bound (subst (λ (l : Line). is_known_tag syntax (inside_of syntax l).content (values (run ++ c ∷ [])) ≡ true) at.line_is k)),
-          (faulty_step syntax limits items line phase run c m at events found (values (run ++ c ∷ [])) faulty (values_append run (c ∷ [])), λ i. record { kind = found; token = token_is i; at = c.last })))
-        rest)
+      (λ k. (let s = bound (known_with (inside_of syntax line).content run c k) in let t = first_there (inside_of syntax line).content run c k in omega arith))
+      (λ m at events. inr (
+        not_long (is_known_tag syntax (content_at syntax m) (values (run ++ c ∷ []))) (first_of run c.first + limits.tag) c.last (λ k. bound (subst (λ (l : Line). is_known_tag syntax (inside_of syntax l).content (values (run ++ c ∷ [])) ≡ true) at.line_is k)),
+        (faulty_step syntax limits items line phase run c m at events found (values (run ++ c ∷ [])) faulty (values_append run (c ∷ [])), λ i. record { kind = found; token = token_is i; at = c.last }),
+      ))
+      rest)
 
   -- a tag that is known at the character that passes its limit
   pub known_is_read : (bytes bytes_before rest : List ℕ) (items : List Item) (line : Line) (phase : Phase) (first : Entry) (more : List Entry) (c : Entry) → bytes ≡ bytes_before ++ rest → Reached syntax limits bytes_before items line phase ((first ∷ more) ++ c ∷ [])
@@ -259,11 +258,12 @@ module _ (syntax : Syntax) (limits : Limits) where
       let f : Fault = record { kind = kind.TagTooLong; token = first.first; at = c.last } in
       ap (λ x. end_of (page_read syntax limits x)) are
       ∙ ap end_of (decided_is_read syntax limits bytes_before items line phase (first ∷ more) c f reached (pending_goes syntax (inside_of syntax line).content (values (first ∷ more)) (inr pending)) below
-        (λ k. absurd (true_false (sym k ∙ unknown)))
-        (λ m at events. inl (
-          ap (λ b. b && nat_le (first.first + limits.tag) c.last) (subst (λ (l : Line). is_known_tag syntax (inside_of syntax l).content (values ((first ∷ more) ++ c ∷ [])) ≡ true) (sym at.line_is) known) ∙ is_le (first.first + limits.tag) c.last long,
-          refl))
-        rest)
+      (λ k. absurd (true_false (sym k ∙ unknown)))
+      (λ m at events. inl (
+        ap (λ b. b && nat_le (first.first + limits.tag) c.last) (subst (λ (l : Line). is_known_tag syntax (inside_of syntax l).content (values ((first ∷ more) ++ c ∷ [])) ≡ true) (sym at.line_is) known) ∙ is_le (first.first + limits.tag) c.last long,
+        refl,
+      ))
+      rest)
     where
       true_false : true ≡ false → ⊥
       true_false e = cc

@@ -1,31 +1,29 @@
 -- The reader of bytes reads each front of a page.
-use Rattle.std.proofs.Common.{◌≡◌, ◌≢◌, ◌∙◌, ◌⊎◌, ⊎_elim, inl, inr, ℕ, zero, suc, ◌+◌, ◌-◌, ◌<◌, ◌≤◌, Bool, true, false, cond, List, [], ◌∷◌, ◌++◌, refl, sym, ap, subst, length, nat_le, append_assoc, append-nil, Option, Some, None, Result, Ok, Err, arith}
-use Rattle.std.specs.Prelude.{◌&&◌, ◌||◌, ◌==◌, not, if◌then◌else◌}
+use Rattle.std.proofs.Common.{◌≡◌, ◌∙◌, ℕ, ◌+◌, ◌-◌, ◌<◌, ◌≤◌, Bool, true, false, List, [], ◌∷◌, ◌++◌, refl, sym, ap, subst, length, append_assoc, append-nil, None, Ok, arith}
+use Rattle.std.specs.Prelude.{◌&&◌, ◌==◌, not}
 use Rattle.std.specs.Char.{len_utf8}
-use Rattle.std.specs.List.{list_all}
 use lib.Utf8.{encode, encodes}
 use Rattle.std.proofs.lemmas.Bool.{and_parts, and_from, cond-true, cond-false}
 use Rattle.std.proofs.lemmas.Bool.Decides.{nat_tests}
 use Rattle.std.proofs.lemmas.List.{length-append}
 use Rattle.std.proofs.lemmas.Str.{length-encode}
 use Rattle.rx_chars.specs.declared.syntax.Syntax.{Syntax}
-use Rattle.rx_chars.specs.Characters.{Entry, IsRead, byte_order_mark, line_feed, carriage_return, as_line_end, line_end_entry, placed, entered, without_mark}
+use Rattle.rx_chars.specs.Characters.{Entry, IsRead, byte_order_mark, line_feed, carriage_return, as_line_end, placed, entered, without_mark}
 use Rattle.rx_grammar.specs.declared.limits.Limits.{Limits}
 use Rattle.rx_grammar.specs.Items.{values, next_of, Item, Spelled, AllFit, no_section_end}
 use Rattle.rx_grammar.specs.Pages.{has_no_nul}
-use Rattle.rx_grammar.specs.Begun.{Line, inside_of, Phase}
-use Rattle.rx_grammar.specs.PageFaults.{is_known_tag, token_of, IsShort}
-use Rattle.rx_reader.proofs.Bools.{by_test, untrue}
-use Rattle.rx_pages.specs.Nesting.{Event, Nesting, not_begun, content_at, Goes, IsAt}
+use Rattle.rx_grammar.specs.PageFaults.{is_known_tag}
+use Rattle.rx_reader.proofs.Bools.{by_test}
+use Rattle.rx_pages.specs.Nesting.{Event, Nesting, not_begun, content_at, Goes}
 use Rattle.rx_pages.specs.Scanner.{GoesOn}
 use Rattle.rx_pages.specs.PageReader.{first_of, page_on, nothing_read}
 use Rattle.rx_pages.proofs.Tokens.{values_append}
 use Rattle.rx_pages.proofs.KnownTags.{known_more}
 use Rattle.rx_pages.proofs.EntrySteps.{Stood}
 use Rattle.rx_pages.proofs.ByteSteps.{progress_at}
-use Rattle.rx_pages.proofs.CharWalk.{Among, first_among, Fine, first_same, ends_return, no_nuls, is_started, page_walk, len_positive}
+use Rattle.rx_pages.proofs.CharWalk.{first_among, Fine, first_same, ends_return, no_nuls, is_started, page_walk, len_positive}
 use Rattle.rx_pages.proofs.TokenWalk.{stood, Bound, go_all, fine_append, kept_fine}
-use Rattle.rx_pages.proofs.TokensWalk.{RisesFrom, Rises, flags_behind, Appends, Keeps, Finish, Walked, tokens_walk}
+use Rattle.rx_pages.proofs.TokensWalk.{RisesFrom, Rises, flags_behind, Appends, Keeps, Finish, tokens_walk}
 
 -- entries end below a bound
 abbrev pub AllBelow : ℕ → List Entry → Type 0
@@ -98,9 +96,9 @@ no_nul_chars after_return start (c ∷ cs) h =
     by_test {G = no_nuls (c ∷ cs) ≡ true} (after_return && c == line_feed)
     (λ t. and_from (not (c == 0)) (no_nuls cs) (ap not (line_feed_some c (and_parts after_return (c == line_feed) t).1)) (no_nul_chars false (start + len_utf8 c) cs (sym (ap has_no_nul (cond-true _ _ _ t)) ∙ h)))
     (λ t.
-      let k = sym (ap has_no_nul (cond-false _ _ _ t)) ∙ h in
-      let p = and_parts (not (as_line_end c == 0)) (has_no_nul (entered (c == carriage_return) (placed (start + len_utf8 c) cs))) k in
-      and_from (not (c == 0)) (no_nuls cs) (some_of c p.0) (no_nul_chars (c == carriage_return) (start + len_utf8 c) cs p.1))
+    let k = sym (ap has_no_nul (cond-false _ _ _ t)) ∙ h in
+    let p = and_parts (not (as_line_end c == 0)) (has_no_nul (entered (c == carriage_return) (placed (start + len_utf8 c) cs))) k in
+    and_from (not (c == 0)) (no_nuls cs) (some_of c p.0) (no_nul_chars (c == carriage_return) (start + len_utf8 c) cs p.1))
 
 -- the same from the first character on, where a mark is passed over
 pub page_below : (cs : List ℕ) → AllBelow (length (encodes cs)) (entered false (without_mark (placed 0 cs)))
@@ -145,21 +143,21 @@ front_is_read syntax limits whole meant front run items events read nul spelled 
     let hi = length (encodes chars) in
     let below : AllBelow hi run = below_behind hi front run (subst (λ es. AllBelow hi es) (sym read.read) (page_below chars)) in
     let bound : (m : Nesting) → meant m → (told : List Event) (two last : Bool) → Bound syntax limits m told two last run =
-      λ m p told two last a e b h k. (
-        let known = subst (λ x. is_known_tag syntax (content_at syntax m) x ≡ true) (sym (values_append (a ++ e ∷ []) b) ∙ ap values (append_assoc a (e ∷ []) b ∙ sym h)) (known_more syntax (content_at syntax m) (values (a ++ e ∷ [])) (values b) k) in
-        let s = short m p known in
-        let l = below_at hi a e b run h below in
-        omega arith) in
+    λ m p told two last a e b h k. (
+    let known = subst (λ x. is_known_tag syntax (content_at syntax m) x ≡ true) (sym (values_append (a ++ e ∷ []) b) ∙ ap values (append_assoc a (e ∷ []) b ∙ sym h)) (known_more syntax (content_at syntax m) (values (a ++ e ∷ [])) (values b) k) in
+    let s = short m p known in
+    let l = below_at hi a e b run h below in
+    omega arith) in
     let G : Stood → Stood → List Entry → Type 0 = λ end st es. Fine syntax limits hi st es (stood end.nest end.told end.two end.last run) in
     let appends : Appends syntax limits G = λ end st mid xs ys l f. fine_append syntax limits hi st mid (stood end.nest end.told end.two end.last run) xs ys l f in
     let keeps : Keeps syntax limits G =
-      λ end n told two last unit e es item step v i h k sp f. kept_fine syntax limits n told two last unit hi e es (stood end.nest end.told end.two end.last run) item step v i h k f in
+    λ end n told two last unit e es item step v i h k sp f. kept_fine syntax limits n told two last unit hi e es (stood end.nest end.told end.two end.last run) item step v i h k f in
     let finish : Finish syntax limits G appends keeps run meant =
-      λ m p told two last.
-        subst (λ x. Fine syntax limits hi (stood m told two last []) x (stood m told two last run)) (append-nil run)
-        (fine_append syntax limits hi (stood m told two last []) (stood m told two last run) (stood m told two last run) run []
-        (go_all syntax limits m told two last run (bound m p told two last) [] run [] (sym (append-nil run)) (goes m p))
-        (refl, λ k. (let s = short m p k in let f = first_same syntax limits (stood m told two last run) hi 0 k in omega arith))) in
+    λ m p told two last.
+    subst (λ x. Fine syntax limits hi (stood m told two last []) x (stood m told two last run)) (append-nil run)
+    (fine_append syntax limits hi (stood m told two last []) (stood m told two last run) (stood m told two last run) run []
+    (go_all syntax limits m told two last run (bound m p told two last) [] run [] (sym (append-nil run)) (goes m p))
+    (refl, λ k. (let s = short m p k in let f = first_same syntax limits (stood m told two last run) hi 0 k in omega arith))) in
     let w = tokens_walk syntax limits G appends keeps run meant spelled refl going fit false false sections (subst Rises (sym read.read) (page_rises chars)) [] finish in
     record {
       place = w.place;
@@ -167,8 +165,8 @@ front_is_read syntax limits whole meant front run items events read nul spelled 
       started = is_started chars;
       after_return = ends_return false chars;
       is_read = λ rest.
-        ap (λ b. page_on syntax limits (Ok nothing_read) (b ++ rest)) (sym read.forms)
-        ∙ (page_walk syntax limits chars rest (stood not_begun [] false false []) (stood w.place events (flags_behind items false false).0 (flags_behind items false false).1 run) read.scalars (page_no_nul chars (subst (λ es. has_no_nul es ≡ true) read.read nul)) (subst (λ x. x ≤ limits.page) (sym same) size)
+          ap (λ b. page_on syntax limits (Ok nothing_read) (b ++ rest)) (sym read.forms)
+          ∙ (page_walk syntax limits chars rest (stood not_begun [] false false []) (stood w.place events (flags_behind items false false).0 (flags_behind items false false).1 run) read.scalars (page_no_nul chars (subst (λ es. has_no_nul es ≡ true) read.read nul)) (subst (λ x. x ≤ limits.page) (sym same) size)
           (subst (λ es. Fine syntax limits hi (stood not_begun [] false false []) es (stood w.place events (flags_behind items false false).0 (flags_behind items false false).1 run)) read.read w.fine)
-        ∙ ap (λ x. page_on syntax limits (Ok (progress_at x [] (is_started chars) (ends_return false chars) (stood w.place events (flags_behind items false false).0 (flags_behind items false false).1 run))) rest) same);
+          ∙ ap (λ x. page_on syntax limits (Ok (progress_at x [] (is_started chars) (ends_return false chars) (stood w.place events (flags_behind items false false).0 (flags_behind items false false).1 run))) rest) same);
     }

@@ -1,7 +1,7 @@
 -- The reader of bytes finds a fault that a character decides.
-use Rattle.std.proofs.Common.{◌≡◌, ◌≢◌, ◌∙◌, ◌⊎◌, ⊎_elim, inl, inr, ℕ, zero, suc, ◌+◌, ◌<◌, ◌≤◌, Bool, true, false, cond, List, [], ◌∷◌, ◌++◌, refl, sym, ap, subst, length, nat_le, append_assoc, append-nil, Option, Some, None, Result, Ok, Err, arith}
-use Rattle.std.specs.Prelude.{◌&&◌, ◌||◌, ◌==◌, not, if◌then◌else◌}
-use Rattle.std.proofs.lemmas.Bool.{and_parts, cond-true, cond-false}
+use Rattle.std.proofs.Common.{◌≡◌, ◌≢◌, ◌∙◌, ⊎_elim, ℕ, ◌+◌, ◌<◌, ◌≤◌, Bool, true, false, List, [], ◌∷◌, ◌++◌, refl, sym, ap, subst, nat_le, append_assoc, append-nil, Option, Some, Ok, Err, arith}
+use Rattle.std.specs.Prelude.{◌&&◌, ◌||◌, ◌==◌, if◌then◌else◌}
+use Rattle.std.proofs.lemmas.Bool.{and_parts}
 use Rattle.rx_terms.specs.Ascii.{less_than_sign, ampersand}
 use Rattle.rx_terms.specs.Text.{Chars}
 use Rattle.rx_chars.specs.declared.syntax.Syntax.{Syntax}
@@ -12,24 +12,23 @@ use Rattle.rx_grammar.specs.declared.faults.Fault.{Fault}
 use Rattle.rx_grammar.specs.declared.faults.Kind.{Kind}
 use Rattle.rx_grammar.specs.declared.faults.Kind.TheVariants.{Outside}
 use Rattle.rx_grammar.specs.declared.limits.Limits.{Limits}
-use Rattle.rx_grammar.specs.Tokens.{Token, character, kept}
+use Rattle.rx_grammar.specs.Tokens.{Token, character}
 use Rattle.rx_grammar.specs.Spelling as spelling
 use Rattle.rx_grammar.specs.Spelling.{Spells, has_references, is_text}
 use Rattle.rx_grammar.specs.Items.{values, Item}
 use Rattle.rx_grammar.specs.PageFaults.{is_known_tag, Reached}
-use Rattle.rx_reader.proofs.Bools.{by_test, neither, untrue}
+use Rattle.rx_reader.proofs.Bools.{by_test, neither}
 use Rattle.rx_grammar.specs.Pages.{has_no_nul}
 use Rattle.rx_grammar.specs.Begun.{Line, inside_of, Phase}
-use Rattle.rx_pages.specs.Nesting.{Event, Nesting, Step, not_begun, content_at, nest_step, going_on, IsAt}
-use Rattle.rx_pages.specs.Scanner.{GoesOn, goes_on, whole, ended, refused, verdict}
-use Rattle.rx_pages.specs.PageReader.{Spot, Scanning, first_of, spot_of, is_too_long, item_of, page_on, page_read, nothing_read, told as told_by}
+use Rattle.rx_pages.specs.Nesting.{Event, Nesting, not_begun, content_at, going_on, IsAt}
+use Rattle.rx_pages.specs.Scanner.{GoesOn, goes_on, whole, refused}
+use Rattle.rx_pages.specs.PageReader.{first_of, spot_of, page_on, page_read, nothing_read, told as told_by}
 use Rattle.rx_pages.proofs.KnownTags.{one_unknown, known_more}
 use Rattle.rx_pages.proofs.EntrySteps.{Stood, scanning_of, nested_by, entry_step}
-use Rattle.rx_pages.proofs.ByteSteps.{not_long}
-use Rattle.rx_pages.proofs.CharWalk.{is_known, first_same}
+use Rattle.rx_pages.proofs.CharWalk.{first_same}
 use Rattle.rx_pages.proofs.TokenWalk.{stood, IsKept, is_kept, kept_goes_on, kept_step, kept_unknown, known_next, Leads, Bound, go_all}
 use Rattle.rx_pages.proofs.TokensWalk.{RisesFrom, Rises, flags_behind, Appends, Keeps, Finish, tokens_walk}
-use Rattle.rx_pages.proofs.FaultWalk.{Decides, Hits, fault_of, page_hits}
+use Rattle.rx_pages.proofs.FaultWalk.{Decides, Hits, page_hits}
 use Rattle.rx_pages.proofs.FrontRead.{AllBelow, page_rises, page_no_nul}
 use Rattle.rx_pages.proofs.Front.{fronts_lead}
 use Rattle.rx_pages.proofs.Tokens.{values_append}
@@ -75,7 +74,7 @@ module _ (syntax : Syntax) (limits : Limits) where
       by_test {G = ⊥} (e.value == less_than_sign || (e.value == ampersand && has_references (content_at syntax n)))
       (λ t. (let w = sym (ap (λ b. nested_by syntax limits.depth (stood n events false false []) (told_by syntax limits (spot_of syntax n) false e (scanning_of (stood n events false false [])) (if b then goes_on else if is_text (content_at syntax n) e.value then whole (character e.value) else refused Outside))) t) ∙ h in cc))
       (λ t. (let w = sym (ap (λ b. nested_by syntax limits.depth (stood n events false false []) (told_by syntax limits (spot_of syntax n) false e (scanning_of (stood n events false false [])) (if b then goes_on else if is_text (content_at syntax n) e.value then whole (character e.value) else refused Outside))) t) ∙ h in
-        let v = sym (ap (λ b. nested_by syntax limits.depth (stood n events false false []) (told_by syntax limits (spot_of syntax n) false e (scanning_of (stood n events false false [])) (if b then whole (character e.value) else refused Outside))) (text_inside (content_at syntax n) e.value o t)) ∙ w in cc))
+      let v = sym (ap (λ b. nested_by syntax limits.depth (stood n events false false []) (told_by syntax limits (spot_of syntax n) false e (scanning_of (stood n events false false [])) (if b then whole (character e.value) else refused Outside))) (text_inside (content_at syntax n) e.value o t)) ∙ w in cc))
 
   hits_append : (st mid : Stood) (xs pre : List Entry) (c : Entry) (f : Fault) → Leads syntax limits st xs mid → Hits syntax limits mid pre c f → Hits syntax limits st (xs ++ pre) c f
   hits_append st mid [] pre c f l h = subst (λ x. Hits syntax limits x pre c f) (sym l) h
@@ -102,12 +101,17 @@ module _ (syntax : Syntax) (limits : Limits) where
           hits.1)
       by (d ∷ pre) h hits =
           let same : e ≡ d = cc in
-          let hits2 : Hits syntax limits (stood step.next (events ++ step.events) false false []) (e ∷ pre) c f = subst (λ x. Hits syntax limits (stood step.next (events ++ step.events) false false []) (x ∷ pre) c f) (sym same) hits in
-          (e ∷ pre, (h ∙ ap (λ x. x ∷ (pre ++ c ∷ [])) (sym same), (
-            (λ w. absurd (kept_unknown syntax limits n events two last unit e item.token v (known_next syntax limits n events two last unit unit e w))),
-            ap (λ b. b && nat_le (first_of unit e.first + limits.tag) e.last) (unknown (is_known_tag syntax (content_at syntax n) (values (unit ++ e ∷ []))) (kept_unknown syntax limits n events two last unit e item.token v)),
-            (hits2.2.0, (kept_step syntax limits n events two last unit e item step v i st k ∙ hits2.2.1.0, hits2.2.1.1)),
-          )))
+          let hits2 : Hits syntax limits (stood step.next (events ++ step.events) false false []) (e ∷ pre) c f = subst (λ x. Hits syntax limits (stood step.next (events ++ step.events) false false []) (x ∷ pre) c f) (sym same) hits in (
+            e ∷ pre,
+            (
+              h ∙ ap (λ x. x ∷ (pre ++ c ∷ [])) (sym same),
+              (
+                (λ w. absurd (kept_unknown syntax limits n events two last unit e item.token v (known_next syntax limits n events two last unit unit e w))),
+                ap (λ b. b && nat_le (first_of unit e.first + limits.tag) e.last) (unknown (is_known_tag syntax (content_at syntax n) (values (unit ++ e ∷ []))) (kept_unknown syntax limits n events two last unit e item.token v)),
+                (hits2.2.0, (kept_step syntax limits n events two last unit e item step v i st k ∙ hits2.2.1.0, hits2.2.1.1)),
+              ),
+            ),
+          )
 
 -- places below the last one
 below_last : (hi last : ℕ) (xs : List Entry) (c : Entry) → RisesFrom last (xs ++ c ∷ []) → c.last < hi → AllBelow hi (xs ++ c ∷ [])
@@ -188,4 +192,4 @@ module _ (syntax : Syntax) (limits : Limits) (whole : List ℕ) (items : List It
       let below : AllBelow limits.page (hits.0 ++ c ∷ []) = subst (λ es. AllBelow limits.page es) (append_assoc reached.front run (c ∷ []) ∙ hits.1.0) (all_below_last limits.page (reached.front ++ run) c (subst Rises (sym (append_assoc reached.front run (c ∷ []))) rising) page) in
       ap (λ b. page_on syntax limits (Ok nothing_read) (b ++ rest)) (sym reached.read.forms)
       ∙ page_hits syntax limits chars rest (stood not_begun [] false false []) hits.0 c [] f reached.read.scalars (page_no_nul chars (subst (λ es. has_no_nul es ≡ true) reached.read.read reached.no_nul))
-        (sym reached.read.read ∙ hits.1.0) below hits.1.1
+      (sym reached.read.read ∙ hits.1.0) below hits.1.1

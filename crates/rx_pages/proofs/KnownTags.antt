@@ -1,19 +1,19 @@
 -- Characters that are known to be a tag are read as one.
-use Rattle.std.proofs.Common.{◌≡◌, ◌≢◌, ◌∙◌, ◌⊎◌, ⊎_elim, ℕ, zero, suc, ◌+◌, ◌<◌, ◌≤◌, Bool, true, false, cond, List, [], ◌∷◌, ◌++◌, refl, sym, ap, subst, length, take, drop, append_assoc, append-nil, Option, Some, None, Result, Ok, Err, arith}
+use Rattle.std.proofs.Common.{◌≡◌, ◌∙◌, ℕ, zero, suc, ◌+◌, ◌≤◌, Bool, true, false, [], ◌∷◌, ◌++◌, refl, sym, ap, subst, length, take, drop, append_assoc, Option, Some, None, Result, Ok, Err, arith}
 use Rattle.std.specs.Prelude.{◌&&◌, ◌||◌, ◌==◌, not, if◌then◌else◌}
 use Rattle.std.proofs.lemmas.List.{length-append}
 use Rattle.std.proofs.lemmas.Bool.{and_parts, and_from, cond-true, cond-false}
 use Rattle.std.proofs.lemmas.Bool.Decides.{nat_tests}
-use Rattle.rx_terms.specs.Ascii.{solidus, less_than_sign, question_mark, is_letter}
+use Rattle.rx_terms.specs.Ascii.{solidus, less_than_sign}
 use Rattle.rx_terms.specs.Text.{Chars, lowered, begins_with}
 use Rattle.rx_chars.specs.declared.syntax.Syntax.{Syntax}
 use Rattle.rx_chars.specs.declared.syntax.Syntax.TheVariants.{Html, Xhtml}
 use Rattle.rx_grammar.specs.declared.contents.Content.{Content}
 use Rattle.rx_grammar.specs.declared.faults.Kind.{Kind}
 use Rattle.rx_grammar.specs.Names.{same}
-use Rattle.rx_grammar.specs.Tokens.{Token, tag, kept}
+use Rattle.rx_grammar.specs.Tokens.{tag, kept}
 use Rattle.rx_grammar.specs.Shapes.{begins_tag, ends_name, begins}
-use Rattle.rx_grammar.specs.Spelling.{exclamation_mark, has_markup, begins_markup, raw_name, begins_end, stops_end}
+use Rattle.rx_grammar.specs.Spelling.{has_markup, begins_markup, raw_name, begins_end, stops_end}
 use Rattle.rx_grammar.specs.PageFaults.{is_known_end, is_known_raw, is_known_after, is_known_tag}
 use Rattle.rx_reader.specs.Tables.{is_html, is_last}
 use Rattle.rx_reader.specs.TagReader.{TagState, tag_of}
@@ -87,9 +87,9 @@ known_end_more name text more h = by (drop_cut (length name + 1) text ends_name 
         let all : text ++ more ≡ front ++ (c ∷ (rest ++ more)) = ap (λ x. x ++ more) e ∙ append_assoc front (c ∷ rest) more in
         let was : is_known_end name (front ++ c ∷ rest) ≡ true = subst (λ x. is_known_end name x ≡ true) e h in
         let was_n : (same (lowered (take (length front) (front ++ c ∷ rest))) (solidus ∷ name) && begins ends_name (drop (length front) (front ++ c ∷ rest))) ≡ true =
-          subst (λ n. (same (lowered (take n (front ++ c ∷ rest))) (solidus ∷ name) && begins ends_name (drop n (front ++ c ∷ rest))) ≡ true) (sym l) was in
+        subst (λ n. (same (lowered (take n (front ++ c ∷ rest))) (solidus ∷ name) && begins ends_name (drop n (front ++ c ∷ rest))) ≡ true) (sym l) was in
         let parts : (same (lowered front) (solidus ∷ name) && ends_name c) ≡ true =
-          subst (λ x. (same (lowered x) (solidus ∷ name) && ends_name c) ≡ true) (take_front front (c ∷ rest)) (subst (λ x. (same (lowered (take (length front) (front ++ c ∷ rest))) (solidus ∷ name) && begins ends_name x) ≡ true) (drop_front front (c ∷ rest)) was_n) in
+        subst (λ x. (same (lowered x) (solidus ∷ name) && ends_name c) ≡ true) (take_front front (c ∷ rest)) (subst (λ x. (same (lowered (take (length front) (front ++ c ∷ rest))) (solidus ∷ name) && begins ends_name x) ≡ true) (drop_front front (c ∷ rest)) was_n) in
         subst (λ x. is_known_end name x ≡ true) (sym all)
         (subst (λ n. (same (lowered (take n (front ++ (c ∷ (rest ++ more))))) (solidus ∷ name) && begins ends_name (drop n (front ++ (c ∷ (rest ++ more))))) ≡ true) l
         (subst (λ x. (same (lowered x) (solidus ∷ name) && begins ends_name (drop (length front) (front ++ (c ∷ (rest ++ more))))) ≡ true) (sym (take_front front (c ∷ (rest ++ more))))
@@ -109,9 +109,9 @@ known_more s i [] more h = absurd (cc)
 known_more s i (d ∷ text) more h =
     let p = and_parts (d == less_than_sign) (is_known_after s i text) h in
     and_from (d == less_than_sign) (is_known_after s i (text ++ more)) p.0 (
-      by_test {G = is_known_after s i (text ++ more) ≡ true} (has_markup i)
-      (λ m. cond-true _ _ _ m ∙ begins_more (opens_tag s) text more (sym (cond-true _ _ _ m) ∙ p.1))
-      (λ m. cond-false _ _ _ m ∙ known_raw_more (raw_name i) text more (sym (cond-false _ _ _ m) ∙ p.1)))
+    by_test {G = is_known_after s i (text ++ more) ≡ true} (has_markup i)
+    (λ m. cond-true _ _ _ m ∙ begins_more (opens_tag s) text more (sym (cond-true _ _ _ m) ∙ p.1))
+    (λ m. cond-false _ _ _ m ∙ known_raw_more (raw_name i) text more (sym (cond-false _ _ _ m) ∙ p.1)))
 
 -- the front of an end tag isn't longer than `/` and the name
 front_length : (a b : Chars) → begins_with a b ≡ true → length a ≤ length b
@@ -134,8 +134,8 @@ module _ (s : Syntax) (i : Content) where
       by_test {G = TagVerdict (in_raw s name text c)} (begins_end name (text ++ c ∷ []))
       (λ e. subst TagVerdict (sym (cond-true _ _ _ e)) on)
       (λ e. subst TagVerdict (sym (cond-false _ _ _ e))
-        (by_test {G = TagVerdict (if begins_end name text && stops_end name text c then ended (kept (less_than_sign ∷ text)) else in_tag s text c)} (begins_end name text && stops_end name text c)
-        (λ d. absurd (never d)) (λ d. subst TagVerdict (sym (cond-false _ _ _ d)) (told_tag _))))
+      (by_test {G = TagVerdict (if begins_end name text && stops_end name text c then ended (kept (less_than_sign ∷ text)) else in_tag s text c)} (begins_end name text && stops_end name text c)
+      (λ d. absurd (never d)) (λ d. subst TagVerdict (sym (cond-false _ _ _ d)) (told_tag _))))
     where
       never : (begins_end name text && stops_end name text c) ≡ true → ⊥
       never d = by (drop_cut (length name + 1) (text ++ c ∷ []) ends_name (known_drop name (text ++ c ∷ []) h))
@@ -148,9 +148,9 @@ module _ (s : Syntax) (i : Content) where
               let sizes = sym (length-append text (c ∷ [])) ∙ (ap length e ∙ length-append front (z ∷ rest)) in
               let n : length text ≡ length name + 1 = omega arith in
               let known : (same (lowered (take (length text) (text ++ c ∷ []))) (solidus ∷ name) && begins ends_name (drop (length text) (text ++ c ∷ []))) ≡ true =
-                subst (λ k. (same (lowered (take k (text ++ c ∷ []))) (solidus ∷ name) && begins ends_name (drop k (text ++ c ∷ []))) ≡ true) (sym n) h in
+              subst (λ k. (same (lowered (take k (text ++ c ∷ []))) (solidus ∷ name) && begins ends_name (drop k (text ++ c ∷ []))) ≡ true) (sym n) h in
               let tells : (same (lowered text) (solidus ∷ name) && ends_name c) ≡ true =
-                subst (λ x. (same (lowered x) (solidus ∷ name) && ends_name c) ≡ true) (take_front text (c ∷ [])) (subst (λ x. (same (lowered (take (length text) (text ++ c ∷ []))) (solidus ∷ name) && begins ends_name x) ≡ true) (drop_front text (c ∷ [])) known) in
+              subst (λ x. (same (lowered x) (solidus ∷ name) && ends_name c) ≡ true) (take_front text (c ∷ [])) (subst (λ x. (same (lowered (take (length text) (text ++ c ∷ []))) (solidus ∷ name) && begins ends_name x) ≡ true) (drop_front text (c ∷ [])) known) in
               not_both_ways (same (lowered text) (solidus ∷ name) && ends_name c) tells (untrue (same (lowered text) (solidus ∷ name) && ends_name c) (and_parts (not (begins_end name (text ++ c ∷ []))) (not (same (lowered text) (solidus ∷ name) && ends_name c)) parts.1).1)
 
   -- one character is known to be nothing

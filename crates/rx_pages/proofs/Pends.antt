@@ -1,9 +1,9 @@
 -- What characters that go on are, and what the next one makes of them: text, references, tags and raw text.
-use Rattle.std.proofs.Common.{◌≡◌, ◌≢◌, ◌∙◌, ℕ, suc, ◌+◌, length, take, cond, Bool, true, false, List, [], ◌∷◌, ◌++◌, Option, Some, None, Result, Ok, Err, refl, ap, sym, subst, append-nil, append_assoc, inl, inr, eqb-true, arith}
+use Rattle.std.proofs.Common.{◌≡◌, ◌≢◌, ◌∙◌, ℕ, suc, ◌+◌, length, take, cond, Bool, true, false, List, [], ◌∷◌, ◌++◌, Option, Some, None, Result, Ok, Err, refl, ap, sym, subst, append_assoc, inl, inr, eqb-true, arith}
 use Rattle.std.specs.Prelude.{◌&&◌, ◌||◌, ◌==◌, not, codes, drop}
 use Rattle.std.proofs.lemmas.List.{length-map}
 use Rattle.std.proofs.Math.Seq.{take-append_seam, drop-append_seam}
-use Rattle.rx_terms.specs.Ascii.{lowered_char, ampersand, semicolon, solidus, less_than_sign, is_letter, is_white_space}
+use Rattle.rx_terms.specs.Ascii.{lowered_char, ampersand, semicolon, solidus, less_than_sign}
 use Rattle.rx_terms.specs.Text.{Chars, lowered}
 use Rattle.rx_chars.specs.declared.syntax.Syntax.{Syntax}
 use Rattle.rx_chars.specs.declared.syntax.Syntax.TheVariants.{Html, Xhtml}
@@ -13,25 +13,25 @@ use Rattle.rx_grammar.specs.declared.faults.Kind.{Kind}
 use Rattle.rx_grammar.specs.declared.faults.Kind.TheVariants as kind
 use Rattle.rx_grammar.specs.Names.{same, name_of_raw}
 use Rattle.rx_grammar.specs.References.{is_name, is_body, is_begun, stops_at, meaning}
-use Rattle.rx_grammar.specs.Tokens.{Tag, Token, tag, character, reference, kept, section, comment, doctype}
-use Rattle.rx_grammar.specs.Shapes.{begins_tag, ends_name, begins}
+use Rattle.rx_grammar.specs.Tokens.{Tag, tag, reference}
+use Rattle.rx_grammar.specs.Shapes.{ends_name, begins}
 use Rattle.rx_grammar.specs.Tags.{cased, SpellsTag}
-use Rattle.rx_grammar.specs.TagFaults.{RunFault, unknown, bad, no_reference, TagFault}
+use Rattle.rx_grammar.specs.TagFaults.{RunFault, unknown, bad, no_reference}
 use Rattle.rx_grammar.specs.Spelling.{Spells, has_markup, has_references, keeps_runs, has_sections, has_less_than, is_text, begins_markup, raw_name, begins_end, stops_end, ends_with, ends_comment, begins_declaration, doctype_word}
 use Rattle.rx_grammar.specs.Spelling as spelling
 use Rattle.rx_grammar.specs.Items.{Item}
 use Rattle.rx_grammar.specs.Begun.{Line, Phase}
 use Rattle.rx_grammar.specs.PageFaults.{Faulty, is_known_end, is_opening_begun}
 use Rattle.rx_grammar.specs.PageFaults as faults
-use Rattle.rx_reader.specs.Tables.{is_html, is_last}
+use Rattle.rx_reader.specs.Tables.{is_last}
 use Rattle.rx_reader.specs.TagReader.{TagState, fresh, tag_step, tag_step_on, tag_on, tag_of}
 use Rattle.rx_reader.specs.Laws.{ReadsOn}
-use Rattle.rx_pages.specs.Scanner.{Verdict, goes_on, whole, ended, refused, told_of_tag, in_tag, told_of_reference, in_run, in_raw, DoctypePhase, keyword, spaces, naming, passed, closed, doctype_on, at_first, verdict}
-use Rattle.rx_pages.proofs.Reading.{markup_is, raw_is}
+use Rattle.rx_pages.specs.Scanner.{Verdict, goes_on, whole, ended, refused, told_of_tag, in_tag, told_of_reference, in_run, in_raw, DoctypePhase, keyword, closed, doctype_on, at_first, verdict}
+use Rattle.rx_pages.proofs.Reading.{markup_is}
 use Rattle.rx_pages.proofs.FirstFronts.{NoFront, NoneBefore, same_self}
 use Rattle.rx_pages.proofs.TagRuns.{is_first, markup_tag, KnownEnd, known_at, Known, in_markup', in_raw', is_known}
-use Rattle.rx_pages.proofs.RawEnds.{is_raw_name, end_reads, IsEnd, ends_raw}
-use Rattle.rx_reader.proofs.Bools.{both, neither, either, not_both_ways, by_test, split, untrue}
+use Rattle.rx_pages.proofs.RawEnds.{is_raw_name, end_reads, ends_raw}
+use Rattle.rx_reader.proofs.Bools.{both, neither, either, not_both_ways, split}
 use Rattle.rx_reader.proofs.Classes.{of_one}
 use Rattle.rx_reader.proofs.Fronts.{equal}
 use Rattle.rx_pages.proofs.Contents.{same_is}

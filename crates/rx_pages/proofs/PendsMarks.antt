@@ -1,40 +1,28 @@
 -- What the next character makes of `<`, and of what begins with `<!` and `<?`.
-use Rattle.std.proofs.Common.{◌≡◌, ◌≢◌, ◌∙◌, ℕ, suc, ◌+◌, length, take, cond, Bool, true, false, List, [], ◌∷◌, ◌++◌, Option, Some, None, refl, ap, sym, subst, append-nil, append_assoc, inl, inr, eqb-true, arith}
-use Rattle.std.specs.Prelude.{◌&&◌, ◌||◌, ◌==◌, not, codes, ◌-◌}
-use Rattle.std.specs.List.{list_any}
-use Rattle.std.proofs.lemmas.List.{map-append, length-map, length-append}
-use Rattle.std.proofs.lemmas.Bool.{cond-true, cond-false, and_from}
-use Rattle.rx_terms.specs.Ascii.{lowered_char, solidus, less_than_sign, greater_than_sign, is_letter}
-use Rattle.rx_terms.specs.Text.{Chars, lowered, begins_with}
+use Rattle.std.proofs.Common.{◌≡◌, ◌∙◌, ℕ, length, take, Bool, true, false, [], ◌∷◌, ◌++◌, Option, Some, None, refl, ap, sym, subst, append_assoc, arith}
+use Rattle.std.specs.Prelude.{◌==◌, codes, ◌-◌}
+use Rattle.std.proofs.lemmas.List.{length-map}
+use Rattle.rx_terms.specs.Ascii.{lowered_char, greater_than_sign}
+use Rattle.rx_terms.specs.Text.{Chars}
 use Rattle.rx_chars.specs.declared.syntax.Syntax.{Syntax}
 use Rattle.rx_chars.specs.declared.syntax.Syntax.TheVariants.{Html, Xhtml}
 use Rattle.rx_grammar.specs.declared.contents.Content.{Content}
-use Rattle.rx_grammar.specs.declared.contents.Content.TheVariants as content
 use Rattle.rx_grammar.specs.declared.faults.Kind.TheVariants as kind
-use Rattle.rx_grammar.specs.References.{meaning}
-use Rattle.rx_grammar.specs.Tokens.{Tag, Token, tag, comment, section, doctype}
-use Rattle.rx_grammar.specs.Shapes.{begins_tag, begins}
+use Rattle.rx_grammar.specs.Tokens.{Token, comment, section, doctype}
 use Rattle.rx_grammar.specs.Tags.{cased}
 use Rattle.rx_grammar.specs.Spelling.{Spells, IsFirst, has_markup, has_sections, has_less_than, begins_markup, ends_with, ends_comment, begins_declaration, doctype_word, IsDoctype}
 use Rattle.rx_grammar.specs.Spelling as spelling
 use Rattle.rx_grammar.specs.PageFaults.{Faulty, openings, meets_opening, is_opening_begun, BeginsDoctype, BeginsNoDoctype}
 use Rattle.rx_grammar.specs.PageFaults as faults
-use Rattle.rx_reader.specs.Tables.{is_html}
-use Rattle.rx_reader.specs.TagReader.{fresh}
-use Rattle.rx_reader.specs.Laws.{ReadsOn}
-use Rattle.rx_pages.specs.Scanner.{Verdict, goes_on, whole, ended, refused, whole_if, in_tag, DoctypePhase, keyword, spaces, naming, passed, closed, doctype_move, doctype_move_on, doctype_on, told_of_doctype, in_doctype, in_section, in_strict_comment, in_opening, after_mark, after_question, is_mark, less_than_text, in_markup, verdict}
-use Rattle.rx_pages.proofs.Reading.{markup_is, sections_markup}
-use Rattle.rx_pages.proofs.Comments.{none_if, and_none, bogus_at, inside_section, section_text, same_init}
-use Rattle.rx_pages.proofs.Doctypes.{on_none, on_append, behind, behind_word, no_end}
+use Rattle.rx_pages.specs.Scanner.{Verdict, whole_if, DoctypePhase, keyword, spaces, naming, passed, closed, doctype_on, told_of_doctype, verdict}
+use Rattle.rx_pages.proofs.Reading.{markup_is}
+use Rattle.rx_pages.proofs.Comments.{inside_section, section_text, same_init}
+use Rattle.rx_pages.proofs.Doctypes.{on_none, on_append, behind, behind_word}
 use Rattle.rx_pages.proofs.DoctypeFaults.{is_doctype, completion, Closable, Next, keyword_closes, closes_on}
-use Rattle.rx_pages.proofs.Openings.{NoOpening, no_opening, refused_first}
-use Rattle.rx_pages.proofs.FirstFronts.{NoFront, NoneBefore, no_front_nil, none_before_nil, no_front_snoc, first_here, none_before_snoc, whole_first, begins_exactly, EndsSo, ends_so}
-use Rattle.rx_pages.proofs.TagRuns.{is_first, in_markup'}
-use Rattle.rx_pages.proofs.Pends.{occurs, is_closed, Pends, at_less_than, in_a_tag, in_question, in_instruction, in_bogus, in_html_comment, in_strict, in_a_doctype, in_a_section, in_an_opening, FaultyBy, Out, other_than, tag_out}
-use Rattle.rx_reader.proofs.Bools.{both, neither, either, not_both_ways, by_test, split, untrue}
+use Rattle.rx_pages.proofs.FirstFronts.{NoFront, NoneBefore, no_front_snoc, first_here, none_before_snoc, whole_first, ends_so}
+use Rattle.rx_pages.proofs.Pends.{is_closed, Pends, in_question, in_instruction, in_html_comment, in_strict, in_a_doctype, in_a_section, Out, other_than}
+use Rattle.rx_reader.proofs.Bools.{split}
 use Rattle.rx_reader.proofs.Classes.{of_one}
-use Rattle.rx_reader.proofs.Fronts.{equal, has_end}
-use Rattle.rx_reader.proofs.ValueFaults.{snoc_last}
 
 -- a run that ends at the first front that meets a test
 module _ (s : Syntax) (i : Content) (run : Chars) (c : ℕ) where

@@ -1,32 +1,32 @@
 -- What the next character makes of `<`, and of `<!` before it is known what begins there.
-use Rattle.std.proofs.Common.{◌≡◌, ◌≢◌, ◌∙◌, ℕ, cond, Bool, true, false, List, [], ◌∷◌, ◌++◌, Option, Some, None, Ok, refl, ap, sym, subst, append-nil, append_assoc, inl, inr}
+use Rattle.std.proofs.Common.{◌≡◌, ◌∙◌, ℕ, Bool, true, false, List, [], ◌∷◌, ◌++◌, refl, ap, sym, subst, append-nil, inl, inr}
 use Rattle.std.specs.Prelude.{◌&&◌, ◌||◌, ◌==◌, not, codes}
 use Rattle.std.specs.List.{list_any}
 use Rattle.std.proofs.lemmas.List.{map-append}
 use Rattle.std.proofs.lemmas.Bool.{cond-true, cond-false, and_from}
-use Rattle.rx_terms.specs.Ascii.{lowered_char, solidus, greater_than_sign, is_letter}
+use Rattle.rx_terms.specs.Ascii.{lowered_char, solidus, is_letter}
 use Rattle.rx_terms.specs.Text.{Chars, lowered, begins_with}
 use Rattle.rx_chars.specs.declared.syntax.Syntax.{Syntax}
 use Rattle.rx_chars.specs.declared.syntax.Syntax.TheVariants.{Html, Xhtml}
 use Rattle.rx_grammar.specs.declared.contents.Content.{Content}
 use Rattle.rx_grammar.specs.declared.contents.Content.TheVariants as content
 use Rattle.rx_grammar.specs.declared.faults.Kind.TheVariants as kind
-use Rattle.rx_grammar.specs.Tokens.{comment, kept}
-use Rattle.rx_grammar.specs.Shapes.{begins_tag, begins}
+use Rattle.rx_grammar.specs.Tokens.{comment}
+use Rattle.rx_grammar.specs.Shapes.{begins_tag}
 use Rattle.rx_grammar.specs.Spelling.{Spells, has_markup, has_sections, has_less_than, begins_markup, ends_with, ends_comment, begins_declaration}
 use Rattle.rx_grammar.specs.Spelling as spelling
 use Rattle.rx_grammar.specs.PageFaults.{Faulty, openings, meets_opening, is_opening_begun}
 use Rattle.rx_grammar.specs.PageFaults as faults
 use Rattle.rx_reader.specs.TagReader.{fresh}
 use Rattle.rx_reader.specs.Laws.{ReadsOn}
-use Rattle.rx_pages.specs.Scanner.{keyword, whole_if, goes_on, less_than_text, in_opening, is_mark, in_tag, verdict}
+use Rattle.rx_pages.specs.Scanner.{keyword, whole_if, goes_on, is_mark, in_tag, verdict}
 use Rattle.rx_pages.proofs.Reading.{markup_is}
 use Rattle.rx_pages.proofs.Comments.{none_if, and_none, bogus_at}
 use Rattle.rx_pages.proofs.Doctypes.{no_end}
 use Rattle.rx_pages.proofs.Openings.{NoOpening, no_opening, refused_first}
 use Rattle.rx_pages.proofs.FirstFronts.{NoFront, no_front_nil, none_before_nil, no_front_snoc, first_here, begins_exactly}
 use Rattle.rx_pages.proofs.TagRuns.{is_first, in_markup'}
-use Rattle.rx_pages.proofs.Pends.{occurs, Pends, in_a_tag, in_question, in_instruction, in_bogus, in_html_comment, in_strict, in_a_doctype, in_a_section, in_an_opening, FaultyBy, Out, tag_out}
+use Rattle.rx_pages.proofs.Pends.{occurs, Pends, in_a_tag, in_question, in_instruction, in_bogus, in_html_comment, in_strict, in_a_doctype, in_a_section, in_an_opening, Out, tag_out}
 use Rattle.rx_pages.proofs.PendsMarks.{by_whole, as_verdict}
 use Rattle.rx_reader.proofs.Bools.{both, neither, either, not_both_ways, by_test, split, untrue}
 use Rattle.rx_reader.proofs.Classes.{of_one}

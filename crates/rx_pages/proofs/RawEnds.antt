@@ -1,6 +1,6 @@
 -- The end tags of raw elements, in HTML.
-use Rattle.std.proofs.Common.{◌≡◌, ◌∙◌, ℕ, ◌+◌, Bool, true, false, [], ◌∷◌, ◌++◌, Option, Some, None, Ok, refl, ap, sym, subst, append-nil, append_assoc, inl, inr, arith}
-use Rattle.std.specs.Prelude.{◌&&◌, ◌||◌, ◌==◌, not}
+use Rattle.std.proofs.Common.{◌≡◌, ◌∙◌, ℕ, ◌+◌, true, false, [], ◌∷◌, ◌++◌, Some, refl, ap, sym, subst, arith}
+use Rattle.std.specs.Prelude.{◌==◌, not}
 use Rattle.std.specs.List.{list_all}
 use Rattle.std.proofs.lemmas.Bool.{cond-false, and_from}
 use Rattle.std.proofs.lemmas.Bool.Decides.{nat_tests}
@@ -23,7 +23,7 @@ use Rattle.rx_pages.proofs.TagRuns.{KnownEnd, after_last}
 use Rattle.rx_reader.proofs.Bools.{both, not_both_ways, by_test, untrue}
 use Rattle.rx_reader.proofs.Classes.{of_white, of_one, unless}
 use Rattle.rx_reader.proofs.TagLaws.{reads_each}
-use Rattle.rx_reader.proofs.TagFaultLaws.{Parts, parts}
+use Rattle.rx_reader.proofs.TagFaultLaws.{parts}
 
 -- their names are letters in lower case
 pub record IsRawName (name : Chars) : Type 0 where

@@ -1,8 +1,8 @@
 -- A run that is known to be a tag is read as one.
-use Rattle.std.proofs.Common.{◌≡◌, ◌≢◌, ◌∙◌, ℕ, suc, ◌+◌, ◌<◌, ◌≤◌, length, take, Bool, true, false, [], ◌∷◌, ◌++◌, Option, Some, None, Result, Ok, Err, refl, ap, sym, subst, append-nil, append_assoc, inl, inr, ◌⊎◌, eqb-true, arith}
+use Rattle.std.proofs.Common.{◌≡◌, ◌≢◌, ◌∙◌, ℕ, ◌+◌, ◌≤◌, length, take, Bool, true, false, [], ◌∷◌, ◌++◌, Some, Ok, Err, refl, ap, sym, subst, append-nil, append_assoc, inl, inr, ◌⊎◌, arith}
 use Rattle.std.specs.Prelude.{◌&&◌, ◌||◌, ◌==◌, not, drop}
 use Rattle.std.proofs.lemmas.Bool.{cond-true, cond-false}
-use Rattle.std.proofs.lemmas.List.{map-append, length-append, length-map, take-append-drop}
+use Rattle.std.proofs.lemmas.List.{length-append, length-map, take-append-drop}
 use Rattle.rx_terms.specs.Ascii.{lowered_char, solidus, less_than_sign}
 use Rattle.rx_terms.specs.Text.{Chars, begins_with, lowered}
 use Rattle.rx_chars.specs.declared.syntax.Syntax.{Syntax}
@@ -21,17 +21,16 @@ use Rattle.rx_reader.specs.Tables.{is_html, is_last}
 use Rattle.rx_reader.specs.TagReader.{TagState, fresh, moved, checked, tag_step, tag_step_on, tag_on}
 use Rattle.rx_reader.specs.Laws.{ReadsOn}
 use Rattle.rx_pages.specs.Scanner.{goes_on, refused, told_of_tag, in_tag, in_raw, in_markup, is_mark, verdict, GoesOn}
-use Rattle.rx_pages.proofs.Reading.{all_go, markup_raw, markup_is, raw_is}
+use Rattle.rx_pages.proofs.Reading.{all_go, markup_is, raw_is}
 use Rattle.rx_pages.proofs.RawText.{begins_end_front}
 use Rattle.rx_pages.proofs.Contents.{same_is}
 use Rattle.rx_pages.proofs.FirstFronts.{same_self}
 use Rattle.rx_pages.proofs.Refusals.{IsRefused}
-use Rattle.rx_reader.proofs.Bools.{both, either, not_both_ways, by_test, untrue}
+use Rattle.rx_reader.proofs.Bools.{both, either, not_both_ways, by_test}
 use Rattle.rx_reader.proofs.Classes.{of_one}
-use Rattle.rx_reader.proofs.Fronts.{equal, begins_append, Longer, two_fronts}
-use Rattle.rx_reader.proofs.OneToken.{no_bang, no_question}
+use Rattle.rx_reader.proofs.Fronts.{equal, two_fronts}
 use Rattle.rx_reader.proofs.TagLaws.{last_none, on_err, tag_on-append}
-use Rattle.rx_reader.proofs.TagFaultLaws.{Parts, parts, is_refused}
+use Rattle.rx_reader.proofs.TagFaultLaws.{parts, is_refused}
 
 -- The fronts of what is read as a tag are read so.
 pub after_last : (s : Syntax) (st : TagState) (c : ℕ) (text : Chars) (last : TagState) → is_last st.phase ≡ true → tag_on s (meaning s) (Ok st) (c ∷ text) ≡ Ok last → ⊥

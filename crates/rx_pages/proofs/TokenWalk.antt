@@ -1,7 +1,6 @@
 -- Reading the entries of a page token by token.
-use Rattle.std.proofs.Common.{◌≡◌, ◌≢◌, ◌∙◌, ◌⊎◌, ⊎_elim, inl, inr, ℕ, zero, suc, ◌+◌, ◌<◌, ◌≤◌, Bool, true, false, cond, List, [], ◌∷◌, ◌++◌, refl, sym, ap, subst, length, nat_le, append_assoc, append-nil, Option, Some, None, Result, Ok, Err, arith}
+use Rattle.std.proofs.Common.{◌≡◌, ◌∙◌, ◌⊎◌, ⊎_elim, inl, inr, ℕ, ◌+◌, ◌<◌, Bool, true, false, List, [], ◌∷◌, ◌++◌, refl, sym, ap, subst, nat_le, append_assoc, append-nil, Option, None, Result, Ok, Err}
 use Rattle.std.specs.Prelude.{◌&&◌, ◌||◌, ◌==◌, not, if◌then◌else◌}
-use Rattle.std.proofs.lemmas.Bool.{and_parts, cond-true, cond-false}
 use Rattle.rx_terms.specs.Ascii.{greater_than_sign, right_bracket, less_than_sign, ampersand}
 use Rattle.rx_terms.specs.Text.{Chars}
 use Rattle.rx_chars.specs.declared.syntax.Syntax.{Syntax}
@@ -13,13 +12,13 @@ use Rattle.rx_grammar.specs.declared.limits.Limits.{Limits}
 use Rattle.rx_grammar.specs.Tokens.{Token, tag, character, reference, kept, section, comment, doctype}
 use Rattle.rx_grammar.specs.Spelling as spelling
 use Rattle.rx_grammar.specs.Spelling.{Spells, has_references, is_text}
-use Rattle.rx_grammar.specs.Items.{values, next_of, Item, last_from, is_literal, no_section_end}
+use Rattle.rx_grammar.specs.Items.{values, Item, is_literal}
 use Rattle.rx_grammar.specs.Begun.{Phase, before, within, after}
 use Rattle.rx_grammar.specs.PageFaults.{is_known_tag}
 use Rattle.rx_reader.proofs.Bools.{by_test}
-use Rattle.rx_pages.specs.Nesting.{Event, Nesting, Step, content_at, nest_step, step_by, going_on, told, doctype_step, text_step}
-use Rattle.rx_pages.specs.Scanner.{Verdict, goes_on, whole, ended, refused, at_first, verdict, GoesOn, ReadAs, at_last, at_next}
-use Rattle.rx_pages.specs.PageReader.{Spot, Scanning, Scanned, first_of, is_too_long, item_of, is_doctype, entering, completed, told_first, with_item, after_token, told as told_by, spot_of, may_lead, with_events, step_on, steps_on, no_step}
+use Rattle.rx_pages.specs.Nesting.{Event, Nesting, Step, content_at, nest_step, step_by, going_on, doctype_step, text_step}
+use Rattle.rx_pages.specs.Scanner.{Verdict, goes_on, whole, ended, at_first, verdict, GoesOn, ReadAs, at_last, at_next}
+use Rattle.rx_pages.specs.PageReader.{Spot, Scanning, Scanned, first_of, is_too_long, item_of, is_doctype, entering, completed, told_first, with_item, told as told_by, spot_of, may_lead, with_events, steps_on, no_step}
 use Rattle.rx_pages.proofs.Pending.{goes_at, not_whole}
 use Rattle.rx_pages.proofs.Spellings.{reads_each}
 use Rattle.rx_pages.proofs.Tokens.{values_append}
@@ -157,9 +156,14 @@ module _ (syntax : Syntax) (limits : Limits) where
     go_all bound a (e ∷ es) b h g = (
       limit_before bound a e (es ++ b) h,
       limit_with bound a e (es ++ b) h,
-      (stood n events two last (a ++ e ∷ []), (go_step a e g.0,
-        subst (λ x. Leads (stood n events two last (a ++ e ∷ [])) es (stood n events two last x)) (append_assoc a (e ∷ []) es)
-        (go_all bound (a ++ e ∷ []) es b (h ∙ sym (append_assoc a (e ∷ []) (es ++ b))) (subst (λ x. GoesOn syntax inside x (values es)) (sym (values_append a (e ∷ []))) g.1)))),
+      (
+        stood n events two last (a ++ e ∷ []),
+        (
+          go_step a e g.0,
+          subst (λ x. Leads (stood n events two last (a ++ e ∷ [])) es (stood n events two last x)) (append_assoc a (e ∷ []) es)
+              (go_all bound (a ++ e ∷ []) es b (h ∙ sym (append_assoc a (e ∷ []) (es ++ b))) (subst (λ x. GoesOn syntax inside x (values es)) (sym (values_append a (e ∷ []))) g.1)),
+        ),
+      ),
     )
 
     -- the entry that completes a token

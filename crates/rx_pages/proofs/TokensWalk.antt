@@ -1,7 +1,6 @@
 -- Reading all tokens of a front.
-use Rattle.std.proofs.Common.{◌≡◌, ◌≢◌, ◌∙◌, ◌⊎◌, ⊎_elim, inl, inr, ℕ, zero, suc, ◌+◌, ◌<◌, ◌≤◌, Bool, true, false, cond, List, [], ◌∷◌, ◌++◌, refl, sym, ap, subst, length, nat_le, append_assoc, append-nil, Option, Some, None, Result, Ok, Err, arith}
-use Rattle.std.specs.Prelude.{◌&&◌, ◌||◌, ◌==◌, not, if◌then◌else◌}
-use Rattle.std.proofs.lemmas.Bool.{and_parts, cond-true, cond-false}
+use Rattle.std.proofs.Common.{◌≡◌, ◌∙◌, ℕ, ◌+◌, ◌≤◌, Bool, true, false, cond, List, [], ◌∷◌, ◌++◌, refl, sym, ap, subst, append_assoc, append-nil, Option, Some, None, Ok, arith}
+use Rattle.std.specs.Prelude.{◌&&◌, if◌then◌else◌}
 use Rattle.rx_terms.specs.Ascii.{greater_than_sign, right_bracket}
 use Rattle.rx_terms.specs.Text.{Chars}
 use Rattle.rx_chars.specs.declared.syntax.Syntax.{Syntax}
@@ -13,10 +12,9 @@ use Rattle.rx_grammar.specs.Tokens.{Token, tag, kept}
 use Rattle.rx_grammar.specs.Spelling.{Spells}
 use Rattle.rx_grammar.specs.Items.{values, next_of, Item, last_from, Spelled, no_more, one, Fits, AllFit, is_literal, is_strict_literal, no_section_end}
 use Rattle.rx_grammar.specs.PageFaults.{is_known_tag}
-use Rattle.rx_reader.proofs.Bools.{by_test}
 use Rattle.rx_pages.specs.Nesting.{Event, Nesting, Step, content_at, nest_step, Goes, stands, goes}
 use Rattle.rx_pages.specs.Scanner.{Verdict, whole, ended, verdict, GoesOn, ReadAs, at_last, at_next}
-use Rattle.rx_pages.specs.PageReader.{first_of, item_of}
+use Rattle.rx_pages.specs.PageReader.{item_of}
 use Rattle.rx_pages.proofs.Spellings.{reads_each}
 use Rattle.rx_pages.proofs.Tokens.{values_append}
 use Rattle.rx_pages.proofs.KnownTags.{TagVerdict, on, a_tag, a_fault, known_more, known_verdict}
@@ -163,10 +161,11 @@ module _ (syntax : Syntax) (limits : Limits) (G : Stood → Stood → List Entry
                 subst (λ x. G end (stood n events two last []) (x ++ more)) (sym h)
                 (subst (λ x. G end (stood n events two last []) x) (sym (append_assoc es (d ∷ []) more))
                 (appends end (stood n events two last []) (stood n events two last es) es (d ∷ more) (go_all syntax limits n events two last unit bound [] es (d ∷ []) h go2)
-                (appends end (stood n events two last es) (stood step.next (events ++ step.events) (last && is_literal right_bracket item) (is_literal right_bracket item) []) (d ∷ []) more
-                (limit_before syntax limits n events two last unit bound es d [] h,
+                (appends end (stood n events two last es) (stood step.next (events ++ step.events) (last && is_literal right_bracket item) (is_literal right_bracket item) []) (d ∷ []) more (
+                  limit_before syntax limits n events two last unit bound es d [] h,
                   limit_with syntax limits n events two last unit bound es d [] h,
-                  (stood step.next (events ++ step.events) (last && is_literal right_bracket item) (is_literal right_bracket item) [], (whole_step syntax limits n events two last unit es d item step v2 it st sec, refl)))
+                  (stood step.next (events ++ step.events) (last && is_literal right_bracket item) (is_literal right_bracket item) [], (whole_step syntax limits n events two last unit es d item step v2 it st sec, refl)),
+                )
                 f)))
         by _ _ _ (at_next x d token go v) e m k s = at more m f
           where
@@ -182,11 +181,10 @@ module _ (syntax : Syntax) (limits : Limits) (G : Stood → Stood → List Entry
                 let it : item_of inside item.token unit ≡ item = item_is inside item c r ci first is_last in
                 let l : is_literal right_bracket item ≡ false = kept_literal right_bracket item kept_is in
                 let g2 : G end (stood step.next (events ++ step.events) false false []) (z ∷ es) =
-                  subst (λ b. G end (stood step.next (events ++ step.events) b false []) (z ∷ es)) (and_false last) (subst (λ b. G end (stood step.next (events ++ step.events) (last && b) b []) (z ∷ es)) l g) in
+                subst (λ b. G end (stood step.next (events ++ step.events) b false []) (z ∷ es)) (and_false last) (subst (λ b. G end (stood step.next (events ++ step.events) (last && b) b []) (z ∷ es)) l g) in
                 appends end (stood n events two last []) (stood n events two last unit) unit (z ∷ es)
                 (go_all syntax limits n events two last unit (next_bound z v2) [] unit [] (sym (append-nil unit)) go2)
                 (keeps end n events two last unit z es item step v2 it st kept_is (subst (λ y. Spells syntax inside (values unit) (Some y) item.token) same (subst (λ token. Spells syntax inside (values unit) (Some d) token) k (subst (λ y. Spells syntax inside y (Some d) token) e s))) g2)
-
 
   -- what is had of a front and the run behind it
   pub record Walked (st : Stood) (front run : List Entry) (meant : Nesting → Type 0) (events : List Event) (flags : Bool × Bool) : Type 0 where
@@ -222,8 +220,8 @@ module _ (syntax : Syntax) (limits : Limits) (G : Stood → Stood → List Entry
         place = ih.place;
         is_meant = ih.is_meant;
         fine =
-          subst (λ x. G (stood ih.place x (flags_behind items (last && is_literal right_bracket item) (is_literal right_bracket item)).0 (flags_behind items (last && is_literal right_bracket item) (is_literal right_bracket item)).1 []) (stood n told two last []) (((c ∷ r) ++ rest) ++ run)) (append_assoc told step.events events)
-          (subst (λ x. G end (stood n told two last []) x) (sym (append_assoc (c ∷ r) rest run))
-          (token_fine n told two last c r item step ci f l st (rises_front c.last r (rest ++ run) rises2) fit.0 (rest ++ run) end (values (c ∷ r)) (next_of (values rest) next)
+            subst (λ x. G (stood ih.place x (flags_behind items (last && is_literal right_bracket item) (is_literal right_bracket item)).0 (flags_behind items (last && is_literal right_bracket item) (is_literal right_bracket item)).1 []) (stood n told two last []) (((c ∷ r) ++ rest) ++ run)) (append_assoc told step.events events)
+            (subst (λ x. G end (stood n told two last []) x) (sym (append_assoc (c ∷ r) rest run))
+            (token_fine n told two last c r item step ci f l st (rises_front c.last r (rest ++ run) rises2) fit.0 (rest ++ run) end (values (c ∷ r)) (next_of (values rest) next)
             (reads_each syntax (content_at syntax n) (values (c ∷ r)) (next_of (values rest) next) item.token sp2) refl (next_same rest run next h) sp2 parts.0 ih.fine));
       }
