@@ -103,7 +103,7 @@ pub same_self : (text : Chars) → same text text ≡ true
 same_self [] = refl
 same_self (c ∷ text) = rw (equal c, same_self text) refl
 
-or_second : (a b : Bool) → b ≡ true → (a || b) ≡ true
+pub or_second : (a b : Bool) → b ≡ true → (a || b) ≡ true
 or_second true b h = refl
 or_second false b h = h
 

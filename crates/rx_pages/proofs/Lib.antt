@@ -44,3 +44,5 @@ pub mod PendsMarks
 pub mod PendsOpenings
 pub mod FaultsRead
 pub mod OneOf
+pub mod PendsOn
+pub mod Judged

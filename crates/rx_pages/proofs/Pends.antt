@@ -191,7 +191,7 @@ is_known_by name text k =
 known_more : (name text : Chars) (c : ℕ) → KnownEnd name text → KnownEnd name (text ++ c ∷ [])
 known_more name text c k = record { word = k.word; e = k.e; rest = k.rest ++ c ∷ []; are = ap (λ x. x ++ c ∷ []) k.are ∙ append_assoc k.word (k.e ∷ k.rest) (c ∷ []); is = k.is; ends = k.ends }
 
-raw_html : (s : Syntax) (i : Content) (name : Chars) → occurs s i ≡ true → raw_name i ≡ Some name → s ≡ Html
+pub raw_html : (s : Syntax) (i : Content) (name : Chars) → occurs s i ≡ true → raw_name i ≡ Some name → s ≡ Html
 raw_html Html i name o r = refl
 raw_html Xhtml content.Outside name o r = absurd (cc)
 raw_html Xhtml content.Html name o r = absurd (cc)

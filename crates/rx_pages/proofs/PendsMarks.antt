@@ -80,7 +80,7 @@ module _ (s : Syntax) (i : Content) (sections : has_sections i ≡ true) (text :
           (subst (λ y. Spells s i (60 ∷ 33 ∷ (codes "[CDATA[" ++ (x ++ codes "]]>"))) next (section y)) (sym k) (spelling.a_section x sections (subst (IsFirst (ends_with (codes "]]>"))) e f)))
 
 -- document types
-same_word : (a b x y : Chars) → a ++ x ≡ b ++ y → length a ≡ length b → (a ≡ b) × (x ≡ y)
+pub same_word : (a b x y : Chars) → a ++ x ≡ b ++ y → length a ≡ length b → (a ≡ b) × (x ≡ y)
 same_word [] [] x y e l = (refl, e)
 same_word [] (d ∷ b) x y e l = absurd (omega arith)
 same_word (c ∷ a) [] x y e l = absurd (omega arith)

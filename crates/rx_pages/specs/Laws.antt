@@ -1,5 +1,5 @@
 -- What holds of the tables.
-use Rattle.std.specs.Prelude.{◌≡◌, ℕ, List, [], ◌∷◌, ◌++◌, Option, None, Ok, Err}
+use Rattle.std.specs.Prelude.{◌≡◌, ◌↔◌, ℕ, List, [], ◌∷◌, ◌++◌, Option, None, Ok, Err}
 use Rattle.rx_terms.specs.Text.{Chars}
 use Rattle.rx_chars.specs.declared.syntax.Syntax.{Syntax}
 use Rattle.rx_grammar.specs.declared.contents.Content.{Content}
@@ -11,10 +11,12 @@ use Rattle.rx_grammar.specs.declared.limits.Limits.{Limits}
 use Rattle.rx_grammar.specs.Trees.{Tree}
 use Rattle.rx_grammar.specs.Pages.{Page}
 use Rattle.rx_grammar.specs.declared.faults.Fault.{Fault}
-use Rattle.rx_grammar.specs.PageFaults.{Reached, FaultAt}
-use Rattle.rx_grammar.specs.Begun.{Line, Phase, after, Stands}
+use Rattle.rx_grammar.specs.declared.faults.Kind.{Kind}
+use Rattle.rx_grammar.specs.PageFaults.{Unfinished, Faulty, Reached, FaultAt}
+use Rattle.rx_grammar.specs.Begun.{Line, inside_of, Phase, after, Stands}
 use Rattle.rx_pages.specs.Nesting.{Event, Nesting, not_begun, Goes, IsAt, told_trees}
-use Rattle.rx_pages.specs.Scanner.{ReadAs}
+use Rattle.rx_pages.specs.Scanner.{GoesOn, ReadAs}
+use Rattle.rx_pages.specs.Faults.{Decides}
 use Rattle.rx_pages.specs.PageReader.{Progress, page_read, end_of}
 
 -- characters that spell a token are read as it
@@ -60,3 +62,16 @@ ReadsEachPage = (syntax : Syntax) (limits : Limits) (bytes : List ℕ) (tree : T
 -- each fault of the grammar is found
 abbrev pub FindsEachFault : Type 0
 FindsEachFault = (syntax : Syntax) (limits : Limits) (bytes : List ℕ) (fault : Fault) → FaultAt syntax limits bytes fault → end_of (page_read syntax limits bytes) ≡ Err fault
+
+-- Inside of open elements exactly the characters that begin a token, and aren't yet one, go on.
+abbrev pub UnfinishedGoesOn : Type 0
+UnfinishedGoesOn = (syntax : Syntax) (line : Line) (c : ℕ) (run : Chars) → Unfinished syntax (inside_of syntax line).content (c ∷ run) ↔ GoesOn syntax (inside_of syntax line).content [] (c ∷ run)
+
+-- What is read there as a token spells it.
+abbrev pub SpellsEachToken : Type 0
+SpellsEachToken = (syntax : Syntax) (line : Line) (text : Chars) (next : Option ℕ) (token : Token) → ReadAs syntax (inside_of syntax line).content text next token → Spells syntax (inside_of syntax line).content text next token
+
+-- The last of the characters behind whole tokens has a fault exactly where it is decided so.
+abbrev pub FaultsAreDecided : Type 0
+FaultsAreDecided = (syntax : Syntax) (depth : ℕ) (items : List Item) (line : Line) (phase : Phase) (found : Kind) (chars : Chars)
+    → Faulty syntax depth items line phase (inside_of syntax line).content found chars ↔ Decides syntax depth items line phase (inside_of syntax line).content found chars

@@ -6,7 +6,7 @@
 #![tactic(auto)]
 
 ghost use Rattle.rx_grammar.specs.Laws.{NotBoth, OneFault, OneTree};
-ghost use Rattle.rx_pages.specs.Laws.{FindsEachFault, FrontsLead, FrontsStand, PagesGoOn, ReadsEachPage, ReadsEachToken};
+ghost use Rattle.rx_pages.specs.Laws.{FaultsAreDecided, FindsEachFault, FrontsLead, FrontsStand, PagesGoOn, ReadsEachPage, ReadsEachToken, SpellsEachToken, UnfinishedGoesOn};
 
 /// A byte list has at most one tree.
 pub fn one_tree()
@@ -16,6 +16,22 @@ pub fn one_tree()
 /// Characters that spell a token are read as it.
 pub fn reads_each_token()
     ensures { ReadsEachToken }
+{}
+
+/// What is read as a token, inside of open elements, spells it.
+pub fn spells_each_token()
+    ensures { SpellsEachToken }
+{}
+
+/// Inside of open elements exactly the characters that begin a token, and aren't yet one, go on.
+pub fn unfinished_goes_on()
+    ensures { UnfinishedGoesOn }
+{}
+
+/// Behind whole tokens the last character has a fault exactly where it is refused, where it ends a token that doesn't
+/// nest, or where it is the `>` of a `]]>` in text of XHTML.
+pub fn faults_are_decided()
+    ensures { FaultsAreDecided }
 {}
 
 /// Tokens that can stand at the front of a page lead to its open elements.
