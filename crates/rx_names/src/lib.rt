@@ -1,13 +1,9 @@
-// A library with one function.
+//! The names in force at an element: prefixes, default vocabulary, language and terms.
 #![tactic(auto)]
 
-ghost use Rattle.std.specs.Prelude.{◌≡◌};
-ghost use Rattle.rx_names.specs.Echo.{echo_of};
+mod attributes;
+mod declarations;
+mod rows;
+mod tables;
+mod words;
 
-// The `ensures` clause is the contract: what `echo` returns is `echo_of` of its argument, a definition
-// in `specs/Echo.antt`, which a caller's clause can cite too.
-pub fn echo(x: usize) -> usize
-    ensures { result ≡ echo_of x }
-{
-    x
-}

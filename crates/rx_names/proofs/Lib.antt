@@ -1,0 +1,4 @@
+pub mod TagLemmas
+pub mod RowLemmas
+pub mod DeclarationLemmas
+pub mod TableLemmas
