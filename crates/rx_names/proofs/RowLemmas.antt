@@ -14,11 +14,11 @@ sound-front n rows h =
     (and_parts _ _ whole).0
 
 -- what rows say that stand behind others
-or-none : {A : Type 0} (o : Option A) → option_or o None ≡ o
+pub or-none : {A : Type 0} (o : Option A) → option_or o None ≡ o
 or-none None = refl
 or-none (Some x) = refl
 
-or-assoc : {A : Type 0} (a b c : Option A) → option_or (option_or a b) c ≡ option_or a (option_or b c)
+pub or-assoc : {A : Type 0} (a b c : Option A) → option_or (option_or a b) c ≡ option_or a (option_or b c)
 or-assoc None b c = refl
 or-assoc (Some x) b c = refl
 

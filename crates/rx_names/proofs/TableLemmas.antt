@@ -50,7 +50,7 @@ module _ {T : Type 0} (key value : T → Chars) where
   abbrev pub bytes : T → List ℕ
   bytes row = encode_utf8_all (key row)
 
-  later_at : (front : Chars) (rows : List T) (at : ℕ) (d : T) → list_all (λ row. is_before front row.0) (map view rows) ≡ true
+  pub later_at : (front : Chars) (rows : List T) (at : ℕ) (d : T) → list_all (λ row. is_before front row.0) (map view rows) ≡ true
       → at < length rows → is_lt (byte_order front (key (get_or rows at d))) ≡ true
   later_at front [] at d all below = absurd (omega arith)
   later_at front (row ∷ rows) zero d all below = (and_parts (is_before front (key row)) (list_all (λ row. is_before front row.0) (map view rows)) all).0

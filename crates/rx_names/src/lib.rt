@@ -2,8 +2,10 @@
 #![tactic(auto)]
 
 mod attributes;
+mod contexts;
 mod declarations;
 mod rows;
+mod standard;
 mod tables;
 mod words;
 
