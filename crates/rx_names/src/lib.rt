@@ -4,6 +4,7 @@
 mod attributes;
 mod contexts;
 mod declarations;
+mod names;
 mod rows;
 mod standard;
 mod tables;

@@ -61,6 +61,16 @@ impl Rows {
         }
     }
 
+    /// Adds the other rows at the end.
+    pub(crate) fn append(&mut self, other: Rows) -> Result<(), NoMemory>
+        ensures ok { OnOk result (self.new ≡ self.old ++ other) }
+        ensures err { OnErr result (self.new ≡ self.old) }
+    {
+        let Rows { mut rows } = other;
+        self.rows.append(&mut rows)?;
+        Ok(())
+    }
+
     pub(crate) fn len(&self) -> usize
         ensures length { result ≡ length self.now }
     {
