@@ -4,3 +4,4 @@ pub mod DeclarationLemmas
 pub mod TableLemmas
 pub mod PutLemmas
 pub mod GivenLemmas
+pub mod LineLemmas

@@ -1,5 +1,5 @@
 -- The declarations that are kept of a tag, and what a list of them says.
-use Rattle.std.specs.Prelude.{ℕ, ◌+◌, Bool, true, ◌&&◌, List, [], ◌∷◌, ◌++◌, map, Option, Some, None, codes, bytes_eq, count_by, filter, length, if◌then◌else◌}
+use Rattle.std.specs.Prelude.{ℕ, ◌+◌, Bool, true, ◌&&◌, List, [], ◌∷◌, ◌++◌, map, Option, Some, None, codes, bytes_eq, filter, length, if◌then◌else◌}
 use Rattle.std.specs.Option.{option_or, option_map}
 use Rattle.rx_terms.specs.Text.{Chars, trimmed, lowered, begins_with}
 use Rattle.rx_terms.specs.Iri.{has_scheme}
@@ -68,5 +68,5 @@ one_if_some (Some value) = 1
 -- one for `vocab`, and one for `xml:lang` and `lang`
 abbrev pub declared : Tag → ℕ
 declared tag =
-    count_by (λ a. begins_with (codes "xmlns:") a.0) tag.attributes + length (of_prefix (attribute tag (codes "prefix")))
+    length (filter (λ a. begins_with (codes "xmlns:") a.0) tag.attributes) + length (of_prefix (attribute tag (codes "prefix")))
     + (one_if_some (attribute tag (codes "vocab")) + one_if_some (language_attribute tag))

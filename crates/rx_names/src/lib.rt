@@ -10,3 +10,7 @@ mod standard;
 mod tables;
 mod words;
 
+pub use attributes::attribute;
+pub use contexts::Context;
+pub use names::{Names, NamesView};
+pub use words::{is_nc_name, is_term};
