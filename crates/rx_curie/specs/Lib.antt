@@ -1,2 +1,4 @@
 pub mod Nodes
 pub mod Seen
+pub mod Absolute
+pub mod Brackets

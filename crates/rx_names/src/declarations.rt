@@ -1,5 +1,5 @@
 //! What a start tag declares.
-ghost use Rattle.std.specs.Prelude.{◌≡◌, [], ◌∷◌, ◌++◌, OnOk, IfOk, codes, bytes_eq};
+ghost use Rattle.std.specs.Prelude.{◌≡◌, [], ◌∷◌, ◌++◌, OnOk, IfOk};
 ghost use Rattle.std.specs.List.{flat_map};
 ghost use Rattle.std.specs.Str.{chars};
 ghost use Rattle.rx_terms.specs.Text.{lowered, tokens};
@@ -11,7 +11,7 @@ ghost use Rattle.rx_names.specs.Rows.{rows_of, mapping_rows, vocabulary_rows, la
 
 use crate::attributes::attribute;
 use crate::rows::{Row, Rows};
-use crate::words::is_nc_name;
+use crate::words::{is_low_line, is_nc_name};
 use rx_tags::Tag;
 use rx_terms::{Lang, NoMemory, Text, has_scheme};
 use rx_words::{behind, first_token, is_empty, lower, split_last, trim};
@@ -111,12 +111,6 @@ fn counts(name: &str, iri: &str) -> bool
     ensures { result ≡ counts (chars name.now, chars iri.now) }
 {
     is_nc_name(name) && !is_low_line(name) && has_scheme(iri)
-}
-
-fn is_low_line(name: &str) -> bool
-    ensures { result ≡ bytes_eq (chars name.now) (codes "_") }
-{
-    name == "_"
 }
 
 fn push_vocabulary(alloc: Global, rows: &mut Rows, value: Option<&str>) -> Result<(), NoMemory>

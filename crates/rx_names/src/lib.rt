@@ -13,4 +13,4 @@ mod words;
 pub use attributes::attribute;
 pub use contexts::Context;
 pub use names::{Names, NamesView};
-pub use words::{is_nc_name, is_term};
+pub use words::{is_low_line, is_nc_name, is_term};

@@ -1,5 +1,5 @@
 //! Names of prefixes and terms.
-ghost use Rattle.std.specs.Prelude.{◌≡◌, ◌||◌, ◌==◌};
+ghost use Rattle.std.specs.Prelude.{◌≡◌, ◌||◌, ◌==◌, codes, bytes_eq};
 ghost use Rattle.std.specs.List.{list_all};
 ghost use Rattle.std.specs.Str.{chars};
 ghost use Rattle.rx_terms.specs.Ascii.{solidus};
@@ -22,6 +22,13 @@ pub fn is_term(text: &str) -> bool
     ensures { result ≡ is_term (chars text.now) }
 {
     begins_name(text) && are_nc_or_slash(text)
+}
+
+/// Whether the text is `_`, which no page can declare as a prefix.
+pub fn is_low_line(text: &str) -> bool
+    ensures { result ≡ bytes_eq (chars text.now) (codes "_") }
+{
+    text == "_"
 }
 
 fn begins_name(text: &str) -> bool

@@ -1,0 +1,15 @@
+-- Readings that make IRIs: they begin with a scheme.
+use Rattle.std.specs.Prelude.{Bool, true, Option, Some, None}
+use Rattle.rx_terms.specs.Text.{Chars}
+use Rattle.rx_terms.specs.Iri.{has_scheme}
+use Rattle.rx_rdfa.specs.Readings.{Reading, Full, Joined, Label, Reference}
+
+abbrev pub is_absolute : Reading → Bool
+is_absolute (Full iri) = has_scheme iri
+is_absolute (Joined iri more) = has_scheme iri
+is_absolute (Label label) = true
+is_absolute (Reference reference) = true
+
+abbrev pub none_or_absolute : Option Reading → Bool
+none_or_absolute None = true
+none_or_absolute (Some reading) = is_absolute reading
