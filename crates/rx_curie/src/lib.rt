@@ -2,6 +2,7 @@
 #![tactic(auto)]
 
 mod facts;
+mod made;
 mod nodes;
 mod readings;
 mod refs;

@@ -11,7 +11,7 @@ ghost use Rattle.rx_names.specs.Views.{names_seen};
 ghost use Rattle.rx_refs.specs.Views.{seen_slice};
 ghost use Rattle.rx_terms.specs.Iri.{has_scheme};
 ghost use Rattle.rx_curie.specs.Brackets.{inside_brackets};
-ghost use Rattle.rx_curie.specs.Absolute.{none_or_absolute};
+ghost use Rattle.rx_curie.specs.Absolute.{none_or_absolute, none_or_named};
 ghost use Rattle.rx_curie.specs.Seen.{reading_seen};
 
 use rx_names::{NamesView, is_low_line, is_term};
@@ -39,6 +39,7 @@ const XHTML_VOCABULARY: &str = "http://www.w3.org/1999/xhtml/vocab#";
 pub fn read_term<'a>(names: &NamesView<'a>, text: &'a str) -> Option<Reading<'a>>
     ensures line { (line : List Tag) → Stands (names_seen names.now) line → option_map reading_seen result ≡ the.read_term (names_seen names.now).context line (chars text.now) }
     ensures absolute { is_relative (vocabulary_of (names_seen names.now)) ≡ false → none_or_absolute (option_map reading_seen result) ≡ true }
+    ensures named { none_or_named (option_map reading_seen result) ≡ true }
 {
     if is_term(text) {
         return read_as_term(names, text);
@@ -59,6 +60,7 @@ pub fn read_resource<'a>(names: &NamesView<'a>, text: &'a str) -> Option<Reading
 fn read_as_term<'a>(names: &NamesView<'a>, text: &'a str) -> Option<Reading<'a>>
     ensures line { (line : List Tag) → Stands (names_seen names.now) line → option_map reading_seen result ≡ the.read_as_term (names_seen names.now).context line (vocab line) (chars text.now) }
     ensures absolute { is_relative (vocabulary_of (names_seen names.now)) ≡ false → none_or_absolute (option_map reading_seen result) ≡ true }
+    ensures named { none_or_named (option_map reading_seen result) ≡ true }
 {
     if let Some(vocabulary) = names.vocab() {
         return Some(Reading::Joined(vocabulary, text));
@@ -73,6 +75,7 @@ fn read_as_term<'a>(names: &NamesView<'a>, text: &'a str) -> Option<Reading<'a>>
 pub(crate) fn read_no_term<'a>(names: &NamesView<'a>, text: &'a str) -> Option<Reading<'a>>
     ensures line { (line : List Tag) → Stands (names_seen names.now) line → option_map reading_seen result ≡ the.read_no_term (names_seen names.now).context line (chars text.now) }
     ensures absolute { none_or_absolute (option_map reading_seen result) ≡ true }
+    ensures named { none_or_named (option_map reading_seen result) ≡ true }
 {
     match read_curie(names, text) {
         Some(reading) => Some(reading),
@@ -83,6 +86,7 @@ pub(crate) fn read_no_term<'a>(names: &NamesView<'a>, text: &'a str) -> Option<R
 fn full_if_scheme(text: &str) -> Option<Reading<'_>>
     ensures reading { option_map reading_seen result ≡ (if has_scheme (chars text.now) then Some (the.Full (chars text.now)) else None) }
     ensures absolute { none_or_absolute (option_map reading_seen result) ≡ true }
+    ensures named { none_or_named (option_map reading_seen result) ≡ true }
 {
     if has_scheme(text) {
         return Some(Reading::Full(text));
@@ -94,6 +98,7 @@ fn full_if_scheme(text: &str) -> Option<Reading<'_>>
 fn read_curie<'a>(names: &NamesView<'a>, text: &'a str) -> Option<Reading<'a>>
     ensures line { (line : List Tag) → Stands (names_seen names.now) line → option_map reading_seen result ≡ the.read_curie (names_seen names.now).context line (chars text.now) }
     ensures absolute { none_or_absolute (option_map reading_seen result) ≡ true }
+    ensures named { none_or_named (option_map reading_seen result) ≡ true }
 {
     let Some((prefix, reference)) = split_once(text, ':') else {
         return None;
@@ -112,6 +117,7 @@ fn read_parts<'a>(
 ) -> Option<Reading<'a>>
     ensures line { (line : List Tag) → Stands (names_seen names.now) line → option_map reading_seen result ≡ the.read_parts (names_seen names.now).context line (chars prefix.now) (chars reference.now) }
     ensures absolute { none_or_absolute (option_map reading_seen result) ≡ true }
+    ensures named { none_or_named (option_map reading_seen result) ≡ true }
 {
     if is_empty(prefix) {
         return Some(Reading::Joined(XHTML_VOCABULARY, reference));
