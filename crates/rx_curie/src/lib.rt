@@ -4,6 +4,7 @@
 mod facts;
 mod made;
 mod nodes;
+mod predicates;
 mod readings;
 mod refs;
 
