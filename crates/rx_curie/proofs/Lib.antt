@@ -1,3 +1,4 @@
 pub mod ReadLemmas
 pub mod MadeLemmas
 pub mod TokenSteps
+pub mod LangForms

@@ -2,14 +2,17 @@
 #![tactic(auto)]
 
 mod facts;
+mod literals;
 mod made;
 mod nodes;
 mod predicates;
 mod readings;
 mod refs;
+mod resources;
+mod types;
 
 pub use facts::{Datatype, ElementKind, Facts, FactsError};
 pub use nodes::Nodes2;
-pub use readings::Reading;
+pub use readings::{Reading, read_resource, read_term};
 pub use refs::Ref;
 pub use rx_grammar::Kind;
