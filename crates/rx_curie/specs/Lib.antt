@@ -2,3 +2,5 @@ pub mod Nodes
 pub mod Seen
 pub mod Absolute
 pub mod Brackets
+pub mod Given
+pub mod Parts

@@ -1,8 +1,24 @@
 //! What a start tag says to RDFa.
+ghost use Rattle.std.specs.Prelude.{◌≡◌, List, false, IfOk};
+ghost use Rattle.std.specs.Str.{chars};
+ghost use Rattle.rx_rdfa.specs.Tree.{Tag as StartTag};
+ghost use Rattle.rx_rdfa.specs.Names.{vocab};
+ghost use Rattle.rx_rdfa.specs.Refusals.{is_relative, refusal};
+ghost use Rattle.rx_rdfa.specs.Facts as the;
+ghost use Rattle.rx_curie.specs.Seen.{kind_seen};
+ghost use Rattle.rx_names.specs.Lines.{Stands, vocabulary_of};
+ghost use Rattle.rx_names.specs.Views.{names_seen};
+
+use crate::literals::{is_word, language, own_vocabulary, vocabulary};
 use crate::nodes::Nodes2;
+use crate::parts::{Content, Links, Resources};
 use crate::refs::Ref;
+use crate::types::types;
 use rx_grammar::Kind;
-use rx_terms::{Iri, Iris, Lang, Text};
+use rx_names::{NamesView, attribute};
+use rx_tags::Tag;
+use rx_terms::{Iri, Iris, Lang, NoMemory, Text};
+use std::alloc::Global;
 
 /// The elements of which the rules speak by name (HTML+RDFa 1.1, section 3.1).
 #[derive(Clone, Copy, Debug, PartialEq, Eq)]
@@ -69,4 +85,71 @@ pub enum FactsError {
     Meaning(Kind),
     /// There was no memory.
     NoMemory,
+}
+
+impl From<NoMemory> for FactsError {
+    fn from(_error: NoMemory) -> FactsError {
+        FactsError::NoMemory
+    }
+}
+
+impl Facts {
+    ghost use Rattle.std.specs.Prelude.{◌≡◌, List, false, true, ◌||◌, IfOk, Err};
+    ghost use Rattle.rx_rdfa.specs.Tree.{Tag as StartTag};
+    ghost use Rattle.rx_rdfa.specs.Names.{vocab};
+    ghost use Rattle.rx_rdfa.specs.Refusals.{is_relative};
+    ghost use Rattle.rx_rdfa.specs.Facts as the;
+    ghost use Rattle.rx_names.specs.Tags.{tag_of};
+    ghost use Rattle.rx_names.specs.Lines.{Stands, vocabulary_of};
+    ghost use Rattle.rx_names.specs.Views.{names_seen};
+    ghost use Rattle.rx_curie.specs.Given.{own_vocabulary};
+    ghost use Rattle.rx_curie.specs.Seen.{facts_seen};
+
+    /// What the tag says under these names.
+    fn read(alloc: Global, tag: &Tag<'_>, names: &NamesView<'_>) -> Result<Facts, NoMemory>
+        requires own { is_relative (own_vocabulary (tag_of tag.now)) ≡ false }
+        requires vocabulary { is_relative (vocabulary_of (names_seen names.now)) ≡ false }
+        ensures { IfOk result (λ facts. (line : List StartTag) → Stands (names_seen names.now) line
+            → facts_seen facts ≡ the.facts_of (names_seen names.now).context line (tag_of tag.now)) }
+    {
+        let resources = Resources::of(alloc, tag, names)?;
+        let links = Links::of(alloc, tag, names)?;
+        let types = types(alloc, names, attribute(tag, "typeof"))?;
+        let content = Content::of(alloc, tag, names)?;
+        let vocab = vocabulary(alloc, own_vocabulary(tag))?;
+        let lang = language(alloc, names)?;
+        Ok(Facts {
+            element: kind_of(tag.name()),
+            about: resources.about,
+            resource: resources.resource,
+            href: resources.href,
+            src: resources.src,
+            rel: links.rel,
+            rev: links.rev,
+            property: links.property,
+            types,
+            content: content.content,
+            datetime: content.datetime,
+            datatype: content.datatype,
+            inlist: attribute(tag, "inlist").is_some(),
+            vocab,
+            lang,
+        })
+    }
+}
+
+/// Which of the elements it is that the rules name.
+fn kind_of(name: &str) -> ElementKind
+    ensures { kind_seen result ≡ the.kind_of (chars name.now) }
+{
+    if is_word(name, "head") {
+        return ElementKind::Head;
+    }
+    if is_word(name, "body") {
+        return ElementKind::Body;
+    }
+    if is_word(name, "time") {
+        return ElementKind::Time;
+    }
+    ElementKind::Other
 }

@@ -5,6 +5,7 @@ mod facts;
 mod literals;
 mod made;
 mod nodes;
+mod parts;
 mod predicates;
 mod readings;
 mod refs;

@@ -1,18 +1,19 @@
 //! What says how a literal is meant: datatype, vocabulary and language.
-ghost use Rattle.std.specs.Prelude.{◌≡◌, List, false, IfOk, option_map, option_and_then, codes, bytes_eq, true};
+ghost use Rattle.std.specs.Prelude.{◌≡◌, List, false, IfOk, option_map, bytes_eq, true};
 ghost use Rattle.std.specs.List.{list_all};
 ghost use Rattle.std.specs.Str.{chars};
 ghost use Rattle.rx_terms.specs.Ascii.{is_ascii};
 ghost use Rattle.rx_terms.specs.Text.{trimmed};
 ghost use Rattle.rx_refs.specs.Resolve.{cleaned};
 ghost use Rattle.rx_refs.specs.Views.{seen_slice};
-ghost use Rattle.rx_rdfa.specs.Tree.{Tag as StartTag, attribute};
+ghost use Rattle.rx_rdfa.specs.Tree.{Tag as StartTag};
 ghost use Rattle.rx_rdfa.specs.Names.{language, unless_empty};
 ghost use Rattle.rx_rdfa.specs.Refusals.{is_relative};
 ghost use Rattle.rx_rdfa.specs.Facts as the;
 ghost use Rattle.rx_names.specs.Tags.{tag_of};
 ghost use Rattle.rx_names.specs.Lines.{Stands, vocabulary_of};
 ghost use Rattle.rx_names.specs.Views.{names_seen};
+ghost use Rattle.rx_curie.specs.Given.{own_vocabulary};
 ghost use Rattle.rx_curie.specs.Seen.{datatype_seen};
 
 use crate::facts::Datatype;
@@ -48,7 +49,7 @@ fn datatype_of(iri: Option<Iri>) -> Datatype
 {
     match iri {
         Some(iri) => {
-            if is_iri(&iri, "http://www.w3.org/1999/02/22-rdf-syntax-ns#langString") {
+            if is_word(iri.as_str(), "http://www.w3.org/1999/02/22-rdf-syntax-ns#langString") {
                 return Datatype::Empty;
             }
             Datatype::Is(iri)
@@ -57,17 +58,17 @@ fn datatype_of(iri: Option<Iri>) -> Datatype
     }
 }
 
-/// Whether the IRI is this one, which is ASCII.
-pub(crate) fn is_iri(iri: &Iri, text: &str) -> bool
-    requires { list_all is_ascii text.now ≡ true }
-    ensures { result ≡ bytes_eq iri.now text.now }
+/// Whether the text is this word, which is ASCII.
+pub(crate) fn is_word(text: &str, word: &str) -> bool
+    requires { list_all is_ascii word.now ≡ true }
+    ensures { result ≡ bytes_eq (chars text.now) word.now }
 {
-    iri.as_str() == text
+    text == word
 }
 
 /// The vocabulary that the tag declares, where that isn't empty.
 pub(crate) fn own_vocabulary<'a>(tag: &Tag<'a>) -> Option<&'a str>
-    ensures { seen_slice result ≡ option_and_then (λ value. unless_empty (trimmed value)) (attribute (tag_of tag.now) (codes "vocab")) }
+    ensures { seen_slice result ≡ own_vocabulary (tag_of tag.now) }
 {
     match attribute(tag, "vocab") {
         Some(value) => unless_empty(trim(value)),

@@ -1,5 +1,5 @@
 //! The predicates of `property`, `rel` and `rev`.
-ghost use Rattle.std.specs.Prelude.{◌≡◌, ◌++◌, List, false, true, IfOk, OnOk, option_and_then, option_to_list};
+ghost use Rattle.std.specs.Prelude.{◌≡◌, ◌++◌, List, false, true, IfOk, OnOk, option_map, option_and_then, option_to_list};
 ghost use Rattle.std.specs.Str.{chars};
 ghost use Rattle.rx_refs.specs.Views.{seen_slice};
 ghost use Rattle.rx_rdfa.specs.Tree.{Tag};
@@ -37,8 +37,25 @@ pub(crate) fn link(
     Ok(Some(iris))
 }
 
+/// The predicates of `property`, where the attribute is there.
+pub(crate) fn properties(
+    alloc: Global,
+    names: &NamesView<'_>,
+    value: Option<&str>,
+) -> Result<Option<Iris>, NoMemory>
+    requires { is_relative (vocabulary_of (names_seen names.now)) ≡ false }
+    ensures { IfOk result (λ iris. (line : List Tag) → Stands (names_seen names.now) line
+        → iris ≡ option_map (the.predicates (names_seen names.now).context line) (seen_slice value.entry)) }
+{
+    let Some(value) = value else {
+        return Ok(None);
+    };
+    let iris = predicates(alloc, names, value)?;
+    Ok(Some(iris))
+}
+
 /// The predicates that the tokens name, in order.
-pub(crate) fn predicates(
+fn predicates(
     alloc: Global,
     names: &NamesView<'_>,
     value: &str,
