@@ -2,3 +2,5 @@ pub mod ReadLemmas
 pub mod MadeLemmas
 pub mod TokenSteps
 pub mod LangForms
+pub mod RefusalLemmas
+pub mod FactLemmas

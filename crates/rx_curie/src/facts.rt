@@ -1,15 +1,10 @@
 //! What a start tag says to RDFa.
-ghost use Rattle.std.specs.Prelude.{◌≡◌, List, false, IfOk};
+ghost use Rattle.std.specs.Prelude.{◌≡◌};
 ghost use Rattle.std.specs.Str.{chars};
-ghost use Rattle.rx_rdfa.specs.Tree.{Tag as StartTag};
-ghost use Rattle.rx_rdfa.specs.Names.{vocab};
-ghost use Rattle.rx_rdfa.specs.Refusals.{is_relative, refusal};
 ghost use Rattle.rx_rdfa.specs.Facts as the;
 ghost use Rattle.rx_curie.specs.Seen.{kind_seen};
-ghost use Rattle.rx_names.specs.Lines.{Stands, vocabulary_of};
-ghost use Rattle.rx_names.specs.Views.{names_seen};
 
-use crate::literals::{is_word, language, own_vocabulary, vocabulary};
+use crate::literals::{is_relative, is_word, language, own_vocabulary, vocabulary};
 use crate::nodes::Nodes2;
 use crate::parts::{Content, Links, Resources};
 use crate::refs::Ref;
@@ -87,23 +82,62 @@ pub enum FactsError {
     NoMemory,
 }
 
-impl From<NoMemory> for FactsError {
-    fn from(_error: NoMemory) -> FactsError {
-        FactsError::NoMemory
-    }
-}
-
 impl Facts {
-    ghost use Rattle.std.specs.Prelude.{◌≡◌, List, false, true, ◌||◌, IfOk, Err};
+    ghost use Rattle.std.specs.Prelude.{◌≡◌, List, ◌∷◌, false, true, IfOk, OnOk};
+    ghost use Rattle.std.specs.List.{list_all};
+    ghost use Rattle.rx_terms.specs.Ascii.{is_ascii};
     ghost use Rattle.rx_rdfa.specs.Tree.{Tag as StartTag};
     ghost use Rattle.rx_rdfa.specs.Names.{vocab};
-    ghost use Rattle.rx_rdfa.specs.Refusals.{is_relative};
+    ghost use Rattle.rx_rdfa.specs.Refusals.{is_relative, has_literals_of};
     ghost use Rattle.rx_rdfa.specs.Facts as the;
     ghost use Rattle.rx_names.specs.Tags.{tag_of};
     ghost use Rattle.rx_names.specs.Lines.{Stands, vocabulary_of};
     ghost use Rattle.rx_names.specs.Views.{names_seen};
-    ghost use Rattle.rx_curie.specs.Given.{own_vocabulary};
+    ghost use Rattle.rx_curie.specs.Given.{own_vocabulary, Gives};
     ghost use Rattle.rx_curie.specs.Seen.{facts_seen};
+
+    /// What the tag says under these names, which have its own declarations already. The first refusal that holds is
+    /// answered: `RelativeVocab` where the tag declares a vocabulary without a scheme, `XmlLiteral` where it has `property`
+    /// and a datatype that reads as rdf:XMLLiteral, `HtmlLiteral` where that is rdf:HTML. A vocabulary without a scheme that
+    /// an element around declares is refused as `RelativeVocab` too.
+    pub fn of(
+        alloc: Global,
+        tag: &Tag<'_>,
+        names: &NamesView<'_>,
+    ) -> Result<Facts, FactsError>
+        ensures line { (above : List StartTag) → Stands (names_seen names.now) (tag_of tag.now ∷ above) → is_relative (vocab above) ≡ false
+            → Gives result (the.facts (names_seen names.now).context above (tag_of tag.now)) }
+        ensures absolute { OnOk result (is_relative (vocabulary_of (names_seen names.now)) ≡ false) }
+    {
+        if is_relative(own_vocabulary(tag)) {
+            return Err(FactsError::Meaning(Kind::RelativeVocab));
+        }
+        if is_relative(names.vocab()) {
+            return Err(FactsError::Meaning(Kind::RelativeVocab));
+        }
+        let facts = match Facts::read(alloc, tag, names) {
+            Ok(facts) => facts,
+            Err(NoMemory) => return Err(FactsError::NoMemory),
+        };
+        if facts.has_literals_of("http://www.w3.org/1999/02/22-rdf-syntax-ns#XMLLiteral") {
+            return Err(FactsError::Meaning(Kind::XmlLiteral));
+        }
+        if facts.has_literals_of("http://www.w3.org/1999/02/22-rdf-syntax-ns#HTML") {
+            return Err(FactsError::Meaning(Kind::HtmlLiteral));
+        }
+        Ok(facts)
+    }
+
+    /// Whether there are values with this datatype, which is ASCII.
+    fn has_literals_of(&self, datatype: &str) -> bool
+        requires { list_all is_ascii datatype.now ≡ true }
+        ensures { result ≡ has_literals_of (facts_seen self.now) datatype.now }
+    {
+        match (&self.property, &self.datatype) {
+            (Some(_property), Some(Datatype::Is(iri))) => is_word(iri.as_str(), datatype),
+            _ => false,
+        }
+    }
 
     /// What the tag says under these names.
     fn read(alloc: Global, tag: &Tag<'_>, names: &NamesView<'_>) -> Result<Facts, NoMemory>
