@@ -5,3 +5,4 @@ pub mod TableLemmas
 pub mod PutLemmas
 pub mod GivenLemmas
 pub mod LineLemmas
+pub mod FileLemmas

@@ -2,6 +2,7 @@
 #![tactic(auto)]
 
 mod attributes;
+mod context_files;
 mod contexts;
 mod declarations;
 mod names;
@@ -11,6 +12,7 @@ mod tables;
 mod words;
 
 pub use attributes::attribute;
+pub use context_files::ContextError;
 pub use contexts::Context;
 pub use names::{Names, NamesView};
 pub use words::{is_low_line, is_nc_name, is_term};
