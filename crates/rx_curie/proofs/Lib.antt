@@ -4,3 +4,4 @@ pub mod TokenSteps
 pub mod LangForms
 pub mod RefusalLemmas
 pub mod FactLemmas
+pub mod OneToOne

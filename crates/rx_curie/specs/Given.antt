@@ -1,5 +1,5 @@
 -- What the code answers of a start tag.
-use Rattle.std.specs.Prelude.{◌≡◌, Option, Some, None, codes, option_and_then, Result, MatchResult}
+use Rattle.std.specs.Prelude.{◌≡◌, Bool, true, false, Option, Some, None, codes, option_and_then, Result, MatchResult}
 use Rattle.rx_terms.specs.Text.{Chars, trimmed}
 use Rattle.rx_rdfa.specs.Tree.{Tag, attribute}
 use Rattle.rx_rdfa.specs.Names.{unless_empty}
@@ -30,3 +30,14 @@ RefusesFor error.NoMemory refused = Unit {0}
 -- these facts where nothing is to be refused in them, else the first refusal that holds
 abbrev pub Gives : Result CodeFacts FactsError → Facts → Type 0
 Gives result facts = MatchResult result (λ made. (facts_seen made ≡ facts) × (refusal facts ≡ None)) (λ why. RefusesFor why (refusal facts))
+
+-- the error's kind is that of a refusal
+abbrev pub is_refusal_kind : Kind → Bool
+is_refusal_kind kind.RelativeVocab = true
+is_refusal_kind kind.XmlLiteral = true
+is_refusal_kind kind.HtmlLiteral = true
+is_refusal_kind _ = false
+
+abbrev pub is_for_meaning : FactsError → Bool
+is_for_meaning (error.Meaning k) = is_refusal_kind k
+is_for_meaning error.NoMemory = true

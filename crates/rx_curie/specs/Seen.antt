@@ -1,5 +1,5 @@
 -- The code's facts and readings as those of the rules.
-use Rattle.std.specs.Prelude.{List, map, option_map}
+use Rattle.std.specs.Prelude.{◌≡◌, List, map, option_map}
 use Rattle.std.specs.Str.{chars}
 use Rattle.rx_rdfa.specs.Facts.{ElementKind, Head, Body, Time, Other, Ref, IriRef, LabelRef, RelativeRef, Datatype, Empty, Is, Facts}
 use Rattle.rx_rdfa.specs.Readings.{Reading, Full, Joined, Label, Reference}
@@ -55,3 +55,10 @@ facts_seen facts = record {
   vocab = facts.vocab;
   lang = facts.lang;
 }
+
+-- law: what is seen tells which it is
+pub record SeenOneToOne : Type 0 where
+  pub kinds : (a b : CodeKind) → kind_seen a ≡ kind_seen b → a ≡ b
+  pub refs : (a b : CodeRef) → ref_seen a ≡ ref_seen b → a ≡ b
+  pub datatypes : (a b : CodeDatatype) → datatype_seen a ≡ datatype_seen b → a ≡ b
+  pub facts : (a b : CodeFacts) → facts_seen a ≡ facts_seen b → a ≡ b

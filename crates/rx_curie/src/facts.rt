@@ -83,7 +83,7 @@ pub enum FactsError {
 }
 
 impl Facts {
-    ghost use Rattle.std.specs.Prelude.{◌≡◌, List, ◌∷◌, false, true, IfOk, OnOk};
+    ghost use Rattle.std.specs.Prelude.{◌≡◌, List, ◌∷◌, false, true, IfOk, IfErr, OnOk};
     ghost use Rattle.std.specs.List.{list_all};
     ghost use Rattle.rx_terms.specs.Ascii.{is_ascii};
     ghost use Rattle.rx_rdfa.specs.Tree.{Tag as StartTag};
@@ -93,7 +93,7 @@ impl Facts {
     ghost use Rattle.rx_names.specs.Tags.{tag_of};
     ghost use Rattle.rx_names.specs.Lines.{Stands, vocabulary_of};
     ghost use Rattle.rx_names.specs.Views.{names_seen};
-    ghost use Rattle.rx_curie.specs.Given.{own_vocabulary, Gives};
+    ghost use Rattle.rx_curie.specs.Given.{own_vocabulary, Gives, is_for_meaning};
     ghost use Rattle.rx_curie.specs.Seen.{facts_seen};
 
     /// What the tag says under these names, which have its own declarations already. The first refusal that holds is
@@ -108,6 +108,7 @@ impl Facts {
         ensures line { (above : List StartTag) → Stands (names_seen names.now) (tag_of tag.now ∷ above) → is_relative (vocab above) ≡ false
             → Gives result (the.facts (names_seen names.now).context above (tag_of tag.now)) }
         ensures absolute { OnOk result (is_relative (vocabulary_of (names_seen names.now)) ≡ false) }
+        ensures kinds { IfErr result (λ why. is_for_meaning why ≡ true) }
     {
         if is_relative(own_vocabulary(tag)) {
             return Err(FactsError::Meaning(Kind::RelativeVocab));
