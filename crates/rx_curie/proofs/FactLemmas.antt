@@ -1,5 +1,5 @@
 -- The facts of a tag from its groups.
-use Rattle.std.proofs.Common.{◌≡◌, ◌∙◌, ap, refl, List, ℕ, Option, Some, None, Bor}
+use Rattle.std.proofs.Common.{◌≡◌, refl, List, ℕ, Option, Some, None, Bor}
 use Rattle.std.specs.Prelude.{is_some}
 use Rattle.rx_refs.specs.Views.{seen_slice}
 

@@ -1,5 +1,5 @@
 -- The current language is a language tag.
-use Rattle.std.proofs.Common.{◌≡◌, ◌∙◌, Bool, true, false, cond, List, [], ◌∷◌, Option, Some, None, MatchOption, Result, Ok, Err, codes, sym, ap, refl}
+use Rattle.std.proofs.Common.{◌≡◌, ◌∙◌, true, false, cond, List, [], ◌∷◌, Option, Some, None, MatchOption, Result, Ok, Err, codes, sym, ap}
 use Rattle.std.specs.Prelude.{IfOk}
 use Rattle.std.specs.Option.{option_or}
 use Rattle.rx_terms.specs.Text.{Chars}

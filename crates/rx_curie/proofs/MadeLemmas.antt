@@ -1,16 +1,9 @@
 -- What is made of texts with a scheme.
-use Rattle.std.proofs.Common.{◌≡◌, ◌∙◌, ℕ, Bool, true, false, ◌==◌, ◌&&◌, not, List, [], ◌∷◌, ◌++◌, append_assoc, sym, ap, subst, refl, arith}
-use Rattle.std.specs.List.{list_all}
-use Rattle.std.specs.Str.{chars}
-use Rattle.std.proofs.lemmas.Bool.{and_parts, and_from}
-use Rattle.std.proofs.lemmas.Bool.Decides.{nat_tests}
+use Rattle.std.proofs.Common.{◌≡◌, ◌∙◌, true, [], ◌∷◌, ◌++◌, append_assoc, sym, ap, subst}
 use Rattle.rx_terms.specs.Text.{Chars}
-use Rattle.rx_terms.specs.Iri.{IsIri, has_scheme, is_scheme, is_scheme_char, begins_with_letter, is_forbidden}
-use Rattle.rx_refs.specs.Parts.{before, behind}
-use Rattle.rx_refs.specs.Dots.{holds}
-use Rattle.rx_refs.specs.Resolve.{cleaned, cleaned_char}
-use Rattle.rx_refs.proofs.PartLemmas.{by_test}
-use Rattle.rx_refs.proofs.SchemeLemmas.{IsCut, cut-scheme, cleaned-has-scheme, cleaned-clean, cleaned-append, has_scheme-cut, has_scheme-uncut}
+use Rattle.rx_terms.specs.Iri.{IsIri, has_scheme}
+use Rattle.rx_refs.specs.Resolve.{cleaned}
+use Rattle.rx_refs.proofs.SchemeLemmas.{cut-scheme, cleaned-has-scheme, cleaned-clean, cleaned-append, has_scheme-cut}
 
 pub clean-iri : (text : Chars) → has_scheme text ≡ true → IsIri (cleaned text)
 clean-iri text h =

@@ -1,5 +1,5 @@
 -- What is seen of facts tells which they are.
-use Rattle.std.proofs.Common.{◌≡◌, ◌∙◌, List, [], ◌∷◌, map, Option, Some, None, option_map, ap, sym, refl}
+use Rattle.std.proofs.Common.{◌≡◌, List, [], ◌∷◌, Option, Some, None, option_map, ap, refl}
 use Rattle.rx_rdfa.specs.Facts.{Facts}
 use Rattle.rx_curie.specs.declared.facts.ElementKind.{ElementKind as CodeKind}
 use Rattle.rx_curie.specs.declared.facts.ElementKind.TheVariants as code_kind

@@ -1,5 +1,5 @@
 -- Words, as they are read.
-use Rattle.std.proofs.Common.{◌≡◌, ◌≢◌, ◌∙◌, ℕ, Bool, true, false, ◌==◌, cond, List, [], ◌∷◌, ◌++◌, reverse, Option, Some, None, MatchOption, Bor, codes, sym, ap, refl, arith}
+use Rattle.std.proofs.Common.{◌≡◌, ◌≢◌, ◌∙◌, ℕ, Bool, true, false, ◌==◌, List, [], ◌∷◌, ◌++◌, reverse, Option, Some, None, MatchOption, Bor, codes, sym, ap, refl, arith}
 use Rattle.std.specs.Prelude.{is_some}
 use Rattle.std.specs.Str.{chars}
 use Rattle.std.proofs.lemmas.Bool.{and_from}
@@ -13,7 +13,7 @@ use Rattle.rx_refs.specs.Views.{seen_slice}
 use Rattle.rx_refs.proofs.PartLemmas.{by_test}
 use Rattle.rx_rdfa.specs.Tree.{Tag}
 use Rattle.rx_rdfa.specs.Names.{Context}
-use Rattle.rx_rdfa.specs.Readings.{Reading, Joined, read_parts, xhtml_vocabulary}
+use Rattle.rx_rdfa.specs.Readings.{Joined, read_parts, xhtml_vocabulary}
 use Rattle.rx_curie.specs.Brackets.{before_bracket, inside_brackets}
 
 begins-itself : (front rest : Chars) → begins_with front (front ++ rest) ≡ true

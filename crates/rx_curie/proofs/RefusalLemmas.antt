@@ -1,15 +1,14 @@
 -- What is refused of a start tag.
-use Rattle.std.proofs.Common.{◌≡◌, ◌∙◌, ℕ, ◌<◌, ◌/◌, ◌%◌, Bool, true, false, ◌==◌, ◌||◌, ◌&&◌, not, cond, List, [], ◌∷◌, ◌++◌, codes, Option, Some, None, option_map, bytes_eq, sym, ap, subst, refl, arith, Result, Ok, Err}
-use Rattle.std.specs.Prelude.{is_some, option_and_then}
-use Rattle.std.specs.List.{list_all, list_any}
-use Rattle.std.specs.Str.{chars}
-use Rattle.std.proofs.lemmas.Bool.{and_parts, and_from}
+use Rattle.std.proofs.Common.{◌≡◌, ◌∙◌, ℕ, ◌<◌, ◌/◌, ◌%◌, Bool, true, false, ◌==◌, ◌&&◌, not, List, [], ◌∷◌, ◌++◌, codes, Option, Some, None, option_map, sym, ap, subst, refl, arith}
+use Rattle.std.specs.Prelude.{option_and_then}
+use Rattle.std.specs.List.{list_all}
+use Rattle.std.proofs.lemmas.Bool.{and_parts}
 use Rattle.std.proofs.lemmas.Bool.Decides.{nat_tests}
 use Rattle.rx_terms.specs.Text.{Chars, trimmed}
 use Rattle.rx_terms.specs.Iri.{has_scheme, is_scheme, is_scheme_char, begins_with_letter, is_forbidden, has_forbidden}
 use Rattle.rx_refs.specs.Parts.{before, behind}
 use Rattle.rx_refs.specs.Dots.{holds}
-use Rattle.rx_refs.specs.Resolve.{cleaned, cleaned_char, escaped, digit}
+use Rattle.rx_refs.specs.Resolve.{cleaned, cleaned_char, digit}
 use Rattle.rx_refs.proofs.PartLemmas.{by_test, behind-some, behind-none, before-lacks}
 use Rattle.rx_refs.proofs.SchemeLemmas.{cleaned-append, has_scheme-cut, has_scheme-uncut, none_at, forbidden-small, uncleaned}
 use Rattle.rx_rdfa.specs.Tree.{Tag, attribute}

@@ -1,13 +1,12 @@
 -- Tokens that are read one after another.
-use Rattle.std.proofs.Common.{◌≡◌, ◌∙◌, ℕ, Bool, true, false, cond, List, [], ◌∷◌, ◌++◌, filter, append_assoc, Option, Some, None, sym, ap, refl}
+use Rattle.std.proofs.Common.{◌≡◌, ◌∙◌, Bool, true, false, List, [], ◌∷◌, ◌++◌, filter, append_assoc, Option, Some, None, sym, ap, refl}
 use Rattle.std.specs.Prelude.{option_to_list}
 use Rattle.std.specs.List.{filter_map}
 use Rattle.std.proofs.lemmas.List.{append-nil}
 use Rattle.rx_terms.specs.Text.{Chars}
-use Rattle.rx_refs.proofs.PartLemmas.{by_test}
 use Rattle.rx_rdfa.specs.Tree.{Tag}
 use Rattle.rx_rdfa.specs.Names.{Context}
-use Rattle.rx_rdfa.specs.Facts.{predicate, stays_beside_property, present_unless_none, link}
+use Rattle.rx_rdfa.specs.Facts.{predicate, stays_beside_property, present_unless_none}
 
 -- one token more, of which `p` makes a value or none
 module _ {A B : Type 0} (p : A → Option B) where

@@ -1,6 +1,5 @@
 -- Readings that make IRIs: they begin with a scheme. Readings that name a node: no reference is left to be resolved.
 use Rattle.std.specs.Prelude.{Bool, true, false, Option, Some, None}
-use Rattle.rx_terms.specs.Text.{Chars}
 use Rattle.rx_terms.specs.Iri.{has_scheme}
 use Rattle.rx_rdfa.specs.Readings.{Reading, Full, Joined, Label, Reference}
 

@@ -1,5 +1,5 @@
 -- The facts of a tag in groups, as the code reads them.
-use Rattle.std.specs.Prelude.{◌≡◌, List, Option, codes, option_map, option_and_then, is_some}
+use Rattle.std.specs.Prelude.{◌≡◌, List, codes, option_map, option_and_then, is_some}
 use Rattle.rx_terms.specs.Text.{trimmed}
 use Rattle.rx_rdfa.specs.Tree.{Tag, attribute}
 use Rattle.rx_rdfa.specs.Names.{Context}

@@ -100,11 +100,7 @@ impl Facts {
     /// answered: `RelativeVocab` where the tag declares a vocabulary without a scheme, `XmlLiteral` where it has `property`
     /// and a datatype that reads as rdf:XMLLiteral, `HtmlLiteral` where that is rdf:HTML. A vocabulary without a scheme that
     /// an element around declares is refused as `RelativeVocab` too.
-    pub fn of(
-        alloc: Global,
-        tag: &Tag<'_>,
-        names: &NamesView<'_>,
-    ) -> Result<Facts, FactsError>
+    pub fn of(alloc: Global, tag: &Tag<'_>, names: &NamesView<'_>) -> Result<Facts, FactsError>
         ensures line { (above : List StartTag) → Stands (names_seen names.now) (tag_of tag.now ∷ above) → is_relative (vocab above) ≡ false
             → Gives result (the.facts (names_seen names.now).context above (tag_of tag.now)) }
         ensures absolute { OnOk result (is_relative (vocabulary_of (names_seen names.now)) ≡ false) }

@@ -49,7 +49,10 @@ fn datatype_of(iri: Option<Iri>) -> Datatype
 {
     match iri {
         Some(iri) => {
-            if is_word(iri.as_str(), "http://www.w3.org/1999/02/22-rdf-syntax-ns#langString") {
+            if is_word(
+                iri.as_str(),
+                "http://www.w3.org/1999/02/22-rdf-syntax-ns#langString",
+            ) {
                 return Datatype::Empty;
             }
             Datatype::Is(iri)
@@ -96,10 +99,7 @@ pub(crate) fn is_relative(vocabulary: Option<&str>) -> bool
 }
 
 /// The IRI of the vocabulary that the tag declares, where there is one.
-pub(crate) fn vocabulary(
-    alloc: Global,
-    declared: Option<&str>,
-) -> Result<Option<Iri>, NoMemory>
+pub(crate) fn vocabulary(alloc: Global, declared: Option<&str>) -> Result<Option<Iri>, NoMemory>
     requires { is_relative (seen_slice declared) ≡ false }
     ensures { IfOk result (λ iri. iri ≡ option_map cleaned (seen_slice declared.entry)) }
 {

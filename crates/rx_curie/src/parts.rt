@@ -64,11 +64,7 @@ impl Resources {
 }
 
 impl Links {
-    pub(crate) fn of(
-        alloc: Global,
-        tag: &Tag<'_>,
-        names: &NamesView<'_>,
-    ) -> Result<Links, NoMemory>
+    pub(crate) fn of(alloc: Global, tag: &Tag<'_>, names: &NamesView<'_>) -> Result<Links, NoMemory>
         requires { is_relative (vocabulary_of (names_seen names.now)) ≡ false }
         ensures { IfOk result (λ parts. (line : List StartTag) → Stands (names_seen names.now) line → AreLinks (names_seen names.now).context line (tag_of tag.now) parts) }
     {

@@ -55,11 +55,7 @@ pub(crate) fn properties(
 }
 
 /// The predicates that the tokens name, in order.
-fn predicates(
-    alloc: Global,
-    names: &NamesView<'_>,
-    value: &str,
-) -> Result<Iris, NoMemory>
+fn predicates(alloc: Global, names: &NamesView<'_>, value: &str) -> Result<Iris, NoMemory>
     requires { is_relative (vocabulary_of (names_seen names.now)) ≡ false }
     ensures { IfOk result (λ iris. (line : List Tag) → Stands (names_seen names.now) line
         → iris ≡ the.predicates (names_seen names.now).context line (chars value.now)) }

@@ -110,11 +110,7 @@ fn read_curie<'a>(names: &NamesView<'a>, text: &'a str) -> Option<Reading<'a>>
 }
 
 /// A prefix with the reference behind its colon.
-fn read_parts<'a>(
-    names: &NamesView<'a>,
-    prefix: &'a str,
-    reference: &'a str,
-) -> Option<Reading<'a>>
+fn read_parts<'a>(names: &NamesView<'a>, prefix: &'a str, reference: &'a str) -> Option<Reading<'a>>
     ensures line { (line : List Tag) → Stands (names_seen names.now) line → option_map reading_seen result ≡ the.read_parts (names_seen names.now).context line (chars prefix.now) (chars reference.now) }
     ensures absolute { none_or_absolute (option_map reading_seen result) ≡ true }
     ensures named { none_or_named (option_map reading_seen result) ≡ true }

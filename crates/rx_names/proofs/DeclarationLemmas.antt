@@ -1,19 +1,19 @@
 -- What a tag declares, one declaration after another.
-use Rattle.std.proofs.Common.{◌≡◌, ◌≢◌, ◌∙◌, ℕ, ◌+◌, ◌<◌, ap, sym, subst, refl, arith, Bool, true, false, not, ◌&&◌, ◌==◌, cond, Option, Some, None, List, [], ◌∷◌, ◌++◌, map, reverse, filter, take, drop, length, get_or, bytes_eq, codes, append_assoc, Result, Ok, Err, OnOk, MatchOption, Bor}
-use Rattle.std.specs.List.{flat_map, list_all}
-use Rattle.std.specs.Str.{chars, IsUtf8}
+use Rattle.std.proofs.Common.{◌≡◌, ◌≢◌, ◌∙◌, ℕ, ◌+◌, ◌<◌, ap, sym, refl, arith, Bool, true, false, ◌&&◌, ◌==◌, cond, Option, Some, None, List, [], ◌∷◌, ◌++◌, map, reverse, filter, take, drop, length, get_or, bytes_eq, codes, append_assoc, Result, Ok, Err, OnOk, MatchOption, Bor}
+use Rattle.std.specs.List.{flat_map}
+use Rattle.std.specs.Str.{chars}
 use Rattle.std.proofs.lemmas.Bool.{and_from}
 use Rattle.std.proofs.lemmas.Bool.Decides.{nat_tests}
 use Rattle.std.proofs.lemmas.Grind.{flat_map-append}
 use Rattle.std.proofs.lemmas.List.{map-append, take_more, append-nil, reverse-append, reverse-reverse}
 use Rattle.std.proofs.lemmas.Slice.Eq.{bytes_eq-Decides}
 use Rattle.rx_terms.specs.Ascii.{lowered_char, colon}
-use Rattle.rx_terms.specs.Text.{Chars, trimmed, lowered, tokens, begins_with}
+use Rattle.rx_terms.specs.Text.{Chars, trimmed, lowered, begins_with}
 use Rattle.rx_terms.specs.Iri.{has_scheme}
 use Rattle.rx_terms.proofs.CharLemmas.{ascii-chars}
 use Rattle.rx_refs.specs.Views.{seen_slice}
 use Rattle.rx_refs.proofs.PartLemmas.{by_test}
-use Rattle.rx_rdfa.specs.Names.{Table, counts, xmlns_of, prefix_name, without_colon, pairs_after, pairs}
+use Rattle.rx_rdfa.specs.Names.{Table, counts, xmlns_of, prefix_name, without_colon, pairs_after}
 use Rattle.rx_names.specs.declared.rows.Row.{Row}
 use Rattle.rx_names.specs.Rows.{mapping_rows, prefix_row}
 

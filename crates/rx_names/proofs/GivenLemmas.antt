@@ -1,5 +1,5 @@
 -- Tables that are written out.
-use Rattle.std.proofs.Common.{◌≡◌, ◌∙◌, ℕ, suc, zero, ◌+◌, ◌<◌, Bool, true, false, ◌&&◌, not, List, [], ◌∷◌, ◌++◌, map, take, drop, length, get_or, sym, ap, subst, refl, arith, Bor, Result, Ok, Err, Option}
+use Rattle.std.proofs.Common.{◌≡◌, ◌∙◌, ℕ, suc, zero, ◌+◌, ◌<◌, true, false, not, List, [], ◌∷◌, ◌++◌, take, drop, length, get_or, sym, ap, refl, arith, Bor, Result, Ok, Err}
 use Rattle.std.specs.Prelude.{IfOk}
 use Rattle.std.specs.List.{list_all}
 use Rattle.std.specs.Str.{chars}

@@ -1,6 +1,5 @@
 -- A row that is put into a table in byte order.
-use Rattle.std.proofs.Common.{Result, Ok, Err, ◌≡◌, ◌<◌, ◌≤◌, ◌∙◌, ℕ, zero, suc, Bool, true, false, ◌&&◌, cond, List, [], ◌∷◌, ◌++◌, map, length, get_or, take, drop, Option, Some, None, option_map, MatchOption, bytes_eq, refl, sym, ap, subst, Ordering, arith}
-use native.Mathlib.Numerals.{unary_clauses}
+use Rattle.std.proofs.Common.{Result, Ok, Err, ◌≡◌, ◌<◌, ◌≤◌, ◌∙◌, ℕ, zero, suc, Bool, true, false, cond, List, [], ◌∷◌, ◌++◌, map, length, get_or, take, drop, Option, Some, None, option_map, bytes_eq, refl, sym, ap, subst, Ordering, arith}
 use Rattle.std.specs.Prelude.{encode_utf8_all, unwrap_or, is_ok, is_err}
 use Rattle.std.specs.List.{find, list_all}
 use Rattle.std.specs.List.Sorted.{IsNonDecreasingBy, IsPartitionPoint}

@@ -1,5 +1,5 @@
 -- Tables in byte order: what a binary search finds, and what is put in.
-use Rattle.std.proofs.Common.{◌≡◌, ◌<◌, ◌≤◌, ◌∙◌, ⊎_elim, ℕ, zero, suc, Bool, true, false, ◌&&◌, cond, List, [], ◌∷◌, ◌++◌, map, length, get_or, take, drop, Option, Some, None, option_map, bytes_eq, refl, sym, ap, subst, Ordering, arith}
+use Rattle.std.proofs.Common.{◌≡◌, ◌<◌, ◌∙◌, ⊎_elim, ℕ, zero, suc, true, false, cond, List, [], ◌∷◌, map, length, get_or, Some, None, option_map, bytes_eq, refl, sym, ap, subst, Ordering, arith}
 use native.Mathlib.Numerals.{unary_clauses}
 use Rattle.std.specs.Prelude.{encode_utf8_all}
 use Rattle.std.proofs.lemmas.Bool.{cases_lt, and_parts, false≢true}
@@ -17,7 +17,7 @@ use Rattle.std.specs.Cmp.Lexicographic.{slice_cmp}
 use Rattle.rx_terms.specs.Text.{Chars}
 use Rattle.rx_rdfa.specs.Names.{Table, value_at}
 use Rattle.rx_names.specs.declared.tables.Mapping.{Mapping}
-use Rattle.rx_names.specs.Tables.{byte_order, is_before, rise, put}
+use Rattle.rx_names.specs.Tables.{byte_order, is_before, rise}
 
 -- texts are one where their UTF-8 forms are
 same-encoded : (a b : Chars) → bytes_eq (encode_utf8_all a) (encode_utf8_all b) ≡ bytes_eq a b

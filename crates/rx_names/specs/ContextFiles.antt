@@ -1,5 +1,5 @@
 -- A context file: JSON text (RFC 8259) that is an object with no members but `prefixes` and `terms`, each an object of texts.
-use Rattle.std.specs.Prelude.{Bool, true, not, ◌&&◌, ◌||◌, List, [], Option, Some, None, codes, bytes_eq, option_map, option_and_then, Result, Ok, Err, ◌≡◌, ℕ, if◌then◌else◌}
+use Rattle.std.specs.Prelude.{Bool, true, not, ◌&&◌, ◌||◌, List, [], Option, Some, None, codes, bytes_eq, option_map, option_and_then, ℕ, if◌then◌else◌}
 use Rattle.std.specs.Str.{chars, is_utf8}
 use Rattle.serde_json.specs.Data.{Data, Members, no_members, member}
 use Rattle.serde_json.specs.Read.{read}

@@ -1,6 +1,6 @@
 -- The declarations that are kept of a tag, and what a list of them says.
 use Rattle.std.specs.Prelude.{ℕ, ◌+◌, Bool, true, ◌&&◌, List, [], ◌∷◌, ◌++◌, map, Option, Some, None, codes, bytes_eq, filter, length, if◌then◌else◌}
-use Rattle.std.specs.Option.{option_or, option_map}
+use Rattle.std.specs.Option.{option_or}
 use Rattle.rx_terms.specs.Text.{Chars, trimmed, lowered, begins_with}
 use Rattle.rx_terms.specs.Iri.{has_scheme}
 use Rattle.rx_rdfa.specs.Tree.{Tag, attribute}

@@ -52,12 +52,7 @@ fn push_namespaces(alloc: Global, rows: &mut Rows, tag: &Tag<'_>) -> Result<(), 
     Ok(())
 }
 
-fn push_namespace(
-    alloc: Global,
-    rows: &mut Rows,
-    name: &str,
-    value: &str,
-) -> Result<(), NoMemory>
+fn push_namespace(alloc: Global, rows: &mut Rows, name: &str, value: &str) -> Result<(), NoMemory>
     ensures ok { OnOk result (rows.new ≡ rows.old ++ mapping_rows (xmlns_of (chars name.now, chars value.now))) }
 {
     match behind(name, "xmlns:") {

@@ -15,6 +15,7 @@ pub use attributes::attribute;
 pub use context_files::ContextError;
 pub use contexts::Context;
 pub use names::{Names, NamesView};
+
 #[cfg(test)]
 mod tests;
 

@@ -111,7 +111,10 @@ impl Table {
     fn gap(&self, name: &str) -> Option<usize>
         ensures { MatchOption result ((iri : Chars) → put (chars name.now, iri) self.now ≡ None) (λ gap. (gap ≤ length self.now) × ((iri : Chars) → put (chars name.now, iri) self.now ≡ Some (take gap self.now ++ (chars name.now, iri) ∷ drop gap self.now))) }
     {
-        match self.rows.binary_search_by(|row| compare(row.name.as_str(), name)) {
+        match self
+            .rows
+            .binary_search_by(|row| compare(row.name.as_str(), name))
+        {
             Ok(_at) => None,
             Err(gap) => Some(gap),
         }
@@ -122,7 +125,10 @@ impl Table {
         ensures value { seen_slice result ≡ value_at (chars name.now) self.now }
         ensures scheme { IfSome result (λ iri. has_scheme (chars iri.now) ≡ true) }
     {
-        match self.rows.binary_search_by(|row| compare(row.name.as_str(), name)) {
+        match self
+            .rows
+            .binary_search_by(|row| compare(row.name.as_str(), name))
+        {
             Ok(at) => Some(self.rows[at].iri.as_str()),
             Err(_gap) => None,
         }
@@ -133,7 +139,10 @@ impl Table {
         ensures value { seen_slice result ≡ value_at (lowered (chars name.now)) self.now }
         ensures scheme { IfSome result (λ iri. has_scheme (chars iri.now) ≡ true) }
     {
-        match self.rows.binary_search_by(|row| compare_lowered(row.name.as_str(), name)) {
+        match self
+            .rows
+            .binary_search_by(|row| compare_lowered(row.name.as_str(), name))
+        {
             Ok(at) => Some(self.rows[at].iri.as_str()),
             Err(_gap) => None,
         }
@@ -151,5 +160,6 @@ fn compare(text: &str, name: &str) -> Ordering
 fn compare_lowered(text: &str, name: &str) -> Ordering
     ensures { result ≡ slice_cmp nat_cmp text.now (map to_ascii_lowercase name.now) }
 {
-    text.bytes().cmp(name.bytes().map(|b| b.to_ascii_lowercase()))
+    text.bytes()
+        .cmp(name.bytes().map(|b| b.to_ascii_lowercase()))
 }

@@ -105,11 +105,7 @@ fn lines_of_tags(rt: HostRuntime) -> Result<(), Fail> {
         (b"i lang='en-GB' xml:lang='en'>", Question::Lang, "en"),
         (b"p lang=de>b lang=''>", Question::Lang, "none"),
         (b"p lang=de>b lang=' en '>", Question::Lang, "none"),
-        (
-            b"p lang=de>b lang=en xml:lang=1>i>",
-            Question::Lang,
-            "none",
-        ),
+        (b"p lang=de>b lang=en xml:lang=1>i>", Question::Lang, "none"),
         (
             b"",
             Question::Term("license"),
@@ -135,7 +131,10 @@ fn counts_of_rows(rt: HostRuntime) -> Result<(), Fail> {
     let rows: [(&[u8], usize); 5] = [
         (b"", 0),
         (b"html prefix='e: a:b f: c:d'>body lang=en>p>", 3),
-        (b"html prefix='e: a:b f: c:d'>p vocab='' lang=en xml:lang=de>", 4),
+        (
+            b"html prefix='e: a:b f: c:d'>p vocab='' lang=en xml:lang=de>",
+            4,
+        ),
         (b"p prefix='e: a:b e: a:b'>", 2),
         (b"p prefix='e: a _: a:b'>", 0),
     ];
@@ -240,10 +239,7 @@ fn prefixes_of_context_files(rt: HostRuntime) -> Result<(), Fail> {
         (b"{\"terms\":{\"a\":\"b\"}}", "BadContext"),
         (b"{\"Prefixes\":{}}", "BadContext"),
         // of equal names the last counts, as serde_json has it
-        (
-            b"{\"prefixes\":{\"e\":\"a:b\",\"e\":\"c:d\"}}",
-            "e c:d ",
-        ),
+        (b"{\"prefixes\":{\"e\":\"a:b\",\"e\":\"c:d\"}}", "e c:d "),
         (b"{\"prefixes\":{\"e\":\"a:b\"},\"prefixes\":{}}", ""),
         (b"{\"prefixes\":1,\"prefixes\":{}}", ""),
         // escapes

@@ -1,8 +1,7 @@
-use Rattle.std.proofs.Common.{◌≡◌, ◌∙◌, ◌++◌, ap}
+use Rattle.std.proofs.Common.{◌∙◌, ◌++◌, ap}
 use Rattle.std.specs.Prelude.{string_bytes}
 use Rattle.std.specs.Str.{chars}
 use Rattle.std.proofs.lemmas.Str.{chars-nil}
-use Rattle.rx_terms.specs.Text.{Chars}
 use Rattle.rx_curie.proofs.MadeLemmas.{text-iri, two-pieces, scheme-more}
 use Rattle.rx_curie.proofs.made.joined.Goals as goal
 

@@ -1,9 +1,7 @@
-use Rattle.std.proofs.Common.{◌≡◌, ◌∙◌, ap, sym, List, ◌++◌, ◌∷◌, []}
+use Rattle.std.proofs.Common.{◌∙◌, ap, sym, List, ◌++◌}
 use Rattle.std.specs.Str.{chars}
 use Rattle.std.proofs.lemmas.List.{append-nil}
-use Rattle.rx_terms.specs.Text.{lowered}
 use Rattle.rx_names.specs.declared.rows.Row.{Row}
-use Rattle.rx_names.specs.Rows.{mapping_rows}
 use Rattle.rx_names.proofs.DeclarationLemmas.{becomes, one-namespace, no-namespace}
 use Rattle.rx_names.proofs.declarations.push_namespace.Goals as goal
 

@@ -1,5 +1,5 @@
 use Rattle.std.proofs.Common.{◌≡◌, ◌++◌, length}
-use Rattle.std.specs.Str.{chars, IsUtf8}
+use Rattle.std.specs.Str.{chars}
 use Rattle.rx_terms.specs.Text.{tokens}
 use Rattle.rx_refs.specs.Views.{seen_slice}
 use Rattle.rx_rdfa.specs.Names.{pairs, pairs_after}

@@ -1,5 +1,4 @@
-use Rattle.std.proofs.Common.{◌≡◌, ◌∙◌, ◌∷◌, ap, sym, codes, true, false}
-use Rattle.rx_rdfa.specs.Names.{vocab}
+use Rattle.std.proofs.Common.{◌≡◌, ◌∙◌, ◌∷◌, ap, sym, true, false}
 use Rattle.rx_rdfa.specs.Refusals.{is_relative}
 use Rattle.rx_names.specs.Tags.{tag_of}
 use Rattle.rx_names.specs.Views.{names_seen}
@@ -23,9 +22,8 @@ pub returns-clause-line : goal.returns-clause-line
 returns-clause-line c = λ above stands absolute.
     let tag = tag_of c.args.tag.now in
     let own = sym (ap is_relative c.own_vocabulary.ensures) ∙ sym c.is_relative.ensures ∙ c.if-is_relative.false in
-    let read = c.in-Ok.ensures (tag ∷ above) stands in
-    (
+    let read = c.in-Ok.ensures (tag ∷ above) stands in (
       read,
       nothing-refused (names_seen c.args.names.now).context above tag (facts_seen c.in-Ok.facts) read own (sym c.has_literals_of.ensures ∙ c.if-has_literals_of.false)
-      (sym c.has_literals_of-2.ensures ∙ c.if-has_literals_of-2.false),
+          (sym c.has_literals_of-2.ensures ∙ c.if-has_literals_of-2.false),
     )

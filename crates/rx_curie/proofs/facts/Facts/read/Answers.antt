@@ -1,4 +1,4 @@
-use Rattle.std.proofs.Common.{◌≡◌, ◌∙◌, ap, option_map}
+use Rattle.std.proofs.Common.{◌∙◌, ap, option_map}
 use Rattle.std.specs.Prelude.{is_some}
 use Rattle.rx_refs.specs.Resolve.{cleaned}
 use Rattle.rx_rdfa.specs.Facts as the

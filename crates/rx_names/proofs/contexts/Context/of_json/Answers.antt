@@ -1,4 +1,4 @@
-use Rattle.std.proofs.Common.{◌≡◌, Option, sym, subst}
+use Rattle.std.proofs.Common.{Option, sym, subst}
 use Rattle.serde_json.specs.View.{view}
 use Rattle.rx_rdfa.specs.Names.{Context}
 use Rattle.rx_names.specs.FileErrors.{FileGives}

@@ -1,8 +1,8 @@
-use Rattle.std.proofs.Common.{◌≡◌, ◌∙◌, sym, ap, Option}
+use Rattle.std.proofs.Common.{◌∙◌, ap, Option}
 use Rattle.std.specs.Option.{option_or}
 use Rattle.std.specs.Str.{chars}
 use Rattle.rx_terms.specs.Text.{Chars, lowered}
-use Rattle.rx_rdfa.specs.Names.{Context, Table, value_at, term}
+use Rattle.rx_rdfa.specs.Names.{Context, value_at, term}
 use Rattle.rx_names.proofs.PutLemmas.{folded-value, first_lowered}
 use Rattle.rx_names.proofs.contexts.Context.term.Goals as goal
 

@@ -1,4 +1,4 @@
-use Rattle.std.proofs.Common.{◌≡◌, ◌∙◌, ap, sym, Some, None, arith}
+use Rattle.std.proofs.Common.{◌∙◌, sym, Some, None, arith}
 use Rattle.std.specs.Str.{chars}
 use Rattle.rx_terms.specs.Text.{lowered}
 use Rattle.rx_names.specs.Rows.{prefix_in}

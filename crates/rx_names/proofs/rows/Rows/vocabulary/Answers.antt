@@ -1,4 +1,4 @@
-use Rattle.std.proofs.Common.{◌≡◌, ◌∙◌, ap, sym, Some, None, arith}
+use Rattle.std.proofs.Common.{◌∙◌, ap, sym, Some, None, arith}
 use Rattle.rx_refs.specs.Views.{seen_slice}
 use Rattle.rx_names.specs.Rows.{vocabulary_in, flattened}
 use Rattle.rx_names.proofs.RowLemmas.{last-here}

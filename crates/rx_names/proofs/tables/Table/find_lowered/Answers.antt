@@ -1,4 +1,4 @@
-use Rattle.std.proofs.Common.{◌≡◌, ◌∙◌, sym, ap, map, rules}
+use Rattle.std.proofs.Common.{◌∙◌, sym, ap, map, rules}
 use Rattle.std.specs.Prelude.{encode_utf8_all}
 use Rattle.std.specs.Cmp.Lexicographic.{slice_cmp}
 use Rattle.std.specs.Ordering.{nat_cmp}
