@@ -110,7 +110,7 @@ cleaned-has-scheme front rest lacks h =
     let whole : cleaned (front ++ 58 ∷ rest) ≡ front ++ 58 ∷ cleaned rest = cleaned-append front (58 ∷ rest) ∙ ap (λ (x : Chars). x ++ 58 ∷ cleaned rest) (cleaned-scheme front (scheme_chars front h)) in
     ap has_scheme whole ∙ has_scheme-cut front (cleaned rest) lacks ∙ h
 
-none_at : (p : ℕ → Bool) (xs : List ℕ) (n : ℕ) → list_any p xs ≡ false → n < length xs → p (get_or xs n 0) ≡ false
+pub none_at : (p : ℕ → Bool) (xs : List ℕ) (n : ℕ) → list_any p xs ≡ false → n < length xs → p (get_or xs n 0) ≡ false
 none_at p [] n h l = absurd (omega arith)
 none_at p (x ∷ xs) zero h l = by_test (p x) (λ t. let g : true ≡ false = rw t at h in absurd (cc g)) (λ t. t)
 none_at p (x ∷ xs) (suc n) h l = by_test (p x) (λ t. let g : true ≡ false = rw t at h in absurd (cc g)) (λ t. none_at p xs n (rw t at h) (omega arith))

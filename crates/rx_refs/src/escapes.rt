@@ -33,7 +33,18 @@ fn has_forbidden(text: &str) -> bool
     text.chars().any(|c| is_forbidden(c))
 }
 
-fn push_clean(out: &mut String, text: &str) -> Result<(), NoMemory>
+/// Adds the cleaned text at the end. After want of memory some of it may stand there.
+pub fn push_clean(out: &mut String, text: &str) -> Result<(), NoMemory>
+    ensures { OnOk result (chars (string_bytes out.new) ≡ chars (string_bytes out.old) ++ cleaned (chars text.now)) }
+{
+    if has_forbidden(text) {
+        return push_escaping(out, text);
+    }
+    out.push_str(text)?;
+    Ok(())
+}
+
+fn push_escaping(out: &mut String, text: &str) -> Result<(), NoMemory>
     ensures { OnOk result (chars (string_bytes out.new) ≡ chars (string_bytes out.old) ++ cleaned (chars text.now)) }
 {
     for c in text.chars() {

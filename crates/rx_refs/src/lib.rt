@@ -16,7 +16,7 @@ mod resolution;
 mod slices;
 mod targets;
 
-pub use escapes::clean;
+pub use escapes::{clean, push_clean};
 pub use parts::{Parts, split};
 pub use resolution::{resolve, without_fragment};
 pub use rx_terms::has_scheme;

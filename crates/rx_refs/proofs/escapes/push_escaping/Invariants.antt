@@ -3,7 +3,7 @@ use Rattle.std.specs.Prelude.{string_bytes}
 use Rattle.std.specs.Str.{chars, IsUtf8}
 use Rattle.std.specs.Str.Iter.{chars_rest}
 use Rattle.rx_refs.specs.Resolve.{cleaned}
-use Rattle.rx_refs.proofs.escapes.push_clean.Given as goal
+use Rattle.rx_refs.proofs.escapes.push_escaping.Given as goal
 
 abbrev pub invariant-loop-c : goal.invariant-loop-c
 invariant-loop-c l = record {

@@ -1,0 +1,7 @@
+pub mod ReadLemmas
+pub mod MadeLemmas
+pub mod TokenSteps
+pub mod LangForms
+pub mod RefusalLemmas
+pub mod FactLemmas
+pub mod OneToOne

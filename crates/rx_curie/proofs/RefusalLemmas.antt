@@ -1,0 +1,112 @@
+-- What is refused of a start tag.
+use Rattle.std.proofs.Common.{◌≡◌, ◌∙◌, ℕ, ◌<◌, ◌/◌, ◌%◌, Bool, true, false, ◌==◌, ◌&&◌, not, List, [], ◌∷◌, ◌++◌, codes, Option, Some, None, option_map, sym, ap, subst, refl, arith}
+use Rattle.std.specs.Prelude.{option_and_then}
+use Rattle.std.specs.List.{list_all}
+use Rattle.std.proofs.lemmas.Bool.{and_parts}
+use Rattle.std.proofs.lemmas.Bool.Decides.{nat_tests}
+use Rattle.rx_terms.specs.Text.{Chars, trimmed}
+use Rattle.rx_terms.specs.Iri.{has_scheme, is_scheme, is_scheme_char, begins_with_letter, is_forbidden, has_forbidden}
+use Rattle.rx_refs.specs.Parts.{before, behind}
+use Rattle.rx_refs.specs.Dots.{holds}
+use Rattle.rx_refs.specs.Resolve.{cleaned, cleaned_char, digit}
+use Rattle.rx_refs.proofs.PartLemmas.{by_test, behind-some, behind-none, before-lacks}
+use Rattle.rx_refs.proofs.SchemeLemmas.{cleaned-append, has_scheme-cut, has_scheme-uncut, none_at, forbidden-small, uncleaned}
+use Rattle.rx_rdfa.specs.Tree.{Tag, attribute}
+use Rattle.rx_rdfa.specs.Names.{Context, vocab, declared_or, unless_empty}
+use Rattle.rx_rdfa.specs.Facts.{Facts, facts}
+use Rattle.rx_rdfa.specs.Refusals.{is_relative, refusal, RelativeVocab, has_literals_of, rdf_xml_literal, rdf_html}
+use Rattle.rx_grammar.specs.declared.faults.Kind.TheVariants as kind
+use Rattle.rx_curie.specs.declared.facts.FactsError.TheVariants as error
+use Rattle.rx_curie.specs.Given.{own_vocabulary, RefusesFor}
+
+-- Escapes leave the scheme as it is, also where there is none.
+
+holds-append : (mark : ℕ) (a b : Chars) → holds mark a ≡ false → holds mark b ≡ false → holds mark (a ++ b) ≡ false
+holds-append mark [] b h g = g
+holds-append mark (c ∷ a) b h g =
+    by_test (c == mark) (λ t. let f : true ≡ false = rw t at h in absurd (cc f)) (λ t. rw t (holds-append mark a b (rw t at h) g))
+
+digit-other : (n : ℕ) → n < 16 → (digit n == 58) ≡ false
+digit-other n l = none_at (λ c. c == 58) (codes "0123456789ABCDEF") n refl l
+
+char-lacks : (c : ℕ) → (c == 58) ≡ false → holds 58 (cleaned_char c) ≡ false
+char-lacks c h =
+    by_test (is_forbidden c) (λ t.
+    let small = forbidden-small c t in
+    rw (t, digit-other (c / 16) (omega arith), digit-other (c % 16) (omega arith)) refl) (λ t. rw (t, h) refl)
+
+cleaned-lacks : (text : Chars) → holds 58 text ≡ false → holds 58 (cleaned text) ≡ false
+cleaned-lacks [] h = refl
+cleaned-lacks (c ∷ text) h =
+    by_test (c == 58) (λ t. let f : true ≡ false = rw t at h in absurd (cc f)) (λ t.
+    holds-append 58 (cleaned_char c) (cleaned text) (char-lacks c t) (cleaned-lacks text (rw t at h)))
+
+scheme-clean : (text : Chars) → list_all is_scheme_char text ≡ true → has_forbidden text ≡ false
+scheme-clean [] h = refl
+scheme-clean (c ∷ text) h =
+    let p = and_parts (is_scheme_char c) (list_all is_scheme_char text) h in
+    let s = p.0 in
+    let fine : is_forbidden c ≡ false = grind (arith, nat_tests) in
+    rw fine (scheme-clean text p.1)
+
+escape-stops : (text : Chars) → has_forbidden text ≡ true → list_all is_scheme_char (cleaned text) ≡ false
+escape-stops [] h = absurd (cc h)
+escape-stops (c ∷ text) h =
+    by_test (is_forbidden c) (λ t. rw t refl) (λ t. rw t (and-false (is_scheme_char c) (escape-stops text (rw t at h)))) where
+      and-false : (b : Bool) {d : Bool} → d ≡ false → (b && d) ≡ false
+      and-false true e = e
+      and-false false e = refl
+
+same-scheme : (text : Chars) → is_scheme (cleaned text) ≡ is_scheme text
+same-scheme text =
+    by_test (has_forbidden text)
+    (λ t.
+    let here : is_scheme (cleaned text) ≡ false = ap (λ b. begins_with_letter (cleaned text) && b) (escape-stops text t) ∙ last-false (begins_with_letter (cleaned text)) in
+    let there : list_all is_scheme_char text ≡ false = by_test (list_all is_scheme_char text) (λ s. let g : true ≡ false = sym t ∙ scheme-clean text s in absurd (cc g)) (λ s. s) in
+    here ∙ sym (ap (λ b. begins_with_letter text && b) there ∙ last-false (begins_with_letter text)))
+    (λ t. ap is_scheme (uncleaned text t)) where
+      last-false : (b : Bool) → (b && false) ≡ false
+      last-false true = refl
+      last-false false = refl
+
+pub cleaned-scheme-same : (text : Chars) → has_scheme (cleaned text) ≡ has_scheme text
+cleaned-scheme-same text = go (behind 58 text) refl where
+  go : (o : Option Chars) → behind 58 text ≡ o → has_scheme (cleaned text) ≡ has_scheme text
+  go None e =
+      let lacks = (behind-none 58 text e).2 in
+      has_scheme-uncut (cleaned text) (cleaned-lacks text lacks) ∙ sym (has_scheme-uncut text lacks)
+  go (Some rest) e =
+      let whole = (behind-some 58 text rest e).0 in
+      let front = before 58 text in
+      let lacks = before-lacks 58 text in
+      let clean : cleaned text ≡ cleaned front ++ 58 ∷ cleaned rest = ap cleaned whole ∙ cleaned-append front (58 ∷ rest) in
+      ap has_scheme clean ∙ has_scheme-cut (cleaned front) (cleaned rest) (cleaned-lacks front lacks) ∙ same-scheme front ∙ sym (ap has_scheme whole ∙ has_scheme-cut front rest lacks)
+
+pub relative-cleaned : (o : Option Chars) → is_relative (option_map cleaned o) ≡ is_relative o
+relative-cleaned None = refl
+relative-cleaned (Some text) = ap not (cleaned-scheme-same text)
+
+-- The first refusal that holds
+
+pub own-refused : (context : Context) (above : List Tag) (tag : Tag) → is_relative (own_vocabulary tag) ≡ true → RefusesFor (error.Meaning kind.RelativeVocab) (refusal (facts context above tag))
+own-refused context above tag h =
+    let relative : is_relative (option_map cleaned (own_vocabulary tag)) ≡ true = relative-cleaned (own_vocabulary tag) ∙ h in
+    let first : refusal (facts context above tag) ≡ Some RelativeVocab = first-holds (facts context above tag) relative in
+    subst (RefusesFor (error.Meaning kind.RelativeVocab)) (sym first) refl where
+      first-holds : (f : Facts) → is_relative f.vocab ≡ true → refusal f ≡ Some RelativeVocab
+      first-holds f e = rw e refl
+
+-- a vocabulary in force is the tag's own, or one from above
+pub absolute-line : (tag : Tag) (above : List Tag) → is_relative (own_vocabulary tag) ≡ false → is_relative (vocab above) ≡ false → is_relative (vocab (tag ∷ above)) ≡ false
+absolute-line tag above own other = go (attribute tag (codes "vocab")) own where
+  go : (o : Option Chars) → is_relative (option_and_then (λ value. unless_empty (trimmed value)) o) ≡ false → is_relative (declared_or o (λ value. unless_empty (trimmed value)) (vocab above)) ≡ false
+  go None e = other
+  go (Some value) e = e
+
+pub nothing-refused : (context : Context) (above : List Tag) (tag : Tag) (made : Facts) → made ≡ facts context above tag → is_relative (own_vocabulary tag) ≡ false
+    → has_literals_of made rdf_xml_literal ≡ false → has_literals_of made rdf_html ≡ false → refusal (facts context above tag) ≡ None
+nothing-refused context above tag made e own xml html =
+    let relative : is_relative (option_map cleaned (own_vocabulary tag)) ≡ false = relative-cleaned (own_vocabulary tag) ∙ own in
+    none-holds (facts context above tag) relative (sym (ap (λ (f : Facts). has_literals_of f rdf_xml_literal) e) ∙ xml) (sym (ap (λ (f : Facts). has_literals_of f rdf_html) e) ∙ html) where
+      none-holds : (f : Facts) → is_relative f.vocab ≡ false → has_literals_of f rdf_xml_literal ≡ false → has_literals_of f rdf_html ≡ false → refusal f ≡ None
+      none-holds f a b d = rw (a, b, d) refl

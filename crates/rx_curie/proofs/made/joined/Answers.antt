@@ -1,0 +1,21 @@
+use Rattle.std.proofs.Common.{◌∙◌, ◌++◌, ap}
+use Rattle.std.specs.Prelude.{string_bytes}
+use Rattle.std.specs.Str.{chars}
+use Rattle.std.proofs.lemmas.Str.{chars-nil}
+use Rattle.rx_curie.proofs.MadeLemmas.{text-iri, two-pieces, scheme-more}
+use Rattle.rx_curie.proofs.made.joined.Goals as goal
+
+pub of_text-requires : goal.of_text-requires
+of_text-requires c =
+    let iri = chars c.args.iri.now in
+    let more = chars c.args.more.now in
+    let whole = c.of_string.ensures ∙ two-pieces (chars (string_bytes c.new-text.result)) (chars (string_bytes c.push_clean.new.out)) (chars (string_bytes c.push_clean-2.new.out)) iri more
+    (ap chars c.new-text.ensures.bytes ∙ chars-nil) c.in_ok-push_clean.ensures c.in_ok-push_clean-2.ensures in
+    text-iri (iri ++ more) c.of_string.result (scheme-more iri more c.requires) whole
+
+pub returns : goal.returns
+returns c =
+    let iri = chars c.args.iri.now in
+    let more = chars c.args.more.now in
+    c.of_text.ensures ∙ c.of_string.ensures ∙ two-pieces (chars (string_bytes c.new-text.result)) (chars (string_bytes c.push_clean.new.out)) (chars (string_bytes c.push_clean-2.new.out)) iri more
+    (ap chars c.new-text.ensures.bytes ∙ chars-nil) c.in_ok-push_clean.ensures c.in_ok-push_clean-2.ensures

@@ -1,0 +1,21 @@
+use Rattle.std.proofs.Common.{◌≡◌, ◌++◌, List, length}
+use Rattle.std.specs.List.{filter_map}
+use Rattle.std.specs.Str.{chars}
+use Rattle.rx_terms.specs.Text.{tokens}
+use Rattle.rx_rdfa.specs.Tree.{Tag}
+use Rattle.rx_rdfa.specs.Facts.{predicate, predicates}
+use Rattle.rx_names.specs.Lines.{Stands}
+use Rattle.rx_names.specs.Views.{names_seen}
+use Rattle.rx_curie.proofs.predicates.predicates.Given as goal
+use denote.Text.{Utf8}
+use denote.Shadow.{shadow}
+
+abbrev pub invariant-loop-token : goal.invariant-loop-token
+invariant-loop-token l = record {
+  utf8 : shadow (Utf8 l.rest);
+  read : (line : List Tag) → Stands (names_seen l.names) line
+      → l.iris ++ filter_map (predicate (names_seen l.names).context line) (tokens (chars l.rest)) ≡ predicates (names_seen l.names).context line (chars l.value);
+}
+
+abbrev pub decreases-loop-token : goal.decreases-loop-token
+decreases-loop-token l = length l.rest

@@ -1,0 +1,43 @@
+-- What the code answers of a start tag.
+use Rattle.std.specs.Prelude.{◌≡◌, Bool, true, false, Option, Some, None, codes, option_and_then, Result, MatchResult}
+use Rattle.rx_terms.specs.Text.{Chars, trimmed}
+use Rattle.rx_rdfa.specs.Tree.{Tag, attribute}
+use Rattle.rx_rdfa.specs.Names.{unless_empty}
+use Rattle.rx_rdfa.specs.Facts.{Facts}
+use Rattle.rx_rdfa.specs.Refusals.{Refusal, RelativeVocab, XmlLiteral, HtmlLiteral, refusal}
+use Rattle.rx_grammar.specs.declared.faults.Kind.{Kind}
+use Rattle.rx_grammar.specs.declared.faults.Kind.TheVariants as kind
+use Rattle.rx_curie.specs.declared.facts.Facts.{Facts as CodeFacts}
+use Rattle.rx_curie.specs.declared.facts.FactsError.{FactsError}
+use Rattle.rx_curie.specs.declared.facts.FactsError.TheVariants as error
+use Rattle.rx_curie.specs.Seen.{facts_seen}
+
+-- the vocabulary that a tag declares, where that isn't empty
+abbrev pub own_vocabulary : Tag → Option Chars
+own_vocabulary tag = option_and_then (λ value. unless_empty (trimmed value)) (attribute tag (codes "vocab"))
+
+abbrev pub kind_of : Refusal → Kind
+kind_of RelativeVocab = kind.RelativeVocab
+kind_of XmlLiteral = kind.XmlLiteral
+kind_of HtmlLiteral = kind.HtmlLiteral
+
+-- the tag is refused for this; or there was no memory, of which nothing is said
+abbrev pub RefusesFor : FactsError → Option Refusal → Type 0
+RefusesFor (error.Meaning k) None = ⊥
+RefusesFor (error.Meaning k) (Some refused) = k ≡ kind_of refused
+RefusesFor error.NoMemory refused = Unit {0}
+
+-- these facts where nothing is to be refused in them, else the first refusal that holds
+abbrev pub Gives : Result CodeFacts FactsError → Facts → Type 0
+Gives result facts = MatchResult result (λ made. (facts_seen made ≡ facts) × (refusal facts ≡ None)) (λ why. RefusesFor why (refusal facts))
+
+-- the error's kind is that of a refusal
+abbrev pub is_refusal_kind : Kind → Bool
+is_refusal_kind kind.RelativeVocab = true
+is_refusal_kind kind.XmlLiteral = true
+is_refusal_kind kind.HtmlLiteral = true
+is_refusal_kind _ = false
+
+abbrev pub is_for_meaning : FactsError → Bool
+is_for_meaning (error.Meaning k) = is_refusal_kind k
+is_for_meaning error.NoMemory = true

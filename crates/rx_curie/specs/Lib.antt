@@ -1,0 +1,6 @@
+pub mod Nodes
+pub mod Seen
+pub mod Absolute
+pub mod Brackets
+pub mod Given
+pub mod Parts

@@ -1,0 +1,186 @@
+//! What a start tag says to RDFa.
+ghost use Rattle.std.specs.Prelude.{◌≡◌};
+ghost use Rattle.std.specs.Str.{chars};
+ghost use Rattle.rx_rdfa.specs.Facts as the;
+ghost use Rattle.rx_curie.specs.Seen.{kind_seen};
+
+use crate::literals::{is_relative, is_word, language, own_vocabulary, vocabulary};
+use crate::nodes::Nodes2;
+use crate::parts::{Content, Links, Resources};
+use crate::refs::Ref;
+use crate::types::types;
+use rx_grammar::Kind;
+use rx_names::{NamesView, attribute};
+use rx_tags::Tag;
+use rx_terms::{Iri, Iris, Lang, NoMemory, Text};
+use std::alloc::Global;
+
+/// The elements of which the rules speak by name (HTML+RDFa 1.1, section 3.1).
+#[derive(Clone, Copy, Debug, PartialEq, Eq)]
+pub enum ElementKind {
+    /// `head`.
+    Head,
+    /// `body`.
+    Body,
+    /// `time`.
+    Time,
+    /// Any other element.
+    Other,
+}
+
+/// What the attribute `datatype` says.
+#[derive(Debug, Drop, PartialEq, Eq)]
+pub enum Datatype {
+    /// It is empty, or can't be read, or is rdf:langString: the literal is plain.
+    Empty,
+    /// The datatype.
+    Is(Iri),
+}
+
+/// What a start tag says under the names in force (RDFa Core 1.1, sections 5 and 7.4). An attribute is `Some` exactly
+/// where it counts as present.
+#[derive(Debug, Drop)]
+pub struct Facts {
+    /// Which of the elements it is that the rules name.
+    pub element: ElementKind,
+    /// The resource of `about`.
+    pub about: Option<Ref>,
+    /// The resource of `resource`.
+    pub resource: Option<Ref>,
+    /// The reference of `href`.
+    pub href: Option<Ref>,
+    /// The reference of `src`.
+    pub src: Option<Ref>,
+    /// The predicates of `rel`.
+    pub rel: Option<Iris>,
+    /// The predicates of `rev`.
+    pub rev: Option<Iris>,
+    /// The predicates of `property`.
+    pub property: Option<Iris>,
+    /// The types of `typeof`.
+    pub types: Option<Nodes2>,
+    /// The text of `content`.
+    pub content: Option<Text>,
+    /// The text of `datetime`.
+    pub datetime: Option<Text>,
+    /// The datatype of `datatype`.
+    pub datatype: Option<Datatype>,
+    /// Whether there is `inlist`.
+    pub inlist: bool,
+    /// The vocabulary that the tag itself declares, where that isn't empty.
+    pub vocab: Option<Iri>,
+    /// The current language, whichever element declares it.
+    pub lang: Option<Lang>,
+}
+
+/// Why a start tag has no facts.
+#[derive(Clone, Copy, Debug, PartialEq, Eq)]
+pub enum FactsError {
+    /// The page is refused for what the tag means: `RelativeVocab`, `XmlLiteral` or `HtmlLiteral`.
+    Meaning(Kind),
+    /// There was no memory.
+    NoMemory,
+}
+
+impl Facts {
+    ghost use Rattle.std.specs.Prelude.{◌≡◌, List, ◌∷◌, false, true, IfOk, IfErr, OnOk};
+    ghost use Rattle.std.specs.List.{list_all};
+    ghost use Rattle.rx_terms.specs.Ascii.{is_ascii};
+    ghost use Rattle.rx_rdfa.specs.Tree.{Tag as StartTag};
+    ghost use Rattle.rx_rdfa.specs.Names.{vocab};
+    ghost use Rattle.rx_rdfa.specs.Refusals.{is_relative, has_literals_of};
+    ghost use Rattle.rx_rdfa.specs.Facts as the;
+    ghost use Rattle.rx_names.specs.Tags.{tag_of};
+    ghost use Rattle.rx_names.specs.Lines.{Stands, vocabulary_of};
+    ghost use Rattle.rx_names.specs.Views.{names_seen};
+    ghost use Rattle.rx_curie.specs.Given.{own_vocabulary, Gives, is_for_meaning};
+    ghost use Rattle.rx_curie.specs.Seen.{facts_seen};
+
+    /// What the tag says under these names, which have its own declarations already. The first refusal that holds is
+    /// answered: `RelativeVocab` where the tag declares a vocabulary without a scheme, `XmlLiteral` where it has `property`
+    /// and a datatype that reads as rdf:XMLLiteral, `HtmlLiteral` where that is rdf:HTML. A vocabulary without a scheme that
+    /// an element around declares is refused as `RelativeVocab` too.
+    pub fn of(alloc: Global, tag: &Tag<'_>, names: &NamesView<'_>) -> Result<Facts, FactsError>
+        ensures line { (above : List StartTag) → Stands (names_seen names.now) (tag_of tag.now ∷ above) → is_relative (vocab above) ≡ false
+            → Gives result (the.facts (names_seen names.now).context above (tag_of tag.now)) }
+        ensures absolute { OnOk result (is_relative (vocabulary_of (names_seen names.now)) ≡ false) }
+        ensures kinds { IfErr result (λ why. is_for_meaning why ≡ true) }
+    {
+        if is_relative(own_vocabulary(tag)) {
+            return Err(FactsError::Meaning(Kind::RelativeVocab));
+        }
+        if is_relative(names.vocab()) {
+            return Err(FactsError::Meaning(Kind::RelativeVocab));
+        }
+        let facts = match Facts::read(alloc, tag, names) {
+            Ok(facts) => facts,
+            Err(NoMemory) => return Err(FactsError::NoMemory),
+        };
+        if facts.has_literals_of("http://www.w3.org/1999/02/22-rdf-syntax-ns#XMLLiteral") {
+            return Err(FactsError::Meaning(Kind::XmlLiteral));
+        }
+        if facts.has_literals_of("http://www.w3.org/1999/02/22-rdf-syntax-ns#HTML") {
+            return Err(FactsError::Meaning(Kind::HtmlLiteral));
+        }
+        Ok(facts)
+    }
+
+    /// Whether there are values with this datatype, which is ASCII.
+    fn has_literals_of(&self, datatype: &str) -> bool
+        requires { list_all is_ascii datatype.now ≡ true }
+        ensures { result ≡ has_literals_of (facts_seen self.now) datatype.now }
+    {
+        match (&self.property, &self.datatype) {
+            (Some(_property), Some(Datatype::Is(iri))) => is_word(iri.as_str(), datatype),
+            _ => false,
+        }
+    }
+
+    /// What the tag says under these names.
+    fn read(alloc: Global, tag: &Tag<'_>, names: &NamesView<'_>) -> Result<Facts, NoMemory>
+        requires own { is_relative (own_vocabulary (tag_of tag.now)) ≡ false }
+        requires vocabulary { is_relative (vocabulary_of (names_seen names.now)) ≡ false }
+        ensures { IfOk result (λ facts. (line : List StartTag) → Stands (names_seen names.now) line
+            → facts_seen facts ≡ the.facts_of (names_seen names.now).context line (tag_of tag.now)) }
+    {
+        let resources = Resources::of(alloc, tag, names)?;
+        let links = Links::of(alloc, tag, names)?;
+        let types = types(alloc, names, attribute(tag, "typeof"))?;
+        let content = Content::of(alloc, tag, names)?;
+        let vocab = vocabulary(alloc, own_vocabulary(tag))?;
+        let lang = language(alloc, names)?;
+        Ok(Facts {
+            element: kind_of(tag.name()),
+            about: resources.about,
+            resource: resources.resource,
+            href: resources.href,
+            src: resources.src,
+            rel: links.rel,
+            rev: links.rev,
+            property: links.property,
+            types,
+            content: content.content,
+            datetime: content.datetime,
+            datatype: content.datatype,
+            inlist: attribute(tag, "inlist").is_some(),
+            vocab,
+            lang,
+        })
+    }
+}
+
+/// Which of the elements it is that the rules name.
+fn kind_of(name: &str) -> ElementKind
+    ensures { kind_seen result ≡ the.kind_of (chars name.now) }
+{
+    if is_word(name, "head") {
+        return ElementKind::Head;
+    }
+    if is_word(name, "body") {
+        return ElementKind::Body;
+    }
+    if is_word(name, "time") {
+        return ElementKind::Time;
+    }
+    ElementKind::Other
+}

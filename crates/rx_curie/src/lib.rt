@@ -1,0 +1,32 @@
+//! What a start tag says to RDFa: its attributes read under the names in force.
+//!
+//! [`read_term`] and [`read_resource`] are the readings of RDFa Core 1.1, section 7.4, and lend slices. [`Facts::of`] reads all
+//! attributes of a tag, and refuses a vocabulary without a scheme and literals that are markup.
+#![tactic(auto)]
+
+ghost use Rattle.rx_curie.specs.Seen.{SeenOneToOne};
+
+mod facts;
+mod literals;
+mod made;
+mod nodes;
+mod parts;
+mod predicates;
+mod readings;
+mod refs;
+mod resources;
+mod types;
+
+pub use facts::{Datatype, ElementKind, Facts, FactsError};
+pub use nodes::Nodes2;
+pub use readings::{Reading, read_resource, read_term};
+pub use refs::Ref;
+pub use rx_grammar::Kind;
+
+/// Facts that are seen as the same facts of the rules are the same.
+pub fn seen_one_to_one()
+    ensures { SeenOneToOne }
+{}
+
+#[cfg(test)]
+mod tests;

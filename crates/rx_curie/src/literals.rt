@@ -1,0 +1,121 @@
+//! What says how a literal is meant: datatype, vocabulary and language.
+ghost use Rattle.std.specs.Prelude.{◌≡◌, List, false, IfOk, option_map, bytes_eq, true};
+ghost use Rattle.std.specs.List.{list_all};
+ghost use Rattle.std.specs.Str.{chars};
+ghost use Rattle.rx_terms.specs.Ascii.{is_ascii};
+ghost use Rattle.rx_terms.specs.Text.{trimmed};
+ghost use Rattle.rx_refs.specs.Resolve.{cleaned};
+ghost use Rattle.rx_refs.specs.Views.{seen_slice};
+ghost use Rattle.rx_rdfa.specs.Tree.{Tag as StartTag};
+ghost use Rattle.rx_rdfa.specs.Names.{language, unless_empty};
+ghost use Rattle.rx_rdfa.specs.Refusals.{is_relative};
+ghost use Rattle.rx_rdfa.specs.Facts as the;
+ghost use Rattle.rx_names.specs.Tags.{tag_of};
+ghost use Rattle.rx_names.specs.Lines.{Stands, vocabulary_of};
+ghost use Rattle.rx_names.specs.Views.{names_seen};
+ghost use Rattle.rx_curie.specs.Given.{own_vocabulary};
+ghost use Rattle.rx_curie.specs.Seen.{datatype_seen};
+
+use crate::facts::Datatype;
+use crate::made::cleaned;
+use crate::predicates::predicate;
+use rx_names::{NamesView, attribute};
+use rx_refs::has_scheme;
+use rx_tags::Tag;
+use rx_terms::{Iri, Lang, NoMemory};
+use rx_words::{is_empty, trim};
+use std::alloc::Global;
+
+/// The datatype, where the attribute is there. It is read as one token; one that can't be read, and rdf:langString, count as
+/// the empty one.
+pub(crate) fn datatype(
+    alloc: Global,
+    names: &NamesView<'_>,
+    value: Option<&str>,
+) -> Result<Option<Datatype>, NoMemory>
+    requires { is_relative (vocabulary_of (names_seen names.now)) ≡ false }
+    ensures { IfOk result (λ datatype. (line : List StartTag) → Stands (names_seen names.now) line
+        → option_map datatype_seen datatype ≡ option_map (λ value. the.datatype_of (the.predicate (names_seen names.now).context line (trimmed value))) (seen_slice value.entry)) }
+{
+    let Some(value) = value else {
+        return Ok(None);
+    };
+    let datatype = predicate(alloc, names, trim(value))?;
+    Ok(Some(datatype_of(datatype)))
+}
+
+fn datatype_of(iri: Option<Iri>) -> Datatype
+    ensures { datatype_seen result ≡ the.datatype_of iri }
+{
+    match iri {
+        Some(iri) => {
+            if is_word(
+                iri.as_str(),
+                "http://www.w3.org/1999/02/22-rdf-syntax-ns#langString",
+            ) {
+                return Datatype::Empty;
+            }
+            Datatype::Is(iri)
+        }
+        None => Datatype::Empty,
+    }
+}
+
+/// Whether the text is this word, which is ASCII.
+pub(crate) fn is_word(text: &str, word: &str) -> bool
+    requires { list_all is_ascii word.now ≡ true }
+    ensures { result ≡ bytes_eq (chars text.now) word.now }
+{
+    text == word
+}
+
+/// The vocabulary that the tag declares, where that isn't empty.
+pub(crate) fn own_vocabulary<'a>(tag: &Tag<'a>) -> Option<&'a str>
+    ensures { seen_slice result ≡ own_vocabulary (tag_of tag.now) }
+{
+    match attribute(tag, "vocab") {
+        Some(value) => unless_empty(trim(value)),
+        None => None,
+    }
+}
+
+fn unless_empty(text: &str) -> Option<&str>
+    ensures { seen_slice result ≡ unless_empty (chars text.now) }
+{
+    if is_empty(text) {
+        return None;
+    }
+    Some(text)
+}
+
+/// Whether there is a vocabulary, and it has no scheme.
+pub(crate) fn is_relative(vocabulary: Option<&str>) -> bool
+    ensures { result ≡ is_relative (seen_slice vocabulary.entry) }
+{
+    match vocabulary {
+        Some(vocabulary) => !has_scheme(vocabulary),
+        None => false,
+    }
+}
+
+/// The IRI of the vocabulary that the tag declares, where there is one.
+pub(crate) fn vocabulary(alloc: Global, declared: Option<&str>) -> Result<Option<Iri>, NoMemory>
+    requires { is_relative (seen_slice declared) ≡ false }
+    ensures { IfOk result (λ iri. iri ≡ option_map cleaned (seen_slice declared.entry)) }
+{
+    let Some(declared) = declared else {
+        return Ok(None);
+    };
+    let iri = cleaned(alloc, declared)?;
+    Ok(Some(iri))
+}
+
+/// The current language.
+pub(crate) fn language(alloc: Global, names: &NamesView<'_>) -> Result<Option<Lang>, NoMemory>
+    ensures { IfOk result (λ lang. (line : List StartTag) → Stands (names_seen names.now) line → lang ≡ language line) }
+{
+    match names.lang() {
+        Some(language) => Lang::of(alloc, language),
+        None => Ok(None),
+    }
+}

@@ -1,0 +1,140 @@
+//! The predicates of `property`, `rel` and `rev`.
+ghost use Rattle.std.specs.Prelude.{◌≡◌, ◌++◌, List, false, true, IfOk, OnOk, option_map, option_and_then, option_to_list};
+ghost use Rattle.std.specs.Str.{chars};
+ghost use Rattle.rx_refs.specs.Views.{seen_slice};
+ghost use Rattle.rx_rdfa.specs.Tree.{Tag};
+ghost use Rattle.rx_rdfa.specs.Refusals.{is_relative};
+ghost use Rattle.rx_rdfa.specs.Facts as the;
+ghost use Rattle.rx_names.specs.Lines.{Stands, vocabulary_of};
+ghost use Rattle.rx_names.specs.Views.{names_seen};
+
+use crate::made::iri_of;
+use crate::readings::{read_no_term, read_term};
+use rx_names::{NamesView, is_term};
+use rx_terms::{Iri, Iris, NoMemory};
+use rx_words::first_token;
+use std::alloc::Global;
+
+/// The predicates of `rel` or `rev` where the attribute counts as present. Beside `property` only CURIEs and texts with a
+/// scheme are kept, and an attribute that keeps none counts as absent (HTML+RDFa 1.1, section 3.1).
+pub(crate) fn link(
+    alloc: Global,
+    names: &NamesView<'_>,
+    value: Option<&str>,
+    beside_property: bool,
+) -> Result<Option<Iris>, NoMemory>
+    requires { is_relative (vocabulary_of (names_seen names.now)) ≡ false }
+    ensures { IfOk result (λ iris. (line : List Tag) → Stands (names_seen names.now) line
+        → iris ≡ option_and_then (the.link (names_seen names.now).context line beside_property) (seen_slice value.entry)) }
+{
+    let Some(value) = value else {
+        return Ok(None);
+    };
+    if beside_property {
+        return kept_predicates(alloc, names, value);
+    }
+    let iris = predicates(alloc, names, value)?;
+    Ok(Some(iris))
+}
+
+/// The predicates of `property`, where the attribute is there.
+pub(crate) fn properties(
+    alloc: Global,
+    names: &NamesView<'_>,
+    value: Option<&str>,
+) -> Result<Option<Iris>, NoMemory>
+    requires { is_relative (vocabulary_of (names_seen names.now)) ≡ false }
+    ensures { IfOk result (λ iris. (line : List Tag) → Stands (names_seen names.now) line
+        → iris ≡ option_map (the.predicates (names_seen names.now).context line) (seen_slice value.entry)) }
+{
+    let Some(value) = value else {
+        return Ok(None);
+    };
+    let iris = predicates(alloc, names, value)?;
+    Ok(Some(iris))
+}
+
+/// The predicates that the tokens name, in order.
+fn predicates(alloc: Global, names: &NamesView<'_>, value: &str) -> Result<Iris, NoMemory>
+    requires { is_relative (vocabulary_of (names_seen names.now)) ≡ false }
+    ensures { IfOk result (λ iris. (line : List Tag) → Stands (names_seen names.now) line
+        → iris ≡ the.predicates (names_seen names.now).context line (chars value.now)) }
+{
+    let mut iris = Iris::new(alloc);
+    let mut rest = value;
+    while let Some((token, behind)) = first_token(rest) {
+        push_predicate(alloc, &mut iris, names, token)?;
+        rest = behind;
+    }
+    Ok(iris)
+}
+
+/// The predicates of the tokens that are kept beside `property`, where there is one.
+fn kept_predicates(
+    alloc: Global,
+    names: &NamesView<'_>,
+    value: &str,
+) -> Result<Option<Iris>, NoMemory>
+    requires { is_relative (vocabulary_of (names_seen names.now)) ≡ false }
+    ensures { IfOk result (λ iris. (line : List Tag) → Stands (names_seen names.now) line
+        → iris ≡ the.link (names_seen names.now).context line true (chars value.now)) }
+{
+    let mut iris = Iris::new(alloc);
+    let mut is_present = false;
+    let mut rest = value;
+    while let Some((token, behind)) = first_token(rest) {
+        if stays_beside_property(names, token) {
+            push_predicate(alloc, &mut iris, names, token)?;
+            is_present = true;
+        }
+        rest = behind;
+    }
+    if !is_present {
+        return Ok(None);
+    }
+    Ok(Some(iris))
+}
+
+/// Whether the token is kept beside `property`: it is a CURIE or a text with a scheme, and no term.
+fn stays_beside_property(names: &NamesView<'_>, token: &str) -> bool
+    ensures { (line : List Tag) → Stands (names_seen names.now) line
+        → result ≡ the.stays_beside_property (names_seen names.now).context line (chars token.now) }
+{
+    if is_term(token) {
+        return false;
+    }
+    read_no_term(names, token).is_some()
+}
+
+/// Adds the predicate that the token names, if it does.
+fn push_predicate(
+    alloc: Global,
+    iris: &mut Iris,
+    names: &NamesView<'_>,
+    token: &str,
+) -> Result<(), NoMemory>
+    requires { is_relative (vocabulary_of (names_seen names.now)) ≡ false }
+    ensures { OnOk result ((line : List Tag) → Stands (names_seen names.now) line
+        → iris.new ≡ iris.old ++ option_to_list (the.predicate (names_seen names.now).context line (chars token.now))) }
+{
+    match predicate(alloc, names, token)? {
+        Some(iri) => iris.push(iri),
+        None => Ok(()),
+    }
+}
+
+/// The predicate or datatype that the token names: a blank node is none.
+pub(crate) fn predicate(
+    alloc: Global,
+    names: &NamesView<'_>,
+    token: &str,
+) -> Result<Option<Iri>, NoMemory>
+    requires { is_relative (vocabulary_of (names_seen names.now)) ≡ false }
+    ensures { IfOk result (λ iri. (line : List Tag) → Stands (names_seen names.now) line
+        → iri ≡ the.predicate (names_seen names.now).context line (chars token.now)) }
+{
+    match read_term(names, token) {
+        Some(reading) => iri_of(alloc, reading),
+        None => Ok(None),
+    }
+}

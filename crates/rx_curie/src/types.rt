@@ -1,0 +1,69 @@
+//! The types of `typeof`.
+ghost use Rattle.std.specs.Prelude.{◌≡◌, ◌++◌, List, false, IfOk, OnOk, option_map, option_to_list};
+ghost use Rattle.std.specs.Str.{chars};
+ghost use Rattle.rx_refs.specs.Views.{seen_slice};
+ghost use Rattle.rx_rdfa.specs.Tree.{Tag};
+ghost use Rattle.rx_rdfa.specs.Refusals.{is_relative};
+ghost use Rattle.rx_rdfa.specs.Readings as readings;
+ghost use Rattle.rx_rdfa.specs.Facts as the;
+ghost use Rattle.rx_names.specs.Lines.{Stands, vocabulary_of};
+ghost use Rattle.rx_names.specs.Views.{names_seen};
+ghost use Rattle.rx_curie.specs.Seen.{refs_seen};
+
+use crate::made::ref_of;
+use crate::nodes::Nodes2;
+use crate::readings::read_term;
+use rx_names::NamesView;
+use rx_terms::NoMemory;
+use rx_words::first_token;
+use std::alloc::Global;
+
+/// The types, where the attribute is there.
+pub(crate) fn types(
+    alloc: Global,
+    names: &NamesView<'_>,
+    value: Option<&str>,
+) -> Result<Option<Nodes2>, NoMemory>
+    requires { is_relative (vocabulary_of (names_seen names.now)) ≡ false }
+    ensures { IfOk result (λ types. (line : List Tag) → Stands (names_seen names.now) line
+        → option_map refs_seen types ≡ option_map (the.types_of (names_seen names.now).context line) (seen_slice value.entry)) }
+{
+    let Some(value) = value else {
+        return Ok(None);
+    };
+    let types = types_of(alloc, names, value)?;
+    Ok(Some(types))
+}
+
+/// The types that the tokens name, in order.
+fn types_of(alloc: Global, names: &NamesView<'_>, value: &str) -> Result<Nodes2, NoMemory>
+    requires { is_relative (vocabulary_of (names_seen names.now)) ≡ false }
+    ensures { IfOk result (λ types. (line : List Tag) → Stands (names_seen names.now) line
+        → refs_seen types ≡ the.types_of (names_seen names.now).context line (chars value.now)) }
+{
+    let mut types = Nodes2::new(alloc);
+    let mut rest = value;
+    while let Some((token, behind)) = first_token(rest) {
+        push_type(alloc, &mut types, names, token)?;
+        rest = behind;
+    }
+    Ok(types)
+}
+
+/// Adds the type that the token names, if it does.
+fn push_type(
+    alloc: Global,
+    types: &mut Nodes2,
+    names: &NamesView<'_>,
+    token: &str,
+) -> Result<(), NoMemory>
+    requires { is_relative (vocabulary_of (names_seen names.now)) ≡ false }
+    ensures { OnOk result ((line : List Tag) → Stands (names_seen names.now) line
+        → refs_seen types.new ≡ refs_seen types.old ++ option_to_list (option_map the.ref_of (readings.read_term (names_seen names.now).context line (chars token.now)))) }
+{
+    let Some(reading) = read_term(names, token) else {
+        return Ok(());
+    };
+    let node = ref_of(alloc, reading)?;
+    types.push(node)
+}

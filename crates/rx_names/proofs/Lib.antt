@@ -1,0 +1,8 @@
+pub mod TagLemmas
+pub mod RowLemmas
+pub mod DeclarationLemmas
+pub mod TableLemmas
+pub mod PutLemmas
+pub mod GivenLemmas
+pub mod LineLemmas
+pub mod FileLemmas

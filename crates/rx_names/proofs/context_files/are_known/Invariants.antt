@@ -1,0 +1,7 @@
+use Rattle.std.proofs.Common.{◌≡◌}
+use Rattle.serde_json.specs.View.{members_view}
+use Rattle.rx_names.specs.ContextFiles.{are_known}
+use Rattle.rx_names.proofs.context_files.are_known.Given as goal
+
+abbrev pub invariant-loop-name : goal.invariant-loop-name
+invariant-loop-name l = are_known (members_view l.members.entries) ≡ are_known (members_view l.name-iterator)
