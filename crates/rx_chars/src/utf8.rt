@@ -88,6 +88,13 @@ impl Utf8 {
         }
     }
 
+    /// What [`Utf8::step`] would answer to the next byte, which isn't taken.
+    pub fn peek(&self, byte: u8) -> Utf8Step
+        ensures { result ≡ answer_of (self.now ++ byte ∷ []) }
+    {
+        self.held.answer(byte)
+    }
+
     /// Takes the next byte. `Bad` comes exactly where the bytes since the last whole character, this one included, begin
     /// no well-formed sequence, and so at each later step too; `More` exactly where they begin one and are none yet.
     pub fn step(&mut self, byte: u8) -> Utf8Step
