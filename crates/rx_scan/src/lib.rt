@@ -1,0 +1,8 @@
+//! Tokens from pieces.
+#![tactic(auto)]
+
+mod declarations;
+mod doctypes;
+mod marks;
+mod moves;
+mod words;
