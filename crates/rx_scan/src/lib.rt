@@ -1,6 +1,7 @@
 //! Tokens from pieces.
 #![tactic(auto)]
 
+mod buffers;
 mod declarations;
 mod doctypes;
 mod marks;
