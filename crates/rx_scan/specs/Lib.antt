@@ -1,3 +1,6 @@
 pub mod Marks
 pub mod Pending
 pub mod Buffers
+pub mod Places
+pub mod Scanner
+pub mod Entries

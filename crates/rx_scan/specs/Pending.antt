@@ -134,8 +134,9 @@ module _ (syntax : Syntax) (inside : Content) where
     pub judges : Judged front judge
     pub is : Is rest
 
-  pub record InLessThan (tag : TagSoFar) (text : Chars) : Type 0 where
+  pub record InLessThan (kept : Chars) (tag : TagSoFar) (text : Chars) : Type 0 where
     pub are : text ≡ less_than_sign ∷ []
+    pub none : kept ≡ []
     pub markup : has_markup inside ≡ true
     pub syntax_is : tag.syntax ≡ syntax
     pub state : tag.state ≡ fresh
@@ -201,7 +202,7 @@ module _ (syntax : Syntax) (inside : Content) where
   -- these are the characters since the last token
   abbrev pub PendsAs : Mark → Chars → TagSoFar → Chars → Type 0
   PendsAs mark.Nothing kept tag text = text ≡ []
-  PendsAs mark.LessThan kept tag text = InLessThan tag text
+  PendsAs mark.LessThan kept tag text = InLessThan kept tag text
   PendsAs (mark.RawEnd n) kept tag text = InRawEnd n kept tag text
   PendsAs mark.Tag kept tag text = InTag tag text
   PendsAs (mark.Run p) kept tag text = InRun p kept text
