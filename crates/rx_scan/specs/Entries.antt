@@ -26,12 +26,14 @@ use Rattle.rx_scan.specs.declared.marks.Mark.{Mark}
 use Rattle.rx_scan.specs.declared.marks.Mark.TheVariants as mark
 use Rattle.rx_scan.specs.declared.marks.Whole.{Whole}
 use Rattle.rx_scan.specs.declared.marks.Whole.TheVariants as whole
+use Rattle.rx_scan.specs.declared.marks.First.{First}
+use Rattle.rx_scan.specs.declared.marks.First.TheVariants as first
 use Rattle.rx_scan.specs.declared.marks.Move.{Move}
 use Rattle.rx_scan.specs.declared.marks.Move.TheVariants as move
 use Rattle.rx_scan.specs.declared.places.Place.{Place}
 use Rattle.rx_scan.specs.declared.places.Setting.{Setting}
 use Rattle.rx_scan.specs.Buffers.{Buffered}
-use Rattle.rx_scan.specs.Marks.{end_word, at_nothing, move_of}
+use Rattle.rx_scan.specs.Marks.{end_word, at_first, move_of}
 use Rattle.rx_scan.specs.Pending.{Pending, bracket_text}
 use Rattle.rx_scan.specs.Places.{entered, begun, ended, cut}
 use Rattle.rx_scan.specs.Scanner.{Scanner}
@@ -154,14 +156,19 @@ first_char (mark.Run p) = ampersand
 first_char _ = less_than_sign
 
 -- the run was text, and the character is read afresh
-abbrev pub Stops : Scanner → ℕ → Bool → Move → Result What Stop → Scanner → Type 0
-Stops old c after_return (move.Begins m) (Ok what.Nothing) new =
-    Tells old (begun after_return (cut old.place)) (record { mark = m; run = []; tag = no_tag old.pending.tag.syntax }) new (first_char old.pending.mark ∷ old.pending.run)
-Stops old c after_return move.Says (Ok what.Nothing) new =
-    Tells old (ended after_return (is_bracket old.setting c) (cut old.place)) (marked mark.Nothing old.pending) new ((first_char old.pending.mark ∷ old.pending.run) ++ c ∷ [])
-Stops old c after_return (move.Refuses kind) (Err (stop.Fault f)) new = f ≡ fault_at old kind
-Stops old c after_return _ (Err stop.NoMemory) new = Unit {0}
-Stops old c after_return _ _ new = ⊥
+abbrev pub Stops : Scanner → ℕ → Bool → First → Result What Stop → Scanner → Type 0
+Stops old c after_return (first.Begins m) result new =
+    OrSpent result (λ answer. (answer ≡ what.Nothing)
+    × Tells old (begun after_return (cut old.place)) (record { mark = m; run = []; tag = no_tag old.pending.tag.syntax }) new (first_char old.pending.mark ∷ old.pending.run))
+Stops old c after_return first.Says result new =
+    OrSpent result (λ answer. (answer ≡ what.Nothing)
+    × Tells old (ended after_return (is_bracket old.setting c) (cut old.place)) (marked mark.Nothing old.pending) new ((first_char old.pending.mark ∷ old.pending.run) ++ c ∷ []))
+Stops old c after_return (first.Refuses kind) result new = result ≡ Err (stop.Fault (fault_at old kind))
+
+-- the run is told, and its token is over
+pub record TellsRun (old new : Scanner) : Type 0 where
+  pub text : TextGrows old.text new.text (first_char old.pending.mark ∷ old.pending.run)
+  pub is : new ≡ record { setting = undropped old.setting; place = cut old.place; held = old.held; pending = old.pending; text = new.text; what = old.what; stepped = old.stepped; end = old.end; failed = old.failed; spent = old.spent }
 
 abbrev pub phase_of : Mark → RunPhase
 phase_of (mark.Run p) = p
@@ -191,5 +198,5 @@ Enters old c after_return (move.KeepsTag n) result new = Tags old c after_return
 Enters old c after_return move.Says result new = Says old c (ended after_return (is_bracket old.setting c) old.place) result new
 Enters old c after_return (move.Ends w) result new = Ends old after_return w result new
 Enters old c after_return move.Closes result new = Closes old after_return (meaning old.setting.syntax (encode_utf8_all old.pending.run)) result new
-Enters old c after_return move.Stops result new = Stops old c after_return (at_nothing old.setting.inside c) result new
+Enters old c after_return move.Stops result new = Stops old c after_return (at_first old.setting.inside c) result new
 Enters old c after_return (move.Refuses kind) result new = result ≡ Err (stop.Fault (fault_at old kind))

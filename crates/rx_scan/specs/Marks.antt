@@ -31,6 +31,8 @@ use Rattle.rx_scan.specs.declared.marks.Mark.{Mark}
 use Rattle.rx_scan.specs.declared.marks.Mark.TheVariants as mark
 use Rattle.rx_scan.specs.declared.marks.Whole.{Whole}
 use Rattle.rx_scan.specs.declared.marks.Whole.TheVariants as whole
+use Rattle.rx_scan.specs.declared.marks.First.{First}
+use Rattle.rx_scan.specs.declared.marks.First.TheVariants as first
 use Rattle.rx_scan.specs.declared.marks.Move.{Move}
 use Rattle.rx_scan.specs.declared.marks.Move.TheVariants as move
 
@@ -46,10 +48,15 @@ less_than_mark (content.Raw name) = mark.RawEnd 0
 less_than_mark (content.Rcdata name) = mark.RawEnd 0
 less_than_mark _ = mark.LessThan
 
-abbrev pub at_nothing : Content → ℕ → Move
-at_nothing inside c =
-    if c == less_than_sign then move.Begins (less_than_mark inside) else if c == ampersand && has_references inside then move.Begins (mark.Run run.Ampersand)
-    else if is_text inside c then move.Says else move.Refuses Outside
+abbrev pub at_first : Content → ℕ → First
+at_first inside c =
+    if c == less_than_sign then first.Begins (less_than_mark inside) else if c == ampersand && has_references inside then first.Begins (mark.Run run.Ampersand)
+    else if is_text inside c then first.Says else first.Refuses Outside
+
+abbrev pub of_first : First → Move
+of_first (first.Begins m) = move.Begins m
+of_first first.Says = move.Says
+of_first (first.Refuses kind) = move.Refuses kind
 
 abbrev pub question : Syntax → Mark
 question Html = mark.Bogus
@@ -181,7 +188,7 @@ abbrev pub in_section : Brackets → ℕ → Move
 in_section b c = if c == right_bracket then at_bracket b else if c == greater_than_sign && are_two b then move.Ends whole.Section else move.KeepsAfter b
 
 abbrev pub move_of : Syntax → Content → Mark → ℕ → Move
-move_of syntax inside mark.Nothing c = at_nothing inside c
+move_of syntax inside mark.Nothing c = of_first (at_first inside c)
 move_of syntax inside mark.LessThan c = at_less_than syntax inside c
 move_of syntax inside (mark.RawEnd n) c = in_end (slice_get (end_word inside) n) n c
 move_of syntax inside mark.Tag c = move.Tags

@@ -101,6 +101,17 @@ pub(crate) enum Whole {
     Section,
 }
 
+/// What a character does that stands first.
+#[derive(Clone, Copy, Debug, PartialEq, Eq)]
+pub(crate) enum First {
+    /// It is the first one of a longer token.
+    Begins(Mark),
+    /// It is a character of text.
+    Says,
+    /// It decides this fault.
+    Refuses(Kind),
+}
+
 /// What the next character does.
 #[derive(Clone, Copy, Debug, PartialEq, Eq)]
 pub(crate) enum Move {

@@ -6,7 +6,7 @@ ghost use Rattle.rx_scan.specs.Marks as marks;
 
 use crate::declarations::{at_opened, in_bogus, in_comment, in_instruction, in_section, in_strict_comment, in_word};
 use crate::doctypes::in_doctype;
-use crate::marks::{Mark, Move};
+use crate::marks::{First, Mark, Move};
 use crate::words::char_at;
 use rx_chars::Syntax;
 use rx_grammar::{Content, Kind, RawName};
@@ -75,20 +75,30 @@ fn less_than_mark(inside: Content) -> Mark
     }
 }
 
-// Between tokens.
-pub(crate) fn at_nothing(inside: Content, c: char) -> Move
-    ensures { result ≡ marks.at_nothing inside c }
+/// What the character does between tokens.
+pub(crate) fn at_first(inside: Content, c: char) -> First
+    ensures { result ≡ marks.at_first inside c }
 {
     if c == '<' {
-        return Move::Begins(less_than_mark(inside));
+        return First::Begins(less_than_mark(inside));
     }
     if c == '&' && has_references(inside) {
-        return Move::Begins(Mark::Run(RunPhase::Ampersand));
+        return First::Begins(Mark::Run(RunPhase::Ampersand));
     }
     if is_text(inside, c) {
-        Move::Says
+        First::Says
     } else {
-        Move::Refuses(Kind::Outside)
+        First::Refuses(Kind::Outside)
+    }
+}
+
+fn at_nothing(inside: Content, c: char) -> Move
+    ensures { result ≡ marks.of_first (marks.at_first inside c) }
+{
+    match at_first(inside, c) {
+        First::Begins(mark) => Move::Begins(mark),
+        First::Says => Move::Says,
+        First::Refuses(kind) => Move::Refuses(kind),
     }
 }
 
