@@ -1,12 +1,16 @@
 -- What the scanner does with one character.
-use Rattle.std.specs.Prelude.{◌≡◌, ℕ, ◌+◌, ◌<◌, ◌≤◌, Bool, true, false, not, ◌&&◌, ◌||◌, ◌==◌, nat_le, List, [], ◌∷◌, ◌++◌, encode_utf8_all, slice_get, Option, Some, None, Result, Ok, Err, if◌then◌else◌}
+use Rattle.std.specs.Prelude.{◌≡◌, ℕ, ◌+◌, ◌<◌, ◌≤◌, Bool, true, false, not, ◌&&◌, ◌||◌, ◌==◌, nat_le, MatchBool, List, [], ◌∷◌, ◌++◌, encode_utf8_all, slice_get, Option, Some, None, Result, Ok, Err, if◌then◌else◌}
 use Rattle.rx_terms.specs.Ascii.{ampersand, line_feed, solidus, less_than_sign, greater_than_sign, right_bracket}
 use Rattle.rx_terms.specs.Text.{Chars, is_empty}
 use Rattle.rx_chars.specs.declared.syntax.Syntax.{Syntax}
+use Rattle.rx_chars.specs.declared.utf8.Utf8Step.{Utf8Step}
+use Rattle.rx_chars.specs.declared.utf8.Utf8Step.TheVariants.{More, Char, Bad}
+use Rattle.rx_chars.specs.Utf8.{answer_of}
+use Rattle.rx_chars.specs.Characters.{byte_order_mark, carriage_return, as_line_end}
 use Rattle.rx_grammar.specs.declared.contents.Content.{Content}
 use Rattle.rx_grammar.specs.declared.faults.Fault.{Fault}
 use Rattle.rx_grammar.specs.declared.faults.Kind.{Kind}
-use Rattle.rx_grammar.specs.declared.faults.Kind.TheVariants.{BadDoctype, StrictText}
+use Rattle.rx_grammar.specs.declared.faults.Kind.TheVariants.{BadDoctype, NotUtf8, Nul, PageTooLong, StrictText, TagTooLong}
 use Rattle.rx_grammar.specs.Tokens.{character}
 use Rattle.rx_grammar.specs.References.{meaning}
 use Rattle.rx_grammar.specs.Shapes.{begins_tag, ends_name}
@@ -35,7 +39,7 @@ use Rattle.rx_scan.specs.declared.places.Setting.{Setting}
 use Rattle.rx_scan.specs.Buffers.{Buffered}
 use Rattle.rx_scan.specs.Marks.{end_word, at_first, move_of}
 use Rattle.rx_scan.specs.Pending.{Pending, bracket_text}
-use Rattle.rx_scan.specs.Places.{entered, begun, ended, cut}
+use Rattle.rx_scan.specs.Places.{holding, entered, begun, ended, cut}
 use Rattle.rx_scan.specs.Scanner.{Scanner}
 
 -- whether the mark is a tag's, and whether it is one with the next character
@@ -200,3 +204,42 @@ Enters old c after_return (move.Ends w) result new = Ends old after_return w res
 Enters old c after_return move.Closes result new = Closes old after_return (meaning old.setting.syntax (encode_utf8_all old.pending.run)) result new
 Enters old c after_return move.Stops result new = Stops old c after_return (at_first old.setting.inside c) result new
 Enters old c after_return (move.Refuses kind) result new = result ≡ Err (stop.Fault (fault_at old kind))
+
+-- a byte order mark that stands first, and a line feed directly after a CR, aren't entered
+abbrev pub is_passed : Place → ℕ → Bool
+is_passed p c = not p.started && c == byte_order_mark || p.after_return && c == line_feed
+
+-- with the byte at `at` the tag has too many
+abbrev pub is_long : Scanner → Bool → Bool
+is_long v known = known && nat_le (token_from v.pending.mark v.place + v.setting.limits.tag) v.place.at
+
+abbrev pub with_passed : Scanner → Scanner
+with_passed v = with_parts v v.setting (entered false v.place) v.pending v.text
+
+abbrev pub is_mark : ℕ → What
+is_mark c = if c == byte_order_mark then what.Skipped else what.Nothing
+
+-- what a whole character does
+abbrev pub ReadsChar : Scanner → ℕ → Result What Stop → Scanner → Type 0
+ReadsChar old c result new =
+    MatchBool (is_passed old.place c) ((result ≡ Ok (is_mark c)) × (new ≡ with_passed old))
+    (MatchBool (is_long old (is_tag_with old.setting.syntax old.setting.inside old.pending.mark (as_line_end c))) (result ≡ Err (stop.Fault (fault_at old TagTooLong)))
+    (Enters old (as_line_end c) (c == carriage_return) (move_at old (as_line_end c)) result new))
+
+abbrev pub with_held : Scanner → List ℕ → Scanner
+with_held v held =
+    record { setting = v.setting; place = holding v.place; held = held; pending = v.pending; text = v.text; what = v.what; stepped = v.stepped; end = v.end; failed = v.failed; spent = v.spent }
+
+abbrev pub ReadsAnswer : Scanner → List ℕ → Utf8Step → Result What Stop → Scanner → Type 0
+ReadsAnswer old held Bad result new = result ≡ Err (stop.Fault (fault_at old NotUtf8))
+ReadsAnswer old held More result new =
+    MatchBool (is_long old (is_tag old.pending.mark)) (result ≡ Err (stop.Fault (fault_at old TagTooLong))) ((result ≡ Ok what.Nothing) × (new ≡ with_held old held))
+ReadsAnswer old held (Char c) result new =
+    MatchBool (c == 0) (result ≡ Err (stop.Fault (fault_at old Nul)))
+    (MatchBool (is_long old (is_tag old.pending.mark)) (result ≡ Err (stop.Fault (fault_at old TagTooLong))) (ReadsChar old c result new))
+
+-- what a byte does
+abbrev pub Reads : Scanner → ℕ → Result What Stop → Scanner → Type 0
+Reads old byte result new =
+    MatchBool (nat_le old.setting.limits.page old.place.at) (result ≡ Err (stop.Fault (fault_at old PageTooLong)))
+    (ReadsAnswer old (old.held ++ byte ∷ []) (answer_of (old.held ++ byte ∷ [])) result new)

@@ -101,13 +101,20 @@ impl Scan {
         )
     }
 
+    // The first byte of the token that the next character belongs to.
+    pub(crate) fn token(&self) -> u64
+        ensures { result ≡ entries.token_from self.now.pending.mark self.now.place }
+    {
+        token_from(self.pending.mark(), self.place)
+    }
+
     // The fault that the next byte decides.
     pub(crate) fn fault_at(&self, kind: Kind) -> Fault
         ensures { result ≡ entries.fault_at self.now kind }
     {
         Fault {
             kind,
-            token: token_from(self.pending.mark(), self.place),
+            token: self.token(),
             at: self.place.at,
         }
     }

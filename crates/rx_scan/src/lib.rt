@@ -3,6 +3,7 @@
 
 mod answers;
 mod buffers;
+mod bytes;
 mod declarations;
 mod doctypes;
 mod entries;

@@ -2,6 +2,7 @@
 ghost use Rattle.std.specs.Prelude.{◌≡◌, ◌+◌, ◌<◌, ◌^◌, slice_get, option_copied, length};
 ghost use Rattle.rx_grammar.specs.Spelling as spelling;
 ghost use Rattle.rx_reader.specs.Tables as tables;
+ghost use Rattle.rx_scan.specs.Entries as entries;
 ghost use Rattle.rx_scan.specs.Marks as marks;
 
 use crate::declarations::{at_opened, in_bogus, in_comment, in_instruction, in_section, in_strict_comment, in_word};
@@ -11,7 +12,7 @@ use crate::words::char_at;
 use rx_chars::Syntax;
 use rx_grammar::{Content, Kind, RawName};
 use rx_reader::{RunMove, RunPhase};
-use rx_tags::{ends_name, is_letter, is_white_space, run_move};
+use rx_tags::{begins_tag, ends_name, is_letter, is_white_space, run_move};
 
 /// What the character does after what is marked.
 pub(crate) fn move_of(syntax: Syntax, inside: Content, mark: Mark, c: char) -> Move
@@ -181,5 +182,26 @@ fn in_run(inside: Content, phase: RunPhase, c: char) -> Move
         RunMove::Closes => Move::Closes,
         RunMove::Stops if keeps_runs(inside) => Move::Stops,
         RunMove::Stops => Move::Refuses(Kind::StrictText),
+    }
+}
+
+fn ends_word(inside: Content, count: usize, c: char) -> bool
+    ensures { result ≡ entries.ends_word (slice_get (marks.end_word inside) count) c }
+{
+    match char_at(end_word(inside), count) {
+        Some(_) => false,
+        None => ends_name(c),
+    }
+}
+
+/// Whether with the character a tag is known to be one.
+pub(crate) fn is_tag_with(syntax: Syntax, inside: Content, mark: Mark, c: char) -> bool
+    ensures { result ≡ entries.is_tag_with syntax inside mark c }
+{
+    match mark {
+        Mark::LessThan => c == '/' || begins_tag(syntax, c),
+        Mark::RawEnd(count) => ends_word(inside, count, c),
+        Mark::Tag => true,
+        _ => false,
     }
 }
