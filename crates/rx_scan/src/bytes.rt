@@ -9,7 +9,7 @@ use crate::answers::What;
 use crate::marks::Mark;
 use crate::moves::is_tag_with;
 use crate::places::{Place, reaches};
-use crate::scans::Scan;
+use crate::readers::Reader;
 use rx_chars::{Utf8, Utf8Step};
 use rx_grammar::Kind;
 use rx_tags::Stop;
@@ -49,7 +49,7 @@ fn hold_byte(utf8: &mut Utf8, byte: u8)
     utf8.step(byte);
 }
 
-impl Scan {
+impl Reader {
     // Whether with the next byte a tag has too many, where it is known to be one.
     fn is_long(&self, known: bool) -> bool
         ensures { result ≡ entries.is_long self.now known }
@@ -68,7 +68,8 @@ impl Scan {
     fn read_char(&mut self, c: char) -> Result<What, Stop>
         requires may_step { MayStep self.old.pending.tag }
         requires room { self.old.place.at + 1 < 2 ^ 64 }
-        ensures { entries.ReadsChar self.old c result self.new }
+        ensures reads { entries.ReadsChar self.old c result self.new }
+        ensures between { self.old.pending.mark ≡ Mark.Nothing → entries.Between self.old result self.new }
     {
         if is_passed(self.place, c) {
             self.pass();
@@ -85,7 +86,8 @@ impl Scan {
     fn read_whole(&mut self, c: char) -> Result<What, Stop>
         requires may_step { MayStep self.old.pending.tag }
         requires room { self.old.place.at + 1 < 2 ^ 64 }
-        ensures { entries.ReadsAnswer self.old [] (Utf8Step.Char c) result self.new }
+        ensures reads { entries.ReadsAnswer self.old [] (Utf8Step.Char c) result self.new }
+        ensures between { self.old.pending.mark ≡ Mark.Nothing → entries.Between self.old result self.new }
     {
         if c == '\0' {
             return Err(Stop::Fault(self.fault_at(Kind::Nul)));
@@ -99,7 +101,8 @@ impl Scan {
     fn hold(&mut self, byte: u8) -> Result<What, Stop>
         requires room { self.old.place.at + 1 < 2 ^ 64 }
         requires begun { answer_of (self.old.held ++ byte ∷ []) ≡ Utf8Step.More }
-        ensures { entries.ReadsAnswer self.old (self.old.held ++ byte ∷ []) Utf8Step.More result self.new }
+        ensures reads { entries.ReadsAnswer self.old (self.old.held ++ byte ∷ []) Utf8Step.More result self.new }
+        ensures between { self.old.pending.mark ≡ Mark.Nothing → entries.Between self.old result self.new }
     {
         if self.is_long(is_tag(self.pending.mark())) {
             return Err(Stop::Fault(self.fault_at(Kind::TagTooLong)));
@@ -112,7 +115,8 @@ impl Scan {
     /// Reads one more byte. At a fault nothing is changed where no token is begun.
     pub(crate) fn read(&mut self, byte: u8) -> Result<What, Stop>
         requires { MayStep self.old.pending.tag }
-        ensures { entries.Reads self.old byte result self.new }
+        ensures reads { entries.Reads self.old byte result self.new }
+        ensures between { self.old.pending.mark ≡ Mark.Nothing → entries.Between self.old result self.new }
     {
         if self.place.at >= self.setting.limits.page {
             return Err(Stop::Fault(self.fault_at(Kind::PageTooLong)));

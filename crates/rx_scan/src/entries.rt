@@ -1,5 +1,5 @@
 //! What the scanner does with one character.
-ghost use Rattle.std.specs.Prelude.{◌≡◌, ◌+◌, ◌<◌, ◌^◌, OnOk};
+ghost use Rattle.std.specs.Prelude.{◌≡◌, ◌+◌, ◌<◌, ◌≤◌, ◌^◌, IsOk, OnOk};
 ghost use Rattle.rx_scan.specs.Entries as entries;
 ghost use Rattle.rx_scan.specs.Marks as marks;
 ghost use Rattle.rx_scan.specs.Places as places;
@@ -9,7 +9,7 @@ use crate::answers::What;
 use crate::marks::{Brackets, First, Mark, Move, Whole};
 use crate::moves::{at_first, move_of};
 use crate::places::{Place, Setting};
-use crate::scans::Scan;
+use crate::readers::Reader;
 use rx_chars::{Syntax, Utf8};
 use rx_grammar::{Content, Fault, Kind};
 use rx_reader::RunPhase;
@@ -88,7 +88,7 @@ fn phase_of(mark: Mark) -> RunPhase
     }
 }
 
-impl Scan {
+impl Reader {
     fn move_at(&self, c: char) -> Move
         ensures { result ≡ entries.move_at self.now c }
     {
@@ -99,6 +99,20 @@ impl Scan {
             c,
             move_of(setting.syntax, setting.inside, self.pending.mark(), c),
         )
+    }
+
+    // The same between tokens.
+    fn first_at(&self, c: char) -> First
+        requires { self.now.pending.mark ≡ Mark.Nothing }
+        ensures { marks.of_first result ≡ entries.move_at self.now c }
+    {
+        let setting = self.setting;
+        match at_first(setting.inside, c) {
+            First::Says if self.place.two && setting.inside == Content::Strict && c == '>' => {
+                First::Refuses(Kind::StrictText)
+            }
+            first => first,
+        }
     }
 
     // The first byte of the token that the next character belongs to.
@@ -123,6 +137,34 @@ impl Scan {
     pub(crate) fn read_entry(&mut self, c: char, after_return: bool) -> Result<What, Stop>
         requires may_step { MayStep self.old.pending.tag }
         requires room { self.old.place.at + 1 < 2 ^ 64 }
+        ensures enters { entries.Enters self.old c after_return (entries.move_at self.old c) result self.new }
+        ensures between { self.old.pending.mark ≡ Mark.Nothing → entries.Between self.old result self.new }
+    {
+        match self.pending.mark() {
+            Mark::Nothing => self.read_first(c, after_return),
+            _ => self.read_further(c, after_return),
+        }
+    }
+
+    fn read_first(&mut self, c: char, after_return: bool) -> Result<What, Stop>
+        requires nothing { self.old.pending.mark ≡ Mark.Nothing }
+        requires room { self.old.place.at + 1 < 2 ^ 64 }
+        ensures enters { entries.Enters self.old c after_return (entries.move_at self.old c) result self.new }
+        ensures between { entries.Between self.old result self.new }
+    {
+        match self.first_at(c) {
+            First::Begins(mark) => self.begin(after_return, mark),
+            First::Says => {
+                let place = self.place.ended(after_return, is_bracket(self.setting, c));
+                self.say(c, place)
+            }
+            First::Refuses(kind) => Err(Stop::Fault(self.fault_at(kind))),
+        }
+    }
+
+    fn read_further(&mut self, c: char, after_return: bool) -> Result<What, Stop>
+        requires may_step { MayStep self.old.pending.tag }
+        requires room { self.old.place.at + 1 < 2 ^ 64 }
         ensures { entries.Enters self.old c after_return (entries.move_at self.old c) result self.new }
     {
         match self.move_at(c) {
@@ -145,7 +187,8 @@ impl Scan {
 
     fn begin(&mut self, after_return: bool, mark: Mark) -> Result<What, Stop>
         requires { self.old.place.at + 1 < 2 ^ 64 }
-        ensures { entries.Enters self.old 0 after_return (Move.Begins mark) result self.new }
+        ensures enters { entries.Enters self.old 0 after_return (Move.Begins mark) result self.new }
+        ensures ok { IsOk result }
     {
         self.pending.begin(mark);
         self.place = self.place.begun(after_return);
@@ -249,6 +292,7 @@ impl Scan {
     // One character of text, by itself or by a reference.
     fn say(&mut self, c: char, place: Place) -> Result<What, Stop>
         ensures says { entries.Says self.old c place result self.new }
+        ensures room { self.old.text.size + 4 ≤ self.old.text.room → IsOk result }
     {
         let dropped = is_dropped(self.setting, c);
         if !dropped && self.text.push(c).is_err() {

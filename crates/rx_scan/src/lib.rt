@@ -11,5 +11,5 @@ mod marks;
 mod moves;
 mod pending;
 mod places;
-mod scans;
+mod readers;
 mod words;
