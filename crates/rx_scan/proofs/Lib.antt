@@ -1,1 +1,4 @@
 pub mod BufferLemmas
+pub mod Snoc
+pub mod Meant
+pub mod Behinds

@@ -4,3 +4,4 @@ pub mod Buffers
 pub mod Places
 pub mod Scanner
 pub mod Entries
+pub mod Steps

@@ -71,7 +71,7 @@ has_bang _ = false
 
 pub record CommentEnds (p : CommentPhase) (text : Chars) : Type 0 where
   pub empty : is_empty text ≡ is_start p
-  pub lone : same (codes "-") text ≡ is_start_dash p
+  pub lone : same text (codes "-") ≡ is_start_dash p
   pub dash : ends_with (codes "-") text ≡ has_dash p
   pub dashes : ends_with (codes "--") text ≡ has_dashes p
   pub bang : ends_with (codes "--!") text ≡ has_bang p
@@ -122,15 +122,15 @@ pub record DoctypeEnds (syntax : Syntax) (p : DoctypePhase) (text : Chars) : Typ
   pub is : DoctypeIs p phase
 
 module _ (syntax : Syntax) (inside : Content) where
-  -- Behind these characters the others are judged alone, and all of them are no tag.
+  -- Behind `<` and these characters the others are judged alone, and all of them are no tag.
   pub record Judged (front : Chars) (judge : Chars → ℕ → told.Verdict) : Type 0 where
-    pub judged : (more : Chars) (c : ℕ) → told.verdict syntax inside (front ++ more) c ≡ judge more c
-    pub no_tag : (more : Chars) → is_known_tag syntax inside (front ++ more) ≡ false
+    pub judged : (more : Chars) (c : ℕ) → told.verdict syntax inside (less_than_sign ∷ (front ++ more)) c ≡ judge more c
+    pub no_tag : (more : Chars) → is_known_tag syntax inside (less_than_sign ∷ (front ++ more)) ≡ false
 
   pub record Behind (judge : Chars → ℕ → told.Verdict) (Is : Chars → Type 0) (text : Chars) : Type 0 where
     pub front : Chars
     pub rest : Chars
-    pub are : text ≡ front ++ rest
+    pub are : text ≡ less_than_sign ∷ (front ++ rest)
     pub judges : Judged front judge
     pub is : Is rest
 
@@ -138,7 +138,6 @@ module _ (syntax : Syntax) (inside : Content) where
     pub are : text ≡ less_than_sign ∷ []
     pub none : kept ≡ []
     pub markup : has_markup inside ≡ true
-    pub syntax_is : tag.syntax ≡ syntax
     pub state : tag.state ≡ fresh
     pub may_step : MayStep tag
 
@@ -155,7 +154,6 @@ module _ (syntax : Syntax) (inside : Content) where
     pub count : length kept ≡ n
     pub left : Chars
     pub word : end_word inside ≡ map lowered_char kept ++ left
-    pub syntax_is : tag.syntax ≡ syntax
     pub read : tag_on syntax (meaning syntax) (Ok fresh) kept ≡ Ok tag.state
     pub phase_is : tag.state.phase ≡ end_phase kept
     pub may_step : MayStep tag
@@ -165,7 +163,6 @@ module _ (syntax : Syntax) (inside : Content) where
     pub are : text ≡ less_than_sign ∷ chars
     pub judged : (more : Chars) (c : ℕ) → told.verdict syntax inside (less_than_sign ∷ (chars ++ more)) c ≡ told.in_tag syntax (chars ++ more) c
     pub known : (more : Chars) → is_known_tag syntax inside (less_than_sign ∷ (chars ++ more)) ≡ true
-    pub syntax_is : tag.syntax ≡ syntax
     pub read : tag_on syntax (meaning syntax) (Ok fresh) chars ≡ Ok tag.state
     pub may_step : MayStep tag
 
