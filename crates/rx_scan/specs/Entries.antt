@@ -18,6 +18,7 @@ use Rattle.rx_grammar.specs.Items.{is_strict_literal}
 use Rattle.rx_reader.specs.declared.phases.RunPhase.{RunPhase}
 use Rattle.rx_reader.specs.declared.phases.RunPhase.TheVariants as run
 use Rattle.rx_reader.specs.Values.{no_meaning}
+use Rattle.rx_reader.specs.TagReader.{is_closing}
 use Rattle.rx_tags.specs.declared.stops.Stop.{Stop}
 use Rattle.rx_tags.specs.declared.stops.Stop.TheVariants as stop
 use Rattle.rx_tags.specs.declared.tag_text.TagStep.TheVariants as tag_step
@@ -84,6 +85,9 @@ undropped setting = record { syntax = setting.syntax; limits = setting.limits; i
 abbrev pub after_doctype : Setting → Setting
 after_doctype setting = record { syntax = setting.syntax; limits = setting.limits; inside = setting.inside; leads = false; drops = false }
 
+abbrev pub after_tag : Setting → Bool → Setting
+after_tag setting closing = record { syntax = setting.syntax; limits = setting.limits; inside = setting.inside; leads = setting.leads && closing; drops = false }
+
 -- the value with other parts
 abbrev pub with_parts : Reading → Setting → Place → Pending → Buffered → Reading
 with_parts v setting place pending text =
@@ -106,6 +110,11 @@ with_begun v after_return m = with_parts v v.setting (begun after_return v.place
 -- a token is whole of which no text is told
 abbrev pub with_ended : Reading → Bool → Setting → Reading
 with_ended v after_return setting = with_parts v setting (ended after_return false v.place) (marked mark.Nothing v.pending) v.text
+
+-- the tag that was read is whole
+abbrev pub with_tag : Reading → Bool → Reading
+with_tag v after_return =
+    record { setting = after_tag v.setting (is_closing v.pending.tag.state.phase); place = ended after_return false v.place; held = []; pending = marked mark.Nothing v.pending; text = v.text; end = v.place.at }
 
 -- the text has one more character, unless it is a line feed that is dropped
 abbrev pub is_dropped : Setting → ℕ → Bool
@@ -149,7 +158,7 @@ Tags old c after_return pending (Ok what.Nothing) new =
     (tag : TagSoFar) × StepGives old.pending.tag c (Ok tag_step.More) tag × (new ≡ gone old after_return (record { mark = pending.mark; run = pending.run; tag = tag }))
 Tags old c after_return pending (Ok what.Tag) new =
     (tag : TagSoFar) × StepGives old.pending.tag c (Ok tag_step.Done) tag
-    × (new ≡ record { setting = undropped old.setting; place = ended after_return false old.place; held = []; pending = record { mark = mark.Nothing; run = pending.run; tag = tag }; text = old.text; end = old.place.at })
+    × (new ≡ record { setting = after_tag old.setting (is_closing tag.state.phase); place = ended after_return false old.place; held = []; pending = record { mark = mark.Nothing; run = pending.run; tag = tag }; text = old.text; end = old.place.at })
 Tags old c after_return pending (Ok _) new = ⊥
 Tags old c after_return pending (Err (stop.Fault f)) new = (kind : Kind) × (tag : TagSoFar) × StepGives old.pending.tag c (Err (tag_error.Bad kind)) tag × (f ≡ fault_at old kind)
 Tags old c after_return pending (Err stop.NoMemory) new = Unit {0}

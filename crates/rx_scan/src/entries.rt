@@ -1,5 +1,6 @@
 //! What the scanner does with one character.
-ghost use Rattle.std.specs.Prelude.{◌≡◌, ◌+◌, ◌<◌, ◌≤◌, ◌^◌, IsOk, OnOk};
+ghost use Rattle.std.specs.Prelude.{◌≡◌, ◌+◌, ◌<◌, ◌≤◌, ◌^◌, true, IsOk, OnOk};
+ghost use Rattle.rx_reader.specs.Tables.{is_last};
 ghost use Rattle.rx_scan.specs.Entries as entries;
 ghost use Rattle.rx_scan.specs.Marks as marks;
 ghost use Rattle.rx_scan.specs.Places as places;
@@ -59,6 +60,16 @@ fn after_doctype(setting: Setting) -> Setting
 {
     Setting {
         leads: false,
+        drops: false,
+        ..setting
+    }
+}
+
+fn after_tag(setting: Setting, closing: bool) -> Setting
+    ensures { result ≡ entries.after_tag setting closing }
+{
+    Setting {
+        leads: setting.leads && closing,
         drops: false,
         ..setting
     }
@@ -230,6 +241,18 @@ impl Reader {
         Ok(What::Nothing)
     }
 
+    fn end_tag(&mut self, after_return: bool)
+        requires last { is_last self.old.pending.tag.state.phase ≡ true }
+        requires room { self.old.place.at + 1 < 2 ^ 64 }
+        ensures { self.new ≡ entries.with_tag self.old after_return }
+    {
+        self.setting = after_tag(self.setting, self.pending.is_closing());
+        self.pending.turn(Mark::Nothing);
+        self.end = self.place.at;
+        self.place = self.place.ended(after_return, false);
+        self.utf8 = Utf8::new();
+    }
+
     fn tag_on(&mut self, c: char, after_return: bool) -> Result<What, Stop>
         requires may_step { MayStep self.old.pending.tag }
         requires room { self.old.place.at + 1 < 2 ^ 64 }
@@ -243,11 +266,7 @@ impl Reader {
                 Ok(What::Nothing)
             }
             Ok(TagStep::Done) => {
-                self.pending.turn(Mark::Nothing);
-                self.end = self.place.at;
-                self.place = self.place.ended(after_return, false);
-                self.setting = undropped(self.setting);
-                self.utf8 = Utf8::new();
+                self.end_tag(after_return);
                 Ok(What::Tag)
             }
             Err(TagError::Bad(kind)) => Err(Stop::Fault(Fault {
@@ -274,11 +293,7 @@ impl Reader {
                 Ok(What::Nothing)
             }
             Ok(TagStep::Done) => {
-                self.pending.turn(Mark::Nothing);
-                self.end = self.place.at;
-                self.place = self.place.ended(after_return, false);
-                self.setting = undropped(self.setting);
-                self.utf8 = Utf8::new();
+                self.end_tag(after_return);
                 Ok(What::Tag)
             }
             Err(TagError::Bad(kind)) => Err(Stop::Fault(Fault {

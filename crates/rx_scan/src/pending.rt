@@ -1,9 +1,9 @@
 //! The characters since the last token.
-ghost use Rattle.std.specs.Prelude.{◌≡◌, true, [], ◌∷◌, ◌++◌, IfOk, OnOk};
+ghost use Rattle.std.specs.Prelude.{◌≡◌, true, [], ◌∷◌, ◌++◌, IfOk, Ok, OnOk};
 ghost use Rattle.std.specs.Str.{chars};
 ghost use Rattle.rx_terms.specs.Text.{is_empty};
 ghost use Rattle.rx_reader.specs.Tables.{is_last};
-ghost use Rattle.rx_reader.specs.TagReader.{parts_of};
+ghost use Rattle.rx_reader.specs.TagReader.{parts_of, is_closing};
 ghost use Rattle.rx_tags.specs.Seen.{tag_seen};
 ghost use Rattle.rx_tags.specs.TagBufs.{no_tag, MayStep, StepGives};
 ghost use Rattle.rx_scan.specs.Pending.{bracket_text};
@@ -106,6 +106,8 @@ impl Unfinished {
         requires { MayStep self.old.tag }
         ensures gives { StepGives self.old.tag c result self.new.tag }
         ensures kept { OnOk result (self.new ≡ record { mark = mark; run = self.old.run; tag = self.new.tag }) }
+        ensures last { result ≡ Ok TagStep.Done → is_last self.new.tag.state.phase ≡ true }
+        ensures more { result ≡ Ok TagStep.More → MayStep self.new.tag }
     {
         match self.tag.step(c) {
             Ok(step) => {
@@ -114,6 +116,15 @@ impl Unfinished {
             }
             Err(error) => Err(error),
         }
+    }
+
+    /// Whether the tag is an end tag.
+    pub(crate) fn is_closing(&self) -> bool
+        requires { is_last self.now.tag.state.phase ≡ true }
+        ensures { result ≡ is_closing self.now.tag.state.phase }
+    {
+        let tag = self.tag.tag(0, 0);
+        tag.closing()
     }
 
     /// Forgets the tag.
