@@ -18,12 +18,13 @@ use Rattle.rx_grammar.specs.Items.{is_strict_literal}
 use Rattle.rx_reader.specs.declared.phases.RunPhase.{RunPhase}
 use Rattle.rx_reader.specs.declared.phases.RunPhase.TheVariants as run
 use Rattle.rx_reader.specs.Values.{no_meaning}
+use Rattle.rx_reader.specs.Tables.{is_last}
 use Rattle.rx_reader.specs.TagReader.{is_closing}
 use Rattle.rx_tags.specs.declared.stops.Stop.{Stop}
 use Rattle.rx_tags.specs.declared.stops.Stop.TheVariants as stop
 use Rattle.rx_tags.specs.declared.tag_text.TagStep.TheVariants as tag_step
 use Rattle.rx_tags.specs.declared.pairs.TagError.TheVariants as tag_error
-use Rattle.rx_tags.specs.TagBufs.{TagSoFar, no_tag, StepGives}
+use Rattle.rx_tags.specs.TagBufs.{TagSoFar, no_tag, MayStep, StepGives}
 use Rattle.rx_scan.specs.declared.answers.What.{What}
 use Rattle.rx_scan.specs.declared.answers.What.TheVariants as what
 use Rattle.rx_scan.specs.declared.marks.Brackets.TheVariants as brackets
@@ -212,6 +213,16 @@ IsNoMemory _ = false
 pub record Between (old : Reading) (result : Result What Stop) (new : Reading) : Type 0 where
   pub unchanged : IfFault result (new ≡ old)
   pub unspent : old.text.size + 4 ≤ old.text.room → IsNoMemory result ≡ false
+
+-- A tag is lent that is whole, or is read on; and the text keeps its room.
+abbrev pub MayGoOn : Result What Stop → Reading → Type 0
+MayGoOn (Ok what.Tag) new = (is_last new.pending.tag.state.phase ≡ true) × (new.pending.mark ≡ mark.Nothing)
+MayGoOn (Ok _) new = MayStep new.pending.tag
+MayGoOn (Err e) new = Unit {0}
+
+pub record IsReady (old : Reading) (result : Result What Stop) (new : Reading) : Type 0 where
+  pub may_go_on : MayGoOn result new
+  pub room : old.text.room ≤ new.text.room
 
 -- what one character does, by its move
 abbrev pub Enters : Reading → ℕ → Bool → Move → Result What Stop → Reading → Type 0

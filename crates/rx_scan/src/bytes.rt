@@ -70,6 +70,7 @@ impl Reader {
         requires room { self.old.place.at + 1 < 2 ^ 64 }
         ensures reads { entries.ReadsChar self.old c result self.new }
         ensures between { self.old.pending.mark ≡ Mark.Nothing → entries.Between self.old result self.new }
+        ensures ready { entries.IsReady self.old result self.new }
     {
         if is_passed(self.place, c) {
             self.pass();
@@ -88,6 +89,7 @@ impl Reader {
         requires room { self.old.place.at + 1 < 2 ^ 64 }
         ensures reads { entries.ReadsAnswer self.old [] (Utf8Step.Char c) result self.new }
         ensures between { self.old.pending.mark ≡ Mark.Nothing → entries.Between self.old result self.new }
+        ensures ready { entries.IsReady self.old result self.new }
     {
         if c == '\0' {
             return Err(Stop::Fault(self.fault_at(Kind::Nul)));
@@ -99,10 +101,12 @@ impl Reader {
     }
 
     fn hold(&mut self, byte: u8) -> Result<What, Stop>
+        requires may_step { MayStep self.old.pending.tag }
         requires room { self.old.place.at + 1 < 2 ^ 64 }
         requires begun { answer_of (self.old.held ++ byte ∷ []) ≡ Utf8Step.More }
         ensures reads { entries.ReadsAnswer self.old (self.old.held ++ byte ∷ []) Utf8Step.More result self.new }
         ensures between { self.old.pending.mark ≡ Mark.Nothing → entries.Between self.old result self.new }
+        ensures ready { entries.IsReady self.old result self.new }
     {
         if self.is_long(is_tag(self.pending.mark())) {
             return Err(Stop::Fault(self.fault_at(Kind::TagTooLong)));
@@ -117,6 +121,7 @@ impl Reader {
         requires { MayStep self.old.pending.tag }
         ensures reads { entries.Reads self.old byte result self.new }
         ensures between { self.old.pending.mark ≡ Mark.Nothing → entries.Between self.old result self.new }
+        ensures ready { entries.IsReady self.old result self.new }
     {
         if self.place.at >= self.setting.limits.page {
             return Err(Stop::Fault(self.fault_at(Kind::PageTooLong)));

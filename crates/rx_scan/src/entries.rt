@@ -150,6 +150,7 @@ impl Reader {
         requires room { self.old.place.at + 1 < 2 ^ 64 }
         ensures enters { entries.Enters self.old c after_return (entries.move_at self.old c) result self.new }
         ensures between { self.old.pending.mark ≡ Mark.Nothing → entries.Between self.old result self.new }
+        ensures ready { entries.IsReady self.old result self.new }
     {
         match self.pending.mark() {
             Mark::Nothing => self.read_first(c, after_return),
@@ -158,10 +159,12 @@ impl Reader {
     }
 
     fn read_first(&mut self, c: char, after_return: bool) -> Result<What, Stop>
+        requires may_step { MayStep self.old.pending.tag }
         requires nothing { self.old.pending.mark ≡ Mark.Nothing }
         requires room { self.old.place.at + 1 < 2 ^ 64 }
         ensures enters { entries.Enters self.old c after_return (entries.move_at self.old c) result self.new }
         ensures between { entries.Between self.old result self.new }
+        ensures ready { entries.IsReady self.old result self.new }
     {
         match self.first_at(c) {
             First::Begins(mark) => self.begin(after_return, mark),
@@ -176,7 +179,8 @@ impl Reader {
     fn read_further(&mut self, c: char, after_return: bool) -> Result<What, Stop>
         requires may_step { MayStep self.old.pending.tag }
         requires room { self.old.place.at + 1 < 2 ^ 64 }
-        ensures { entries.Enters self.old c after_return (entries.move_at self.old c) result self.new }
+        ensures does { entries.Enters self.old c after_return (entries.move_at self.old c) result self.new }
+        ensures ready { entries.IsReady self.old result self.new }
     {
         match self.move_at(c) {
             Move::Begins(mark) => self.begin(after_return, mark),
@@ -197,9 +201,11 @@ impl Reader {
     }
 
     fn begin(&mut self, after_return: bool, mark: Mark) -> Result<What, Stop>
-        requires { self.old.place.at + 1 < 2 ^ 64 }
+        requires may_step { MayStep self.old.pending.tag }
+        requires room { self.old.place.at + 1 < 2 ^ 64 }
         ensures enters { entries.Enters self.old 0 after_return (Move.Begins mark) result self.new }
         ensures ok { IsOk result }
+        ensures ready { entries.IsReady self.old result self.new }
     {
         self.pending.begin(mark);
         self.place = self.place.begun(after_return);
@@ -208,8 +214,10 @@ impl Reader {
     }
 
     fn go(&mut self, after_return: bool, mark: Mark) -> Result<What, Stop>
-        requires { self.old.place.at + 1 < 2 ^ 64 }
-        ensures { entries.Enters self.old 0 after_return (Move.Goes mark) result self.new }
+        requires may_step { MayStep self.old.pending.tag }
+        requires room { self.old.place.at + 1 < 2 ^ 64 }
+        ensures does { entries.Enters self.old 0 after_return (Move.Goes mark) result self.new }
+        ensures ready { entries.IsReady self.old result self.new }
     {
         self.pending.turn(mark);
         self.place = self.place.entered(after_return);
@@ -218,8 +226,10 @@ impl Reader {
     }
 
     fn keep(&mut self, c: char, after_return: bool, mark: Mark) -> Result<What, Stop>
-        requires { self.old.place.at + 1 < 2 ^ 64 }
-        ensures { entries.Enters self.old c after_return (Move.Keeps mark) result self.new }
+        requires may_step { MayStep self.old.pending.tag }
+        requires room { self.old.place.at + 1 < 2 ^ 64 }
+        ensures does { entries.Enters self.old c after_return (Move.Keeps mark) result self.new }
+        ensures ready { entries.IsReady self.old result self.new }
     {
         if self.pending.keep(mark, c).is_err() {
             return Err(Stop::NoMemory);
@@ -230,8 +240,10 @@ impl Reader {
     }
 
     fn keep_after(&mut self, c: char, after_return: bool, brackets: Brackets) -> Result<What, Stop>
-        requires { self.old.place.at + 1 < 2 ^ 64 }
-        ensures { entries.Enters self.old c after_return (Move.KeepsAfter brackets) result self.new }
+        requires may_step { MayStep self.old.pending.tag }
+        requires room { self.old.place.at + 1 < 2 ^ 64 }
+        ensures does { entries.Enters self.old c after_return (Move.KeepsAfter brackets) result self.new }
+        ensures ready { entries.IsReady self.old result self.new }
     {
         if self.pending.keep_after(brackets, c).is_err() {
             return Err(Stop::NoMemory);
@@ -256,7 +268,8 @@ impl Reader {
     fn tag_on(&mut self, c: char, after_return: bool) -> Result<What, Stop>
         requires may_step { MayStep self.old.pending.tag }
         requires room { self.old.place.at + 1 < 2 ^ 64 }
-        ensures { entries.Tags self.old c after_return (entries.marked Mark.Tag self.old.pending) result self.new }
+        ensures does { entries.Tags self.old c after_return (entries.marked Mark.Tag self.old.pending) result self.new }
+        ensures ready { entries.IsReady self.old result self.new }
     {
         let fault = self.fault_at(Kind::BadTag);
         match self.pending.feed(Mark::Tag, c) {
@@ -280,7 +293,8 @@ impl Reader {
     fn keep_tag(&mut self, c: char, after_return: bool, count: usize) -> Result<What, Stop>
         requires may_step { MayStep self.old.pending.tag }
         requires room { self.old.place.at + 1 < 2 ^ 64 }
-        ensures { entries.Tags self.old c after_return (entries.kept_by (Mark.RawEnd count) c self.old.pending) result self.new }
+        ensures does { entries.Tags self.old c after_return (entries.kept_by (Mark.RawEnd count) c self.old.pending) result self.new }
+        ensures ready { entries.IsReady self.old result self.new }
     {
         let fault = self.fault_at(Kind::BadTag);
         if self.pending.keep(self.pending.mark(), c).is_err() {
@@ -306,8 +320,10 @@ impl Reader {
 
     // One character of text, by itself or by a reference.
     fn say(&mut self, c: char, place: Place) -> Result<What, Stop>
+        requires may_step { MayStep self.old.pending.tag }
         ensures says { entries.Says self.old c place result self.new }
         ensures room { self.old.text.size + 4 ≤ self.old.text.room → IsOk result }
+        ensures ready { entries.IsReady self.old result self.new }
     {
         let dropped = is_dropped(self.setting, c);
         if !dropped && self.text.push(c).is_err() {
@@ -325,8 +341,10 @@ impl Reader {
     }
 
     fn finish(&mut self, after_return: bool, whole: Whole) -> Result<What, Stop>
-        requires { self.old.place.at + 1 < 2 ^ 64 }
-        ensures { entries.Ends self.old after_return whole result self.new }
+        requires may_step { MayStep self.old.pending.tag }
+        requires room { self.old.place.at + 1 < 2 ^ 64 }
+        ensures does { entries.Ends self.old after_return whole result self.new }
+        ensures ready { entries.IsReady self.old result self.new }
     {
         self.setting = match whole {
             Whole::Doctype => after_doctype(self.setting),
@@ -343,8 +361,10 @@ impl Reader {
     }
 
     fn close(&mut self, after_return: bool) -> Result<What, Stop>
-        requires { self.old.place.at + 1 < 2 ^ 64 }
-        ensures { entries.Enters self.old 0 after_return Move.Closes result self.new }
+        requires may_step { MayStep self.old.pending.tag }
+        requires room { self.old.place.at + 1 < 2 ^ 64 }
+        ensures does { entries.Enters self.old 0 after_return Move.Closes result self.new }
+        ensures ready { entries.IsReady self.old result self.new }
     {
         match meaning(self.setting.syntax, self.pending.run().as_str()) {
             Some(c) => {
@@ -360,8 +380,10 @@ impl Reader {
 
     // The run before the character is text.
     fn stop(&mut self, c: char, after_return: bool) -> Result<What, Stop>
-        requires { self.old.place.at + 1 < 2 ^ 64 }
-        ensures { entries.Enters self.old c after_return Move.Stops result self.new }
+        requires may_step { MayStep self.old.pending.tag }
+        requires room { self.old.place.at + 1 < 2 ^ 64 }
+        ensures does { entries.Enters self.old c after_return Move.Stops result self.new }
+        ensures ready { entries.IsReady self.old result self.new }
     {
         match at_first(self.setting.inside, c) {
             First::Begins(mark) => {
@@ -382,7 +404,8 @@ impl Reader {
     }
 
     fn tell_run(&mut self) -> Result<(), NoMemory>
-        ensures { OnOk result (entries.TellsRun self.old self.new) }
+        ensures told { OnOk result (entries.TellsRun self.old self.new) }
+        ensures room { self.old.text.room ≤ self.new.text.room }
     {
         if self.text.push(first_char(self.pending.mark())).is_err() {
             return Err(NoMemory);
