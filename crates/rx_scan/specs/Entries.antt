@@ -223,6 +223,7 @@ MayGoOn (Err e) new = Unit {0}
 pub record IsReady (old : Reading) (result : Result What Stop) (new : Reading) : Type 0 where
   pub may_go_on : MayGoOn result new
   pub room : old.text.room ≤ new.text.room
+  pub text : IfFault result (new.text.text ≡ old.text.text)
 
 -- what one character does, by its move
 abbrev pub Enters : Reading → ℕ → Bool → Move → Result What Stop → Reading → Type 0

@@ -170,11 +170,13 @@ module _ (syntax : Syntax) (inside : Content) where
     pub are : text ≡ ampersand ∷ kept
     pub phase : run_on (run_moves.Goes run.Ampersand) kept ≡ run_moves.Goes p
 
-  pub record InOpened (text : Chars) : Type 0 where
+  pub record InOpened (kept text : Chars) : Type 0 where
     pub are : text ≡ less_than_sign ∷ exclamation_mark ∷ []
+    pub none : kept ≡ []
     pub markup : has_markup inside ≡ true
 
-  pub record InOpening (w : Word) (n : ℕ) (text : Chars) : Type 0 where
+  pub record InOpening (w : Word) (n : ℕ) (kept text : Chars) : Type 0 where
+    pub none : kept ≡ []
     pub first : ℕ
     pub chars : Chars
     pub are : text ≡ less_than_sign ∷ exclamation_mark ∷ first ∷ chars
@@ -203,8 +205,8 @@ module _ (syntax : Syntax) (inside : Content) where
   PendsAs (mark.RawEnd n) kept tag text = InRawEnd n kept tag text
   PendsAs mark.Tag kept tag text = InTag tag text
   PendsAs (mark.Run p) kept tag text = InRun p kept text
-  PendsAs mark.Opened kept tag text = InOpened text
-  PendsAs (mark.Opening w n) kept tag text = InOpening w n text
+  PendsAs mark.Opened kept tag text = InOpened kept text
+  PendsAs (mark.Opening w n) kept tag text = InOpening w n kept text
   PendsAs (mark.Comment p) kept tag text = Behind (judge_of (mark.Comment p)) (CommentEnds p) text
   PendsAs (mark.StrictComment p) kept tag text = Behind (judge_of (mark.StrictComment p)) (StrictEnds p) text
   PendsAs mark.Bogus kept tag text = Behind (judge_of mark.Bogus) (λ rest. Unit {0}) text

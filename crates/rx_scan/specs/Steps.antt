@@ -3,7 +3,7 @@ use Rattle.std.specs.Prelude.{◌≡◌, ◌≢◌, ℕ, ◌+◌, ◌<◌, ◌�
 use Rattle.std.specs.List.{list_all}
 use Rattle.std.specs.Str.{chars}
 use Rattle.rx_terms.specs.Ascii.{ampersand, less_than_sign}
-use Rattle.rx_terms.specs.Text.{Chars}
+use Rattle.rx_terms.specs.Text.{Chars, is_empty}
 use Rattle.rx_chars.specs.declared.syntax.Syntax.{Syntax}
 use Rattle.rx_chars.specs.declared.syntax.Syntax.TheVariants.{Html, Xhtml}
 use Rattle.rx_grammar.specs.declared.contents.Content.{Content}
@@ -20,6 +20,7 @@ use Rattle.rx_tags.specs.declared.stops.Stop.{Stop}
 use Rattle.rx_tags.specs.declared.stops.Stop.TheVariants as stop
 use Rattle.rx_tags.specs.declared.tags.Tag as the
 use Rattle.rx_tags.specs.Seen.{tag_seen}
+use Rattle.rx_tags.specs.TagBufs.{no_tag, MayStep}
 use Rattle.rx_scan.specs.declared.answers.What.{What}
 use Rattle.rx_scan.specs.declared.answers.What.TheVariants as what
 use Rattle.rx_scan.specs.declared.answers.Token as shown
@@ -143,9 +144,54 @@ Runs old s piece (Ok (n, answer)) new = Took old s piece n answer new
 Runs old s piece (Err (stop.Fault fault)) new = Faults old s piece fault
 Runs old s piece (Err stop.NoMemory) new = Unit {0}
 
+-- the bytes that a text may have
+abbrev pub room : ℕ
+room = 4096
+
+-- A tag that is lent is whole; else the next one may be read on.
+abbrev pub MayLend : What → Reading → Type 0
+MayLend what.Tag v = (is_last v.pending.tag.state.phase ≡ true) × (v.pending.mark ≡ mark.Nothing)
+MayLend _ v = MayStep v.pending.tag
+
+abbrev pub RunsReady : Result (ℕ × What) Stop → Reading → Type 0
+RunsReady (Ok (n, answer)) new = MayLend answer new × (room ≤ new.text.room)
+RunsReady (Err e) new = room ≤ new.text.room
+
+-- what each scanner keeps
+pub record MayShow (answer : What) (stepped : Bool) (v : Reading) : Type 0 where
+  pub lends : MayLend answer v
+  pub room_is : room ≤ v.text.room
+  pub first : stepped ≡ false → v.pending.mark ≡ mark.Nothing
+
+-- text that was read before a fault is handed out first
+abbrev pub stopped_at : Chars → ℕ → Stop → Result (ℕ × What) Stop
+stopped_at text n (stop.Fault fault) = if is_empty text then Err (stop.Fault fault) else Ok (n, what.Text)
+stopped_at text n stop.NoMemory = Err stop.NoMemory
+
 -- neither `<` nor `&`
 abbrev pub is_quiet : List ℕ → Bool
 is_quiet piece = list_all (λ byte. not (byte == less_than_sign || byte == ampersand)) piece
+
+-- before a step: what the last one told is forgotten
+pub record Prepared (old new : Scanner) : Type 0 where
+  pub text : new.reading.text.text ≡ []
+  pub size : new.reading.text.size ≡ 0
+  pub setting : new.reading.setting ≡ old.reading.setting
+  pub place : new.reading.place ≡ old.reading.place
+  pub held : new.reading.held ≡ old.reading.held
+  pub mark : new.reading.pending.mark ≡ old.reading.pending.mark
+  pub run : new.reading.pending.run ≡ old.reading.pending.run
+  pub tag : new.reading.pending.tag ≡ (if is_tag old.what then no_tag old.reading.pending.tag.syntax else old.reading.pending.tag)
+  pub what_is : new.what ≡ what.Nothing
+  pub stepped : new.stepped ≡ true
+  pub failed : new.failed ≡ old.failed
+  pub spent : new.spent ≡ old.spent
+  pub may_step : MayStep new.reading.pending.tag
+
+-- after this nothing else is answered
+abbrev pub FailsBy : Stop → Scanner → Scanner → Type 0
+FailsBy (stop.Fault fault) old new = (new.failed ≡ Some fault) × (new.spent ≡ old.spent) × (new.what ≡ old.what) × (new.stepped ≡ old.stepped)
+FailsBy stop.NoMemory old new = (new.failed ≡ old.failed) × (new.spent ≡ true) × (new.what ≡ old.what) × (new.stepped ≡ old.stepped)
 
 -- the first setting: nothing stands before the root
 abbrev pub first_setting : Syntax → Limits → Setting
@@ -226,6 +272,17 @@ abbrev pub Keeps : Scanner → Result (ℕ × shown.Token) Stop → Scanner → 
 Keeps old (Ok r) new = (old.failed ≡ None) × (old.spent ≡ false) × Answered new r.1
 Keeps old (Err (stop.Fault fault)) new = (old.spent ≡ false) × ((old.failed ≡ None) ⊎ (old.failed ≡ Some fault)) × (new.failed ≡ Some fault) × (new.spent ≡ false) × (new.what ≡ what.Nothing) × (new.stepped ≡ true)
 Keeps old (Err stop.NoMemory) new = ((old.spent ≡ true) ⊎ (old.failed ≡ None)) × (new.spent ≡ true) × (new.what ≡ what.Nothing) × (new.stepped ≡ true)
+
+-- the same of the step within
+abbrev pub KeepsOn : Scanner → Result ℕ Stop → Scanner → Type 0
+KeepsOn old (Ok n) new = (old.failed ≡ None) × (old.spent ≡ false) × (new.failed ≡ None) × (new.spent ≡ false) × (new.stepped ≡ true)
+KeepsOn old (Err (stop.Fault fault)) new = (old.spent ≡ false) × ((old.failed ≡ None) ⊎ (old.failed ≡ Some fault)) × (new.failed ≡ Some fault) × (new.spent ≡ false) × (new.what ≡ what.Nothing) × (new.stepped ≡ true)
+KeepsOn old (Err stop.NoMemory) new = ((old.spent ≡ true) ⊎ (old.failed ≡ None)) × (new.spent ≡ true) × (new.what ≡ what.Nothing) × (new.stepped ≡ true)
+
+abbrev pub Advances : Scanner → Scanning → List ℕ → Result ℕ Stop → Scanner → Type 0
+Advances old s piece (Ok n) new = Took old.reading s piece n new.what new.reading
+Advances old s piece (Err (stop.Fault fault)) new = Faults old.reading s piece fault
+Advances old s piece (Err stop.NoMemory) new = Unit {0}
 
 -- a content of the syntax
 abbrev pub is_of_syntax : Syntax → Content → Bool

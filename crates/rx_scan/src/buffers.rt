@@ -1,5 +1,5 @@
 //! Text that is gathered a character at a time.
-ghost use Rattle.std.specs.Prelude.{◌≡◌, ◌+◌, ◌≤◌, [], ◌∷◌, ◌++◌, IfOk, IsOk, OnErr, OnOk, encode_utf8_all};
+ghost use Rattle.std.specs.Prelude.{◌≡◌, ◌+◌, ◌≤◌, true, [], ◌∷◌, ◌++◌, IfOk, IsOk, OnErr, OnOk, encode_utf8_all};
 ghost use Rattle.std.specs.Str.{chars};
 ghost use Rattle.rx_terms.specs.Text.{is_empty};
 
@@ -78,7 +78,8 @@ impl Buffer {
 
     /// Whether there is no text.
     pub(crate) fn is_empty(&self) -> bool
-        ensures { result ≡ is_empty self.now.text }
+        ensures value { result ≡ is_empty self.now.text }
+        ensures size { result ≡ true → self.now.size ≡ 0 }
     {
         self.text.as_str().is_empty()
     }
