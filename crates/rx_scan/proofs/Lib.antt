@@ -6,3 +6,7 @@ pub mod StandLemmas
 pub mod RunLemmas
 pub mod Doctype
 pub mod Openings
+pub mod Markup
+pub mod References
+pub mod RawEnds
+pub mod Simulation

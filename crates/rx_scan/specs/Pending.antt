@@ -121,6 +121,12 @@ pub record DoctypeEnds (syntax : Syntax) (p : DoctypePhase) (text : Chars) : Typ
   pub read : told.doctype_on syntax (Some told.keyword) text ≡ Some phase
   pub is : DoctypeIs p phase
 
+-- what was read of an end tag makes its phase
+abbrev pub end_phase : Chars → TagPhase
+end_phase [] = phase.Start
+end_phase (c ∷ []) = phase.EndStart
+end_phase (c ∷ d ∷ more) = phase.EndName
+
 module _ (syntax : Syntax) (inside : Content) where
   -- Behind `<` and these characters the others are judged alone, and all of them are no tag.
   pub record Judged (front : Chars) (judge : Chars → ℕ → told.Verdict) : Type 0 where
@@ -140,12 +146,6 @@ module _ (syntax : Syntax) (inside : Content) where
     pub markup : has_markup inside ≡ true
     pub state : tag.state ≡ fresh
     pub may_step : MayStep tag
-
-  -- so many characters of an end tag's name make its phase
-  abbrev pub end_phase : Chars → TagPhase
-  end_phase [] = phase.Start
-  end_phase (c ∷ []) = phase.EndStart
-  end_phase (c ∷ d ∷ more) = phase.EndName
 
   pub record InRawEnd (n : ℕ) (kept : Chars) (tag : TagSoFar) (text : Chars) : Type 0 where
     pub name : Chars
