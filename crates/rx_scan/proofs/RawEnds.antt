@@ -90,12 +90,12 @@ raw_lower Xmp = refl
 raw_lower Title = refl
 raw_lower Textarea = refl
 
-record IsRaw (i : Content) (name : Chars) : Type 0 where
-  word : marks.end_word i ≡ solidus ∷ name
-  lower : list_all (between 97 122) name ≡ true
-  markup : has_markup i ≡ false
+pub record IsRaw (i : Content) (name : Chars) : Type 0 where
+  pub word : marks.end_word i ≡ solidus ∷ name
+  pub lower : list_all (between 97 122) name ≡ true
+  pub markup : has_markup i ≡ false
 
-raw_content : (i : Content) (name : Chars) → raw_name i ≡ Some name → IsRaw i name
+pub raw_content : (i : Content) (name : Chars) → raw_name i ≡ Some name → IsRaw i name
 raw_content content.Outside name e = absurd (cc)
 raw_content content.Html name e = absurd (cc)
 raw_content content.Foreign name e = absurd (cc)
@@ -176,7 +176,7 @@ end_unfinished [] = refl
 end_unfinished (x ∷ []) = refl
 end_unfinished (x ∷ y ∷ word) = refl
 
-same_self : (a : Chars) → same a a ≡ true
+pub same_self : (a : Chars) → same a a ≡ true
 same_self [] = refl
 same_self (x ∷ a) = and_from (x == x) (same a a) (equal x) (same_self a)
 
