@@ -10,3 +10,4 @@ pub mod Markup
 pub mod References
 pub mod RawEnds
 pub mod Simulation
+pub mod Standing

@@ -115,7 +115,7 @@ still_leads _ v = true
 abbrev pub setting_after : What → Reading → Setting → List Item → Setting
 setting_after answer v setting items =
     let next = after_some setting items in
-    record { syntax = next.syntax; limits = next.limits; inside = next.inside; leads = next.leads && still_leads answer v; drops = next.drops }
+    record { syntax = next.syntax; limits = next.limits; inside = next.inside; leads = if still_leads answer v then next.leads else false; drops = next.drops }
 
 -- The first n bytes of the piece were taken, and this was told.
 pub record Took (old : Reading) (s : Scanning) (piece : List ℕ) (n : ℕ) (answer : What) (new : Reading) : Type 0 where
@@ -236,7 +236,7 @@ ends_leading _ = false
 abbrev pub setting_behind : shown.Token → Setting → List Item → Setting
 setting_behind t setting items =
     let next = after_some setting items in
-    record { syntax = next.syntax; limits = next.limits; inside = next.inside; leads = next.leads && not (ends_leading t); drops = next.drops }
+    record { syntax = next.syntax; limits = next.limits; inside = next.inside; leads = if ends_leading t then false else next.leads; drops = next.drops }
 
 -- no byte was taken behind a tag's `>`
 abbrev pub IsLast : shown.Token → ℕ → Type 0
