@@ -11,3 +11,4 @@ pub mod References
 pub mod RawEnds
 pub mod Simulation
 pub mod Standing
+pub mod EntryLemmas

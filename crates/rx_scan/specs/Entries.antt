@@ -87,7 +87,7 @@ abbrev pub after_doctype : Setting → Setting
 after_doctype setting = record { syntax = setting.syntax; limits = setting.limits; inside = setting.inside; leads = false; drops = false }
 
 abbrev pub after_tag : Setting → Bool → Setting
-after_tag setting closing = record { syntax = setting.syntax; limits = setting.limits; inside = setting.inside; leads = if closing then setting.leads else false; drops = false }
+after_tag setting closing = record { syntax = setting.syntax; limits = setting.limits; inside = setting.inside; leads = setting.leads && closing; drops = false }
 
 -- the value with other parts
 abbrev pub with_parts : Reading → Setting → Place → Pending → Buffered → Reading
