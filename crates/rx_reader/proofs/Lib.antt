@@ -16,3 +16,8 @@ pub mod TagLaws
 pub mod Fronts
 pub mod OneToken
 pub mod Automaton
+pub mod ValueFaults
+pub mod ValueRefusals
+pub mod Written
+pub mod InValues
+pub mod TagFaultLaws

@@ -1,5 +1,5 @@
 -- Names that stand twice.
-use Rattle.std.proofs.Common.{◌≡◌, ◌∙◌, sym, ap, refl, ℕ, ◌+◌, ◌≤◌, ◌<◌, zero, suc, List, [], ◌∷◌, ◌++◌, length, take, arith, Bool, true, false, cond}
+use Rattle.std.proofs.Common.{◌≡◌, ◌∙◌, sym, ap, refl, ℕ, ◌+◌, ◌≤◌, ◌<◌, zero, suc, List, [], ◌∷◌, ◌++◌, length, take, drop, arith, Bool, true, false, cond}
 use Rattle.std.specs.Prelude.{◌||◌, not, nat_eq, slice_index_or}
 use Rattle.std.specs.Cmp.Lexicographic.{slice_cmp}
 use Rattle.std.specs.Ordering.{is_eq, nat_cmp}
@@ -16,8 +16,8 @@ use Rattle.rx_grammar.specs.Tokens.{Attribute, has_name}
 use Rattle.rx_grammar.specs.Tags.{without, firsts, has_repeat}
 use Rattle.rx_reader.proofs.Bools.{by_test, neither}
 use Rattle.rx_tags.specs.declared.attributes.Row.{Row}
-use Rattle.rx_tags.specs.Reading.{Reading, piece, row_read, rows_read, RowFits, RowsFit}
-use Rattle.rx_tags.specs.Repeats.{is_named}
+use Rattle.rx_tags.specs.Reading.{Reading, piece, row_read, rows_read, read_as, RowFits, RowsFit, Fits}
+use Rattle.rx_tags.specs.Repeats.{is_named, KeepsFirsts}
 
 or_false : (b : Bool) → (b || false) ≡ b
 or_false true = refl
@@ -210,3 +210,13 @@ pub too_few : (text : List ℕ) (rows : List Row) (n : ℕ) → n ≡ length row
 too_few text [] n e h = refl
 too_few text (row ∷ []) n e h = refl
 too_few text (row ∷ other ∷ rows) n e h = absurd (omega (arith, e, h))
+
+pub keeps_fit : (text : List ℕ) (rows kept : List Row) (start middle end : ℕ) → Fits text rows start middle end → KeepsFirsts text rows kept → Fits text kept start middle end
+keeps_fit text rows kept start middle end f k =
+    record { rows_fit = k.fit start f.rows_fit; rises = f.rises; on = f.on; within = f.within; key = f.key; known = f.known; pending = f.pending }
+
+pub first_of : (text : List ℕ) (rows kept : List Row) (start middle end : ℕ) (r : Reading) → read_as text rows start middle end ≡ r → KeepsFirsts text rows kept
+    → read_as text kept start middle end ≡ record { whole = firsts r.whole; key = r.key; known = r.known; pending = r.pending }
+first_of text rows kept start middle end r e k =
+    (λ i. record { whole = k.read i; key = chars (piece text start middle); known = chars (piece text middle end); pending = chars (drop end text) })
+    ∙ ap (λ (x : Reading). record { whole = firsts x.whole; key = x.key; known = x.known; pending = x.pending }) e

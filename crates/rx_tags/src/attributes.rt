@@ -1,10 +1,10 @@
 //! The attributes of one tag in one buffer.
-ghost use Rattle.std.specs.Prelude.{◌≡◌, ℕ, ◌<◌, ◌≤◌, List, [], ◌∷◌, ◌++◌, ◌||◌, not, length, IfOk, OnErr, OnOk, encode_utf8, encode_utf8_all, Some, slice_get};
+ghost use Rattle.std.specs.Prelude.{◌≡◌, ℕ, ◌<◌, ◌≤◌, List, [], ◌∷◌, ◌++◌, ◌||◌, not, false, length, IfOk, MatchOption, OnErr, OnOk, encode_utf8, encode_utf8_all, Some, slice_get};
 ghost use Rattle.std.specs.Str.{chars, IsUtf8};
 ghost use Rattle.rx_grammar.specs.Names.{same};
 ghost use Rattle.rx_grammar.specs.Tags.{firsts, has_repeat};
 ghost use Rattle.rx_tags.specs.Reading.{piece, rows_read, RowsFit};
-ghost use Rattle.rx_tags.specs.Repeats.{has_text};
+ghost use Rattle.rx_tags.specs.Repeats.{has_text, KeepsFirsts};
 
 use rx_terms::NoMemory;
 use std::alloc::Global;
@@ -200,16 +200,61 @@ impl Attributes {
         ensures repeated { IfOk result (λ repeated. repeated ≡ has_repeat self.old.whole) }
         ensures err { OnErr result (self.new ≡ self.old) }
     {
-        if self.rows.len() < 2 {
+        let Some(kept) = unrepeated(alloc, &self.text, &self.rows)? else {
             return Ok(false);
-        }
-        let kept = first_rows(alloc, &self.text, &self.rows)?;
-        if kept.len() == self.rows.len() {
-            return Ok(false);
-        }
+        };
         self.rows = kept;
         Ok(true)
     }
+
+    /// The attribute is whole, and it is the last one. Forgets each whose name stands before it, and tells whether there was
+    /// one.
+    pub(crate) fn add_last(&mut self, alloc: Global) -> Result<bool, NoMemory>
+        ensures kept { OnOk result (self.new ≡ record { whole = firsts (self.old.whole ++ (self.old.key, self.old.known ++ self.old.pending) ∷ []); key = []; known = []; pending = [] }) }
+        ensures repeated { IfOk result (λ repeated. repeated ≡ has_repeat (self.old.whole ++ (self.old.key, self.old.known ++ self.old.pending) ∷ [])) }
+        ensures err { OnErr result (self.new ≡ self.old) }
+    {
+        let count = self.rows.len();
+        let end = self.text.len();
+        let row = Row {
+            start: self.start,
+            middle: self.middle,
+            end,
+        };
+        if self.rows.push(row).is_err() {
+            return Err(NoMemory);
+        }
+        let kept = match unrepeated(alloc, &self.text, &self.rows) {
+            Ok(kept) => kept,
+            Err(NoMemory) => {
+                self.rows.truncate(count);
+                return Err(NoMemory);
+            }
+        };
+        self.start = end;
+        self.middle = end;
+        self.end = end;
+        let Some(rows) = kept else {
+            return Ok(false);
+        };
+        self.rows = rows;
+        Ok(true)
+    }
+}
+
+// The rows whose names stand in no row before them, or `None` where that is each of them.
+fn unrepeated(alloc: Global, text: &[u8], rows: &[Row]) -> Result<Option<Vec<Row>>, NoMemory>
+    requires { RowsFit text.now (length text.now) rows.now }
+    ensures { IfOk result (λ kept. MatchOption kept (has_repeat (rows_read text.now rows.now) ≡ false) (λ some. KeepsFirsts text.now rows.now some.items)) }
+{
+    if rows.len() < 2 {
+        return Ok(None);
+    }
+    let kept = first_rows(alloc, text, rows)?;
+    if kept.len() == rows.len() {
+        return Ok(None);
+    }
+    Ok(Some(kept))
 }
 
 // The rows whose names stand in no row before them.
