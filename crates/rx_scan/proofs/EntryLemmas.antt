@@ -57,6 +57,9 @@ pub record Grows (old : Reading) (items : List Item) (new : Reading) : Type 0 wh
   pub texts : texts_of items ≡ Some more
   pub text : new.text.text ≡ old.text.text ++ more
   pub keeps : keeps_first old.setting.drops items ≡ true
+  pub some : more ≡ [] → items ≡ []
+  pub started : (more ≡ [] → ⊥) → new.place.started ≡ true
+  pub still : old.place.started ≡ true → new.place.started ≡ true
 
 -- what the answer to one byte tells
 abbrev pub Told : Reading → What → List Item → Reading → Type 0
@@ -83,14 +86,14 @@ Gives r s old (Err stop.NoMemory) new = Unit {0}
 pub gives_by : (r q : Result reader.Scanned Kind) (s : reader.Scanning) (old : Reading) (result : Result What Stop) (new : Reading) → r ≡ q → Gives q s old result new → Gives r s old result new
 gives_by r q s old result new e g = subst (λ (x : Result reader.Scanned Kind). Gives x s old result new) (sym e) g
 
-gives_at : (r : Result reader.Scanned Kind) (s : reader.Scanning) (old : Reading) (result : Result What Stop) (x new : Reading) → new ≡ x → Gives r s old result x → Gives r s old result new
+pub gives_at : (r : Result reader.Scanned Kind) (s : reader.Scanning) (old : Reading) (result : Result What Stop) (x new : Reading) → new ≡ x → Gives r s old result x → Gives r s old result new
 gives_at r s old result x new e g = subst (λ (z : Reading). Gives r s old result z) (sym e) g
 
 -- the fault of the next byte
 pub fault_is : (v : Reading) (s : reader.Scanning) (kind : Kind) → ReadsAs v s → entries.fault_at v kind ≡ reader.fault_in s kind
 fault_is v s kind h = λ i. record { kind = kind; token = h.token i; at = h.at i }
 
-refuses : (r : Result reader.Scanned Kind) (v : Reading) (s : reader.Scanning) (kind : Kind) (result : Result What Stop) (new : Reading) → ReadsAs v s → r ≡ Err kind → result ≡ Err (stop.Fault (entries.fault_at v kind)) → Gives r s v result new
+pub refuses : (r : Result reader.Scanned Kind) (v : Reading) (s : reader.Scanning) (kind : Kind) (result : Result What Stop) (new : Reading) → ReadsAs v s → r ≡ Err kind → result ≡ Err (stop.Fault (entries.fault_at v kind)) → Gives r s v result new
 refuses r v s kind result new h e q = subst (λ (x : Result What Stop). Gives r s v x new) (sym q) (record { kind = kind; is = e; fault_is = fault_is v s kind h })
 
 and_same : (b : Bool) → (b && true) ≡ b
@@ -104,8 +107,8 @@ same_state : (a b : TagState) → ok_state a ≡ ok_state b → a ≡ b
 same_state a b e = cc
 
 -- no token is told, and the text stays
-nothing_told : (v new : Reading) → new.text ≡ v.text → Grows v [] new
-nothing_told v new e = record { more = []; texts = refl; text = ap (λ b. b.text) e ∙ sym (append-nil v.text.text); keeps = refl }
+pub nothing_told : (v new : Reading) → new.text ≡ v.text → (v.place.started ≡ true → new.place.started ≡ true) → Grows v [] new
+nothing_told v new e k = record { more = []; texts = refl; text = ap (λ b. b.text) e ∙ sym (append-nil v.text.text); keeps = refl; some = λ z. refl; started = λ z. absurd (z refl); still = k }
 
 module _ (v : Reading) (s : reader.Scanning) (h : ReadsAs v s) (ar : Bool) (c : ℕ) where
   abbrev sy : Syntax
@@ -143,7 +146,7 @@ module _ (v : Reading) (s : reader.Scanning) (h : ReadsAs v s) (ar : Bool) (c : 
         scanned = record { next = reader.entering ar (s.run ++ entry ∷ []) s.two s.last s; items = [] };
         is = ap read g;
         reads_as = went v s h ar entry p text x more refl e y k old;
-        told = nothing_told v (entries.gone v ar p) refl;
+        told = nothing_told v (entries.gone v ar p) refl (λ z. refl);
         setting = refl;
       }))
 
@@ -160,7 +163,7 @@ module _ (v : Reading) (s : reader.Scanning) (h : ReadsAs v s) (ar : Bool) (c : 
         reads_as = begins v s h ar entry (record { mark = m; run = []; tag = no_tag v.pending.tag.syntax }) v.setting v.text (begun ar v.place) s.two s.last refl refl refl
             (λ i. record { at = v.place.at + 1; starts = v.place.at + 1; token = v.place.starts; started = true; after_return = ar; two = h.two i; last = h.last i })
             h.syntax (b.pends (no_tag v.pending.tag.syntax) (ap no_tag h.syntax));
-        told = nothing_told v (entries.with_begun v ar m) refl;
+        told = nothing_told v (entries.with_begun v ar m) refl (λ z. refl);
         setting = refl;
       }))
 
@@ -211,6 +214,9 @@ module _ (v : Reading) (s : reader.Scanning) (h : ReadsAs v s) (ar : Bool) (c : 
           texts = ap (λ o. joined o (Some [])) (ap text_of i.token_is ∙ x);
           text = k.1.text.text;
           keeps = ap (λ b. not (v.setting.drops && b)) (ap is_line_feed i.token_is ∙ l) ∙ ap not k.0;
+          some = λ z. absurd (cc);
+          started = λ z. refl;
+          still = λ z. refl;
         };
         setting = refl;
       })
@@ -435,6 +441,9 @@ module _ (v : Reading) (s : reader.Scanning) (h : ReadsAs v s) (ar : Bool) (c : 
               texts = ap (λ t. joined (text_of t) (Some [])) (run_item_is (kept run_text) (entries.first_char v.pending.mark) v.pending.run m.some).0;
               text = k.text.text ∙ ap (λ x. v.text.text ++ x) (sym (append-nil run_text));
               keeps = first_kept [];
+              some = λ z. absurd (cc);
+              started = λ z. refl;
+              still = λ z. refl;
             };
             setting = refl;
           })))
@@ -450,6 +459,9 @@ module _ (v : Reading) (s : reader.Scanning) (h : ReadsAs v s) (ar : Bool) (c : 
               texts = ap (λ t. joined (text_of t) (Some (c ∷ []))) (run_item_is (kept run_text) (entries.first_char v.pending.mark) v.pending.run m.some).0;
               text = k.text.text;
               keeps = first_kept (reader.item_of inside (character c) (entry ∷ []) ∷ []);
+              some = λ z. absurd (cc);
+              started = λ z. refl;
+              still = λ z. refl;
             };
             setting = refl;
           })))

@@ -12,3 +12,4 @@ pub mod RawEnds
 pub mod Simulation
 pub mod Standing
 pub mod EntryLemmas
+pub mod ByteLemmas
