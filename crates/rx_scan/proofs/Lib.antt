@@ -4,6 +4,7 @@ pub mod Meant
 pub mod Behinds
 pub mod StandLemmas
 pub mod RunLemmas
+pub mod QuietLemmas
 pub mod Doctype
 pub mod Openings
 pub mod Markup
