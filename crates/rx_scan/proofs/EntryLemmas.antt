@@ -64,6 +64,7 @@ pub record Grows (old : Reading) (items : List Item) (new : Reading) : Type 0 wh
 -- what the answer to one byte tells
 abbrev pub Told : Reading → What → List Item → Reading → Type 0
 Told old what.Nothing items new = Grows old items new
+Told old what.Text items new = ⊥
 Told old answer items new = Tells old.setting.drops answer items new × (new.text.text ≡ old.text.text)
 
 pub record GivesOk (r : Result reader.Scanned Kind) (old : Reading) (answer : What) (new : Reading) : Type 0 where

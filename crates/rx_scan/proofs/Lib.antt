@@ -5,6 +5,7 @@ pub mod Behinds
 pub mod StandLemmas
 pub mod RunLemmas
 pub mod QuietLemmas
+pub mod LoopLemmas
 pub mod Doctype
 pub mod Openings
 pub mod Markup

@@ -18,15 +18,9 @@ use Rattle.rx_scan.specs.declared.marks.Mark.TheVariants as mark
 use Rattle.rx_scan.specs.declared.places.Setting.{Setting}
 use Rattle.rx_scan.specs.Scanner.{Reading, spot_of}
 use Rattle.rx_scan.specs.Entries as entries
-use Rattle.rx_scan.specs.Steps.{ReadsAs, joined, texts_of, keeps_first, after_some, setting_after, is_nothing, Took, Faults, Tells}
+use Rattle.rx_scan.specs.Steps.{ReadsAs, joined, texts_of, keeps_first, after_some, setting_after, is_nothing, is_token, Took, Faults, Tells}
 use Rattle.rx_scan.proofs.EntryLemmas.{Gives, GivesOk, GivesErr, Grows, Told}
 use Rattle.rx_scan.proofs.ByteLemmas.{reads}
-
--- a token other than text
-abbrev pub is_token : What → Bool
-is_token what.Nothing = false
-is_token what.Text = false
-is_token _ = true
 
 -- while text is told, no token is begun, and what might be skipped is over
 pub record IsApart (v : Reading) : Type 0 where

@@ -163,6 +163,12 @@ pub record MayShow (answer : What) (stepped : Bool) (v : Reading) : Type 0 where
   pub room_is : room ≤ v.text.room
   pub first : stepped ≡ false → v.pending.mark ≡ mark.Nothing
 
+-- a token other than text
+abbrev pub is_token : What → Bool
+is_token what.Nothing = false
+is_token what.Text = false
+is_token _ = true
+
 -- text that was read before a fault is handed out first
 abbrev pub stopped_at : Chars → ℕ → Stop → Result (ℕ × What) Stop
 stopped_at text n (stop.Fault fault) = if is_empty text then Err (stop.Fault fault) else Ok (n, what.Text)

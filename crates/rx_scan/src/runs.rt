@@ -3,7 +3,7 @@ ghost use Rattle.std.specs.Prelude.{◌≡◌, ◌≢◌, ◌+◌, ◌≤◌, �
 ghost use Rattle.rx_pages.specs.PageReader.{Scanning};
 ghost use Rattle.rx_tags.specs.TagBufs.{MayStep};
 ghost use Rattle.rx_scan.specs.Entries.{IsNoMemory};
-ghost use Rattle.rx_scan.specs.Steps.{ReadsAs, Runs, RunsReady, is_quiet, stopped_at};
+ghost use Rattle.rx_scan.specs.Steps.{ReadsAs, Runs, RunsReady, is_quiet, is_token, stopped_at};
 
 use crate::answers::What;
 use crate::marks::Mark;
@@ -12,6 +12,12 @@ use rx_tags::Stop;
 
 /// The bytes that the text of one step may have, and the last character's.
 pub(crate) const ROOM: usize = 4096;
+
+fn is_token(what: What) -> bool
+    ensures { result ≡ is_token what }
+{
+    !matches!(what, What::Nothing | What::Text)
+}
 
 impl Reader {
     /// Whether no token is unfinished.
@@ -41,6 +47,7 @@ impl Reader {
     fn rest(&self) -> What
         ensures text { result ≡ What.Text → self.now.text.text ≢ [] }
         ensures nothing { result ≡ What.Nothing → self.now.text.text ≡ [] }
+        ensures either { is_token result ≡ false }
     {
         if self.text.is_empty() {
             What::Nothing
@@ -62,11 +69,14 @@ impl Reader {
         let mut taken = 0;
         for byte in piece {
             match self.read(*byte) {
-                Ok(What::Nothing) => {}
-                Ok(what) => return Ok((taken + 1, what)),
                 Err(stop) => return self.stopped(taken, stop),
+                Ok(what) => {
+                    taken += 1;
+                    if is_token(what) {
+                        return Ok((taken, what));
+                    }
+                }
             }
-            taken += 1;
             if self.must_show() {
                 return Ok((taken, What::Text));
             }
