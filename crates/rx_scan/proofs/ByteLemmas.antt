@@ -40,12 +40,12 @@ match_by true P Q m f g = f refl m
 match_by false P Q m f g = g refl m
 
 -- what pends has a first character, or there is nothing
-record HasFirst (text : Chars) : Type 0 where
-  first : ℕ
-  more : Chars
-  is : text ≡ first ∷ more
+pub record HasFirst (text : Chars) : Type 0 where
+  pub first : ℕ
+  pub more : Chars
+  pub is : text ≡ first ∷ more
 
-nothing_or : (s : Syntax) (i : Content) (m : Mark) (run : Chars) (t : TagSoFar) (text : Chars) → PendsAs s i m run t text → ((m ≡ mark.Nothing) × (text ≡ [])) ⊎ HasFirst text
+pub nothing_or : (s : Syntax) (i : Content) (m : Mark) (run : Chars) (t : TagSoFar) (text : Chars) → PendsAs s i m run t text → ((m ≡ mark.Nothing) × (text ≡ [])) ⊎ HasFirst text
 nothing_or s i mark.Nothing run t text h = inl (refl, h)
 nothing_or s i mark.LessThan run t text h = inr (record { first = 60; more = []; is = h.are })
 nothing_or s i (mark.RawEnd n) run t text h = inr (record { first = 60; more = run; is = h.are })

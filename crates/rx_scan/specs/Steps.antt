@@ -185,7 +185,7 @@ pub record Prepared (old new : Scanner) : Type 0 where
   pub setting : new.reading.setting ≡ old.reading.setting
   pub place : new.reading.place ≡ old.reading.place
   pub held : new.reading.held ≡ old.reading.held
-  pub mark : new.reading.pending.mark ≡ old.reading.pending.mark
+  pub mark_is : new.reading.pending.mark ≡ old.reading.pending.mark
   pub run : new.reading.pending.run ≡ old.reading.pending.run
   pub tag : new.reading.pending.tag ≡ (if is_tag old.what then no_tag old.reading.pending.tag.syntax else old.reading.pending.tag)
   pub what_is : new.what ≡ what.Nothing
@@ -193,6 +193,7 @@ pub record Prepared (old new : Scanner) : Type 0 where
   pub failed : new.failed ≡ old.failed
   pub spent : new.spent ≡ old.spent
   pub may_step : MayStep new.reading.pending.tag
+  pub between : is_tag old.what ≡ true → old.reading.pending.mark ≡ mark.Nothing
 
 -- after this nothing else is answered
 abbrev pub FailsBy : Stop → Scanner → Scanner → Type 0

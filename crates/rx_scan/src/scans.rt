@@ -150,7 +150,6 @@ impl Scan {
         requires { self.old.what ≡ What.Nothing }
         ensures { FailsBy stop self.old self.new }
     {
-        self.reader.pending.forget_tag();
         match stop {
             Stop::Fault(fault) => self.failed = Some(fault),
             Stop::NoMemory => self.spent = true,
@@ -177,6 +176,7 @@ impl Scan {
                 Ok(taken)
             }
             Err(stop) => {
+                self.reader.pending.forget_tag();
                 self.fail(stop);
                 Err(stop)
             }
