@@ -1,15 +1,14 @@
 -- Behind `<!` and `<?` a move says what the verdict is.
-use Rattle.std.proofs.Common.{◌≡◌, ◌∙◌, ℕ, Bool, true, false, [], ◌∷◌, ◌++◌, refl, ap, sym, subst, Option, Some, None, append_assoc, append-nil, eqb-true, cond, ◌+◌, arith}
+use Rattle.std.proofs.Common.{◌≡◌, ◌∙◌, ℕ, Bool, true, false, [], ◌∷◌, ◌++◌, refl, ap, sym, subst, append_assoc, append-nil, eqb-true, ◌+◌, arith}
 use Rattle.std.specs.Prelude.{◌&&◌, ◌||◌, ◌==◌, ◌-◌, take, length, codes, if◌then◌else◌}
 use Rattle.std.proofs.lemmas.Bool.{cond-true, cond-false}
-use Rattle.rx_terms.specs.Ascii.{less_than_sign, greater_than_sign, hyphen, right_bracket, question_mark}
-use Rattle.rx_terms.specs.Text.{Chars, is_empty}
+use Rattle.rx_terms.specs.Ascii.{less_than_sign}
+use Rattle.rx_terms.specs.Text.{Chars}
 use Rattle.rx_chars.specs.declared.syntax.Syntax.{Syntax}
 use Rattle.rx_grammar.specs.declared.contents.Content.{Content}
-use Rattle.rx_grammar.specs.declared.faults.Kind.TheVariants.{StrictText}
 use Rattle.rx_grammar.specs.Names.{same}
-use Rattle.rx_grammar.specs.Tokens.{comment, section, doctype}
-use Rattle.rx_grammar.specs.Spelling.{exclamation_mark, ends_with, ends_comment}
+use Rattle.rx_grammar.specs.Tokens.{comment, section}
+use Rattle.rx_grammar.specs.Spelling.{ends_with, ends_comment}
 use Rattle.rx_pages.specs.Scanner as told
 use Rattle.rx_reader.proofs.Bools.{split, by_test, both}
 use Rattle.std.proofs.lemmas.List.{length-append}
@@ -22,11 +21,9 @@ use Rattle.rx_scan.specs.declared.marks.Brackets.{Brackets}
 use Rattle.rx_scan.specs.declared.marks.Brackets.TheVariants as brackets
 use Rattle.rx_scan.specs.declared.marks.Mark.{Mark}
 use Rattle.rx_scan.specs.declared.marks.Mark.TheVariants as mark
-use Rattle.rx_scan.specs.declared.marks.Whole.TheVariants as whole
 use Rattle.rx_scan.specs.declared.marks.Move.{Move}
-use Rattle.rx_scan.specs.declared.marks.Move.TheVariants as move
 use Rattle.rx_scan.specs.Marks.{may_close, after_dash, after_bang, in_comment, after_strict_dash, in_strict_comment, in_instruction, in_bogus, in_section, at_bracket, are_two}
-use Rattle.rx_scan.specs.Pending.{Pending, PendsAs, Behind, Judged, judge_of, CommentEnds, is_start, is_start_dash, has_dash, has_dashes, has_bang, StrictEnds, has_strict_dash, has_strict_dashes, SectionEnds, bracket_text, is_one}
+use Rattle.rx_scan.specs.Pending.{Pending, PendsAs, Behind, judge_of, CommentEnds, is_start, is_start_dash, has_dash, has_dashes, has_bang, StrictEnds, has_strict_dash, has_strict_dashes, SectionEnds, bracket_text}
 use Rattle.rx_scan.proofs.Meant.{Means, Goes}
 use Rattle.rx_scan.proofs.Snoc.{and_false, snoc_same, ends_snoc, ends_one, empty_snoc, lone_snoc, either_way}
 
@@ -313,9 +310,14 @@ module _ (s : Syntax) (i : Content) (p : Pending) (text : Chars) (c : ℕ) where
       bracket brackets.One b e v =
           record { first = 60; more = b.front ++ b.rest; some = b.are; goes = v; pends = behind_more judge (SectionEnds brackets.One p.run) (SectionEnds brackets.Two p.run) b (at_93 brackets.Two p.run b.rest e (two_brackets p.run b.rest b.is)) }
       bracket brackets.Two b e v =
-          record { first = 60; more = b.front ++ b.rest; some = b.are; goes = v;
+          record {
+            first = 60;
+            more = b.front ++ b.rest;
+            some = b.are;
+            goes = v;
             pends = behind_more judge (SectionEnds brackets.Two p.run) (SectionEnds brackets.Two (p.run ++ c ∷ [])) b
-                (at_93 brackets.Two (p.run ++ c ∷ []) b.rest e (subst (λ (x : ℕ). SectionEnds brackets.Two (p.run ++ x ∷ []) (b.rest ++ 93 ∷ [])) (sym e) (more_brackets p.run b.rest b.is))) }
+                (at_93 brackets.Two (p.run ++ c ∷ []) b.rest e (subst (λ (x : ℕ). SectionEnds brackets.Two (p.run ++ x ∷ []) (b.rest ++ 93 ∷ [])) (sym e) (more_brackets p.run b.rest b.is)));
+          }
 
       kept : (q : Brackets) (b : Behind s i (judge_of s i (mark.Section q)) (SectionEnds q p.run) text) → are_two q ≡ true → take (length b.rest - 2) b.rest ≡ p.run
       kept brackets.None b h = absurd (cc)

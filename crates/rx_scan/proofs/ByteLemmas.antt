@@ -1,6 +1,6 @@
 -- What one byte does is what the reader of bytes says.
-use Rattle.std.proofs.Common.{◌≡◌, ◌∙◌, ◌⊎◌, ℕ, ◌+◌, ◌-◌, Bool, true, false, List, [], ◌∷◌, ◌++◌, refl, ap, sym, subst, Option, Some, None, Result, Ok, Err, inl, inr, cond, length, arith}
-use Rattle.std.specs.Prelude.{◌&&◌, ◌||◌, ◌==◌, not, nat_le, MatchBool, if◌then◌else◌}
+use Rattle.std.proofs.Common.{◌≡◌, ◌∙◌, ◌⊎◌, ℕ, ◌+◌, ◌-◌, Bool, true, false, List, [], ◌∷◌, ◌++◌, refl, ap, sym, subst, Result, Ok, Err, inl, inr, length, arith}
+use Rattle.std.specs.Prelude.{◌&&◌, ◌||◌, ◌==◌, not, nat_le, MatchBool}
 use Rattle.std.proofs.lemmas.Bool.{cond-true, cond-false}
 use Rattle.std.proofs.lemmas.List.{length-append}
 use Rattle.rx_terms.specs.Text.{Chars}
@@ -16,10 +16,8 @@ use Rattle.rx_grammar.specs.declared.limits.Limits.{Limits}
 use Rattle.rx_grammar.specs.Items.{values}
 use Rattle.rx_grammar.specs.PageFaults.{is_known_tag}
 use Rattle.rx_reader.proofs.Bools.{split}
-use Rattle.rx_pages.specs.Scanner as verdicts
 use Rattle.rx_pages.specs.PageReader as reader
 use Rattle.rx_tags.specs.declared.stops.Stop.{Stop}
-use Rattle.rx_tags.specs.declared.stops.Stop.TheVariants as stop
 use Rattle.rx_tags.specs.TagBufs.{TagSoFar}
 use Rattle.rx_scan.specs.declared.answers.What.{What}
 use Rattle.rx_scan.specs.declared.answers.What.TheVariants as what
@@ -30,10 +28,10 @@ use Rattle.rx_scan.specs.Places.{entered, holding}
 use Rattle.rx_scan.specs.Pending.{PendsAs}
 use Rattle.rx_scan.specs.Scanner.{Reading, spot_of}
 use Rattle.rx_scan.specs.Entries as entries
-use Rattle.rx_scan.specs.Steps.{ReadsAs, Skips, a_mark}
+use Rattle.rx_scan.specs.Steps.{ReadsAs, a_mark}
 use Rattle.rx_scan.proofs.Standing.{some_mark, values_snoc, no_values}
 use Rattle.rx_scan.proofs.Simulation.{known, known_with}
-use Rattle.rx_scan.proofs.EntryLemmas.{Gives, GivesOk, GivesErr, gives_at, gives_by, refuses, nothing_told, enters}
+use Rattle.rx_scan.proofs.EntryLemmas.{Gives, gives_at, gives_by, refuses, nothing_told, enters}
 
 match_by : {G : Type 0} (b : Bool) (P Q : Type 0) → MatchBool b P Q → (b ≡ true → P → G) → (b ≡ false → Q → G) → G
 match_by true P Q m f g = f refl m
@@ -96,9 +94,16 @@ module _ (v : Reading) (s : reader.Scanning) (h : ReadsAs v s) where
   passed_is : ReadsAs (entries.with_passed v) (reader.passed s)
   passed_is =
       record {
-        at = ap (λ a. a + 1) h.at; starts = ap (λ a. a + 1) h.at ∙ sym (next s.at); held = refl; started = refl; after_return = refl; two = h.two; last = h.last;
+        at = ap (λ a. a + 1) h.at;
+        starts = ap (λ a. a + 1) h.at ∙ sym (next s.at);
+        held = refl;
+        started = refl;
+        after_return = refl;
+        two = h.two;
+        last = h.last;
         token = token_stays ((s.at + 1) - 0) (entered false v.place) (ap (λ a. a + 1) h.at ∙ sym (next s.at)) refl;
-        syntax = h.syntax; pends = h.pends;
+        syntax = h.syntax;
+        pends = h.pends;
       }
     where
       next : (at : ℕ) → (at + 1) - 0 ≡ at + 1
@@ -107,9 +112,16 @@ module _ (v : Reading) (s : reader.Scanning) (h : ReadsAs v s) where
   held_is : (byte : ℕ) → ReadsAs (entries.with_held v (s.held ++ byte ∷ [])) (reader.holding (s.held ++ byte ∷ []) s)
   held_is byte =
       record {
-        at = ap (λ a. a + 1) h.at; starts = h.starts ∙ sym starts; held = refl; started = h.started; after_return = h.after_return; two = h.two; last = h.last;
+        at = ap (λ a. a + 1) h.at;
+        starts = h.starts ∙ sym starts;
+        held = refl;
+        started = h.started;
+        after_return = h.after_return;
+        two = h.two;
+        last = h.last;
         token = token_stays ((s.at + 1) - length (s.held ++ byte ∷ [])) (holding v.place) (h.starts ∙ sym starts) refl;
-        syntax = h.syntax; pends = h.pends;
+        syntax = h.syntax;
+        pends = h.pends;
       }
     where
       starts : (s.at + 1) - length (s.held ++ byte ∷ []) ≡ s.at - length s.held

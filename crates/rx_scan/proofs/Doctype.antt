@@ -1,28 +1,26 @@
 -- In a document type a move says what the verdict is.
-use Rattle.std.proofs.Common.{◌≡◌, ◌∙◌, ℕ, ◌+◌, Bool, true, false, List, [], ◌∷◌, ◌++◌, refl, ap, sym, subst, Option, Some, None, append_assoc, append-nil, eqb-true, cond, length, arith, slice_get, zero, suc}
-use Rattle.std.specs.Prelude.{◌==◌, codes, if◌then◌else◌}
+use Rattle.std.proofs.Common.{◌≡◌, ◌∙◌, ℕ, ◌+◌, [], ◌∷◌, ◌++◌, refl, ap, sym, subst, Option, Some, None, append_assoc, length, slice_get}
+use Rattle.std.specs.Prelude.{◌==◌, codes}
 use Rattle.std.proofs.lemmas.Bool.{cond-true, cond-false}
 use Rattle.std.proofs.lemmas.List.{length-append}
-use Rattle.rx_terms.specs.Ascii.{greater_than_sign, left_bracket, is_white_space}
+use Rattle.rx_terms.specs.Ascii.{is_white_space}
 use Rattle.rx_terms.specs.Text.{Chars}
 use Rattle.rx_chars.specs.declared.syntax.Syntax.{Syntax}
 use Rattle.rx_grammar.specs.declared.contents.Content.{Content}
 use Rattle.rx_grammar.specs.declared.faults.Kind.TheVariants.{BadDoctype}
 use Rattle.rx_grammar.specs.Tags.{cased_char}
-use Rattle.rx_grammar.specs.Tokens.{doctype}
 use Rattle.rx_pages.specs.Scanner as told
-use Rattle.rx_reader.proofs.Bools.{split, by_test}
+use Rattle.rx_reader.proofs.Bools.{split}
 use Rattle.rx_scan.specs.declared.marks.DoctypePhase.{DoctypePhase}
 use Rattle.rx_scan.specs.declared.marks.DoctypePhase.TheVariants as phases
-use Rattle.rx_scan.specs.declared.marks.Mark.{Mark}
 use Rattle.rx_scan.specs.declared.marks.Mark.TheVariants as mark
 use Rattle.rx_scan.specs.declared.marks.Whole.TheVariants as whole
 use Rattle.rx_scan.specs.declared.marks.Move.{Move}
 use Rattle.rx_scan.specs.declared.marks.Move.TheVariants as move
 use Rattle.rx_scan.specs.Marks as marks
-use Rattle.rx_scan.specs.Pending.{Pending, PendsAs, Behind, judge_of, DoctypeIs, DoctypeEnds, NameLeft}
-use Rattle.rx_scan.proofs.Meant.{Means, Goes}
-use Rattle.rx_scan.proofs.Behinds.{judged_at, behind_more, goes_by}
+use Rattle.rx_scan.specs.Pending.{Pending, PendsAs, Behind, judge_of, DoctypeIs, DoctypeEnds}
+use Rattle.rx_scan.proofs.Meant.{Means}
+use Rattle.rx_scan.proofs.Behinds.{judged_at, behind_more}
 
 abbrev pub head_of : Chars → Option ℕ
 head_of [] = None
@@ -46,7 +44,9 @@ module _ (s : Syntax) (i : Content) (p : Pending) (text : Chars) (c : ℕ) where
   goes_on : (r q : DoctypePhase) (b : Behind s i (judge_of s i (mark.Doctype q)) (DoctypeEnds s q) text) (next : told.DoctypePhase) → told.doctype_move s b.is.phase c ≡ Some next → told.told_of_doctype (Some next) ≡ told.goes_on → DoctypeIs r next → Means s i p text c (move.Goes (mark.Doctype r))
   goes_on r q b next e g h =
       record {
-        first = 60; more = b.front ++ b.rest; some = b.are;
+        first = 60;
+        more = b.front ++ b.rest;
+        some = b.are;
         goes = judged q b ∙ (ap told.told_of_doctype e ∙ g);
         pends = behind_more s i p text c (judge_of s i (mark.Doctype q)) (DoctypeEnds s q) (DoctypeEnds s r) b (record { phase = next; read = doctype_snoc s (Some told.keyword) b.rest c ∙ (ap (λ o. told.doctype_move_on s o c) b.is.read ∙ e); is = h });
       }

@@ -1,5 +1,5 @@
 -- What one character does is what the reader of bytes says.
-use Rattle.std.proofs.Common.{◌≡◌, ◌∙◌, ℕ, ◌+◌, Bool, true, false, List, [], ◌∷◌, ◌++◌, refl, ap, sym, subst, Option, Some, None, Result, Ok, Err, append-nil, append_assoc, eqb-true, cond, inl, inr}
+use Rattle.std.proofs.Common.{◌≡◌, ◌∙◌, ℕ, ◌+◌, Bool, true, false, List, [], ◌∷◌, ◌++◌, refl, ap, sym, subst, Option, Some, None, Result, Ok, Err, append-nil}
 use Rattle.std.specs.Prelude.{◌&&◌, ◌==◌, not, encode_utf8_all, if◌then◌else◌}
 use Rattle.std.proofs.lemmas.Bool.{cond-true, cond-false}
 use Rattle.rx_terms.specs.Ascii.{line_feed, greater_than_sign, right_bracket}
@@ -15,7 +15,7 @@ use Rattle.rx_grammar.specs.Tokens.{Token, tag, character, reference, kept, sect
 use Rattle.rx_grammar.specs.Items.{Item, values, text_of, is_line_feed, is_literal, is_strict_literal}
 use Rattle.rx_pages.specs.Scanner as verdicts
 use Rattle.rx_pages.specs.PageReader as reader
-use Rattle.rx_reader.proofs.Bools.{split, by_test, both, untrue, not_both_ways}
+use Rattle.rx_reader.proofs.Bools.{both, not_both_ways}
 use Rattle.rx_tags.specs.declared.stops.Stop.{Stop}
 use Rattle.rx_tags.specs.declared.stops.Stop.TheVariants as stop
 use Rattle.rx_tags.specs.declared.tag_text.TagStep.TheVariants.{More as tag_step_more}
@@ -34,22 +34,20 @@ use Rattle.rx_scan.specs.declared.marks.First.{First}
 use Rattle.rx_scan.specs.declared.marks.First.TheVariants as first
 use Rattle.rx_scan.specs.declared.marks.Move.{Move}
 use Rattle.rx_scan.specs.declared.marks.Move.TheVariants as move
-use Rattle.rx_scan.specs.declared.marks.Whole.{Whole}
 use Rattle.rx_scan.specs.declared.marks.Whole.TheVariants as whole_mark
-use Rattle.rx_scan.specs.declared.places.Place.{Place}
 use Rattle.rx_scan.specs.declared.places.Setting.{Setting}
 use Rattle.rx_scan.specs.Marks as marks
 use Rattle.rx_scan.proofs.Markup.{at_nothing_means}
 use Rattle.rx_scan.proofs.Simulation.{simulates}
-use Rattle.rx_scan.specs.Places.{entered, begun, ended, cut}
-use Rattle.rx_scan.specs.Pending.{Pending, PendsAs, Pends, bracket_text}
+use Rattle.rx_scan.specs.Places.{begun, ended, cut}
+use Rattle.rx_scan.specs.Pending.{Pending, PendsAs, bracket_text}
 use Rattle.rx_scan.specs.Scanner.{Reading, spot_of}
 use Rattle.rx_scan.specs.Entries as entries
-use Rattle.rx_scan.specs.Steps.{ReadsAs, Tells, IsOne, Skips, a_line_feed, a_comment, an_empty_section, IsTag, joined, texts_of, keeps_first, setting_after}
+use Rattle.rx_scan.specs.Steps.{ReadsAs, Tells, IsOne, a_line_feed, a_comment, an_empty_section, joined, texts_of, keeps_first, setting_after}
 use Rattle.rx_scan.specs.Buffers.{Buffered}
 use Rattle.rx_scan.proofs.Meant as meant
 use Rattle.rx_scan.proofs.Snoc.{and_false}
-use Rattle.rx_scan.proofs.Standing.{some_mark, values_snoc, no_values, went, begins, whole, IsItem, item_snoc, is_character, no_literal}
+use Rattle.rx_scan.proofs.Standing.{some_mark, no_values, went, begins, whole, IsItem, item_snoc, is_character, no_literal}
 
 -- the text has grown by that of these tokens
 pub record Grows (old : Reading) (items : List Item) (new : Reading) : Type 0 where
@@ -318,16 +316,19 @@ module _ (v : Reading) (s : reader.Scanning) (h : ReadsAs v s) (ar : Bool) (c : 
         is = completes (tag (tag_of e.last)) w (unliteral (tag (tag_of e.last)) refl) refl;
         reads_as = ends_as (tag (tag_of e.last)) (record { mark = mark.Nothing; run = v.pending.run; tag = t }) (entries.after_tag v.setting (is_closing t.state.phase)) v.text v.place.at false (sym (no_literal right_bracket inside (tag (tag_of e.last)) refl)) refl refl (ap (λ (x : TagSoFar). x.syntax) k.1.1 ∙ h.syntax);
         told = (
-          (record {
-            item = item (tag (tag_of e.last)); one = refl;
-            is = i.token_is ∙ ap (λ x. tag (parts_of x)) (sym e.kept);
-            first_is = i.first_is ∙ token_is 60 m.chars m.some;
-            last_is = i.last_is ∙ sym h.at;
-          },
-          ap (λ (x : TagState). is_last x.phase) e.kept ∙ e.whole,
+          (
+            record {
+              item = item (tag (tag_of e.last));
+              one = refl;
+              is = i.token_is ∙ ap (λ x. tag (parts_of x)) (sym e.kept);
+              first_is = i.first_is ∙ token_is 60 m.chars m.some;
+              last_is = i.last_is ∙ sym h.at;
+            },
+            ap (λ (x : TagState). is_last x.phase) e.kept ∙ e.whole,
+            refl,
+            refl,
+          ),
           refl,
-          refl),
-          refl
         );
         setting = leads_by (is_closing t.state.phase);
       })

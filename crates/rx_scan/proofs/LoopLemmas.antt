@@ -1,9 +1,7 @@
 -- The turns of the loop over a piece.
-use Rattle.std.proofs.Common.{◌≡◌, ◌≢◌, ◌∙◌, ◌⊎◌, ℕ, ◌+◌, ◌<◌, ◌≤◌, Bool, true, false, List, [], ◌∷◌, ◌++◌, length, take, refl, ap, sym, subst, Option, Some, None, Result, Ok, Err, inl, inr, arith, get_or, zero, suc}
-use Rattle.rx_terms.specs.Text.{Chars, is_empty}
+use Rattle.std.proofs.Common.{◌≡◌, ◌≢◌, ◌∙◌, ◌⊎◌, ℕ, ◌+◌, ◌<◌, true, false, List, [], ◌∷◌, length, take, refl, ap, sym, subst, Some, Result, Ok, Err, inl, inr, arith, get_or, zero, suc}
+use Rattle.rx_terms.specs.Text.{Chars}
 use Rattle.rx_grammar.specs.declared.faults.Fault.{Fault}
-use Rattle.rx_grammar.specs.declared.faults.Kind.{Kind}
-use Rattle.rx_grammar.specs.Items.{Item}
 use Rattle.rx_pages.specs.PageReader as reader
 use Rattle.rx_tags.specs.declared.stops.Stop.{Stop}
 use Rattle.rx_tags.specs.declared.stops.Stop.TheVariants as stop
@@ -13,10 +11,9 @@ use Rattle.rx_scan.specs.declared.answers.What.TheVariants as what
 use Rattle.rx_scan.specs.declared.marks.Mark.TheVariants as mark
 use Rattle.rx_scan.specs.Scanner.{Reading}
 use Rattle.rx_scan.specs.Entries as entries
-use Rattle.rx_scan.specs.Steps.{ReadsAs, Took, Faults, Runs, MayLend, texts_of, is_token, stopped_at}
-use Rattle.rx_scan.proofs.EntryLemmas.{Told}
+use Rattle.rx_scan.specs.Steps.{Took, Runs, MayLend, texts_of, is_token, stopped_at}
 use Rattle.rx_scan.proofs.ByteLemmas.{reads}
-use Rattle.rx_scan.proofs.RunLemmas.{ReadsOn, IsApart, apart, took_text, took_all, more_read, took_token, faults}
+use Rattle.rx_scan.proofs.RunLemmas.{ReadsOn, apart, took_text, took_all, more_read, took_token, faults}
 use Rattle.rx_scan.proofs.QuietLemmas.{apart_tells}
 
 abbrev ok_scanned : reader.Scanned → Result reader.Scanned Fault

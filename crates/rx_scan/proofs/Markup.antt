@@ -1,37 +1,33 @@
 -- Between tokens and behind `<` a move says what the verdict is.
-use Rattle.std.proofs.Common.{◌≡◌, ◌≢◌, ◌∙◌, ℕ, ◌+◌, Bool, true, false, List, [], ◌∷◌, ◌++◌, refl, ap, sym, subst, Option, Some, None, Ok, Err, Result, append_assoc, append-nil, eqb-true, cond, length, map}
-use Rattle.std.specs.Prelude.{◌==◌, ◌&&◌, ◌||◌, not, codes, if◌then◌else◌}
+use Rattle.std.proofs.Common.{◌≡◌, ◌∙◌, ℕ, Bool, true, false, [], ◌∷◌, ◌++◌, refl, ap, sym, subst, Option, Ok, Err, append_assoc, append-nil, eqb-true}
+use Rattle.std.specs.Prelude.{◌==◌, ◌&&◌, ◌||◌, not}
 use Rattle.std.proofs.lemmas.Bool.{cond-true, cond-false}
-use Rattle.rx_terms.specs.Ascii.{less_than_sign, solidus}
 use Rattle.rx_terms.specs.Text.{Chars}
 use Rattle.rx_chars.specs.declared.syntax.Syntax.{Syntax}
 use Rattle.rx_chars.specs.declared.syntax.Syntax.TheVariants.{Html, Xhtml}
 use Rattle.rx_grammar.specs.declared.contents.Content.{Content}
 use Rattle.rx_grammar.specs.declared.contents.Content.TheVariants as content
-use Rattle.rx_grammar.specs.declared.faults.Kind.{Kind}
-use Rattle.rx_grammar.specs.declared.faults.Kind.TheVariants.{BadTag, Outside}
+use Rattle.rx_grammar.specs.declared.faults.Kind.TheVariants.{BadTag}
 use Rattle.rx_grammar.specs.Names.{name_of_raw}
 use Rattle.rx_grammar.specs.References.{meaning}
 use Rattle.rx_grammar.specs.Shapes.{begins_tag}
 use Rattle.rx_grammar.specs.Tokens.{comment, kept}
-use Rattle.rx_grammar.specs.Spelling.{ends_with, has_markup, has_references, has_less_than, is_text, begins_markup}
+use Rattle.rx_grammar.specs.Spelling.{has_markup, has_references, has_less_than, is_text, begins_markup}
 use Rattle.rx_grammar.specs.PageFaults.{is_known_tag}
-use Rattle.rx_reader.specs.Tables.{is_html, move_of}
-use Rattle.rx_reader.specs.TagReader.{TagState, fresh, tag_on, tag_step, moved, checked}
-use Rattle.rx_reader.proofs.TagLaws.{tag_on-append}
-use Rattle.rx_reader.proofs.Bools.{split, by_test, both, neither}
+use Rattle.rx_reader.specs.Tables.{is_html}
+use Rattle.rx_reader.specs.TagReader.{TagState, fresh, tag_step, moved, checked}
+use Rattle.rx_reader.proofs.Bools.{split, by_test, both}
 use Rattle.rx_pages.specs.Scanner as told
 use Rattle.rx_pages.proofs.Reading.{markup_is}
 use Rattle.rx_tags.specs.TagBufs.{TagSoFar, no_tag, MayStep}
-use Rattle.rx_scan.specs.declared.marks.Mark.{Mark}
 use Rattle.rx_scan.specs.declared.marks.Mark.TheVariants as mark
 use Rattle.rx_scan.specs.declared.marks.First.{First}
 use Rattle.rx_scan.specs.declared.marks.Move.{Move}
 use Rattle.rx_scan.specs.declared.marks.Move.TheVariants as move
 use Rattle.rx_scan.specs.Marks as marks
 use Rattle.rx_scan.specs.Entries.{first_char}
-use Rattle.rx_scan.specs.Pending.{Pending, PendsAs, InLessThan, InTag, Behind, Judged, judge_of}
-use Rattle.rx_scan.proofs.Meant.{Means, Begins, Goes, Tags, Stops}
+use Rattle.rx_scan.specs.Pending.{Pending, PendsAs, InLessThan, InTag}
+use Rattle.rx_scan.proofs.Meant.{Means}
 use Rattle.rx_scan.proofs.Snoc.{ends_one, either_way}
 
 or_left : (a b : Bool) → a ≡ true → (a || b) ≡ true
@@ -77,7 +73,8 @@ module _ (s : Syntax) (i : Content) (p : Pending) (text : Chars) (c : ℕ) where
   pub in_tag_means : (h : InTag s i p.tag text) → Means s i p text c move.Tags
   in_tag_means h =
       record {
-        chars = h.chars; some = h.are;
+        chars = h.chars;
+        some = h.are;
         goes = ap (λ x. told.verdict s i x c) h.are ∙ (ap (λ x. told.verdict s i (60 ∷ x) c) (sym (append-nil h.chars)) ∙ (h.judged [] c ∙ ap (λ x. told.in_tag s x c) (append-nil h.chars)));
         read = h.read;
         may_step = h.may_step;
@@ -128,19 +125,27 @@ module _ (s : Syntax) (i : Content) (p : Pending) (text : Chars) (c : ℕ) (h : 
   at_less_than_means =
       split (λ (k : Move). Means s i p text c k) (c == 33) _ _
       (λ k. record {
-        first = 60; more = []; some = h.are; goes = verdict_is ∙ cond-true _ _ _ (or_left _ _ k);
+        first = 60;
+        more = [];
+        some = h.are;
+        goes = verdict_is ∙ cond-true _ _ _ (or_left _ _ k);
         pends = record { are = grows 33 (eqb-true c 33 k); none = h.none; markup = h.markup };
       })
       (λ a. split (λ (k : Move). Means s i p text c k) (c == 63) _ _
       (λ k. record {
-        first = 60; more = []; some = h.are; goes = verdict_is ∙ cond-true _ _ _ (or_right (c == 33) _ k);
+        first = 60;
+        more = [];
+        some = h.are;
+        goes = verdict_is ∙ cond-true _ _ _ (or_right (c == 33) _ k);
         pends = subst (λ (x : Chars). PendsAs s i (marks.question s) p.run p.tag x) (sym (grows 63 (eqb-true c 63 k))) (question_begins s i p.run p.tag h.markup);
       })
       (λ b. let u = verdict_is ∙ cond-false _ _ _ (or_none _ _ a b) in
       split (λ (k : Move). Means s i p text c k) (is_html s && not (begins_markup c)) _ _
       (λ k. less_than_stops (u ∙ cond-true _ _ _ k))
       (λ k. record {
-        chars = []; some = h.are; goes = u ∙ cond-false _ _ _ k;
+        chars = [];
+        some = h.are;
+        goes = u ∙ cond-false _ _ _ k;
         read = ap Ok (sym h.state);
         may_step = h.may_step;
         pends = λ t r n. record {

@@ -1,20 +1,19 @@
 -- Behind `<!` a move says what the verdict is.
-use Rattle.std.proofs.Common.{◌≡◌, ◌≢◌, ◌∙◌, ℕ, ◌+◌, Bool, true, false, List, [], ◌∷◌, ◌++◌, refl, ap, sym, subst, Option, Some, None, append_assoc, append-nil, eqb-true, eq-eqb, cond, length, map, arith, slice_get, zero, suc}
-use Rattle.std.specs.Prelude.{◌==◌, ◌&&◌, ◌||◌, not, codes, drop, if◌then◌else◌}
+use Rattle.std.proofs.Common.{◌≡◌, ◌∙◌, ℕ, ◌+◌, Bool, true, false, [], ◌∷◌, ◌++◌, refl, ap, sym, subst, Option, Some, append_assoc, append-nil, eqb-true, eq-eqb, cond, length, map, arith, slice_get, suc}
+use Rattle.std.specs.Prelude.{◌==◌, ◌&&◌, ◌||◌, not, codes, drop}
 use Rattle.std.proofs.lemmas.Bool.{cond-true, cond-false}
 use Rattle.std.proofs.lemmas.List.{length-append, length-map, map-append}
 use Rattle.std.proofs.Math.Seq.{drop-append_seam}
-use Rattle.std.specs.List.{list_any, list_all}
-use Rattle.rx_terms.specs.Ascii.{lowered_char, less_than_sign, greater_than_sign, hyphen, left_bracket}
+use Rattle.std.specs.List.{list_all}
+use Rattle.rx_terms.specs.Ascii.{lowered_char}
 use Rattle.rx_terms.specs.Text.{Chars, begins_with, lowered}
 use Rattle.rx_chars.specs.declared.syntax.Syntax.{Syntax}
 use Rattle.rx_chars.specs.declared.syntax.Syntax.TheVariants.{Html, Xhtml}
 use Rattle.rx_grammar.specs.declared.contents.Content.{Content}
 use Rattle.rx_grammar.specs.declared.faults.Kind.TheVariants.{BadTag, Outside}
-use Rattle.rx_grammar.specs.Tags.{cased_char}
 use Rattle.rx_grammar.specs.Tokens.{comment}
-use Rattle.rx_grammar.specs.Spelling.{exclamation_mark, ends_with, has_markup, has_sections, begins_declaration}
-use Rattle.rx_grammar.specs.PageFaults.{is_known_tag, meets_opening, openings}
+use Rattle.rx_grammar.specs.Spelling.{has_markup, has_sections, begins_declaration}
+use Rattle.rx_grammar.specs.PageFaults.{is_known_tag, meets_opening}
 use Rattle.rx_pages.specs.Scanner as told
 use Rattle.rx_pages.proofs.Reading.{markup_is}
 use Rattle.rx_pages.proofs.Comments.{bogus_at}
@@ -28,13 +27,12 @@ use Rattle.rx_scan.specs.declared.marks.DoctypePhase.TheVariants as phases
 use Rattle.rx_scan.specs.declared.marks.Brackets.TheVariants as brackets
 use Rattle.rx_scan.specs.declared.marks.Mark.{Mark}
 use Rattle.rx_scan.specs.declared.marks.Mark.TheVariants as mark
-use Rattle.rx_scan.specs.declared.marks.Whole.TheVariants as whole
 use Rattle.rx_scan.specs.declared.marks.Move.{Move}
 use Rattle.rx_scan.specs.declared.marks.Move.TheVariants as move
 use Rattle.rx_scan.specs.Marks as marks
-use Rattle.rx_scan.specs.Pending.{Pending, PendsAs, InOpened, InOpening, Behind, Judged, judge_of, CommentEnds, StrictEnds, SectionEnds, DoctypeEnds}
+use Rattle.rx_scan.specs.Pending.{Pending, PendsAs, InOpened, InOpening, Behind, judge_of, CommentEnds, StrictEnds, SectionEnds, DoctypeEnds}
 use Rattle.rx_scan.proofs.Meant.{Means, Goes}
-use Rattle.rx_scan.proofs.Doctype.{head_of, slice_at}
+use Rattle.rx_scan.proofs.Doctype.{slice_at}
 use Rattle.rx_scan.proofs.Snoc.{ends_one, either_way, and_false}
 
 -- in markup what begins with `<!` is no tag
@@ -137,8 +135,8 @@ next_no_greater : (s : Syntax) (w : Word) (t : Chars) (next : ℕ) (left : Chars
 next_no_greater s w t next left c e q =
     by_test {G = (c == 62) ≡ false} (c == 62)
     (λ h. absurd (let k : c ≡ 62 = eqb-true c 62 h in
-      let n : next ≡ 62 = sym q ∙ (ap (marks.opening_char s w) k ∙ greater_same s w) in
-      not_both_ways (next == 62) (ap (λ x. x == 62) n) (untrue (next == 62) (all_at (λ d. not (d == 62)) (map (marks.opening_char s w) t) next left (ap (list_all (λ d. not (d == 62))) (sym e) ∙ no_greater s w)))))
+    let n : next ≡ 62 = sym q ∙ (ap (marks.opening_char s w) k ∙ greater_same s w) in
+    not_both_ways (next == 62) (ap (λ x. x == 62) n) (untrue (next == 62) (all_at (λ d. not (d == 62)) (map (marks.opening_char s w) t) next left (ap (list_all (λ d. not (d == 62))) (sym e) ∙ no_greater s w)))))
     (λ h. h)
   where
     greater_same : (s : Syntax) (w : Word) → marks.opening_char s w 62 ≡ 62
@@ -160,7 +158,10 @@ module _ (i : Content) (p : Pending) (t : Chars) (c : ℕ) (m : has_markup i ≡
       split (λ (k : Move). Means Html i p text c k) (c == 62) _ _
       (λ g. v ∙ ap (λ b. told.whole_if b comment) g)
       (λ g. record {
-        first = 60; more = 33 ∷ t; some = e; goes = v ∙ ap (λ b. told.whole_if b comment) g;
+        first = 60;
+        more = 33 ∷ t;
+        some = e;
+        goes = v ∙ ap (λ b. told.whole_if b comment) g;
         pends = record {
           front = 33 ∷ (t ++ c ∷ []);
           rest = [];
@@ -248,11 +249,20 @@ module _ (s : Syntax) (i : Content) (p : Pending) (text : Chars) (c : ℕ) (w : 
   longer : (d : ℕ) (left : Chars) → h.left ≡ d ∷ left → marks.opening_char s w c ≡ h.next → told.verdict s i text c ≡ told.goes_on → Means s i p text c (move.Goes (mark.Opening w (n + 1)))
   longer d left l q v =
       record {
-        first = 60; more = 33 ∷ t; some = h.are; goes = v;
+        first = 60;
+        more = 33 ∷ t;
+        some = h.are;
+        goes = v;
         pends = record {
-          none = h.none; first = h.first; chars = h.chars ++ c ∷ []; are = ap (λ x. x ++ c ∷ []) h.are; markup = h.markup; looked = h.looked;
+          none = h.none;
+          first = h.first;
+          chars = h.chars ++ c ∷ [];
+          are = ap (λ x. x ++ c ∷ []) h.are;
+          markup = h.markup;
+          looked = h.looked;
           count = length-append t (c ∷ []) ∙ ap (λ k. k + 1) h.count;
-          next = d; left = left;
+          next = d;
+          left = left;
           word = h.word ∙ (ap (λ x. map (marks.opening_char s w) t ++ h.next ∷ x) l ∙ (ap (λ x. map (marks.opening_char s w) t ++ x ∷ d ∷ left) (sym q) ∙ (sym (append_assoc (map (marks.opening_char s w) t) (marks.opening_char s w c ∷ []) (d ∷ left)) ∙ ap (λ x. x ++ d ∷ left) (sym (map-append (marks.opening_char s w) t (c ∷ []))))));
         };
       }
@@ -288,7 +298,8 @@ module _ (s : Syntax) (i : Content) (p : Pending) (text : Chars) (c : ℕ) (t : 
   begun_means : (word : Chars) → t ++ c ∷ [] ≡ word → (judge : Chars → ℕ → told.Verdict) (Is : Chars → Type 0) → ((more : Chars) (d : ℕ) → told.after_mark s i (word ++ more) d ≡ judge more d) → Is [] → Behind s i judge Is (text ++ c ∷ [])
   begun_means word e judge Is j is =
       record {
-        front = 33 ∷ word; rest = [];
+        front = 33 ∷ word;
+        rest = [];
         are = ap (λ x. x ++ c ∷ []) are ∙ ap (λ x. 60 ∷ 33 ∷ x) (e ∙ sym (append-nil word));
         judges = record { judged = λ more d. behind_mark s i (word ++ more) d markup ∙ j more d; no_tag = λ more. no_tag s i (word ++ more) markup };
         is = is;
@@ -420,7 +431,10 @@ module _ (s : Syntax) (i : Content) (p : Pending) (text : Chars) (c : ℕ) (h : 
   opened : (w : Word) (next : ℕ) (left : Chars) → marks.opening_text s w ≡ marks.opening_char s w c ∷ next ∷ left → marks.looks_for s i w ≡ true → told.verdict s i text c ≡ told.goes_on → Means s i p text c (move.Goes (mark.Opening w 1))
   opened w next left e l v =
       record {
-        first = 60; more = 33 ∷ []; some = h.are; goes = v;
+        first = 60;
+        more = 33 ∷ [];
+        some = h.are;
+        goes = v;
         pends = record { none = h.none; first = c; chars = []; are = ap (λ x. x ++ c ∷ []) h.are; markup = h.markup; looked = l; count = refl; next = next; left = left; word = e };
       }
 
@@ -456,7 +470,7 @@ at_opened_means Xhtml i p text c h =
     (λ k. let e : c ≡ 68 = eqb-true c 68 k in opened Xhtml i p text c h word.Doctype 79 (codes "CTYPE") (ap (λ x. x ∷ codes "OCTYPE") (sym e)) refl (v ∙ ap (λ x. told.in_opening i (x ∷ [])) e))
     (λ b. split (λ (m : Move). Means Xhtml i p text c m) (c == 91 && true) _ _
     (λ k. let e : c ≡ 91 = eqb-true c 91 (both (c == 91) true k).0 in opened Xhtml i p text c h word.Section 67 (codes "DATA[") (ap (λ x. x ∷ codes "CDATA[") (sym e)) refl (v ∙ ap (λ x. told.in_opening i (x ∷ [])) e))
-    (λ d. v ∙ (cond-false _ _ _ (ap (λ t. (t && false) && not (has_sections i)) (either_way 91 c)  ∙ ap (λ t. t && not (has_sections i)) (and_false (c == 91))) ∙ cond-false _ _ _ (none a b d)))))
+    (λ d. v ∙ (cond-false _ _ _ (ap (λ t. (t && false) && not (has_sections i)) (either_way 91 c) ∙ ap (λ t. t && not (has_sections i)) (and_false (c == 91))) ∙ cond-false _ _ _ (none a b d)))))
   where
     none : (c == 45) ≡ false → (c == 68) ≡ false → (c == 91 && true) ≡ false → meets_opening (33 ∷ c ∷ []) ≡ false
     none a b d =

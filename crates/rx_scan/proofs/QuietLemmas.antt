@@ -1,7 +1,6 @@
 -- Between tokens a byte tells text, begins a token, or is skipped.
-use Rattle.std.proofs.Common.{◌≡◌, ◌≢◌, ◌∙◌, ◌⊎◌, ℕ, ◌+◌, ◌<◌, ◌≤◌, Bool, true, false, List, [], ◌∷◌, ◌++◌, refl, ap, sym, subst, Option, Some, None, Result, Ok, Err, inl, inr, eqb-true, cond, arith, length, get_or, lit<, zero, suc}
+use Rattle.std.proofs.Common.{◌≡◌, ◌∙◌, ◌⊎◌, ℕ, ◌<◌, Bool, true, false, List, [], ◌∷◌, ◌++◌, refl, ap, sym, subst, Result, Ok, Err, inl, inr, eqb-true, arith, length, get_or, lit<, zero, suc}
 use Rattle.std.specs.Prelude.{◌&&◌, ◌||◌, ◌==◌, not, nat_le, MatchBool, if◌then◌else◌}
-use Rattle.std.specs.List.{list_all}
 use Rattle.std.proofs.lemmas.Bool.{cond-true, cond-false}
 use Rattle.std.proofs.lemmas.Str.{encode_ascii}
 use Rattle.rx_chars.specs.Utf8.{answer_of}
@@ -10,23 +9,19 @@ use Rattle.rx_chars.specs.declared.utf8.Utf8Step.TheVariants.{More, Char, Bad}
 use Rattle.rx_chars.specs.Characters.{carriage_return, as_line_end}
 use Rattle.rx_chars.proofs.Utf8Exact.{answers_from}
 use Rattle.rx_chars.proofs.Utf8Forms.{tables_agree}
-use Rattle.rx_grammar.specs.declared.contents.Content.{Content}
 use Rattle.rx_grammar.specs.declared.faults.Kind.{Kind}
 use Rattle.rx_grammar.specs.declared.faults.Kind.TheVariants.{StrictText}
 use Rattle.rx_grammar.specs.Items.{is_strict_literal}
 use Rattle.rx_grammar.specs.Tokens.{character}
 use Rattle.rx_grammar.specs.Spelling.{has_references, is_text}
 use Rattle.rx_reader.proofs.Bools.{split, by_test, both, either, untrue}
-use Rattle.rx_pages.proofs.Comments.{same_init}
 use Rattle.rx_tags.specs.declared.stops.Stop.{Stop}
 use Rattle.rx_tags.specs.declared.stops.Stop.TheVariants as stop
 use Rattle.rx_scan.specs.declared.answers.What.{What}
 use Rattle.rx_scan.specs.declared.answers.What.TheVariants as what
 use Rattle.rx_scan.specs.declared.marks.First.{First}
-use Rattle.rx_scan.specs.declared.marks.First.TheVariants as first
 use Rattle.rx_scan.specs.declared.marks.Mark.{Mark}
 use Rattle.rx_scan.specs.declared.marks.Mark.TheVariants as mark
-use Rattle.rx_scan.specs.declared.marks.Move.{Move}
 use Rattle.rx_scan.specs.declared.marks.Move.TheVariants as move
 use Rattle.rx_scan.specs.Marks as marks
 use Rattle.rx_scan.specs.declared.places.Place.{Place}

@@ -1,7 +1,7 @@
 -- In raw text, behind `<`, a move says what the verdict is.
-use Rattle.std.proofs.Common.{◌≡◌, ◌≢◌, ◌∙◌, ℕ, ◌+◌, Bool, true, false, List, [], ◌∷◌, ◌++◌, refl, ap, sym, subst, Option, Some, None, Ok, Err, eqb-true, cond, length, map, take, drop, slice_get, append_assoc, append-nil, inl, inr, arith, add-one, suc, ◌≤◌}
+use Rattle.std.proofs.Common.{◌≡◌, ◌∙◌, ℕ, ◌+◌, Bool, true, false, [], ◌∷◌, ◌++◌, refl, ap, sym, subst, Option, Some, Ok, eqb-true, length, map, take, drop, slice_get, append_assoc, append-nil, inl, inr, arith, add-one, ◌≤◌}
 use Rattle.std.proofs.lemmas.Bool.{leb-true}
-use Rattle.std.specs.Prelude.{◌==◌, ◌&&◌, ◌||◌, not, nat_le, if◌then◌else◌}
+use Rattle.std.specs.Prelude.{◌==◌, ◌&&◌, ◌||◌, not, nat_le}
 use Rattle.std.specs.List.{list_all}
 use Rattle.std.proofs.lemmas.Bool.Decides.{nat_tests}
 use Rattle.std.proofs.lemmas.Bool.{cond-true, cond-false, and_from}
@@ -18,30 +18,27 @@ use Rattle.rx_grammar.specs.declared.contents.RawName.{RawName}
 use Rattle.rx_grammar.specs.declared.contents.RawName.TheVariants.{Script, Style, Iframe, Noembed, Noframes, Xmp, Title, Textarea}
 use Rattle.rx_grammar.specs.Names.{same, name_of_raw}
 use Rattle.rx_grammar.specs.References.{meaning}
-use Rattle.rx_grammar.specs.Shapes.{begins_tag, is_tag_char, ends_name, begins, is_strict_start, is_strict_char}
+use Rattle.rx_grammar.specs.Shapes.{begins_tag, is_tag_char, ends_name, begins}
 use Rattle.rx_grammar.specs.Tags.{cased_char}
 use Rattle.rx_grammar.specs.Tokens.{kept}
 use Rattle.rx_grammar.specs.Spelling.{has_markup, raw_name, begins_end, stops_end}
-use Rattle.rx_grammar.specs.PageFaults.{is_known_tag, is_known_raw, is_known_end}
+use Rattle.rx_grammar.specs.PageFaults.{is_known_raw, is_known_end}
 use Rattle.rx_reader.specs.declared.phases.TagPhase.{TagPhase}
 use Rattle.rx_reader.specs.declared.phases.TagPhase.TheVariants as phase
-use Rattle.rx_reader.specs.declared.phases.TagAction.TheVariants as action
 use Rattle.rx_reader.specs.Tables.{is_last, move_of}
-use Rattle.rx_reader.specs.TagReader.{TagState, fresh, tag_on, tag_step, moved, checked, done_by}
+use Rattle.rx_reader.specs.TagReader.{TagState, fresh, tag_on, tag_step, moved, checked}
 use Rattle.rx_reader.proofs.TagLaws.{tag_on-append}
-use Rattle.rx_reader.proofs.Bools.{split, by_test, both, neither, either, untrue, not_both_ways}
-use Rattle.rx_reader.proofs.Fronts.{equal, begins_append}
+use Rattle.rx_reader.proofs.Bools.{split, by_test, both, neither, either}
+use Rattle.rx_reader.proofs.Fronts.{equal}
 use Rattle.rx_pages.specs.Scanner as told
 use Rattle.rx_pages.proofs.Reading.{raw_is}
-use Rattle.rx_tags.specs.TagBufs.{TagSoFar, MayStep}
-use Rattle.rx_scan.specs.declared.marks.Mark.{Mark}
 use Rattle.rx_scan.specs.declared.marks.Mark.TheVariants as mark
 use Rattle.rx_scan.specs.declared.marks.Move.{Move}
 use Rattle.rx_scan.specs.declared.marks.Move.TheVariants as move
 use Rattle.rx_scan.specs.Marks as marks
 use Rattle.rx_scan.specs.Entries.{first_char}
-use Rattle.rx_scan.specs.Pending.{Pending, InRawEnd, InTag, end_phase}
-use Rattle.rx_scan.proofs.Meant.{Means, KeepsTag, Tags, Stops}
+use Rattle.rx_scan.specs.Pending.{Pending, InRawEnd, end_phase}
+use Rattle.rx_scan.proofs.Meant.{Means}
 use Rattle.rx_scan.proofs.Doctype.{head_of, slice_at}
 use Rattle.rx_scan.proofs.Snoc.{and_false}
 
@@ -157,7 +154,6 @@ module _ (s : Syntax) (st : TagState) (c : ℕ) where
         phase_is = refl;
       }
 
-
 -- with one more character of the word
 end_steps : (s : Syntax) (st : TagState) (name word left : Chars) (d c : ℕ) → st.phase ≡ end_phase word → solidus ∷ name ≡ map lowered_char word ++ d ∷ left → list_all (between 97 122) name ≡ true → lowered_char c ≡ d → EndSteps s st c (end_phase (word ++ c ∷ []))
 end_steps s st name [] left d c e w l q = at_solidus s st c e (solidus_of c (q ∙ first d left w))
@@ -217,14 +213,17 @@ module _ (s : Syntax) (i : Content) (p : Pending) (text : Chars) (c : ℕ) (n : 
       let w : solidus ∷ h.name ≡ map lowered_char p.run ++ d ∷ left = word_is ∙ ap (λ x. map lowered_char p.run ++ x) l in
       let e = end_steps s p.tag.state h.name p.run left d c h.phase_is w is_raw.lower q in
       record {
-        more = p.run; some = h.are;
+        more = p.run;
+        some = h.are;
         goes = verdict_is ∙ cond-true _ _ _ (front_with (c ∷ []) ∙ (ap (begins_with (lowered_char c ∷ [])) l ∙ (ap (λ x. (x == d) && true) q ∙ ap (λ b. b && true) (equal d))));
         state = e.state;
         step = e.step;
         unfinished = ap is_last e.phase_is ∙ end_unfinished (p.run ++ c ∷ []);
         may_step = h.may_step;
         pends = λ t r k. record {
-          name = h.name; raw = h.raw; are = ap (λ x. x ++ c ∷ []) h.are;
+          name = h.name;
+          raw = h.raw;
+          are = ap (λ x. x ++ c ∷ []) h.are;
           count = length-append p.run (c ∷ []) ∙ ap (λ x. x + 1) h.count;
           left = left;
           word = h.word ∙ (ap (λ x. map lowered_char p.run ++ x) l ∙ (ap (λ x. map lowered_char p.run ++ x ∷ left) (sym q) ∙ (sym (append_assoc (map lowered_char p.run) (lowered_char c ∷ []) left) ∙ ap (λ x. x ++ left) (sym (map-append lowered_char p.run (c ∷ []))))));
@@ -238,7 +237,8 @@ module _ (s : Syntax) (i : Content) (p : Pending) (text : Chars) (c : ℕ) (n : 
   tags : h.left ≡ [] → ends_name c ≡ true → Means s i p text c move.Tags
   tags l q =
       record {
-        chars = p.run; some = h.are;
+        chars = p.run;
+        some = h.are;
         goes = verdict_is ∙ (cond-false _ _ _ (past (c ∷ []) l) ∙ cond-false _ _ _ no_stop);
         read = h.read;
         may_step = h.may_step;

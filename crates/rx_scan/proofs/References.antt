@@ -1,6 +1,6 @@
 -- After `&` a move says what the verdict is.
-use Rattle.std.proofs.Common.{◌≡◌, ◌≢◌, ◌∙◌, ℕ, Bool, true, false, List, [], ◌∷◌, ◌++◌, refl, ap, sym, subst, Option, Some, None, eqb-true, cond, inl, inr, arith, append-nil, append_assoc}
-use Rattle.std.specs.Prelude.{◌==◌, ◌&&◌, ◌||◌, not, if◌then◌else◌, encode_utf8_all}
+use Rattle.std.proofs.Common.{◌≡◌, ◌∙◌, ℕ, Bool, true, false, [], ◌∷◌, ◌++◌, refl, ap, sym, subst, eqb-true, inl, inr, arith, append-nil, append_assoc}
+use Rattle.std.specs.Prelude.{◌==◌, ◌&&◌, not, if◌then◌else◌}
 use Rattle.std.specs.List.{list_all}
 use Rattle.std.proofs.lemmas.Bool.Decides.{nat_tests}
 use Rattle.std.proofs.lemmas.Bool.{cond-true, cond-false, and_from}
@@ -9,8 +9,8 @@ use Rattle.rx_terms.specs.Text.{Chars}
 use Rattle.rx_terms.proofs.CharLemmas.{ascii-same}
 use Rattle.rx_chars.specs.declared.syntax.Syntax.{Syntax}
 use Rattle.rx_grammar.specs.declared.contents.Content.{Content}
-use Rattle.rx_grammar.specs.declared.faults.Kind.TheVariants.{StrictText, UnknownReference, BadReference}
-use Rattle.rx_grammar.specs.References.{is_name, is_body, is_begun, is_hexadecimal_digit, is_x, meaning}
+use Rattle.rx_grammar.specs.declared.faults.Kind.TheVariants.{UnknownReference, BadReference}
+use Rattle.rx_grammar.specs.References.{is_name, is_body, is_begun, is_hexadecimal_digit, is_x}
 use Rattle.rx_grammar.specs.Spelling.{keeps_runs}
 use Rattle.rx_grammar.specs.Tokens.{kept}
 use Rattle.rx_reader.specs.declared.phases.RunPhase.{RunPhase}
@@ -19,18 +19,17 @@ use Rattle.rx_reader.specs.declared.phases.RunMove.{RunMove}
 use Rattle.rx_reader.specs.declared.phases.RunMove.TheVariants as run_moves
 use Rattle.rx_reader.specs.Tables.{run_move}
 use Rattle.rx_reader.specs.Values.{no_meaning}
-use Rattle.rx_reader.proofs.Bools.{split, by_test, both, either, untrue}
+use Rattle.rx_reader.proofs.Bools.{split, both, either, untrue}
 use Rattle.rx_reader.proofs.Runs.{RunIs, at_ampersand, in_name, at_hash, in_decimal, at_mark, in_hexadecimal, goes_on, closes, stops, run_begun}
 use Rattle.rx_pages.specs.Scanner as told
 use Rattle.rx_pages.proofs.Texts.{semicolon_stops}
 use Rattle.rx_scan.specs.declared.marks.Mark.{Mark}
 use Rattle.rx_scan.specs.declared.marks.Mark.TheVariants as mark
 use Rattle.rx_scan.specs.declared.marks.Move.{Move}
-use Rattle.rx_scan.specs.declared.marks.Move.TheVariants as move
 use Rattle.rx_scan.specs.Marks as marks
 use Rattle.rx_scan.specs.Entries.{first_char, phase_of}
 use Rattle.rx_scan.specs.Pending.{Pending, InRun, run_on}
-use Rattle.rx_scan.proofs.Meant.{Means, Goes, Closes, Stops}
+use Rattle.rx_scan.proofs.Meant.{Means}
 
 no_closes : (text : Chars) (p : RunPhase) → run_on run_moves.Closes text ≡ run_moves.Goes p → ⊥
 no_closes [] p e = cc
@@ -107,7 +106,9 @@ module _ (s : Syntax) (i : Content) (p : Pending) (text : Chars) (c : ℕ) (q : 
   by_move : (r : RunMove) → run_move q c ≡ r → Means s i p text c (marks.in_run i r)
   by_move (run_moves.Goes n) e =
       record {
-        first = 38; more = p.run; some = h.are;
+        first = 38;
+        more = p.run;
+        some = h.are;
         goes = verdict_is ∙ cond-true _ _ _ (run_begun (goes_on c n is_run e));
         pends = record { are = ap (λ x. x ++ c ∷ []) h.are; phase = run_snoc (run_moves.Goes run.Ampersand) p.run c q h.phase ∙ e };
       }
@@ -116,7 +117,9 @@ module _ (s : Syntax) (i : Content) (p : Pending) (text : Chars) (c : ℕ) (q : 
       let end : is_begun (p.run ++ c ∷ []) ≡ false = ap (λ (x : ℕ). is_begun (p.run ++ x ∷ [])) k.mark ∙ semicolon_stops p.run in
       record {
         goes = verdict_is ∙ (cond-false _ _ _ end ∙ cond-true _ _ _ (ap (λ (x : ℕ). x == 59 && is_body p.run) k.mark ∙ k.body));
-        first = 38; more = p.run; some = h.are;
+        first = 38;
+        more = p.run;
+        some = h.are;
         ascii = (ascii-same p.run (run_ascii is_run)).0;
         kind = run_kind c is_run e ∙ ap (λ (x : Mark). no_meaning (phase_of x)) (sym m);
       }

@@ -1,30 +1,28 @@
 -- The table says what the verdicts are: of each mark and each character.
-use Rattle.std.proofs.Common.{◌≡◌, ◌∙◌, ℕ, Bool, true, false, List, [], ◌∷◌, ◌++◌, refl, ap, sym, subst, Option, Some, None, append_assoc, append-nil, length, map, slice_get, arith, add-one, add-zero}
-use Rattle.std.specs.Prelude.{◌&&◌, ◌||◌, ◌==◌, ◌≤◌, ◌+◌, codes, drop, take}
-use Rattle.std.proofs.lemmas.Bool.{cond-true, cond-false, and_from}
-use Rattle.std.proofs.lemmas.List.{length-append, length-map, map-append}
+use Rattle.std.proofs.Common.{◌≡◌, ◌∙◌, ℕ, false, [], ◌∷◌, ◌++◌, refl, ap, sym, append-nil, length, map, slice_get, arith, add-one, add-zero}
+use Rattle.std.specs.Prelude.{◌&&◌, ◌==◌, ◌≤◌, ◌+◌, codes, drop, take}
+use Rattle.std.proofs.lemmas.Bool.{cond-true, cond-false}
+use Rattle.std.proofs.lemmas.List.{length-append, length-map}
 use Rattle.std.proofs.Math.Seq.{drop-append_seam, take-append_seam}
 use Rattle.rx_terms.specs.Ascii.{lowered_char, solidus}
 use Rattle.rx_terms.specs.Text.{Chars, lowered}
 use Rattle.rx_chars.specs.declared.syntax.Syntax.{Syntax}
-use Rattle.rx_chars.specs.declared.syntax.Syntax.TheVariants.{Html, Xhtml}
 use Rattle.rx_grammar.specs.declared.contents.Content.{Content}
 use Rattle.rx_grammar.specs.declared.contents.Content.TheVariants as content
 use Rattle.rx_grammar.specs.declared.contents.RawName.{RawName}
 use Rattle.rx_grammar.specs.declared.contents.RawName.TheVariants.{Script, Style, Iframe, Noembed, Noframes, Xmp, Title, Textarea}
 use Rattle.std.proofs.lemmas.Grind.{common_steps}
 use Rattle.rx_grammar.specs.Names.{same, name_of_raw}
-use Rattle.rx_grammar.specs.Shapes.{begins_tag, ends_name, begins}
-use Rattle.rx_grammar.specs.Spelling.{ends_with, has_markup, raw_name}
+use Rattle.rx_grammar.specs.Shapes.{ends_name, begins}
+use Rattle.rx_grammar.specs.Spelling.{ends_with}
 use Rattle.rx_grammar.specs.PageFaults.{is_known_tag, is_known_after, is_known_raw, is_known_end}
-use Rattle.rx_reader.specs.Tables.{run_move}
 use Rattle.rx_pages.specs.Scanner as told
 use Rattle.rx_tags.specs.TagBufs.{TagSoFar}
 use Rattle.rx_scan.specs.declared.marks.Mark.{Mark}
 use Rattle.rx_scan.specs.declared.marks.Mark.TheVariants as mark
 use Rattle.rx_scan.specs.Marks as marks
 use Rattle.rx_scan.specs.Entries.{is_tag, is_tag_with, ends_word}
-use Rattle.rx_scan.specs.Pending.{Pending, PendsAs, Pends, Behind, judge_of, CommentEnds, StrictEnds, DoctypeEnds, SectionEnds, InLessThan, InRawEnd, InTag, InRun, InOpened, InOpening}
+use Rattle.rx_scan.specs.Pending.{Pending, PendsAs, Pends, Behind, judge_of, CommentEnds, StrictEnds, DoctypeEnds, SectionEnds, InRawEnd}
 use Rattle.rx_scan.proofs.Meant.{Means}
 use Rattle.rx_scan.proofs.Behinds.{grown, in_comment_means, in_strict_means, in_bogus_means, in_instruction_means, in_section_means}
 use Rattle.rx_scan.proofs.Doctype.{in_doctype_means, head_of, slice_at}

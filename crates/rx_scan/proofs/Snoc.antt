@@ -1,7 +1,7 @@
 -- Tests of a text by its last character.
-use Rattle.std.proofs.Common.{◌≡◌, ◌∙◌, ℕ, Bool, true, false, [], ◌∷◌, ◌++◌, refl, ap, sym, subst, nat_eq, eqb-true}
+use Rattle.std.proofs.Common.{◌≡◌, ◌∙◌, ℕ, Bool, true, false, [], ◌∷◌, ◌++◌, refl, ap, sym, subst, eqb-true}
 use Rattle.std.specs.Prelude.{◌&&◌, ◌||◌, ◌==◌}
-use Rattle.rx_terms.specs.Text.{Chars, is_empty, begins_with}
+use Rattle.rx_terms.specs.Text.{Chars, is_empty}
 use Rattle.rx_grammar.specs.Names.{same}
 use Rattle.rx_grammar.specs.Spelling.{ends_with}
 use Rattle.rx_reader.proofs.Bools.{by_test}

@@ -1,6 +1,6 @@
 -- What a scanner stands for, where only its setting changes.
 use Rattle.std.proofs.Common.{◌≡◌, ◌∙◌, Bool, true, false, refl, ap, sym, subst, inl, inr, Err}
-use Rattle.std.specs.Prelude.{◌||◌, ℕ, List, [], take, not, if◌then◌else◌}
+use Rattle.std.specs.Prelude.{ℕ, List, [], take, not, if◌then◌else◌}
 use Rattle.rx_terms.specs.Text.{Chars}
 use Rattle.rx_chars.specs.declared.syntax.Syntax.{Syntax}
 use Rattle.rx_grammar.specs.declared.faults.Fault.{Fault}
@@ -40,8 +40,17 @@ stands_inside inside drops v s n h =
     let none = subst (λ (m : Mark). PendsAs v.reading.setting.syntax v.reading.setting.inside m v.reading.pending.run v.reading.pending.tag (values s.run)) n r.pends in
     record {
       reads_as = record {
-        at = r.at; starts = r.starts; held = r.held; started = r.started; after_return = r.after_return; two = r.two; last = r.last; token = r.token; syntax = r.syntax;
-        pends = subst (λ (m : Mark). PendsAs v.reading.setting.syntax inside m v.reading.pending.run v.reading.pending.tag (values s.run)) (sym n) none };
+        at = r.at;
+        starts = r.starts;
+        held = r.held;
+        started = r.started;
+        after_return = r.after_return;
+        two = r.two;
+        last = r.last;
+        token = r.token;
+        syntax = r.syntax;
+        pends = subst (λ (m : Mark). PendsAs v.reading.setting.syntax inside m v.reading.pending.run v.reading.pending.tag (values s.run)) (sym n) none;
+      };
       unfailed = h.unfailed;
       unspent = h.unspent;
     }
@@ -86,19 +95,25 @@ spot_same a b e = λ i. record { inside = (e i).inside; leads = (e i).leads }
 pub took_same : (a b : Reading) (s : Scanning) (piece : List ℕ) (n : ℕ) (answer : What) (new : Reading) → a.setting ≡ b.setting → Took a s piece n answer new → Took b s piece n answer new
 took_same a b s piece n answer new e t =
     record {
-      fits = t.fits; scanned = t.scanned;
+      fits = t.fits;
+      scanned = t.scanned;
       read = (λ i. scan_from (sym e i).syntax (sym e i).limits (spot_same b a (sym e) i) s (take n piece)) ∙ t.read;
       reads_as = t.reads_as;
       tells = subst (λ (x : Setting). Tells x.drops answer t.scanned.items new) e t.tells;
       setting = t.setting ∙ ap (λ x. setting_after answer new x t.scanned.items) e;
-      all = t.all; some = t.some;
+      all = t.all;
+      some = t.some;
     }
 
 pub faults_same : (a b : Reading) (s : Scanning) (piece : List ℕ) (fault : Fault) → a.setting ≡ b.setting → Faults a s piece fault → Faults b s piece fault
 faults_same a b s piece fault e t =
     let f = sym e in
     record {
-      n = t.n; byte = t.byte; next = t.next; here = t.here; is = t.is;
+      n = t.n;
+      byte = t.byte;
+      next = t.next;
+      here = t.here;
+      is = t.is;
       read = (λ i. scan_from (f i).syntax (f i).limits (spot_same b a f i) s (take t.n piece)) ∙ t.read;
       decides = (λ i. read_byte (f i).syntax (f i).limits (spot_same b a f i) t.byte t.next) ∙ t.decides;
       first = (λ i. scan_from (f i).syntax (f i).limits (spot_same b a f i) s piece) ∙ t.first;

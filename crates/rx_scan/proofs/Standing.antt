@@ -1,6 +1,5 @@
 -- What a reading stands for after one more character.
-use Rattle.std.proofs.Common.{◌≡◌, ◌∙◌, ℕ, ◌+◌, ◌-◌, Bool, true, false, List, [], ◌∷◌, ◌++◌, refl, ap, sym, subst, Option, Some, None, length, map, arith}
-use Rattle.std.specs.Prelude.{◌&&◌}
+use Rattle.std.proofs.Common.{◌≡◌, ◌∙◌, ℕ, ◌+◌, ◌-◌, Bool, true, false, List, [], ◌∷◌, ◌++◌, refl, ap, sym, subst, arith}
 use Rattle.std.proofs.lemmas.List.{map-append}
 use Rattle.rx_terms.specs.Text.{Chars}
 use Rattle.rx_chars.specs.Characters.{Entry}
@@ -8,16 +7,16 @@ use Rattle.rx_chars.specs.declared.syntax.Syntax.{Syntax}
 use Rattle.rx_grammar.specs.declared.contents.Content.{Content}
 use Rattle.rx_grammar.specs.declared.contents.Content.TheVariants as content
 use Rattle.rx_grammar.specs.Tokens.{Token, tag, character, reference, kept, section, comment, doctype}
-use Rattle.rx_grammar.specs.Items.{Item, values, last_from, is_literal, is_strict_literal}
-use Rattle.rx_pages.specs.PageReader.{Scanning, first_of, starts_at, token_at, entering, passed, item_of}
+use Rattle.rx_grammar.specs.Items.{Item, values, last_from, is_strict_literal}
+use Rattle.rx_pages.specs.PageReader.{Scanning, first_of, starts_at, entering, item_of}
 use Rattle.rx_tags.specs.TagBufs.{TagSoFar}
 use Rattle.rx_scan.specs.declared.marks.Mark.{Mark}
 use Rattle.rx_scan.specs.declared.marks.Mark.TheVariants as mark
 use Rattle.rx_scan.specs.declared.places.Place.{Place}
 use Rattle.rx_scan.specs.declared.places.Setting.{Setting}
 use Rattle.rx_scan.specs.Buffers.{Buffered}
-use Rattle.rx_scan.specs.Places.{entered, begun, ended}
-use Rattle.rx_scan.specs.Pending.{Pending, PendsAs, Pends}
+use Rattle.rx_scan.specs.Places.{entered}
+use Rattle.rx_scan.specs.Pending.{Pending, PendsAs}
 use Rattle.rx_scan.specs.Scanner.{Reading}
 use Rattle.rx_scan.specs.Entries.{token_from, with_parts}
 use Rattle.rx_scan.specs.Steps.{ReadsAs}
@@ -64,7 +63,11 @@ module _ (v : Reading) (s : Scanning) (h : ReadsAs v s) (after_return : Bool) wh
       record {
         at = ap (λ a. a + 1) h.at;
         starts = ap (λ a. a + 1) h.at ∙ sym (starts_next s.at);
-        held = refl; started = refl; after_return = refl; two = h.two; last = h.last;
+        held = refl;
+        started = refl;
+        after_return = refl;
+        two = h.two;
+        last = h.last;
         token = some_mark v.setting.syntax v.setting.inside p.mark p.run p.tag (text ++ entry.value ∷ []) x (more ++ entry.value ∷ []) (entered after_return v.place) k (snoc_some text entry.value x more e)
             ∙ (sym o ∙ (h.token ∙ sym (first_stays s.run entry x more ((s.at + 1) - 0) (starts_at s) (sym t ∙ e))));
         syntax = y;

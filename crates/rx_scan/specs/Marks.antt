@@ -6,13 +6,11 @@ use Rattle.rx_chars.specs.declared.syntax.Syntax.{Syntax}
 use Rattle.rx_chars.specs.declared.syntax.Syntax.TheVariants.{Html, Xhtml}
 use Rattle.rx_grammar.specs.declared.contents.Content.{Content}
 use Rattle.rx_grammar.specs.declared.contents.Content.TheVariants as content
-use Rattle.rx_grammar.specs.declared.faults.Kind.{Kind}
 use Rattle.rx_grammar.specs.declared.faults.Kind.TheVariants.{BadTag, BadDoctype, Outside, StrictText}
 use Rattle.rx_grammar.specs.Names.{name_of_raw}
 use Rattle.rx_grammar.specs.Shapes.{ends_name}
 use Rattle.rx_grammar.specs.Tags.{cased_char}
-use Rattle.rx_grammar.specs.Spelling.{exclamation_mark, has_markup, has_references, keeps_runs, has_sections, has_less_than, is_text, begins_markup}
-use Rattle.rx_reader.specs.declared.phases.RunPhase.{RunPhase}
+use Rattle.rx_grammar.specs.Spelling.{exclamation_mark, has_references, keeps_runs, has_sections, has_less_than, is_text, begins_markup}
 use Rattle.rx_reader.specs.declared.phases.RunPhase.TheVariants as run
 use Rattle.rx_reader.specs.declared.phases.RunMove.{RunMove}
 use Rattle.rx_reader.specs.declared.phases.RunMove.TheVariants as run_moves
@@ -29,7 +27,6 @@ use Rattle.rx_scan.specs.declared.marks.Brackets.{Brackets}
 use Rattle.rx_scan.specs.declared.marks.Brackets.TheVariants as brackets
 use Rattle.rx_scan.specs.declared.marks.Mark.{Mark}
 use Rattle.rx_scan.specs.declared.marks.Mark.TheVariants as mark
-use Rattle.rx_scan.specs.declared.marks.Whole.{Whole}
 use Rattle.rx_scan.specs.declared.marks.Whole.TheVariants as whole
 use Rattle.rx_scan.specs.declared.marks.First.{First}
 use Rattle.rx_scan.specs.declared.marks.First.TheVariants as first

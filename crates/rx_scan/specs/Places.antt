@@ -1,5 +1,5 @@
 -- Where the scanner stands, after each kind of byte.
-use Rattle.std.specs.Prelude.{ℕ, ◌+◌, Bool, true, false, ◌&&◌}
+use Rattle.std.specs.Prelude.{◌+◌, Bool, true, false, ◌&&◌}
 use Rattle.rx_scan.specs.declared.places.Place.{Place}
 
 abbrev pub at_first : Place

@@ -15,7 +15,7 @@ use Rattle.rx_grammar.specs.Tokens.{Tag, Token, tag, section, comment, doctype}
 use Rattle.rx_grammar.specs.Items.{values, Item, text_of, is_line_feed}
 use Rattle.rx_reader.specs.Tables.{is_last}
 use Rattle.rx_reader.specs.TagReader.{parts_of, is_closing}
-use Rattle.rx_pages.specs.PageReader.{Spot, Scanning, token_at, starts_at, fault_in, Scanned, read_byte, scan_from, is_none_left}
+use Rattle.rx_pages.specs.PageReader.{Scanning, token_at, starts_at, fault_in, Scanned, read_byte, scan_from, is_none_left}
 use Rattle.rx_tags.specs.declared.stops.Stop.{Stop}
 use Rattle.rx_tags.specs.declared.stops.Stop.TheVariants as stop
 use Rattle.rx_tags.specs.declared.tags.Tag as the
@@ -25,7 +25,6 @@ use Rattle.rx_scan.specs.declared.answers.What.{What}
 use Rattle.rx_scan.specs.declared.answers.What.TheVariants as what
 use Rattle.rx_scan.specs.declared.answers.Token as shown
 use Rattle.rx_scan.specs.declared.answers.Token.TheVariants as token
-use Rattle.rx_scan.specs.declared.marks.Mark.{Mark}
 use Rattle.rx_scan.specs.declared.marks.Mark.TheVariants as mark
 use Rattle.rx_scan.specs.declared.places.Setting.{Setting}
 use Rattle.rx_scan.specs.Pending.{Pends}
@@ -308,8 +307,17 @@ inside_of inside drops v =
     record {
       reading = record {
         setting = record { syntax = v.reading.setting.syntax; limits = v.reading.setting.limits; inside = inside; leads = v.reading.setting.leads; drops = drops };
-        place = v.reading.place; held = v.reading.held; pending = v.reading.pending; text = v.reading.text; end = v.reading.end };
-      what = v.what; stepped = v.stepped; failed = v.failed; spent = v.spent }
+        place = v.reading.place;
+        held = v.reading.held;
+        pending = v.reading.pending;
+        text = v.reading.text;
+        end = v.reading.end;
+      };
+      what = v.what;
+      stepped = v.stepped;
+      failed = v.failed;
+      spent = v.spent;
+    }
 
 -- no token is unfinished
 pub record IsWhole (s : Scanning) : Type 0 where

@@ -29,9 +29,13 @@ pub(crate) fn in_doctype(syntax: Syntax, phase: DoctypePhase, c: char) -> Move
     ensures { result ≡ marks.in_doctype syntax phase c }
 {
     match phase {
-        DoctypePhase::Keyword if is_white_space(c) => Move::Goes(Mark::Doctype(DoctypePhase::Spaces)),
+        DoctypePhase::Keyword if is_white_space(c) => Move::Goes(Mark::Doctype(
+            DoctypePhase::Spaces,
+        )),
         DoctypePhase::Keyword => Move::Refuses(Kind::BadDoctype),
-        DoctypePhase::Spaces if is_white_space(c) => Move::Goes(Mark::Doctype(DoctypePhase::Spaces)),
+        DoctypePhase::Spaces if is_white_space(c) => Move::Goes(Mark::Doctype(
+            DoctypePhase::Spaces,
+        )),
         DoctypePhase::Spaces => in_name(syntax, 0, c),
         DoctypePhase::Name(count) => in_name(syntax, count, c),
         DoctypePhase::Passed if c == '>' => Move::Ends(Whole::Doctype),

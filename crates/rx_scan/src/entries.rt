@@ -282,10 +282,7 @@ impl Reader {
                 self.end_tag(after_return);
                 Ok(What::Tag)
             }
-            Err(TagError::Bad(kind)) => Err(Stop::Fault(Fault {
-                kind,
-                ..fault
-            })),
+            Err(TagError::Bad(kind)) => Err(Stop::Fault(Fault { kind, ..fault })),
             Err(TagError::NoMemory) => Err(Stop::NoMemory),
         }
     }
@@ -310,10 +307,7 @@ impl Reader {
                 self.end_tag(after_return);
                 Ok(What::Tag)
             }
-            Err(TagError::Bad(kind)) => Err(Stop::Fault(Fault {
-                kind,
-                ..fault
-            })),
+            Err(TagError::Bad(kind)) => Err(Stop::Fault(Fault { kind, ..fault })),
             Err(TagError::NoMemory) => Err(Stop::NoMemory),
         }
     }

@@ -5,7 +5,9 @@ ghost use Rattle.rx_reader.specs.Tables as tables;
 ghost use Rattle.rx_scan.specs.Entries as entries;
 ghost use Rattle.rx_scan.specs.Marks as marks;
 
-use crate::declarations::{at_opened, in_bogus, in_comment, in_instruction, in_section, in_strict_comment, in_word};
+use crate::declarations::{
+    at_opened, in_bogus, in_comment, in_instruction, in_section, in_strict_comment, in_word,
+};
 use crate::doctypes::in_doctype;
 use crate::marks::{First, Mark, Move};
 use crate::words::char_at;

@@ -213,7 +213,9 @@ impl Scan {
         requires { self.now.what ≡ What.Tag }
         ensures { ShowsTag self.now.reading (parts_of self.now.reading.pending.tag.state).closing result }
     {
-        self.reader.pending.tag(self.reader.place.token, self.reader.end)
+        self.reader
+            .pending
+            .tag(self.reader.place.token, self.reader.end)
     }
 
     fn shown_tag(&self) -> Token<'_>

@@ -1,5 +1,4 @@
 use Rattle.std.proofs.Common.{◌∙◌, ap}
-use Rattle.std.specs.String.{string_bytes}
 use Rattle.std.specs.Str.{chars}
 use Rattle.rx_terms.specs.Text.{is_empty}
 use Rattle.rx_scan.specs.Buffers.{Buffered}

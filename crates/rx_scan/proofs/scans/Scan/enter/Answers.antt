@@ -1,5 +1,4 @@
 use Rattle.std.proofs.Common.{subst, sym}
-use Rattle.rx_pages.specs.PageReader.{Scanning}
 use Rattle.rx_scan.specs.Scanner.{Scanner}
 use Rattle.rx_scan.specs.Steps.{Stands}
 use Rattle.rx_scan.proofs.StandLemmas.{stands_inside}
