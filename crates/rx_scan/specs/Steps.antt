@@ -147,6 +147,16 @@ Runs old s piece (Err stop.NoMemory) new = Unit {0}
 abbrev pub room : ℕ
 room = 4096
 
+-- How much of the piece was taken: all of it where nothing is told, and else a byte at least.
+pub record TakesSome (piece : List ℕ) (n : ℕ) (nothing : Bool) : Type 0 where
+  pub fits : n ≤ length piece
+  pub all : nothing ≡ true → n ≡ length piece
+  pub some : nothing ≡ false → 0 < n
+
+abbrev pub RunsTake : List ℕ → Result (ℕ × What) Stop → Type 0
+RunsTake piece (Ok (n, answer)) = TakesSome piece n (is_nothing answer)
+RunsTake piece (Err e) = Unit {0}
+
 -- A tag that is lent is whole; else the next one may be read on.
 abbrev pub MayLend : What → Reading → Type 0
 MayLend what.Tag v = (is_last v.pending.tag.state.phase ≡ true) × (v.pending.mark ≡ mark.Nothing)
@@ -274,16 +284,16 @@ pub record Answered (v : Scanner) (t : shown.Token) : Type 0 where
   pub stepped : v.stepped ≡ true
   pub shows : Shows v.what v.reading t
 
-abbrev pub Keeps : Scanner → Result (ℕ × shown.Token) Stop → Scanner → Type 0
-Keeps old (Ok r) new = (old.failed ≡ None) × (old.spent ≡ false) × Answered new r.1
-Keeps old (Err (stop.Fault fault)) new = (old.spent ≡ false) × ((old.failed ≡ None) ⊎ (old.failed ≡ Some fault)) × (new.failed ≡ Some fault) × (new.spent ≡ false) × (new.what ≡ what.Nothing) × (new.stepped ≡ true)
-Keeps old (Err stop.NoMemory) new = ((old.spent ≡ true) ⊎ (old.failed ≡ None)) × (new.spent ≡ true) × (new.what ≡ what.Nothing) × (new.stepped ≡ true)
+abbrev pub Keeps : Scanner → List ℕ → Result (ℕ × shown.Token) Stop → Scanner → Type 0
+Keeps old piece (Ok r) new = (old.failed ≡ None) × (old.spent ≡ false) × Answered new r.1 × TakesSome piece r.0 (is_more r.1)
+Keeps old piece (Err (stop.Fault fault)) new = (old.spent ≡ false) × ((old.failed ≡ None) ⊎ (old.failed ≡ Some fault)) × (new.failed ≡ Some fault) × (new.spent ≡ false) × (new.what ≡ what.Nothing) × (new.stepped ≡ true)
+Keeps old piece (Err stop.NoMemory) new = ((old.spent ≡ true) ⊎ (old.failed ≡ None)) × (new.spent ≡ true) × (new.what ≡ what.Nothing) × (new.stepped ≡ true)
 
 -- the same of the step within
-abbrev pub KeepsOn : Scanner → Result ℕ Stop → Scanner → Type 0
-KeepsOn old (Ok n) new = (old.failed ≡ None) × (old.spent ≡ false) × (new.failed ≡ None) × (new.spent ≡ false) × (new.stepped ≡ true)
-KeepsOn old (Err (stop.Fault fault)) new = (old.spent ≡ false) × ((old.failed ≡ None) ⊎ (old.failed ≡ Some fault)) × (new.failed ≡ Some fault) × (new.spent ≡ false) × (new.what ≡ what.Nothing) × (new.stepped ≡ true)
-KeepsOn old (Err stop.NoMemory) new = ((old.spent ≡ true) ⊎ (old.failed ≡ None)) × (new.spent ≡ true) × (new.what ≡ what.Nothing) × (new.stepped ≡ true)
+abbrev pub KeepsOn : Scanner → List ℕ → Result ℕ Stop → Scanner → Type 0
+KeepsOn old piece (Ok n) new = (old.failed ≡ None) × (old.spent ≡ false) × (new.failed ≡ None) × (new.spent ≡ false) × (new.stepped ≡ true) × TakesSome piece n (is_nothing new.what)
+KeepsOn old piece (Err (stop.Fault fault)) new = (old.spent ≡ false) × ((old.failed ≡ None) ⊎ (old.failed ≡ Some fault)) × (new.failed ≡ Some fault) × (new.spent ≡ false) × (new.what ≡ what.Nothing) × (new.stepped ≡ true)
+KeepsOn old piece (Err stop.NoMemory) new = ((old.spent ≡ true) ⊎ (old.failed ≡ None)) × (new.spent ≡ true) × (new.what ≡ what.Nothing) × (new.stepped ≡ true)
 
 abbrev pub Advances : Scanner → Scanning → List ℕ → Result ℕ Stop → Scanner → Type 0
 Advances old s piece (Ok n) new = Took old.reading s piece n new.what new.reading

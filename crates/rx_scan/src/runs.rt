@@ -3,7 +3,7 @@ ghost use Rattle.std.specs.Prelude.{◌≡◌, ◌≢◌, ◌+◌, ◌≤◌, �
 ghost use Rattle.rx_pages.specs.PageReader.{Scanning};
 ghost use Rattle.rx_tags.specs.TagBufs.{MayStep};
 ghost use Rattle.rx_scan.specs.Entries.{IsNoMemory};
-ghost use Rattle.rx_scan.specs.Steps.{ReadsAs, Runs, RunsReady, is_quiet, is_token, stopped_at};
+ghost use Rattle.rx_scan.specs.Steps.{ReadsAs, Runs, RunsReady, RunsTake, is_quiet, is_token, stopped_at};
 
 use crate::answers::What;
 use crate::marks::Mark;
@@ -64,6 +64,7 @@ impl Reader {
         requires room { ROOM ≤ self.old.text.room }
         ensures runs { (s : Scanning) → ReadsAs self.old s → Runs self.old s piece.now result self.new }
         ensures ready { RunsReady result self.new }
+        ensures takes { RunsTake piece.now result }
         ensures quiet { self.old.pending.mark ≡ Mark.Nothing → is_quiet piece.now ≡ true → IsNoMemory result ≡ false }
     {
         let mut taken = 0;

@@ -158,7 +158,7 @@ impl Scan {
 
     fn advance(&mut self, piece: &[u8]) -> Result<usize, Stop>
         ensures steps { (s : Scanning) → Stands self.old s → Advances self.old s piece.now result self.new }
-        ensures keeps { KeepsOn self.old result self.new }
+        ensures keeps { KeepsOn self.old piece.now result self.new }
         ensures quiet { (s : Scanning) → Stands self.old s → s.run ≡ [] → is_quiet piece.now ≡ true → IsNoMemory result ≡ false }
     {
         if self.spent {
@@ -189,7 +189,7 @@ impl Scan {
     /// scanner's reading has one in the bytes so far, before a token is complete, and then at each later call. After
     /// want of memory nothing else is answered. Text by itself takes no memory.
     pub fn step(&mut self, piece: &[u8]) -> Result<(usize, Token<'_>), Stop>
-        ensures* after { sem 𝓛 (Rests the_row self.entry (λ new. Keeps self.old result new × ((s : Scanning) → Stands self.old s → Steps self.old s piece.now result new))) }
+        ensures* after { sem 𝓛 (Rests the_row self.entry (λ new. Keeps self.old piece.now result new × ((s : Scanning) → Stands self.old s → Steps self.old s piece.now result new))) }
         ensures quiet { (s : Scanning) → Stands self.old s → s.run ≡ [] → is_quiet piece.now ≡ true → IsNoMemory result ≡ false }
     {
         let taken = self.advance(piece)?;

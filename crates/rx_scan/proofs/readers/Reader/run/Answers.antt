@@ -10,7 +10,7 @@ use Rattle.rx_scan.proofs.readers.Reader.run.Goals as goal
 
 pub loop-byte-init : goal.loop-byte-init
 loop-byte-init c =
-    record { taken = refl; may_step = c.requires.may_step; room = c.requires.room; fits = omega (arith, c.requires.size); apart = inl c.requires.none; so_far = λ s h. reads_none c.args.self.now s c.requires.none h; quiet = λ m q. m }
+    record { taken = refl; may_step = c.requires.may_step; room = c.requires.room; fits = omega (arith, c.requires.size); apart = inl c.requires.none; so_far = λ s h. reads_none c.args.self.now s c.requires.none h; later = λ n. absurd (n c.requires.none); quiet = λ m q. m }
 
 pub returns-in-Err-clause-runs : goal.returns-in-Err-clause-runs
 returns-in-Err-clause-runs c =
@@ -38,6 +38,7 @@ loop-byte-preserved c =
       fits = c.must_show.ensures.room c.if-must_show.false;
       apart = c.must_show.ensures.apart c.if-must_show.false;
       so_far = λ s h. next_read c.args.self.now c.loop-byte.self c.read.new.self s c.args.piece.now c.loop-byte.byte-index c.loop-byte-test.true (c.loop-byte.invariant.so_far s h) c.in-Ok.what (sym c.is_token.ensures ∙ c.if-is_token.false) c.in-Ok.ensures.reads;
+      later = λ n. omega arith;
       quiet = λ m q. quiet_tells c.loop-byte.self c.read.new.self (get_or c.args.piece.now c.loop-byte.byte-index 0) c.in-Ok.what (c.loop-byte.invariant.quiet m q) (quiet_at c.args.piece.now c.loop-byte.byte-index c.loop-byte-test.true q) c.in-Ok.ensures.reads;
     }
 
