@@ -1,5 +1,5 @@
 -- The bytes that a decoder holds.
-use Rattle.std.specs.Prelude.{ℕ, Bool, true, ◌==◌, List, [], ◌∷◌, if◌then◌else◌}
+use Rattle.std.specs.Prelude.{ℕ, Bool, true, false, ◌==◌, List, [], ◌∷◌, if◌then◌else◌}
 use Rattle.rx_chars.specs.Utf8.{begins_sequence, is_in, tail}
 use Rattle.rx_chars.specs.declared.utf8.Held.{Held}
 use Rattle.rx_chars.specs.declared.utf8.Held.TheVariants.{Nothing, One, Two, Three, Broken}
@@ -19,6 +19,10 @@ held_bytes Broken = broken_byte ∷ []
 abbrev pub is_begun : Held → Bool
 is_begun Broken = true
 is_begun held = begins_sequence (held_bytes held)
+
+abbrev pub is_none_held : List ℕ → Bool
+is_none_held [] = true
+is_none_held (byte ∷ bytes) = false
 
 -- whether the byte b may stand second, behind the first byte a of a sequence of two or more
 abbrev pub fits_second : ℕ → ℕ → Bool

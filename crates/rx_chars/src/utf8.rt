@@ -1,7 +1,7 @@
 ghost use Rattle.std.specs.Prelude.{◌≡◌, ◌+◌, ◌-◌, ◌*◌, ◌^◌, ◌<◌, ◌≤◌, ◌++◌, [], ◌∷◌, true};
 ghost use Rattle.std.specs.Char.{IsScalar};
 ghost use Rattle.rx_chars.specs.Utf8.{Answers, Leaves, answer_of, begins_sequence, is_in, tail};
-ghost use Rattle.rx_chars.specs.Held.{held_bytes, is_begun, fits_second};
+ghost use Rattle.rx_chars.specs.Held.{held_bytes, is_begun, is_none_held, fits_second};
 
 use std::marker::Model;
 
@@ -86,6 +86,20 @@ impl Utf8 {
         Utf8 {
             held: Held::Nothing,
         }
+    }
+
+    /// Whether no byte is held of a character that isn't whole.
+    pub fn is_whole(&self) -> bool
+        ensures { result ≡ is_none_held self.now }
+    {
+        matches!(self.held, Held::Nothing)
+    }
+
+    /// What [`Utf8::step`] would answer to the next byte, which isn't taken.
+    pub fn peek(&self, byte: u8) -> Utf8Step
+        ensures { result ≡ answer_of (self.now ++ byte ∷ []) }
+    {
+        self.held.answer(byte)
     }
 
     /// Takes the next byte. `Bad` comes exactly where the bytes since the last whole character, this one included, begin

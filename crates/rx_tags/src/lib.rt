@@ -18,13 +18,16 @@ mod tag_text;
 mod tags;
 mod values;
 
+pub use moves::{begins_tag, ends_name, is_letter, is_white_space};
 pub use pairs::TagError;
+pub use references::{meaning, run_move};
 pub use rx_chars::Syntax;
 pub use rx_grammar::{Fault, Kind, Limits};
 pub use stops::Stop;
 pub use tag_buf::TagBuf;
 pub use tag_text::TagStep;
 pub use tags::Tag;
+pub use values::{cased, no_meaning};
 
 #[cfg(test)]
 mod tests;

@@ -7,7 +7,8 @@ ghost use Rattle.rx_reader.specs.Tables as tables;
 use rx_chars::{Syntax, is_nc, is_nc_start};
 use rx_reader::{TagAction, TagPhase};
 
-pub(crate) fn is_white_space(c: char) -> bool
+/// White space of HTML: tab, LF, FF, CR and space.
+pub fn is_white_space(c: char) -> bool
     ensures { result ≡ ascii.is_white_space c }
 {
     matches!(c, '\t' | '\n' | '\u{C}' | '\r' | ' ')
@@ -25,7 +26,8 @@ fn is_strict_char(c: char) -> bool
     is_nc(c) || c == ':'
 }
 
-fn ends_name(c: char) -> bool
+/// What ends a tag's name in HTML: white space, `/` and `>`.
+pub fn ends_name(c: char) -> bool
     ensures { result ≡ shapes.ends_name c }
 {
     is_white_space(c) || c == '/' || c == '>'
@@ -37,13 +39,15 @@ fn is_attribute_char(c: char) -> bool
     !(ends_name(c) || c == '=' || (c == '"' || c == '\'') || c == '<')
 }
 
-pub(crate) fn is_letter(c: char) -> bool
+/// A letter of ASCII.
+pub fn is_letter(c: char) -> bool
     ensures { result ≡ ascii.is_letter c }
 {
     matches!(c, 'A'..='Z' | 'a'..='z')
 }
 
-fn begins_tag(syntax: Syntax, c: char) -> bool
+/// What begins a tag's name: a letter in HTML, a name's first character in XHTML.
+pub fn begins_tag(syntax: Syntax, c: char) -> bool
     ensures { result ≡ shapes.begins_tag syntax c }
 {
     match syntax {

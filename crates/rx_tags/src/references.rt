@@ -22,7 +22,7 @@ fn is_digit(c: char) -> bool
 }
 
 /// What the character does to a run that may become a reference.
-pub(crate) fn run_move(phase: RunPhase, c: char) -> RunMove
+pub fn run_move(phase: RunPhase, c: char) -> RunMove
     ensures { result ≡ tables.run_move phase c }
 {
     match phase {
@@ -130,7 +130,7 @@ fn is_name(body: &[u8]) -> bool
 }
 
 /// The character for which the reference with this body stands, where the body is what stands between `&` and `;`.
-pub(crate) fn meaning(syntax: Syntax, body: &str) -> Option<char>
+pub fn meaning(syntax: Syntax, body: &str) -> Option<char>
     ensures { result ≡ texts.meaning syntax body.now }
 {
     match body.as_bytes() {

@@ -53,7 +53,7 @@ fn plain_move(syntax: Syntax, c: char) -> ValueMove
 }
 
 /// The fault of a reference that stands for nothing.
-pub(crate) fn no_meaning(phase: RunPhase) -> Kind
+pub fn no_meaning(phase: RunPhase) -> Kind
     ensures { result ≡ values.no_meaning phase }
 {
     match phase {
@@ -63,7 +63,7 @@ pub(crate) fn no_meaning(phase: RunPhase) -> Kind
 }
 
 /// A character of a name, which HTML reads in lower case.
-pub(crate) fn cased(syntax: Syntax, c: char) -> char
+pub fn cased(syntax: Syntax, c: char) -> char
     ensures { result ≡ cased_char syntax c }
 {
     match syntax {

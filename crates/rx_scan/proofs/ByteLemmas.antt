@@ -1,0 +1,170 @@
+-- What one byte does is what the reader of bytes says.
+use Rattle.std.proofs.Common.{◌≡◌, ◌∙◌, ◌⊎◌, ℕ, ◌+◌, ◌-◌, Bool, true, false, List, [], ◌∷◌, ◌++◌, refl, ap, sym, subst, Result, Ok, Err, inl, inr, length, arith}
+use Rattle.std.specs.Prelude.{◌&&◌, ◌||◌, ◌==◌, not, nat_le, MatchBool}
+use Rattle.std.proofs.lemmas.Bool.{cond-true, cond-false}
+use Rattle.std.proofs.lemmas.List.{length-append}
+use Rattle.rx_terms.specs.Text.{Chars}
+use Rattle.rx_chars.specs.Utf8.{answer_of}
+use Rattle.rx_chars.specs.declared.utf8.Utf8Step.{Utf8Step}
+use Rattle.rx_chars.specs.declared.utf8.Utf8Step.TheVariants.{More, Char, Bad}
+use Rattle.rx_chars.specs.Characters.{Entry, byte_order_mark, line_feed, carriage_return, as_line_end}
+use Rattle.rx_chars.specs.declared.syntax.Syntax.{Syntax}
+use Rattle.rx_grammar.specs.declared.contents.Content.{Content}
+use Rattle.rx_grammar.specs.declared.faults.Kind.{Kind}
+use Rattle.rx_grammar.specs.declared.faults.Kind.TheVariants.{NotUtf8, Nul, PageTooLong, TagTooLong}
+use Rattle.rx_grammar.specs.declared.limits.Limits.{Limits}
+use Rattle.rx_grammar.specs.Items.{values}
+use Rattle.rx_grammar.specs.PageFaults.{is_known_tag}
+use Rattle.rx_reader.proofs.Bools.{split}
+use Rattle.rx_pages.specs.PageReader as reader
+use Rattle.rx_tags.specs.declared.stops.Stop.{Stop}
+use Rattle.rx_tags.specs.TagBufs.{TagSoFar}
+use Rattle.rx_scan.specs.declared.answers.What.{What}
+use Rattle.rx_scan.specs.declared.answers.What.TheVariants as what
+use Rattle.rx_scan.specs.declared.marks.Mark.{Mark}
+use Rattle.rx_scan.specs.declared.marks.Mark.TheVariants as mark
+use Rattle.rx_scan.specs.declared.places.Place.{Place}
+use Rattle.rx_scan.specs.Places.{entered, holding}
+use Rattle.rx_scan.specs.Pending.{PendsAs}
+use Rattle.rx_scan.specs.Scanner.{Reading, spot_of}
+use Rattle.rx_scan.specs.Entries as entries
+use Rattle.rx_scan.specs.Steps.{ReadsAs, a_mark}
+use Rattle.rx_scan.proofs.Standing.{some_mark, values_snoc, no_values}
+use Rattle.rx_scan.proofs.Simulation.{known, known_with}
+use Rattle.rx_scan.proofs.EntryLemmas.{Gives, gives_at, gives_by, refuses, nothing_told, enters}
+
+match_by : {G : Type 0} (b : Bool) (P Q : Type 0) → MatchBool b P Q → (b ≡ true → P → G) → (b ≡ false → Q → G) → G
+match_by true P Q m f g = f refl m
+match_by false P Q m f g = g refl m
+
+-- what pends has a first character, or there is nothing
+pub record HasFirst (text : Chars) : Type 0 where
+  pub first : ℕ
+  pub more : Chars
+  pub is : text ≡ first ∷ more
+
+pub nothing_or : (s : Syntax) (i : Content) (m : Mark) (run : Chars) (t : TagSoFar) (text : Chars) → PendsAs s i m run t text → ((m ≡ mark.Nothing) × (text ≡ [])) ⊎ HasFirst text
+nothing_or s i mark.Nothing run t text h = inl (refl, h)
+nothing_or s i mark.LessThan run t text h = inr (record { first = 60; more = []; is = h.are })
+nothing_or s i (mark.RawEnd n) run t text h = inr (record { first = 60; more = run; is = h.are })
+nothing_or s i mark.Tag run t text h = inr (record { first = 60; more = h.chars; is = h.are })
+nothing_or s i (mark.Run p) run t text h = inr (record { first = 38; more = run; is = h.are })
+nothing_or s i mark.Opened run t text h = inr (record { first = 60; more = 33 ∷ []; is = h.are })
+nothing_or s i (mark.Opening w n) run t text h = inr (record { first = 60; more = 33 ∷ h.first ∷ h.chars; is = h.are })
+nothing_or s i (mark.Comment p) run t text h = inr (record { first = 60; more = h.front ++ h.rest; is = h.are })
+nothing_or s i (mark.StrictComment p) run t text h = inr (record { first = 60; more = h.front ++ h.rest; is = h.are })
+nothing_or s i mark.Bogus run t text h = inr (record { first = 60; more = h.front ++ h.rest; is = h.are })
+nothing_or s i (mark.Instruction asked) run t text h = inr (record { first = 60; more = h.front ++ h.rest; is = h.are })
+nothing_or s i (mark.Doctype p) run t text h = inr (record { first = 60; more = h.front ++ h.rest; is = h.are })
+nothing_or s i (mark.Section b) run t text h = inr (record { first = 60; more = h.front ++ h.rest; is = h.are })
+
+first_same : (run : List Entry) (x : ℕ) (more : Chars) (a b : ℕ) → values run ≡ x ∷ more → reader.first_of run a ≡ reader.first_of run b
+first_same [] x more a b e = absurd (cc)
+first_same (y ∷ run) x more a b e = refl
+
+module _ (v : Reading) (s : reader.Scanning) (h : ReadsAs v s) where
+  abbrev sy : Syntax
+  sy = v.setting.syntax
+
+  abbrev lim : Limits
+  lim = v.setting.limits
+
+  abbrev spot : reader.Spot
+  spot = spot_of v
+
+  -- the token that is pending stays where it is
+  token_stays : (starts : ℕ) (place : Place) → place.starts ≡ starts → place.token ≡ v.place.token → entries.token_from v.pending.mark place ≡ reader.first_of s.run starts
+  token_stays starts place e q = elim (nothing_or sy v.setting.inside v.pending.mark v.pending.run v.pending.tag (values s.run) h.pends) [
+    | inl n ↦ ap (λ (m : Mark). entries.token_from m place) n.0 ∙ (e ∙ ap (λ (r : List Entry). reader.first_of r starts) (sym (no_values s.run n.1)))
+    | inr f ↦ some_mark sy v.setting.inside v.pending.mark v.pending.run v.pending.tag (values s.run) f.first f.more place h.pends f.is
+        ∙ (q ∙ (sym (some_mark sy v.setting.inside v.pending.mark v.pending.run v.pending.tag (values s.run) f.first f.more v.place h.pends f.is) ∙ (h.token ∙ first_same s.run f.first f.more (reader.starts_at s) starts f.is)))
+  ]
+
+  long_is : reader.is_too_long sy lim spot s.run (reader.token_at s) s.at ≡ entries.is_long v (entries.is_tag v.pending.mark)
+  long_is =
+      ap (λ b. b && nat_le (reader.token_at s + lim.tag) s.at) (known sy v.setting.inside v.pending.run v.pending.tag (values s.run) v.pending.mark h.pends)
+      ∙ (ap (λ a. entries.is_tag v.pending.mark && nat_le (a + lim.tag) s.at) (sym h.token) ∙ ap (λ a. entries.is_tag v.pending.mark && nat_le (entries.token_from v.pending.mark v.place + lim.tag) a) (sym h.at))
+
+  long_with : (c : ℕ) → reader.is_too_long sy lim spot (s.run ++ (record { value = c; first = reader.starts_at s; last = s.at }) ∷ []) (reader.first_of s.run (reader.starts_at s)) s.at ≡ entries.is_long v (entries.is_tag_with sy v.setting.inside v.pending.mark c)
+  long_with c =
+      let entry : Entry = record { value = c; first = reader.starts_at s; last = s.at } in
+      ap (λ b. b && nat_le (reader.token_at s + lim.tag) s.at) (ap (is_known_tag sy v.setting.inside) (values_snoc s.run entry) ∙ known_with sy v.setting.inside v.pending.run v.pending.tag (values s.run) v.pending.mark c h.pends)
+      ∙ (ap (λ a. entries.is_tag_with sy v.setting.inside v.pending.mark c && nat_le (a + lim.tag) s.at) (sym h.token) ∙ ap (λ a. entries.is_tag_with sy v.setting.inside v.pending.mark c && nat_le (entries.token_from v.pending.mark v.place + lim.tag) a) (sym h.at))
+
+  passed_is : ReadsAs (entries.with_passed v) (reader.passed s)
+  passed_is =
+      record {
+        at = ap (λ a. a + 1) h.at;
+        starts = ap (λ a. a + 1) h.at ∙ sym (next s.at);
+        held = refl;
+        started = refl;
+        after_return = refl;
+        two = h.two;
+        last = h.last;
+        token = token_stays ((s.at + 1) - 0) (entered false v.place) (ap (λ a. a + 1) h.at ∙ sym (next s.at)) refl;
+        syntax = h.syntax;
+        pends = h.pends;
+      }
+    where
+      next : (at : ℕ) → (at + 1) - 0 ≡ at + 1
+      next at = omega arith
+
+  held_is : (byte : ℕ) → ReadsAs (entries.with_held v (s.held ++ byte ∷ [])) (reader.holding (s.held ++ byte ∷ []) s)
+  held_is byte =
+      record {
+        at = ap (λ a. a + 1) h.at;
+        starts = h.starts ∙ sym starts;
+        held = refl;
+        started = h.started;
+        after_return = h.after_return;
+        two = h.two;
+        last = h.last;
+        token = token_stays ((s.at + 1) - length (s.held ++ byte ∷ [])) (holding v.place) (h.starts ∙ sym starts) refl;
+        syntax = h.syntax;
+        pends = h.pends;
+      }
+    where
+      starts : (s.at + 1) - length (s.held ++ byte ∷ []) ≡ s.at - length s.held
+      starts = omega (arith, length-append s.held (byte ∷ []))
+
+  byte_passed : (c : ℕ) (result : Result What Stop) (new : Reading) → result ≡ Ok (entries.is_mark c) → new ≡ entries.with_passed v → Gives (Ok (record { next = reader.passed s; items = [] })) s v result new
+  byte_passed c result new q e =
+      subst (λ (x : Result What Stop). Gives r s v x new) (sym q)
+      (split (λ (w : What). Gives r s v (Ok w) new) (c == byte_order_mark) what.Skipped what.Nothing
+      (λ k. gives_at r s v (Ok what.Skipped) (entries.with_passed v) new e (record { scanned = record { next = reader.passed s; items = [] }; is = refl; reads_as = passed_is; told = (a_mark refl, refl); setting = refl }))
+      (λ k. gives_at r s v (Ok what.Nothing) (entries.with_passed v) new e (record { scanned = record { next = reader.passed s; items = [] }; is = refl; reads_as = passed_is; told = nothing_told v (entries.with_passed v) refl (λ e. refl); setting = refl })))
+    where
+      r : Result reader.Scanned Kind
+      r = Ok (record { next = reader.passed s; items = [] })
+
+  reads_char : (c : ℕ) (result : Result What Stop) (new : Reading) → entries.ReadsChar v c result new → Gives (reader.read_char sy lim spot c s) s v result new
+  reads_char c result new k =
+      let e : entries.is_passed v.place c ≡ (not s.started && c == byte_order_mark || s.after_return && c == line_feed) = λ i. not (h.started i) && c == byte_order_mark || h.after_return i && c == line_feed in
+      match_by (entries.is_passed v.place c) _ _ k
+      (λ t k. gives_by (reader.read_char sy lim spot c s) (Ok (record { next = reader.passed s; items = [] })) s v result new (cond-true _ _ _ (sym e ∙ t)) (byte_passed c result new k.0 k.1))
+      (λ t k. match_by (entries.is_long v (entries.is_tag_with sy v.setting.inside v.pending.mark (as_line_end c))) _ _ k
+      (λ u k. refuses (reader.read_char sy lim spot c s) v s TagTooLong result new h (cond-false _ _ _ (sym e ∙ t) ∙ cond-true _ _ _ (long_with (as_line_end c) ∙ u)) k)
+      (λ u k. gives_by (reader.read_char sy lim spot c s) _ s v result new (cond-false _ _ _ (sym e ∙ t) ∙ cond-false _ _ _ (long_with (as_line_end c) ∙ u)) (enters v s h (c == carriage_return) (as_line_end c) result new k)))
+
+  reads_answer : (byte : ℕ) (answer : Utf8Step) (result : Result What Stop) (new : Reading) → entries.ReadsAnswer v (s.held ++ byte ∷ []) answer result new → Gives (reader.read_answer sy lim spot (s.held ++ byte ∷ []) s answer) s v result new
+  reads_answer byte Bad result new k = refuses (Err NotUtf8) v s NotUtf8 result new h refl k
+  reads_answer byte More result new k =
+      match_by (entries.is_long v (entries.is_tag v.pending.mark)) _ _ k
+      (λ u k. refuses (reader.read_answer sy lim spot (s.held ++ byte ∷ []) s More) v s TagTooLong result new h (cond-true _ _ _ (long_is ∙ u)) k)
+      (λ u k. subst (λ (x : Result What Stop). Gives (reader.read_answer sy lim spot (s.held ++ byte ∷ []) s More) s v x new) (sym k.0)
+      (gives_at (reader.read_answer sy lim spot (s.held ++ byte ∷ []) s More) s v (Ok what.Nothing) (entries.with_held v (s.held ++ byte ∷ [])) new k.1
+      (record { scanned = record { next = reader.holding (s.held ++ byte ∷ []) s; items = [] }; is = cond-false _ _ _ (long_is ∙ u); reads_as = held_is byte; told = nothing_told v (entries.with_held v (s.held ++ byte ∷ [])) refl (λ e. e); setting = refl })))
+  reads_answer byte (Char c) result new k =
+      match_by (c == 0) _ _ k
+      (λ t k. refuses (reader.read_answer sy lim spot (s.held ++ byte ∷ []) s (Char c)) v s Nul result new h (cond-true _ _ _ t) k)
+      (λ t k. match_by (entries.is_long v (entries.is_tag v.pending.mark)) _ _ k
+      (λ u k. refuses (reader.read_answer sy lim spot (s.held ++ byte ∷ []) s (Char c)) v s TagTooLong result new h (cond-false _ _ _ t ∙ cond-true _ _ _ (long_is ∙ u)) k)
+      (λ u k. gives_by (reader.read_answer sy lim spot (s.held ++ byte ∷ []) s (Char c)) _ s v result new (cond-false _ _ _ t ∙ cond-false _ _ _ (long_is ∙ u)) (reads_char c result new k)))
+
+  pub reads : (byte : ℕ) (result : Result What Stop) (new : Reading) → entries.Reads v byte result new → Gives (reader.read_byte sy lim spot byte s) s v result new
+  reads byte result new k =
+      let e : nat_le lim.page v.place.at ≡ nat_le lim.page s.at = ap (nat_le lim.page) h.at in
+      match_by (nat_le lim.page v.place.at) _ _ k
+      (λ t k. refuses (reader.read_byte sy lim spot byte s) v s PageTooLong result new h (cond-true _ _ _ (sym e ∙ t)) k)
+      (λ t k. gives_by (reader.read_byte sy lim spot byte s) _ s v result new (cond-false _ _ _ (sym e ∙ t))
+      (reads_answer byte (answer_of (s.held ++ byte ∷ [])) result new (subst (λ (x : List ℕ). entries.ReadsAnswer v (x ++ byte ∷ []) (answer_of (x ++ byte ∷ [])) result new) h.held k)))

@@ -1,0 +1,17 @@
+pub mod BufferLemmas
+pub mod Snoc
+pub mod Meant
+pub mod Behinds
+pub mod StandLemmas
+pub mod RunLemmas
+pub mod QuietLemmas
+pub mod LoopLemmas
+pub mod Doctype
+pub mod Openings
+pub mod Markup
+pub mod References
+pub mod RawEnds
+pub mod Simulation
+pub mod Standing
+pub mod EntryLemmas
+pub mod ByteLemmas

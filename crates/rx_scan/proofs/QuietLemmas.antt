@@ -1,0 +1,162 @@
+-- Between tokens a byte tells text, begins a token, or is skipped.
+use Rattle.std.proofs.Common.{◌≡◌, ◌∙◌, ◌⊎◌, ℕ, ◌<◌, Bool, true, false, List, [], ◌∷◌, ◌++◌, refl, ap, sym, subst, Result, Ok, Err, inl, inr, eqb-true, arith, length, get_or, lit<, zero, suc}
+use Rattle.std.specs.Prelude.{◌&&◌, ◌||◌, ◌==◌, not, nat_le, MatchBool, if◌then◌else◌}
+use Rattle.std.proofs.lemmas.Bool.{cond-true, cond-false}
+use Rattle.std.proofs.lemmas.Str.{encode_ascii}
+use Rattle.rx_chars.specs.Utf8.{answer_of}
+use Rattle.rx_chars.specs.declared.utf8.Utf8Step.{Utf8Step}
+use Rattle.rx_chars.specs.declared.utf8.Utf8Step.TheVariants.{More, Char, Bad}
+use Rattle.rx_chars.specs.Characters.{carriage_return, as_line_end}
+use Rattle.rx_chars.proofs.Utf8Exact.{answers_from}
+use Rattle.rx_chars.proofs.Utf8Forms.{tables_agree}
+use Rattle.rx_grammar.specs.declared.faults.Kind.{Kind}
+use Rattle.rx_grammar.specs.declared.faults.Kind.TheVariants.{StrictText}
+use Rattle.rx_grammar.specs.Items.{is_strict_literal}
+use Rattle.rx_grammar.specs.Tokens.{character}
+use Rattle.rx_grammar.specs.Spelling.{has_references, is_text}
+use Rattle.rx_reader.proofs.Bools.{split, by_test, both, either, untrue}
+use Rattle.rx_tags.specs.declared.stops.Stop.{Stop}
+use Rattle.rx_tags.specs.declared.stops.Stop.TheVariants as stop
+use Rattle.rx_scan.specs.declared.answers.What.{What}
+use Rattle.rx_scan.specs.declared.answers.What.TheVariants as what
+use Rattle.rx_scan.specs.declared.marks.First.{First}
+use Rattle.rx_scan.specs.declared.marks.Mark.{Mark}
+use Rattle.rx_scan.specs.declared.marks.Mark.TheVariants as mark
+use Rattle.rx_scan.specs.declared.marks.Move.TheVariants as move
+use Rattle.rx_scan.specs.Marks as marks
+use Rattle.rx_scan.specs.declared.places.Place.{Place}
+use Rattle.rx_scan.specs.Places.{ended}
+use Rattle.rx_scan.specs.Scanner.{Reading}
+use Rattle.rx_scan.specs.Entries as entries
+use Rattle.rx_scan.specs.Steps.{is_quiet}
+use Rattle.rx_scan.proofs.RunLemmas.{IsApart}
+
+-- What a byte does between tokens.
+pub data Does (l : Reading) (byte : ℕ) (answer : What) (new : Reading) : Type 0 where
+  says : answer ≡ what.Nothing → new.pending.mark ≡ mark.Nothing → Does l byte answer new
+  begins : answer ≡ what.Nothing → (byte == 60 || byte == 38) ≡ true → Does l byte answer new
+  drops : l.setting.drops ≡ true → new.pending.mark ≡ mark.Nothing → Does l byte answer new
+  is_a_mark : l.place.started ≡ false → new.pending.mark ≡ mark.Nothing → Does l byte answer new
+
+or_left : (a b : Bool) → a ≡ true → (a || b) ≡ true
+or_left a b h = rw h refl
+
+or_right : (a b : Bool) → b ≡ true → (a || b) ≡ true
+or_right true b h = refl
+or_right false b h = h
+
+-- a character of ASCII is its last byte
+last_byte : (held : List ℕ) (byte c : ℕ) → answer_of (held ++ byte ∷ []) ≡ Char c → c < 128 → byte ≡ c
+last_byte held byte c e h =
+    let a = answers_from (held ++ byte ∷ []) (Char c) (sym e) in
+    let k = ((tables_agree (held ++ byte ∷ []) c).0 a).1 in
+    last_same held byte c (sym k ∙ encode_ascii c h)
+  where
+    last_same : (held : List ℕ) (byte c : ℕ) → held ++ byte ∷ [] ≡ c ∷ [] → byte ≡ c
+    last_same [] byte c e = cc
+    last_same (x ∷ []) byte c e = absurd (cc)
+    last_same (x ∷ y ∷ held) byte c e = absurd (cc)
+
+-- what a line end stands for begins nothing
+begins_line : (c d : ℕ) → as_line_end c ≡ d → (10 == d) ≡ false → c ≡ d
+begins_line c d e n = by_test {G = c ≡ d} (c == carriage_return) (λ h. absurd (let q : 10 ≡ d = sym (cond-true _ _ _ h) ∙ e in let z : true ≡ false = ap (λ (x : ℕ). 10 == x) q ∙ n in cc)) (λ h. sym (cond-false _ _ _ h) ∙ e)
+
+match_by : {G : Type 0} (b : Bool) (P Q : Type 0) → MatchBool b P Q → (b ≡ true → P → G) → (b ≡ false → Q → G) → G
+match_by true P Q m f g = f refl m
+match_by false P Q m f g = g refl m
+
+module _ (l new : Reading) (byte : ℕ) (answer : What) (m : l.pending.mark ≡ mark.Nothing) where
+  abbrev result : Result What Stop
+  result = Ok answer
+
+  no_fault : (kind : Kind) → result ≡ Err (stop.Fault (entries.fault_at l kind)) → Does l byte answer new
+  no_fault kind e = absurd (cc)
+
+  said : (answer : What) (d : ℕ) (place : Place) → entries.Says l d place (Ok answer) new → ((answer ≡ what.Nothing) ⊎ (l.setting.drops ≡ true)) × (new.pending.mark ≡ mark.Nothing)
+  said what.Nothing d place k = (inl refl, ap (λ (x : Reading). x.pending.mark) k.1.is)
+  said what.Skipped d place k = (inr (both l.setting.drops _ k.0).0, ap (λ (x : Reading). x.pending.mark) k.1)
+  said what.Text d place k = absurd k
+  said what.Section d place k = absurd k
+  said what.Doctype d place k = absurd k
+  said what.Tag d place k = absurd k
+
+  does_say : (d : ℕ) (place : Place) → entries.Says l d place result new → Does l byte answer new
+  does_say d place k = let q = said answer d place k in elim q.0 [ inl e ↦ says e q.1 | inr e ↦ drops e q.1 ]
+
+  -- the character is the byte
+  does_first : (c : ℕ) (ar : Bool) → ((d : ℕ) → c ≡ d → (10 == d) ≡ false → d < 128 → byte ≡ d) → entries.Enters l c ar (entries.judged l.setting l.place.two c (marks.of_first (marks.at_first l.setting.inside c))) result new → Does l byte answer new
+  does_first c ar is k =
+      split (λ (f : First). entries.Enters l c ar (entries.judged l.setting l.place.two c (marks.of_first f)) result new → Does l byte answer new) (c == 60) _ _
+      (λ h k. begins (arrived k.0) (or_left (byte == 60) _ (ap (λ (x : ℕ). x == 60) (is 60 (eqb-true c 60 h) refl (lit< tt)))))
+      (λ a. split (λ (f : First). entries.Enters l c ar (entries.judged l.setting l.place.two c (marks.of_first f)) result new → Does l byte answer new) (c == 38 && has_references l.setting.inside) _ _
+      (λ h k. begins (arrived k.0) (or_right (byte == 60) _ (ap (λ (x : ℕ). x == 38) (is 38 (eqb-true c 38 (both (c == 38) _ h).0) refl (lit< tt)))))
+      (λ b. split (λ (f : First). entries.Enters l c ar (entries.judged l.setting l.place.two c (marks.of_first f)) result new → Does l byte answer new) (is_text l.setting.inside c) _ _
+      (λ h k. by_says (l.place.two && is_strict_literal 62 l.setting.inside (character c)) k)
+      (λ h k. no_fault _ k))) k
+    where
+      arrived : result ≡ Ok what.Nothing → answer ≡ what.Nothing
+      arrived e = cc
+
+      by_says : (b : Bool) → entries.Enters l c ar (if b then move.Refuses StrictText else move.Says) result new → Does l byte answer new
+      by_says true k = no_fault StrictText k
+      by_says false k = does_say c (ended ar (entries.is_bracket l.setting c) l.place) k
+
+  does_char : (c : ℕ) → answer_of (l.held ++ byte ∷ []) ≡ Char c → entries.ReadsChar l c result new → Does l byte answer new
+  does_char c e k =
+      match_by (entries.is_passed l.place c) _ _ k
+      (λ t k. passed (either (not l.place.started && c == 65279) _ t) k.0 (ap (λ (x : Reading). x.pending.mark) k.1 ∙ m))
+      (λ t k. match_by (entries.is_long l (entries.is_tag_with l.setting.syntax l.setting.inside l.pending.mark (as_line_end c))) _ _ k
+      (λ u k. no_fault _ k)
+      (λ u k. does_first (as_line_end c) (c == carriage_return) (λ d q n h. last_byte l.held byte d (e ∙ ap Char (begins_line c d q n)) h)
+      (subst (λ (x : Mark). entries.Enters l (as_line_end c) (c == carriage_return) (entries.judged l.setting l.place.two (as_line_end c) (marks.move_of l.setting.syntax l.setting.inside x (as_line_end c))) result new) m k)))
+    where
+      passed : ((not l.place.started && c == 65279) ≡ true) ⊎ ((l.place.after_return && c == 10) ≡ true) → result ≡ Ok (entries.is_mark c) → new.pending.mark ≡ mark.Nothing → Does l byte answer new
+      passed (inl a) q k = is_a_mark (untrue l.place.started (both (not l.place.started) _ a).0) k
+      passed (inr a) q k = says (let z : entries.is_mark c ≡ what.Nothing = ap entries.is_mark (eqb-true c 10 (both l.place.after_return _ a).1) in arrive (q ∙ ap Ok z)) k
+        where
+          arrive : result ≡ Ok what.Nothing → answer ≡ what.Nothing
+          arrive e = cc
+
+  pub does : entries.Reads l byte result new → Does l byte answer new
+  does k =
+      match_by (nat_le l.setting.limits.page l.place.at) _ _ k
+      (λ t k. no_fault _ k)
+      (λ t k. by (answer_of (l.held ++ byte ∷ [])) refl k)
+    where
+      by : (a : Utf8Step) → answer_of (l.held ++ byte ∷ []) ≡ a → entries.ReadsAnswer l (l.held ++ byte ∷ []) a result new → Does l byte answer new
+      by Bad e k = no_fault _ k
+      by More e k =
+          match_by (entries.is_long l (entries.is_tag l.pending.mark)) _ _ k
+          (λ u k. no_fault _ k)
+          (λ u k. says (arrive k.0) (ap (λ (x : Reading). x.pending.mark) k.1 ∙ m))
+        where
+          arrive : result ≡ Ok what.Nothing → answer ≡ what.Nothing
+          arrive e = cc
+      by (Char c) e k =
+          match_by (c == 0) _ _ k (λ t k. no_fault _ k)
+          (λ t k. match_by (entries.is_long l (entries.is_tag l.pending.mark)) _ _ k (λ u k. no_fault _ k) (λ u k. does_char c e k))
+
+-- where text is told nothing else is
+pub apart_tells : (l new : Reading) (byte : ℕ) (answer : What) → IsApart l → entries.Reads l byte (Ok answer) new → answer ≡ what.Nothing
+apart_tells l new byte answer a k = by (does l new byte answer a.mark k)
+  where
+    by : Does l byte answer new → answer ≡ what.Nothing
+    by (says e m) = e
+    by (begins e m) = e
+    by (drops e m) = absurd (let q = sym e ∙ a.drops in cc)
+    by (is_a_mark e m) = absurd (let q = sym e ∙ a.started in cc)
+
+-- a quiet byte begins no token
+pub quiet_tells : (l new : Reading) (byte : ℕ) (answer : What) → l.pending.mark ≡ mark.Nothing → not (byte == 60 || byte == 38) ≡ true → entries.Reads l byte (Ok answer) new → new.pending.mark ≡ mark.Nothing
+quiet_tells l new byte answer n q k = by (does l new byte answer n k)
+  where
+    by : Does l byte answer new → new.pending.mark ≡ mark.Nothing
+    by (says e m) = m
+    by (begins e m) = absurd (let z = sym m ∙ untrue (byte == 60 || byte == 38) q in cc)
+    by (drops e m) = m
+    by (is_a_mark e m) = m
+
+pub quiet_at : (piece : List ℕ) (i : ℕ) → i < length piece → is_quiet piece ≡ true → not (get_or piece i 0 == 60 || get_or piece i 0 == 38) ≡ true
+quiet_at [] i h q = absurd (omega arith)
+quiet_at (x ∷ piece) zero h q = (both (not (x == 60 || x == 38)) _ q).0
+quiet_at (x ∷ piece) (suc i) h q = quiet_at piece i (omega arith) (both (not (x == 60 || x == 38)) _ q).1

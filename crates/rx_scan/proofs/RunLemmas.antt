@@ -1,0 +1,216 @@
+-- The bytes of a piece one after another.
+use Rattle.std.proofs.Common.{◌≡◌, ◌∙◌, ℕ, ◌+◌, ◌<◌, ◌≤◌, Bool, true, false, List, [], ◌∷◌, ◌++◌, length, take, drop, refl, ap, sym, subst, Option, Some, None, Result, Ok, Err, append_assoc, arith, get_or}
+use Rattle.std.proofs.lemmas.List.{take_more, take-append-drop}
+use Rattle.std.proofs.lemmas.Option.{slice_get-get_or}
+use Rattle.rx_terms.specs.Text.{Chars}
+use Rattle.rx_chars.specs.declared.syntax.Syntax.{Syntax}
+use Rattle.rx_grammar.specs.declared.faults.Fault.{Fault}
+use Rattle.rx_grammar.specs.declared.limits.Limits.{Limits}
+use Rattle.rx_grammar.specs.Items.{Item, text_of}
+use Rattle.rx_pages.specs.PageReader as reader
+use Rattle.rx_tags.specs.declared.stops.Stop.TheVariants as stop
+use Rattle.rx_scan.specs.declared.answers.What.{What}
+use Rattle.rx_scan.specs.declared.answers.What.TheVariants as what
+use Rattle.rx_scan.specs.declared.marks.Mark.TheVariants as mark
+use Rattle.rx_scan.specs.declared.places.Setting.{Setting}
+use Rattle.rx_scan.specs.Scanner.{Reading, spot_of}
+use Rattle.rx_scan.specs.Entries as entries
+use Rattle.rx_scan.specs.Steps.{ReadsAs, joined, texts_of, keeps_first, after_some, setting_after, is_nothing, is_token, Took, Faults, Tells}
+use Rattle.rx_scan.proofs.EntryLemmas.{GivesOk, Told}
+use Rattle.rx_scan.proofs.ByteLemmas.{reads}
+
+-- while text is told, no token is begun, and what might be skipped is over
+pub record IsApart (v : Reading) : Type 0 where
+  pub mark : v.pending.mark ≡ mark.Nothing
+  pub drops : v.setting.drops ≡ false
+  pub started : v.place.started ≡ true
+
+-- these bytes told text alone
+pub record ReadsOn (old : Reading) (s : reader.Scanning) (bytes : List ℕ) (now : Reading) : Type 0 where
+  pub scanned : reader.Scanned
+  pub read : reader.scan_from old.setting.syntax old.setting.limits (spot_of old) s bytes ≡ Ok scanned
+  pub reads_as : ReadsAs now scanned.next
+  pub texts : texts_of scanned.items ≡ Some now.text.text
+  pub keeps : keeps_first old.setting.drops scanned.items ≡ true
+  pub setting : now.setting ≡ after_some old.setting scanned.items
+  pub none : now.text.text ≡ [] → scanned.items ≡ []
+  pub started : (now.text.text ≡ [] → ⊥) → now.place.started ≡ true
+
+-- before the first byte
+pub reads_none : (old : Reading) (s : reader.Scanning) → old.text.text ≡ [] → ReadsAs old s → ReadsOn old s [] old
+reads_none old s e h =
+    record { scanned = record { next = s; items = [] }; read = refl; reads_as = h; texts = ap Some (sym e); keeps = refl; setting = refl; none = λ z. refl; started = λ z. absurd (z e) }
+
+module _ (sy : Syntax) (lim : Limits) (spot : reader.Spot) where
+  on_append : (r : Result reader.Scanned Fault) (a b : List ℕ) → reader.scan_on sy lim spot r (a ++ b) ≡ reader.scan_on sy lim spot (reader.scan_on sy lim spot r a) b
+  on_append r [] b = refl
+  on_append r (x ∷ a) b = on_append (reader.scan_byte_on sy lim spot r x) a b
+
+  on_err : (f : Fault) (a : List ℕ) → reader.scan_on sy lim spot (Err f) a ≡ Err f
+  on_err f [] = refl
+  on_err f (x ∷ a) = on_err f a
+
+joined_assoc : (a b c : Option Chars) → joined (joined a b) c ≡ joined a (joined b c)
+joined_assoc (Some a) (Some b) (Some c) = ap Some (append_assoc a b c)
+joined_assoc (Some a) (Some b) None = refl
+joined_assoc (Some a) None c = refl
+joined_assoc None b c = refl
+
+joined_first : (a : Option Chars) → joined (Some []) a ≡ a
+joined_first (Some a) = refl
+joined_first None = refl
+
+texts_append : (a b : List Item) → texts_of (a ++ b) ≡ joined (texts_of a) (texts_of b)
+texts_append [] b = sym (joined_first (texts_of b))
+texts_append (x ∷ a) b = ap (joined (text_of x.token)) (texts_append a b) ∙ sym (joined_assoc (text_of x.token) (texts_of a) (texts_of b))
+
+-- the setting after some tokens reads the same
+after_same : (setting : Setting) (items : List Item) → ((after_some setting items).syntax ≡ setting.syntax) × ((after_some setting items).limits ≡ setting.limits) × ((after_some setting items).inside ≡ setting.inside) × ((after_some setting items).leads ≡ setting.leads)
+after_same setting [] = (refl, refl, refl, refl)
+after_same setting (x ∷ items) = (refl, refl, refl, refl)
+
+after_append : (setting : Setting) (a b : List Item) → after_some (after_some setting a) b ≡ after_some setting (a ++ b)
+after_append setting [] b = refl
+after_append setting (x ∷ a) [] = refl
+after_append setting (x ∷ a) (y ∷ b) = refl
+
+keeps_append : (setting : Setting) (a b : List Item) → keeps_first setting.drops a ≡ true → keeps_first (after_some setting a).drops b ≡ true → keeps_first setting.drops (a ++ b) ≡ true
+keeps_append setting [] b h k = k
+keeps_append setting (x ∷ a) b h k = h
+
+module _ (old l : Reading) (s : reader.Scanning) (bytes : List ℕ) (r : ReadsOn old s bytes l) where
+  abbrev sy : Syntax
+  sy = old.setting.syntax
+
+  abbrev lim : Limits
+  lim = old.setting.limits
+
+  abbrev spot : reader.Spot
+  spot = spot_of old
+
+  -- it reads on in the same way
+  same_byte : (byte : ℕ) → reader.read_byte l.setting.syntax l.setting.limits (spot_of l) byte r.scanned.next ≡ reader.read_byte sy lim spot byte r.scanned.next
+  same_byte byte =
+      let k = after_same old.setting r.scanned.items in
+      let a = ap (λ (x : Setting). x.syntax) r.setting ∙ k.0 in
+      let b = ap (λ (x : Setting). x.limits) r.setting ∙ k.1 in
+      let c = ap (λ (x : Setting). x.inside) r.setting ∙ k.2 in
+      let d = ap (λ (x : Setting). x.leads) r.setting ∙ k.3 in
+      λ i. reader.read_byte (a i) (b i) (record { inside = c i; leads = d i }) byte r.scanned.next
+
+  byte_on : (byte : ℕ) → reader.scan_from sy lim spot s (bytes ++ byte ∷ []) ≡ reader.with_items r.scanned.next r.scanned.items (reader.read_byte l.setting.syntax l.setting.limits (spot_of l) byte r.scanned.next)
+  byte_on byte =
+      on_append sy lim spot (Ok (record { next = s; items = [] })) bytes (byte ∷ []) ∙ (ap (λ x. reader.scan_byte_on sy lim spot x byte) r.read ∙ ap (reader.with_items r.scanned.next r.scanned.items) (sym (same_byte byte)))
+
+  -- one more byte of text
+  pub reads_more : (byte : ℕ) (new : Reading) → entries.Reads l byte (Ok what.Nothing) new → ReadsOn old s (bytes ++ byte ∷ []) new
+  reads_more byte new k =
+      let g = reads l r.scanned.next r.reads_as byte (Ok what.Nothing) new k in
+      record {
+        scanned = record { next = g.scanned.next; items = r.scanned.items ++ g.scanned.items };
+        read = byte_on byte ∙ ap (reader.with_items r.scanned.next r.scanned.items) g.is;
+        reads_as = g.reads_as;
+        texts = texts_append r.scanned.items g.scanned.items ∙ (ap (λ x. joined x (texts_of g.scanned.items)) r.texts ∙ (ap (joined (Some l.text.text)) g.told.texts ∙ ap Some (sym g.told.text)));
+        keeps = keeps_append old.setting r.scanned.items g.scanned.items r.keeps (ap (λ (x : Setting). keeps_first x.drops g.scanned.items) (sym r.setting) ∙ g.told.keeps);
+        setting = g.setting ∙ (ap (λ x. after_some x g.scanned.items) r.setting ∙ after_append old.setting r.scanned.items g.scanned.items);
+        none = λ e. let q = split_nil l.text.text g.told.more (sym g.told.text ∙ e) in both_nil r.scanned.items g.scanned.items (r.none q.0) (g.told.some q.1);
+        started = λ n. by_text l.text.text refl n g;
+      }
+    where
+      split_nil : (a b : Chars) → a ++ b ≡ [] → (a ≡ []) × (b ≡ [])
+      split_nil [] b e = (refl, e)
+      split_nil (x ∷ a) b e = absurd (cc)
+
+      both_nil : (a b : List Item) → a ≡ [] → b ≡ [] → a ++ b ≡ []
+      both_nil a b e k = rw (e, k) refl
+
+      by_text : (t : Chars) → l.text.text ≡ t → (new.text.text ≡ [] → ⊥) → GivesOk (reader.read_byte l.setting.syntax l.setting.limits (spot_of l) byte r.scanned.next) l what.Nothing new → new.place.started ≡ true
+      by_text [] e n g = g.told.started (λ z. n (g.told.text ∙ (ap (λ x. x ++ g.told.more) e ∙ z)))
+      by_text (x ∷ t) e n g = g.told.still (r.started (λ z. let q = sym e ∙ z in cc))
+
+  -- no token was told
+  no_items : l.text.text ≡ [] → (r.scanned.items ≡ []) × (l.setting ≡ old.setting)
+  no_items e = let n = r.none e in (n, r.setting ∙ ap (after_some old.setting) n)
+
+  pub apart : (l.text.text ≡ [] → ⊥) → l.pending.mark ≡ mark.Nothing → IsApart l
+  apart n m = record { mark = m; drops = ap (λ (x : Setting). x.drops) r.setting ∙ by r.scanned.items r.texts; started = r.started n }
+    where
+      by : (items : List Item) → texts_of items ≡ Some l.text.text → (after_some old.setting items).drops ≡ false
+      by [] e = absurd (n (let q : [] ≡ l.text.text = cc in sym q))
+      by (x ∷ items) e = refl
+
+-- the setting after text
+pub text_setting : (new old : Setting) (v : Reading) (items : List Item) → new ≡ after_some old items → new ≡ setting_after what.Text v old items
+text_setting new old v items e = e
+
+pub took_text : (old l : Reading) (s : reader.Scanning) (piece : List ℕ) (n : ℕ) → n ≤ length piece → 0 < n → ReadsOn old s (take n piece) l → (l.text.text ≡ [] → ⊥) → Took old s piece n what.Text l
+took_text old l s piece n k z r t =
+    record { fits = k; scanned = r.scanned; read = r.read; reads_as = r.reads_as; tells = (r.texts, t, r.keeps); setting = r.setting; all = λ e. absurd (cc); some = λ e. z }
+
+pub took_all : (old l : Reading) (s : reader.Scanning) (piece : List ℕ) (n : ℕ) → n ≡ length piece → ReadsOn old s (take n piece) l → l.text.text ≡ [] → Took old s piece n what.Nothing l
+took_all old l s piece n e r t =
+    record { fits = omega arith; scanned = r.scanned; read = r.read; reads_as = r.reads_as; tells = r.none t; setting = r.setting; all = λ z. e; some = λ z. absurd (cc) }
+
+module _ (old l new : Reading) (s : reader.Scanning) (piece : List ℕ) (i : ℕ) (k : i < length piece) (r : ReadsOn old s (take i piece) l) where
+  abbrev byte : ℕ
+  byte = get_or piece i 0
+
+  taken : take (i + 1) piece ≡ take i piece ++ byte ∷ []
+  taken = take_more piece i 0 k
+
+  pub more_read : entries.Reads l byte (Ok what.Nothing) new → ReadsOn old s (take (i + 1) piece) new
+  more_read e = subst (λ (x : List ℕ). ReadsOn old s x new) (sym taken) (reads_more old l s (take i piece) r byte new e)
+
+  -- a token other than text is whole with the byte
+  pub took_token : (answer : What) → entries.Reads l byte (Ok answer) new → l.text.text ≡ [] → is_token answer ≡ true → Took old s piece (i + 1) answer new
+  took_token answer e t w =
+      let none = no_items old l s (take i piece) r t in
+      let g = reads l r.scanned.next r.reads_as byte (Ok answer) new e in
+      let drops : l.setting.drops ≡ old.setting.drops = ap (λ (x : Setting). x.drops) none.1 in
+      record {
+        fits = omega arith;
+        scanned = g.scanned;
+        read = ap (reader.scan_from old.setting.syntax old.setting.limits (spot_of old) s) taken ∙ (byte_on old l s (take i piece) r byte ∙ (ap (reader.with_items r.scanned.next r.scanned.items) g.is ∙ ap (λ x. Ok (record { next = g.scanned.next; items = x ++ g.scanned.items })) none.0));
+        reads_as = g.reads_as;
+        tells = subst (λ (b : Bool). Tells b answer g.scanned.items new) drops (told answer w g.scanned.items g.told);
+        setting = g.setting ∙ ap (λ x. setting_after answer new x g.scanned.items) none.1;
+        all = λ z. absurd (not_nothing answer w z);
+        some = λ z. omega arith;
+      }
+    where
+      told : (answer : What) → is_token answer ≡ true → (items : List Item) → Told l answer items new → Tells l.setting.drops answer items new
+      told what.Nothing w items h = absurd (cc)
+      told what.Skipped w items h = h.0
+      told what.Text w items h = absurd (cc)
+      told what.Section w items h = h.0
+      told what.Doctype w items h = h.0
+      told what.Tag w items h = h.0
+
+      not_nothing : (answer : What) → is_token answer ≡ true → is_nothing answer ≡ true → ⊥
+      not_nothing what.Nothing w z = cc
+      not_nothing what.Skipped w z = cc
+      not_nothing what.Text w z = cc
+      not_nothing what.Section w z = cc
+      not_nothing what.Doctype w z = cc
+      not_nothing what.Tag w z = cc
+
+  -- the byte decides a fault
+  pub faults : (fault : Fault) → entries.Reads l byte (Err (stop.Fault fault)) new → l.text.text ≡ [] → Faults old s piece fault
+  faults fault e t =
+      let none = no_items old l s (take i piece) r t in
+      let g = reads l r.scanned.next r.reads_as byte (Err (stop.Fault fault)) new e in
+      let here : reader.read_byte old.setting.syntax old.setting.limits (spot_of old) byte r.scanned.next ≡ Err g.kind = sym (same_byte old l s (take i piece) r byte) ∙ g.is in
+      let kind : g.kind ≡ fault.kind = sym (ap (λ (f : Fault). f.kind) g.fault_is) in
+      record {
+        n = i;
+        byte = byte;
+        next = r.scanned.next;
+        read = r.read ∙ ap (λ x. Ok (record { next = r.scanned.next; items = x })) none.0;
+        here = slice_get-get_or piece i 0 k;
+        decides = here ∙ ap Err kind;
+        is = g.fault_is ∙ ap (reader.fault_in r.scanned.next) kind;
+        first = ap (reader.scan_from old.setting.syntax old.setting.limits (spot_of old) s) (sym (take-append-drop (i + 1) piece) ∙ ap (λ x. x ++ drop (i + 1) piece) taken)
+            ∙ (on_append old.setting.syntax old.setting.limits (spot_of old) (Ok (record { next = s; items = [] })) (take i piece ++ byte ∷ []) (drop (i + 1) piece)
+            ∙ (ap (λ x. reader.scan_on old.setting.syntax old.setting.limits (spot_of old) x (drop (i + 1) piece)) (byte_on old l s (take i piece) r byte ∙ (ap (reader.with_items r.scanned.next r.scanned.items) g.is ∙ ap Err (sym g.fault_is)))
+            ∙ on_err old.setting.syntax old.setting.limits (spot_of old) fault (drop (i + 1) piece)));
+      }

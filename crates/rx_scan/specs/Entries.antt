@@ -1,0 +1,280 @@
+-- What the scanner does with one character.
+use Rattle.std.specs.Prelude.{◌≡◌, ℕ, ◌+◌, ◌≤◌, Bool, true, false, not, ◌&&◌, ◌||◌, ◌==◌, nat_le, MatchBool, List, [], ◌∷◌, ◌++◌, encode_utf8_all, slice_get, Option, Some, None, Result, Ok, Err, if◌then◌else◌}
+use Rattle.rx_terms.specs.Ascii.{ampersand, line_feed, solidus, less_than_sign, greater_than_sign, right_bracket}
+use Rattle.rx_terms.specs.Text.{Chars, is_empty}
+use Rattle.rx_chars.specs.declared.syntax.Syntax.{Syntax}
+use Rattle.rx_chars.specs.declared.utf8.Utf8Step.{Utf8Step}
+use Rattle.rx_chars.specs.declared.utf8.Utf8Step.TheVariants.{More, Char, Bad}
+use Rattle.rx_chars.specs.Utf8.{answer_of}
+use Rattle.rx_chars.specs.Characters.{byte_order_mark, carriage_return, as_line_end}
+use Rattle.rx_grammar.specs.declared.contents.Content.{Content}
+use Rattle.rx_grammar.specs.declared.faults.Fault.{Fault}
+use Rattle.rx_grammar.specs.declared.faults.Kind.{Kind}
+use Rattle.rx_grammar.specs.declared.faults.Kind.TheVariants.{BadDoctype, NotUtf8, Nul, PageTooLong, StrictText, TagTooLong}
+use Rattle.rx_grammar.specs.Tokens.{character}
+use Rattle.rx_grammar.specs.References.{meaning}
+use Rattle.rx_grammar.specs.Shapes.{begins_tag, ends_name}
+use Rattle.rx_grammar.specs.Items.{is_strict_literal}
+use Rattle.rx_reader.specs.declared.phases.RunPhase.{RunPhase}
+use Rattle.rx_reader.specs.declared.phases.RunPhase.TheVariants as run
+use Rattle.rx_reader.specs.Values.{no_meaning}
+use Rattle.rx_reader.specs.Tables.{is_last}
+use Rattle.rx_reader.specs.TagReader.{is_closing}
+use Rattle.rx_tags.specs.declared.stops.Stop.{Stop}
+use Rattle.rx_tags.specs.declared.stops.Stop.TheVariants as stop
+use Rattle.rx_tags.specs.declared.tag_text.TagStep.TheVariants as tag_step
+use Rattle.rx_tags.specs.declared.pairs.TagError.TheVariants as tag_error
+use Rattle.rx_tags.specs.TagBufs.{TagSoFar, no_tag, MayStep, StepGives}
+use Rattle.rx_scan.specs.declared.answers.What.{What}
+use Rattle.rx_scan.specs.declared.answers.What.TheVariants as what
+use Rattle.rx_scan.specs.declared.marks.Brackets.TheVariants as brackets
+use Rattle.rx_scan.specs.declared.marks.Mark.{Mark}
+use Rattle.rx_scan.specs.declared.marks.Mark.TheVariants as mark
+use Rattle.rx_scan.specs.declared.marks.Whole.{Whole}
+use Rattle.rx_scan.specs.declared.marks.Whole.TheVariants as whole
+use Rattle.rx_scan.specs.declared.marks.First.{First}
+use Rattle.rx_scan.specs.declared.marks.First.TheVariants as first
+use Rattle.rx_scan.specs.declared.marks.Move.{Move}
+use Rattle.rx_scan.specs.declared.marks.Move.TheVariants as move
+use Rattle.rx_scan.specs.declared.places.Place.{Place}
+use Rattle.rx_scan.specs.declared.places.Setting.{Setting}
+use Rattle.rx_scan.specs.Buffers.{Buffered}
+use Rattle.rx_scan.specs.Marks.{end_word, at_first, move_of}
+use Rattle.rx_scan.specs.Pending.{Pending, bracket_text}
+use Rattle.rx_scan.specs.Places.{holding, entered, begun, ended, cut}
+use Rattle.rx_scan.specs.Scanner.{Reading}
+
+-- whether the mark is a tag's, and whether it is one with the next character
+abbrev pub is_tag : Mark → Bool
+is_tag mark.Tag = true
+is_tag _ = false
+
+abbrev pub ends_word : Option ℕ → ℕ → Bool
+ends_word (Some d) c = false
+ends_word None c = ends_name c
+
+abbrev pub is_tag_with : Syntax → Content → Mark → ℕ → Bool
+is_tag_with syntax inside mark.LessThan c = c == solidus || begins_tag syntax c
+is_tag_with syntax inside (mark.RawEnd n) c = ends_word (slice_get (end_word inside) n) c
+is_tag_with syntax inside mark.Tag c = true
+is_tag_with syntax inside _ c = false
+
+-- where the token begins that the next character belongs to
+abbrev pub token_from : Mark → Place → ℕ
+token_from mark.Nothing p = p.starts
+token_from _ p = p.token
+
+abbrev pub fault_at : Reading → Kind → Fault
+fault_at v kind = record { kind = kind; token = token_from v.pending.mark v.place; at = v.place.at }
+
+-- what stands before the token may refuse it
+abbrev pub judged : Setting → Bool → ℕ → Move → Move
+judged setting two c move.Says = if two && is_strict_literal greater_than_sign setting.inside (character c) then move.Refuses StrictText else move.Says
+judged setting two c (move.Ends whole.Doctype) = if setting.leads then move.Ends whole.Doctype else move.Refuses BadDoctype
+judged setting two c other = other
+
+abbrev pub move_at : Reading → ℕ → Move
+move_at v c = judged v.setting v.place.two c (move_of v.setting.syntax v.setting.inside v.pending.mark c)
+
+-- a literal `]` of XHTML
+abbrev pub is_bracket : Setting → ℕ → Bool
+is_bracket setting c = is_strict_literal right_bracket setting.inside (character c)
+
+abbrev pub undropped : Setting → Setting
+undropped setting = record { syntax = setting.syntax; limits = setting.limits; inside = setting.inside; leads = setting.leads; drops = false }
+
+abbrev pub after_doctype : Setting → Setting
+after_doctype setting = record { syntax = setting.syntax; limits = setting.limits; inside = setting.inside; leads = false; drops = false }
+
+abbrev pub after_tag : Setting → Bool → Setting
+after_tag setting closing = record { syntax = setting.syntax; limits = setting.limits; inside = setting.inside; leads = setting.leads && closing; drops = false }
+
+-- the value with other parts
+abbrev pub with_parts : Reading → Setting → Place → Pending → Buffered → Reading
+with_parts v setting place pending text =
+    record { setting = setting; place = place; held = []; pending = pending; text = text; end = v.end }
+
+abbrev pub marked : Mark → Pending → Pending
+marked m p = record { mark = m; run = p.run; tag = p.tag }
+
+abbrev pub kept_by : Mark → ℕ → Pending → Pending
+kept_by m c p = record { mark = m; run = p.run ++ c ∷ []; tag = p.tag }
+
+-- the token goes on
+abbrev pub gone : Reading → Bool → Pending → Reading
+gone v after_return pending = with_parts v v.setting (entered after_return v.place) pending v.text
+
+-- a token begins
+abbrev pub with_begun : Reading → Bool → Mark → Reading
+with_begun v after_return m = with_parts v v.setting (begun after_return v.place) (record { mark = m; run = []; tag = no_tag v.pending.tag.syntax }) v.text
+
+-- a token is whole of which no text is told
+abbrev pub with_ended : Reading → Bool → Setting → Reading
+with_ended v after_return setting = with_parts v setting (ended after_return false v.place) (marked mark.Nothing v.pending) v.text
+
+-- the tag that was read is whole
+abbrev pub with_tag : Reading → Bool → Reading
+with_tag v after_return =
+    record { setting = after_tag v.setting (is_closing v.pending.tag.state.phase); place = ended after_return false v.place; held = []; pending = marked mark.Nothing v.pending; text = v.text; end = v.place.at }
+
+-- the text has one more character, unless it is a line feed that is dropped
+abbrev pub is_dropped : Setting → ℕ → Bool
+is_dropped setting c = setting.drops && c == line_feed
+
+-- the text behind which these characters stand
+pub record TextGrows (old new : Buffered) (more : Chars) : Type 0 where
+  pub text : new.text ≡ old.text ++ more
+  pub room : old.room ≤ new.room
+
+-- the same, by one character
+pub record TextGains (old new : Buffered) (c : ℕ) : Type 0 where
+  pub text : new.text ≡ old.text ++ c ∷ []
+  pub size : new.size ≤ old.size + 4
+  pub room : old.room ≤ new.room
+
+-- text is told, and what is left pending is `pending`
+pub record Tells (old : Reading) (place : Place) (pending : Pending) (new : Reading) (more : Chars) : Type 0 where
+  pub text : TextGrows old.text new.text more
+  pub is : new ≡ with_parts old (undropped old.setting) place pending new.text
+
+pub record TellsOne (old : Reading) (place : Place) (new : Reading) (c : ℕ) : Type 0 where
+  pub text : TextGains old.text new.text c
+  pub is : new ≡ with_parts old (undropped old.setting) place (marked mark.Nothing old.pending) new.text
+
+abbrev pub OrSpent : {A : Type 0} → Result A Stop → (A → Type 0) → Type 0
+OrSpent (Ok answer) P = P answer
+OrSpent (Err (stop.Fault f)) P = ⊥
+OrSpent (Err stop.NoMemory) P = Unit {0}
+
+-- one character of text, by itself or by a reference
+abbrev pub Says : Reading → ℕ → Place → Result What Stop → Reading → Type 0
+Says old c place (Ok what.Nothing) new = (is_dropped old.setting c ≡ false) × TellsOne old place new c
+Says old c place (Ok what.Skipped) new = (is_dropped old.setting c ≡ true) × (new ≡ with_parts old (undropped old.setting) place (marked mark.Nothing old.pending) old.text)
+Says old c place (Ok _) new = ⊥
+Says old c place (Err (stop.Fault f)) new = ⊥
+Says old c place (Err stop.NoMemory) new = Unit {0}
+
+abbrev pub Tags : Reading → ℕ → Bool → Pending → Result What Stop → Reading → Type 0
+Tags old c after_return pending (Ok what.Nothing) new =
+    (tag : TagSoFar) × StepGives old.pending.tag c (Ok tag_step.More) tag × (new ≡ gone old after_return (record { mark = pending.mark; run = pending.run; tag = tag }))
+Tags old c after_return pending (Ok what.Tag) new =
+    (tag : TagSoFar) × StepGives old.pending.tag c (Ok tag_step.Done) tag
+    × (new ≡ record { setting = after_tag old.setting (is_closing tag.state.phase); place = ended after_return false old.place; held = []; pending = record { mark = mark.Nothing; run = pending.run; tag = tag }; text = old.text; end = old.place.at })
+Tags old c after_return pending (Ok _) new = ⊥
+Tags old c after_return pending (Err (stop.Fault f)) new = (kind : Kind) × (tag : TagSoFar) × StepGives old.pending.tag c (Err (tag_error.Bad kind)) tag × (f ≡ fault_at old kind)
+Tags old c after_return pending (Err stop.NoMemory) new = Unit {0}
+
+-- the character with which a run begins that may stay text
+abbrev pub first_char : Mark → ℕ
+first_char (mark.Run p) = ampersand
+first_char _ = less_than_sign
+
+-- the run was text, and the character is read afresh
+abbrev pub Stops : Reading → ℕ → Bool → First → Result What Stop → Reading → Type 0
+Stops old c after_return (first.Begins m) result new =
+    OrSpent result (λ answer. (answer ≡ what.Nothing)
+    × Tells old (begun after_return (cut old.place)) (record { mark = m; run = []; tag = no_tag old.pending.tag.syntax }) new (first_char old.pending.mark ∷ old.pending.run))
+Stops old c after_return first.Says result new =
+    OrSpent result (λ answer. (answer ≡ what.Nothing)
+    × Tells old (ended after_return (is_bracket old.setting c) (cut old.place)) (marked mark.Nothing old.pending) new ((first_char old.pending.mark ∷ old.pending.run) ++ c ∷ []))
+Stops old c after_return (first.Refuses kind) result new = result ≡ Err (stop.Fault (fault_at old kind))
+
+-- the run is told, and its token is over
+pub record TellsRun (old new : Reading) : Type 0 where
+  pub text : TextGrows old.text new.text (first_char old.pending.mark ∷ old.pending.run)
+  pub is : new ≡ record { setting = undropped old.setting; place = cut old.place; held = old.held; pending = old.pending; text = new.text; end = old.end }
+
+abbrev pub phase_of : Mark → RunPhase
+phase_of (mark.Run p) = p
+phase_of _ = run.Plain
+
+abbrev pub Closes : Reading → Bool → Option ℕ → Result What Stop → Reading → Type 0
+Closes old after_return (Some d) result new = Says old d (ended after_return false old.place) result new
+Closes old after_return None result new = result ≡ Err (stop.Fault (fault_at old (no_meaning (phase_of old.pending.mark))))
+
+abbrev pub Ends : Reading → Bool → Whole → Result What Stop → Reading → Type 0
+Ends old after_return whole.Comment result new = (result ≡ Ok what.Skipped) × (new ≡ with_ended old after_return (undropped old.setting))
+Ends old after_return whole.Doctype result new = (result ≡ Ok what.Doctype) × (new ≡ with_ended old after_return (after_doctype old.setting))
+Ends old after_return whole.Section result new = (result ≡ Ok (if is_empty old.pending.run then what.Skipped else what.Section)) × (new ≡ with_ended old after_return (undropped old.setting))
+
+abbrev pub Went : Reading → Reading → Result What Stop → Reading → Type 0
+Went old next result new = OrSpent result (λ answer. (answer ≡ what.Nothing) × (new ≡ next))
+
+-- where a fault was answered
+abbrev pub IfFault : {A : Type 0} → Result A Stop → Type 0 → Type 0
+IfFault (Err (stop.Fault f)) P = P
+IfFault _ P = Unit {0}
+
+abbrev pub IsNoMemory : {A : Type 0} → Result A Stop → Bool
+IsNoMemory (Err stop.NoMemory) = true
+IsNoMemory _ = false
+
+-- Between tokens a fault changes nothing, and text that has room takes no memory.
+pub record Between (old : Reading) (result : Result What Stop) (new : Reading) : Type 0 where
+  pub unchanged : IfFault result (new ≡ old)
+  pub unspent : old.text.size + 4 ≤ old.text.room → IsNoMemory result ≡ false
+
+-- A tag is lent that is whole, or is read on; and the text keeps its room.
+abbrev pub MayGoOn : Result What Stop → Reading → Type 0
+MayGoOn (Ok what.Tag) new = (is_last new.pending.tag.state.phase ≡ true) × (new.pending.mark ≡ mark.Nothing)
+MayGoOn (Ok _) new = MayStep new.pending.tag
+MayGoOn (Err e) new = Unit {0}
+
+pub record IsReady (old : Reading) (result : Result What Stop) (new : Reading) : Type 0 where
+  pub may_go_on : MayGoOn result new
+  pub room : old.text.room ≤ new.text.room
+  pub text : IfFault result (new.text.text ≡ old.text.text)
+
+-- what one character does, by its move
+abbrev pub Enters : Reading → ℕ → Bool → Move → Result What Stop → Reading → Type 0
+Enters old c after_return (move.Begins m) result new = (result ≡ Ok what.Nothing) × (new ≡ with_begun old after_return m)
+Enters old c after_return (move.Goes m) result new = (result ≡ Ok what.Nothing) × (new ≡ gone old after_return (marked m old.pending))
+Enters old c after_return (move.Keeps m) result new = Went old (gone old after_return (kept_by m c old.pending)) result new
+Enters old c after_return (move.KeepsAfter b) result new =
+    Went old (gone old after_return (record { mark = mark.Section brackets.None; run = (old.pending.run ++ bracket_text b) ++ c ∷ []; tag = old.pending.tag })) result new
+Enters old c after_return move.Tags result new = Tags old c after_return (marked mark.Tag old.pending) result new
+Enters old c after_return (move.KeepsTag n) result new = Tags old c after_return (kept_by (mark.RawEnd n) c old.pending) result new
+Enters old c after_return move.Says result new = Says old c (ended after_return (is_bracket old.setting c) old.place) result new
+Enters old c after_return (move.Ends w) result new = Ends old after_return w result new
+Enters old c after_return move.Closes result new = Closes old after_return (meaning old.setting.syntax (encode_utf8_all old.pending.run)) result new
+Enters old c after_return move.Stops result new = Stops old c after_return (at_first old.setting.inside c) result new
+Enters old c after_return (move.Refuses kind) result new = result ≡ Err (stop.Fault (fault_at old kind))
+
+-- a byte order mark that stands first, and a line feed directly after a CR, aren't entered
+abbrev pub is_passed : Place → ℕ → Bool
+is_passed p c = not p.started && c == byte_order_mark || p.after_return && c == line_feed
+
+-- with the byte at `at` the tag has too many
+abbrev pub is_long : Reading → Bool → Bool
+is_long v known = known && nat_le (token_from v.pending.mark v.place + v.setting.limits.tag) v.place.at
+
+abbrev pub with_passed : Reading → Reading
+with_passed v = with_parts v v.setting (entered false v.place) v.pending v.text
+
+abbrev pub is_mark : ℕ → What
+is_mark c = if c == byte_order_mark then what.Skipped else what.Nothing
+
+-- what a whole character does
+abbrev pub ReadsChar : Reading → ℕ → Result What Stop → Reading → Type 0
+ReadsChar old c result new =
+    MatchBool (is_passed old.place c) ((result ≡ Ok (is_mark c)) × (new ≡ with_passed old))
+    (MatchBool (is_long old (is_tag_with old.setting.syntax old.setting.inside old.pending.mark (as_line_end c))) (result ≡ Err (stop.Fault (fault_at old TagTooLong)))
+    (Enters old (as_line_end c) (c == carriage_return) (move_at old (as_line_end c)) result new))
+
+abbrev pub with_held : Reading → List ℕ → Reading
+with_held v held =
+    record { setting = v.setting; place = holding v.place; held = held; pending = v.pending; text = v.text; end = v.end }
+
+abbrev pub ReadsAnswer : Reading → List ℕ → Utf8Step → Result What Stop → Reading → Type 0
+ReadsAnswer old held Bad result new = result ≡ Err (stop.Fault (fault_at old NotUtf8))
+ReadsAnswer old held More result new =
+    MatchBool (is_long old (is_tag old.pending.mark)) (result ≡ Err (stop.Fault (fault_at old TagTooLong))) ((result ≡ Ok what.Nothing) × (new ≡ with_held old held))
+ReadsAnswer old held (Char c) result new =
+    MatchBool (c == 0) (result ≡ Err (stop.Fault (fault_at old Nul)))
+    (MatchBool (is_long old (is_tag old.pending.mark)) (result ≡ Err (stop.Fault (fault_at old TagTooLong))) (ReadsChar old c result new))
+
+-- what a byte does
+abbrev pub Reads : Reading → ℕ → Result What Stop → Reading → Type 0
+Reads old byte result new =
+    MatchBool (nat_le old.setting.limits.page old.place.at) (result ≡ Err (stop.Fault (fault_at old PageTooLong)))
+    (ReadsAnswer old (old.held ++ byte ∷ []) (answer_of (old.held ++ byte ∷ [])) result new)

@@ -1,0 +1,7 @@
+pub mod Marks
+pub mod Pending
+pub mod Buffers
+pub mod Places
+pub mod Scanner
+pub mod Entries
+pub mod Steps

@@ -1,0 +1,21 @@
+-- Where the scanner stands, after each kind of byte.
+use Rattle.std.specs.Prelude.{◌+◌, Bool, true, false, ◌&&◌}
+use Rattle.rx_scan.specs.declared.places.Place.{Place}
+
+abbrev pub at_first : Place
+at_first = record { at = 0; starts = 0; token = 0; started = false; after_return = false; two = false; last = false }
+
+abbrev pub holding : Place → Place
+holding p = record { at = p.at + 1; starts = p.starts; token = p.token; started = p.started; after_return = p.after_return; two = p.two; last = p.last }
+
+abbrev pub entered : Bool → Place → Place
+entered after_return p = record { at = p.at + 1; starts = p.at + 1; token = p.token; started = true; after_return = after_return; two = p.two; last = p.last }
+
+abbrev pub begun : Bool → Place → Place
+begun after_return p = record { at = p.at + 1; starts = p.at + 1; token = p.starts; started = true; after_return = after_return; two = p.two; last = p.last }
+
+abbrev pub ended : Bool → Bool → Place → Place
+ended after_return bracket p = record { at = p.at + 1; starts = p.at + 1; token = p.token; started = true; after_return = after_return; two = p.last && bracket; last = bracket }
+
+abbrev pub cut : Place → Place
+cut p = record { at = p.at; starts = p.starts; token = p.token; started = p.started; after_return = p.after_return; two = false; last = false }

@@ -1,0 +1,135 @@
+//! What the scanner does with one byte.
+ghost use Rattle.std.specs.Prelude.{◌≡◌, ◌+◌, ◌<◌, ◌^◌, [], ◌∷◌, ◌++◌};
+ghost use Rattle.rx_chars.specs.Characters as characters;
+ghost use Rattle.rx_chars.specs.Utf8.{answer_of};
+ghost use Rattle.rx_scan.specs.Entries as entries;
+ghost use Rattle.rx_tags.specs.TagBufs.{MayStep};
+
+use crate::answers::What;
+use crate::marks::Mark;
+use crate::moves::is_tag_with;
+use crate::places::{Place, reaches};
+use crate::readers::Reader;
+use rx_chars::{Utf8, Utf8Step};
+use rx_grammar::Kind;
+use rx_tags::Stop;
+
+fn is_tag(mark: Mark) -> bool
+    ensures { result ≡ entries.is_tag mark }
+{
+    mark == Mark::Tag
+}
+
+fn is_passed(place: Place, c: char) -> bool
+    ensures { result ≡ entries.is_passed place c }
+{
+    !place.started && c == '\u{FEFF}' || place.after_return && c == '\n'
+}
+
+fn as_line_end(c: char) -> char
+    ensures { result ≡ characters.as_line_end c }
+{
+    if c == '\r' { '\n' } else { c }
+}
+
+fn is_mark(c: char) -> What
+    ensures { result ≡ entries.is_mark c }
+{
+    if c == '\u{FEFF}' {
+        What::Skipped
+    } else {
+        What::Nothing
+    }
+}
+
+fn hold_byte(utf8: &mut Utf8, byte: u8)
+    requires { answer_of (utf8.old ++ byte ∷ []) ≡ Utf8Step.More }
+    ensures { utf8.new ≡ utf8.old ++ byte ∷ [] }
+{
+    utf8.step(byte);
+}
+
+impl Reader {
+    // Whether with the next byte a tag has too many, where it is known to be one.
+    fn is_long(&self, known: bool) -> bool
+        ensures { result ≡ entries.is_long self.now known }
+    {
+        known && reaches(self.token(), self.setting.limits.tag, self.place.at)
+    }
+
+    fn pass(&mut self)
+        requires { self.old.place.at + 1 < 2 ^ 64 }
+        ensures { self.new ≡ entries.with_passed self.old }
+    {
+        self.place = self.place.passed();
+        self.utf8 = Utf8::new();
+    }
+
+    fn read_char(&mut self, c: char) -> Result<What, Stop>
+        requires may_step { MayStep self.old.pending.tag }
+        requires room { self.old.place.at + 1 < 2 ^ 64 }
+        ensures reads { entries.ReadsChar self.old c result self.new }
+        ensures between { self.old.pending.mark ≡ Mark.Nothing → entries.Between self.old result self.new }
+        ensures ready { entries.IsReady self.old result self.new }
+    {
+        if is_passed(self.place, c) {
+            self.pass();
+            return Ok(is_mark(c));
+        }
+        let value = as_line_end(c);
+        let setting = self.setting;
+        if self.is_long(is_tag_with(setting.syntax, setting.inside, self.pending.mark(), value)) {
+            return Err(Stop::Fault(self.fault_at(Kind::TagTooLong)));
+        }
+        self.read_entry(value, c == '\r')
+    }
+
+    fn read_whole(&mut self, c: char) -> Result<What, Stop>
+        requires may_step { MayStep self.old.pending.tag }
+        requires room { self.old.place.at + 1 < 2 ^ 64 }
+        ensures reads { entries.ReadsAnswer self.old [] (Utf8Step.Char c) result self.new }
+        ensures between { self.old.pending.mark ≡ Mark.Nothing → entries.Between self.old result self.new }
+        ensures ready { entries.IsReady self.old result self.new }
+    {
+        if c == '\0' {
+            return Err(Stop::Fault(self.fault_at(Kind::Nul)));
+        }
+        if self.is_long(is_tag(self.pending.mark())) {
+            return Err(Stop::Fault(self.fault_at(Kind::TagTooLong)));
+        }
+        self.read_char(c)
+    }
+
+    fn hold(&mut self, byte: u8) -> Result<What, Stop>
+        requires may_step { MayStep self.old.pending.tag }
+        requires room { self.old.place.at + 1 < 2 ^ 64 }
+        requires begun { answer_of (self.old.held ++ byte ∷ []) ≡ Utf8Step.More }
+        ensures reads { entries.ReadsAnswer self.old (self.old.held ++ byte ∷ []) Utf8Step.More result self.new }
+        ensures between { self.old.pending.mark ≡ Mark.Nothing → entries.Between self.old result self.new }
+        ensures ready { entries.IsReady self.old result self.new }
+    {
+        if self.is_long(is_tag(self.pending.mark())) {
+            return Err(Stop::Fault(self.fault_at(Kind::TagTooLong)));
+        }
+        hold_byte(&mut self.utf8, byte);
+        self.place = self.place.holding();
+        Ok(What::Nothing)
+    }
+
+    /// Reads one more byte. At a fault nothing is changed where no token is begun.
+    pub(crate) fn read(&mut self, byte: u8) -> Result<What, Stop>
+        requires { MayStep self.old.pending.tag }
+        ensures reads { entries.Reads self.old byte result self.new }
+        ensures between { self.old.pending.mark ≡ Mark.Nothing → entries.Between self.old result self.new }
+        ensures ready { entries.IsReady self.old result self.new }
+    {
+        if self.place.at >= self.setting.limits.page {
+            return Err(Stop::Fault(self.fault_at(Kind::PageTooLong)));
+        }
+        match self.utf8.peek(byte) {
+            Utf8Step::Bad => Err(Stop::Fault(self.fault_at(Kind::NotUtf8))),
+            Utf8Step::Char(c) => self.read_whole(c),
+            Utf8Step::More => self.hold(byte),
+        }
+    }
+}

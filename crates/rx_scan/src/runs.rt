@@ -1,0 +1,97 @@
+//! The bytes of a piece, up to the end of a token.
+ghost use Rattle.std.specs.Prelude.{◌≡◌, ◌≢◌, ◌+◌, ◌≤◌, ◌⊎◌, ℕ, [], true, false};
+ghost use Rattle.rx_pages.specs.PageReader.{Scanning};
+ghost use Rattle.rx_tags.specs.TagBufs.{MayStep};
+ghost use Rattle.rx_scan.specs.Entries.{IsNoMemory};
+ghost use Rattle.rx_scan.specs.Steps.{ReadsAs, Runs, RunsReady, RunsTake, is_quiet, is_token, stopped_at};
+
+use crate::answers::What;
+use crate::marks::Mark;
+use crate::readers::Reader;
+use rx_tags::Stop;
+
+/// The bytes that the text of one step may have, and the last character's.
+pub(crate) const ROOM: usize = 4096;
+
+fn is_token(what: What) -> bool
+    ensures { result ≡ is_token what }
+{
+    !matches!(what, What::Nothing | What::Text)
+}
+
+impl Reader {
+    /// Whether no token is unfinished.
+    pub(crate) fn is_whole(&self) -> bool
+        ensures whole { result ≡ true → (self.now.pending.mark ≡ Mark.Nothing) × (self.now.held ≡ []) }
+        ensures part { result ≡ false → self.now.pending.mark ≡ Mark.Nothing → self.now.held ≢ [] }
+    {
+        match self.pending.mark() {
+            Mark::Nothing => self.utf8.is_whole(),
+            _ => false,
+        }
+    }
+
+    // Whether text is to be handed out, because a token has begun or the room is used up.
+    fn must_show(&self) -> bool
+        ensures some { result ≡ true → self.now.text.text ≢ [] }
+        ensures apart { result ≡ false → (self.now.text.text ≡ []) ⊎ (self.now.pending.mark ≡ Mark.Nothing) }
+        ensures room { result ≡ false → self.now.text.size + 4 ≤ ROOM }
+    {
+        if self.text.is_empty() {
+            return false;
+        }
+        self.pending.mark() != Mark::Nothing || self.text.len() > ROOM - 4
+    }
+
+    // What the piece tells at its end.
+    fn rest(&self) -> What
+        ensures text { result ≡ What.Text → self.now.text.text ≢ [] }
+        ensures nothing { result ≡ What.Nothing → self.now.text.text ≡ [] }
+        ensures either { is_token result ≡ false }
+    {
+        if self.text.is_empty() {
+            What::Nothing
+        } else {
+            What::Text
+        }
+    }
+
+    /// Takes bytes of the piece up to the end of a token, or all of them.
+    pub(crate) fn run(&mut self, piece: &[u8]) -> Result<(usize, What), Stop>
+        requires may_step { MayStep self.old.pending.tag }
+        requires none { self.old.text.text ≡ [] }
+        requires size { self.old.text.size ≡ 0 }
+        requires room { ROOM ≤ self.old.text.room }
+        ensures runs { (s : Scanning) → ReadsAs self.old s → Runs self.old s piece.now result self.new }
+        ensures ready { RunsReady result self.new }
+        ensures takes { RunsTake piece.now result }
+        ensures quiet { self.old.pending.mark ≡ Mark.Nothing → is_quiet piece.now ≡ true → IsNoMemory result ≡ false }
+    {
+        let mut taken = 0;
+        for byte in piece {
+            match self.read(*byte) {
+                Err(stop) => return self.stopped(taken, stop),
+                Ok(what) => {
+                    taken += 1;
+                    if is_token(what) {
+                        return Ok((taken, what));
+                    }
+                }
+            }
+            if self.must_show() {
+                return Ok((taken, What::Text));
+            }
+        }
+        Ok((taken, self.rest()))
+    }
+
+    // Text that was read before a fault is handed out first.
+    fn stopped(&self, taken: usize, stop: Stop) -> Result<(usize, What), Stop>
+        ensures { result ≡ stopped_at self.now.text.text taken stop }
+    {
+        match stop {
+            Stop::Fault(_) if !self.text.is_empty() => Ok((taken, What::Text)),
+            Stop::Fault(_) | Stop::NoMemory => Err(stop),
+        }
+    }
+}

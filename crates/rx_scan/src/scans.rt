@@ -1,0 +1,243 @@
+//! The scanner.
+ghost use Rattle.std.specs.Prelude.{◌≡◌, ℕ, true, false, IfOk};
+
+use crate::answers::{Token, What};
+use crate::buffers::Buffer;
+use crate::marks::Mark;
+use crate::pending::Unfinished;
+use crate::places::{Place, Setting};
+use crate::readers::Reader;
+use crate::runs::ROOM;
+use rx_chars::{Syntax, Utf8};
+use rx_grammar::{Content, Fault, Kind, Limits};
+use rx_tags::{Stop, Tag};
+use rx_terms::NoMemory;
+use std::alloc::Global;
+use std::marker::Model;
+
+/// Reads a page's bytes in pieces, and tells its tokens. A contract sees what it stands for: the place, the bytes of a
+/// character that isn't whole, and the characters since the last token; and whether a fault or want of memory was
+/// answered, which then comes again.
+#[derive(Drop)]
+pub struct Scan {
+    reader: Reader,
+    what: What,
+    stepped: bool,
+    failed: Option<Fault>,
+    spent: bool,
+}
+
+impl Model for Scan {
+    ghost use Rattle.rx_scan.specs.Scanner.{Scanner};
+    ghost use Rattle.rx_scan.specs.Steps.{MayShow};
+
+    ghost Value = { Scanner };
+
+    ghost view = { λ s. record { reading = s.reader; what = s.what; stepped = s.stepped; failed = s.failed; spent = s.spent } };
+
+    ghost invariant = { λ s. MayShow s.what s.stepped s.reader };
+}
+
+impl Scan {
+    ghost use Rattle.rx_pages.specs.PageReader.{Scanning, no_bytes};
+    ghost use Rattle.rx_scan.specs.Steps.{Stands, first_setting, is_of_syntax, may_enter, inside_of, Finishes};
+
+    /// Before the first byte of a page, in content Outside. It takes the memory of the buffer through which text is
+    /// handed out, so text by itself asks for no memory later.
+    pub fn new(alloc: Global, syntax: Syntax, limits: Limits) -> Result<Scan, NoMemory>
+        ensures setting { IfOk result (λ v. v.reading.setting ≡ first_setting syntax limits) }
+        ensures stands { IfOk result (λ v. Stands v no_bytes) }
+        ensures enter { IfOk result (λ v. v.stepped ≡ false) }
+    {
+        let text = Buffer::with_room(alloc, ROOM)?;
+        let pending = Unfinished::new(alloc, syntax)?;
+        let setting = Setting {
+            syntax,
+            limits,
+            inside: Content::Outside,
+            leads: true,
+            drops: false,
+        };
+        Ok(Scan {
+            reader: Reader {
+                setting,
+                place: Place::first(),
+                utf8: Utf8::new(),
+                pending,
+                text,
+                end: 0,
+            },
+            what: What::Nothing,
+            stepped: false,
+            failed: None,
+            spent: false,
+        })
+    }
+
+    /// Sets the content for what follows, and whether a line feed that comes next is dropped. It may be called where the
+    /// last step answered a tag or no step was made, with a content of the syntax.
+    pub fn enter(&mut self, content: Content, drop_newline: bool)
+        requires between { may_enter self.old ≡ true }
+        requires content { is_of_syntax self.old.reading.setting.syntax content ≡ true }
+        ensures new { self.new ≡ inside_of content drop_newline self.old }
+        ensures stands { (s : Scanning) → Stands self.old s → Stands self.new s }
+    {
+        self.set(content, drop_newline);
+    }
+
+    fn set(&mut self, content: Content, drop_newline: bool)
+        ensures new { self.new ≡ inside_of content drop_newline self.old }
+        ensures between { may_enter self.old ≡ true → self.old.reading.pending.mark ≡ Mark.Nothing }
+    {
+        self.reader.setting = Setting {
+            inside: content,
+            drops: drop_newline,
+            ..self.reader.setting
+        };
+    }
+
+    /// The page's end. Unended comes exactly where a token is unfinished, and then at each later call.
+    pub fn end(&mut self) -> Result<(), Stop>
+        ensures { Finishes self.old result self.new }
+    {
+        if self.spent {
+            return Err(Stop::NoMemory);
+        }
+        if let Some(fault) = self.failed {
+            return Err(Stop::Fault(fault));
+        }
+        if self.reader.is_whole() {
+            return Ok(());
+        }
+        let fault = self.reader.fault_at(Kind::Unended);
+        self.failed = Some(fault);
+        Err(Stop::Fault(fault))
+    }
+
+    /// The number of bytes taken.
+    pub fn place(&self) -> u64
+        ensures place { result ≡ self.now.reading.place.at }
+        ensures taken { (s : Scanning) → Stands self.now s → result ≡ s.at }
+    {
+        self.reader.place.at
+    }
+}
+
+impl Scan {
+    ghost use Rattle.rx_pages.specs.PageReader.{Scanning};
+    ghost use Rattle.std.specs.Borrow.{sem};
+    ghost use Rattle.std.specs.Io.BufRead.{Rests};
+    ghost use Rattle.rx_scan.specs.contracts.scans.Scan.{the_row};
+    ghost use Rattle.std.specs.Prelude.{[], None, Some};
+    ghost use Rattle.rx_reader.specs.TagReader.{parts_of};
+    ghost use Rattle.rx_scan.specs.Entries.{IsNoMemory};
+    ghost use Rattle.rx_scan.specs.Steps.{Stands, Steps, Keeps, KeepsOn, Advances, Prepared, FailsBy, Shows, ShowsTag, IsLastTag, is_quiet};
+
+    // What the last step told is forgotten.
+    fn prepare(&mut self)
+        ensures { Prepared self.old self.new }
+    {
+        if self.what == What::Tag {
+            self.reader.pending.forget_tag();
+        }
+        self.reader.text.clear();
+        self.what = What::Nothing;
+        self.stepped = true;
+    }
+
+    // Answers this from now on.
+    fn fail(&mut self, stop: Stop)
+        requires { self.old.what ≡ What.Nothing }
+        ensures { FailsBy stop self.old self.new }
+    {
+        match stop {
+            Stop::Fault(fault) => self.failed = Some(fault),
+            Stop::NoMemory => self.spent = true,
+        }
+    }
+
+    fn advance(&mut self, piece: &[u8]) -> Result<usize, Stop>
+        ensures steps { (s : Scanning) → Stands self.old s → Advances self.old s piece.now result self.new }
+        ensures keeps { KeepsOn self.old piece.now result self.new }
+        ensures quiet { (s : Scanning) → Stands self.old s → s.run ≡ [] → is_quiet piece.now ≡ true → IsNoMemory result ≡ false }
+    {
+        if self.spent {
+            self.prepare();
+            return Err(Stop::NoMemory);
+        }
+        if let Some(fault) = self.failed {
+            self.prepare();
+            return Err(Stop::Fault(fault));
+        }
+        self.prepare();
+        match self.reader.run(piece) {
+            Ok((taken, what)) => {
+                self.what = what;
+                Ok(taken)
+            }
+            Err(stop) => {
+                self.reader.pending.forget_tag();
+                self.fail(stop);
+                Err(stop)
+            }
+        }
+    }
+
+    /// Takes bytes of the piece up to the end of a token, or all of them, and tells how many and what they are.
+    ///
+    /// `More` comes exactly where the whole piece was taken and no token is complete. A fault comes exactly where the
+    /// scanner's reading has one in the bytes so far, before a token is complete, and then at each later call. After
+    /// want of memory nothing else is answered. Text by itself takes no memory.
+    pub fn step(&mut self, piece: &[u8]) -> Result<(usize, Token<'_>), Stop>
+        ensures* after { sem 𝓛 (Rests the_row self.entry (λ new. Keeps self.old piece.now result new × ((s : Scanning) → Stands self.old s → Steps self.old s piece.now result new))) }
+        ensures quiet { (s : Scanning) → Stands self.old s → s.run ≡ [] → is_quiet piece.now ≡ true → IsNoMemory result ≡ false }
+    {
+        let taken = self.advance(piece)?;
+        Ok((taken, self.shown()))
+    }
+
+    fn shown(&self) -> Token<'_>
+        ensures { Shows self.now.what self.now.reading result }
+    {
+        match self.what {
+            What::Nothing => Token::More,
+            What::Skipped => Token::Skipped,
+            What::Doctype => Token::Doctype,
+            What::Text => Token::Text(self.reader.text.as_str()),
+            What::Section => Token::Text(self.reader.pending.run().as_str()),
+            What::Tag => self.shown_tag(),
+        }
+    }
+
+    fn tag(&self) -> Tag<'_>
+        requires { self.now.what ≡ What.Tag }
+        ensures { ShowsTag self.now.reading (parts_of self.now.reading.pending.tag.state).closing result }
+    {
+        self.reader
+            .pending
+            .tag(self.reader.place.token, self.reader.end)
+    }
+
+    fn shown_tag(&self) -> Token<'_>
+        requires { self.now.what ≡ What.Tag }
+        ensures { Shows What.Tag self.now.reading result }
+    {
+        let tag = self.tag();
+        if tag.closing() {
+            Token::End(tag)
+        } else {
+            Token::Start(tag)
+        }
+    }
+
+    /// The tag that the last step answered, or none where it answered no tag, or no step was made.
+    pub fn last(&self) -> Option<Tag<'_>>
+        ensures { IsLastTag self.now result }
+    {
+        if self.what == What::Tag {
+            Some(self.tag())
+        } else {
+            None
+        }
+    }
+}
