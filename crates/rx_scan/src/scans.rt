@@ -193,10 +193,11 @@ impl Scan {
         ensures quiet { (s : Scanning) → Stands self.old s → s.run ≡ [] → is_quiet piece.now ≡ true → IsNoMemory result ≡ false }
     {
         let taken = self.advance(piece)?;
-        Ok((taken, self.shown()))
+        Ok((taken, self.token()))
     }
 
-    fn shown(&self) -> Token<'_>
+    /// What the last step answered, for a caller that has let go of it.
+    pub fn token(&self) -> Token<'_>
         ensures { Shows self.now.what self.now.reading result }
     {
         match self.what {
