@@ -50,17 +50,17 @@ trimmed-white a b ha hb = ap (λ (x : Chars). reverse (without_leading_space (re
 
 -- Bytes
 
-same-white : (c : ℕ) → is_ascii_whitespace c ≡ is_white_space c
+pub same-white : (c : ℕ) → is_ascii_whitespace c ≡ is_white_space c
 same-white c = by_test (is_white_space c) (λ t. grind (arith, nat_tests)) (λ t. grind (arith, nat_tests))
 
-white-below : (c : ℕ) → is_white_space c ≡ true → is_ascii c ≡ true
+pub white-below : (c : ℕ) → is_white_space c ≡ true → is_ascii c ≡ true
 white-below c h = grind (arith, nat_tests)
 
-each-white : (xs : List ℕ) → ((i : ℕ) → i < length xs → is_ascii_whitespace (get_or xs i 0) ≡ true) → list_all is_white_space xs ≡ true
+pub each-white : (xs : List ℕ) → ((i : ℕ) → i < length xs → is_ascii_whitespace (get_or xs i 0) ≡ true) → list_all is_white_space xs ≡ true
 each-white [] h = refl
 each-white (x ∷ xs) h = and_from _ _ (sym (same-white x) ∙ h 0 (omega arith)) (each-white xs (λ i l. h (suc i) (omega arith)))
 
-white-ascii : (xs : List ℕ) → list_all is_white_space xs ≡ true → list_all is_ascii xs ≡ true
+pub white-ascii : (xs : List ℕ) → list_all is_white_space xs ≡ true → list_all is_ascii xs ≡ true
 white-ascii [] h = refl
 white-ascii (x ∷ xs) h = let p = and_parts _ _ h in and_from _ _ (white-below x p.0) (white-ascii xs p.1)
 
@@ -87,7 +87,7 @@ last-white front last bs e h =
       differ : (b : Bool) → b ≡ true → b ≡ false → ⊥
       differ b p q = cc
 
-nonempty-bytes : (c : ℕ) (cs bs : List ℕ) → encode_utf8_all (c ∷ cs) ≡ bs → 0 < length bs
+pub nonempty-bytes : (c : ℕ) (cs bs : List ℕ) → encode_utf8_all (c ∷ cs) ≡ bs → 0 < length bs
 nonempty-bytes c cs bs e = omega (arith, ap length e, length-append (encode_utf8 c) (encode_utf8_all cs), length-encode c, len_utf8_bounds c)
 
 middle : (a b r : List ℕ) (cs : Chars) → encode_utf8_all cs ≡ r → list_all is_white_space a ≡ true → list_all is_white_space b ≡ true

@@ -1,0 +1,57 @@
+-- The code's facts and readings as those of the rules.
+use Rattle.std.specs.Prelude.{List, map, option_map}
+use Rattle.std.specs.Str.{chars}
+use Rattle.rx_rdfa.specs.Facts.{ElementKind, Head, Body, Time, Other, Ref, IriRef, LabelRef, RelativeRef, Datatype, Empty, Is, Facts}
+use Rattle.rx_rdfa.specs.Readings.{Reading, Full, Joined, Label, Reference}
+use Rattle.rx_curie.specs.declared.facts.ElementKind.{ElementKind as CodeKind}
+use Rattle.rx_curie.specs.declared.facts.ElementKind.TheVariants as code_kind
+use Rattle.rx_curie.specs.declared.refs.Ref.{Ref as CodeRef}
+use Rattle.rx_curie.specs.declared.refs.Ref.TheVariants as code_ref
+use Rattle.rx_curie.specs.declared.facts.Datatype.{Datatype as CodeDatatype}
+use Rattle.rx_curie.specs.declared.facts.Datatype.TheVariants as code_datatype
+use Rattle.rx_curie.specs.declared.facts.Facts.{Facts as CodeFacts}
+use Rattle.rx_curie.specs.declared.readings.Reading.{Reading as CodeReading}
+use Rattle.rx_curie.specs.declared.readings.Reading.TheVariants as code_reading
+
+abbrev pub kind_seen : CodeKind → ElementKind
+kind_seen code_kind.Head = Head
+kind_seen code_kind.Body = Body
+kind_seen code_kind.Time = Time
+kind_seen code_kind.Other = Other
+
+abbrev pub ref_seen : CodeRef → Ref
+ref_seen (code_ref.Iri iri) = IriRef iri
+ref_seen (code_ref.Label label) = LabelRef label
+ref_seen (code_ref.Relative reference) = RelativeRef reference
+
+abbrev pub refs_seen : List CodeRef → List Ref
+refs_seen list = map ref_seen list
+
+abbrev pub datatype_seen : CodeDatatype → Datatype
+datatype_seen code_datatype.Empty = Empty
+datatype_seen (code_datatype.Is iri) = Is iri
+
+abbrev pub reading_seen : CodeReading → Reading
+reading_seen (code_reading.Full iri) = Full (chars iri.now)
+reading_seen (code_reading.Joined iri more) = Joined (chars iri.now) (chars more.now)
+reading_seen (code_reading.Label label) = Label (chars label.now)
+reading_seen (code_reading.Reference reference) = Reference (chars reference.now)
+
+abbrev pub facts_seen : CodeFacts → Facts
+facts_seen facts = record {
+  kind = kind_seen facts.element;
+  about = option_map ref_seen facts.about;
+  resource = option_map ref_seen facts.resource;
+  href = option_map ref_seen facts.href;
+  src = option_map ref_seen facts.src;
+  rel = facts.rel;
+  rev = facts.rev;
+  property = facts.property;
+  types = option_map refs_seen facts.types;
+  content = facts.content;
+  datetime = facts.datetime;
+  datatype = option_map datatype_seen facts.datatype;
+  inlist = facts.inlist;
+  vocab = facts.vocab;
+  lang = facts.lang;
+}

@@ -1,0 +1,104 @@
+-- What a tag declares, one declaration after another.
+use Rattle.std.proofs.Common.{◌≡◌, ◌≢◌, ◌∙◌, ℕ, ◌+◌, ◌<◌, ap, sym, subst, refl, arith, Bool, true, false, not, ◌&&◌, ◌==◌, cond, Option, Some, None, List, [], ◌∷◌, ◌++◌, map, reverse, filter, take, drop, length, get_or, bytes_eq, codes, append_assoc, Result, Ok, Err, OnOk, MatchOption, Bor}
+use Rattle.std.specs.List.{flat_map, list_all}
+use Rattle.std.specs.Str.{chars, IsUtf8}
+use Rattle.std.proofs.lemmas.Bool.{and_from}
+use Rattle.std.proofs.lemmas.Bool.Decides.{nat_tests}
+use Rattle.std.proofs.lemmas.Grind.{flat_map-append}
+use Rattle.std.proofs.lemmas.List.{map-append, take_more, append-nil, reverse-append, reverse-reverse}
+use Rattle.std.proofs.lemmas.Slice.Eq.{bytes_eq-Decides}
+use Rattle.rx_terms.specs.Ascii.{lowered_char, colon}
+use Rattle.rx_terms.specs.Text.{Chars, trimmed, lowered, tokens, begins_with}
+use Rattle.rx_terms.specs.Iri.{has_scheme}
+use Rattle.rx_terms.proofs.CharLemmas.{ascii-chars}
+use Rattle.rx_refs.specs.Views.{seen_slice}
+use Rattle.rx_refs.proofs.PartLemmas.{by_test}
+use Rattle.rx_rdfa.specs.Names.{Table, counts, xmlns_of, prefix_name, without_colon, pairs_after, pairs}
+use Rattle.rx_names.specs.declared.rows.Row.{Row}
+use Rattle.rx_names.specs.Rows.{mapping_rows, prefix_row}
+
+pub becomes : {A E : Type 0} (r : Result A E) (new a b : List Row) → a ≡ b → OnOk r (new ≡ a) → OnOk r (new ≡ b)
+becomes (Ok x) new a b e h = h ∙ e
+becomes (Err x) new a b e h = tt
+
+-- Mappings
+
+filter-append : {A : Type 0} (p : A → Bool) (xs ys : List A) → filter p (xs ++ ys) ≡ filter p xs ++ filter p ys
+filter-append p [] ys = refl
+filter-append p (x ∷ xs) ys = by_test (p x) (λ t. rw t (ap (λ l. x ∷ l) (filter-append p xs ys))) (λ t. rw t (filter-append p xs ys))
+
+pub mapping-append : (a b : Table) → mapping_rows (a ++ b) ≡ mapping_rows a ++ mapping_rows b
+mapping-append a b = ap (map prefix_row) (filter-append counts a b) ∙ map-append prefix_row (filter counts a) (filter counts b)
+
+lowered-char : (c : ℕ) → lowered_char (lowered_char c) ≡ lowered_char c
+lowered-char c = grind (arith, nat_tests)
+
+pub lowered-lowered : (text : Chars) → lowered (lowered text) ≡ lowered text
+lowered-lowered [] = refl
+lowered-lowered (c ∷ text) = cons_same _ _ _ _ (lowered-char c) (lowered-lowered text) where
+  cons_same : (c d : ℕ) (xs ys : Chars) → c ≡ d → xs ≡ ys → c ∷ xs ≡ d ∷ ys
+  cons_same c d xs ys e f = cc
+
+pub sound-mapping : (name low iri : Chars) (b : Bool) → low ≡ lowered name → b ≡ counts (low, iri) → b ≡ true → (bytes_eq (lowered low) low && has_scheme iri) ≡ true
+sound-mapping name low iri b e f t =
+    let same : lowered low ≡ low = ap lowered e ∙ lowered-lowered name ∙ sym e in
+    let whole : counts (low, iri) ≡ true = sym f ∙ t in
+    and_from _ _ ((bytes_eq-Decides (lowered low) low).1 same) (last_and _ (has_scheme iri) whole) where
+      last_and : (x y : Bool) → (x && y) ≡ true → y ≡ true
+      last_and true y h = h
+      last_and false y h = absurd (cc h)
+
+-- Attributes `xmlns:NAME`
+
+xmlns-chars : chars (codes "xmlns:") ≡ codes "xmlns:"
+xmlns-chars = ascii-chars (codes "xmlns:") refl
+
+pub no-namespace : (name value : Chars) → begins_with (chars (codes "xmlns:")) name ≡ false → mapping_rows (xmlns_of (name, value)) ≡ []
+no-namespace name value h = let none : begins_with (codes "xmlns:") name ≡ false = sym (ap (λ (x : Chars). begins_with x name) xmlns-chars) ∙ h in ap mapping_rows (go none) where
+  go : begins_with (codes "xmlns:") name ≡ false → xmlns_of (name, value) ≡ []
+  go e = ap (λ b. cond b ((lowered (drop 6 name), trimmed value) ∷ []) []) e
+
+pub one-namespace : (name value rest clean : Chars) → name ≡ chars (codes "xmlns:") ++ rest → clean ≡ trimmed value → mapping_rows ((lowered rest, clean) ∷ []) ≡ mapping_rows (xmlns_of (name, value))
+one-namespace name value rest clean e f =
+    let whole : name ≡ codes "xmlns:" ++ rest = e ∙ ap (λ (x : Chars). x ++ rest) xmlns-chars in
+    ap (λ (x : Chars). mapping_rows ((lowered rest, x) ∷ [])) f ∙ sym (ap (λ (x : Chars). mapping_rows (xmlns_of (x, value))) whole)
+
+-- one attribute more
+pub more-namespaces : (attributes : List (Chars × Chars)) (i : ℕ) (a : Chars × Chars) (old rows new : List Row) → i < length attributes → get_or attributes i a ≡ a
+    → rows ≡ old ++ mapping_rows (flat_map xmlns_of (take i attributes)) → new ≡ rows ++ mapping_rows (xmlns_of a) → new ≡ old ++ mapping_rows (flat_map xmlns_of (take (i + 1) attributes))
+more-namespaces attributes i a old rows new within is e f =
+    let whole : take (i + 1) attributes ≡ take i attributes ++ a ∷ [] = take_more attributes i a within ∙ ap (λ (x : Chars × Chars). take i attributes ++ x ∷ []) is in
+    let cut : flat_map xmlns_of (take (i + 1) attributes) ≡ flat_map xmlns_of (take i attributes) ++ xmlns_of a =
+    ap (flat_map xmlns_of) whole ∙ flat_map-append xmlns_of (take i attributes) (a ∷ []) ∙ ap (λ (x : Table). flat_map xmlns_of (take i attributes) ++ x) (append-nil (xmlns_of a)) in
+    f ∙ ap (λ (x : List Row). x ++ mapping_rows (xmlns_of a)) e
+    ∙ append_assoc old (mapping_rows (flat_map xmlns_of (take i attributes))) (mapping_rows (xmlns_of a))
+    ∙ ap (λ (x : List Row). old ++ x) (sym (ap mapping_rows cut ∙ mapping-append (flat_map xmlns_of (take i attributes)) (xmlns_of a)))
+
+-- The pairs of `prefix`
+
+pub names-prefix : (token front : Chars) → token ≡ front ++ colon ∷ [] → prefix_name token ≡ Some front
+names-prefix token front e =
+    ap prefix_name e ∙ ap without_colon (reverse-append front (colon ∷ [])) ∙ ap Some (reverse-reverse front)
+
+pub names-none : (token : Chars) → ((front : Chars) → token ≢ front ++ colon ∷ []) → prefix_name token ≡ None
+names-none token h = go (reverse token) refl where
+  go : (r : Chars) → reverse token ≡ r → without_colon (reverse token) ≡ None
+  go [] e = ap without_colon e
+  go (c ∷ r) e =
+      by_test (c == colon) (λ t.
+      let same : c ≡ colon = grind (arith, nat_tests) in
+      let whole : token ≡ reverse r ++ c ∷ [] = sym (reverse-reverse token) ∙ ap reverse e ∙ reverse-append (c ∷ []) r in
+      absurd (h (reverse r) (whole ∙ ap (λ (x : ℕ). reverse r ++ x ∷ []) same))) (λ t. ap without_colon e ∙ rw t refl)
+
+pub split-name : (token : Chars) (r : Option (Bor (List ℕ))) → MatchOption r ((front : Chars) → token ≢ front ++ colon ∷ []) (λ front. token ≡ chars front.now ++ colon ∷ []) → prefix_name token ≡ seen_slice r
+split-name token None h = names-none token h
+split-name token (Some front) h = names-prefix token (chars front.now) h
+
+-- a token that no name stood before
+pub waits : (rows whole : List Row) (waiting r : Option (Bor (List ℕ))) (words : List Chars) (token : Chars) (more : List Chars) → rows ++ mapping_rows (pairs_after (seen_slice waiting) words) ≡ whole
+    → waiting ≡ None → words ≡ token ∷ more → MatchOption r ((front : Chars) → token ≢ front ++ colon ∷ []) (λ front. token ≡ chars front.now ++ colon ∷ [])
+    → rows ++ mapping_rows (pairs_after (seen_slice r) more) ≡ whole
+waits rows whole waiting r words token more e none is h =
+    let here : pairs_after (seen_slice waiting) words ≡ pairs_after (seen_slice r) more =
+    ap (λ (w : Option (Bor (List ℕ))). pairs_after (seen_slice w) words) none ∙ ap (pairs_after None) is ∙ ap (λ (o : Option Chars). pairs_after o more) (split-name token r h) in
+    sym (ap (λ (t : Table). rows ++ mapping_rows t) here) ∙ e

@@ -1,0 +1,196 @@
+-- What is kept of a line says what the rules say of it.
+use Rattle.std.proofs.Common.{◌≡◌, ◌∙◌, ℕ, suc, ◌+◌, ◌-◌, ◌<◌, ◌≤◌, Bool, true, false, cond, List, [], ◌∷◌, ◌++◌, map, reverse, filter, take, length, get_or, Option, Some, None, option_map, bytes_eq, codes, sym, ap, subst, refl, arith, length-append, Bor}
+use Rattle.std.specs.Prelude.{count_by, sum_by, slice_index}
+use Rattle.std.specs.List.{find, flat_map}
+use Rattle.std.specs.Option.{option_or}
+use Rattle.std.proofs.lemmas.List.{reverse-append, length-map}
+use Rattle.std.proofs.lemmas.List.Sums.{sum_by-cons}
+use Rattle.std.proofs.Math.Seq.{get_or-append_seam, take-append_seam}
+use Rattle.rx_terms.specs.Text.{Chars, trimmed, begins_with}
+use Rattle.rx_refs.proofs.PartLemmas.{by_test}
+use Rattle.rx_rdfa.specs.Tree.{Tag, attribute}
+use Rattle.rx_rdfa.specs.Names.{Context, Table, value_at, counts, xmlns_of, of_prefix, declarations, declared_or, unless_empty, as_lang, prefix, vocab, language}
+use Rattle.rx_names.specs.declared.rows.Row.{Row}
+use Rattle.rx_names.specs.Rows.{prefix_row, vocabulary_rows, language_rows, language_attribute, rows_of, last_of, prefix_in, vocabulary_in, language_in, flattened, declared, one_if_some}
+use Rattle.rx_names.specs.Lines.{Kept, pushed, popped, kept_of, Stands, prefix_of, vocabulary_of, language_of, declared_along}
+use Rattle.rx_names.proofs.RowLemmas.{last-append, or-none, or-assoc}
+
+-- Pushing and popping
+
+kept-context : (context : Context) (line : List Tag) → (kept_of context line).context ≡ context
+kept-context context [] = refl
+kept-context context (tag ∷ above) = kept-context context above
+
+pub stands-none : (kept : Kept) (context : Context) → kept ≡ record { context = context; rows = []; marks = [] } → Stands kept []
+stands-none kept context e = record { is = e ∙ ap (λ (c : Context). kept_of c []) (sym (ap (λ (k : Kept). k.context) e)) }
+
+pub stands-pushed : (old new : Kept) (tag : Tag) (line : List Tag) → new ≡ pushed old tag → Stands old line → Stands new (tag ∷ line)
+stands-pushed old new tag line e s =
+    record { is = e ∙ ap (λ (k : Kept). pushed k tag) s.is ∙ ap (λ (c : Context). kept_of c (tag ∷ line)) (sym (ap (λ (k : Kept). k.context) e)) }
+
+popped-pushed : (kept : Kept) (tag : Tag) → popped (pushed kept tag) ≡ kept
+popped-pushed kept tag =
+    let count = length kept.marks in
+    let last : length (kept.marks ++ length kept.rows ∷ []) - 1 ≡ count = omega (arith, length-append kept.marks (length kept.rows ∷ [])) in
+    let mark : slice_index (kept.marks ++ length kept.rows ∷ []) (length (kept.marks ++ length kept.rows ∷ []) - 1) ≡ length kept.rows =
+    ap (slice_index (kept.marks ++ length kept.rows ∷ [])) last ∙ get_or-append_seam kept.marks (length kept.rows) [] 0 in
+    let rows : take (slice_index (kept.marks ++ length kept.rows ∷ []) (length (kept.marks ++ length kept.rows ∷ []) - 1)) (kept.rows ++ rows_of tag) ≡ kept.rows =
+    ap (λ (n : ℕ). take n (kept.rows ++ rows_of tag)) mark ∙ take-append_seam kept.rows (rows_of tag) in
+    let marks : take (length (kept.marks ++ length kept.rows ∷ []) - 1) (kept.marks ++ length kept.rows ∷ []) ≡ kept.marks =
+    ap (λ (n : ℕ). take n (kept.marks ++ length kept.rows ∷ [])) last ∙ take-append_seam kept.marks (length kept.rows ∷ []) in
+    λ i. record { context = kept.context; rows = rows i; marks = marks i }
+
+pub stands-popped : (old new : Kept) (tag : Tag) (line : List Tag) → new ≡ popped old → Stands old (tag ∷ line) → Stands new line
+stands-popped old new tag line e s =
+    let below : new ≡ kept_of old.context line = e ∙ ap popped s.is ∙ popped-pushed (kept_of old.context line) tag in
+    let same : new.context ≡ old.context = ap (λ (k : Kept). k.context) e in
+    record { is = below ∙ ap (λ (c : Context). kept_of c line) (sym same) }
+
+-- Prefixes
+
+value-append : (name : Chars) (xs ys : Table) → value_at name (xs ++ ys) ≡ option_or (value_at name xs) (value_at name ys)
+value-append name [] ys = refl
+value-append name (x ∷ xs) ys =
+    by_test (bytes_eq x.0 name) (λ t. rw t refl) (λ t. rw t (value-append name xs ys))
+
+one-value : (name : Chars) (row : Chars × Chars) → prefix_in name (prefix_row row) ≡ value_at name (row ∷ [])
+one-value name row = by_test (bytes_eq row.0 name) (λ t. rw t refl) (λ t. rw t refl)
+
+last-prefix : (name : Chars) (table : Table) → last_of (prefix_in name) (map prefix_row table) ≡ value_at name (reverse table)
+last-prefix name [] = refl
+last-prefix name (row ∷ table) =
+    ap (λ o. option_or o (prefix_in name (prefix_row row))) (last-prefix name table)
+    ∙ ap (option_or (value_at name (reverse table))) (one-value name row)
+    ∙ sym (ap (value_at name) (reverse-append (row ∷ []) table) ∙ value-append name (reverse table) (row ∷ []))
+
+no-prefix : (name : Chars) (v l : Option Chars) → last_of (prefix_in name) (vocabulary_rows v ++ language_rows l) ≡ None
+no-prefix name None None = refl
+no-prefix name None (Some l) = refl
+no-prefix name (Some v) None = refl
+no-prefix name (Some v) (Some l) = refl
+
+prefix-tag : (name : Chars) (tag : Tag) → last_of (prefix_in name) (rows_of tag) ≡ value_at name (reverse (declarations tag))
+prefix-tag name tag =
+    last-append (prefix_in name) (map prefix_row (declarations tag)) (vocabulary_rows (attribute tag (codes "vocab")) ++ language_rows (language_attribute tag))
+    ∙ ap (λ o. option_or o (last_of (prefix_in name) (map prefix_row (declarations tag)))) (no-prefix name (attribute tag (codes "vocab")) (language_attribute tag))
+    ∙ last-prefix name (declarations tag)
+
+prefix-kept : (context : Context) (line : List Tag) (name : Chars) → option_or (last_of (prefix_in name) (kept_of context line).rows) (value_at name context.prefixes) ≡ prefix context line name
+prefix-kept context [] name = refl
+prefix-kept context (tag ∷ above) name =
+    ap (λ o. option_or o (value_at name context.prefixes)) (last-append (prefix_in name) (kept_of context above).rows (rows_of tag))
+    ∙ or-assoc (last_of (prefix_in name) (rows_of tag)) (last_of (prefix_in name) (kept_of context above).rows) (value_at name context.prefixes)
+    ∙ ap (λ o. option_or o (option_or (last_of (prefix_in name) (kept_of context above).rows) (value_at name context.prefixes))) (prefix-tag name tag)
+    ∙ ap (option_or (value_at name (reverse (declarations tag)))) (prefix-kept context above name)
+
+pub prefix-line : (kept : Kept) (line : List Tag) (name : Chars) → Stands kept line → prefix_of kept name ≡ prefix kept.context line name
+prefix-line kept line name s =
+    ap (λ (k : Kept). option_or (last_of (prefix_in name) k.rows) (value_at name kept.context.prefixes)) s.is ∙ prefix-kept kept.context line name
+
+-- The default vocabulary
+
+no-vocabulary : (table : Table) → last_of vocabulary_in (map prefix_row table) ≡ None
+no-vocabulary [] = refl
+no-vocabulary (row ∷ table) = ap (λ o. option_or o None) (no-vocabulary table)
+
+vocabulary-last : (v l : Option Chars) → last_of vocabulary_in (vocabulary_rows v ++ language_rows l) ≡ option_map (λ value. unless_empty (trimmed value)) v
+vocabulary-last None None = refl
+vocabulary-last None (Some l) = refl
+vocabulary-last (Some v) None = refl
+vocabulary-last (Some v) (Some l) = refl
+
+vocabulary-tag : (tag : Tag) → last_of vocabulary_in (rows_of tag) ≡ option_map (λ value. unless_empty (trimmed value)) (attribute tag (codes "vocab"))
+vocabulary-tag tag =
+    last-append vocabulary_in (map prefix_row (declarations tag)) (vocabulary_rows (attribute tag (codes "vocab")) ++ language_rows (language_attribute tag))
+    ∙ ap (option_or (last_of vocabulary_in (vocabulary_rows (attribute tag (codes "vocab")) ++ language_rows (language_attribute tag)))) (no-vocabulary (declarations tag))
+    ∙ or-none (last_of vocabulary_in (vocabulary_rows (attribute tag (codes "vocab")) ++ language_rows (language_attribute tag)))
+    ∙ vocabulary-last (attribute tag (codes "vocab")) (language_attribute tag)
+
+-- what is said where something is declared, else what held before
+said-or : (o : Option Chars) (f : Chars → Option Chars) (before : Option (Option Chars)) → flattened (option_or (option_map f o) before) ≡ declared_or o f (flattened before)
+said-or None f before = refl
+said-or (Some value) f before = refl
+
+vocabulary-kept : (context : Context) (line : List Tag) → flattened (last_of vocabulary_in (kept_of context line).rows) ≡ vocab line
+vocabulary-kept context [] = refl
+vocabulary-kept context (tag ∷ above) =
+    ap flattened (last-append vocabulary_in (kept_of context above).rows (rows_of tag) ∙ ap (λ o. option_or o (last_of vocabulary_in (kept_of context above).rows)) (vocabulary-tag tag))
+    ∙ said-or (attribute tag (codes "vocab")) (λ value. unless_empty (trimmed value)) (last_of vocabulary_in (kept_of context above).rows)
+    ∙ ap (declared_or (attribute tag (codes "vocab")) (λ value. unless_empty (trimmed value))) (vocabulary-kept context above)
+
+pub vocabulary-line : (kept : Kept) (line : List Tag) → Stands kept line → vocabulary_of kept ≡ vocab line
+vocabulary-line kept line s = ap vocabulary_of s.is ∙ vocabulary-kept kept.context line
+
+-- The language
+
+no-language : (table : Table) → last_of language_in (map prefix_row table) ≡ None
+no-language [] = refl
+no-language (row ∷ table) = ap (λ o. option_or o None) (no-language table)
+
+language-last : (v l : Option Chars) → last_of language_in (vocabulary_rows v ++ language_rows l) ≡ option_map as_lang l
+language-last None None = refl
+language-last None (Some l) = refl
+language-last (Some v) None = refl
+language-last (Some v) (Some l) = refl
+
+language-tag : (tag : Tag) → last_of language_in (rows_of tag) ≡ option_map as_lang (language_attribute tag)
+language-tag tag =
+    last-append language_in (map prefix_row (declarations tag)) (vocabulary_rows (attribute tag (codes "vocab")) ++ language_rows (language_attribute tag))
+    ∙ ap (option_or (last_of language_in (vocabulary_rows (attribute tag (codes "vocab")) ++ language_rows (language_attribute tag)))) (no-language (declarations tag))
+    ∙ or-none (last_of language_in (vocabulary_rows (attribute tag (codes "vocab")) ++ language_rows (language_attribute tag)))
+    ∙ language-last (attribute tag (codes "vocab")) (language_attribute tag)
+
+language-kept : (context : Context) (line : List Tag) → flattened (last_of language_in (kept_of context line).rows) ≡ language line
+language-kept context [] = refl
+language-kept context (tag ∷ above) =
+    ap flattened (last-append language_in (kept_of context above).rows (rows_of tag) ∙ ap (λ o. option_or o (last_of language_in (kept_of context above).rows)) (language-tag tag))
+    ∙ said-or (language_attribute tag) as_lang (last_of language_in (kept_of context above).rows)
+    ∙ ap (declared_or (language_attribute tag) as_lang) (language-kept context above)
+
+pub language-line : (kept : Kept) (line : List Tag) → Stands kept line → language_of kept ≡ language line
+language-line kept line s = ap language_of s.is ∙ language-kept kept.context line
+
+-- How many rows there are
+
+filter-shorter : {A : Type 0} (p : A → Bool) (xs : List A) → length (filter p xs) ≤ length xs
+filter-shorter p [] = omega arith
+filter-shorter p (x ∷ xs) =
+    let rest = filter-shorter p xs in
+    by_test (p x) (λ t. rw t (omega (arith, rest))) (λ t. rw t (omega (arith, rest)))
+
+namespaces-count : (attributes : List (Chars × Chars)) → length (flat_map xmlns_of attributes) ≡ length (filter (λ a. begins_with (codes "xmlns:") a.0) attributes)
+namespaces-count [] = refl
+namespaces-count (a ∷ attributes) =
+    by_test (begins_with (codes "xmlns:") a.0)
+    (λ t. rw t (ap suc (namespaces-count attributes)))
+    (λ t. rw t (namespaces-count attributes))
+
+vocabulary-count : (v : Option Chars) → length (vocabulary_rows v) ≡ one_if_some v
+vocabulary-count None = refl
+vocabulary-count (Some v) = refl
+
+language-count : (l : Option Chars) → length (language_rows l) ≡ one_if_some l
+language-count None = refl
+language-count (Some l) = refl
+
+tag-count : (tag : Tag) → length (rows_of tag) ≤ declared tag
+tag-count tag =
+    let all = flat_map xmlns_of tag.attributes ++ of_prefix (attribute tag (codes "prefix")) in
+    omega (
+      arith,
+      length-append (map prefix_row (declarations tag)) (vocabulary_rows (attribute tag (codes "vocab")) ++ language_rows (language_attribute tag)),
+      length-append (vocabulary_rows (attribute tag (codes "vocab"))) (language_rows (language_attribute tag)),
+      length-map (declarations tag) prefix_row,
+      filter-shorter counts all,
+      length-append (flat_map xmlns_of tag.attributes) (of_prefix (attribute tag (codes "prefix"))),
+      namespaces-count tag.attributes,
+      vocabulary-count (attribute tag (codes "vocab")),
+      language-count (language_attribute tag),
+    )
+
+rows-kept : (context : Context) (line : List Tag) → length (kept_of context line).rows ≤ declared_along line
+rows-kept context [] = omega arith
+rows-kept context (tag ∷ above) = omega (arith, length-append (kept_of context above).rows (rows_of tag), rows-kept context above, tag-count tag, sum_by-cons declared tag above)
+
+pub rows-line : (kept : Kept) (line : List Tag) → Stands kept line → length kept.rows ≤ declared_along line
+rows-line kept line s = omega (arith, ap (λ (k : Kept). length k.rows) s.is, rows-kept kept.context line)

@@ -1,0 +1,275 @@
+-- A row that is put into a table in byte order.
+use Rattle.std.proofs.Common.{Result, Ok, Err, ◌≡◌, ◌<◌, ◌≤◌, ◌∙◌, ℕ, zero, suc, Bool, true, false, ◌&&◌, cond, List, [], ◌∷◌, ◌++◌, map, length, get_or, take, drop, Option, Some, None, option_map, MatchOption, bytes_eq, refl, sym, ap, subst, Ordering, arith}
+use native.Mathlib.Numerals.{unary_clauses}
+use Rattle.std.specs.Prelude.{encode_utf8_all, unwrap_or, is_ok, is_err}
+use Rattle.std.specs.List.{find, list_all}
+use Rattle.std.specs.List.Sorted.{IsNonDecreasingBy, IsPartitionPoint}
+use Rattle.std.specs.Option.{option_or}
+use Rattle.std.specs.Ordering.{is_lt, is_eq, nat_cmp, match_ordering, ordering_index, ordering_reverse}
+use Rattle.std.specs.declared.cmp.Ordering.TheVariants.{Less, Equal, Greater}
+use Rattle.std.specs.Cmp.Lexicographic.{slice_cmp}
+use Rattle.std.proofs.lemmas.Bool.{and_parts, and_from, false≢true}
+use Rattle.std.proofs.lemmas.Cmp.{nat_list_cmp_total}
+use Rattle.std.proofs.lemmas.Slice.Eq.{bytes_eq-Decides}
+use Rattle.std.proofs.lemmas.List.{map-append, take-map, drop-map, length-map}
+use Rattle.rx_terms.specs.Text.{Chars, lowered}
+use Rattle.rx_refs.proofs.PartLemmas.{by_test}
+use Rattle.rx_rdfa.specs.Names.{Table, value_at}
+use Rattle.rx_names.specs.Tables.{byte_order, is_before, rise, put, folded_onto, folded}
+use Rattle.rx_names.specs.declared.tables.Mapping.{Mapping}
+use Rattle.rx_names.proofs.RowLemmas.{or-none, or-assoc}
+use Rattle.rx_names.proofs.TableLemmas.{is_eq-byte_order, found-here, found-later, view, bytes, later_at, gap_at, mappings}
+
+less-is : (o : Ordering) → is_lt o ≡ true → o ≡ Less
+less-is Less h = refl
+less-is Equal h = absurd (false≢true h)
+less-is Greater h = absurd (false≢true h)
+
+turned : (a b : Chars) (o : Ordering) → byte_order a b ≡ o → byte_order b a ≡ ordering_reverse o
+turned a b o e = nat_list_cmp_total.antisymm (encode_utf8_all b) (encode_utf8_all a) ∙ ap ordering_reverse e
+
+put-less : (row first : Chars × Chars) (rows : Table) → byte_order row.0 first.0 ≡ Less → put row (first ∷ rows) ≡ Some (row ∷ first ∷ rows)
+put-less row first rows e = ap (λ o. match_ordering o (Some (row ∷ first ∷ rows)) None (option_map (λ table. first ∷ table) (put row rows))) e
+
+put-equal : (row first : Chars × Chars) (rows : Table) → byte_order row.0 first.0 ≡ Equal → put row (first ∷ rows) ≡ None
+put-equal row first rows e = ap (λ o. match_ordering o (Some (row ∷ first ∷ rows)) None (option_map (λ table. first ∷ table) (put row rows))) e
+
+put-greater : (row first : Chars × Chars) (rows : Table) → byte_order row.0 first.0 ≡ Greater → put row (first ∷ rows) ≡ option_map (λ table. first ∷ table) (put row rows)
+put-greater row first rows e = ap (λ o. match_ordering o (Some (row ∷ first ∷ rows)) None (option_map (λ table. first ∷ table) (put row rows))) e
+
+-- Where the name stands already, nothing is put in; where it would stand, it is.
+module _ {T : Type 0} (key value : T → Chars) where
+  put-found : (rows : List T) (at : ℕ) (d : T) (row : Chars × Chars) → rise (map (view key value) rows) ≡ true → at < length rows
+      → slice_cmp nat_cmp (bytes key value (get_or rows at d)) (encode_utf8_all row.0) ≡ Equal → put row (map (view key value) rows) ≡ None
+  put-found [] at d row rising below same = absurd (omega arith)
+  put-found (first ∷ rows) zero d row rising below same = put-equal row (view key value first) (map (view key value) rows) (turned (key first) row.0 Equal same)
+  put-found (first ∷ rows) (suc at) d row rising below same =
+      let parts = and_parts (list_all (λ later. is_before (key first) later.0) (map (view key value) rows)) (rise (map (view key value) rows)) rising in
+      let less = later_at key value (key first) rows at d parts.0 (omega arith) in
+      put-greater row (view key value first) (map (view key value) rows) (above (key first) (key (get_or rows at d)) row.0 less same)
+      ∙ ap (option_map (λ table. view key value first ∷ table)) (put-found rows at d row parts.1 (omega arith) same)
+    where
+      above : (front there name : Chars) → is_lt (byte_order front there) ≡ true → byte_order there name ≡ Equal → byte_order name front ≡ Greater
+      above front there name less same =
+          let at_name : byte_order name front ≡ byte_order there front = sym (nat_list_cmp_total.congr (encode_utf8_all there) (encode_utf8_all name) (encode_utf8_all front) same) in
+          at_name ∙ turned front there Less (less-is (byte_order front there) less)
+
+  put-gap : (rows : List T) (gap : ℕ) (row : Chars × Chars) → gap ≤ length rows
+      → IsPartitionPoint (λ first. slice_cmp nat_cmp (bytes key value first) (encode_utf8_all row.0) ≡ Less) (λ first. slice_cmp nat_cmp (bytes key value first) (encode_utf8_all row.0) ≡ Greater) rows gap
+      → put row (map (view key value) rows) ≡ Some (take gap (map (view key value) rows) ++ row ∷ drop gap (map (view key value) rows))
+  put-gap [] zero row within parts = refl
+  put-gap [] (suc gap) row within parts = absurd (omega arith)
+  put-gap (first ∷ rows) zero row within parts =
+      put-less row (view key value first) (map (view key value) rows) (turned (key first) row.0 Greater (parts.1 0 first (omega arith) (omega arith)))
+  put-gap (first ∷ rows) (suc gap) row within parts =
+      put-greater row (view key value first) (map (view key value) rows) (turned (key first) row.0 Less (parts.0 0 first (omega arith) (omega arith)))
+      ∙ ap (option_map (λ table. view key value first ∷ table))
+      (put-gap rows gap row (omega arith) (
+        (λ k d low high. parts.0 (suc k) d (omega arith) (omega arith)),
+        (λ k d low high. parts.1 (suc k) d (omega arith) (omega arith)),
+      ))
+
+-- What is put in keeps the order.
+before-all : (front middle : Chars) (rows : Table) → byte_order front middle ≡ Less → list_all (λ later. is_before middle later.0) rows ≡ true → list_all (λ later. is_before front later.0) rows ≡ true
+before-all front middle [] less h = refl
+before-all front middle (row ∷ rows) less h =
+    let parts = and_parts (is_before middle row.0) (list_all (λ later. is_before middle later.0) rows) h in
+    and_from _ _ (ap is_lt (nat_list_cmp_total.trans (encode_utf8_all front) (encode_utf8_all middle) (encode_utf8_all row.0) less (less-is (byte_order middle row.0) parts.0)))
+    (before-all front middle rows less parts.1)
+
+some-same : {A : Type 0} {a b : A} → Some a ≡ Some b → a ≡ b
+some-same e = cc
+
+mapped : (first : Chars × Chars) (o : Option Table) (t : Table) → option_map (λ table. first ∷ table) o ≡ Some t → (rest : Table) × (o ≡ Some rest) × (first ∷ rest ≡ t)
+mapped first None t e = absurd (cc e)
+mapped first (Some rest) t e = (rest, refl, some-same e)
+
+-- what a row is that is put before or behind a first one
+put-cases : {Q : Type 0} (row first : Chars × Chars) (rows t : Table) → put row (first ∷ rows) ≡ Some t
+    → (byte_order row.0 first.0 ≡ Less → row ∷ first ∷ rows ≡ t → Q)
+    → (byte_order first.0 row.0 ≡ Less → (rest : Table) → put row rows ≡ Some rest → first ∷ rest ≡ t → Q) → Q
+put-cases {Q} row first rows t e before behind = go (byte_order row.0 first.0) refl where
+  go : (o : Ordering) → byte_order row.0 first.0 ≡ o → Q
+  go Less o = before o (some-same (sym (put-less row first rows o) ∙ e))
+  go Equal o = let none : None ≡ Some t = sym (put-equal row first rows o) ∙ e in absurd (cc none)
+  go Greater o =
+      let m = mapped first (put row rows) t (sym (put-greater row first rows o) ∙ e) in
+      behind (turned row.0 first.0 Greater o) m.0 m.1 m.2
+
+all-put : (p : Chars × Chars → Bool) (row : Chars × Chars) (rows t : Table) → p row ≡ true → list_all p rows ≡ true → put row rows ≡ Some t → list_all p t ≡ true
+all-put p row [] t one all e = ap (list_all p) (sym (some-same e)) ∙ and_from _ _ one refl
+all-put p row (first ∷ rows) t one all e =
+    let parts = and_parts (p first) (list_all p rows) all in
+    put-cases row first rows t e
+    (λ less is. ap (list_all p) (sym is) ∙ and_from _ _ one all)
+    (λ less rest f is. ap (list_all p) (sym is) ∙ and_from _ _ parts.0 (all-put p row rows rest one parts.1 f))
+
+pub rise-put : (row : Chars × Chars) (rows t : Table) → rise rows ≡ true → put row rows ≡ Some t → rise t ≡ true
+rise-put row [] t h e = ap rise (sym (some-same e))
+rise-put row (first ∷ rows) t h e =
+    let parts = and_parts (list_all (λ later. is_before first.0 later.0) rows) (rise rows) h in
+    put-cases row first rows t e
+    (λ less is. ap rise (sym is) ∙ and_from _ _ (and_from _ _ (ap is_lt less) (before-all row.0 first.0 rows less parts.0)) h)
+    (λ less rest f is.
+    ap rise (sym is) ∙ and_from _ _ (all-put (λ later. is_before first.0 later.0) row rows rest (ap is_lt less) parts.0 f) (rise-put row rows rest parts.1 f))
+
+-- What a name means where a row has been put in, or stood there already.
+value-front : (first : Chars × Chars) (rows : Table) (name : Chars) → value_at name (first ∷ rows) ≡ cond (bytes_eq first.0 name) (Some first.1) (value_at name rows)
+value-front first rows name = by_test (bytes_eq first.0 name) (λ s. found-here first rows name s ∙ rw s refl) (λ s. found-later first rows name s ∙ rw s refl)
+
+exchanged : {A : Type 0} (a b : Bool) (x y z : A) → (a ≡ true → b ≡ false) → cond a x (cond b y z) ≡ cond b y (cond a x z)
+exchanged true true x y z h = let g : true ≡ false = h refl in absurd (cc g)
+exchanged true false x y z h = refl
+exchanged false b x y z h = refl
+
+apart : (first row name : Chars) → byte_order first row ≡ Less → bytes_eq first name ≡ true → bytes_eq row name ≡ false
+apart first row name less s =
+    by_test (bytes_eq row name) (λ t.
+    let here : first ≡ name = (bytes_eq-Decides first name).0 s in
+    let there : row ≡ name = (bytes_eq-Decides row name).0 t in
+    let same : bytes_eq first row ≡ true = (bytes_eq-Decides first row).1 (here ∙ sym there) in
+    let other : bytes_eq first row ≡ false = sym (is_eq-byte_order first row) ∙ ap is_eq less in
+    absurd (false≢true (sym other ∙ same))) (λ t. t)
+
+pub value-put : (row : Chars × Chars) (rows t : Table) (name : Chars) → put row rows ≡ Some t → value_at name t ≡ cond (bytes_eq row.0 name) (Some row.1) (value_at name rows)
+value-put row [] t name e = ap (value_at name) (sym (some-same e)) ∙ value-front row [] name
+value-put row (first ∷ rows) t name e =
+    put-cases row first rows t e
+    (λ less is. ap (value_at name) (sym is) ∙ value-front row (first ∷ rows) name)
+    (λ less rest f is.
+    ap (value_at name) (sym is) ∙ value-front first rest name ∙ ap (λ v. cond (bytes_eq first.0 name) (Some first.1) v) (value-put row rows rest name f)
+    ∙ exchanged (bytes_eq first.0 name) (bytes_eq row.0 name) (Some first.1) (Some row.1) (value_at name rows) (apart first.0 row.0 name less)
+    ∙ ap (λ v. cond (bytes_eq row.0 name) (Some row.1) v) (sym (value-front first rows name)))
+
+-- a row whose name stands there already
+stands-there : (row : Chars × Chars) (rows : Table) (name : Chars) → put row rows ≡ None → bytes_eq row.0 name ≡ true → (iri : Chars) × (value_at name rows ≡ Some iri)
+stands-there row [] name e s = absurd (cc e)
+stands-there row (first ∷ rows) name e s = go (byte_order row.0 first.0) refl (stands-there row rows name) where
+  none-mapped : (o : Option Table) → option_map (λ table. first ∷ table) o ≡ None → o ≡ None
+  none-mapped None f = refl
+  none-mapped (Some rest) f = absurd (cc f)
+
+  go : (o : Ordering) → byte_order row.0 first.0 ≡ o → (put row rows ≡ None → bytes_eq row.0 name ≡ true → (iri : Chars) × (value_at name rows ≡ Some iri)) → (iri : Chars) × (value_at name (first ∷ rows) ≡ Some iri)
+  go Less o ih = let some : Some (row ∷ first ∷ rows) ≡ None = sym (put-less row first rows o) ∙ e in absurd (cc some)
+  go Equal o ih =
+      let same : row.0 ≡ first.0 = (bytes_eq-Decides row.0 first.0).0 (sym (is_eq-byte_order row.0 first.0) ∙ ap is_eq o) in
+      let here : bytes_eq first.0 name ≡ true = ap (λ (x : Chars). bytes_eq x name) (sym same) ∙ s in
+      (first.1, found-here first rows name here)
+  go Greater o ih =
+      let later = ih (none-mapped (put row rows) (sym (put-greater row first rows o) ∙ e)) s in
+      by_test (bytes_eq first.0 name) (λ t. (first.1, found-here first rows name t)) (λ t. (later.0, found-later first rows name t ∙ later.1))
+
+-- a row whose name doesn't
+not-below : (front name : Chars) (rows : Table) → list_all (λ later. is_before front later.0) rows ≡ true → bytes_eq front name ≡ true → value_at name rows ≡ None
+not-below front name [] h s = refl
+not-below front name (row ∷ rows) h s =
+    let parts = and_parts (is_before front row.0) (list_all (λ later. is_before front later.0) rows) h in
+    found-later row rows name (apart front row.0 name (less-is (byte_order front row.0) parts.0) s) ∙ not-below front name rows parts.1 s
+
+pub not-there : (row : Chars × Chars) (rows t : Table) (name : Chars) → rise rows ≡ true → put row rows ≡ Some t → bytes_eq row.0 name ≡ true → value_at name rows ≡ None
+not-there row [] t name h e s = refl
+not-there row (first ∷ rows) t name h e s =
+    let parts = and_parts (list_all (λ later. is_before first.0 later.0) rows) (rise rows) h in
+    put-cases row first rows t e
+    (λ less is. not-below row.0 name (first ∷ rows) (and_from _ _ (ap is_lt less) (before-all row.0 first.0 rows less parts.0)) s)
+    (λ less rest f is.
+    let other : bytes_eq first.0 name ≡ false =
+    by_test (bytes_eq first.0 name) (λ t. let g : true ≡ false = sym s ∙ apart first.0 row.0 name less t in absurd (cc g)) (λ t. t) in
+    found-later first rows name other ∙ not-there row rows rest name parts.1 f s)
+
+-- what one name means where a row is put in unless its name stands there
+pub value-kept : (row : Chars × Chars) (rows : Table) (name : Chars) → rise rows ≡ true
+    → value_at name (unwrap_or (put row rows) rows) ≡ option_or (value_at name rows) (cond (bytes_eq row.0 name) (Some row.1) None)
+value-kept row rows name h = go (put row rows) refl where
+  or-one : (v : Option Chars) (b : Bool) → (b ≡ true → v ≡ None) → cond b (Some row.1) v ≡ option_or v (cond b (Some row.1) None)
+  or-one None true h = refl
+  or-one None false h = refl
+  or-one (Some x) true h = let g : Some x ≡ None = h refl in absurd (cc g)
+  or-one (Some x) false h = refl
+
+  or-there : (v : Option Chars) (b : Bool) → (b ≡ true → (iri : Chars) × (v ≡ Some iri)) → v ≡ option_or v (cond b (Some row.1) None)
+  or-there None true h = let g = h refl in let f : None ≡ Some g.0 = g.1 in absurd (cc f)
+  or-there None false h = refl
+  or-there (Some x) b h = refl
+
+  go : (o : Option Table) → put row rows ≡ o → value_at name (unwrap_or (put row rows) rows) ≡ option_or (value_at name rows) (cond (bytes_eq row.0 name) (Some row.1) None)
+  go None e = ap (λ o. value_at name (unwrap_or o rows)) e ∙ or-there (value_at name rows) (bytes_eq row.0 name) (stands-there row rows name e)
+  go (Some t) e = ap (λ o. value_at name (unwrap_or o rows)) e ∙ value-put row rows t name e ∙ or-one (value_at name rows) (bytes_eq row.0 name) (not-there row rows t name h e)
+
+pub rise-kept : (row : Chars × Chars) (rows : Table) → rise rows ≡ true → rise (unwrap_or (put row rows) rows) ≡ true
+rise-kept row rows h = go (put row rows) refl where
+  go : (o : Option Table) → put row rows ≡ o → rise (unwrap_or (put row rows) rows) ≡ true
+  go None e = ap (λ o. rise (unwrap_or o rows)) e ∙ h
+  go (Some t) e = ap (λ o. rise (unwrap_or o rows)) e ∙ rise-put row rows t h e
+
+-- A name in lower case: what the table in lower case says is what the first row says whose name is that one in lower case.
+abbrev pub first_lowered : Chars → Table → Option Chars
+first_lowered name rows = option_map (λ (row : Chars × Chars). row.1) (find (λ row. bytes_eq (lowered row.0) name) rows)
+
+lowered-front : (row : Chars × Chars) (rows : Table) (name : Chars) → option_or (cond (bytes_eq (lowered row.0) name) (Some row.1) None) (first_lowered name rows) ≡ first_lowered name (row ∷ rows)
+lowered-front row rows name = go (bytes_eq (lowered row.0) name) where
+  go : (b : Bool) → option_or (cond b (Some row.1) None) (first_lowered name rows) ≡ option_map (λ (row : Chars × Chars). row.1) (cond b (Some row) (find (λ row. bytes_eq (lowered row.0) name) rows))
+  go true = refl
+  go false = refl
+
+folded-onto-value : (table rows : Table) (name : Chars) → rise table ≡ true → value_at name (folded_onto table rows) ≡ option_or (value_at name table) (first_lowered name rows)
+folded-onto-value table [] name h = sym (or-none (value_at name table))
+folded-onto-value table (row ∷ rows) name h =
+    folded-onto-value (unwrap_or (put (lowered row.0, row.1) table) table) rows name (rise-kept (lowered row.0, row.1) table h)
+    ∙ ap (λ v. option_or v (first_lowered name rows)) (value-kept (lowered row.0, row.1) table name h)
+    ∙ or-assoc (value_at name table) (cond (bytes_eq (lowered row.0) name) (Some row.1) None) (first_lowered name rows)
+    ∙ ap (option_or (value_at name table)) (lowered-front row rows name)
+
+pub folded-value : (rows : Table) (name : Chars) → value_at name (folded rows) ≡ first_lowered name rows
+folded-value rows name = folded-onto-value [] rows name refl
+
+-- The table of the code: where a name would stand, and what is put there.
+module _ (rows seen : List Mapping) (table : Table) (name : List ℕ) (wanted : Chars)
+    (same_rows : seen ≡ rows) (is_view : table ≡ mappings rows) (is_name : encode_utf8_all wanted ≡ name) (rising : rise (mappings rows) ≡ true) where
+  pub no_gap : (at : ℕ) (iri : Chars) → at < length seen → ((d : Mapping) → slice_cmp nat_cmp (encode_utf8_all (get_or seen at d).name) name ≡ Equal) → put (wanted, iri) table ≡ None
+  no_gap at iri below same =
+      let P : List ℕ → List Mapping → Type 0 = λ x rows. (d : Mapping) → slice_cmp nat_cmp (encode_utf8_all (get_or rows at d).name) x ≡ Equal in
+      let at_rows : P (encode_utf8_all wanted) rows = subst (λ (x : List ℕ). P x rows) (sym is_name) (subst (λ (x : List Mapping). P name x) same_rows same) in
+      let within : at < length rows = omega (arith, ap length same_rows) in
+      ap (put (wanted, iri)) is_view ∙ from_any rows at within (λ d. put-found (λ (r : Mapping). r.name) (λ (r : Mapping). r.iri) rows at d (wanted, iri) rising within (at_rows d)) where
+        from_any : {Q : Type 0} (rows : List Mapping) (at : ℕ) → at < length rows → (Mapping → Q) → Q
+        from_any [] at l f = absurd (omega arith)
+        from_any (row ∷ rows) at l f = f row
+
+  pub the_gap : (gap : ℕ) (iri : Chars) → gap ≤ length seen
+      → (IsNonDecreasingBy (λ row. ordering_index (slice_cmp nat_cmp (encode_utf8_all row.name) name)) seen
+      → IsPartitionPoint (λ row. slice_cmp nat_cmp (encode_utf8_all row.name) name ≡ Less) (λ row. slice_cmp nat_cmp (encode_utf8_all row.name) name ≡ Greater) seen gap)
+      → put (wanted, iri) table ≡ Some (take gap table ++ (wanted, iri) ∷ drop gap table)
+  the_gap gap iri below split =
+      let P : List ℕ → List Mapping → Type 0 = λ x rows. IsNonDecreasingBy (λ (row : Mapping). ordering_index (slice_cmp nat_cmp (encode_utf8_all row.name) x)) rows
+      → IsPartitionPoint (λ (row : Mapping). slice_cmp nat_cmp (encode_utf8_all row.name) x ≡ Less) (λ row. slice_cmp nat_cmp (encode_utf8_all row.name) x ≡ Greater) rows gap in
+      let at_rows : P (encode_utf8_all wanted) rows = subst (λ (x : List ℕ). P x rows) (sym is_name) (subst (λ (x : List Mapping). P name x) same_rows split) in
+      let within : gap ≤ length rows = omega (arith, ap length same_rows) in
+      let here = put-gap (λ (r : Mapping). r.name) (λ (r : Mapping). r.iri) rows gap (wanted, iri) within (gap_at (λ (r : Mapping). r.name) (λ (r : Mapping). r.iri) rows wanted gap rising at_rows) in
+      ap (put (wanted, iri)) is_view ∙ here ∙ ap (λ (t : Table). Some (take gap t ++ (wanted, iri) ∷ drop gap t)) (sym is_view)
+
+  pub gap_within : (gap : ℕ) → gap ≤ length seen → gap ≤ length table
+  gap_within gap below = omega (arith, ap length same_rows, ap length is_view, length-map {B = Chars × Chars} rows (λ row. (row.name, row.iri)))
+
+-- a mapping that is put at its gap
+pub put-there : (rows new : List Mapping) (table : Table) (gap : ℕ) (m : Mapping) → new ≡ take gap rows ++ m ∷ drop gap rows → table ≡ mappings rows
+    → put (m.name, m.iri) table ≡ Some (take gap table ++ (m.name, m.iri) ∷ drop gap table) → put (m.name, m.iri) table ≡ Some (mappings new)
+put-there rows new table gap m e is_view p =
+    let f : Mapping → Chars × Chars = λ (row : Mapping). (row.name, row.iri) in
+    let whole : mappings new ≡ take gap (mappings rows) ++ f m ∷ drop gap (mappings rows) =
+    ap mappings e ∙ map-append f (take gap rows) (m ∷ drop gap rows) ∙ ap (λ (t : Table). t ++ f m ∷ map f (drop gap rows)) (sym (take-map f gap rows))
+    ∙ ap (λ (t : Table). take gap (mappings rows) ++ f m ∷ t) (sym (drop-map f gap rows)) in
+    p ∙ ap Some (ap (λ (t : Table). take gap t ++ (m.name, m.iri) ∷ drop gap t) is_view ∙ sym whole)
+
+pub ok-items : {A E : Type 0} (r : Result A E) (new a b : List Mapping) → new ≡ cond (is_ok r) a b → false ≡ is_err r → new ≡ a
+ok-items (Ok x) new a b e h = e
+ok-items (Err x) new a b e h = absurd (cc h)
+
+-- the same, as the code has it
+pub put-code : {A E : Type 0} (r : Result A E) (rows new : List Mapping) (table : Table) (gap : ℕ) (name iri read : Chars)
+    → new ≡ cond (is_ok r) (take gap rows ++ record { name = name; iri = iri } ∷ drop gap rows) rows → false ≡ is_err r → mappings rows ≡ table → read ≡ name
+    → put (read, iri) table ≡ Some (take gap table ++ (read, iri) ∷ drop gap table) → put (name, iri) table ≡ Some (mappings new)
+put-code r rows new table gap name iri read e h is_view is_name p =
+    let P : Chars → Type 0 = λ x. put (x, iri) table ≡ Some (take gap table ++ (x, iri) ∷ drop gap table) in
+    let m : Mapping = record { name = name; iri = iri } in
+    put-there rows new table gap m (ok-items r new (take gap rows ++ m ∷ drop gap rows) rows e h) (sym is_view) (subst P is_name p)

@@ -1,0 +1,14 @@
+use Rattle.std.proofs.Common.{◌≡◌, ◌∙◌, sym, ap, Option}
+use Rattle.std.specs.Option.{option_or}
+use Rattle.std.specs.Str.{chars}
+use Rattle.rx_terms.specs.Text.{Chars, lowered}
+use Rattle.rx_rdfa.specs.Names.{Context, Table, value_at, term}
+use Rattle.rx_names.proofs.PutLemmas.{folded-value, first_lowered}
+use Rattle.rx_names.proofs.contexts.Context.term.Goals as goal
+
+pub returns-in-None-clause-value : goal.returns-in-None-clause-value
+returns-in-None-clause-value c =
+    let name = chars c.args.name.now in
+    let found = c.find_lowered.ensures.value ∙ ap (value_at (lowered name)) c.self.invariant ∙ folded-value c.self.inside.terms (lowered name) in
+    found ∙ ap (λ (o : Option Chars). option_or o (first_lowered (lowered name) c.self.inside.terms)) c.in-None.ensures.value
+    ∙ ap (λ (context : Context). term context name) c.self.view_is

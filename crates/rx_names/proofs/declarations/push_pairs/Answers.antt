@@ -1,0 +1,11 @@
+use Rattle.std.proofs.Common.{rules}
+use Rattle.std.specs.Str.{chars}
+use Rattle.rx_terms.specs.Text.{tokens}
+use Rattle.rx_names.proofs.DeclarationLemmas.{waits}
+use Rattle.rx_names.proofs.declarations.push_pairs.Goals as goal
+
+pub loop-token-preserved : goal.loop-token-preserved
+loop-token-preserved c = record {
+  utf8 = search rules;
+  rows = waits c.loop-token.rows _ c.loop-token.waiting c.split_last-waiting.result (tokens (chars c.loop-token.rest.now)) (chars c.in-Some.token.now) (tokens (chars c.in-Some.behind.now)) c.loop-token.invariant.rows c.in-None.is c.in-Some.ensures.token c.split_last-waiting.ensures;
+}

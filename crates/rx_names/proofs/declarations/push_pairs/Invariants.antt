@@ -1,0 +1,18 @@
+use Rattle.std.proofs.Common.{◌≡◌, ◌++◌, length}
+use Rattle.std.specs.Str.{chars, IsUtf8}
+use Rattle.rx_terms.specs.Text.{tokens}
+use Rattle.rx_refs.specs.Views.{seen_slice}
+use Rattle.rx_rdfa.specs.Names.{pairs, pairs_after}
+use Rattle.rx_names.specs.Rows.{mapping_rows}
+use Rattle.rx_names.proofs.declarations.push_pairs.Given as goal
+use denote.Text.{Utf8}
+use denote.Shadow.{shadow}
+
+abbrev pub invariant-loop-token : goal.invariant-loop-token
+invariant-loop-token l = record {
+  utf8 : shadow (Utf8 l.rest);
+  rows : l.rows ++ mapping_rows (pairs_after (seen_slice l.waiting) (tokens (chars l.rest))) ≡ l.fn.rows ++ mapping_rows (pairs (tokens (chars l.value)));
+}
+
+abbrev pub decreases-loop-token : goal.decreases-loop-token
+decreases-loop-token l = length l.rest

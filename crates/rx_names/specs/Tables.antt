@@ -1,0 +1,33 @@
+-- Tables of names in byte order.
+use Rattle.std.specs.Prelude.{Bool, true, ◌&&◌, List, [], ◌∷◌, Option, Some, None, option_map, encode_utf8_all, unwrap_or}
+use Rattle.std.specs.List.{list_all}
+use Rattle.std.specs.declared.cmp.Ordering.{Ordering}
+use Rattle.std.specs.Ordering.{is_lt, nat_cmp, match_ordering}
+use Rattle.std.specs.Cmp.Lexicographic.{slice_cmp}
+use Rattle.rx_terms.specs.Text.{Chars, lowered}
+use Rattle.rx_rdfa.specs.Names.{Table}
+
+-- the order of the texts' UTF-8 forms
+abbrev pub byte_order : Chars → Chars → Ordering
+byte_order a b = slice_cmp nat_cmp (encode_utf8_all a) (encode_utf8_all b)
+
+abbrev pub is_before : Chars → Chars → Bool
+is_before a b = is_lt (byte_order a b)
+
+-- the names rise in byte order, so each stands there once
+abbrev pub rise : Table → Bool
+rise [] = true
+rise (row ∷ rows) = list_all (λ later. is_before row.0 later.0) rows && rise rows
+
+-- the table with a row more, in its place; none where its name stands there already
+abbrev pub put : Chars × Chars → Table → Option Table
+put row [] = Some (row ∷ [])
+put row (first ∷ rows) = match_ordering (byte_order row.0 first.0) (Some (row ∷ first ∷ rows)) None (option_map (λ table. first ∷ table) (put row rows))
+
+-- the table with the rows' names in lower case, each with the IRI of the first of them
+abbrev pub folded_onto : Table → Table → Table
+folded_onto table [] = table
+folded_onto table (row ∷ rows) = folded_onto (unwrap_or (put (lowered row.0, row.1) table) table) rows
+
+abbrev pub folded : Table → Table
+folded rows = folded_onto [] rows

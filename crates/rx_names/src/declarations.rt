@@ -1,0 +1,150 @@
+//! What a start tag declares.
+ghost use Rattle.std.specs.Prelude.{◌≡◌, [], ◌∷◌, ◌++◌, OnOk, IfOk, codes, bytes_eq};
+ghost use Rattle.std.specs.List.{flat_map};
+ghost use Rattle.std.specs.Str.{chars};
+ghost use Rattle.rx_terms.specs.Text.{lowered, tokens};
+ghost use Rattle.rx_rdfa.specs.Names.{counts, xmlns_of, of_prefix, pairs, unless_empty};
+ghost use Rattle.rx_rdfa.specs.Tree.{attribute};
+ghost use Rattle.rx_refs.specs.Views.{seen_slice};
+ghost use Rattle.rx_names.specs.Tags.{tag_of};
+ghost use Rattle.rx_names.specs.Rows.{rows_of, mapping_rows, vocabulary_rows, language_rows, language_attribute};
+
+use crate::attributes::attribute;
+use crate::rows::{Row, Rows};
+use crate::words::is_nc_name;
+use rx_tags::Tag;
+use rx_terms::{Lang, NoMemory, Text, has_scheme};
+use rx_words::{behind, first_token, is_empty, lower, split_last, trim};
+use std::alloc::Global;
+
+/// Adds what the tag declares. After want of memory some of it may stand there.
+pub(crate) fn push_declarations(
+    alloc: Global,
+    rows: &mut Rows,
+    tag: &Tag<'_>,
+) -> Result<(), NoMemory>
+    ensures ok { OnOk result (rows.new ≡ rows.old ++ rows_of (tag_of tag.now)) }
+{
+    push_namespaces(alloc, rows, tag)?;
+    push_prefixes(alloc, rows, attribute(tag, "prefix"))?;
+    push_vocabulary(alloc, rows, attribute(tag, "vocab"))?;
+    push_language(alloc, rows, language_attribute(tag))
+}
+
+/// The attribute that says the language: `xml:lang`, or else `lang`.
+fn language_attribute<'a>(tag: &Tag<'a>) -> Option<&'a str>
+    ensures value { seen_slice result ≡ language_attribute (tag_of tag.now) }
+{
+    match attribute(tag, "xml:lang") {
+        Some(value) => Some(value),
+        None => attribute(tag, "lang"),
+    }
+}
+
+/// The attributes `xmlns:NAME`.
+fn push_namespaces(alloc: Global, rows: &mut Rows, tag: &Tag<'_>) -> Result<(), NoMemory>
+    ensures ok { OnOk result (rows.new ≡ rows.old ++ mapping_rows (flat_map xmlns_of (tag_of tag.now).attributes)) }
+{
+    for i in 0..tag.count() {
+        let (name, value) = tag.attr_at(i);
+        push_namespace(alloc, rows, name, value)?;
+    }
+    Ok(())
+}
+
+fn push_namespace(
+    alloc: Global,
+    rows: &mut Rows,
+    name: &str,
+    value: &str,
+) -> Result<(), NoMemory>
+    ensures ok { OnOk result (rows.new ≡ rows.old ++ mapping_rows (xmlns_of (chars name.now, chars value.now))) }
+{
+    match behind(name, "xmlns:") {
+        Some(name) => push_mapping(alloc, rows, name, trim(value)),
+        None => Ok(()),
+    }
+}
+
+/// The pairs of the attribute `prefix`: each token that ends in a colon with the token after it.
+fn push_prefixes(alloc: Global, rows: &mut Rows, value: Option<&str>) -> Result<(), NoMemory>
+    ensures ok { OnOk result (rows.new ≡ rows.old ++ mapping_rows (of_prefix (seen_slice value.entry))) }
+{
+    match value {
+        Some(value) => push_pairs(alloc, rows, value),
+        None => Ok(()),
+    }
+}
+
+fn push_pairs(alloc: Global, rows: &mut Rows, value: &str) -> Result<(), NoMemory>
+    ensures ok { OnOk result (rows.new ≡ rows.old ++ mapping_rows (pairs (tokens (chars value.now)))) }
+{
+    let mut waiting = None;
+    let mut rest = value;
+    while let Some((token, behind)) = first_token(rest) {
+        match waiting {
+            Some(name) => {
+                push_mapping(alloc, rows, name, token)?;
+                waiting = None;
+            }
+            None => waiting = split_last(token, ':'),
+        }
+        rest = behind;
+    }
+    Ok(())
+}
+
+/// A prefix and its IRI, where the declaration counts.
+fn push_mapping(alloc: Global, rows: &mut Rows, name: &str, iri: &str) -> Result<(), NoMemory>
+    ensures ok { OnOk result (rows.new ≡ rows.old ++ mapping_rows ((lowered (chars name.now), chars iri.now) ∷ [])) }
+{
+    let name = lower(alloc, name)?;
+    if !counts(name.as_str(), iri) {
+        return Ok(());
+    }
+    let iri = Text::of(alloc, iri)?;
+    rows.push(Row::Prefix(name, iri))
+}
+
+/// Whether a declaration counts: the prefix is an NCName other than `_`, and the IRI has a scheme.
+fn counts(name: &str, iri: &str) -> bool
+    ensures { result ≡ counts (chars name.now, chars iri.now) }
+{
+    is_nc_name(name) && !is_low_line(name) && has_scheme(iri)
+}
+
+fn is_low_line(name: &str) -> bool
+    ensures { result ≡ bytes_eq (chars name.now) (codes "_") }
+{
+    name == "_"
+}
+
+fn push_vocabulary(alloc: Global, rows: &mut Rows, value: Option<&str>) -> Result<(), NoMemory>
+    ensures ok { OnOk result (rows.new ≡ rows.old ++ vocabulary_rows (seen_slice value.entry)) }
+{
+    let Some(value) = value else {
+        return Ok(());
+    };
+    let vocabulary = text_unless_empty(alloc, trim(value))?;
+    rows.push(Row::Vocabulary(vocabulary))
+}
+
+fn text_unless_empty(alloc: Global, text: &str) -> Result<Option<Text>, NoMemory>
+    ensures { IfOk result (λ some. some ≡ unless_empty (chars text.now)) }
+{
+    if is_empty(text) {
+        return Ok(None);
+    }
+    let text = Text::of(alloc, text)?;
+    Ok(Some(text))
+}
+
+fn push_language(alloc: Global, rows: &mut Rows, value: Option<&str>) -> Result<(), NoMemory>
+    ensures ok { OnOk result (rows.new ≡ rows.old ++ language_rows (seen_slice value.entry)) }
+{
+    let Some(value) = value else {
+        return Ok(());
+    };
+    let language = Lang::of(alloc, value)?;
+    rows.push(Row::Language(language))
+}

@@ -1,0 +1,173 @@
+//! The names in force along the open elements.
+ghost use Rattle.std.specs.Prelude.{◌≡◌, ◌<◌, ◌≤◌, [], ◌∷◌, List, length, true, OnOk, OnErr, IfOk, IfSome};
+ghost use Rattle.std.specs.Str.{chars};
+ghost use Rattle.rx_terms.specs.Iri.{has_scheme};
+ghost use Rattle.rx_terms.specs.Text.{lowered};
+ghost use Rattle.rx_refs.specs.Views.{seen_slice};
+ghost use Rattle.rx_rdfa.specs.Tree.{Tag as StartTag};
+ghost use Rattle.rx_rdfa.specs.Names.{prefix, vocab, language, term};
+ghost use Rattle.rx_names.specs.Tags.{tag_of};
+ghost use Rattle.rx_names.specs.Lines.{no_tags, pushed, popped, Stands, prefix_of, vocabulary_of, language_of, declared_along};
+ghost use Rattle.rx_names.specs.Views.{names_seen};
+
+use crate::contexts::Context;
+use crate::declarations::push_declarations;
+use crate::rows::Rows;
+use rx_tags::Tag;
+use rx_terms::NoMemory;
+use std::alloc::Global;
+use std::marker::Model;
+
+/// The names in force at the innermost of the open elements. Each declaration is kept once, and goes with its element. A
+/// contract sees the context, the declarations, and for each element how many stood below it.
+#[derive(Debug, Drop)]
+pub struct Names {
+    alloc: Global,
+    context: Context,
+    rows: Rows,
+    marks: Vec<usize>,
+}
+
+impl Model for Names {
+    ghost use Rattle.rx_names.specs.Lines.{Kept};
+
+    ghost Value = { Kept };
+
+    ghost view = { λ names. record { context = names.context; rows = names.rows; marks = names.marks.items } };
+}
+
+impl Names {
+    /// The names of the context alone, with room for so many levels of elements.
+    pub fn new(alloc: Global, context: Context, levels: u32) -> Result<Names, NoMemory>
+        ensures none { IfOk result (λ names. names ≡ no_tags context) }
+        ensures line { IfOk result (λ names. Stands names []) }
+    {
+        Ok(Names {
+            alloc,
+            context,
+            rows: Rows::new(alloc),
+            marks: Vec::with_capacity(alloc, levels as usize)?,
+        })
+    }
+
+    /// Adds the declarations of the start tag of an element inside the others.
+    pub fn push(&mut self, tag: &Tag<'_>) -> Result<(), NoMemory>
+        ensures ok { OnOk result (self.new ≡ pushed self.old (tag_of tag.now)) }
+        ensures line { OnOk result ((line : List StartTag) → Stands self.old line → Stands self.new (tag_of tag.now ∷ line)) }
+        ensures err { OnErr result (self.new ≡ self.old) }
+    {
+        let mut added = Rows::new(self.alloc);
+        push_declarations(self.alloc, &mut added, tag)?;
+        self.marks.reserve(1)?;
+        let mark = self.rows.len();
+        self.rows.append(added)?;
+        match self.marks.push(mark) {
+            Ok(()) => Ok(()),
+            Err(_refused) => Err(NoMemory),
+        }
+    }
+
+    /// Drops the declarations of the innermost element.
+    pub fn pop(&mut self)
+        requires { 0 < length self.old.marks }
+        ensures popped { self.new ≡ popped self.old }
+        ensures line { (tag : StartTag) (line : List StartTag) → Stands self.old (tag ∷ line) → Stands self.new line }
+    {
+        if let Some(mark) = self.marks.pop() {
+            self.rows.truncate(mark);
+        }
+    }
+
+    /// How many declarations are kept.
+    pub fn rows(&self) -> usize
+        ensures count { result ≡ length self.now.rows }
+        ensures bound { (line : List StartTag) → Stands self.now line → result ≤ declared_along line }
+    {
+        self.rows.len()
+    }
+
+    /// The names at the innermost element.
+    pub fn view(&self) -> NamesView<'_>
+        ensures same { names_seen result ≡ self.now }
+    {
+        NamesView { names: self }
+    }
+
+    fn prefix(&self, name: &str) -> Option<&str>
+        ensures value { seen_slice result ≡ prefix_of self.now (lowered (chars name.now)) }
+        ensures scheme { IfSome result (λ iri. has_scheme (chars iri.now) ≡ true) }
+    {
+        match self.rows.prefix(name) {
+            Some(iri) => Some(iri),
+            None => self.context.prefix(name),
+        }
+    }
+
+    fn vocab(&self) -> Option<&str>
+        ensures value { seen_slice result ≡ vocabulary_of self.now }
+    {
+        self.rows.vocabulary()
+    }
+
+    fn lang(&self) -> Option<&str>
+        ensures value { seen_slice result ≡ language_of self.now }
+    {
+        self.rows.language()
+    }
+
+    fn term(&self, name: &str) -> Option<&str>
+        ensures value { seen_slice result ≡ term self.now.context (chars name.now) }
+        ensures scheme { IfSome result (λ iri. has_scheme (chars iri.now) ≡ true) }
+    {
+        self.context.term(name)
+    }
+}
+
+/// The names in force at an element, lent. No call takes memory.
+#[derive(Clone, Copy)]
+pub struct NamesView<'a> {
+    names: &'a Names,
+}
+
+impl<'a> NamesView<'a> {
+    /// The IRI of the prefix, which is compared in lower case: what the nearest element that declares it says last, else what
+    /// the context says (RDFa Core 1.1, section 7.5, step 3).
+    pub fn prefix(&self, name: &str) -> Option<&'a str>
+        ensures kept { seen_slice result ≡ prefix_of (names_seen self.now) (lowered (chars name.now)) }
+        ensures line { (line : List StartTag) → Stands (names_seen self.now) line → seen_slice result ≡ prefix (names_seen self.now).context line (lowered (chars name.now)) }
+        ensures scheme { IfSome result (λ iri. has_scheme (chars iri.now) ≡ true) }
+    {
+        let names = self.names;
+        names.prefix(name)
+    }
+
+    /// The default vocabulary: that of the nearest element with `vocab`, none where that is empty (RDFa Core 1.1, section
+    /// 7.5, step 2).
+    pub fn vocab(&self) -> Option<&'a str>
+        ensures kept { seen_slice result ≡ vocabulary_of (names_seen self.now) }
+        ensures line { (line : List StartTag) → Stands (names_seen self.now) line → seen_slice result ≡ vocab line }
+    {
+        let names = self.names;
+        names.vocab()
+    }
+
+    /// The language: that of the nearest element with `xml:lang` or `lang`, none where that is no language tag (RDFa Core
+    /// 1.1, section 7.5, step 4).
+    pub fn lang(&self) -> Option<&'a str>
+        ensures kept { seen_slice result ≡ language_of (names_seen self.now) }
+        ensures line { (line : List StartTag) → Stands (names_seen self.now) line → seen_slice result ≡ language line }
+    {
+        let names = self.names;
+        names.lang()
+    }
+
+    /// The context's IRI for the term, or else for the first in byte order that is the same in lower case (RDFa Core 1.1,
+    /// section 7.4.3).
+    pub fn term(&self, name: &str) -> Option<&'a str>
+        ensures kept { seen_slice result ≡ term (names_seen self.now).context (chars name.now) }
+        ensures scheme { IfSome result (λ iri. has_scheme (chars iri.now) ≡ true) }
+    {
+        let names = self.names;
+        names.term(name)
+    }
+}

@@ -1,0 +1,175 @@
+//! The declarations that are kept.
+ghost use Rattle.std.specs.Prelude.{◌≡◌, [], ◌∷◌, ◌++◌, length, take, true, OnOk, OnErr, IfSome};
+ghost use Rattle.std.specs.Str.{chars};
+ghost use Rattle.rx_terms.specs.Iri.{has_scheme};
+ghost use Rattle.rx_terms.specs.Text.{lowered};
+ghost use Rattle.rx_refs.specs.Views.{seen_slice};
+ghost use Rattle.rx_names.specs.Rows.{is_sound, last_of, prefix_in, vocabulary_in, language_in, flattened};
+
+use rx_terms::{Lang, NoMemory, Text};
+use rx_words::is_same_lowered;
+use std::alloc::Global;
+use std::marker::Model;
+
+/// A declaration of a start tag.
+#[derive(Debug, Drop)]
+pub enum Row {
+    /// A prefix in lower case, and the IRI that it stands for.
+    Prefix(Text, Text),
+    /// The default vocabulary, none where the attribute is empty.
+    Vocabulary(Option<Text>),
+    /// The language, none where the attribute is no language tag.
+    Language(Option<Lang>),
+}
+
+/// The declarations of the open elements, in their order. A contract sees the list.
+#[derive(Debug, Drop)]
+pub(crate) struct Rows {
+    rows: Vec<Row>,
+}
+
+impl Model for Rows {
+    ghost use Rattle.std.specs.Prelude.{◌≡◌, List, true};
+    ghost use Rattle.std.specs.List.{list_all};
+    ghost use Rattle.rx_names.specs.declared.rows.Row.{Row};
+    ghost use Rattle.rx_names.specs.Rows.{is_sound};
+
+    ghost Value = { List Row };
+
+    ghost view = { λ rows. rows.rows.items };
+
+    ghost invariant = { λ rows. list_all is_sound rows.rows.items ≡ true };
+}
+
+impl Rows {
+    pub(crate) fn new(alloc: Global) -> Rows
+        ensures empty { result ≡ [] }
+    {
+        Rows {
+            rows: Vec::new(alloc),
+        }
+    }
+
+    pub(crate) fn push(&mut self, row: Row) -> Result<(), NoMemory>
+        requires { is_sound row ≡ true }
+        ensures ok { OnOk result (self.new ≡ self.old ++ row ∷ []) }
+        ensures err { OnErr result (self.new ≡ self.old) }
+    {
+        match self.rows.push(row) {
+            Ok(()) => Ok(()),
+            Err(_refused) => Err(NoMemory),
+        }
+    }
+
+    /// Adds the other rows at the end.
+    pub(crate) fn append(&mut self, other: Rows) -> Result<(), NoMemory>
+        ensures ok { OnOk result (self.new ≡ self.old ++ other) }
+        ensures err { OnErr result (self.new ≡ self.old) }
+    {
+        let Rows { mut rows } = other;
+        self.rows.append(&mut rows)?;
+        Ok(())
+    }
+
+    pub(crate) fn len(&self) -> usize
+        ensures length { result ≡ length self.now }
+    {
+        self.rows.len()
+    }
+
+    /// What the last declaration of the prefix says.
+    pub(crate) fn prefix(&self, name: &str) -> Option<&str>
+        ensures last { seen_slice result ≡ last_of (prefix_in (lowered (chars name.now))) self.now }
+        ensures scheme { IfSome result (λ iri. has_scheme (chars iri.now) ≡ true) }
+    {
+        for i in (0..self.rows.len()).rev() {
+            if let Some(iri) = self.rows[i].prefix(name) {
+                return Some(iri);
+            }
+        }
+        None
+    }
+
+    /// The default vocabulary by the last declaration of one.
+    pub(crate) fn vocabulary(&self) -> Option<&str>
+        ensures last { seen_slice result ≡ flattened (last_of vocabulary_in self.now) }
+    {
+        for i in (0..self.rows.len()).rev() {
+            if let Some(vocabulary) = self.rows[i].vocabulary() {
+                return vocabulary;
+            }
+        }
+        None
+    }
+
+    /// The language by the last declaration of one.
+    pub(crate) fn language(&self) -> Option<&str>
+        ensures last { seen_slice result ≡ flattened (last_of language_in self.now) }
+    {
+        for i in (0..self.rows.len()).rev() {
+            if let Some(language) = self.rows[i].language() {
+                return language;
+            }
+        }
+        None
+    }
+
+    /// Drops all but the first rows.
+    pub(crate) fn truncate(&mut self, count: usize)
+        ensures front { self.new ≡ take count self.old }
+    {
+        self.rows.truncate(count);
+    }
+}
+
+impl Row {
+    ghost use Rattle.std.specs.Prelude.{◌≡◌, true, option_map, IfSome};
+    ghost use Rattle.std.specs.Str.{chars};
+    ghost use Rattle.rx_terms.specs.Iri.{has_scheme};
+    ghost use Rattle.rx_terms.specs.Text.{lowered};
+    ghost use Rattle.rx_refs.specs.Views.{seen_slice};
+    ghost use Rattle.rx_names.specs.Rows.{is_sound, prefix_in, vocabulary_in, language_in};
+
+    /// The IRI of the prefix, where that is what the row declares.
+    fn prefix(&self, name: &str) -> Option<&str>
+        requires { is_sound self.now ≡ true }
+        ensures iri { seen_slice result ≡ prefix_in (lowered (chars name.now)) self.now }
+        ensures scheme { IfSome result (λ iri. has_scheme (chars iri.now) ≡ true) }
+    {
+        match self {
+            Row::Prefix(key, iri) => {
+                if is_same_lowered(key.as_str(), name) {
+                    Some(iri.as_str())
+                } else {
+                    None
+                }
+            }
+            Row::Vocabulary(_vocabulary) => None,
+            Row::Language(_language) => None,
+        }
+    }
+
+    /// The default vocabulary, where that is what the row declares.
+    fn vocabulary(&self) -> Option<Option<&str>>
+        ensures value { option_map seen_slice result ≡ vocabulary_in self.now }
+    {
+        match self {
+            Row::Prefix(_key, _iri) => None,
+            Row::Vocabulary(None) => Some(None),
+            Row::Vocabulary(Some(vocabulary)) => Some(Some(vocabulary.as_str())),
+            Row::Language(_language) => None,
+        }
+    }
+
+    /// The language, where that is what the row declares.
+    fn language(&self) -> Option<Option<&str>>
+        ensures value { option_map seen_slice result ≡ language_in self.now }
+    {
+        match self {
+            Row::Prefix(_key, _iri) => None,
+            Row::Vocabulary(_vocabulary) => None,
+            Row::Language(None) => Some(None),
+            Row::Language(Some(language)) => Some(Some(language.as_str())),
+        }
+    }
+}

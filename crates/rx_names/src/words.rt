@@ -1,0 +1,46 @@
+//! Names of prefixes and terms.
+ghost use Rattle.std.specs.Prelude.{◌≡◌, ◌||◌, ◌==◌};
+ghost use Rattle.std.specs.List.{list_all};
+ghost use Rattle.std.specs.Str.{chars};
+ghost use Rattle.rx_terms.specs.Ascii.{solidus};
+ghost use Rattle.rx_rdfa.specs.Names.{is_nc_name};
+ghost use Rattle.rx_rdfa.specs.Readings.{is_term};
+ghost use Rattle.rx_chars.specs.NcName as nc;
+ghost use Rattle.rx_names.specs.Words.{begins_name};
+
+use rx_chars::{is_nc, is_nc_start};
+
+/// Whether the text is an NCName (Namespaces in XML 1.0, section 3).
+pub fn is_nc_name(text: &str) -> bool
+    ensures { result ≡ is_nc_name (chars text.now) }
+{
+    begins_name(text) && are_nc(text)
+}
+
+/// Whether the text is a term (RDFa Core 1.1, section 7.4.3).
+pub fn is_term(text: &str) -> bool
+    ensures { result ≡ is_term (chars text.now) }
+{
+    begins_name(text) && are_nc_or_slash(text)
+}
+
+fn begins_name(text: &str) -> bool
+    ensures { result ≡ begins_name (chars text.now) }
+{
+    match text.chars().next() {
+        Some(first) => is_nc_start(first),
+        None => false,
+    }
+}
+
+fn are_nc(text: &str) -> bool
+    ensures { result ≡ list_all nc.is_nc (chars text.now) }
+{
+    text.chars().all(|c| is_nc(c))
+}
+
+fn are_nc_or_slash(text: &str) -> bool
+    ensures { result ≡ list_all (λ c. nc.is_nc c || c == solidus) (chars text.now) }
+{
+    text.chars().all(|c| is_nc(c) || c == '/')
+}
