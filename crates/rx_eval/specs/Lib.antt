@@ -1,0 +1,5 @@
+pub mod Labels
+pub mod Rows
+pub mod Moment
+pub mod Places
+pub mod Found

@@ -1,0 +1,9 @@
+//! The rules of RDFa on one page, as its elements come: a stack of contexts, one for each open element.
+#![tactic(auto)]
+
+mod labels;
+mod places;
+mod resources;
+mod shared;
+
+pub use labels::Labels;
