@@ -1,5 +1,5 @@
 -- The numbers of authors' blank nodes.
-use Rattle.std.specs.Prelude.{ℕ, ◌+◌, List, [], ◌∷◌, ◌++◌, Option, Some, None, is_some, bytes_eq, if◌then◌else◌}
+use Rattle.std.specs.Prelude.{◌≡◌, ℕ, ◌+◌, List, [], ◌∷◌, ◌++◌, Option, Some, None, is_some, bytes_eq, if◌then◌else◌}
 use Rattle.rx_terms.specs.Text.{Chars}
 
 -- the labels that have a number, in the order in which they got it
@@ -15,3 +15,7 @@ abbrev pub draw : Numbered → ℕ → List Chars → Numbered × ℕ
 draw numbered next [] = (numbered, next)
 draw numbered next (label ∷ more) =
     if is_some (number_of numbered label) then draw numbered next more else draw (numbered ++ (label, next) ∷ []) (next + 1) more
+
+-- some labels have drawn their numbers
+pub record Drawn (old : Numbered) (next : ℕ) (labels : List Chars) (new : Numbered) (after : ℕ) : Type 0 where
+  pub path : draw old next labels ≡ (new, after)

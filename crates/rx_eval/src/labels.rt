@@ -1,6 +1,6 @@
 //! The numbers of authors' blank nodes.
 ghost use Rattle.std.specs.Prelude.{◌≡◌, ◌<◌, ◌^◌, ◌+◌, [], ◌∷◌, ◌++◌, length, OnOk, OnErr, IfOk, None, unwrap_or};
-ghost use Rattle.rx_eval.specs.Labels.{number_of, draw};
+ghost use Rattle.rx_eval.specs.Labels.{number_of, Drawn};
 ghost use Rattle.rx_eval.specs.Rows.{IsNew};
 
 use indexmap::IndexSet;
@@ -70,8 +70,7 @@ impl Labels {
     /// Gives the label the next number where it has none, and answers the number that comes next then.
     pub(crate) fn draw(&mut self, label: &Text, next: u64) -> Result<u64, NoMemory>
         requires { next + 1 < 2 ^ 64 }
-        ensures numbers { OnOk result (self.new ≡ (draw self.old next (label.now ∷ [])).0) }
-        ensures next { IfOk result (λ n. n ≡ (draw self.old next (label.now ∷ [])).1) }
+        ensures { IfOk result (λ after. Drawn self.old next (label.now ∷ []) self.new after) }
     {
         match self.find(label) {
             Some(_number) => Ok(next),

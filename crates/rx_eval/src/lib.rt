@@ -1,6 +1,7 @@
 //! The rules of RDFa on one page, as its elements come: a stack of contexts, one for each open element.
 #![tactic(auto)]
 
+mod drawing;
 mod labels;
 mod places;
 mod resources;
