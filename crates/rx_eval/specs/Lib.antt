@@ -3,3 +3,4 @@ pub mod Rows
 pub mod Moment
 pub mod Places
 pub mod Found
+pub mod TextRules

@@ -2,9 +2,11 @@
 #![tactic(auto)]
 
 mod drawing;
+mod iris;
 mod labels;
 mod places;
 mod resources;
 mod shared;
+mod values;
 
 pub use labels::Labels;

@@ -74,7 +74,6 @@ impl Lists {
 
     /// Makes the owner's list of the predicate where it isn't there.
     pub fn touch(&mut self, owner: Owner, predicate: &Iri) -> Result<(), NoMemory>
-        requires { IsOpen self.old owner.0 }
         ensures ok { OnOk result (self.new ≡ changed (put predicate.now None) self.old owner.0) }
         ensures err { OnErr result (self.new ≡ self.old) }
     {
@@ -86,7 +85,6 @@ impl Lists {
 
     /// Reserves the next place of the owner's list of the predicate, which is made where it isn't there.
     pub fn slot(&mut self, owner: Owner, predicate: &Iri) -> Result<SlotId, NoMemory>
-        requires { IsOpen self.old owner.0 }
         ensures ok { OnOk result (self.new ≡ changed (put predicate.now (Some None)) self.old owner.0) }
         ensures slot { IfOk result (λ slot. slot ≡ slot_in owner predicate.now (lists_of (open_at self.old owner.0))) }
         ensures err { OnErr result (self.new ≡ self.old) }
@@ -102,7 +100,6 @@ impl Lists {
 
     /// Puts the term into a slot that is still empty.
     pub fn fill(&mut self, slot: SlotId, value: Term)
-        requires { IsEmptySlot self.old slot.owner.0 slot.list slot.place }
         ensures { self.new ≡ changed (with_term slot.list slot.place value) self.old slot.owner.0 }
     {
         match &mut self.owners[slot.owner.0] {
@@ -114,8 +111,7 @@ impl Lists {
     /// The triples of the owner's lists: of each its head and its cells (RDF Schema 1.1, section 5.2), numbered in the
     /// order of the slots from `next_blank` on. A slot that is still empty has no cell. The owner is forgotten.
     pub fn finish(&mut self, owner: Owner, next_blank: u64) -> Result<Finished, NoMemory>
-        requires open { IsOpen self.old owner.0 }
-        requires room { next_blank + size (lists_of (open_at self.old owner.0)) < 2 ^ 64 }
+        requires { next_blank + size (lists_of (open_at self.old owner.0)) < 2 ^ 64 }
         ensures ok { OnOk result (self.new ≡ trimmed (slice_set self.old owner.0 None)) }
         ensures triples { IfOk result (λ f. triples_seen f.triples ≡ finished_cells next_blank (open_at self.old owner.0)) }
         ensures next { IfOk result (λ f. f.next_blank ≡ next_blank + size (items_seen (lists_of (open_at self.old owner.0)))) }
@@ -128,8 +124,7 @@ impl Lists {
     }
 
     fn finished(&self, owner: Owner, next_blank: u64) -> Result<Finished, NoMemory>
-        requires open { IsOpen self.now owner.0 }
-        requires room { next_blank + size (lists_of (open_at self.now owner.0)) < 2 ^ 64 }
+        requires { next_blank + size (lists_of (open_at self.now owner.0)) < 2 ^ 64 }
         ensures triples { IfOk result (λ f. triples_seen f.triples ≡ finished_cells next_blank (open_at self.now owner.0)) }
         ensures next { IfOk result (λ f. f.next_blank ≡ next_blank + size (items_seen (lists_of (open_at self.now owner.0)))) }
     {
