@@ -102,3 +102,7 @@ trim_popped xs ys None h e = ap trimmed (sym (append-nil ys) ∙ sym e)
 trim_popped xs ys (Some p) h e =
     let n : length xs - 1 ≡ length ys = omega (arith, ap length e, length-append ys (p ∷ [])) in
     trim_turn xs ys h (sym (take-append_seam ys (p ∷ [])) ∙ ap (take (length ys)) (sym e) ∙ ap (λ (k : ℕ). take k xs) (sym n))
+
+-- as many numbers are left as the lists that are left may take
+pub record Fitting (numbers next : ℕ) (left lists : Slots) : Type 0 where
+  pub path : numbers + (next + size lists) + 1 ≡ 2 ^ 64 + size left

@@ -1,6 +1,5 @@
 -- Who owns lists, and the lists: what contracts see of them.
-use Rattle.std.specs.Prelude.{◌≡◌, ℕ, suc, Bool, true, false, List, [], ◌∷◌, ◌++◌, Option, Some, None, option_and_then, option_map, is_some, bytes_eq, map, slice_get, slice_set, slice_index_or, if◌then◌else◌, IsSome}
-use Rattle.std.specs.List.{list_all}
+use Rattle.std.specs.Prelude.{ℕ, suc, Bool, true, false, List, [], ◌∷◌, ◌++◌, Option, Some, None, option_and_then, option_map, bytes_eq, map, slice_get, slice_set, slice_index_or, if◌then◌else◌}
 use Rattle.rx_terms.specs.Text.{Chars}
 use Rattle.rx_terms.specs.declared.triples.Node.{Node}
 use Rattle.rx_terms.specs.declared.triples.Term.{Term}
@@ -28,10 +27,6 @@ itself x = x
 -- the owner of that number
 abbrev pub open_at : Owners → ℕ → Option Owned
 open_at owners number = option_and_then itself (slice_get owners number)
-
--- the number is that of an owner that isn't finished
-abbrev pub IsOpen : Owners → ℕ → Type 0
-IsOpen owners number = IsSome (open_at owners number)
 
 abbrev pub with_lists : (Slots → Slots) → Owned → Owned
 with_lists change owned = record { subject = owned.subject; lists = change owned.lists }
@@ -71,14 +66,6 @@ abbrev pub lists_of : Option Owned → Slots
 lists_of None = []
 lists_of (Some owned) = owned.lists
 
--- the slot is there, and has no term yet
-abbrev pub IsEmptySlot : Owners → ℕ → ℕ → ℕ → Type 0
-IsEmptySlot owners number list place = slice_get (slots_at (lists_of (open_at owners number)) list) place ≡ Some None
-
--- every slot has its term
-abbrev pub is_filled : Slots → Bool
-is_filled lists = list_all (λ row. list_all is_some row.1) lists
-
 -- without the finished owners at the end
 abbrev pub trimmed_by : Option Owned → Owners → Owners
 trimmed_by None [] = []
@@ -94,3 +81,7 @@ abbrev pub is_finished : Option (Option Owned) → Bool
 is_finished None = false
 is_finished (Some None) = true
 is_finished (Some (Some owned)) = false
+
+-- the owners without the one of that number
+abbrev pub forgotten : Owners → ℕ → Owners
+forgotten owners number = trimmed (slice_set owners number None)

@@ -1,5 +1,5 @@
 //! The lists of one owner.
-ghost use Rattle.std.specs.Prelude.{◌≡◌, ◌+◌, ◌^◌, slice_index_or, ◌∷◌, ◌++◌, ◌<◌, [], OnOk, OnErr, IfOk, Some, None, slice_get, length};
+ghost use Rattle.std.specs.Prelude.{◌≡◌, ◌+◌, ◌^◌, slice_index_or, ◌∷◌, ◌++◌, ◌<◌, [], OnOk, OnErr, IfOk, IsTrue, ◌↔◌, Some, None, slice_get, length};
 ghost use Rattle.rx_rdfa.specs.Tables.{put};
 ghost use Rattle.rx_model.specs.Seen.{node_seen, triples_seen};
 ghost use Rattle.rx_lists.specs.Cells.{cells_of, items_seen, size};
@@ -79,12 +79,26 @@ impl OwnerLists {
         }
     }
 
-    /// Puts the term into an empty slot.
+    /// Puts the term into the slot, if it is there.
     pub(crate) fn fill(&mut self, list: usize, place: usize, term: Term)
-        requires { slice_get (slots_at self.old.lists list) place ≡ Some None }
         ensures { self.new ≡ with_lists (with_term list place term) self.old }
     {
         self.slots.set(list, place, term);
+    }
+
+    /// Whether the numbers from `next_blank` on suffice for the cells, one for each slot.
+    pub(crate) fn fits(&self, next_blank: u64) -> bool
+        ensures { IsTrue result ↔ (next_blank + size self.now.lists < 2 ^ 64) }
+    {
+        let mut left = u64::MAX - next_blank;
+        for list in 0..self.len() {
+            let slots = self.row(list).len() as u64;
+            if left < slots {
+                return false;
+            }
+            left -= slots;
+        }
+        true
     }
 
     /// The triples of all lists, their cells numbered from `next_blank` on, and the number after the last cell's.

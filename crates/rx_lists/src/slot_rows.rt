@@ -1,6 +1,6 @@
 //! The slots of several lists.
 ghost use Rattle.rx_lists.specs.Rows.{first_slots};
-ghost use Rattle.std.specs.Prelude.{◌≡◌, ◌<◌, [], ◌∷◌, ◌++◌, length, OnOk, OnErr, IfOk, Some, None, slice_get, slice_set, slice_index_or, take, ◌-◌};
+ghost use Rattle.std.specs.Prelude.{◌≡◌, ◌<◌, [], ◌∷◌, ◌++◌, length, OnOk, OnErr, IfOk, IsTrue, ◌↔◌, Some, None, slice_get, slice_set, slice_index_or, take, ◌-◌};
 
 use rx_terms::{NoMemory, Term};
 use std::alloc::Global;
@@ -69,8 +69,26 @@ impl SlotRows {
         Ok(())
     }
 
-    /// Puts the term into the slot.
+    /// Puts the term into the slot, if it is there.
     pub(crate) fn set(&mut self, row: usize, place: usize, term: Term)
+        ensures { self.new ≡ slice_set self.old row (slice_set (slice_index_or self.old row []) place (Some term)) }
+    {
+        if self.has(row, place) {
+            self.put(row, place, term);
+        }
+    }
+
+    /// Whether the slot is there.
+    fn has(&self, row: usize, place: usize) -> bool
+        ensures { IsTrue result ↔ ((row < length self.now) × (place < length (slice_index_or self.now row []))) }
+    {
+        if row >= self.rows.len() {
+            return false;
+        }
+        place < self.rows[row].len()
+    }
+
+    fn put(&mut self, row: usize, place: usize, term: Term)
         requires row { row < length self.old }
         requires place { place < length (slice_index_or self.old row []) }
         ensures { self.new ≡ slice_set self.old row (slice_set (slice_index_or self.old row []) place (Some term)) }
