@@ -8,7 +8,7 @@ use Rattle.rx_curie.specs.Seen.{ref_seen, refs_seen}
 use Rattle.rx_eval.specs.Labels.{Numbered, number_of, draw, Drawn}
 use Rattle.rx_eval.proofs.LabelLemmas.{by_test}
 
-drop_at : {A : Type 0} (xs : List A) (i : ℕ) (x : A) → slice_get xs i ≡ Some x → drop i xs ≡ x ∷ drop (suc i) xs
+pub drop_at : {A : Type 0} (xs : List A) (i : ℕ) (x : A) → slice_get xs i ≡ Some x → drop i xs ≡ x ∷ drop (suc i) xs
 drop_at [] i x h = absurd (cc)
 drop_at (y ∷ xs) zero x h = let e : y ≡ x = cc in ap (λ (z : _). z ∷ xs) e
 drop_at (y ∷ xs) (suc i) x h = drop_at xs i x h

@@ -1,2 +1,4 @@
 pub mod LabelLemmas
 pub mod DrawLemmas
+pub mod TripleLemmas
+pub mod EntryLemmas

@@ -4,3 +4,5 @@ pub mod Moment
 pub mod Places
 pub mod Found
 pub mod TextRules
+pub mod Triples
+pub mod Entries

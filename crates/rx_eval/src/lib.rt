@@ -1,12 +1,15 @@
 //! The rules of RDFa on one page, as its elements come: a stack of contexts, one for each open element.
 #![tactic(auto)]
 
+mod contexts;
 mod drawing;
+mod entries;
 mod iris;
 mod labels;
 mod places;
 mod resources;
 mod shared;
+mod triples;
 mod values;
 
 pub use labels::Labels;
