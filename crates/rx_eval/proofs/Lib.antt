@@ -2,3 +2,4 @@ pub mod LabelLemmas
 pub mod DrawLemmas
 pub mod TripleLemmas
 pub mod EntryLemmas
+pub mod NodeLemmas

@@ -6,3 +6,5 @@ pub mod Found
 pub mod TextRules
 pub mod Triples
 pub mod Entries
+pub mod Starts
+pub mod Handing

@@ -7,8 +7,16 @@ use Rattle.rx_rdfa.specs.Facts.{Facts, ElementKind, Datatype, Empty, Is, Head, B
 use Rattle.rx_rdfa.specs.Facts as facts
 use Rattle.rx_rdfa.specs.Resources.{Resources, resource_attribute, has_link, only}
 use Rattle.rx_rdfa.specs.Value.{typed_literal, plain_literal, time_literal, rule_or, value_now, ByResource, ByTyped, ByText}
+use Rattle.rx_terms.specs.declared.triples.Node.{Node as CodeNode}
+use Rattle.rx_terms.specs.declared.triples.Node.TheVariants as code_node
+use Rattle.rx_terms.specs.declared.triples.Term.{Term as CodeTerm}
+use Rattle.rx_terms.specs.declared.triples.Term.TheVariants as code_term
 use Rattle.rx_eval.specs.declared.values.TextRule.{TextRule}
 use Rattle.rx_eval.specs.declared.values.TextRule.TheVariants.{Plain, Typed, Time}
+
+abbrev pub term_of : CodeNode → CodeTerm
+term_of (code_node.Iri iri) = code_term.Iri iri
+term_of (code_node.Blank blank) = code_term.Blank blank
 
 abbrev pub resource_term : Node ℕ → Term ℕ
 resource_term node = Resource node

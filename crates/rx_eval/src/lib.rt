@@ -4,11 +4,13 @@
 mod contexts;
 mod drawing;
 mod entries;
+mod handing;
 mod iris;
 mod labels;
 mod places;
 mod resources;
 mod shared;
+mod starts;
 mod triples;
 mod values;
 

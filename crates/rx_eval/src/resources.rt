@@ -57,7 +57,7 @@ impl<'a> Place<'a> {
     }
 
     /// A new node.
-    fn fresh(&self) -> Result<Shared, NoMemory>
+    pub(crate) fn fresh(&self) -> Result<Shared, NoMemory>
         ensures { IfOk result (λ node. node_seen node ≡ fresh_node self.now) }
     {
         Shared::new(self.alloc, Node::Blank(Blank(self.fresh)))

@@ -7,7 +7,7 @@ ghost use Rattle.rx_rdfa.specs.Resources.{resource_attribute, resource_named};
 ghost use Rattle.rx_rdfa.specs.Value.{typed_literal, plain_literal, time_literal, is_time, rule, value_now, literal_by};
 ghost use Rattle.rx_curie.specs.Seen.{datatype_seen, facts_seen, ref_seen, kind_seen};
 ghost use Rattle.rx_eval.specs.Found.{naming, found_seen};
-ghost use Rattle.rx_eval.specs.TextRules.{text_rule, text_literal, resource_term, resource_value};
+ghost use Rattle.rx_eval.specs.TextRules.{text_rule, text_literal, resource_term, resource_value, term_of};
 
 use crate::iris::time_datatype;
 use crate::places::{Place, named};
@@ -30,7 +30,8 @@ pub(crate) enum TextRule {
 
 /// The node as a term.
 pub(crate) fn node_term(node: &Node) -> Result<Term, NoMemory>
-    ensures { IfOk result (λ term. term_seen term ≡ resource_term (node_seen node.now)) }
+    ensures code { IfOk result (λ term. term ≡ term_of node.now) }
+    ensures seen { IfOk result (λ term. term_seen term ≡ resource_term (node_seen node.now)) }
 {
     match node {
         Node::Iri(iri) => Ok(Term::Iri(iri.try_clone()?)),
