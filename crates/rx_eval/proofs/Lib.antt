@@ -3,3 +3,4 @@ pub mod DrawLemmas
 pub mod TripleLemmas
 pub mod EntryLemmas
 pub mod NodeLemmas
+pub mod GrowLemmas

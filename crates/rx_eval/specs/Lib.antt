@@ -8,3 +8,4 @@ pub mod Triples
 pub mod Entries
 pub mod Starts
 pub mod Handing
+pub mod Frames

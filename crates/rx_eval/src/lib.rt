@@ -4,6 +4,7 @@
 mod contexts;
 mod drawing;
 mod entries;
+mod frames;
 mod handing;
 mod iris;
 mod labels;
