@@ -4,3 +4,4 @@ pub mod TripleLemmas
 pub mod EntryLemmas
 pub mod NodeLemmas
 pub mod GrowLemmas
+pub mod SeenLemmas

@@ -9,3 +9,6 @@ pub mod Entries
 pub mod Starts
 pub mod Handing
 pub mod Frames
+pub mod OwnersSeen
+pub mod Listing
+pub mod Elements

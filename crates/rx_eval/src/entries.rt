@@ -1,7 +1,10 @@
 //! What elements put into lists (RDFa Core 1.1, section 7.5, steps 9 to 12).
-ghost use Rattle.std.specs.Prelude.{◌≡◌, OnOk, IfOk, Some, None};
+ghost use Rattle.std.specs.Prelude.{◌≡◌, OnOk, IfOk, Some, None, map};
 ghost use Rattle.rx_rdfa.specs.Tables.{put};
 ghost use Rattle.rx_lists.specs.Owners.{changed};
+ghost use Rattle.rx_model.specs.Seen.{term_seen};
+ghost use Rattle.rx_rdfa.specs.Lists.{entry};
+ghost use Rattle.rx_eval.specs.OwnersSeen.{owners_seen, put_entries};
 ghost use Rattle.rx_eval.specs.Entries.{put_each, slots_for, put_awaited};
 
 use crate::contexts::Waiting;
@@ -31,7 +34,8 @@ pub(crate) fn add_each(
     predicates: &Iris,
     item: &Term,
 ) -> Result<(), NoMemory>
-    ensures { OnOk result (lists.new ≡ put_each owner.0 (Some (Some item.now)) predicates.now lists.old) }
+    ensures code { OnOk result (lists.new ≡ put_each owner.0 (Some (Some item.now)) predicates.now lists.old) }
+    ensures seen { OnOk result (owners_seen lists.new ≡ put_entries (map (entry owner.0 (Some (Some (term_seen item.now)))) predicates.now) (owners_seen lists.old)) }
 {
     for i in 0..predicates.len() {
         add_item(lists, owner, predicates.at(i), item)?;
@@ -41,7 +45,8 @@ pub(crate) fn add_each(
 
 /// Makes the owner's list of each predicate.
 pub(crate) fn touch_each(lists: &mut Lists, owner: Owner, predicates: &Iris) -> Result<(), NoMemory>
-    ensures { OnOk result (lists.new ≡ put_each owner.0 None predicates.now lists.old) }
+    ensures code { OnOk result (lists.new ≡ put_each owner.0 None predicates.now lists.old) }
+    ensures seen { OnOk result (owners_seen lists.new ≡ put_entries (map (entry owner.0 None) predicates.now) (owners_seen lists.old)) }
 {
     for i in 0..predicates.len() {
         lists.touch(owner, predicates.at(i))?;
@@ -57,6 +62,7 @@ pub(crate) fn slot_each(
     predicates: &Iris,
 ) -> Result<Vec<SlotId>, NoMemory>
     ensures lists { OnOk result (lists.new ≡ put_each owner.0 (Some None) predicates.now lists.old) }
+    ensures seen { OnOk result (owners_seen lists.new ≡ put_entries (map (entry owner.0 (Some None)) predicates.now) (owners_seen lists.old)) }
     ensures slots { IfOk result (λ slots. slots.items ≡ slots_for owner predicates.now lists.old) }
 {
     let mut slots = Vec::new(alloc);

@@ -3,11 +3,13 @@
 
 mod contexts;
 mod drawing;
+mod elements;
 mod entries;
 mod frames;
 mod handing;
 mod iris;
 mod labels;
+mod listing;
 mod places;
 mod resources;
 mod shared;
