@@ -5,3 +5,4 @@ pub mod EntryLemmas
 pub mod NodeLemmas
 pub mod GrowLemmas
 pub mod SeenLemmas
+pub mod EnterLemmas

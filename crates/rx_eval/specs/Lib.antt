@@ -12,3 +12,5 @@ pub mod Frames
 pub mod OwnersSeen
 pub mod Listing
 pub mod Elements
+pub mod Gathering
+pub mod Entering
