@@ -6,3 +6,4 @@ pub mod NodeLemmas
 pub mod GrowLemmas
 pub mod SeenLemmas
 pub mod EnterLemmas
+pub mod FrameLemmas

@@ -14,3 +14,5 @@ pub mod Listing
 pub mod Elements
 pub mod Gathering
 pub mod Entering
+pub mod Opening
+pub mod Closing

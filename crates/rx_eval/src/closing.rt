@@ -1,0 +1,75 @@
+//! The end of an element (RDFa Core 1.1, section 7.5, steps 11 and 14).
+ghost use Rattle.std.specs.Prelude.{◌≡◌, ◌++◌, ◌<◌, ◌^◌, IfOk, OnOk, OnErr};
+ghost use Rattle.std.specs.Str.{chars};
+ghost use Rattle.rx_model.specs.Seen.{node_seen, term_seen, triples_seen};
+ghost use Rattle.rx_lists.specs.Cells.{finished_cells};
+ghost use Rattle.rx_lists.specs.Owners.{open_at, forgotten};
+ghost use Rattle.rx_eval.specs.TextRules.{text_literal};
+ghost use Rattle.rx_eval.specs.Closing.{filled_in, said_by, listed_by};
+
+use crate::frames::{Gathered, Target};
+use crate::triples::push_each;
+use rx_lists::{Lists, Owner, SlotId};
+use rx_terms::{NoMemory, Term, TripleList};
+use std::alloc::Global;
+
+/// Puts the value into each of the places.
+fn fill_each(lists: &mut Lists, slots: &[SlotId], value: &Term) -> Result<(), NoMemory>
+    ensures { OnOk result (lists.new ≡ filled_in slots.now value.now lists.old) }
+{
+    for slot in slots {
+        lists.fill(*slot, value.try_clone()?);
+    }
+    Ok(())
+}
+
+/// The value that the text is goes where it is wanted: into triples, or into the places in lists.
+fn put_value(
+    out: &mut TripleList,
+    lists: &mut Lists,
+    gathered: &Gathered,
+    value: &Term,
+) -> Result<(), NoMemory>
+    ensures said { OnOk result (triples_seen out.new ≡ triples_seen out.old ++ said_by gathered.now.target (node_seen gathered.now.subject) (term_seen value.now)) }
+    ensures filled { OnOk result (lists.new ≡ listed_by gathered.now.target value.now lists.old) }
+{
+    match &gathered.target {
+        Target::Said(predicates) => push_each(out, gathered.subject.node(), predicates, value),
+        Target::Listed(slots) => fill_each(lists, slots.as_slice(), value),
+    }
+}
+
+/// The end of an element's text.
+pub(crate) fn end_text(
+    alloc: Global,
+    out: &mut TripleList,
+    lists: &mut Lists,
+    gathered: &Gathered,
+    text: &str,
+) -> Result<(), NoMemory>
+    ensures said { OnOk result (triples_seen out.new ≡ triples_seen out.old ++ said_by gathered.now.target (node_seen gathered.now.subject) (text_literal gathered.now.rule gathered.now.lang (chars text.now))) }
+{
+    let value = gathered.rule.value(alloc, &gathered.lang, text)?;
+    put_value(out, lists, gathered, &value)
+}
+
+/// Adds the triples of an owner's lists, whose cells are numbered from `next` on, and gives the next number. Where no
+/// number is left for a cell there is no memory for one either.
+pub(crate) fn end_lists(
+    out: &mut TripleList,
+    lists: &mut Lists,
+    owner: Owner,
+    next: u64,
+) -> Result<u64, NoMemory>
+    ensures triples { OnOk result (triples_seen out.new ≡ triples_seen out.old ++ finished_cells next (open_at lists.old owner.0)) }
+    ensures lists { OnOk result (lists.new ≡ forgotten lists.old owner.0) }
+{
+    if !lists.fits(owner, next) {
+        return Err(NoMemory);
+    }
+    let finished = lists.finish(owner, next)?;
+    for i in 0..finished.triples.len() {
+        out.push(finished.triples.at(i).try_clone()?)?;
+    }
+    Ok(finished.next_blank)
+}
