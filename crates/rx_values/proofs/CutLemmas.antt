@@ -4,7 +4,7 @@ use Rattle.std.proofs.Math.Seq.{take-append_seam, drop-append_seam}
 use Rattle.std.specs.Str.{chars, IsUtf8, IsCharBoundary, encode_utf8_all, all_scalars}
 use Rattle.std.proofs.lemmas.Bool.{and_parts, and_from}
 use Rattle.std.proofs.lemmas.Str.{encodes-chars, scalars-chars, chars-encodes, encodes-append, IsCharBoundary-at_seam}
-use Rattle.rx_values.specs.Marks.{CutAt, IsMark}
+use Rattle.rx_values.specs.Marks.{CutAt}
 
 front_scalars : (front rest : List ℕ) → all_scalars (front ++ rest) ≡ true → all_scalars front ≡ true
 front_scalars [] rest h = refl
@@ -38,8 +38,8 @@ boundary_by bs mark front rest b =
 cut_bytes_at : (text bs : List ℕ) (mark : ℕ) (front rest : List ℕ) → IsUtf8 bs → chars bs ≡ text → CutAt text mark front rest → CutBytes bs mark front rest
 cut_bytes_at text bs mark front rest u e at = cut_bytes bs mark front rest u (record { whole = e ∙ at.whole; size = at.size })
 
-pub boundary : (text bs : List ℕ) (mark : ℕ) → IsUtf8 bs → chars bs ≡ text → IsMark text mark → IsCharBoundary bs mark
-boundary text bs mark u e (front, (rest, at)) = boundary_by bs mark front rest (cut_bytes_at text bs mark front rest u e at)
+pub boundary : (text bs : List ℕ) (mark : ℕ) (front rest : List ℕ) → IsUtf8 bs → chars bs ≡ text → CutAt text mark front rest → IsCharBoundary bs mark
+boundary text bs mark front rest u e at = boundary_by bs mark front rest (cut_bytes_at text bs mark front rest u e at)
 
 pub kept : (text bs : List ℕ) (mark : ℕ) (front rest : List ℕ) → IsUtf8 bs → chars bs ≡ text → CutAt text mark front rest → chars (take mark bs) ≡ front
 kept text bs mark front rest u e at =

@@ -7,7 +7,3 @@ use Rattle.rx_terms.specs.Text.{Chars}
 pub record CutAt (text : Chars) (mark : ℕ) (front rest : Chars) : Type 0 where
   pub whole : text ≡ front ++ rest
   pub size : mark ≡ length (encode_utf8_all front)
-
--- some front of the text takes so many bytes
-abbrev pub IsMark : Chars → ℕ → Type 0
-IsMark text mark = (front : Chars) × ((rest : Chars) × CutAt text mark front rest)

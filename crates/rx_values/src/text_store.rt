@@ -2,7 +2,7 @@
 ghost use Rattle.std.specs.Prelude.{◌≡◌, [], ◌++◌, length, OnOk, OnErr, encode_utf8_all};
 ghost use Rattle.std.specs.Str.{chars};
 ghost use Rattle.rx_terms.specs.Text.{Chars};
-ghost use Rattle.rx_values.specs.Marks.{CutAt, IsMark};
+ghost use Rattle.rx_values.specs.Marks.{CutAt};
 
 use rx_terms::NoMemory;
 use std::alloc::Global;
@@ -51,19 +51,24 @@ impl TextStore {
         self.text.as_str().len()
     }
 
-    /// The text behind the mark, which is the length in bytes of a front of what is kept.
+    /// The text behind the mark, which is the length in bytes of a front of what is kept. Behind any other number there
+    /// is none.
     pub fn since(&self, mark: usize) -> &str
-        requires { IsMark self.now mark }
         ensures { (front rest : Chars) → CutAt self.now mark front rest → chars result.now ≡ rest }
     {
-        &self.text.as_str()[mark..]
+        match self.text.as_str().split_at_checked(mark) {
+            Some((_front, rest)) => rest,
+            None => "",
+        }
     }
 
-    /// Drops the text behind the mark, which is the length in bytes of a front of what is kept.
+    /// Drops the text behind the mark, which is the length in bytes of a front of what is kept. Any other number drops
+    /// nothing.
     pub fn cut(&mut self, mark: usize)
-        requires { IsMark self.old mark }
         ensures { (front rest : Chars) → CutAt self.old mark front rest → self.new ≡ front }
     {
-        self.text.truncate(mark);
+        if self.text.as_str().is_char_boundary(mark) {
+            self.text.truncate(mark);
+        }
     }
 }
