@@ -7,3 +7,4 @@ pub mod GrowLemmas
 pub mod SeenLemmas
 pub mod EnterLemmas
 pub mod FrameLemmas
+pub mod OpenLemmas

@@ -1,7 +1,7 @@
 -- What is put into the code's lists, as the rules see it.
-use Rattle.std.proofs.Common.{◌≡◌, ◌∙◌, ℕ, zero, suc, List, [], ◌∷◌, ◌++◌, map, filter_map, Option, Some, None, option_map, option_to_list, slice_get, slice_set, bytes_eq, refl, sym, ap, Result, Ok, Err, OnOk}
+use Rattle.std.proofs.Common.{◌≡◌, ◌∙◌, ℕ, zero, suc, List, [], ◌∷◌, ◌++◌, map, filter_map, Option, Some, None, option_map, option_to_list, slice_get, slice_set, bytes_eq, refl, sym, ap, ap₂, length, drop, ◌≤◌, slice_index_or, Result, Ok, Err, OnOk}
 use Rattle.std.specs.Prelude.{Bool, true, false, if◌then◌else◌}
-use Rattle.std.proofs.lemmas.List.{map-append}
+use Rattle.std.proofs.lemmas.List.{map-append, map-set}
 use Rattle.rx_terms.specs.Text.{Chars}
 use Rattle.rx_terms.specs.declared.triples.Node.{Node as CodeNode}
 use Rattle.rx_terms.specs.declared.triples.Node.TheVariants as code_node
@@ -11,14 +11,18 @@ use Rattle.rx_model.specs.Seen.{node_seen, term_seen}
 use Rattle.rx_rdfa.specs.Tables.{put}
 use Rattle.rx_rdfa.specs.Lists.{Entry, entry}
 use Rattle.rx_rdfa.specs.Inherited.{listed}
-use Rattle.rx_lists.specs.Owners.{Owned, Owners, Slots, changed}
+use Rattle.rx_lists.specs.Owners.{Owned, Owners, Slots, changed, with_term, itself, open_at, trimmed, trimmed_by, forgotten}
+use Rattle.rx_lists.specs.Cells.{cells_of, items_seen, finished_cells}
+use Rattle.rx_lists.specs.declared.lists.SlotId.{SlotId}
+use Rattle.rx_eval.specs.Closing.{filled_in}
 use Rattle.rx_eval.specs.declared.contexts.Waiting.{Waiting}
 use Rattle.rx_eval.specs.declared.contexts.Waiting.TheVariants.{Forward, Reverse, InList}
 use Rattle.rx_eval.specs.Triples.{waiting_seen}
 use Rattle.rx_eval.specs.TextRules.{term_of, resource_term}
 use Rattle.rx_eval.specs.Entries.{put_each, put_awaited, awaited_by}
-use Rattle.rx_eval.specs.OwnersSeen.{Owning, owning, slots_seen, owning_seen, owners_seen, put_at, put_entries}
+use Rattle.rx_eval.specs.OwnersSeen.{Owning, owning, slots_seen, owning_seen, owners_seen, put_at, put_entries, with_item, open_seen, fill_seen, fill_all, cells_seen, ended_by, ended, forgotten_seen}
 use Rattle.rx_eval.specs.Listing.{Entries, awaited_entry}
+use Rattle.rx_eval.proofs.DrawLemmas.{nothing_left}
 use Rattle.rx_eval.proofs.LabelLemmas.{by_test}
 
 abbrev pub item_seen : Option (Option CodeTerm) → Option (Option (Term ℕ))
@@ -28,7 +32,7 @@ one_more : (item : Option (Option CodeTerm)) (slots : List (Option CodeTerm)) �
 one_more None slots = map-append (option_map term_seen) slots []
 one_more (Some x) slots = map-append (option_map term_seen) slots (x ∷ [])
 
-row_seen : List ℕ × List (Option CodeTerm) → List ℕ × List (Option (Term ℕ))
+abbrev row_seen : List ℕ × List (Option CodeTerm) → List ℕ × List (Option (Term ℕ))
 row_seen row = (row.0, map (option_map term_seen) row.1)
 
 put_seen : (p : Chars) (item : Option (Option CodeTerm)) (lists : Slots) → slots_seen (put p item lists) ≡ put p (item_seen item) (slots_seen lists)
@@ -86,3 +90,71 @@ seen_awaited old new subject t waiting e h = ap owners_seen h ∙ ap (λ (x : Co
 
 pub three_put : (xs ys zs : Entries) (a b c d : List (Option Owning)) → b ≡ put_entries xs a → c ≡ put_entries ys b → d ≡ put_entries zs c → d ≡ put_entries (xs ++ (ys ++ zs)) a
 three_put xs ys zs a b c d e f g = two_put xs (ys ++ zs) a b d e (two_put ys zs b c d f g)
+
+-- ---- what is filled and finished
+
+row_at : (lists : Slots) (i : ℕ) → row_seen (slice_index_or lists i ([], [])) ≡ slice_index_or (slots_seen lists) i ([], [])
+row_at [] i = refl
+row_at (row ∷ lists) zero = refl
+row_at (row ∷ lists) (suc i) = row_at lists i
+
+set_mapped : {A B : Type 0} (f : A → B) (xs : List A) (i : ℕ) (x : A) → map f (slice_set xs i x) ≡ slice_set (map f xs) i (f x)
+set_mapped f xs i x = map-set f xs i x
+
+term_filled : (l p : ℕ) (t : CodeTerm) (lists : Slots) → slots_seen (with_term l p t lists) ≡ with_item l p (term_seen t) (slots_seen lists)
+term_filled l p t lists =
+    set_mapped row_seen lists l ((slice_index_or lists l ([], [])).0, slice_set (slice_index_or lists l ([], [])).1 p (Some t))
+    ∙ ap (λ (s : List (Option (Term ℕ))). slice_set (slots_seen lists) l ((slice_index_or lists l ([], [])).0, s)) (set_mapped (option_map term_seen) (slice_index_or lists l ([], [])).1 p (Some t))
+    ∙ ap (λ (r : List ℕ × List (Option (Term ℕ))). slice_set (slots_seen lists) l (r.0, slice_set r.1 p (Some (term_seen t)))) (row_at lists l)
+
+fill_is : (l p : ℕ) (t : CodeTerm) (owners : Owners) (n : ℕ) → owners_seen (changed (with_term l p t) owners n) ≡ fill_seen l p (term_seen t) (owners_seen owners) n
+fill_is l p t [] n = refl
+fill_is l p t (None ∷ owners) zero = refl
+fill_is l p t (Some o ∷ owners) zero = ap (λ (x : List (List ℕ × List (Option (Term ℕ)))). Some (owning (node_seen o.subject) x) ∷ owners_seen owners) (term_filled l p t o.lists)
+fill_is l p t (o ∷ owners) (suc n) = ap (λ (x : List (Option Owning)). option_map owning_seen o ∷ x) (fill_is l p t owners n)
+
+filled_are : (slots : List SlotId) (t : CodeTerm) (owners : Owners) → owners_seen (filled_in slots t owners) ≡ fill_all slots (term_seen t) (owners_seen owners)
+filled_are [] t owners = refl
+filled_are (slot ∷ slots) t owners =
+    filled_are slots t (changed (with_term slot.list slot.place t) owners slot.owner.0) ∙ ap (fill_all slots (term_seen t)) (fill_is slot.list slot.place t owners slot.owner.0)
+
+pub seen_filled : (old new : Owners) (slots : List SlotId) (t : CodeTerm) → new ≡ filled_in slots t old → owners_seen new ≡ fill_all slots (term_seen t) (owners_seen old)
+seen_filled old new slots t h = ap owners_seen h ∙ filled_are slots t old
+
+items_are : (row : List (Option CodeTerm)) → map term_seen (filter_map itself row) ≡ filter_map itself (map (option_map term_seen) row)
+items_are [] = refl
+items_are (None ∷ row) = items_are row
+items_are (Some t ∷ row) = ap (λ (l : List (Term ℕ)). term_seen t ∷ l) (items_are row)
+
+all_items : (lists : Slots) → items_seen lists ≡ map (λ row. (row.0, filter_map itself row.1)) (slots_seen lists)
+all_items [] = refl
+all_items (row ∷ lists) =
+    ap₂ (λ (a : List (Term ℕ)) (b : List (List ℕ × List (Term ℕ))). (row.0, a) ∷ b) (items_are row.1) (all_items lists)
+
+open_is : (owners : Owners) (n : ℕ) → option_map owning_seen (open_at owners n) ≡ open_seen (owners_seen owners) n
+open_is [] n = refl
+open_is (None ∷ owners) zero = refl
+open_is (Some o ∷ owners) zero = refl
+open_is (o ∷ owners) (suc n) = open_is owners n
+
+cells_are : (next : ℕ) (o : Option Owned) → finished_cells next o ≡ cells_seen next (option_map owning_seen o)
+cells_are next None = refl
+cells_are next (Some o) = ap (cells_of next (node_seen o.subject)) (all_items o.lists)
+
+pub seen_cells : (next : ℕ) (owners : Owners) (n : ℕ) → finished_cells next (open_at owners n) ≡ cells_seen next (open_seen (owners_seen owners) n)
+seen_cells next owners n = cells_are next (open_at owners n) ∙ ap (cells_seen next) (open_is owners n)
+
+ended_one : (o : Option Owned) (owners : Owners) → owners_seen (trimmed_by o owners) ≡ ended_by (option_map owning_seen o) (owners_seen owners)
+ended_one None [] = refl
+ended_one None (o ∷ more) = refl
+ended_one (Some p) more = refl
+
+ended_are : (owners : Owners) → owners_seen (trimmed owners) ≡ ended (owners_seen owners)
+ended_are [] = refl
+ended_are (o ∷ owners) = ended_one o (trimmed owners) ∙ ap (ended_by (option_map owning_seen o)) (ended_are owners)
+
+pub seen_forgotten : (old new : Owners) (n : ℕ) → new ≡ forgotten old n → owners_seen new ≡ forgotten_seen (owners_seen old) n
+seen_forgotten old new n h = ap owners_seen h ∙ ended_are (slice_set old n None) ∙ ap ended (set_mapped (option_map owning_seen) old n None)
+
+pub all_filled : (slots : List SlotId) (i : ℕ) (t : CodeTerm) (now whole : Owners) → length slots ≤ i → filled_in (drop i slots) t now ≡ whole → now ≡ whole
+all_filled slots i t now whole h e = ap (λ (l : List SlotId). filled_in l t now) (sym (nothing_left i slots h)) ∙ e

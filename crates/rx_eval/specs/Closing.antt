@@ -18,6 +18,7 @@ abbrev pub said_by : Target → Node ℕ → Term ℕ → List (Triple ℕ)
 said_by (Said predicates) subject value = map (λ p. spo subject p value) predicates
 said_by (Listed slots) subject value = []
 
-abbrev pub listed_by : Target → CodeTerm → Owners → Owners
-listed_by (Said predicates) value owners = owners
-listed_by (Listed slots) value owners = filled_in slots.items value owners
+-- the places in lists for the value
+abbrev pub slots_in : Target → List SlotId
+slots_in (Said predicates) = []
+slots_in (Listed slots) = slots.items

@@ -16,3 +16,5 @@ pub mod Gathering
 pub mod Entering
 pub mod Opening
 pub mod Closing
+pub mod States
+pub mod Opened

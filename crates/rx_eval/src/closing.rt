@@ -1,11 +1,10 @@
 //! The end of an element (RDFa Core 1.1, section 7.5, steps 11 and 14).
-ghost use Rattle.std.specs.Prelude.{◌≡◌, ◌++◌, ◌<◌, ◌^◌, IfOk, OnOk, OnErr};
+ghost use Rattle.std.specs.Prelude.{◌≡◌, ◌++◌, OnOk};
 ghost use Rattle.std.specs.Str.{chars};
 ghost use Rattle.rx_model.specs.Seen.{node_seen, term_seen, triples_seen};
-ghost use Rattle.rx_lists.specs.Cells.{finished_cells};
-ghost use Rattle.rx_lists.specs.Owners.{open_at, forgotten};
 ghost use Rattle.rx_eval.specs.TextRules.{text_literal};
-ghost use Rattle.rx_eval.specs.Closing.{filled_in, said_by, listed_by};
+ghost use Rattle.rx_eval.specs.OwnersSeen.{owners_seen, fill_all, open_seen, cells_seen, forgotten_seen};
+ghost use Rattle.rx_eval.specs.Closing.{filled_in, said_by, slots_in};
 
 use crate::frames::{Gathered, Target};
 use crate::triples::push_each;
@@ -15,7 +14,8 @@ use std::alloc::Global;
 
 /// Puts the value into each of the places.
 fn fill_each(lists: &mut Lists, slots: &[SlotId], value: &Term) -> Result<(), NoMemory>
-    ensures { OnOk result (lists.new ≡ filled_in slots.now value.now lists.old) }
+    ensures code { OnOk result (lists.new ≡ filled_in slots.now value.now lists.old) }
+    ensures seen { OnOk result (owners_seen lists.new ≡ fill_all slots.now (term_seen value.now) (owners_seen lists.old)) }
 {
     for slot in slots {
         lists.fill(*slot, value.try_clone()?);
@@ -31,7 +31,7 @@ fn put_value(
     value: &Term,
 ) -> Result<(), NoMemory>
     ensures said { OnOk result (triples_seen out.new ≡ triples_seen out.old ++ said_by gathered.now.target (node_seen gathered.now.subject) (term_seen value.now)) }
-    ensures filled { OnOk result (lists.new ≡ listed_by gathered.now.target value.now lists.old) }
+    ensures filled { OnOk result (owners_seen lists.new ≡ fill_all (slots_in gathered.now.target) (term_seen value.now) (owners_seen lists.old)) }
 {
     match &gathered.target {
         Target::Said(predicates) => push_each(out, gathered.subject.node(), predicates, value),
@@ -48,6 +48,7 @@ pub(crate) fn end_text(
     text: &str,
 ) -> Result<(), NoMemory>
     ensures said { OnOk result (triples_seen out.new ≡ triples_seen out.old ++ said_by gathered.now.target (node_seen gathered.now.subject) (text_literal gathered.now.rule gathered.now.lang (chars text.now))) }
+    ensures filled { OnOk result (owners_seen lists.new ≡ fill_all (slots_in gathered.now.target) (text_literal gathered.now.rule gathered.now.lang (chars text.now)) (owners_seen lists.old)) }
 {
     let value = gathered.rule.value(alloc, &gathered.lang, text)?;
     put_value(out, lists, gathered, &value)
@@ -61,8 +62,8 @@ pub(crate) fn end_lists(
     owner: Owner,
     next: u64,
 ) -> Result<u64, NoMemory>
-    ensures triples { OnOk result (triples_seen out.new ≡ triples_seen out.old ++ finished_cells next (open_at lists.old owner.0)) }
-    ensures lists { OnOk result (lists.new ≡ forgotten lists.old owner.0) }
+    ensures triples { OnOk result (triples_seen out.new ≡ triples_seen out.old ++ cells_seen next (open_seen (owners_seen lists.old) owner.0)) }
+    ensures lists { OnOk result (owners_seen lists.new ≡ forgotten_seen (owners_seen lists.old) owner.0) }
 {
     if !lists.fits(owner, next) {
         return Err(NoMemory);

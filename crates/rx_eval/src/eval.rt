@@ -1,5 +1,6 @@
 //! The stack of contexts.
-ghost use Rattle.std.specs.Prelude.{◌≤◌, ◌^◌, ◌+◌, length};
+ghost use Rattle.std.specs.Prelude.{◌≡◌, ◌<◌, ◌≤◌, ◌^◌, ◌+◌, length, OnOk};
+ghost use Rattle.rx_eval.specs.Opened.{Opens, first_of};
 ghost use Rattle.rx_rdfa.specs.Renaming.{labels as labels_of};
 ghost use Rattle.rx_curie.specs.Seen.{facts_seen};
 
@@ -14,6 +15,7 @@ use rx_lists::Lists;
 use rx_terms::{Iri, NoMemory, TripleList};
 use rx_values::TextStore;
 use std::alloc::Global;
+use std::marker::Model;
 
 /// The first number of a cell; all other blank nodes have lower ones.
 const CELLS: u64 = 1 << 61;
@@ -38,17 +40,44 @@ pub struct Eval {
     spent: bool,
 }
 
+impl Model for Eval {
+    ghost use Rattle.std.specs.Prelude.{map, length, ◌≤◌};
+    ghost use Rattle.rx_model.specs.Seen.{triples_seen};
+    ghost use Rattle.rx_eval.specs.States.{State, frame_seen};
+    ghost use Rattle.rx_eval.specs.Frames.{context_seen};
+    ghost use Rattle.rx_eval.specs.OwnersSeen.{owners_seen};
+
+    ghost Value = { State };
+
+    ghost view = { λ e. record { base = e.base; levels = e.levels; page = context_seen e.page; frames = map frame_seen e.frames.items; labels = e.labels; drawn = e.drawn; cells = e.cells; owners = owners_seen e.lists; kept = e.text; outermost = e.outermost; out = triples_seen e.out; ended = e.ended; spent = e.spent } };
+
+    ghost invariant = { λ e. length e.frames.items ≤ e.levels };
+}
+
 impl Eval {
+    /// How many elements are open.
+    pub fn depth(&self) -> u32
+        ensures { result ≡ length self.now.frames }
+    {
+        let _levels = self.levels;
+        self.frames.as_slice().len() as u32
+    }
+
+    /// Opens an element: the same, but for want of memory.
     fn open(&mut self, facts: &Facts) -> Result<(), NoMemory>
-        requires { self.old.drawn + 1 + length (labels_of (facts_seen facts.now)) ≤ 2 ^ 61 }
+        requires drawn { self.old.drawn + 1 + length (labels_of (facts_seen facts.now)) ≤ 2 ^ 61 }
+        requires level { length self.old.frames < self.old.levels }
+        ensures { OnOk result (Opens self.old (facts_seen facts.now) self.new) }
     {
         let fresh = draw_labels(&mut self.labels, facts, self.drawn)?;
-        let around = around(&self.page, self.frames.as_slice());
+        let frames = self.frames.as_slice();
+        let depth = frames.len();
+        let around = around(&self.page, frames);
         let place = Place {
             alloc: self.alloc,
             base: &self.base,
             object: &around.object,
-            level: level_at(self.frames.len()),
+            level: level_at(depth),
             labels: &self.labels,
             fresh,
         };
@@ -56,14 +85,26 @@ impl Eval {
         let frame = place.enter(around, facts, &mut self.lists, &mut self.out, mark)?;
         let drawn = next_number(&frame.context, fresh);
         let gathers = frame.gathered.is_some();
-        let depth = self.frames.len();
         let Ok(()) = self.frames.push(frame) else {
             return Err(NoMemory);
         };
         self.drawn = drawn;
-        if gathers && self.outermost.is_none() {
-            self.outermost = Some(depth);
-        }
+        self.outermost = first_of(self.outermost, gathers, depth);
         Ok(())
+    }
+}
+
+/// The place of the outermost frame that gathers, when one more is there.
+fn first_of(outermost: Option<usize>, gathers: bool, depth: usize) -> Option<usize>
+    ensures { result ≡ first_of outermost gathers depth }
+{
+    match outermost {
+        Some(place) => Some(place),
+        None => {
+            if gathers {
+                return Some(depth);
+            }
+            None
+        }
     }
 }
