@@ -11,8 +11,9 @@ use Rattle.rx_model.specs.Seen.{node_seen, term_seen}
 use Rattle.rx_rdfa.specs.Tables.{put}
 use Rattle.rx_rdfa.specs.Lists.{Entry, entry}
 use Rattle.rx_rdfa.specs.Inherited.{listed}
-use Rattle.rx_lists.specs.Owners.{Owned, Owners, Slots, changed, with_term, itself, open_at, trimmed, trimmed_by, forgotten}
-use Rattle.rx_lists.specs.Cells.{cells_of, items_seen, finished_cells}
+use Rattle.rx_lists.specs.Owners.{Owned, Owners, Slots, changed, with_term, itself, open_at, trimmed, trimmed_by, forgotten, lists_of}
+use Rattle.rx_lists.specs.Cells.{cells_of, items_seen, finished_cells, size}
+use Rattle.rx_eval.specs.Ending.{cells_count}
 use Rattle.rx_lists.specs.declared.lists.SlotId.{SlotId}
 use Rattle.rx_eval.specs.Closing.{filled_in}
 use Rattle.rx_eval.specs.declared.contexts.Waiting.{Waiting}
@@ -158,3 +159,10 @@ seen_forgotten old new n h = ap owners_seen h ∙ ended_are (slice_set old n Non
 
 pub all_filled : (slots : List SlotId) (i : ℕ) (t : CodeTerm) (now whole : Owners) → length slots ≤ i → filled_in (drop i slots) t now ≡ whole → now ≡ whole
 all_filled slots i t now whole h e = ap (λ (l : List SlotId). filled_in l t now) (sym (nothing_left i slots h)) ∙ e
+
+count_is : (o : Option Owned) → size (items_seen (lists_of o)) ≡ cells_count (option_map owning_seen o)
+count_is None = refl
+count_is (Some o) = ap size (all_items o.lists)
+
+pub seen_count : (owners : Owners) (n : ℕ) → size (items_seen (lists_of (open_at owners n))) ≡ cells_count (open_seen (owners_seen owners) n)
+seen_count owners n = count_is (open_at owners n) ∙ ap cells_count (open_is owners n)

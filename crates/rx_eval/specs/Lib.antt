@@ -18,3 +18,4 @@ pub mod Opening
 pub mod Closing
 pub mod States
 pub mod Opened
+pub mod Ending

@@ -1,15 +1,19 @@
 //! The end of an element (RDFa Core 1.1, section 7.5, steps 11 and 14).
-ghost use Rattle.std.specs.Prelude.{◌≡◌, ◌++◌, OnOk};
+ghost use Rattle.std.specs.Prelude.{◌≡◌, ◌+◌, ◌++◌, OnOk, IfOk, option_map};
 ghost use Rattle.std.specs.Str.{chars};
 ghost use Rattle.rx_model.specs.Seen.{node_seen, term_seen, triples_seen};
 ghost use Rattle.rx_eval.specs.TextRules.{text_literal};
 ghost use Rattle.rx_eval.specs.OwnersSeen.{owners_seen, fill_all, open_seen, cells_seen, forgotten_seen};
+ghost use Rattle.rx_terms.specs.Text.{Chars};
+ghost use Rattle.rx_eval.specs.States.{frame_seen, owner_seen};
+ghost use Rattle.rx_eval.specs.Ending.{ending, end_owner, end_frame, cells_count, TextAt, Ends};
 ghost use Rattle.rx_eval.specs.Closing.{filled_in, said_by, slots_in};
 
-use crate::frames::{Gathered, Target};
+use crate::frames::{Frame, Gathered, Target};
 use crate::triples::push_each;
 use rx_lists::{Lists, Owner, SlotId};
 use rx_terms::{NoMemory, Term, TripleList};
+use rx_values::TextStore;
 use std::alloc::Global;
 
 /// Puts the value into each of the places.
@@ -63,6 +67,7 @@ pub(crate) fn end_lists(
     next: u64,
 ) -> Result<u64, NoMemory>
     ensures triples { OnOk result (triples_seen out.new ≡ triples_seen out.old ++ cells_seen next (open_seen (owners_seen lists.old) owner.0)) }
+    ensures next { IfOk result (λ after. after ≡ next + cells_count (open_seen (owners_seen lists.old) owner.0)) }
     ensures lists { OnOk result (owners_seen lists.new ≡ forgotten_seen (owners_seen lists.old) owner.0) }
 {
     if !lists.fits(owner, next) {
@@ -73,4 +78,38 @@ pub(crate) fn end_lists(
         out.push(finished.triples.at(i).try_clone()?)?;
     }
     Ok(finished.next_blank)
+}
+
+/// The same of an owner, if there is one.
+fn end_owner(
+    out: &mut TripleList,
+    lists: &mut Lists,
+    owner: Option<Owner>,
+    next: u64,
+) -> Result<u64, NoMemory>
+    ensures { IfOk result (λ after. Ends (ending (triples_seen out.old) (owners_seen lists.old) next) (end_owner (option_map owner_seen owner)) (ending (triples_seen out.new) (owners_seen lists.new) after)) }
+{
+    match owner {
+        Some(owner) => end_lists(out, lists, owner, next),
+        None => Ok(next),
+    }
+}
+
+/// The end of an element: its text, if it gathers it, the lists of its object, and those of its subject. Gives the next
+/// number of a cell.
+pub(crate) fn end_frame(
+    alloc: Global,
+    out: &mut TripleList,
+    lists: &mut Lists,
+    frame: &Frame,
+    text: &TextStore,
+    next: u64,
+) -> Result<u64, NoMemory>
+    ensures { IfOk result (λ after. (front chars : Chars) → TextAt (frame_seen frame.now).text text.now front chars → Ends (ending (triples_seen out.old) (owners_seen lists.old) next) (end_frame (frame_seen frame.now) chars) (ending (triples_seen out.new) (owners_seen lists.new) after)) }
+{
+    if let Some(gathered) = &frame.gathered {
+        end_text(alloc, out, lists, gathered, text.since(gathered.mark))?;
+    }
+    let next = end_owner(out, lists, frame.below, next)?;
+    end_owner(out, lists, frame.own, next)
 }

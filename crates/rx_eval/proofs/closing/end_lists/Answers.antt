@@ -1,10 +1,10 @@
-use Rattle.std.proofs.Common.{◌∙◌, ◌++◌, ◌∷◌, [], ap, arith, List, ℕ}
+use Rattle.std.proofs.Common.{◌∙◌, ◌++◌, ◌+◌, ◌∷◌, [], ap, arith, List, ℕ}
 use Rattle.rx_terms.specs.declared.triples.Triple.{Triple as CodeTriple}
 use Rattle.rx_model.specs.Terms.{Triple}
 use Rattle.rx_model.specs.Seen.{triple_seen, triples_seen}
 use Rattle.rx_eval.proofs.GrowLemmas.{mapped_more}
 use Rattle.rx_eval.proofs.TripleLemmas.{one_came, map_at, all_came, map_end}
-use Rattle.rx_eval.proofs.SeenLemmas.{seen_forgotten, seen_cells}
+use Rattle.rx_eval.proofs.SeenLemmas.{seen_forgotten, seen_cells, seen_count}
 use Rattle.rx_eval.proofs.closing.end_lists.Goals as goal
 
 pub loop-i-preserved : goal.loop-i-preserved
@@ -19,3 +19,6 @@ returns-clause-triples c =
 
 pub returns-clause-lists : goal.returns-clause-lists
 returns-clause-lists c = seen_forgotten c.args.lists.now _ c.args.owner.0 c.in_ok-finished.ensures.ok
+
+pub returns-clause-next : goal.returns-clause-next
+returns-clause-next c = c.in_ok-finished.ensures.next ∙ ap (λ (n : ℕ). c.args.next + n) (seen_count c.args.lists.now c.args.owner.0)
