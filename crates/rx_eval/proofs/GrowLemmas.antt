@@ -1,0 +1,28 @@
+-- Lists that grow by one after another of another list.
+use Rattle.std.proofs.Common.{◌≡◌, ◌∙◌, ℕ, suc, ◌+◌, ◌≤◌, List, [], ◌∷◌, ◌++◌, map, length, drop, Option, Some, None, slice_get, refl, sym, ap, arith, append_assoc, append-nil, add-one}
+use Rattle.std.proofs.lemmas.List.{map-append}
+use Rattle.rx_eval.proofs.DrawLemmas.{drop_at, nothing_left}
+
+pub record Growing {A : Type 0} (now left whole : List A) : Type 0 where
+  pub path : now ++ left ≡ whole
+
+pub one_grown : {A B : Type 0} (f : B → A) (xs : List B) (i : ℕ) (x : B) (now more whole : List A) (y : A) → slice_get xs i ≡ Some x → y ≡ f x → more ≡ now ++ y ∷ []
+    → Growing now (map f (drop i xs)) whole → Growing more (map f (drop (i + 1) xs)) whole
+one_grown f xs i x now more whole y g e m w =
+    rw add-one (record {
+      path =
+          ap (λ (l : List _). l ++ map f (drop (suc i) xs)) m ∙ append_assoc now (y ∷ []) (map f (drop (suc i) xs)) ∙ ap (λ (z : _). now ++ z ∷ map f (drop (suc i) xs)) e
+          ∙ ap (λ (l : List _). now ++ map f l) (sym (drop_at xs i x g)) ∙ w.path;
+    })
+
+pub one_copied : {A : Type 0} (xs : List A) (i : ℕ) (x : A) (now more whole : List A) (y : A) → slice_get xs i ≡ Some x → y ≡ x → more ≡ now ++ y ∷ []
+    → Growing now (drop i xs) whole → Growing more (drop (i + 1) xs) whole
+one_copied xs i x now more whole y g e m w =
+    rw add-one (record {
+      path =
+          ap (λ (l : List _). l ++ drop (suc i) xs) m ∙ append_assoc now (y ∷ []) (drop (suc i) xs) ∙ ap (λ (z : _). now ++ z ∷ drop (suc i) xs) e
+          ∙ ap (λ (l : List _). now ++ l) (sym (drop_at xs i x g)) ∙ w.path;
+    })
+
+pub mapped_more : {A B : Type 0} (f : A → B) (xs ys : List A) (x : A) → ys ≡ xs ++ x ∷ [] → map f ys ≡ map f xs ++ f x ∷ []
+mapped_more f xs ys x e = ap (map f) e ∙ map-append f xs (x ∷ [])

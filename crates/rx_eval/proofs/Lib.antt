@@ -1,0 +1,10 @@
+pub mod LabelLemmas
+pub mod DrawLemmas
+pub mod TripleLemmas
+pub mod EntryLemmas
+pub mod NodeLemmas
+pub mod GrowLemmas
+pub mod SeenLemmas
+pub mod EnterLemmas
+pub mod FrameLemmas
+pub mod OpenLemmas

@@ -1,0 +1,34 @@
+-- The start of an element on the stack.
+use Rattle.std.proofs.Common.{◌≡◌, ◌∙◌, ℕ, ◌+◌, ◌<◌, ◌≤◌, ◌^◌, Bool, List, [], ◌∷◌, ◌++◌, map, length, Option, Some, None, is_some, option_map, refl, sym, ap, ap₂, arith}
+use Rattle.rx_terms.specs.Text.{Chars}
+use Rattle.rx_model.specs.Terms.{Triple}
+use Rattle.rx_rdfa.specs.Facts.{Facts}
+use Rattle.rx_rdfa.specs.Resources.{Inherited}
+use Rattle.rx_eval.specs.Labels.{Numbered, Drawn}
+use Rattle.rx_eval.specs.OwnersSeen.{Owning}
+use Rattle.rx_eval.specs.Frames.{context_seen}
+use Rattle.rx_eval.specs.Opening.{around_in}
+use Rattle.rx_eval.specs.Opened.{handed_on, start_at, below_at, lists_at, gathers_at, first_of}
+use Rattle.rx_eval.specs.States.{Frame, frame_seen, text_seen}
+use Rattle.rx_eval.specs.declared.contexts.Context.{Context}
+use Rattle.rx_eval.specs.declared.frames.Frame.{Frame as CodeFrame}
+use Rattle.rx_eval.specs.declared.frames.Gathered.{Gathered}
+use Rattle.rx_eval.specs.declared.places.Level.{Level}
+use Rattle.rx_eval.proofs.DrawLemmas.{drawn_most}
+
+handed_seen : (page : Context) (frames : List CodeFrame) → context_seen (around_in page frames) ≡ handed_on (context_seen page) (map frame_seen frames)
+handed_seen page [] = refl
+handed_seen page (frame ∷ frames) = handed_seen frame.context frames
+
+pub around_is : (page around : Context) (frames items : List CodeFrame) → around ≡ around_in page frames → frames ≡ items → context_seen around ≡ handed_on (context_seen page) (map frame_seen items)
+around_is page around frames items e f = ap context_seen (e ∙ ap (around_in page) f) ∙ handed_seen page items
+
+pub text_is : (g : Option Gathered) → is_some (option_map text_seen g) ≡ is_some g
+text_is None = refl
+text_is (Some g) = refl
+
+pub fresh_fits : (old new : Numbered) (drawn fresh : ℕ) (labels : List Chars) → Drawn old drawn labels new fresh → drawn + 1 + length labels ≤ 2 ^ 61 → fresh + 1 < 2 ^ 64
+fresh_fits old new drawn fresh labels d h = omega (arith, drawn_most old new drawn fresh labels d, h)
+
+pub labels_fit : (drawn n : ℕ) → drawn + 1 + n ≤ 2 ^ 61 → drawn + n < 2 ^ 64
+labels_fit drawn n h = omega arith

@@ -1,0 +1,168 @@
+-- What is put into the code's lists, as the rules see it.
+use Rattle.std.proofs.Common.{◌≡◌, ◌∙◌, ℕ, zero, suc, List, [], ◌∷◌, ◌++◌, map, filter_map, Option, Some, None, option_map, option_to_list, slice_get, slice_set, bytes_eq, refl, sym, ap, ap₂, length, drop, ◌≤◌, slice_index_or, Result, Ok, Err, OnOk}
+use Rattle.std.specs.Prelude.{Bool, true, false, if◌then◌else◌}
+use Rattle.std.proofs.lemmas.List.{map-append, map-set}
+use Rattle.rx_terms.specs.Text.{Chars}
+use Rattle.rx_terms.specs.declared.triples.Node.{Node as CodeNode}
+use Rattle.rx_terms.specs.declared.triples.Node.TheVariants as code_node
+use Rattle.rx_terms.specs.declared.triples.Term.{Term as CodeTerm}
+use Rattle.rx_model.specs.Terms.{Node, Term}
+use Rattle.rx_model.specs.Seen.{node_seen, term_seen}
+use Rattle.rx_rdfa.specs.Tables.{put}
+use Rattle.rx_rdfa.specs.Lists.{Entry, entry}
+use Rattle.rx_rdfa.specs.Inherited.{listed}
+use Rattle.rx_lists.specs.Owners.{Owned, Owners, Slots, changed, with_term, itself, open_at, trimmed, trimmed_by, forgotten, lists_of}
+use Rattle.rx_lists.specs.Cells.{cells_of, items_seen, finished_cells, size}
+use Rattle.rx_eval.specs.Ending.{cells_count}
+use Rattle.rx_lists.specs.declared.lists.SlotId.{SlotId}
+use Rattle.rx_eval.specs.Closing.{filled_in}
+use Rattle.rx_eval.specs.declared.contexts.Waiting.{Waiting}
+use Rattle.rx_eval.specs.declared.contexts.Waiting.TheVariants.{Forward, Reverse, InList}
+use Rattle.rx_eval.specs.Triples.{waiting_seen}
+use Rattle.rx_eval.specs.TextRules.{term_of, resource_term}
+use Rattle.rx_eval.specs.Entries.{put_each, put_awaited, awaited_by}
+use Rattle.rx_eval.specs.OwnersSeen.{Owning, owning, slots_seen, owning_seen, owners_seen, put_at, put_entries, with_item, open_seen, fill_seen, fill_all, cells_seen, ended_by, ended, forgotten_seen}
+use Rattle.rx_eval.specs.Listing.{Entries, awaited_entry}
+use Rattle.rx_eval.proofs.DrawLemmas.{nothing_left}
+use Rattle.rx_eval.proofs.LabelLemmas.{by_test}
+
+abbrev pub item_seen : Option (Option CodeTerm) → Option (Option (Term ℕ))
+item_seen item = option_map (option_map term_seen) item
+
+one_more : (item : Option (Option CodeTerm)) (slots : List (Option CodeTerm)) → map (option_map term_seen) (slots ++ option_to_list item) ≡ map (option_map term_seen) slots ++ option_to_list (item_seen item)
+one_more None slots = map-append (option_map term_seen) slots []
+one_more (Some x) slots = map-append (option_map term_seen) slots (x ∷ [])
+
+abbrev row_seen : List ℕ × List (Option CodeTerm) → List ℕ × List (Option (Term ℕ))
+row_seen row = (row.0, map (option_map term_seen) row.1)
+
+put_seen : (p : Chars) (item : Option (Option CodeTerm)) (lists : Slots) → slots_seen (put p item lists) ≡ put p (item_seen item) (slots_seen lists)
+put_seen p None [] = refl
+put_seen p (Some x) [] = refl
+put_seen p item (row ∷ lists) =
+    by_test (bytes_eq row.0 p)
+    (λ e. rw e (ap (λ (s : List (Option (Term ℕ))). (row.0, s) ∷ slots_seen lists) (one_more item row.1)))
+    (λ e. rw e (ap (λ (l : List (List ℕ × List (Option (Term ℕ)))). (row.0, map (option_map term_seen) row.1) ∷ l) (put_seen p item lists)))
+
+pub changed_seen : (p : Chars) (item : Option (Option CodeTerm)) (owners : Owners) (n : ℕ) → owners_seen (changed (put p item) owners n) ≡ put_at n p (item_seen item) (owners_seen owners)
+changed_seen p item [] n = refl
+changed_seen p item (None ∷ owners) zero = refl
+changed_seen p item (Some o ∷ owners) zero = ap (λ (l : List (List ℕ × List (Option (Term ℕ)))). Some (owning (node_seen o.subject) l) ∷ owners_seen owners) (put_seen p item o.lists)
+changed_seen p item (o ∷ owners) (suc n) = ap (λ (l : List (Option Owning)). option_map owning_seen o ∷ l) (changed_seen p item owners n)
+
+pub each_seen : (n : ℕ) (item : Option (Option CodeTerm)) (ps : List Chars) (owners : Owners)
+    → owners_seen (put_each n item ps owners) ≡ put_entries (map (entry n (item_seen item)) ps) (owners_seen owners)
+each_seen n item [] owners = refl
+each_seen n item (p ∷ ps) owners =
+    each_seen n item ps (changed (put p item) owners n) ∙ ap (put_entries (map (entry n (item_seen item)) ps)) (changed_seen p item owners n)
+
+pub awaited_seen : (subject : CodeNode) (waiting : List Waiting) (owners : Owners)
+    → owners_seen (put_awaited (term_of subject) waiting owners) ≡ put_entries (filter_map (awaited_entry (node_seen subject)) (map waiting_seen waiting)) (owners_seen owners)
+awaited_seen subject [] owners = refl
+awaited_seen subject (Forward p ∷ waiting) owners = awaited_seen subject waiting owners
+awaited_seen subject (Reverse p ∷ waiting) owners = awaited_seen subject waiting owners
+awaited_seen subject (InList owner p ∷ waiting) owners =
+    awaited_seen subject waiting (changed (put p (Some (Some (term_of subject)))) owners owner.0)
+    ∙ ap (put_entries (filter_map (awaited_entry (node_seen subject)) (map waiting_seen waiting)))
+    (changed_seen p (Some (Some (term_of subject))) owners owner.0 ∙ ap (λ (t : Term ℕ). put_at owner.0 p (Some (Some t)) (owners_seen owners)) (term_is subject))
+ where
+  term_is : (node : CodeNode) → term_seen (term_of node) ≡ resource_term (node_seen node)
+  term_is (code_node.Iri iri) = refl
+  term_is (code_node.Blank b) = refl
+
+entries_then : (xs ys : Entries) (owners : List (Option Owning)) → put_entries (xs ++ ys) owners ≡ put_entries ys (put_entries xs owners)
+entries_then [] ys owners = refl
+entries_then (e ∷ xs) ys owners = entries_then xs ys (put_at e.owner e.predicate e.item owners)
+
+pub two_put : (xs ys : Entries) (a b c : List (Option Owning)) → b ≡ put_entries xs a → c ≡ put_entries ys b → c ≡ put_entries (xs ++ ys) a
+two_put xs ys a b c e f = f ∙ ap (put_entries ys) e ∙ sym (entries_then xs ys a)
+
+pub if_ok : {A E P Q : Type 0} (r : Result A E) → (P → Q) → OnOk r P → OnOk r Q
+if_ok (Ok a) f h = f h
+if_ok (Err e) f h = h
+
+pub seen_each : (old new : Owners) (n : ℕ) (item : Option (Option CodeTerm)) (ps : List Chars) (entries : Entries) → map (entry n (item_seen item)) ps ≡ entries
+    → new ≡ put_each n item ps old → owners_seen new ≡ put_entries entries (owners_seen old)
+seen_each old new n item ps entries e h = ap owners_seen h ∙ each_seen n item ps old ∙ ap (λ (x : Entries). put_entries x (owners_seen old)) e
+
+pub seen_awaited : (old new : Owners) (subject : CodeNode) (t : CodeTerm) (waiting : List Waiting) → t ≡ term_of subject → new ≡ put_awaited t waiting old
+    → owners_seen new ≡ put_entries (filter_map (awaited_entry (node_seen subject)) (map waiting_seen waiting)) (owners_seen old)
+seen_awaited old new subject t waiting e h = ap owners_seen h ∙ ap (λ (x : CodeTerm). owners_seen (put_awaited x waiting old)) e ∙ awaited_seen subject waiting old
+
+pub three_put : (xs ys zs : Entries) (a b c d : List (Option Owning)) → b ≡ put_entries xs a → c ≡ put_entries ys b → d ≡ put_entries zs c → d ≡ put_entries (xs ++ (ys ++ zs)) a
+three_put xs ys zs a b c d e f g = two_put xs (ys ++ zs) a b d e (two_put ys zs b c d f g)
+
+-- ---- what is filled and finished
+
+row_at : (lists : Slots) (i : ℕ) → row_seen (slice_index_or lists i ([], [])) ≡ slice_index_or (slots_seen lists) i ([], [])
+row_at [] i = refl
+row_at (row ∷ lists) zero = refl
+row_at (row ∷ lists) (suc i) = row_at lists i
+
+set_mapped : {A B : Type 0} (f : A → B) (xs : List A) (i : ℕ) (x : A) → map f (slice_set xs i x) ≡ slice_set (map f xs) i (f x)
+set_mapped f xs i x = map-set f xs i x
+
+term_filled : (l p : ℕ) (t : CodeTerm) (lists : Slots) → slots_seen (with_term l p t lists) ≡ with_item l p (term_seen t) (slots_seen lists)
+term_filled l p t lists =
+    set_mapped row_seen lists l ((slice_index_or lists l ([], [])).0, slice_set (slice_index_or lists l ([], [])).1 p (Some t))
+    ∙ ap (λ (s : List (Option (Term ℕ))). slice_set (slots_seen lists) l ((slice_index_or lists l ([], [])).0, s)) (set_mapped (option_map term_seen) (slice_index_or lists l ([], [])).1 p (Some t))
+    ∙ ap (λ (r : List ℕ × List (Option (Term ℕ))). slice_set (slots_seen lists) l (r.0, slice_set r.1 p (Some (term_seen t)))) (row_at lists l)
+
+fill_is : (l p : ℕ) (t : CodeTerm) (owners : Owners) (n : ℕ) → owners_seen (changed (with_term l p t) owners n) ≡ fill_seen l p (term_seen t) (owners_seen owners) n
+fill_is l p t [] n = refl
+fill_is l p t (None ∷ owners) zero = refl
+fill_is l p t (Some o ∷ owners) zero = ap (λ (x : List (List ℕ × List (Option (Term ℕ)))). Some (owning (node_seen o.subject) x) ∷ owners_seen owners) (term_filled l p t o.lists)
+fill_is l p t (o ∷ owners) (suc n) = ap (λ (x : List (Option Owning)). option_map owning_seen o ∷ x) (fill_is l p t owners n)
+
+filled_are : (slots : List SlotId) (t : CodeTerm) (owners : Owners) → owners_seen (filled_in slots t owners) ≡ fill_all slots (term_seen t) (owners_seen owners)
+filled_are [] t owners = refl
+filled_are (slot ∷ slots) t owners =
+    filled_are slots t (changed (with_term slot.list slot.place t) owners slot.owner.0) ∙ ap (fill_all slots (term_seen t)) (fill_is slot.list slot.place t owners slot.owner.0)
+
+pub seen_filled : (old new : Owners) (slots : List SlotId) (t : CodeTerm) → new ≡ filled_in slots t old → owners_seen new ≡ fill_all slots (term_seen t) (owners_seen old)
+seen_filled old new slots t h = ap owners_seen h ∙ filled_are slots t old
+
+items_are : (row : List (Option CodeTerm)) → map term_seen (filter_map itself row) ≡ filter_map itself (map (option_map term_seen) row)
+items_are [] = refl
+items_are (None ∷ row) = items_are row
+items_are (Some t ∷ row) = ap (λ (l : List (Term ℕ)). term_seen t ∷ l) (items_are row)
+
+all_items : (lists : Slots) → items_seen lists ≡ map (λ row. (row.0, filter_map itself row.1)) (slots_seen lists)
+all_items [] = refl
+all_items (row ∷ lists) =
+    ap₂ (λ (a : List (Term ℕ)) (b : List (List ℕ × List (Term ℕ))). (row.0, a) ∷ b) (items_are row.1) (all_items lists)
+
+open_is : (owners : Owners) (n : ℕ) → option_map owning_seen (open_at owners n) ≡ open_seen (owners_seen owners) n
+open_is [] n = refl
+open_is (None ∷ owners) zero = refl
+open_is (Some o ∷ owners) zero = refl
+open_is (o ∷ owners) (suc n) = open_is owners n
+
+cells_are : (next : ℕ) (o : Option Owned) → finished_cells next o ≡ cells_seen next (option_map owning_seen o)
+cells_are next None = refl
+cells_are next (Some o) = ap (cells_of next (node_seen o.subject)) (all_items o.lists)
+
+pub seen_cells : (next : ℕ) (owners : Owners) (n : ℕ) → finished_cells next (open_at owners n) ≡ cells_seen next (open_seen (owners_seen owners) n)
+seen_cells next owners n = cells_are next (open_at owners n) ∙ ap (cells_seen next) (open_is owners n)
+
+ended_one : (o : Option Owned) (owners : Owners) → owners_seen (trimmed_by o owners) ≡ ended_by (option_map owning_seen o) (owners_seen owners)
+ended_one None [] = refl
+ended_one None (o ∷ more) = refl
+ended_one (Some p) more = refl
+
+ended_are : (owners : Owners) → owners_seen (trimmed owners) ≡ ended (owners_seen owners)
+ended_are [] = refl
+ended_are (o ∷ owners) = ended_one o (trimmed owners) ∙ ap (ended_by (option_map owning_seen o)) (ended_are owners)
+
+pub seen_forgotten : (old new : Owners) (n : ℕ) → new ≡ forgotten old n → owners_seen new ≡ forgotten_seen (owners_seen old) n
+seen_forgotten old new n h = ap owners_seen h ∙ ended_are (slice_set old n None) ∙ ap ended (set_mapped (option_map owning_seen) old n None)
+
+pub all_filled : (slots : List SlotId) (i : ℕ) (t : CodeTerm) (now whole : Owners) → length slots ≤ i → filled_in (drop i slots) t now ≡ whole → now ≡ whole
+all_filled slots i t now whole h e = ap (λ (l : List SlotId). filled_in l t now) (sym (nothing_left i slots h)) ∙ e
+
+count_is : (o : Option Owned) → size (items_seen (lists_of o)) ≡ cells_count (option_map owning_seen o)
+count_is None = refl
+count_is (Some o) = ap size (all_items o.lists)
+
+pub seen_count : (owners : Owners) (n : ℕ) → size (items_seen (lists_of (open_at owners n))) ≡ cells_count (open_seen (owners_seen owners) n)
+seen_count owners n = count_is (open_at owners n) ∙ ap cells_count (open_is owners n)

@@ -1,0 +1,53 @@
+use Rattle.std.proofs.Common.{◌≡◌, ◌∙◌, ℕ, List, map, length, ◌++◌, refl, sym, ap, ap₂, is_some, Bool}
+use Rattle.std.specs.Prelude.{Option}
+use Rattle.std.proofs.lemmas.List.{length-map}
+use Rattle.rx_model.specs.Terms.{Triple}
+use Rattle.rx_model.specs.Seen.{triples_seen}
+use Rattle.rx_rdfa.specs.Resources.{Inherited}
+use Rattle.rx_curie.specs.Seen.{facts_seen}
+use Rattle.rx_eval.specs.declared.places.Level.{Level}
+use Rattle.rx_eval.specs.OwnersSeen.{Owning, owners_seen}
+use Rattle.rx_eval.specs.Places.{level_at}
+use Rattle.rx_eval.specs.Opened.{handed_on, start_at, below_at, lists_at, gathers_at, first_of}
+use Rattle.rx_eval.specs.Frames.{context_seen}
+use Rattle.rx_eval.specs.States.{State, frame_seen}
+use Rattle.rx_eval.proofs.GrowLemmas.{mapped_more}
+use Rattle.rx_eval.proofs.OpenLemmas.{around_is, text_is, fresh_fits}
+use Rattle.rx_eval.proofs.eval.Eval.open.Goals as goal
+
+pub next_number-drawn-requires : goal.next_number-drawn-requires
+next_number-drawn-requires c =
+    fresh_fits _ _ _ c.in_ok-fresh.fresh _ c.in_ok-fresh.ensures (rw (← c.self.view_is) at c.requires.drawn)
+
+pub returns : goal.returns
+returns c =
+    let around = around_is c.self.inside.page _ _ c.self.inside.frames.items c.around-around.ensures c.as_slice-frames.ensures.value in
+    let depth : length c.as_slice-frames.result.now ≡ length (map frame_seen c.self.inside.frames.items) =
+    ap length c.as_slice-frames.ensures.value ∙ sym (length-map c.self.inside.frames.items frame_seen) in
+    let level = c.level_at.ensures ∙ ap level_at depth in
+    let labels = c.draw_labels.new.labels in
+    let fresh = c.in_ok-fresh.fresh in
+    let base = c.self.inside.base in
+    let facts = facts_seen c.args.facts.now in
+    rw (← c.self.view_is) (record {
+      frame = frame_seen c.in_ok-frame.frame;
+      fresh = fresh;
+      drawing = c.in_ok-fresh.ensures.path;
+      pushed = mapped_more frame_seen _ _ _ c.in-Ok.ensures.items;
+      context =
+          c.in_ok-frame.ensures.context ∙ ap₂ (λ (l : Level) (a : Inherited ℕ ℕ). below_at labels fresh base l a facts (length c.self.inside.lists)) level around
+          ∙ ap (λ (n : ℕ). below_at labels fresh base (level_at (length (map frame_seen c.self.inside.frames.items))) (handed_on (context_seen c.self.inside.page) (map frame_seen c.self.inside.frames.items)) facts n)
+          (sym (length-map c.self.inside.lists _));
+      start =
+          c.in_ok-frame.ensures.start
+          ∙ ap₂ (λ (l : Level) (a : Inherited ℕ ℕ). triples_seen c.self.inside.out ++ start_at labels fresh base l a facts) level around;
+      lists = c.in_ok-frame.ensures.lists ∙ ap₂ (λ (l : Level) (a : Inherited ℕ ℕ). lists_at labels fresh base l a facts (owners_seen c.self.inside.lists)) level around;
+      gathers =
+          text_is c.in_ok-frame.frame.gathered ∙ c.in_ok-frame.ensures.gathers
+          ∙ ap₂ (λ (l : Level) (a : Inherited ℕ ℕ). gathers_at labels fresh base l a facts) level around;
+      first =
+          c.first_of-self-inside.ensures
+          ∙ ap₂ (λ (b : Bool) (n : ℕ). first_of c.self.inside.outermost b n) (c.is_some-gathers.ensures ∙ sym (text_is c.in_ok-frame.frame.gathered)) depth;
+      counted = c.next_number-drawn.ensures;
+      rest = (refl, refl, refl, refl, refl, refl, refl);
+    })

@@ -1,0 +1,8 @@
+use Rattle.std.proofs.Common.{◌++◌, map, drop}
+use Rattle.rx_eval.specs.Triples.{waiting_seen}
+use Rattle.rx_eval.specs.Frames.{forward_by, reverse_by}
+use Rattle.rx_eval.proofs.GrowLemmas.{Growing}
+use Rattle.rx_eval.proofs.frames.push_forward.Given as goal
+
+abbrev pub invariant-loop-i : goal.invariant-loop-i
+invariant-loop-i l = Growing (map waiting_seen l.waiting.items) (map (forward_by l.inlist l.owner.0) (drop l.i l.predicates)) (map waiting_seen l.initial.waiting.items ++ map (forward_by l.inlist l.owner.0) l.predicates)

@@ -1,0 +1,24 @@
+-- The end of an element, part by part.
+use Rattle.std.specs.Prelude.{ℕ, List, [], ◌∷◌, map}
+use Rattle.rx_terms.specs.Text.{Chars}
+use Rattle.rx_terms.specs.declared.triples.Term.{Term as CodeTerm}
+use Rattle.rx_model.specs.Terms.{Node, Term, Triple}
+use Rattle.rx_model.specs.Copied.{spo}
+use Rattle.rx_lists.specs.Owners.{Owners, changed, with_term}
+use Rattle.rx_lists.specs.declared.lists.SlotId.{SlotId}
+use Rattle.rx_eval.specs.declared.frames.Target.{Target}
+use Rattle.rx_eval.specs.declared.frames.Target.TheVariants.{Said, Listed}
+
+-- the owners with the term in each of the places
+abbrev pub filled_in : List SlotId → CodeTerm → Owners → Owners
+filled_in [] value owners = owners
+filled_in (slot ∷ slots) value owners = filled_in slots value (changed (with_term slot.list slot.place value) owners slot.owner.0)
+
+abbrev pub said_by : Target → Node ℕ → Term ℕ → List (Triple ℕ)
+said_by (Said predicates) subject value = map (λ p. spo subject p value) predicates
+said_by (Listed slots) subject value = []
+
+-- the places in lists for the value
+abbrev pub slots_in : Target → List SlotId
+slots_in (Said predicates) = []
+slots_in (Listed slots) = slots.items

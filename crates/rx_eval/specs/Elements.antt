@@ -1,0 +1,32 @@
+-- The start of an element, part by part.
+use Rattle.std.specs.Prelude.{ℕ, suc, Bool, List, [], Option, Some, None, unwrap_or, nat_eq, if◌then◌else◌}
+use Rattle.rx_terms.specs.declared.triples.Node.{Node as CodeNode}
+use Rattle.rx_model.specs.Terms.{Node, same_node}
+use Rattle.rx_rdfa.specs.Facts.{Facts}
+use Rattle.rx_rdfa.specs.Resources.{Inherited, Resources}
+use Rattle.rx_rdfa.specs.Inherited.{hangs}
+use Rattle.rx_lists.specs.Owners.{Owners}
+use Rattle.rx_lists.specs.declared.lists.Owner.{Owner}
+use Rattle.rx_eval.specs.Handing.{begun, begun_number}
+use Rattle.rx_eval.specs.Frames.{hanging_by}
+
+abbrev pub owner_in : Option Owner → Owner → Owner
+owner_in None other = other
+owner_in (Some owner) other = owner
+
+abbrev pub begun_below : Option CodeNode → CodeNode → Owners → Owners
+begun_below None subject owners = owners
+begun_below (Some object) subject owners = begun object subject owners
+
+abbrev pub begun_below_number : Option CodeNode → CodeNode → ℕ → Option Owner
+begun_below_number None subject number = None
+begun_below_number (Some object) subject number = begun_number object subject number
+
+-- what an element that isn't skipped hands on
+abbrev pub handed_by : Facts → Resources ℕ → Option (Node ℕ) → ℕ → ℕ → Inherited ℕ ℕ
+handed_by facts here object own below = record {
+  subject = here.subject;
+  object = unwrap_or object here.subject;
+  hanging = (if hangs facts here then hanging_by facts own else []);
+  owner = below;
+}

@@ -1,0 +1,71 @@
+-- What the end of an element does to the triples and the lists.
+use Rattle.std.specs.Prelude.{◌≡◌, ℕ, ◌+◌, ◌-◌, ◌==◌, Bool, true, false, List, [], ◌∷◌, ◌++◌, map, filter_map, length, Option, Some, None, is_some, if◌then◌else◌}
+use Rattle.rx_terms.specs.Text.{Chars}
+use Rattle.rx_model.specs.Terms.{Node, Term, Triple}
+use Rattle.rx_model.specs.Copied.{spo}
+use Rattle.rx_values.specs.Marks.{CutAt}
+use Rattle.rx_lists.specs.Owners.{itself}
+use Rattle.rx_lists.specs.Cells.{size}
+use Rattle.rx_eval.specs.TextRules.{text_literal}
+use Rattle.rx_eval.specs.OwnersSeen.{Owning, open_seen, cells_seen, forgotten_seen, fill_all}
+use Rattle.rx_eval.specs.States.{Text, Frame, State}
+
+-- the triples so far, the owners of lists, and the next number of a cell
+pub record Ending : Type 0 where
+  pub out : List (Triple ℕ)
+  pub owners : List (Option Owning)
+  pub cells : ℕ
+
+abbrev pub ending : List (Triple ℕ) → List (Option Owning) → ℕ → Ending
+ending out owners cells = record { out = out; owners = owners; cells = cells }
+
+-- one state of these becomes another
+pub record Ends (old : Ending) (step : Ending → Ending) (new : Ending) : Type 0 where
+  pub path : new ≡ step old
+
+-- how many cells an owner's lists have
+abbrev pub cells_count : Option Owning → ℕ
+cells_count None = 0
+cells_count (Some o) = size (map (λ row. (row.0, filter_map itself row.1)) o.lists)
+
+-- step 14: an owner's lists are written, and the owner is forgotten
+abbrev pub end_owner : Option ℕ → Ending → Ending
+end_owner None e = e
+end_owner (Some owner) e =
+    ending (e.out ++ cells_seen e.cells (open_seen e.owners owner)) (forgotten_seen e.owners owner) (e.cells + cells_count (open_seen e.owners owner))
+
+abbrev pub said_triples : Option (List Chars) → Node ℕ → Term ℕ → List (Triple ℕ)
+said_triples None subject value = []
+said_triples (Some predicates) subject value = map (λ p. spo subject p value) predicates
+
+-- step 11: the value that the text is
+abbrev pub say_text : Option Text → Chars → Ending → Ending
+say_text None chars e = e
+say_text (Some text) chars e =
+    ending (e.out ++ said_triples text.said text.subject (text_literal text.rule text.lang chars)) (fill_all text.slots (text_literal text.rule text.lang chars) e.owners) e.cells
+
+-- the values that are the element's text, the lists of its object, those of its subject
+abbrev pub end_frame : Frame → Chars → Ending → Ending
+end_frame frame chars e = end_owner frame.own (end_owner frame.below (say_text frame.text chars e))
+
+-- behind the front stands the element's text
+abbrev pub TextAt : Option Text → Chars → Chars → Chars → Type 0
+TextAt None kept front chars = Unit {0}
+TextAt (Some text) kept front chars = CutAt kept text.mark front chars
+
+abbrev pub is_place : Option ℕ → ℕ → Bool
+is_place None n = false
+is_place (Some m) n = m == n
+
+-- the last element was closed; at the root's end the page's own lists are written
+pub record Closes (old new : State) : Type 0 where
+  pub frame : Frame
+  pub popped : old.frames ≡ new.frames ++ frame ∷ []
+  pub endings :
+      (front chars : Chars) → TextAt frame.text old.kept front chars
+      → ending new.out new.owners new.cells
+      ≡ end_owner (if length new.frames == 0 then Some old.page.owner else None) (end_frame frame chars (ending old.out old.owners old.cells))
+  pub kept : new.kept ≡ (if is_place old.outermost (length new.frames) then [] else old.kept)
+  pub outermost : new.outermost ≡ (if is_place old.outermost (length new.frames) then None else old.outermost)
+  pub ended : new.ended ≡ (if length new.frames == 0 then true else old.ended)
+  pub rest : (new.base ≡ old.base) × (new.levels ≡ old.levels) × (new.page ≡ old.page) × (new.labels ≡ old.labels) × (new.drawn ≡ old.drawn) × (new.spent ≡ old.spent)

@@ -1,0 +1,33 @@
+-- What an element puts into lists, part by part.
+use Rattle.std.specs.Prelude.{ℕ, Bool, List, [], ◌++◌, map, filter_map, Option, Some, None, if◌then◌else◌}
+use Rattle.rx_terms.specs.Text.{Chars}
+use Rattle.rx_model.specs.Terms.{Node, Term, Resource}
+use Rattle.rx_rdfa.specs.Facts.{Facts}
+use Rattle.rx_rdfa.specs.Resources.{Hanging, Forward, Reverse, InList, Resources}
+use Rattle.rx_rdfa.specs.Inherited.{listed, hangs}
+use Rattle.rx_rdfa.specs.Lists.{Entry, entry}
+use Rattle.rx_eval.specs.TextRules.{resource_term}
+
+abbrev pub Entries : Type 0
+Entries = List (Entry ℕ (Option (Term ℕ)))
+
+abbrev pub entries_for : ℕ → Option (Option (Term ℕ)) → Option (List Chars) → Entries
+entries_for owner item predicates = map (entry owner item) (listed predicates)
+
+abbrev pub linked_entries : ℕ → Option (List Chars) → Option (Node ℕ) → Entries
+linked_entries owner rel None = []
+linked_entries owner rel (Some object) = entries_for owner (Some (Some (resource_term object))) rel
+
+abbrev pub awaited_entry : Node ℕ → Hanging ℕ → Option (Entry ℕ (Option (Term ℕ)))
+awaited_entry subject (Forward p) = None
+awaited_entry subject (Reverse p) = None
+awaited_entry subject (InList owner p) = Some (entry owner (Some (Some (resource_term subject))) p)
+
+-- of an element with inlist
+abbrev pub own_entries : ℕ → Facts → Resources ℕ → Option (Term ℕ) → Entries
+own_entries owner facts here value =
+    linked_entries owner facts.rel here.object
+    ++ ((if hangs facts here then entries_for owner None facts.rel else []) ++ entries_for owner (Some value) facts.property)
+
+abbrev pub entries_in : ℕ → Facts → Resources ℕ → Option (Term ℕ) → List (Hanging ℕ) → Entries
+entries_in owner facts here value hanging = (if facts.inlist then own_entries owner facts here value else []) ++ filter_map (awaited_entry here.subject) hanging

@@ -1,0 +1,70 @@
+-- The owners of lists, as the rules see them.
+use Rattle.std.specs.Prelude.{ℕ, List, [], ◌∷◌, map, Option, Some, None, option_map, option_and_then, slice_get, slice_set, slice_index_or, filter_map}
+use Rattle.rx_terms.specs.Text.{Chars}
+use Rattle.rx_model.specs.Terms.{Node, Term, Triple}
+use Rattle.rx_model.specs.Seen.{node_seen, term_seen}
+use Rattle.rx_rdfa.specs.Tables.{Table, put}
+use Rattle.rx_rdfa.specs.Lists.{Entry}
+use Rattle.rx_lists.specs.Cells.{cells_of}
+use Rattle.rx_lists.specs.declared.lists.SlotId.{SlotId}
+use Rattle.rx_lists.specs.Owners.{Owned, Owners, Slots, itself}
+
+-- the subject of the lists, and the lists; an item without a term waits for its text
+pub record Owning : Type 0 where
+  pub subject : Node ℕ
+  pub lists : Table (Option (Term ℕ))
+
+abbrev pub owning : Node ℕ → Table (Option (Term ℕ)) → Owning
+owning subject lists = record { subject = subject; lists = lists }
+
+abbrev pub slots_seen : Slots → Table (Option (Term ℕ))
+slots_seen lists = map (λ row. (row.0, map (option_map term_seen) row.1)) lists
+
+abbrev pub owning_seen : Owned → Owning
+owning_seen owned = owning (node_seen owned.subject) (slots_seen owned.lists)
+
+abbrev pub owners_seen : Owners → List (Option Owning)
+owners_seen owners = map (option_map owning_seen) owners
+
+-- an item or a touch more in an owner's list of a predicate
+abbrev pub put_at : ℕ → Chars → Option (Option (Term ℕ)) → List (Option Owning) → List (Option Owning)
+put_at number predicate item owners =
+    slice_set owners number (option_map (λ o. owning o.subject (put predicate item o.lists)) (option_and_then itself (slice_get owners number)))
+
+abbrev pub put_entries : List (Entry ℕ (Option (Term ℕ))) → List (Option Owning) → List (Option Owning)
+put_entries [] owners = owners
+put_entries (e ∷ entries) owners = put_entries entries (put_at e.owner e.predicate e.item owners)
+
+-- an item in the place of a list's
+abbrev pub with_item : ℕ → ℕ → Term ℕ → Table (Option (Term ℕ)) → Table (Option (Term ℕ))
+with_item list place term lists =
+    slice_set lists list ((slice_index_or lists list ([], [])).0, slice_set (slice_index_or lists list ([], [])).1 place (Some term))
+
+abbrev pub open_seen : List (Option Owning) → ℕ → Option Owning
+open_seen owners number = option_and_then itself (slice_get owners number)
+
+abbrev pub fill_seen : ℕ → ℕ → Term ℕ → List (Option Owning) → ℕ → List (Option Owning)
+fill_seen list place term owners number =
+    slice_set owners number (option_map (λ o. owning o.subject (with_item list place term o.lists)) (open_seen owners number))
+
+abbrev pub fill_all : List SlotId → Term ℕ → List (Option Owning) → List (Option Owning)
+fill_all [] term owners = owners
+fill_all (slot ∷ slots) term owners = fill_all slots term (fill_seen slot.list slot.place term owners slot.owner.0)
+
+-- the triples of an owner's lists; a place without an item has no cell
+abbrev pub cells_seen : ℕ → Option Owning → List (Triple ℕ)
+cells_seen next None = []
+cells_seen next (Some o) = cells_of next o.subject (map (λ row. (row.0, filter_map itself row.1)) o.lists)
+
+-- without the finished owners at the end
+abbrev pub ended_by : Option Owning → List (Option Owning) → List (Option Owning)
+ended_by None [] = []
+ended_by None (o ∷ more) = None ∷ o ∷ more
+ended_by (Some owning) more = Some owning ∷ more
+
+abbrev pub ended : List (Option Owning) → List (Option Owning)
+ended [] = []
+ended (o ∷ owners) = ended_by o (ended owners)
+
+abbrev pub forgotten_seen : List (Option Owning) → ℕ → List (Option Owning)
+forgotten_seen owners number = ended (slice_set owners number None)

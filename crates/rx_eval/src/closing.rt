@@ -1,0 +1,115 @@
+//! The end of an element (RDFa Core 1.1, section 7.5, steps 11 and 14).
+ghost use Rattle.std.specs.Prelude.{◌≡◌, ◌+◌, ◌++◌, OnOk, IfOk, option_map};
+ghost use Rattle.std.specs.Str.{chars};
+ghost use Rattle.rx_model.specs.Seen.{node_seen, term_seen, triples_seen};
+ghost use Rattle.rx_eval.specs.TextRules.{text_literal};
+ghost use Rattle.rx_eval.specs.OwnersSeen.{owners_seen, fill_all, open_seen, cells_seen, forgotten_seen};
+ghost use Rattle.rx_terms.specs.Text.{Chars};
+ghost use Rattle.rx_eval.specs.States.{frame_seen, owner_seen};
+ghost use Rattle.rx_eval.specs.Ending.{ending, end_owner, end_frame, cells_count, TextAt, Ends};
+ghost use Rattle.rx_eval.specs.Closing.{filled_in, said_by, slots_in};
+
+use crate::frames::{Frame, Gathered, Target};
+use crate::triples::push_each;
+use rx_lists::{Lists, Owner, SlotId};
+use rx_terms::{NoMemory, Term, TripleList};
+use rx_values::TextStore;
+use std::alloc::Global;
+
+/// Puts the value into each of the places.
+fn fill_each(lists: &mut Lists, slots: &[SlotId], value: &Term) -> Result<(), NoMemory>
+    ensures code { OnOk result (lists.new ≡ filled_in slots.now value.now lists.old) }
+    ensures seen { OnOk result (owners_seen lists.new ≡ fill_all slots.now (term_seen value.now) (owners_seen lists.old)) }
+{
+    for slot in slots {
+        lists.fill(*slot, value.try_clone()?);
+    }
+    Ok(())
+}
+
+/// The value that the text is goes where it is wanted: into triples, or into the places in lists.
+fn put_value(
+    out: &mut TripleList,
+    lists: &mut Lists,
+    gathered: &Gathered,
+    value: &Term,
+) -> Result<(), NoMemory>
+    ensures said { OnOk result (triples_seen out.new ≡ triples_seen out.old ++ said_by gathered.now.target (node_seen gathered.now.subject) (term_seen value.now)) }
+    ensures filled { OnOk result (owners_seen lists.new ≡ fill_all (slots_in gathered.now.target) (term_seen value.now) (owners_seen lists.old)) }
+{
+    match &gathered.target {
+        Target::Said(predicates) => push_each(out, gathered.subject.node(), predicates, value),
+        Target::Listed(slots) => fill_each(lists, slots.as_slice(), value),
+    }
+}
+
+/// The end of an element's text.
+pub(crate) fn end_text(
+    alloc: Global,
+    out: &mut TripleList,
+    lists: &mut Lists,
+    gathered: &Gathered,
+    text: &str,
+) -> Result<(), NoMemory>
+    ensures said { OnOk result (triples_seen out.new ≡ triples_seen out.old ++ said_by gathered.now.target (node_seen gathered.now.subject) (text_literal gathered.now.rule gathered.now.lang (chars text.now))) }
+    ensures filled { OnOk result (owners_seen lists.new ≡ fill_all (slots_in gathered.now.target) (text_literal gathered.now.rule gathered.now.lang (chars text.now)) (owners_seen lists.old)) }
+{
+    let value = gathered.rule.value(alloc, &gathered.lang, text)?;
+    put_value(out, lists, gathered, &value)
+}
+
+/// Adds the triples of an owner's lists, whose cells are numbered from `next` on, and gives the next number. Where no
+/// number is left for a cell there is no memory for one either.
+pub(crate) fn end_lists(
+    out: &mut TripleList,
+    lists: &mut Lists,
+    owner: Owner,
+    next: u64,
+) -> Result<u64, NoMemory>
+    ensures triples { OnOk result (triples_seen out.new ≡ triples_seen out.old ++ cells_seen next (open_seen (owners_seen lists.old) owner.0)) }
+    ensures next { IfOk result (λ after. after ≡ next + cells_count (open_seen (owners_seen lists.old) owner.0)) }
+    ensures lists { OnOk result (owners_seen lists.new ≡ forgotten_seen (owners_seen lists.old) owner.0) }
+{
+    if !lists.fits(owner, next) {
+        return Err(NoMemory);
+    }
+    let finished = lists.finish(owner, next)?;
+    for i in 0..finished.triples.len() {
+        out.push(finished.triples.at(i).try_clone()?)?;
+    }
+    Ok(finished.next_blank)
+}
+
+/// The same of an owner, if there is one.
+fn end_owner(
+    out: &mut TripleList,
+    lists: &mut Lists,
+    owner: Option<Owner>,
+    next: u64,
+) -> Result<u64, NoMemory>
+    ensures { IfOk result (λ after. Ends (ending (triples_seen out.old) (owners_seen lists.old) next) (end_owner (option_map owner_seen owner)) (ending (triples_seen out.new) (owners_seen lists.new) after)) }
+{
+    match owner {
+        Some(owner) => end_lists(out, lists, owner, next),
+        None => Ok(next),
+    }
+}
+
+/// The end of an element: its text, if it gathers it, the lists of its object, and those of its subject. Gives the next
+/// number of a cell.
+pub(crate) fn end_frame(
+    alloc: Global,
+    out: &mut TripleList,
+    lists: &mut Lists,
+    frame: &Frame,
+    text: &TextStore,
+    next: u64,
+) -> Result<u64, NoMemory>
+    ensures { IfOk result (λ after. (front chars : Chars) → TextAt (frame_seen frame.now).text text.now front chars → Ends (ending (triples_seen out.old) (owners_seen lists.old) next) (end_frame (frame_seen frame.now) chars) (ending (triples_seen out.new) (owners_seen lists.new) after)) }
+{
+    if let Some(gathered) = &frame.gathered {
+        end_text(alloc, out, lists, gathered, text.since(gathered.mark))?;
+    }
+    let next = end_owner(out, lists, frame.below, next)?;
+    end_owner(out, lists, frame.own, next)
+}

@@ -1,0 +1,64 @@
+//! What an element begins and hands on (RDFa Core 1.1, section 7.5, steps 8, 10 and 13).
+ghost use Rattle.std.specs.Prelude.{◌≡◌, OnOk, IfOk, nat_eq, option_map, length};
+ghost use Rattle.rx_model.specs.Terms.{same_node};
+ghost use Rattle.rx_model.specs.Seen.{node_seen};
+ghost use Rattle.rx_rdfa.specs.Inherited.{hangs, holds_some, listed, object_below};
+ghost use Rattle.rx_curie.specs.Seen.{facts_seen};
+ghost use Rattle.rx_eval.specs.Found.{found_seen, naming, standing};
+ghost use Rattle.rx_eval.specs.Handing.{begun, begun_number};
+
+use crate::places::Place;
+use crate::resources::Found;
+use crate::shared::{Shared, share_option};
+use rx_curie::Facts;
+use rx_lists::{Lists, Owner};
+use rx_terms::{Iris, NoMemory, Node};
+
+/// Whether the two are one node.
+pub(crate) fn is_same(a: &Node, b: &Node) -> bool
+    ensures { result ≡ same_node nat_eq (node_seen a.now) (node_seen b.now) }
+{
+    *a == *b
+}
+
+fn has_some(predicates: &Option<Iris>) -> bool
+    ensures { result ≡ holds_some (listed predicates.now) }
+{
+    match predicates {
+        Some(predicates) => !predicates.is_empty(),
+        None => false,
+    }
+}
+
+/// Whether the predicates of `rel` and `rev` wait for subjects further down.
+pub(crate) fn hangs(facts: &Facts, found: &Found) -> bool
+    ensures { result ≡ hangs (facts_seen facts.now) (found_seen found.now) }
+{
+    if found.object.is_some() {
+        return false;
+    }
+    has_some(&facts.rel) || has_some(&facts.rev)
+}
+
+impl<'a> Place<'a> {
+    /// The object that the children inherit, where it isn't the subject.
+    pub(crate) fn object_below(&self, facts: &Facts, found: &Found) -> Result<Option<Shared>, NoMemory>
+        ensures { IfOk result (λ object. option_map node_seen object ≡ object_below (naming self.now) (standing self.now (facts_seen facts.now)) (found_seen found.now)) }
+    {
+        if hangs(facts, found) {
+            return Ok(Some(self.fresh()?));
+        }
+        share_option(&found.object)
+    }
+}
+
+/// A new owner of lists with the subject, where that isn't the other node.
+pub(crate) fn begin(lists: &mut Lists, subject: &Node, other: &Node) -> Result<Option<Owner>, NoMemory>
+    ensures lists { OnOk result (lists.new ≡ begun subject.now other.now lists.old) }
+    ensures owner { IfOk result (λ owner. owner ≡ begun_number subject.now other.now (length lists.old)) }
+{
+    if is_same(subject, other) {
+        return Ok(None);
+    }
+    Ok(Some(lists.start(subject.try_clone()?)?))
+}

@@ -1,0 +1,134 @@
+//! What an element puts into lists at its start.
+ghost use Rattle.std.specs.Prelude.{◌≡◌, OnOk, Some, None, map, option_map, if◌then◌else◌, [], filter_map};
+ghost use Rattle.rx_model.specs.Seen.{node_seen, term_seen};
+ghost use Rattle.rx_curie.specs.Seen.{facts_seen};
+ghost use Rattle.rx_eval.specs.Found.{found_seen};
+ghost use Rattle.rx_eval.specs.Triples.{waiting_seen};
+ghost use Rattle.rx_eval.specs.OwnersSeen.{owners_seen, put_entries};
+ghost use Rattle.rx_eval.specs.Listing.{entries_for, linked_entries, awaited_entry, own_entries, entries_in};
+
+use crate::contexts::Waiting;
+use crate::entries::{add_awaited, add_each, slot_each, touch_each};
+use crate::handing::hangs;
+use crate::resources::Found;
+use crate::shared::Shared;
+use crate::values::node_term;
+use rx_curie::Facts;
+use rx_lists::{Lists, Owner, SlotId};
+use rx_terms::{Iris, NoMemory, Node, Term};
+use std::alloc::Global;
+
+/// Puts the object into the lists of `rel`.
+fn put_linked(
+    lists: &mut Lists,
+    owner: Owner,
+    rel: &Option<Iris>,
+    object: &Option<Shared>,
+) -> Result<(), NoMemory>
+    ensures { OnOk result (owners_seen lists.new ≡ put_entries (linked_entries owner.0 rel.now (option_map node_seen object.now)) (owners_seen lists.old)) }
+{
+    let Some(object) = object else {
+        return Ok(());
+    };
+    match rel {
+        Some(rel) => add_each(lists, owner, rel, &node_term(object.node())?),
+        None => Ok(()),
+    }
+}
+
+/// Makes the lists of `rel` that wait.
+fn put_touched(
+    lists: &mut Lists,
+    owner: Owner,
+    rel: &Option<Iris>,
+    waits: bool,
+) -> Result<(), NoMemory>
+    ensures { OnOk result (owners_seen lists.new ≡ put_entries (if waits then entries_for owner.0 None rel.now else []) (owners_seen lists.old)) }
+{
+    if !waits {
+        return Ok(());
+    }
+    match rel {
+        Some(rel) => touch_each(lists, owner, rel),
+        None => Ok(()),
+    }
+}
+
+/// Puts the value into the lists of `property`, or reserves its places where it is the element's text.
+fn put_valued(
+    alloc: Global,
+    lists: &mut Lists,
+    owner: Owner,
+    property: &Option<Iris>,
+    value: &Option<Term>,
+) -> Result<Vec<SlotId>, NoMemory>
+    ensures { OnOk result (owners_seen lists.new ≡ put_entries (entries_for owner.0 (Some (option_map term_seen value.now)) property.now) (owners_seen lists.old)) }
+{
+    let Some(property) = property else {
+        return Ok(Vec::new(alloc));
+    };
+    match value {
+        Some(value) => {
+            add_each(lists, owner, property, value)?;
+            Ok(Vec::new(alloc))
+        }
+        None => slot_each(alloc, lists, owner, property),
+    }
+}
+
+/// Puts what an element with `inlist` has into its lists, and gives the places that wait for its text.
+fn put_own(
+    alloc: Global,
+    lists: &mut Lists,
+    owner: Owner,
+    facts: &Facts,
+    found: &Found,
+    value: &Option<Term>,
+) -> Result<Vec<SlotId>, NoMemory>
+    ensures { OnOk result (owners_seen lists.new ≡ put_entries (own_entries owner.0 (facts_seen facts.now) (found_seen found.now) (option_map term_seen value.now)) (owners_seen lists.old)) }
+{
+    put_linked(lists, owner, &facts.rel, &found.object)?;
+    put_touched(lists, owner, &facts.rel, hangs(facts, found))?;
+    put_valued(alloc, lists, owner, &facts.property, value)
+}
+
+/// Adds the subject to the lists that wait.
+fn put_awaited(lists: &mut Lists, waiting: &[Waiting], subject: &Node) -> Result<(), NoMemory>
+    ensures { OnOk result (owners_seen lists.new ≡ put_entries (filter_map (awaited_entry (node_seen subject.now)) (map waiting_seen waiting.now)) (owners_seen lists.old)) }
+{
+    add_awaited(lists, waiting, &node_term(subject)?)
+}
+
+/// Puts what the element has into lists, and gives the places that wait for its text.
+pub(crate) fn put_all(
+    alloc: Global,
+    lists: &mut Lists,
+    owner: Owner,
+    facts: &Facts,
+    found: &Found,
+    value: &Option<Term>,
+    waiting: &[Waiting],
+) -> Result<Vec<SlotId>, NoMemory>
+    ensures { OnOk result (owners_seen lists.new ≡ put_entries (entries_in owner.0 (facts_seen facts.now) (found_seen found.now) (option_map term_seen value.now) (map waiting_seen waiting.now)) (owners_seen lists.old)) }
+{
+    let slots = put_listed(alloc, lists, owner, facts, found, value)?;
+    put_awaited(lists, waiting, found.subject.node())?;
+    Ok(slots)
+}
+
+/// The same of an element with `inlist`, and nothing of any other.
+fn put_listed(
+    alloc: Global,
+    lists: &mut Lists,
+    owner: Owner,
+    facts: &Facts,
+    found: &Found,
+    value: &Option<Term>,
+) -> Result<Vec<SlotId>, NoMemory>
+    ensures { OnOk result (owners_seen lists.new ≡ put_entries (if facts.now.inlist then own_entries owner.0 (facts_seen facts.now) (found_seen found.now) (option_map term_seen value.now) else []) (owners_seen lists.old)) }
+{
+    if !facts.inlist {
+        return Ok(Vec::new(alloc));
+    }
+    put_own(alloc, lists, owner, facts, found, value)
+}

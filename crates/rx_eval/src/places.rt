@@ -1,0 +1,59 @@
+//! Where an element stands, as far as its resources ask for it.
+ghost use Rattle.std.specs.Prelude.{◌≡◌, IfOk};
+ghost use Rattle.rx_model.specs.Seen.{node_seen};
+ghost use Rattle.rx_curie.specs.Seen.{ref_seen};
+ghost use Rattle.rx_eval.specs.Places.{level_at, named};
+
+use crate::labels::Labels;
+use crate::shared::Shared;
+use rx_curie::Ref;
+use rx_refs::resolve;
+use rx_terms::{Blank, Iri, NoMemory, Node};
+use std::alloc::Global;
+
+/// How deep an element stands, as far as the rules ask.
+#[derive(Clone, Copy, Debug, PartialEq, Eq)]
+pub(crate) enum Level {
+    Root,
+    RootChild,
+    Deeper,
+}
+
+/// Where an element stands: the base, the parent object, and the numbers of blank nodes.
+#[derive(Clone, Copy)]
+pub(crate) struct Place<'a> {
+    pub(crate) alloc: Global,
+    pub(crate) base: &'a Iri,
+    pub(crate) object: &'a Shared,
+    pub(crate) level: Level,
+    pub(crate) labels: &'a Labels,
+    /// The number of a new node.
+    pub(crate) fresh: u64,
+}
+
+/// The level of an element with so many elements around it.
+pub(crate) fn level_at(around: usize) -> Level
+    ensures { result ≡ level_at around }
+{
+    match around {
+        0 => Level::Root,
+        1 => Level::RootChild,
+        _ => Level::Deeper,
+    }
+}
+
+/// The node that is named.
+pub(crate) fn named(
+    alloc: Global,
+    base: &Iri,
+    labels: &Labels,
+    name: &Ref,
+) -> Result<Node, NoMemory>
+    ensures { IfOk result (λ node. node_seen node ≡ named labels.now base.now (ref_seen name.now)) }
+{
+    match name {
+        Ref::Iri(iri) => Ok(Node::Iri(iri.try_clone()?)),
+        Ref::Label(label) => Ok(Node::Blank(Blank(labels.number_or_zero(label)))),
+        Ref::Relative(reference) => Ok(Node::Iri(resolve(alloc, base, reference.as_str())?)),
+    }
+}

@@ -1,0 +1,4 @@
+mod RowLemmas
+mod CellLemmas
+mod SlotLemmas
+mod FinishLemmas

@@ -1,0 +1,245 @@
+-- Predicates and their slots, side by side, as a table.
+use Rattle.std.proofs.Common.{◌≡◌, ◌∙◌, ℕ, zero, suc, ◌+◌, ◌<◌, ◌≤◌, Bool, true, false, cond, List, [], ◌∷◌, ◌++◌, map, length, Option, Some, None, option_to_list, bytes_eq, refl, sym, ap, ap₂, Result, Ok, Err, OnOk, subst, arith, append-nil, rules, slice_set, slice_index_or, slice_get}
+use Rattle.std.specs.List.{position, position_or_len, list_any}
+use Rattle.std.specs.Prelude.{nat_lt}
+use Rattle.std.proofs.lemmas.Bool.Decides.{nat_tests}
+use Rattle.rx_terms.specs.declared.triples.Term.{Term}
+use Rattle.rx_terms.specs.contracts.iris.IriPartialEq.TheImpl as iri_impl
+use Rattle.rx_model.specs.Sets.{IsExact}
+use Rattle.rx_model.proofs.Exact.{exact_texts}
+use Rattle.rx_rdfa.specs.Tables.{put}
+use Rattle.rx_terms.specs.declared.triples.Node.{Node}
+use Rattle.std.proofs.lemmas.List.{map-append, length-map}
+use Rattle.rx_lists.specs.Owners.{Owned, owned, with_lists, with_slot, with_term, Slots, slots_at, predicates_of, place_of, slots_of}
+use Rattle.rx_lists.specs.Rows.{rows, first_place, FoundAt}
+
+pub got_within : {A : Type 0} (xs : List A) (i : ℕ) {x : A} → slice_get xs i ≡ Some x → i < length xs
+got_within [] i h = absurd (cc)
+got_within (y ∷ xs) zero h = omega arith
+got_within (y ∷ xs) (suc i) h = omega (arith, got_within xs i h)
+
+row_within : {A : Type 0} (xs : List (List A)) (i : ℕ) {j : ℕ} → j < length (slice_index_or xs i []) → i < length xs
+row_within [] i h = absurd (omega arith)
+row_within (y ∷ xs) zero h = omega arith
+row_within (y ∷ xs) (suc i) h = omega (arith, row_within xs i h)
+
+by_test : {G : Type 0} (b : Bool) → (b ≡ true → G) → (b ≡ false → G) → G
+by_test true f g = f refl
+by_test false f g = g refl
+
+abbrev iri_eq : List ℕ → List ℕ → Bool
+iri_eq = (iri_impl.ghosts).eq
+
+exact_iri : IsExact iri_eq
+exact_iri a b = search rules
+
+-- the code's test is the tables'
+same_either_way : (a b : List ℕ) → iri_eq a b ≡ bytes_eq b a
+same_either_way a b =
+    by_test (iri_eq a b) (λ t. t ∙ sym ((exact_texts b a).1 (sym ((exact_iri a b).0 t))))
+    (λ f. by_test (bytes_eq b a) (λ t. absurd (cc (f, (exact_iri a b).1 (sym ((exact_texts b a).0 t))))) (λ g. f ∙ sym g))
+
+or_len : (p : List ℕ) (ks : List (List ℕ)) → position_or_len (iri_eq p) ks ≡ first_place p ks
+or_len p [] = refl
+or_len p (k ∷ ks) = rw (same_either_way p k) (by_test (bytes_eq k p) (λ t. rw t refl) (λ f. rw f (add-one-left _ ∙ ap suc (or_len p ks)))) where
+  add-one-left : (n : ℕ) → 1 + n ≡ suc n
+  add-one-left n = omega arith
+
+at_most : (p : List ℕ) (ks : List (List ℕ)) → first_place p ks ≤ length ks
+at_most p [] = omega arith
+at_most p (k ∷ ks) = by_test (bytes_eq k p) (λ t. rw t (omega arith)) (λ f. rw f (omega (arith, at_most p ks)))
+
+chosen : (p : List ℕ) (ks : List (List ℕ)) (n : ℕ) → n ≡ first_place p ks → FoundAt p ks (cond (nat_lt n (length ks)) (Some n) None)
+chosen p ks n e = by_test (nat_lt n (length ks)) (λ t. rw t (e, grind (arith, nat_tests))) (λ f. let below = at_most p ks in rw f (omega (arith, not_below f)))
+  where
+    not_below : nat_lt n (length ks) ≡ false → length ks ≤ n
+    not_below f = grind (arith, nat_tests)
+
+found_in : (p : List ℕ) (ks : List (List ℕ)) → FoundAt p ks (position (iri_eq p) ks)
+found_in p ks = chosen p ks (position_or_len (iri_eq p) ks) (or_len p ks)
+
+pub keys_are : (ks : List (List ℕ)) (ss : List (List (Option Term))) → length ks ≡ length ss → predicates_of (rows ks ss) ≡ ks
+keys_are [] ss e = refl
+keys_are (k ∷ ks) [] e = absurd (omega arith)
+keys_are (k ∷ ks) (s ∷ ss) e = ap (λ (x : List (List ℕ)). k ∷ x) (keys_are ks ss (omega arith))
+
+pub found_at : (p : List ℕ) (lists : Slots) (ks : List (List ℕ)) (o : Option ℕ) → predicates_of lists ≡ ks → o ≡ position (iri_eq p) ks → FoundAt p (predicates_of lists) o
+found_at p lists ks o e f = rw (e, f) (found_in p ks)
+
+pub rows_more : (ks : List (List ℕ)) (ss : List (List (Option Term))) (k : List ℕ) (s : List (Option Term)) → length ks ≡ length ss
+    → rows (ks ++ k ∷ []) (ss ++ s ∷ []) ≡ rows ks ss ++ (k, s) ∷ []
+rows_more [] [] k s e = refl
+rows_more [] (t ∷ ss) k s e = absurd (omega arith)
+rows_more (j ∷ ks) [] k s e = absurd (omega arith)
+rows_more (j ∷ ks) (t ∷ ss) k s e = ap (λ (x : Slots). (j, t) ∷ x) (rows_more ks ss k s (omega arith))
+
+pub rows_at : (ks : List (List ℕ)) (ss : List (List (Option Term))) (i : ℕ) → length ks ≡ length ss → (slice_index_or (rows ks ss) i ([], [])).1 ≡ slice_index_or ss i []
+rows_at [] [] i e = refl
+rows_at [] (t ∷ ss) i e = absurd (omega arith)
+rows_at (j ∷ ks) [] i e = absurd (omega arith)
+rows_at (j ∷ ks) (t ∷ ss) zero e = refl
+rows_at (j ∷ ks) (t ∷ ss) (suc i) e = rows_at ks ss i (omega arith)
+
+pub rows_set : (ks : List (List ℕ)) (ss : List (List (Option Term))) (i : ℕ) (s : List (Option Term)) → length ks ≡ length ss
+    → rows ks (slice_set ss i s) ≡ slice_set (rows ks ss) i ((slice_index_or (rows ks ss) i ([], [])).0, s)
+rows_set [] [] i s e = refl
+rows_set [] (t ∷ ss) i s e = absurd (omega arith)
+rows_set (j ∷ ks) [] i s e = absurd (omega arith)
+rows_set (j ∷ ks) (t ∷ ss) zero s e = refl
+rows_set (j ∷ ks) (t ∷ ss) (suc i) s e = ap (λ (x : Slots). (j, t) ∷ x) (rows_set ks ss i s (omega arith))
+
+pub place_is : (p : List ℕ) (lists : Slots) → place_of p lists ≡ first_place p (predicates_of lists)
+place_is p [] = refl
+place_is p (row ∷ lists) = by_test (bytes_eq row.0 p) (λ t. rw t refl) (λ f. rw f (ap suc (place_is p lists)))
+
+pub slots_are : (p : List ℕ) (lists : Slots) → slots_of p lists ≡ (slice_index_or lists (first_place p (predicates_of lists)) ([], [])).1
+slots_are p [] = refl
+slots_are p (row ∷ lists) = by_test (bytes_eq row.0 p) (λ t. rw t refl) (λ f. rw f (slots_are p lists))
+
+-- a new predicate goes last
+pub put_new : (p : List ℕ) (item : Option (Option Term)) (lists : Slots) → first_place p (predicates_of lists) ≡ length (predicates_of lists)
+    → put p item lists ≡ lists ++ (p, option_to_list item) ∷ []
+put_new p item [] n = refl
+put_new p item (row ∷ lists) n =
+    by_test (bytes_eq row.0 p) (λ t. let z : first_place p (predicates_of (row ∷ lists)) ≡ 0 = rw t refl in absurd (omega (arith, z, n)))
+    (λ f.
+    let z : first_place p (predicates_of (row ∷ lists)) ≡ suc (first_place p (predicates_of lists)) = rw f refl in
+    rw f (ap (λ (x : Slots). row ∷ x) (put_new p item lists (omega (arith, z, n)))))
+
+-- an old one has one more slot
+pub put_old : (p : List ℕ) (slot : Option Term) (lists : Slots) → first_place p (predicates_of lists) < length (predicates_of lists)
+    → let row = slice_index_or lists (first_place p (predicates_of lists)) ([], []) in
+    put p (Some slot) lists ≡ slice_set lists (first_place p (predicates_of lists)) (row.0, row.1 ++ slot ∷ [])
+put_old p slot [] n = absurd (omega arith)
+put_old p slot (row ∷ lists) n =
+    by_test (bytes_eq row.0 p) (λ t. rw t refl)
+    (λ f.
+    let z : first_place p (predicates_of (row ∷ lists)) ≡ suc (first_place p (predicates_of lists)) = rw f refl in
+    rw f (ap (λ (x : Slots). row ∷ x) (put_old p slot lists (omega (arith, z, n)))))
+
+-- a touch of an old one changes nothing
+pub touch_old : (p : List ℕ) (lists : Slots) → first_place p (predicates_of lists) < length (predicates_of lists) → put p None lists ≡ lists
+touch_old p [] n = absurd (omega arith)
+touch_old p (row ∷ lists) n =
+    by_test (bytes_eq row.0 p) (λ t. rw t (ap (λ (x : List (Option Term)). (row.0, x) ∷ lists) (append-nil row.1)))
+    (λ f.
+    let z : first_place p (predicates_of (row ∷ lists)) ≡ suc (first_place p (predicates_of lists)) = rw f refl in
+    rw f (ap (λ (x : Slots). row ∷ x) (touch_old p lists (omega (arith, z, n)))))
+
+pub none_alike : (p : List ℕ) (ks : List (List ℕ)) → first_place p ks ≡ length ks → list_any (iri_eq p) ks ≡ false
+none_alike p [] n = refl
+none_alike p (k ∷ ks) n =
+    by_test (bytes_eq k p) (λ t. let z : first_place p (k ∷ ks) ≡ 0 = rw t refl in absurd (omega (arith, z, n)))
+    (λ f.
+    let z : first_place p (k ∷ ks) ≡ suc (first_place p ks) = rw f refl in
+    rw (same_either_way p k, f) (none_alike p ks (omega (arith, z, n))))
+
+pub more_rows : (old : Owned) (subject : Node) (ks more_ks : List (List ℕ)) (ss more_ss : List (List (Option Term))) (k j : List ℕ) (s : List (Option Term))
+    → owned subject (rows ks ss) ≡ old → more_ks ≡ ks ++ k ∷ [] → k ≡ j → more_ss ≡ ss ++ s ∷ [] → length ks ≡ length ss
+    → owned subject (rows more_ks more_ss) ≡ owned old.subject (old.lists ++ (j, s) ∷ [])
+more_rows old subject ks more_ks ss more_ss k j s v e g f l =
+    ap₂ (λ (x : List (List ℕ)) (y : List (List (Option Term))). owned subject (rows x y)) e f
+    ∙ ap (owned subject) (rows_more ks ss k s l)
+    ∙ ap (λ (x : List ℕ). owned subject (rows ks ss ++ (x, s) ∷ [])) g
+    ∙ ap (λ (o : Owned). owned o.subject (o.lists ++ (j, s) ∷ [])) v
+
+pub if_both : {A E P Q R : Type 0} (r : Result A E) → (P → Q → R) → OnOk r P → OnOk r Q → OnOk r R
+if_both (Ok a) f p q = f p q
+if_both (Err e) f p q = p
+
+pub if_ok : {A E P Q : Type 0} (r : Result A E) → (P → Q) → OnOk r P → OnOk r Q
+if_ok (Ok a) f p = f p
+if_ok (Err e) f p = p
+
+pub map_more : {A B : Type 0} (f : A → B) (xs ys : List A) (x : A) → ys ≡ xs ++ x ∷ [] → map f ys ≡ map f xs ++ f x ∷ []
+map_more f xs ys x e = ap (map f) e ∙ map-append f xs (x ∷ [])
+
+pub keys_of : (o : Owned) (subject : Node) (ks : List (List ℕ)) (ss : List (List (Option Term))) → owned subject (rows ks ss) ≡ o → length ks ≡ length ss → predicates_of o.lists ≡ ks
+keys_of o subject ks ss v e = ap (λ (x : Owned). predicates_of x.lists) (sym v) ∙ keys_are ks ss e
+
+pub not_there : (o : Owned) (subject : Node) (ks : List (List ℕ)) (ss : List (List (Option Term))) (p q : List ℕ) → owned subject (rows ks ss) ≡ o → length ks ≡ length ss → q ≡ p
+    → FoundAt p (predicates_of o.lists) None → FoundAt q ks None
+not_there o subject ks ss p q v e f n = subst (λ (x : List (List ℕ)). FoundAt q x None) (keys_of o subject ks ss v e) (subst (λ (x : List ℕ). FoundAt x (predicates_of o.lists) None) (sym f) n)
+
+pub touched_old : (o : Owned) (p : List ℕ) (i : ℕ) → FoundAt p (predicates_of o.lists) (Some i) → o ≡ with_lists (put p None) o
+touched_old o p i f = ap (owned o.subject) (sym (touch_old p o.lists (subst (λ (n : ℕ). n < length (predicates_of o.lists)) f.0 f.1)))
+
+pub touched_new : (o n : Owned) (p : List ℕ) (s : List (Option Term)) (item : Option (Option Term)) → s ≡ option_to_list item → FoundAt p (predicates_of o.lists) None
+    → n ≡ owned o.subject (o.lists ++ (p, s) ∷ []) → n ≡ with_lists (put p item) o
+touched_new o n p s item e f h = h ∙ ap (λ (x : List (Option Term)). owned o.subject (o.lists ++ (p, x) ∷ [])) e ∙ ap (owned o.subject) (sym (put_new p item o.lists f))
+
+rows_length : (ks : List (List ℕ)) (ss : List (List (Option Term))) → length ks ≡ length ss → length (rows ks ss) ≡ length ss
+rows_length [] [] e = refl
+rows_length [] (s ∷ ss) e = absurd (omega arith)
+rows_length (k ∷ ks) [] e = absurd (omega arith)
+rows_length (k ∷ ks) (s ∷ ss) e = omega (arith, rows_length ks ss (omega arith))
+
+-- the lists of an owner, seen as predicates and slots side by side
+module _ (o : Owned) (subject : Node) (ks : List (List ℕ)) (ss : List (List (Option Term))) (v : owned subject (rows ks ss) ≡ o) (e : length ks ≡ length ss) where
+  pub as_many : length o.lists ≡ length ss
+  as_many = ap (λ (x : Owned). length x.lists) (sym v) ∙ rows_length ks ss e
+
+  pub same_slots : (i : ℕ) → slots_at o.lists i ≡ slice_index_or ss i []
+  same_slots i = ap (λ (x : Owned). slots_at x.lists i) (sym v) ∙ rows_at ks ss i e
+
+  pub row_view : (i : ℕ) (s : List (Option Term)) (new : List (List (Option Term))) → new ≡ slice_set ss i s
+      → owned subject (rows ks new) ≡ with_lists (λ l. slice_set l i ((slice_index_or l i ([], [])).0, s)) o
+  row_view i s new n =
+      ap (λ (x : List (List (Option Term))). owned subject (rows ks x)) n ∙ ap (owned subject) (rows_set ks ss i s e)
+      ∙ ap (λ (x : Owned). with_lists (λ l. slice_set l i ((slice_index_or l i ([], [])).0, s)) x) v
+
+  pub grown_view : (i : ℕ) (new : List (List (Option Term))) → new ≡ slice_set ss i (slice_index_or ss i [] ++ None ∷ []) → owned subject (rows ks new) ≡ with_lists (with_slot i) o
+  grown_view i new n =
+      row_view i (slice_index_or ss i [] ++ None ∷ []) new n
+      ∙ ap (λ (s : List (Option Term)). with_lists (λ l. slice_set l i ((slice_index_or l i ([], [])).0, s ++ None ∷ [])) o) (sym (same_slots i))
+
+  pub filled_view : (i j : ℕ) (t : Term) (new : List (List (Option Term))) → new ≡ slice_set ss i (slice_set (slice_index_or ss i []) j (Some t))
+      → owned subject (rows ks new) ≡ with_lists (with_term i j t) o
+  filled_view i j t new n =
+      row_view i (slice_set (slice_index_or ss i []) j (Some t)) new n
+      ∙ ap (λ (s : List (Option Term)). with_lists (λ l. slice_set l i ((slice_index_or l i ([], [])).0, slice_set s j (Some t))) o) (sym (same_slots i))
+
+  -- a slot that is there
+  pub there : (i j : ℕ) → slice_get (slots_at o.lists i) j ≡ Some None → (i < length ss) × (j < length (slice_index_or ss i []))
+  there i j h =
+      let g : slice_get (slice_index_or ss i []) j ≡ Some None = ap (λ (x : List (Option Term)). slice_get x j) (sym (same_slots i)) ∙ h in
+      let w : j < length (slice_index_or ss i []) = got_within _ j g in
+      (row_within ss i w, w)
+
+pub slot_old : (o n : Owned) (p : List ℕ) (i : ℕ) → FoundAt p (predicates_of o.lists) (Some i) → n ≡ with_lists (with_slot i) o → n ≡ with_lists (put p (Some None)) o
+slot_old o n p i f h =
+    h ∙ ap (λ (x : ℕ). with_lists (with_slot x) o) f.0
+    ∙ ap (owned o.subject) (sym (put_old p None o.lists (subst (λ (x : ℕ). x < length (predicates_of o.lists)) f.0 f.1)))
+
+pub list_old : (o : Owned) (p : List ℕ) (i : ℕ) → FoundAt p (predicates_of o.lists) (Some i) → i ≡ place_of p o.lists
+list_old o p i f = f.0 ∙ sym (place_is p o.lists)
+
+pub within_old : (o : Owned) (p : List ℕ) (i : ℕ) → FoundAt p (predicates_of o.lists) (Some i) → i < length o.lists
+within_old o p i f = omega (arith, f.1, length-map o.lists (λ row. row.0))
+
+pub place_old : (o : Owned) (p : List ℕ) (i : ℕ) (s : List (Option Term)) → FoundAt p (predicates_of o.lists) (Some i) → s ≡ slots_at o.lists i → length s ≡ length (slots_of p o.lists)
+place_old o p i s f h = ap length (h ∙ ap (slots_at o.lists) f.0 ∙ sym (slots_are p o.lists))
+
+pub list_new : (o : Owned) (p : List ℕ) → FoundAt p (predicates_of o.lists) None → length o.lists ≡ place_of p o.lists
+list_new o p f = sym (length-map o.lists (λ row. row.0)) ∙ sym f ∙ sym (place_is p o.lists)
+
+none_of : (p : List ℕ) (lists : Slots) → first_place p (predicates_of lists) ≡ length (predicates_of lists) → 0 ≡ length (slots_of p lists)
+none_of p [] f = refl
+none_of p (row ∷ lists) n =
+    by_test (bytes_eq row.0 p) (λ t. let z : first_place p (predicates_of (row ∷ lists)) ≡ 0 = rw t refl in absurd (omega (arith, z, n)))
+    (λ f.
+    let z : first_place p (predicates_of (row ∷ lists)) ≡ suc (first_place p (predicates_of lists)) = rw f refl in
+    rw f (none_of p lists (omega (arith, z, n))))
+
+pub place_new : (o : Owned) (p : List ℕ) → FoundAt p (predicates_of o.lists) None → 0 ≡ length (slots_of p o.lists)
+place_new o p f = none_of p o.lists f
+
+rows_key : (ks : List (List ℕ)) (ss : List (List (Option Term))) (i : ℕ) → length ks ≡ length ss → (slice_index_or (rows ks ss) i ([], [])).0 ≡ slice_index_or ks i []
+rows_key [] ss i e = refl
+rows_key (j ∷ ks) [] i e = absurd (omega arith)
+rows_key (j ∷ ks) (t ∷ ss) zero e = refl
+rows_key (j ∷ ks) (t ∷ ss) (suc i) e = rows_key ks ss i (omega arith)
+
+pub same_key : (o : Owned) (subject : Node) (ks : List (List ℕ)) (ss : List (List (Option Term))) → owned subject (rows ks ss) ≡ o → length ks ≡ length ss
+    → (i : ℕ) → (slice_index_or o.lists i ([], [])).0 ≡ slice_index_or ks i []
+same_key o subject ks ss v e i = ap (λ (x : Owned). (slice_index_or x.lists i ([], [])).0) (sym v) ∙ rows_key ks ss i e

@@ -1,0 +1,9 @@
+use Rattle.std.proofs.Common.{arith}
+use Rattle.rx_lists.proofs.RowLemmas.{as_many, grown_view, if_ok}
+use Rattle.rx_lists.proofs.owner_lists.OwnerLists.grow.Goals as goal
+
+pub grow-requires : goal.grow-requires
+grow-requires c = omega (arith, c.requires, as_many c.args.self.now _ _ _ c.self.view_is c.self.invariant)
+
+pub returns-clause-ok : goal.returns-clause-ok
+returns-clause-ok c = if_ok c.grow.result (λ h. grown_view c.args.self.now _ _ _ c.self.view_is c.self.invariant c.args.list _ h) c.grow.ensures.ok

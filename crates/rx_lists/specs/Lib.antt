@@ -1,0 +1,4 @@
+pub mod Owners
+pub mod Cells
+pub mod Rows
+pub mod SlotIds

@@ -1,0 +1,99 @@
+//! The triples of a list (RDF Schema 1.1, section 5.2).
+ghost use Rattle.std.specs.Prelude.{◌≡◌, true, ◌+◌, ◌<◌, ◌^◌, ◌∷◌, [], ◌++◌, OnOk, IfOk, map, filter_map, length};
+ghost use Rattle.std.specs.List.{list_all};
+ghost use Rattle.rx_terms.specs.Ascii.{is_ascii};
+ghost use Rattle.rx_terms.specs.Iri.{IsIri};
+ghost use Rattle.rx_model.specs.Seen.{node_seen, term_seen, triples_seen};
+ghost use Rattle.rx_model.specs.Copied.{spo};
+ghost use Rattle.rx_rdfa.specs.Iris.{rdf_rest};
+ghost use Rattle.rx_rdfa.specs.Lists.{list_of};
+ghost use Rattle.rx_lists.specs.Owners.{itself};
+ghost use Rattle.rx_lists.specs.Cells.{cell_node, one_cell};
+
+use rx_terms::{Blank, Iri, NoMemory, Node, Term, Text, Triple, TripleList};
+use std::alloc::Global;
+
+const FIRST: &str = "http://www.w3.org/1999/02/22-rdf-syntax-ns#first";
+
+const REST: &str = "http://www.w3.org/1999/02/22-rdf-syntax-ns#rest";
+
+const NIL: &str = "http://www.w3.org/1999/02/22-rdf-syntax-ns#nil";
+
+/// Adds the triples of the list, whose cells are numbered from `first` on, and gives the next number.
+pub(crate) fn push_list(
+    alloc: Global,
+    out: &mut TripleList,
+    subject: &Node,
+    predicate: &Iri,
+    slots: &[Option<Term>],
+    first: u64,
+) -> Result<u64, NoMemory>
+    requires { first + length slots.now < 2 ^ 64 }
+    ensures triples { OnOk result (triples_seen out.new ≡ triples_seen out.old ++ list_of (λ i. first + i) (node_seen subject.now) predicate.now (map term_seen (filter_map itself slots.now))) }
+    ensures next { IfOk result (λ next. next ≡ first + length (map term_seen (filter_map itself slots.now))) }
+{
+    let mut cell = first;
+    let mut end = End {
+        node: subject.try_clone()?,
+        by: predicate.try_clone()?,
+    };
+    for slot in slots {
+        let Some(item) = slot else {
+            continue;
+        };
+        end = end.push_cell(alloc, out, cell, item)?;
+        cell += 1;
+    }
+    let nil = iri(alloc, NIL)?;
+    push(out, end.node, end.by, Term::Iri(nil))?;
+    Ok(cell)
+}
+
+/// The node and the predicate by which the next cell is linked.
+#[derive(Drop)]
+struct End {
+    node: Node,
+    by: Iri,
+}
+
+impl End {
+    /// Adds the cell of the item.
+    fn push_cell(
+        self,
+        alloc: Global,
+        out: &mut TripleList,
+        cell: u64,
+        item: &Term,
+    ) -> Result<End, NoMemory>
+        ensures triples { OnOk result (triples_seen out.new ≡ triples_seen out.old ++ one_cell (node_seen self.node) self.by cell (term_seen item.now)) }
+        ensures end { IfOk result (λ end. (node_seen end.node ≡ cell_node cell) × (end.by ≡ rdf_rest)) }
+    {
+        let End { node, by } = self;
+        push(out, node, by, Term::Blank(Blank(cell)))?;
+        let first = iri(alloc, FIRST)?;
+        push(out, Node::Blank(Blank(cell)), first, item.try_clone()?)?;
+        Ok(End {
+            node: Node::Blank(Blank(cell)),
+            by: iri(alloc, REST)?,
+        })
+    }
+}
+
+fn push(out: &mut TripleList, subject: Node, predicate: Iri, object: Term) -> Result<(), NoMemory>
+    ensures { OnOk result (triples_seen out.new ≡ triples_seen out.old ++ spo (node_seen subject) predicate (term_seen object) ∷ []) }
+{
+    out.push(Triple {
+        subject,
+        predicate,
+        object,
+    })
+}
+
+/// An IRI of RDF's namespace.
+fn iri(alloc: Global, text: &str) -> Result<Iri, NoMemory>
+    requires ascii { list_all is_ascii text.now ≡ true }
+    requires form { IsIri text.now }
+    ensures { IfOk result (λ iri. iri ≡ text.now) }
+{
+    Ok(Iri::of_text(Text::of(alloc, text)?))
+}

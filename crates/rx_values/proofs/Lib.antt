@@ -1,0 +1,4 @@
+mod DigitLemmas
+mod ClockLemmas
+mod PatternLemmas
+mod CutLemmas
