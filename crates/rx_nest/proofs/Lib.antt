@@ -3,3 +3,5 @@ pub mod LineLemmas
 pub mod NameLemmas
 pub mod RowLemmas
 pub mod Takes
+pub mod TextSteps
+pub mod Heeding

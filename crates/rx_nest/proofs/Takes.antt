@@ -109,7 +109,7 @@ over_drops : (line : Line) → (over line).drops ≡ false
 over_drops [] = refl
 over_drops (t ∷ above) = refl
 
-hidden_flags : (levels : Levels) → is_hidden (flags_of levels) ≡ hidden_under levels
+pub hidden_flags : (levels : Levels) → is_hidden (flags_of levels) ≡ hidden_under levels
 hidden_flags [] = refl
 hidden_flags (level ∷ levels) = refl
 

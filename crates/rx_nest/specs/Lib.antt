@@ -3,3 +3,5 @@ pub mod Levels
 pub mod Lines
 pub mod Rows
 pub mod Signs
+pub mod Heard
+pub mod Nests

@@ -4,5 +4,7 @@
 mod levels;
 mod lines;
 mod names;
+mod nests;
+mod heard;
 mod places;
 mod tables;

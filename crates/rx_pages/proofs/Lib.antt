@@ -52,3 +52,8 @@ pub mod KnownSpelled
 pub mod FrontOn
 pub mod BytesOn
 pub mod OnlyPages
+pub mod ScanSteps
+pub mod ByteFacts
+pub mod LastToken
+pub mod Leads
+pub mod Doctyped

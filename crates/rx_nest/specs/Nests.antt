@@ -1,0 +1,223 @@
+-- What a nest stands for, and what its calls answer of a page's bytes.
+use Rattle.std.specs.Prelude.{◌≡◌, ◌⊎◌, ℕ, ◌≤◌, Bool, true, false, List, [], ◌∷◌, ◌++◌, map, length, take, Option, Some, None, Result, Ok, Err}
+use Rattle.std.specs.Str.{chars}
+use Rattle.rx_terms.specs.Text.{Chars}
+use Rattle.rx_chars.specs.declared.syntax.Syntax.{Syntax}
+use Rattle.rx_grammar.specs.declared.faults.Fault.{Fault}
+use Rattle.rx_grammar.specs.declared.limits.Limits.{Limits}
+use Rattle.rx_grammar.specs.Tokens as tokens
+use Rattle.rx_grammar.specs.Trees.{Tree, StartTag}
+use Rattle.rx_grammar.specs.Pages.{Page}
+use Rattle.rx_grammar.specs.PageFaults.{FaultAt}
+use Rattle.rx_reader.specs.TagReader.{parts_of}
+use Rattle.rx_pages.specs.Nesting as nesting
+use Rattle.rx_pages.specs.Nesting.{Nesting, content_at}
+use Rattle.rx_pages.specs.PageReader.{Reading, page_read, may_lead}
+use Rattle.rx_tags.specs.declared.stops.Stop.{Stop}
+use Rattle.rx_tags.specs.declared.stops.Stop.TheVariants as stop
+use Rattle.rx_tags.specs.declared.tags.Tag.{Tag}
+use Rattle.rx_tags.specs.Seen.{tag_seen}
+use Rattle.rx_scan.specs.declared.answers.What.{What}
+use Rattle.rx_scan.specs.declared.answers.What.TheVariants as what
+use Rattle.rx_scan.specs.declared.places.Setting.{Setting}
+use Rattle.rx_scan.specs.Scanner.{Scanner}
+use Rattle.rx_scan.specs.Steps as scan
+use Rattle.rx_nest.specs.declared.lines.Own.{Own}
+use Rattle.rx_nest.specs.declared.lines.Own.TheVariants as own
+use Rattle.rx_nest.specs.declared.heard.Owed.{Owed}
+use Rattle.rx_nest.specs.declared.heard.Heard.{Heard}
+use Rattle.rx_nest.specs.declared.heard.Heard.TheVariants as heard
+use Rattle.rx_nest.specs.declared.heard.Did.{Did}
+use Rattle.rx_nest.specs.declared.heard.Did.TheVariants as did
+use Rattle.rx_nest.specs.declared.nests.Event.{Event}
+use Rattle.rx_nest.specs.declared.nests.Event.TheVariants as event
+use Rattle.rx_nest.specs.Lines.{Lines}
+use Rattle.rx_nest.specs.Signs.{Sign, begun, said, finished, Sight, sees, nothing_seen, finishing, signs_of}
+use Rattle.rx_nest.specs.Follows.{Follows, flags_of, own_signs}
+
+-- the scanner, the open elements, what the last tag still tells, the fault that was answered, and want of memory
+pub record Nested : Type 0 where
+  pub scan : Scanner
+  pub line : Lines
+  pub owed : Owed
+  pub failed : Option Fault
+  pub spent : Bool
+
+-- a tag with its place
+abbrev pub start_seen : tokens.Tag → ℕ → ℕ → StartTag
+start_seen t token at = record { name = t.name; attributes = t.attributes; slash = t.slash; token = token; at = at }
+
+abbrev pub tag_shown : Tag → StartTag
+tag_shown t = start_seen (tag_seen t) t.token t.at
+
+-- the tag, and the text, that the scanner told last
+abbrev pub last_tag : Scanner → StartTag
+last_tag v = start_seen (parts_of v.reading.pending.tag.state) v.reading.place.token v.reading.end
+
+abbrev pub text_by : What → Scanner → Chars
+text_by what.Section v = v.reading.pending.run
+text_by _ v = v.reading.text.text
+
+abbrev pub last_text : Scanner → Chars
+last_text v = text_by v.what v
+
+abbrev pub has_text : What → Bool
+has_text what.Text = true
+has_text what.Section = true
+has_text _ = false
+
+abbrev pub setting_of : Syntax → Limits → Nesting → Setting
+setting_of syntax limits n = record { syntax = syntax; limits = limits; inside = content_at syntax n; leads = may_lead n.phase; drops = n.drops }
+
+-- The scanner and the elements stand where these bytes lead, which tell these events.
+pub record At (syntax : Syntax) (limits : Limits) (bytes : List ℕ) (told : List nesting.Event) (v : Scanner) (line : Lines) : Type 0 where
+  pub now : Reading
+  pub read : page_read syntax limits bytes ≡ Ok (record { now = now; told = told })
+  pub stands : scan.Stands v now.scan
+  pub setting : v.reading.setting ≡ setting_of syntax limits now.nest
+  pub follows : Follows line now.nest
+  pub syntax_is : line.syntax ≡ syntax
+  pub depth_is : line.depth ≡ limits.depth
+
+-- they stand somewhere
+pub record Somewhere (v : Scanner) (line : Lines) : Type 0 where
+  pub syntax : Syntax
+  pub limits : Limits
+  pub bytes : List ℕ
+  pub told : List nesting.Event
+  pub at : At syntax limits bytes told v line
+
+-- what was heard shows
+abbrev pub heard_signs : Heard → Scanner → List Sign
+heard_signs heard.More v = []
+heard_signs heard.Skipped v = []
+heard_signs heard.Text v = map said (last_text v)
+heard_signs (heard.Tag told) v = finishing told.ends ++ own_signs told.own (last_tag v)
+
+-- what is lent with it
+abbrev pub Lends : Heard → Scanner → Type 0
+Lends heard.More v = Unit {0}
+Lends heard.Skipped v = Unit {0}
+Lends heard.Text v = has_text v.what ≡ true
+Lends (heard.Tag told) v = v.what ≡ what.Tag
+
+abbrev pub hears_more : Heard → Bool
+hears_more heard.More = true
+hears_more _ = false
+
+-- The first n bytes of the piece were read, and this was heard.
+pub record Heeds (syntax : Syntax) (limits : Limits) (bytes : List ℕ) (told : List nesting.Event) (piece : List ℕ) (n : ℕ) (h : Heard) (old : Lines) (v : Scanner) (new : Lines) : Type 0 where
+  pub fits : n ≤ length piece
+  pub events : List nesting.Event
+  pub at : At syntax limits (bytes ++ take n piece) (told ++ events) v new
+  pub shows : (signs : List Sign) → sees (record { flags = flags_of old.levels; signs = signs }) events ≡ record { flags = flags_of new.levels; signs = signs ++ heard_signs h v }
+  pub lends : Lends h v
+  pub all : hears_more h ≡ true → n ≡ length piece
+
+abbrev pub ReadGives : Syntax → Limits → List ℕ → List nesting.Event → List ℕ → Lines → Result (ℕ × Heard) Stop → Scanner → Lines → Type 0
+ReadGives syntax limits bytes told piece old (Ok r) v new = Heeds syntax limits bytes told piece r.0 r.1 old v new
+ReadGives syntax limits bytes told piece old (Err (stop.Fault fault)) v new = page_read syntax limits (bytes ++ piece) ≡ Err fault
+ReadGives syntax limits bytes told piece old (Err stop.NoMemory) v new = Unit {0}
+
+abbrev pub owes_own : Option Own → StartTag → List Sign
+owes_own None t = []
+owes_own (Some o) t = own_signs o t
+
+abbrev pub owed_signs : Owed → StartTag → List Sign
+owed_signs owed t = finishing owed.ends ++ owes_own owed.own t
+
+-- an element is still to begin
+abbrev pub owes_begin : Option Own → Bool
+owes_begin (Some own.Begin) = true
+owes_begin (Some own.Alone) = true
+owes_begin _ = false
+
+-- The nest stands for these bytes, of which these signs were shown.
+pub record Stands (syntax : Syntax) (limits : Limits) (v : Nested) (bytes : List ℕ) (signs : List Sign) : Type 0 where
+  pub told : List nesting.Event
+  pub at : At syntax limits bytes told v.scan v.line
+  pub sight : sees nothing_seen told ≡ record { flags = flags_of v.line.levels; signs = signs ++ owed_signs v.owed (last_tag v.scan) }
+  pub lends : owes_begin v.owed.own ≡ true → v.scan.what ≡ what.Tag
+  pub unfailed : v.failed ≡ None
+  pub unspent : v.spent ≡ false
+
+-- what each nest keeps
+abbrev pub Ready : Scanner → Lines → Option Fault → Bool → Type 0
+Ready v line failed spent = failed ≡ None → spent ≡ false → Somewhere v line
+
+-- what was done shows
+abbrev pub did_signs : Did → Scanner → List Sign
+did_signs did.More v = []
+did_signs did.Skipped v = []
+did_signs did.Begin v = begun (last_tag v) ∷ []
+did_signs did.Text v = map said (last_text v)
+did_signs did.Finish v = finished ∷ []
+
+abbrev pub DidLends : Did → Scanner → Type 0
+DidLends did.Begin v = v.what ≡ what.Tag
+DidLends did.Text v = has_text v.what ≡ true
+DidLends _ v = Unit {0}
+
+abbrev pub did_more : Did → Bool
+did_more did.More = true
+did_more _ = false
+
+-- this fault was answered, and is from then on
+pub record Fallen (fault : Fault) (v : Nested) : Type 0 where
+  pub failed : v.failed ≡ Some fault
+  pub unspent : v.spent ≡ false
+
+pub record Done (syntax : Syntax) (limits : Limits) (bytes : List ℕ) (signs : List Sign) (piece : List ℕ) (n : ℕ) (d : Did) (new : Nested) : Type 0 where
+  pub fits : n ≤ length piece
+  pub stands : Stands syntax limits new (bytes ++ take n piece) (signs ++ did_signs d new.scan)
+  pub lends : DidLends d new.scan
+  pub all : did_more d ≡ true → n ≡ length piece
+
+-- a fault of the grammar in the bytes so far
+abbrev pub FaultGives : Syntax → Limits → List ℕ → Stop → Nested → Type 0
+FaultGives syntax limits bytes (stop.Fault fault) new = FaultAt syntax limits bytes fault × Fallen fault new
+FaultGives syntax limits bytes stop.NoMemory new = new.spent ≡ true
+
+abbrev pub AdvanceGives : Syntax → Limits → List ℕ → List Sign → List ℕ → Result (ℕ × Did) Stop → Nested → Type 0
+AdvanceGives syntax limits bytes signs piece (Ok r) new = Done syntax limits bytes signs piece r.0 r.1 new
+AdvanceGives syntax limits bytes signs piece (Err stop) new = FaultGives syntax limits (bytes ++ piece) stop new
+
+-- what an event shows
+abbrev pub event_signs : Event → List Sign
+event_signs event.More = []
+event_signs event.Skipped = []
+event_signs (event.Begin t) = begun (tag_shown t) ∷ []
+event_signs (event.Text text) = map said (chars text.now)
+event_signs event.Finish = finished ∷ []
+
+abbrev pub is_more : Event → Bool
+is_more event.More = true
+is_more _ = false
+
+-- the event of what was done
+abbrev pub Shown : Did → Scanner → Event → Type 0
+Shown did.More v e = e ≡ event.More
+Shown did.Skipped v e = e ≡ event.Skipped
+Shown did.Finish v e = e ≡ event.Finish
+Shown did.Begin v e = v.what ≡ what.Tag → event_signs e ≡ did_signs did.Begin v
+Shown did.Text v e = has_text v.what ≡ true → event_signs e ≡ did_signs did.Text v
+
+-- A step has taken the first n bytes of the piece, and shows what the page's tree has next.
+pub record Stepped (syntax : Syntax) (limits : Limits) (bytes : List ℕ) (signs : List Sign) (piece : List ℕ) (n : ℕ) (e : Event) (new : Nested) : Type 0 where
+  pub fits : n ≤ length piece
+  pub stands : Stands syntax limits new (bytes ++ take n piece) (signs ++ event_signs e)
+  pub all : is_more e ≡ true → n ≡ length piece
+
+abbrev pub StepGives : Syntax → Limits → List ℕ → List Sign → List ℕ → Result (ℕ × Event) Stop → Nested → Type 0
+StepGives syntax limits bytes signs piece (Ok r) new = Stepped syntax limits bytes signs piece r.0 r.1 new
+StepGives syntax limits bytes signs piece (Err stop) new = FaultGives syntax limits (bytes ++ piece) stop new
+
+-- The bytes are a page, and what was shown, with what is owed, is its tree.
+pub record Ended (syntax : Syntax) (limits : Limits) (bytes : List ℕ) (signs : List Sign) (owed : List Sign) : Type 0 where
+  pub tree : Tree
+  pub page : Page syntax limits bytes tree
+  pub shown : signs ++ owed ≡ signs_of tree
+
+abbrev pub EndGives : Syntax → Limits → List ℕ → List Sign → Nested → Result (Unit {0}) Stop → Nested → Type 0
+EndGives syntax limits bytes signs old (Ok done) new = Ended syntax limits bytes signs (owed_signs old.owed (last_tag old.scan)) × (new ≡ old)
+EndGives syntax limits bytes signs old (Err stop) new = FaultGives syntax limits bytes stop new
