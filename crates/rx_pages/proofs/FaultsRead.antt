@@ -72,14 +72,14 @@ whole_verdict s i front c chars token sp e = by chars None token (reads_each s i
     by _ _ _ (at_next x d t go v) e n = absurd (cc)
 
 -- two brackets stand before
-brackets_before : (items : List Item) (two last : Bool) → ends_in_brackets items ≡ true → (flags_behind items two last).0 ≡ true
+pub brackets_before : (items : List Item) (two last : Bool) → ends_in_brackets items ≡ true → (flags_behind items two last).0 ≡ true
 brackets_before [] two last h = absurd (cc)
 brackets_before (a ∷ []) two last h = absurd (cc)
 brackets_before (a ∷ b ∷ []) two last h = h
 brackets_before (a ∷ b ∷ c ∷ items) two last h = brackets_before (b ∷ c ∷ items) (last && is_literal right_bracket a) (is_literal right_bracket a) h
 
 -- only a character is a literal one
-no_literal : (d : ℕ) (i : Content) (token : Token) → ((c : ℕ) → token ≢ character c) → is_strict_literal d i token ≡ false
+pub no_literal : (d : ℕ) (i : Content) (token : Token) → ((c : ℕ) → token ≢ character c) → is_strict_literal d i token ≡ false
 no_literal d content.Strict (tag t) n = refl
 no_literal d content.Strict (character c) n = absurd (n c refl)
 no_literal d content.Strict (reference c) n = refl
@@ -103,11 +103,11 @@ no_lead (before false) n = absurd (n refl)
 no_lead within n = refl
 no_lead after n = refl
 
-item_token : (i : Content) (token : Token) (run : List Entry) → (item_of i token run).token ≡ token
+pub item_token : (i : Content) (token : Token) (run : List Entry) → (item_of i token run).token ≡ token
 item_token i token [] = refl
 item_token i token (e ∷ run) = refl
 
-item_content : (i : Content) (token : Token) (run : List Entry) (e : Entry) → (item_of i token (run ++ e ∷ [])).content ≡ i
+pub item_content : (i : Content) (token : Token) (run : List Entry) (e : Entry) → (item_of i token (run ++ e ∷ [])).content ≡ i
 item_content i token [] e = refl
 item_content i token (d ∷ run) e = refl
 

@@ -15,7 +15,7 @@ use Rattle.rx_pages.specs.Laws.{FrontsStand}
 use Rattle.rx_pages.proofs.Standing.{may_stand, one_more}
 use Rattle.rx_reader.proofs.Bools.{not_both_ways}
 
-spelled_outside : (syntax : Syntax) (inside : Content) (text : Chars) (next : Option ℕ) (token : Token) → Spells syntax inside text next token → inside ≡ content.Outside → may_stand token ≡ true
+pub spelled_outside : (syntax : Syntax) (inside : Content) (text : Chars) (next : Option ℕ) (token : Token) → Spells syntax inside text next token → inside ≡ content.Outside → may_stand token ≡ true
 spelled_outside s i _ next _ (a_tag text t m sp) o = refl
 spelled_outside s i _ next _ (an_end_of_raw text name t r sp c n) o = refl
 spelled_outside s i _ next _ (a_character c h) o = refl

@@ -46,3 +46,9 @@ pub mod FaultsRead
 pub mod OneOf
 pub mod PendsOn
 pub mod Judged
+pub mod EndedRuns
+pub mod Snocs
+pub mod KnownSpelled
+pub mod FrontOn
+pub mod BytesOn
+pub mod OnlyPages

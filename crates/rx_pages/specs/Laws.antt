@@ -1,5 +1,5 @@
 -- What holds of the tables.
-use Rattle.std.specs.Prelude.{◌≡◌, ◌↔◌, ℕ, List, [], ◌∷◌, ◌++◌, Option, None, Ok, Err}
+use Rattle.std.specs.Prelude.{◌≡◌, ◌≢◌, ◌↔◌, ℕ, ◌+◌, take, List, [], ◌∷◌, ◌++◌, Option, None, Ok, Err}
 use Rattle.rx_terms.specs.Text.{Chars}
 use Rattle.rx_chars.specs.declared.syntax.Syntax.{Syntax}
 use Rattle.rx_grammar.specs.declared.contents.Content.{Content}
@@ -12,6 +12,7 @@ use Rattle.rx_grammar.specs.Trees.{Tree}
 use Rattle.rx_grammar.specs.Pages.{Page}
 use Rattle.rx_grammar.specs.declared.faults.Fault.{Fault}
 use Rattle.rx_grammar.specs.declared.faults.Kind.{Kind}
+use Rattle.rx_grammar.specs.declared.faults.Kind.TheVariants.{Unended}
 use Rattle.rx_grammar.specs.PageFaults.{Unfinished, Faulty, Reached, FaultAt}
 use Rattle.rx_grammar.specs.Begun.{Line, inside_of, Phase, after, Stands}
 use Rattle.rx_pages.specs.Nesting.{Event, Nesting, not_begun, Goes, IsAt, told_trees}
@@ -75,3 +76,21 @@ SpellsEachToken = (syntax : Syntax) (line : Line) (text : Chars) (next : Option 
 abbrev pub FaultsAreDecided : Type 0
 FaultsAreDecided = (syntax : Syntax) (depth : ℕ) (items : List Item) (line : Line) (phase : Phase) (found : Kind) (chars : Chars)
     → Faulty syntax depth items line phase (inside_of syntax line).content found chars ↔ Decides syntax depth items line phase (inside_of syntax line).content found chars
+
+-- Only pages are read to their ends, each to its tree,
+pub record IsPageRead (syntax : Syntax) (limits : Limits) (bytes : List ℕ) (final : Progress) : Type 0 where
+  pub tree : Tree
+  pub page : Page syntax limits bytes tree
+  pub trees : told_trees final.told ≡ tree ∷ []
+
+abbrev pub ReadsOnlyPages : Type 0
+ReadsOnlyPages = (syntax : Syntax) (limits : Limits) (bytes : List ℕ) (final : Progress) → end_of (page_read syntax limits bytes) ≡ Ok final → IsPageRead syntax limits bytes final
+
+-- and only faults of the grammar are found.
+abbrev pub FindsOnlyFaults : Type 0
+FindsOnlyFaults = (syntax : Syntax) (limits : Limits) (bytes : List ℕ) (fault : Fault) → end_of (page_read syntax limits bytes) ≡ Err fault → FaultAt syntax limits bytes fault
+
+-- Whatever follows the byte at which a fault is known, the fault stays: no page begins with the bytes through it. The page's end alone
+-- decides otherwise.
+abbrev pub FaultsStay : Type 0
+FaultsStay = (syntax : Syntax) (limits : Limits) (bytes : List ℕ) (fault : Fault) → FaultAt syntax limits bytes fault → fault.kind ≢ Unended → (rest : List ℕ) → FaultAt syntax limits (take (fault.at + 1) bytes ++ rest) fault

@@ -1,12 +1,12 @@
-//! How a page is read from its first byte to its last: the tokens of a page nest one after another, and a byte list has
-//! one tree at most.
+//! How a page is read from its first byte to its last: the tokens of a page nest one after another, and each byte list
+//! has exactly one of these, a tree or one fault.
 //!
 //! The tables here are a means, as those of `rx_reader`: laws tie them to the grammar, and the code of the layers above
 //! does what they say.
 #![tactic(auto)]
 
-ghost use Rattle.rx_grammar.specs.Laws.{NotBoth, OneFault, OneTree};
-ghost use Rattle.rx_pages.specs.Laws.{FaultsAreDecided, FindsEachFault, FrontsLead, FrontsStand, PagesGoOn, ReadsEachPage, ReadsEachToken, SpellsEachToken, UnfinishedGoesOn};
+ghost use Rattle.rx_grammar.specs.Laws.{NotBoth, OneFault, OneTree, PageOrFault};
+ghost use Rattle.rx_pages.specs.Laws.{FaultsAreDecided, FaultsStay, FindsEachFault, FindsOnlyFaults, FrontsLead, FrontsStand, PagesGoOn, ReadsEachPage, ReadsEachToken, ReadsOnlyPages, SpellsEachToken, UnfinishedGoesOn};
 
 /// A byte list has at most one tree.
 pub fn one_tree()
@@ -68,4 +68,24 @@ pub fn not_both()
 /// A byte list has one fault at most.
 pub fn one_fault()
     ensures { OneFault }
+{}
+
+/// A byte list has a tree or a fault.
+pub fn page_or_fault()
+    ensures { PageOrFault }
+{}
+
+/// The reader of bytes reads pages alone to their ends, each to its tree.
+pub fn reads_only_pages()
+    ensures { ReadsOnlyPages }
+{}
+
+/// The reader of bytes finds faults of the grammar alone.
+pub fn finds_only_faults()
+    ensures { FindsOnlyFaults }
+{}
+
+/// A fault that a byte decides stays, whatever follows that byte: no page begins with the bytes through it.
+pub fn faults_stay()
+    ensures { FaultsStay }
 {}

@@ -62,6 +62,9 @@ pub written-append : (s : Syntax) (o : Option Written) (a b : Chars) → written
 written-append s o [] b = refl
 written-append s o (c ∷ a) b = written-append s (written_step s o c) a b
 
+pub as_written : (v w : Written) → ◌≡◌ {A = Option Written} (Some v) (Some w) → v ≡ w
+as_written v w h = cc
+
 -- the phases are the table's
 phase_of : (w : Written) (c : ℕ) (m : Move) (v : Written) → written_by w c m ≡ Some v → phase_by m ≡ Some v.phase
 phase_of w c None v h = absurd (cc)
@@ -116,24 +119,24 @@ module _ (s : Syntax) where
   more text from attributes others all a e d = record { last = d.last; reads = d.reads; whole = d.whole; attributes_are = d.attributes_are ∙ append_assoc attributes (a ∷ []) others ∙ ap (λ x. attributes ++ x) e }
 
   arrives_by : (text : Chars) → FromCut text → (p : TagPhase) (attributes : List Attribute) (key value : Chars) (c : ℕ) (r : Ended) (m : Move) → move_of s p c ≡ m → cut_by (cut_from s text) key value c m ≡ Some r
-      → (o : Option Written) → written_by (at p attributes key value) c m ≡ o → Arrives s (at p attributes key value) (c ∷ text) (attributes ++ r.0)
-  arrives_by text ih p attributes key value c r None e h o g = absurd (cc)
-  arrives_by text ih p attributes key value c r (Some (q, action.Skip)) e h o g = let d = ih q attributes key value r h in record { last = d.last; reads = ap (λ m. written_on s (written_by (at p attributes key value) c m) text) e ∙ d.reads; whole = d.whole; attributes_are = d.attributes_are }
-  arrives_by text ih p attributes key value c r (Some (q, action.Name)) e h o g = absurd (cc)
-  arrives_by text ih p attributes key value c r (Some (q, action.Key)) e h o g = let d = ih q attributes (key ++ c ∷ []) value r h in record { last = d.last; reads = ap (λ m. written_on s (written_by (at p attributes key value) c m) text) e ∙ d.reads; whole = d.whole; attributes_are = d.attributes_are }
-  arrives_by text ih p attributes key value c r (Some (q, action.Value)) e h o g = let d = ih q attributes key (value ++ c ∷ []) r h in record { last = d.last; reads = ap (λ m. written_on s (written_by (at p attributes key value) c m) text) e ∙ d.reads; whole = d.whole; attributes_are = d.attributes_are }
-  arrives_by text ih p attributes key value c r (Some (q, action.Add)) e h o g =
+      → Arrives s (at p attributes key value) (c ∷ text) (attributes ++ r.0)
+  arrives_by text ih p attributes key value c r None e h = absurd (cc)
+  arrives_by text ih p attributes key value c r (Some (q, action.Skip)) e h = let d = ih q attributes key value r h in record { last = d.last; reads = ap (λ m. written_on s (written_by (at p attributes key value) c m) text) e ∙ d.reads; whole = d.whole; attributes_are = d.attributes_are }
+  arrives_by text ih p attributes key value c r (Some (q, action.Name)) e h = absurd (cc)
+  arrives_by text ih p attributes key value c r (Some (q, action.Key)) e h = let d = ih q attributes (key ++ c ∷ []) value r h in record { last = d.last; reads = ap (λ m. written_on s (written_by (at p attributes key value) c m) text) e ∙ d.reads; whole = d.whole; attributes_are = d.attributes_are }
+  arrives_by text ih p attributes key value c r (Some (q, action.Value)) e h = let d = ih q attributes key (value ++ c ∷ []) r h in record { last = d.last; reads = ap (λ m. written_on s (written_by (at p attributes key value) c m) text) e ∙ d.reads; whole = d.whole; attributes_are = d.attributes_are }
+  arrives_by text ih p attributes key value c r (Some (q, action.Add)) e h =
       let a = added (key, value) (cut_from s text q [] []) r h in
       let d = more text (at q (attributes ++ (key, value) ∷ []) [] []) attributes a.rest.0 r.0 (key, value) a.first (ih q (attributes ++ (key, value) ∷ []) [] [] a.rest a.from) in
       record { last = d.last; reads = ap (λ m. written_on s (written_by (at p attributes key value) c m) text) e ∙ d.reads; whole = d.whole; attributes_are = d.attributes_are }
-  arrives_by text ih p attributes key value c r (Some (q, action.AddKey)) e h o g =
+  arrives_by text ih p attributes key value c r (Some (q, action.AddKey)) e h =
       let a = added (key, value) (cut_from s text q (c ∷ []) []) r h in
       let d = more text (at q (attributes ++ (key, value) ∷ []) (c ∷ []) []) attributes a.rest.0 r.0 (key, value) a.first (ih q (attributes ++ (key, value) ∷ []) (c ∷ []) [] a.rest a.from) in
       record { last = d.last; reads = ap (λ m. written_on s (written_by (at p attributes key value) c m) text) e ∙ d.reads; whole = d.whole; attributes_are = d.attributes_are }
 
   from_cut : (text : Chars) → FromCut text
   from_cut [] p attributes key value r h = let n = cut_nothing p r h in record { last = at p attributes key value; reads = refl; whole = n.0; attributes_are = sym (append-nil attributes) ∙ ap (λ x. attributes ++ x) (sym n.1) }
-  from_cut (c ∷ text) p attributes key value r h = arrives_by text (from_cut text) p attributes key value c r (move_of s p c) refl h _ refl
+  from_cut (c ∷ text) p attributes key value r h = arrives_by text (from_cut text) p attributes key value c r (move_of s p c) refl h
 
   -- names
   abbrev named : TagPhase → Option Written

@@ -11,6 +11,7 @@ mod attributes;
 mod moves;
 mod pairs;
 mod references;
+mod repeats;
 mod stops;
 mod tag_buf;
 mod tag_text;

@@ -2,7 +2,7 @@ use Rattle.std.proofs.Common.{◌≡◌, ℕ, List, take}
 use Rattle.rx_grammar.specs.Tags.{firsts}
 use Rattle.rx_tags.specs.Reading.{rows_read, RowsFit}
 use Rattle.rx_tags.specs.Repeats.{has_text, is_named}
-use Rattle.rx_tags.proofs.attributes.first_rows.Given as goal
+use Rattle.rx_tags.proofs.repeats.first_rows.Given as goal
 
 abbrev pub invariant-loop-row : goal.invariant-loop-row
 invariant-loop-row l = record {

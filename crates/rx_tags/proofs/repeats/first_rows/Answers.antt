@@ -2,7 +2,7 @@ use Rattle.std.proofs.Common.{◌∙◌, ap, ◌||◌, arith}
 use Rattle.rx_grammar.specs.Names.{same}
 use Rattle.rx_tags.specs.Repeats.{has_text}
 use Rattle.rx_tags.proofs.RepeatLemmas.{fit_at, kept_fit, names_turn, new_turn, old_turn}
-use Rattle.rx_tags.proofs.attributes.first_rows.Goals as goal
+use Rattle.rx_tags.proofs.repeats.first_rows.Goals as goal
 
 pub text_between-requires-clause-rises : goal.text_between-requires-clause-rises
 text_between-requires-clause-rises c = let f = fit_at _ _ c.args.rows.now c.loop-row.row-index c.requires c.loop-row-test.true in f.rises

@@ -1,9 +1,6 @@
 use Rattle.std.proofs.Common.{arith}
-use Rattle.rx_tags.proofs.RepeatLemmas.{kept_all, kept_some, too_few}
-use Rattle.rx_tags.proofs.attributes.unrepeated.Goals as goal
-
-pub returns-then-rows-lt2 : goal.returns-then-rows-lt2
-returns-then-rows-lt2 c = too_few c.args.text.now c.args.rows.now _ (omega arith) c.if-rows-lt2.true
+use Rattle.rx_tags.proofs.RepeatLemmas.{kept_all, kept_some}
+use Rattle.rx_tags.proofs.repeats.unrepeated.Goals as goal
 
 pub returns-then-len-rows : goal.returns-then-len-rows
 returns-then-len-rows c =

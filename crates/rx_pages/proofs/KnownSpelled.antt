@@ -1,0 +1,67 @@
+-- The characters of a whole tag are known to be one.
+use Rattle.std.proofs.Common.{◌≡◌, ◌∙◌, ℕ, Bool, true, false, [], ◌∷◌, ◌++◌, refl, sym, ap, subst, Option, Some, None}
+use Rattle.std.specs.Prelude.{◌||◌, ◌==◌}
+use Rattle.std.proofs.lemmas.Bool.{cond-true, cond-false}
+use Rattle.std.specs.List.{list_all}
+use Rattle.rx_terms.specs.Ascii.{solidus, greater_than_sign, is_white_space}
+use Rattle.rx_terms.specs.Text.{Chars}
+use Rattle.rx_chars.specs.declared.syntax.Syntax.{Syntax}
+use Rattle.rx_chars.specs.declared.syntax.Syntax.TheVariants.{Html}
+use Rattle.rx_grammar.specs.declared.contents.Content.{Content}
+use Rattle.rx_grammar.specs.Tokens.{Tag, Token, tag}
+use Rattle.rx_grammar.specs.Shapes.{Shape, a_start, an_end, ends_name, begins, begins_tag}
+use Rattle.rx_grammar.specs.Tags.{SpellsTag, cased}
+use Rattle.rx_grammar.specs.Spelling as spelling
+use Rattle.rx_grammar.specs.Spelling.{Spells, has_markup, raw_name}
+use Rattle.rx_grammar.specs.PageFaults.{is_known_tag, is_known_after, is_known_raw}
+use Rattle.rx_reader.proofs.Bools.{by_test, both}
+use Rattle.rx_reader.proofs.OneToken.{tag_first}
+use Rattle.rx_pages.proofs.Reading.{markup_raw}
+use Rattle.rx_pages.proofs.TagRuns.{KnownEnd}
+use Rattle.rx_pages.proofs.Pends.{is_known_by, raw_html, occurs}
+use Rattle.rx_pages.proofs.KnownTags.{opens_tag}
+
+turned : (a b : Bool) → (a || b) ≡ true → (b || a) ≡ true
+turned true true h = refl
+turned true false h = refl
+turned false true h = refl
+turned false false h = absurd (cc)
+
+-- an end tag of HTML with its name
+end_known : (name text : Chars) (w : Tag) → Shape Html text w → w.closing ≡ true → cased Html w.name ≡ name → KnownEnd name text
+end_known name _ _ (a_start n rest t b k) c e = absurd (cc)
+end_known name _ _ (an_end n spaces t b) c e = by spaces b
+  where
+    by : (spaces : Chars) → list_all is_white_space spaces ≡ true → KnownEnd name (solidus ∷ (n ++ (spaces ++ greater_than_sign ∷ [])))
+    by [] h = record { word = solidus ∷ n; e = greater_than_sign; rest = []; are = refl; is = ap (λ x. solidus ∷ x) e; ends = refl }
+    by (d ∷ spaces) h = record { word = solidus ∷ n; e = d; rest = spaces ++ greater_than_sign ∷ []; are = refl; is = ap (λ x. solidus ∷ x) e; ends = white_ends d (both (is_white_space d) (list_all is_white_space spaces) h).0 }
+      where
+        white_ends : (d : ℕ) → is_white_space d ≡ true → ends_name d ≡ true
+        white_ends d h = rw h refl
+
+pub spelled_known : (s : Syntax) (i : Content) (chars : Chars) (next : Option ℕ) (token : Token) (t : Tag) → occurs s i ≡ true → Spells s i chars next token → token ≡ tag t → is_known_tag s i chars ≡ true
+spelled_known s i _ next _ t o (spelling.a_tag text u m sp) e =
+    cond-true _ _ _ m ∙ (let f = tag_first s text sp.reads.written sp.reads.shape in ap (begins (opens_tag s)) f.is ∙ turned (begins_tag s f.c) (f.c == solidus) f.test)
+spelled_known s i _ next _ t o (spelling.an_end_of_raw text name u r sp c n) e =
+    let h : s ≡ Html = raw_html s i name o r in
+    let sp2 : SpellsTag Html text u = subst (λ (x : Syntax). SpellsTag x text u) h sp in
+    let closing : sp2.reads.written.closing ≡ true = sym (ap (λ (x : Tag). x.closing) sp2.is_tag ∙ sp2.reads.closing) ∙ c in
+    let named : cased Html sp2.reads.written.name ≡ name = sym (ap (λ (x : Tag). x.name) sp2.is_tag ∙ sp2.reads.name) ∙ n in
+    by_test {G = is_known_after s i text ≡ true} (has_markup i)
+    (λ m. absurd (none_some (sym (markup_raw i m) ∙ r)))
+    (λ m. cond-false _ _ _ m ∙ (ap (λ o. is_known_raw o text) r ∙ is_known_by name text (end_known name text sp2.reads.written sp2.reads.shape closing named)))
+  where
+    none_some : {name : Chars} → None ≡ Some name → ⊥
+    none_some h = cc
+spelled_known s i _ next _ t o (spelling.a_character c h) e = absurd (cc)
+spelled_known s i _ next _ t o (spelling.a_less_than z h b) e = absurd (cc)
+spelled_known s i _ next _ t o (spelling.a_raw_run text name r h b) e = absurd (cc)
+spelled_known s i _ next _ t o (spelling.a_reference body c r b m) e = absurd (cc)
+spelled_known s i _ next _ t o (spelling.a_kept_run run k h b) e = absurd (cc)
+spelled_known s i _ next _ t o (spelling.a_comment text z m f) e = absurd (cc)
+spelled_known s i _ next _ t o (spelling.a_bogus_comment text z m n f) e = absurd (cc)
+spelled_known s i _ next _ t o (spelling.a_question text z m f) e = absurd (cc)
+spelled_known s i _ next _ t o (spelling.a_strict_comment text z m f) e = absurd (cc)
+spelled_known s i _ next _ t o (spelling.an_instruction text z m f) e = absurd (cc)
+spelled_known s i _ next _ t o (spelling.a_section text h f) e = absurd (cc)
+spelled_known s i _ next _ t o (spelling.a_doctype text m d) e = absurd (cc)

@@ -1,0 +1,124 @@
+-- One more character, and one more token, behind those of a front.
+use Rattle.std.proofs.Common.{◌≡◌, ◌∙◌, ℕ, ◌+◌, ◌-◌, Bool, true, false, List, [], ◌∷◌, ◌++◌, refl, sym, ap, subst, length, append_assoc, append-nil, Option, Some, Ok, arith}
+use Rattle.std.specs.Prelude.{◌&&◌, ◌||◌, ◌==◌, if◌then◌else◌}
+use Rattle.std.specs.Char.{len_utf8}
+use lib.Utf8.{encode, encodes}
+use Rattle.std.proofs.lemmas.List.{length-append}
+use Rattle.std.proofs.lemmas.Str.{length-encode}
+use Rattle.std.proofs.lemmas.Bool.{and_parts, cond-true, cond-false}
+use Rattle.rx_terms.specs.Ascii.{right_bracket, greater_than_sign}
+use Rattle.rx_chars.specs.declared.syntax.Syntax.{Syntax}
+use Rattle.rx_chars.specs.Characters.{Entry, byte_order_mark, line_feed, carriage_return, line_end_entry, placed, entered, without_mark}
+use Rattle.rx_grammar.specs.Spelling.{Spells}
+use Rattle.rx_grammar.specs.Items.{values, next_of, Item, last_from, Spelled, no_more, one, Fits, AllFit, is_literal, no_section_end}
+use Rattle.rx_reader.proofs.Bools.{by_test}
+use Rattle.rx_pages.specs.Nesting.{Event, Nesting, Step, content_at, nest_step, Goes, stands, goes}
+use Rattle.rx_pages.proofs.CharSteps.{passes, entry_at}
+use Rattle.rx_pages.proofs.CharWalk.{ends_return, is_started, no_return, no_mark}
+use Rattle.rx_pages.proofs.TokensWalk.{flags_behind}
+
+-- a character behind others
+placed_snoc : (at : ℕ) (cs : List ℕ) (c : ℕ) → placed at (cs ++ c ∷ []) ≡ placed at cs ++ placed (at + length (encodes cs)) (c ∷ [])
+placed_snoc at [] c = let z : at ≡ at + 0 = omega arith in ap (λ x. placed x (c ∷ [])) z
+placed_snoc at (d ∷ cs) c =
+    let n = length-append (encode d) (encodes cs) in
+    let l = length-encode d in
+    let same : at + len_utf8 d + length (encodes cs) ≡ at + length (encodes (d ∷ cs)) = omega arith in
+    ap (λ x. record { value = d; first = at; last = at + len_utf8 d - 1 } ∷ x) (placed_snoc (at + len_utf8 d) cs c ∙ ap (λ x. placed (at + len_utf8 d) cs ++ placed x (c ∷ [])) same)
+
+-- what it enters
+abbrev pub entered_one : Bool → ℕ → ℕ → List Entry
+entered_one skipped at c = if skipped then [] else entry_at c at (at + len_utf8 c - 1) ∷ []
+
+entered_snoc : (after_return : Bool) (at : ℕ) (cs : List ℕ) (c : ℕ)
+    → entered after_return (placed at (cs ++ c ∷ [])) ≡ entered after_return (placed at cs) ++ entered_one (ends_return after_return cs && c == line_feed) (at + length (encodes cs)) c
+entered_snoc after_return at [] c = let z : at ≡ at + 0 = omega arith in ap (λ x. entered_one (after_return && c == line_feed) x c) z
+entered_snoc after_return at (d ∷ cs) c =
+    let n = length-append (encode d) (encodes cs) in
+    let l = length-encode d in
+    let same : at + len_utf8 d + length (encodes cs) ≡ at + length (encodes (d ∷ cs)) = omega arith in
+    by_test {G = entered after_return (placed at ((d ∷ cs) ++ c ∷ [])) ≡ entered after_return (placed at (d ∷ cs)) ++ entered_one (ends_return after_return (d ∷ cs) && c == line_feed) (at + length (encodes (d ∷ cs))) c} (after_return && d == line_feed)
+    (λ t.
+    cond-true _ _ _ t
+    ∙ (entered_snoc false (at + len_utf8 d) cs c
+    ∙ (ap (λ x. entered false (placed (at + len_utf8 d) cs) ++ entered_one (ends_return false cs && c == line_feed) x c) same
+    ∙ (ap (λ b. entered false (placed (at + len_utf8 d) cs) ++ entered_one (ends_return b cs && c == line_feed) (at + length (encodes (d ∷ cs))) c) (sym (no_return d (and_parts after_return (d == line_feed) t).1))
+    ∙ ap (λ es. es ++ entered_one (ends_return (d == carriage_return) cs && c == line_feed) (at + length (encodes (d ∷ cs))) c) (sym (cond-true _ _ _ t))))))
+    (λ t.
+    cond-false _ _ _ t
+    ∙ (ap (λ es. line_end_entry (record { value = d; first = at; last = at + len_utf8 d - 1 }) ∷ es) (entered_snoc (d == carriage_return) (at + len_utf8 d) cs c)
+    ∙ (ap (λ x. line_end_entry (record { value = d; first = at; last = at + len_utf8 d - 1 }) ∷ (entered (d == carriage_return) (placed (at + len_utf8 d) cs) ++ entered_one (ends_return (d == carriage_return) cs && c == line_feed) x c)) same
+    ∙ ap (λ es. es ++ entered_one (ends_return (d == carriage_return) cs && c == line_feed) (at + length (encodes (d ∷ cs))) c) (sym (cond-false _ _ _ t)))))
+
+or_false : (b : Bool) → (b || false) ≡ b
+or_false true = refl
+or_false false = refl
+
+pub page_snoc : (cs : List ℕ) (c : ℕ) → entered false (without_mark (placed 0 (cs ++ c ∷ []))) ≡ entered false (without_mark (placed 0 cs)) ++ entered_one (passes (is_started cs) (ends_return false cs) c) (length (encodes cs)) c
+page_snoc [] c =
+    by_test {G = entered false (without_mark (placed 0 (c ∷ []))) ≡ entered_one (passes false false c) 0 c} (c == byte_order_mark)
+    (λ t. ap (λ es. entered false es) (cond-true _ _ _ t) ∙ ap (λ b. entered_one b 0 c) (sym (or_false (c == byte_order_mark) ∙ t)))
+    (λ t. ap (λ es. entered false es) (cond-false _ _ _ t) ∙ ap (λ b. entered_one b 0 c) (sym (or_false (c == byte_order_mark) ∙ t)))
+page_snoc (d ∷ cs) c =
+    let n = length-append (encode d) (encodes cs) in
+    let l = length-encode d in
+    let same : 0 + len_utf8 d + length (encodes cs) ≡ length (encodes (d ∷ cs)) = omega arith in
+    let zero_plus : 0 + length (encodes (d ∷ cs)) ≡ length (encodes (d ∷ cs)) = omega arith in
+    by_test {G = entered false (without_mark (placed 0 ((d ∷ cs) ++ c ∷ []))) ≡ entered false (without_mark (placed 0 (d ∷ cs))) ++ entered_one (passes true (ends_return false (d ∷ cs)) c) (length (encodes (d ∷ cs))) c} (d == byte_order_mark)
+    (λ t.
+    ap (λ es. entered false es) (cond-true _ _ _ t)
+    ∙ (entered_snoc false (0 + len_utf8 d) cs c
+    ∙ (ap (λ x. entered false (placed (0 + len_utf8 d) cs) ++ entered_one (ends_return false cs && c == line_feed) x c) same
+    ∙ (ap (λ b. entered false (placed (0 + len_utf8 d) cs) ++ entered_one (ends_return b cs && c == line_feed) (length (encodes (d ∷ cs))) c) (sym (no_mark d t))
+    ∙ ap (λ es. es ++ entered_one (ends_return (d == carriage_return) cs && c == line_feed) (length (encodes (d ∷ cs))) c) (sym (ap (λ es. entered false es) (cond-true _ _ _ t)))))))
+    (λ t.
+    ap (λ es. entered false es) (cond-false _ _ _ t)
+    ∙ (entered_snoc false 0 (d ∷ cs) c
+    ∙ (ap (λ x. entered false (placed 0 (d ∷ cs)) ++ entered_one (ends_return false (d ∷ cs) && c == line_feed) x c) zero_plus
+    ∙ ap (λ es. es ++ entered_one (ends_return false (d ∷ cs) && c == line_feed) (length (encodes (d ∷ cs))) c) (sym (ap (λ es. entered false es) (cond-false _ _ _ t))))))
+
+pub return_snoc : (after_return : Bool) (cs : List ℕ) (c : ℕ) → ends_return after_return (cs ++ c ∷ []) ≡ (c == carriage_return)
+return_snoc after_return [] c = refl
+return_snoc after_return (d ∷ cs) c = return_snoc (d == carriage_return) cs c
+
+pub started_snoc : (cs : List ℕ) (c : ℕ) → is_started (cs ++ c ∷ []) ≡ true
+started_snoc [] c = refl
+started_snoc (d ∷ cs) c = refl
+
+-- a token behind others
+pub values_next : (es : List Entry) (c : Entry) (r : List Entry) (next : Option ℕ) → next_of (values (es ++ c ∷ r)) next ≡ next_of (values es) (Some c.value)
+values_next [] c r next = refl
+values_next (e ∷ es) c r next = refl
+
+pub spelled_snoc : (syntax : Syntax) {es : List Entry} {next : Option ℕ} {items : List Item} (c : Entry) (r : List Entry) (after : Option ℕ) (item : Item) → Spelled syntax es next items → next ≡ Some c.value
+    → Spells syntax item.content (values (c ∷ r)) after item.token → item.first ≡ c.first → item.last ≡ last_from c.last r → Spelled syntax (es ++ c ∷ r) after (items ++ item ∷ [])
+spelled_snoc syntax c r after item no_more h sp f l = subst (λ x. Spelled syntax x after (item ∷ [])) (append-nil (c ∷ r)) (one c r [] item sp f l no_more)
+spelled_snoc syntax c r after item (one d run rest i {items = items} s a b more) h sp f l =
+    subst (λ x. Spelled syntax x after (i ∷ (items ++ item ∷ []))) (sym (append_assoc (d ∷ run) rest (c ∷ r)))
+    (one d run (rest ++ c ∷ r) i (subst (λ n. Spells syntax i.content (values (d ∷ run)) n i.token) (ap (λ n. next_of (values rest) n) h ∙ sym (values_next rest c r after)) s) a b (spelled_snoc syntax c r after item more h sp f l))
+
+pub goes_snoc : (syntax : Syntax) (depth : ℕ) (place : Nesting) (item : Item) (step : Step) {n : Nesting} {items : List Item} {events : List Event} → Goes syntax depth (λ m. m ≡ place) n items events → item.content ≡ content_at syntax place
+    → nest_step syntax depth place item ≡ Ok step → Goes syntax depth (λ m. m ≡ step.next) n (items ++ item ∷ []) (events ++ step.events)
+goes_snoc syntax depth place item step (stands n p) c s =
+    subst (λ es. Goes syntax depth (λ m. m ≡ step.next) n (item ∷ []) es) (append-nil step.events)
+    (goes item step (c ∙ ap (λ m. content_at syntax m) (sym p)) (ap (λ m. nest_step syntax depth m item) p ∙ s) (stands step.next refl))
+goes_snoc syntax depth place item step {n = n} (goes {items = items} {events = events} i st ci ns g) c s =
+    subst (λ es. Goes syntax depth (λ m. m ≡ step.next) n (i ∷ (items ++ item ∷ [])) es) (sym (append_assoc st.events events step.events)) (goes i st ci ns (goes_snoc syntax depth place item step g c s))
+
+pub flags_snoc : (items : List Item) (item : Item) (two last : Bool) → flags_behind (items ++ item ∷ []) two last ≡ ((flags_behind items two last).1 && is_literal right_bracket item, is_literal right_bracket item)
+flags_snoc [] item two last = refl
+flags_snoc (i ∷ items) item two last = flags_snoc items item (last && is_literal right_bracket i) (is_literal right_bracket i)
+
+pub sections_snoc : (items : List Item) (item : Item) (two last : Bool) → no_section_end items two last ≡ true → ((flags_behind items two last).0 && is_literal greater_than_sign item) ≡ false → no_section_end (items ++ item ∷ []) two last ≡ true
+sections_snoc [] item two last h k = cond-false _ _ _ k
+sections_snoc (i ∷ items) item two last h k =
+    by_test {G = no_section_end ((i ∷ items) ++ item ∷ []) two last ≡ true} (two && is_literal greater_than_sign i)
+    (λ t. absurd (false_true (sym (cond-true _ _ _ t) ∙ h)))
+    (λ t. cond-false _ _ _ t ∙ sections_snoc items item (last && is_literal right_bracket i) (is_literal right_bracket i) (sym (cond-false _ _ _ t) ∙ h) k)
+  where
+    false_true : false ≡ true → ⊥
+    false_true e = cc
+
+pub fit_snoc : (limit : ℕ) (items : List Item) (item : Item) → AllFit limit items → Fits limit item item.token → AllFit limit (items ++ item ∷ [])
+fit_snoc limit [] item h f = (f, tt)
+fit_snoc limit (i ∷ items) item h f = (h.0, fit_snoc limit items item h.1 f)
