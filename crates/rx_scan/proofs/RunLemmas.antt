@@ -42,11 +42,11 @@ reads_none old s e h =
     record { scanned = record { next = s; items = [] }; read = refl; reads_as = h; texts = ap Some (sym e); keeps = refl; setting = refl; none = λ z. refl; started = λ z. absurd (z e) }
 
 module _ (sy : Syntax) (lim : Limits) (spot : reader.Spot) where
-  on_append : (r : Result reader.Scanned Fault) (a b : List ℕ) → reader.scan_on sy lim spot r (a ++ b) ≡ reader.scan_on sy lim spot (reader.scan_on sy lim spot r a) b
+  pub on_append : (r : Result reader.Scanned Fault) (a b : List ℕ) → reader.scan_on sy lim spot r (a ++ b) ≡ reader.scan_on sy lim spot (reader.scan_on sy lim spot r a) b
   on_append r [] b = refl
   on_append r (x ∷ a) b = on_append (reader.scan_byte_on sy lim spot r x) a b
 
-  on_err : (f : Fault) (a : List ℕ) → reader.scan_on sy lim spot (Err f) a ≡ Err f
+  pub on_err : (f : Fault) (a : List ℕ) → reader.scan_on sy lim spot (Err f) a ≡ Err f
   on_err f [] = refl
   on_err f (x ∷ a) = on_err f a
 

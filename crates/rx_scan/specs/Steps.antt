@@ -338,7 +338,7 @@ pub record IsWhole (s : Scanning) : Type 0 where
 abbrev pub Finishes : Scanner → Result (Unit {0}) Stop → Scanner → Type 0
 Finishes old (Ok done) new = (old.failed ≡ None) × (old.spent ≡ false) × (new ≡ old) × ((s : Scanning) → Stands old s → IsWhole s)
 Finishes old (Err (stop.Fault fault)) new =
-    (old.spent ≡ false) × (new.failed ≡ Some fault) × (new.spent ≡ false)
+    (old.spent ≡ false) × (new.failed ≡ Some fault) × (new.spent ≡ false) × (new.reading ≡ old.reading) × (new.what ≡ old.what) × (new.stepped ≡ old.stepped)
     × ((old.failed ≡ Some fault) ⊎ ((old.failed ≡ None) × ((s : Scanning) → Stands old s → (fault ≡ fault_in s Unended) × (IsWhole s → ⊥))))
 Finishes old (Err stop.NoMemory) new = (old.spent ≡ true) × (new ≡ old)
 

@@ -1,4 +1,9 @@
-//! Tokens from pieces.
+//! Tokens of a page from pieces of bytes, wherever they are cut.
+//!
+//! A [`Scan`] stands for a state of the reader of bytes in rx_pages. [`Scan::step`] takes bytes up to the end of a token,
+//! and what it took and shows is what the reader says of these bytes, in the content that [`Scan::enter`] has set. A fault
+//! comes exactly where the reader decides one before a token is complete, and then at each later call; want of memory
+//! likewise, and never in text between tokens.
 #![tactic(auto)]
 
 mod answers;

@@ -99,194 +99,207 @@ fn check(
     Ok(())
 }
 
+const HTML: &[(&[u8], &str)] = &[
+    (b"a<b>c", "a[b]c"),
+    (b"<", " Unended 0 1"),
+    (b"< x", "< x"),
+    (b"<<b>", "<[b]"),
+    (b"<1", "<1"),
+    (b"</b>", "[/b]"),
+    (b"</1", " BadTag 0 2"),
+    (b"<b", " Unended 0 2"),
+    (b"<b =", " BadTag 0 3"),
+    (b"<!-->x", "~x"),
+    (b"<!--->x", "~x"),
+    (b"<!---->x", "~x"),
+    (b"<!--a-->x", "~x"),
+    (b"<!--a--->x", "~x"),
+    (b"<!--a--!>x", "~x"),
+    (b"<!--a--b->-->x", "~x"),
+    (b"<!--a--!b--!-->x", "~x"),
+    (b"<!--a", " Unended 0 5"),
+    (b"<!-x>y", "~y"),
+    (b"<!>y", "~y"),
+    (b"<!x>y", "~y"),
+    (b"<?x>y", "~y"),
+    (b"<!dx>y", "~y"),
+    (b"<![CDATA[x>y", "~y"),
+    (b"<!DocType HTML>x", "!x"),
+    (b"<!doctype\t\nhtml a\"b>x", "!x"),
+    (b"<!doctypex", " BadDoctype 0 9"),
+    (b"<!doctype svg", " BadDoctype 0 10"),
+    (b"<!doctype htmlx", " BadDoctype 0 14"),
+    (b"<!doctype html [", " BadDoctype 0 15"),
+    (b"<!doctype html><!doctype html>", "! BadDoctype 15 29"),
+    (b"<b><!doctype html>", "[b] BadDoctype 3 17"),
+    (b"&amp;x", "&x"),
+    (b"&foo;", " UnknownReference 0 4"),
+    (b"&#0;", " BadReference 0 3"),
+    (b"&#x41;&#66;C", "ABC"),
+    (b"&amp x", "&amp x"),
+    (b"&&lt;", "&<"),
+    (b"&#;&#x;&#xG;&1;", "&#;&#x;&#xG;&1;"),
+    (b"&eacute;", "\u{E9}"),
+    (b"&lt<b>", "&lt[b]"),
+    (b"a&", "a Unended 1 2"),
+    (b"\0", " Nul 0 0"),
+    (b"a\xFF", "a NotUtf8 1 1"),
+    (b"a\xE2\x28", "a NotUtf8 1 2"),
+    (b"\xC3", " Unended 0 1"),
+    (b"<\xC3\xA9", "<\u{E9}"),
+    (b"\r\nx\r\ry\n", "\nx\n\ny\n"),
+    (b"\xEF\xBB\xBFx", "~x"),
+    (b"x\xEF\xBB\xBF", "x\u{FEFF}"),
+    (b"]]>", "]]>"),
+    (b"<b>\r\n</b>", "[b]\n[/b]"),
+    (b"", ""),
+];
+
 #[test]
 fn in_html(rt: HostRuntime) -> Result<(), Fail> {
-    let rows: [(&[u8], &str); 53] = [
-        (b"a<b>c", "a[b]c"),
-        (b"<", " Unended 0 1"),
-        (b"< x", "< x"),
-        (b"<<b>", "<[b]"),
-        (b"<1", "<1"),
-        (b"</b>", "[/b]"),
-        (b"</1", " BadTag 0 2"),
-        (b"<b", " Unended 0 2"),
-        (b"<b =", " BadTag 0 3"),
-        (b"<!-->x", "~x"),
-        (b"<!--->x", "~x"),
-        (b"<!---->x", "~x"),
-        (b"<!--a-->x", "~x"),
-        (b"<!--a--->x", "~x"),
-        (b"<!--a--!>x", "~x"),
-        (b"<!--a--b->-->x", "~x"),
-        (b"<!--a--!b--!-->x", "~x"),
-        (b"<!--a", " Unended 0 5"),
-        (b"<!-x>y", "~y"),
-        (b"<!>y", "~y"),
-        (b"<!x>y", "~y"),
-        (b"<?x>y", "~y"),
-        (b"<!dx>y", "~y"),
-        (b"<![CDATA[x>y", "~y"),
-        (b"<!DocType HTML>x", "!x"),
-        (b"<!doctype\t\nhtml a\"b>x", "!x"),
-        (b"<!doctypex", " BadDoctype 0 9"),
-        (b"<!doctype svg", " BadDoctype 0 10"),
-        (b"<!doctype htmlx", " BadDoctype 0 14"),
-        (b"<!doctype html [", " BadDoctype 0 15"),
-        (b"<!doctype html><!doctype html>", "! BadDoctype 15 29"),
-        (b"<b><!doctype html>", "[b] BadDoctype 3 17"),
-        (b"&amp;x", "&x"),
-        (b"&foo;", " UnknownReference 0 4"),
-        (b"&#0;", " BadReference 0 3"),
-        (b"&#x41;&#66;C", "ABC"),
-        (b"&amp x", "&amp x"),
-        (b"&&lt;", "&<"),
-        (b"&#;&#x;&#xG;&1;", "&#;&#x;&#xG;&1;"),
-        (b"&eacute;", "\u{E9}"),
-        (b"&lt<b>", "&lt[b]"),
-        (b"a&", "a Unended 1 2"),
-        (b"\0", " Nul 0 0"),
-        (b"a\xFF", "a NotUtf8 1 1"),
-        (b"a\xE2\x28", "a NotUtf8 1 2"),
-        (b"\xC3", " Unended 0 1"),
-        (b"<\xC3\xA9", "<\u{E9}"),
-        (b"\r\nx\r\ry\n", "\nx\n\ny\n"),
-        (b"\xEF\xBB\xBFx", "~x"),
-        (b"x\xEF\xBB\xBF", "x\u{FEFF}"),
-        (b"]]>", "]]>"),
-        (b"<b>\r\n</b>", "[b]\n[/b]"),
-        (b"", ""),
-    ];
-    check(&rt, rt.alloc(), Syntax::Html, Content::Html, false, &rows)
+    check(&rt, rt.alloc(), Syntax::Html, Content::Html, false, HTML)
 }
+
+const FOREIGN: &[(&[u8], &str)] = &[
+    (b"<![CDATA[a]]b]c]]>d", "a]]b]cd"),
+    (b"<![CDATA[]]>c", "~c"),
+    (b"<![CDATA[]]]]>c", "]]c"),
+    (b"<![CDATA[<&amp;]]>", "<&amp;"),
+    (b"<![CDAT>c", "~c"),
+    (b"<![cdata[a]]>c", "~c"),
+];
+
+const OUTSIDE: &[(&[u8], &str)] = &[
+    (b" \n\t", " \n\t"),
+    (b"x", " Outside 0 0"),
+    (b"&amp;", " Outside 0 0"),
+    (b" < ", "  Outside 1 2"),
+    (b"<!x><!--a--><b>", "~~[b]"),
+    (b"<!doctype html>", "!"),
+];
+
+const RAW: &[(&[u8], &str)] = &[
+    (b"a<b>&amp;</scr</script>", "a<b>&amp;</scr[/script]"),
+    (b"</SCRIPT >", "[/script]"),
+    (b"</scriptx<</script>", "</scriptx<[/script]"),
+    (b"<</script/", "< BadTag 1 9"),
+    (b"<!--</script>", "<!--[/script]"),
+    (b"a</", "a Unended 1 3"),
+];
+
+const TITLE: &[(&[u8], &str)] = &[
+    (b"&amp;<b></titl</title>", "&<b></titl[/title]"),
+    (b"&foo;", " UnknownReference 0 4"),
+];
+
+const DROPPED: &[(&[u8], &str)] = &[
+    (b"\nx", "~x"),
+    (b"\r\nx", "~x"),
+    (b"\n\nx", "~\nx"),
+    (b"&#10;x", "~x"),
+    (b"x\n", "x\n"),
+    (b"&x\n", "&x\n"),
+    (b"<!---->\n", "~\n"),
+];
 
 #[test]
 fn in_other_html(rt: HostRuntime) -> Result<(), Fail> {
-    let foreign: [(&[u8], &str); 6] = [
-        (b"<![CDATA[a]]b]c]]>d", "a]]b]cd"),
-        (b"<![CDATA[]]>c", "~c"),
-        (b"<![CDATA[]]]]>c", "]]c"),
-        (b"<![CDATA[<&amp;]]>", "<&amp;"),
-        (b"<![CDAT>c", "~c"),
-        (b"<![cdata[a]]>c", "~c"),
-    ];
+    let script = Content::Raw(RawName::Script);
+    let title = Content::Rcdata(RawName::Title);
     check(
         &rt,
         rt.alloc(),
         Syntax::Html,
         Content::Foreign,
         false,
-        &foreign,
+        FOREIGN,
     )?;
-    let outside: [(&[u8], &str); 6] = [
-        (b" \n\t", " \n\t"),
-        (b"x", " Outside 0 0"),
-        (b"&amp;", " Outside 0 0"),
-        (b" < ", "  Outside 1 2"),
-        (b"<!x><!--a--><b>", "~~[b]"),
-        (b"<!doctype html>", "!"),
-    ];
     check(
         &rt,
         rt.alloc(),
         Syntax::Html,
         Content::Outside,
         false,
-        &outside,
+        OUTSIDE,
     )?;
-    let raw: [(&[u8], &str); 6] = [
-        (b"a<b>&amp;</scr</script>", "a<b>&amp;</scr[/script]"),
-        (b"</SCRIPT >", "[/script]"),
-        (b"</scriptx<</script>", "</scriptx<[/script]"),
-        (b"<</script/", "< BadTag 1 9"),
-        (b"<!--</script>", "<!--[/script]"),
-        (b"a</", "a Unended 1 3"),
-    ];
-    check(
-        &rt,
-        rt.alloc(),
-        Syntax::Html,
-        Content::Raw(RawName::Script),
-        false,
-        &raw,
-    )?;
-    let title: [(&[u8], &str); 2] = [
-        (b"&amp;<b></titl</title>", "&<b></titl[/title]"),
-        (b"&foo;", " UnknownReference 0 4"),
-    ];
-    check(
-        &rt,
-        rt.alloc(),
-        Syntax::Html,
-        Content::Rcdata(RawName::Title),
-        false,
-        &title,
-    )?;
-    let dropped: [(&[u8], &str); 7] = [
-        (b"\nx", "~x"),
-        (b"\r\nx", "~x"),
-        (b"\n\nx", "~\nx"),
-        (b"&#10;x", "~x"),
-        (b"x\n", "x\n"),
-        (b"&x\n", "&x\n"),
-        (b"<!---->\n", "~\n"),
-    ];
-    check(&rt, rt.alloc(), Syntax::Html, Content::Html, true, &dropped)
+    check(&rt, rt.alloc(), Syntax::Html, script, false, RAW)?;
+    check(&rt, rt.alloc(), Syntax::Html, title, false, TITLE)?;
+    check(&rt, rt.alloc(), Syntax::Html, Content::Html, true, DROPPED)
 }
+
+const XHTML: &[(&[u8], &str)] = &[
+    (b"<!--a-b-->c", "~c"),
+    (b"<!--a--b", " StrictText 0 7"),
+    (b"<!--->", " Unended 0 6"),
+    (b"<?a?b?>c", "~c"),
+    (b"<?>?>c", "~c"),
+    (b"a]]>", "a]] StrictText 3 3"),
+    (b"]&#93;>]a]>", "]]>]a]>"),
+    (b"<1", " BadTag 0 1"),
+    (b"<!x", " BadTag 0 2"),
+    (b"<!-x", " BadTag 0 3"),
+    (b"<!DOCTYPE html>x", "!x"),
+    (b"<!DOCTYPE Html", " BadDoctype 0 10"),
+    (b"<!doctype", " BadTag 0 2"),
+    (b"<![CDATA[<&]]>x", "<&x"),
+    (b"<![CDATA[]]>x", "~x"),
+    (b"&lt;&#x3e;", "<>"),
+    (b"&eacute;", " UnknownReference 0 7"),
+    (b"&x ", " StrictText 0 2"),
+    (b"& ", " StrictText 0 1"),
+    (b"&#;", " StrictText 0 2"),
+    (b"<a b='1'/>", "[a]"),
+    (b"<A></A>", "[A][/A]"),
+];
+
+const OUTSIDE_XHTML: &[(&[u8], &str)] = &[(b"<![CDATA[", " Outside 0 8"), (b" <?a?><a>", " ~[a]")];
 
 #[test]
 fn in_xhtml(rt: HostRuntime) -> Result<(), Fail> {
-    let rows: [(&[u8], &str); 22] = [
-        (b"<!--a-b-->c", "~c"),
-        (b"<!--a--b", " StrictText 0 7"),
-        (b"<!--->", " Unended 0 6"),
-        (b"<?a?b?>c", "~c"),
-        (b"<?>?>c", "~c"),
-        (b"a]]>", "a]] StrictText 3 3"),
-        (b"]&#93;>]a]>", "]]>]a]>"),
-        (b"<1", " BadTag 0 1"),
-        (b"<!x", " BadTag 0 2"),
-        (b"<!-x", " BadTag 0 3"),
-        (b"<!DOCTYPE html>x", "!x"),
-        (b"<!DOCTYPE Html", " BadDoctype 0 10"),
-        (b"<!doctype", " BadTag 0 2"),
-        (b"<![CDATA[<&]]>x", "<&x"),
-        (b"<![CDATA[]]>x", "~x"),
-        (b"&lt;&#x3e;", "<>"),
-        (b"&eacute;", " UnknownReference 0 7"),
-        (b"&x ", " StrictText 0 2"),
-        (b"& ", " StrictText 0 1"),
-        (b"&#;", " StrictText 0 2"),
-        (b"<a b='1'/>", "[a]"),
-        (b"<A></A>", "[A][/A]"),
-    ];
     check(
         &rt,
         rt.alloc(),
         Syntax::Xhtml,
         Content::Strict,
         false,
-        &rows,
+        XHTML,
     )?;
-    let outside: [(&[u8], &str); 2] = [(b"<![CDATA[", " Outside 0 8"), (b" <?a?><a>", " ~[a]")];
     check(
         &rt,
         rt.alloc(),
         Syntax::Xhtml,
         Content::Outside,
         false,
-        &outside,
+        OUTSIDE_XHTML,
     )
 }
 
-// A paragraph with its line end and a script, which end at every place in some piece.
+// A paragraph with its line end, and a script's begin, which end at every place in some piece.
+const PARAGRAPH: &[(&[u8], &str)] = &[(
+    b"<p about=\"#\xC3\xA9\" property=\"http://v.example/p\">\xC3\xA9&eacute;\r\n</p><script>",
+    "[p]\u{E9}\u{E9}\n[/p][script]",
+)];
+
 #[test]
 fn cut_anywhere(rt: HostRuntime) -> Result<(), Fail> {
-    let rows: [(&[u8], &str); 1] = [(
-        b"<p about=\"#\xC3\xA9\" property=\"http://v.example/p\">\xC3\xA9&eacute;\r\n</p><script>",
-        "[p]\u{E9}\u{E9}\n[/p][script]",
-    )];
-    check(&rt, rt.alloc(), Syntax::Html, Content::Html, false, &rows)
+    check(
+        &rt,
+        rt.alloc(),
+        Syntax::Html,
+        Content::Html,
+        false,
+        PARAGRAPH,
+    )
 }
+
+const LIMITED: &[(&[u8], &str)] = &[
+    (b"<a></", "[a] Unended 3 5"),
+    (b"<ab>", " TagTooLong 0 3"),
+    (b"<!--a-", " Unended 0 6"),
+    (b"<b\xC3\xA9>", " TagTooLong 0 3"),
+    (b"  <a>  ", "  [a]  PageTooLong 6 6"),
+    (b"      \r", "       PageTooLong 6 6"),
+];
 
 #[test]
 fn limits(rt: HostRuntime) -> Result<(), Fail> {
@@ -295,18 +308,10 @@ fn limits(rt: HostRuntime) -> Result<(), Fail> {
         tag: 3,
         page: 6,
     };
-    let rows: [(&[u8], &str); 6] = [
-        (b"<a></", "[a] Unended 3 5"),
-        (b"<ab>", " TagTooLong 0 3"),
-        (b"<!--a-", " Unended 0 6"),
-        (b"<b\xC3\xA9>", " TagTooLong 0 3"),
-        (b"  <a>  ", "  [a]  PageTooLong 6 6"),
-        (b"      \r", "       PageTooLong 6 6"),
-    ];
-    for (page, expected) in rows {
+    for (page, expected) in LIMITED {
         let mut scan = Scan::new(rt.alloc(), Syntax::Html, limits)?;
-        let found = read(rt.alloc(), &mut scan, page, 3)?;
-        assert_eq!(rt; found.as_str(), expected);
+        let found = read(rt.alloc(), &mut scan, *page, 3)?;
+        assert_eq!(rt; found.as_str(), *expected);
     }
     Ok(())
 }
