@@ -84,7 +84,7 @@ module _ (i : Content) (next : Option ℕ) (markup : has_markup i ≡ true) wher
       (at Xhtml (33 ∷ 45 ∷ 45 ∷ x) 62 ∙ cond-true _ _ _ f.whole)
 
 -- the text of a section, before the last of `]]>`
-section_text : (t : Chars) → take (length (t ++ 93 ∷ 93 ∷ []) - 2) (t ++ 93 ∷ 93 ∷ []) ≡ t
+pub section_text : (t : Chars) → take (length (t ++ 93 ∷ 93 ∷ []) - 2) (t ++ 93 ∷ 93 ∷ []) ≡ t
 section_text t = ap (λ n. take n (t ++ 93 ∷ 93 ∷ [])) (ap (λ n. n - 2) (length-append t (93 ∷ 93 ∷ [])) ∙ less_two (length t)) ∙ take-append_seam t (93 ∷ 93 ∷ [])
   where
     less_two : (n : ℕ) → (n + 2) - 2 ≡ n
@@ -102,7 +102,7 @@ module _ (i : Content) (next : Option ℕ) (sections : has_sections i ≡ true) 
   marks : (s : Syntax) (text : Chars) (c : ℕ) → verdict s i (60 ∷ text) c ≡ in_markup s i text c
   marks s text c = markup_is s i text c (sections_markup i sections)
 
-  inside_section : (s : Syntax) (a : Chars) (d : ℕ) → verdict s i (codes "<![CDATA[" ++ a) d ≡ in_section a d
+  pub inside_section : (s : Syntax) (a : Chars) (d : ℕ) → verdict s i (codes "<![CDATA[" ++ a) d ≡ in_section a d
   inside_section Html a d = marks Html (33 ∷ (codes "[CDATA[" ++ a)) d ∙ cond-true _ _ _ (ap (λ b. b && true) sections)
   inside_section Xhtml a d = marks Xhtml (33 ∷ (codes "[CDATA[" ++ a)) d
 

@@ -125,14 +125,14 @@ module _ (s : Syntax) where
       (λ e k. no_way text _ k) h
 
 -- what completes a document type
-abbrev completion : DoctypePhase → Chars
+abbrev pub completion : DoctypePhase → Chars
 completion keyword = codes " html>"
 completion spaces = codes "html>"
 completion (naming left) = left ++ 62 ∷ []
 completion passed = codes ">"
 completion closed = []
 
-abbrev Closable : Syntax → DoctypePhase → Type 0
+abbrev pub Closable : Syntax → DoctypePhase → Type 0
 Closable s p = doctype_on s (Some p) (completion p) ≡ Some closed
 
 spaces_close : (s : Syntax) → Closable s spaces
@@ -143,12 +143,12 @@ name_closes : (s : Syntax) → Closable s (naming (codes "tml"))
 name_closes Html = refl
 name_closes Xhtml = refl
 
-keyword_closes : (s : Syntax) → Closable s keyword
+pub keyword_closes : (s : Syntax) → Closable s keyword
 keyword_closes Html = refl
 keyword_closes Xhtml = refl
 
 -- where the next phase is one, it can be completed as well
-abbrev Next : Syntax → Option DoctypePhase → Type 0
+abbrev pub Next : Syntax → Option DoctypePhase → Type 0
 Next s None = Unit {0}
 Next s (Some q) = Closable s q
 
@@ -163,7 +163,7 @@ next_closes s (naming (d ∷ left)) c h =
 next_closes s passed c h = split (Next s) (c == greater_than_sign) (Some closed) (cond (c == left_bracket) None (Some passed)) (λ e. refl) (λ e. split (Next s) (c == left_bracket) None (Some passed) (λ f. tt) (λ f. refl))
 next_closes s closed c h = tt
 
-closes_on : (s : Syntax) (o : Option DoctypePhase) (text : Chars) → Next s o → Next s (doctype_on s o text)
+pub closes_on : (s : Syntax) (o : Option DoctypePhase) (text : Chars) → Next s o → Next s (doctype_on s o text)
 closes_on s o [] h = h
 closes_on s None (c ∷ text) h = closes_on s None text tt
 closes_on s (Some p) (c ∷ text) h = closes_on s (doctype_move s p c) text (next_closes s p c h)

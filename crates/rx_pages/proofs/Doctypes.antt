@@ -92,7 +92,7 @@ behind_word s text d =
 not_char : (c d k : ℕ) → lowered_char c ≡ d → (lowered_char k == d) ≡ false → (k == c) ≡ false
 not_char c d k e n = by_test {G = (k == c) ≡ false} (k == c) (λ h. absurd (not_both_ways (lowered_char k == d) (ap (λ x. lowered_char x == d) (eqb-true k c h) ∙ (ap (λ x. x == d) e ∙ equal d)) n)) (λ h. h)
 
-no_end : (word read : Chars) → lowered word ≡ read → list_all (λ d. not (d == 62)) read ≡ true → list_any (λ c. c == 62) word ≡ false
+pub no_end : (word read : Chars) → lowered word ≡ read → list_all (λ d. not (d == 62)) read ≡ true → list_any (λ c. c == 62) word ≡ false
 no_end [] read e h = refl
 no_end (c ∷ word) [] e h = absurd (cc)
 no_end (c ∷ word) (d ∷ read) e h =

@@ -53,7 +53,7 @@ pub record NoOpening (text : Chars) : Type 0 where
   pub no_section : begins_with (codes "![CDATA[") text ≡ false
   pub no_doctype : begins_with (codes "!DOCTYPE") text ≡ false
 
-no_opening : (text : Chars) → list_any (λ opening. begins_with opening text) openings ≡ false → NoOpening text
+pub no_opening : (text : Chars) → list_any (λ opening. begins_with opening text) openings ≡ false → NoOpening text
 no_opening text h =
     let a = neither (begins_with (codes "/") text) _ h in
     let b = neither (begins_with (codes "?") text) _ a.1 in
@@ -112,7 +112,7 @@ module _ (i : Content) (markup : has_markup i ≡ true) where
   first_mark x t (a_doctype r) = let e = sym r.is in cc
 
   -- where the first character begins none
-  refused_first : (c : ℕ) → meets_opening (c ∷ []) ≡ false → begins_tag Xhtml c ≡ false → in_markup Xhtml i [] c ≡ refused BadTag
+  pub refused_first : (c : ℕ) → meets_opening (c ∷ []) ≡ false → begins_tag Xhtml c ≡ false → in_markup Xhtml i [] c ≡ refused BadTag
   refused_first c m b = cond-false _ _ _ (or_none (c == 33) (c == 63) (not_this 33 refl) (not_this 63 refl)) ∙ ap (λ move. told_of_tag (checked Xhtml (moved Xhtml (meaning Xhtml) fresh c move))) (cond-false _ _ _ b ∙ cond-false _ _ _ (not_this 47 refl))
     where
       not_this : (d : ℕ) → meets_opening (d ∷ []) ≡ true → (c == d) ≡ false

@@ -20,7 +20,7 @@ module _ (s : Syntax) (i : Content) where
   goes_at before [] c b g = subst (λ x. verdict s i x c ≡ goes_on) (sym (append-nil before)) g.0
   goes_at before (d ∷ a) c b g = subst (λ x. verdict s i x c ≡ goes_on) (append_assoc before (d ∷ []) a) (goes_at (before ++ d ∷ []) a c b g.1)
 
-  not_whole : (v : Verdict) (token : Token) → v ≡ goes_on → v ≡ whole token → ⊥
+  pub not_whole : (v : Verdict) (token : Token) → v ≡ goes_on → v ≡ whole token → ⊥
   not_whole v token h k = let e = sym h ∙ k in cc
 
   not_ended : (v : Verdict) (token : Token) → v ≡ goes_on → v ≡ ended token → ⊥

@@ -23,7 +23,7 @@ same_front (x ∷ xs) (y ∷ ys) m n e v =
     let h : x ≡ y = cc in
     record { front = ap (λ z. z ∷ xs) h ∙ ap (λ zs. y ∷ zs) r.front; rest = r.rest }
 
-values_append : (xs ys : List Entry) → values (xs ++ ys) ≡ values xs ++ values ys
+pub values_append : (xs ys : List Entry) → values (xs ++ ys) ≡ values xs ++ values ys
 values_append xs ys = map-append (λ (entry : Entry). entry.value) xs ys
 
 -- what is equal where two tokens are spelled at one place

@@ -1,5 +1,5 @@
 -- What holds of the tables.
-use Rattle.std.specs.Prelude.{◌≡◌, ℕ, List, [], ◌++◌, Option, None}
+use Rattle.std.specs.Prelude.{◌≡◌, ◌↔◌, ℕ, List, [], ◌∷◌, ◌++◌, Option, None, Ok, Err}
 use Rattle.rx_terms.specs.Text.{Chars}
 use Rattle.rx_chars.specs.declared.syntax.Syntax.{Syntax}
 use Rattle.rx_grammar.specs.declared.contents.Content.{Content}
@@ -10,10 +10,14 @@ use Rattle.rx_grammar.specs.Items.{Item, Spelled}
 use Rattle.rx_grammar.specs.declared.limits.Limits.{Limits}
 use Rattle.rx_grammar.specs.Trees.{Tree}
 use Rattle.rx_grammar.specs.Pages.{Page}
-use Rattle.rx_grammar.specs.PageFaults.{Reached}
-use Rattle.rx_grammar.specs.Begun.{Line, Phase, after, Stands}
-use Rattle.rx_pages.specs.Nesting.{Event, Nesting, not_begun, Goes, IsAt}
-use Rattle.rx_pages.specs.Scanner.{ReadAs}
+use Rattle.rx_grammar.specs.declared.faults.Fault.{Fault}
+use Rattle.rx_grammar.specs.declared.faults.Kind.{Kind}
+use Rattle.rx_grammar.specs.PageFaults.{Unfinished, Faulty, Reached, FaultAt}
+use Rattle.rx_grammar.specs.Begun.{Line, inside_of, Phase, after, Stands}
+use Rattle.rx_pages.specs.Nesting.{Event, Nesting, not_begun, Goes, IsAt, told_trees}
+use Rattle.rx_pages.specs.Scanner.{GoesOn, ReadAs}
+use Rattle.rx_pages.specs.Faults.{Decides}
+use Rattle.rx_pages.specs.PageReader.{Progress, page_read, end_of}
 
 -- characters that spell a token are read as it
 abbrev pub ReadsEachToken : Type 0
@@ -45,3 +49,29 @@ pub record IsLeft (syntax : Syntax) (depth : ℕ) (all some : List Item) (line :
 abbrev pub PagesGoOn : Type 0
 PagesGoOn = (syntax : Syntax) (limits : Limits) (whole rest : List ℕ) (items : List Item) (line : Line) (phase : Phase) (run : List Entry) (tree : Tree) → Reached syntax limits whole items line phase run → (page : Page syntax limits (whole ++ rest) tree)
     → IsLeft syntax limits.depth page.items items line phase run
+
+-- A page is read to its end, and its tree is what is told.
+pub record PageIsRead (syntax : Syntax) (limits : Limits) (bytes : List ℕ) (tree : Tree) : Type 0 where
+  pub final : Progress
+  pub is_read : end_of (page_read syntax limits bytes) ≡ Ok final
+  pub trees : told_trees final.told ≡ tree ∷ []
+
+abbrev pub ReadsEachPage : Type 0
+ReadsEachPage = (syntax : Syntax) (limits : Limits) (bytes : List ℕ) (tree : Tree) → Page syntax limits bytes tree → PageIsRead syntax limits bytes tree
+
+-- each fault of the grammar is found
+abbrev pub FindsEachFault : Type 0
+FindsEachFault = (syntax : Syntax) (limits : Limits) (bytes : List ℕ) (fault : Fault) → FaultAt syntax limits bytes fault → end_of (page_read syntax limits bytes) ≡ Err fault
+
+-- Inside of open elements exactly the characters that begin a token, and aren't yet one, go on.
+abbrev pub UnfinishedGoesOn : Type 0
+UnfinishedGoesOn = (syntax : Syntax) (line : Line) (c : ℕ) (run : Chars) → Unfinished syntax (inside_of syntax line).content (c ∷ run) ↔ GoesOn syntax (inside_of syntax line).content [] (c ∷ run)
+
+-- What is read there as a token spells it.
+abbrev pub SpellsEachToken : Type 0
+SpellsEachToken = (syntax : Syntax) (line : Line) (text : Chars) (next : Option ℕ) (token : Token) → ReadAs syntax (inside_of syntax line).content text next token → Spells syntax (inside_of syntax line).content text next token
+
+-- The last of the characters behind whole tokens has a fault exactly where it is decided so.
+abbrev pub FaultsAreDecided : Type 0
+FaultsAreDecided = (syntax : Syntax) (depth : ℕ) (items : List Item) (line : Line) (phase : Phase) (found : Kind) (chars : Chars)
+    → Faulty syntax depth items line phase (inside_of syntax line).content found chars ↔ Decides syntax depth items line phase (inside_of syntax line).content found chars

@@ -1,3 +1,5 @@
 pub mod Nesting
 pub mod Scanner
+pub mod Faults
+pub mod PageReader
 pub mod Laws

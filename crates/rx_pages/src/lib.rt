@@ -5,8 +5,8 @@
 //! does what they say.
 #![tactic(auto)]
 
-ghost use Rattle.rx_grammar.specs.Laws.{OneTree};
-ghost use Rattle.rx_pages.specs.Laws.{FrontsLead, FrontsStand, PagesGoOn, ReadsEachToken};
+ghost use Rattle.rx_grammar.specs.Laws.{NotBoth, OneFault, OneTree};
+ghost use Rattle.rx_pages.specs.Laws.{FaultsAreDecided, FindsEachFault, FrontsLead, FrontsStand, PagesGoOn, ReadsEachPage, ReadsEachToken, SpellsEachToken, UnfinishedGoesOn};
 
 /// A byte list has at most one tree.
 pub fn one_tree()
@@ -16,6 +16,22 @@ pub fn one_tree()
 /// Characters that spell a token are read as it.
 pub fn reads_each_token()
     ensures { ReadsEachToken }
+{}
+
+/// What is read as a token, inside of open elements, spells it.
+pub fn spells_each_token()
+    ensures { SpellsEachToken }
+{}
+
+/// Inside of open elements exactly the characters that begin a token, and aren't yet one, go on.
+pub fn unfinished_goes_on()
+    ensures { UnfinishedGoesOn }
+{}
+
+/// Behind whole tokens the last character has a fault exactly where it is refused, where it ends a token that doesn't
+/// nest, or where it is the `>` of a `]]>` in text of XHTML.
+pub fn faults_are_decided()
+    ensures { FaultsAreDecided }
 {}
 
 /// Tokens that can stand at the front of a page lead to its open elements.
@@ -32,4 +48,24 @@ pub fn fronts_stand()
 /// the front's open elements to the page's end.
 pub fn pages_go_on()
     ensures { PagesGoOn }
+{}
+
+/// The reader of bytes reads each page to its end, and tells its tree.
+pub fn reads_each_page()
+    ensures { ReadsEachPage }
+{}
+
+/// The reader of bytes finds each fault of the grammar.
+pub fn finds_each_fault()
+    ensures { FindsEachFault }
+{}
+
+/// A byte list with a tree has no fault.
+pub fn not_both()
+    ensures { NotBoth }
+{}
+
+/// A byte list has one fault at most.
+pub fn one_fault()
+    ensures { OneFault }
 {}

@@ -16,3 +16,12 @@ pub mod TagLaws
 pub mod Fronts
 pub mod OneToken
 pub mod Automaton
+pub mod ValueFaults
+pub mod ValueRefusals
+pub mod Written
+pub mod InTables
+pub mod TagEnds
+pub mod HtmlFaults
+pub mod InValues
+pub mod TagRefusals
+pub mod TagFaultLaws

@@ -58,7 +58,7 @@ spelled_as s a b r e h = subst (λ (x : Chars). Attributes s x r.0 r.1) e h
 none_some : (r : Result) (G : Type 0) → None ≡ Some r → G
 none_some r G h = absurd (cc)
 
-html_is : (s : Syntax) → is_html s ≡ true → s ≡ Html
+pub html_is : (s : Syntax) → is_html s ≡ true → s ≡ Html
 html_is Html h = refl
 html_is Xhtml h = absurd (cc)
 

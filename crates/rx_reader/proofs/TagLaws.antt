@@ -27,7 +27,7 @@ pub denotes_value : DenotesEachValue
 denotes_value s means text value h = text_sound s means text value h
 
 -- nothing is read after a tag's end
-last_none : (s : Syntax) (p : TagPhase) (c : ℕ) → is_last p ≡ true → move_of s p c ≡ None
+pub last_none : (s : Syntax) (p : TagPhase) (c : ℕ) → is_last p ≡ true → move_of s p c ≡ None
 last_none s phase.Opened c h = refl
 last_none s phase.Emptied c h = refl
 last_none s phase.Closed c h = refl

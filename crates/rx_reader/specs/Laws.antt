@@ -1,15 +1,16 @@
 -- The reader reads exactly what the grammar spells.
-use Rattle.std.specs.Prelude.{◌≡◌, ◌↔◌, ℕ, true, false, [], ◌∷◌, ◌++◌, Option, None, Ok}
+use Rattle.std.specs.Prelude.{◌≡◌, ◌↔◌, ℕ, true, false, [], ◌∷◌, ◌++◌, Option, None, Ok, Err}
 use Rattle.rx_terms.specs.Text.{Chars}
 use Rattle.rx_chars.specs.declared.syntax.Syntax.{Syntax}
 use Rattle.rx_grammar.specs.References.{Denotes, meaning}
 use Rattle.rx_grammar.specs.Tokens.{Tag}
 use Rattle.rx_grammar.specs.Tags.{SpellsTag}
-use Rattle.rx_grammar.specs.TagFaults.{BeginsShape, BeginsNoShape}
+use Rattle.rx_grammar.specs.TagFaults.{BeginsShape, BeginsNoShape, BeginsTag, TagFault}
+use Rattle.rx_grammar.specs.declared.faults.Kind.{Kind}
 use Rattle.rx_reader.specs.declared.phases.TagPhase.{TagPhase}
 use Rattle.rx_reader.specs.Tables.{move_of, is_last}
 use Rattle.rx_reader.specs.Values.{value_read}
-use Rattle.rx_reader.specs.TagReader.{TagState, fresh, tag_on, tag_of}
+use Rattle.rx_reader.specs.TagReader.{TagState, fresh, tag_step, tag_on, tag_of}
 
 -- The characters after `<` are read to the end of this tag, and that at their last one.
 pub record ReadsTag (syntax : Syntax) (chars : Chars) (tag : Tag) : Type 0 where
@@ -47,3 +48,22 @@ pub record RefusesExactly (syntax : Syntax) (front : Chars) (phase : TagPhase) :
 abbrev pub TableIsExact : Type 0
 TableIsExact = (syntax : Syntax) (means : Chars → Option ℕ) (front : Chars) (reached : TagState) → tag_on syntax means (Ok fresh) front ≡ Ok reached → is_last reached.phase ≡ false
     → RefusesExactly syntax front reached.phase
+
+-- These characters after `<` are read, and don't end the tag.
+pub record ReadsOn (syntax : Syntax) (chars : Chars) : Type 0 where
+  pub reached : TagState
+  pub run : tag_on syntax (meaning syntax) (Ok fresh) chars ≡ Ok reached
+  pub unfinished : is_last reached.phase ≡ false
+
+-- Exactly the characters that begin a tag with no fault are read so.
+abbrev pub ReadsEachFront : Type 0
+ReadsEachFront = (syntax : Syntax) (chars : Chars) → BeginsTag syntax chars ↔ ReadsOn syntax chars
+
+-- After them a character is refused exactly where it decides the tag's fault, and with its kind.
+abbrev pub RefusesEachFault : Type 0
+RefusesEachFault = (syntax : Syntax) (front : Chars) (reached : TagState) → tag_on syntax (meaning syntax) (Ok fresh) front ≡ Ok reached → is_last reached.phase ≡ false
+    → (c : ℕ) (kind : Kind) → (tag_step syntax (meaning syntax) reached c ≡ Err kind) ↔ TagFault syntax kind (front ++ c ∷ [])
+
+-- a character decides one fault of a tag at most
+abbrev pub OneTagFault : Type 0
+OneTagFault = (syntax : Syntax) (chars : Chars) (a b : Kind) → TagFault syntax a chars → TagFault syntax b chars → a ≡ b

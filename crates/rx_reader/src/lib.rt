@@ -4,7 +4,7 @@
 //! grammar's faults. The code of the layers above does what these tables say.
 #![tactic(auto)]
 
-ghost use Rattle.rx_reader.specs.Laws.{TableIsExact, ReadsEachTag, SpellsEachTag, OneTag, OneTagFront, ReadsEachValue, DenotesEachValue};
+ghost use Rattle.rx_reader.specs.Laws.{TableIsExact, ReadsEachTag, SpellsEachTag, OneTag, OneTagFront, ReadsEachValue, DenotesEachValue, ReadsEachFront, RefusesEachFault, OneTagFault};
 ghost use Rattle.rx_grammar.specs.Laws.{OneToken};
 
 mod phases;
@@ -49,4 +49,19 @@ pub fn one_token()
 /// What is read of a tag begins one, and the table refuses exactly the characters with which no tag goes on.
 pub fn table_is_exact()
     ensures { TableIsExact }
+{}
+
+/// Exactly the characters that begin a tag with no fault are read, and don't end the tag.
+pub fn reads_each_front()
+    ensures { ReadsEachFront }
+{}
+
+/// After them a character is refused exactly where it decides the tag's fault, and with its kind.
+pub fn refuses_each_fault()
+    ensures { RefusesEachFault }
+{}
+
+/// A character decides one fault of a tag at most.
+pub fn one_tag_fault()
+    ensures { OneTagFault }
 {}

@@ -1,11 +1,12 @@
 -- Names that stand twice.
-use Rattle.std.proofs.Common.{◌≡◌, ◌∙◌, sym, ap, refl, ℕ, ◌+◌, ◌≤◌, ◌<◌, zero, suc, List, [], ◌∷◌, ◌++◌, length, take, arith, Bool, true, false, cond}
+use Rattle.std.proofs.Common.{◌≡◌, ◌∙◌, sym, ap, refl, ℕ, ◌+◌, ◌-◌, ◌≤◌, ◌<◌, zero, suc, List, [], ◌∷◌, ◌++◌, length, take, drop, arith, Bool, true, false, cond}
+use Rattle.std.proofs.lemmas.Grind.{common_steps}
 use Rattle.std.specs.Prelude.{◌||◌, not, nat_eq, slice_index_or}
 use Rattle.std.specs.Cmp.Lexicographic.{slice_cmp}
 use Rattle.std.specs.Ordering.{is_eq, nat_cmp}
 use Rattle.std.proofs.lemmas.Map.Text.{is_eq-slice_cmp}
 use Rattle.std.specs.Str.{chars, IsUtf8}
-use Rattle.std.proofs.lemmas.List.{length-append, length-map, append_assoc, append-nil, map-append}
+use Rattle.std.proofs.lemmas.List.{length-drop, length-append, length-map, append_assoc, append-nil, map-append}
 use Rattle.std.proofs.lemmas.List.Folds.{list_any-append}
 use Rattle.std.proofs.lemmas.Bool.Decides.{nat_tests}
 use Rattle.std.proofs.Math.Seq.{take-suc}
@@ -16,8 +17,8 @@ use Rattle.rx_grammar.specs.Tokens.{Attribute, has_name}
 use Rattle.rx_grammar.specs.Tags.{without, firsts, has_repeat}
 use Rattle.rx_reader.proofs.Bools.{by_test, neither}
 use Rattle.rx_tags.specs.declared.attributes.Row.{Row}
-use Rattle.rx_tags.specs.Reading.{Reading, piece, row_read, rows_read, RowFits, RowsFit}
-use Rattle.rx_tags.specs.Repeats.{is_named}
+use Rattle.rx_tags.specs.Reading.{Reading, piece, row_read, rows_read, read_as, RowFits, RowsFit, Fits}
+use Rattle.rx_tags.specs.Repeats.{is_named, KeepsFirsts}
 
 or_false : (b : Bool) → (b || false) ≡ b
 or_false true = refl
@@ -210,3 +211,44 @@ pub too_few : (text : List ℕ) (rows : List Row) (n : ℕ) → n ≡ length row
 too_few text [] n e h = refl
 too_few text (row ∷ []) n e h = refl
 too_few text (row ∷ other ∷ rows) n e h = absurd (omega (arith, e, h))
+
+pub keeps_fit : (text : List ℕ) (rows kept : List Row) (start middle end : ℕ) → Fits text rows start middle end → KeepsFirsts text rows kept → Fits text kept start middle end
+keeps_fit text rows kept start middle end f k =
+    record { rows_fit = k.fit start f.rows_fit; rises = f.rises; on = f.on; within = f.within; key = f.key; known = f.known; pending = f.pending }
+
+pub first_of : (text : List ℕ) (rows kept : List Row) (start middle end : ℕ) (r : Reading) → read_as text rows start middle end ≡ r → KeepsFirsts text rows kept
+    → read_as text kept start middle end ≡ record { whole = firsts r.whole; key = r.key; known = r.known; pending = r.pending }
+first_of text rows kept start middle end r e k =
+    (λ i. record { whole = k.read i; key = chars (piece text start middle); known = chars (piece text middle end); pending = chars (drop end text) })
+    ∙ ap (λ (x : Reading). record { whole = firsts x.whole; key = x.key; known = x.known; pending = x.pending }) e
+
+drop_more : (rows : List Row) (i : ℕ) → i < length rows → drop i rows ≡ at rows i ∷ drop (suc i) rows
+drop_more [] i h = absurd (omega (arith, h))
+drop_more (row ∷ rows) zero h = refl
+drop_more (row ∷ rows) (suc i) h = drop_more rows i (omega (arith, h))
+
+pub fit_drop : (text : List ℕ) (limit : ℕ) (rows : List Row) (i : ℕ) → RowsFit text limit rows → RowsFit text limit (drop i rows)
+fit_drop text limit rows zero f = f
+fit_drop text limit [] (suc i) f = tt
+fit_drop text limit (row ∷ rows) (suc i) f = fit_drop text limit rows i f.1
+
+-- a row against those behind it
+pub pair_turn : (text : List ℕ) (limit : ℕ) (rows : List Row) (i : ℕ) → RowsFit text limit rows → i < length rows
+    → has_repeat (rows_read text (drop i rows)) ≡ (is_named text (drop (i + 1) rows) (piece text (at rows i).start (at rows i).middle) || has_repeat (rows_read text (drop (i + 1) rows)))
+pair_turn text limit rows i f h =
+    let n : suc i ≡ i + 1 = omega arith in
+    let r = fit_at text limit rows i f h in
+    ap (λ some. has_repeat (rows_read text some)) (drop_more rows i h)
+    ∙ (ap (λ b. b || has_repeat (rows_read text (drop (suc i) rows))) (name_seen text limit (drop (suc i) rows) (piece text (at rows i).start (at rows i).middle) (fit_drop text limit rows (suc i) f) r.name)
+    ∙ ap (λ m. is_named text (drop m rows) (piece text (at rows i).start (at rows i).middle) || has_repeat (rows_read text (drop m rows))) n)
+
+pub pair_found : (text : List ℕ) (limit : ℕ) (rows : List Row) (i : ℕ) → RowsFit text limit rows → i < length rows
+    → is_named text (drop (i + 1) rows) (piece text (at rows i).start (at rows i).middle) ≡ true → has_repeat (rows_read text (drop i rows)) ≡ true
+pair_found text limit rows i f h e = pair_turn text limit rows i f h ∙ ap (λ b. b || has_repeat (rows_read text (drop (i + 1) rows))) e
+
+pub pair_passed : (text : List ℕ) (limit : ℕ) (rows : List Row) (i : ℕ) → RowsFit text limit rows → i < length rows
+    → is_named text (drop (i + 1) rows) (piece text (at rows i).start (at rows i).middle) ≡ false → has_repeat (rows_read text (drop i rows)) ≡ has_repeat (rows_read text (drop (i + 1) rows))
+pair_passed text limit rows i f h e = pair_turn text limit rows i f h ∙ ap (λ b. b || has_repeat (rows_read text (drop (i + 1) rows))) e
+
+pub all_behind : (rows : List Row) (n : ℕ) → take (length rows - n) (drop n rows) ≡ drop n rows
+all_behind rows n = let l = length-drop n rows in grind (arith, common_steps)

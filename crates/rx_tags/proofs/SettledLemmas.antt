@@ -1,5 +1,5 @@
 -- Outside a value's phases no value is being read.
-use Rattle.std.proofs.Common.{◌≡◌, ◌∙◌, sym, ap, refl, subst, ℕ, [], ◌==◌, Bool, true, false, Some, None, Option, Result, Ok, Err, if◌then◌else◌}
+use Rattle.std.proofs.Common.{◌≡◌, ◌∙◌, sym, ap, refl, subst, ℕ, [], ◌==◌, Bool, true, false, not, Some, None, Option, Result, Ok, Err, if◌then◌else◌}
 use Rattle.rx_terms.specs.Ascii.{quotation_mark, apostrophe, solidus, equals_sign, greater_than_sign, is_white_space}
 use Rattle.rx_terms.specs.Text.{Chars}
 use Rattle.rx_chars.specs.declared.syntax.Syntax.{Syntax}
@@ -9,12 +9,12 @@ use Rattle.rx_reader.specs.declared.phases.TagPhase.{TagPhase}
 use Rattle.rx_reader.specs.declared.phases.TagPhase.TheVariants as phase
 use Rattle.rx_reader.specs.declared.phases.TagAction.{TagAction}
 use Rattle.rx_reader.specs.declared.phases.TagAction.TheVariants as action
-use Rattle.rx_reader.specs.Tables.{move_of, is_html}
+use Rattle.rx_reader.specs.Tables.{move_of, is_html, is_last}
 use Rattle.rx_reader.specs.Values.{Value, no_value_yet, value_end}
 use Rattle.rx_reader.specs.TagReader.{TagState, with_attribute}
 use Rattle.rx_reader.proofs.Bools.{split, not_both_ways}
 use Rattle.rx_tags.specs.Pairs.{Pairs}
-use Rattle.rx_tags.specs.TagReads.{is_value_phase, IsSettled, ActGives, state_of}
+use Rattle.rx_tags.specs.TagReads.{is_value_phase, IsSettled, ActGives, CanEnd, state_of}
 
 abbrev pub NextOk : TagPhase → Option (TagPhase × TagAction) → Type 0
 NextOk p None = Unit {0}
@@ -64,3 +64,43 @@ by_action s p q action.AddKey c name more old new n h g k = left q (state_of p n
 
 pub settled : (s : Syntax) (p q : TagPhase) (a : TagAction) (c : ℕ) (name more : Chars) (old new : Pairs) → move_of s p c ≡ Some (q, a) → IsSettled p old.value → ActGives s a c name old (Ok tt) more new → IsSettled q new.value
 settled s p q a c name more old new e h g = by_action s p q a c name more old new (subst (NextOk p) e (next_ok s p c)) h g
+
+-- At a tag's `>` the last attribute ends, or nothing is done.
+abbrev lasts_well : Option (TagPhase × TagAction) → Bool
+lasts_well None = true
+lasts_well (Some (q, action.Skip)) = true
+lasts_well (Some (q, action.Add)) = true
+lasts_well (Some (q, _)) = not (is_last q)
+
+whichever : (b : Bool) (x y : Option (TagPhase × TagAction)) → lasts_well x ≡ true → lasts_well y ≡ true → lasts_well (if b then x else y) ≡ true
+whichever b x y h k = split (λ (m : Option (TagPhase × TagAction)). lasts_well m ≡ true) b x y (λ _. h) (λ _. k)
+
+lasts : (s : Syntax) (p : TagPhase) (c : ℕ) → lasts_well (move_of s p c) ≡ true
+lasts s phase.Start c = whichever (begins_tag s c) _ _ refl (whichever (c == solidus) _ _ refl refl)
+lasts s phase.Name c = whichever (is_white_space c) _ _ refl (whichever (c == solidus) _ _ refl (whichever (c == greater_than_sign) _ _ refl (whichever (is_tag_char s c) _ _ refl refl)))
+lasts s phase.Gap c = whichever (is_white_space c) _ _ refl (whichever (c == solidus) _ _ refl (whichever (c == greater_than_sign) _ _ refl (whichever (begins_attribute s c) _ _ refl refl)))
+lasts s phase.Solidus c = whichever (c == greater_than_sign) _ _ refl (whichever (is_html s) _ _ (whichever (is_white_space c) _ _ refl (whichever (c == solidus) _ _ refl (whichever (c == greater_than_sign) _ _ refl (whichever (begins_attribute s c) _ _ refl refl)))) refl)
+lasts s phase.Key c = whichever (is_white_space c) _ _ refl (whichever (c == equals_sign) _ _ refl (whichever (c == solidus) _ _ (whichever (is_html s) _ _ refl refl) (whichever (c == greater_than_sign) _ _ (whichever (is_html s) _ _ refl refl) (whichever (continues_attribute s c) _ _ refl refl))))
+lasts s phase.AfterKey c = whichever (is_white_space c) _ _ refl (whichever (c == equals_sign) _ _ refl (whichever (is_html s) _ _ (whichever (c == solidus) _ _ refl (whichever (c == greater_than_sign) _ _ refl (whichever (begins_attribute s c) _ _ refl refl))) refl))
+lasts s phase.BeforeValue c = whichever (is_white_space c) _ _ refl (whichever (c == quotation_mark) _ _ refl (whichever (c == apostrophe) _ _ refl (whichever (c == greater_than_sign) _ _ refl (whichever (is_html s) _ _ refl refl))))
+lasts s phase.DoubleQuoted c = whichever (c == quotation_mark) _ _ refl refl
+lasts s phase.SingleQuoted c = whichever (c == apostrophe) _ _ refl refl
+lasts s phase.Unquoted c = whichever (is_white_space c) _ _ refl (whichever (c == greater_than_sign) _ _ refl refl)
+lasts s phase.AfterValue c = whichever (is_white_space c) _ _ refl (whichever (c == solidus) _ _ refl (whichever (c == greater_than_sign) _ _ refl (whichever (is_html s) _ _ (whichever (begins_attribute s c) _ _ refl refl) refl)))
+lasts s phase.EndStart c = whichever (begins_tag s c) _ _ refl refl
+lasts s phase.EndName c = whichever (is_white_space c) _ _ refl (whichever (c == greater_than_sign) _ _ refl (whichever (is_tag_char s c) _ _ refl refl))
+lasts s phase.EndGap c = whichever (is_white_space c) _ _ refl (whichever (c == greater_than_sign) _ _ refl refl)
+lasts s phase.Opened c = refl
+lasts s phase.Emptied c = refl
+lasts s phase.Closed c = refl
+
+by_last : (p q : TagPhase) (a : TagAction) (value : Value) → NextOk p (Some (q, a)) → lasts_well (Some (q, a)) ≡ true → is_last q ≡ true → IsSettled p value → CanEnd a value
+by_last p q action.Skip value n w l h = h n
+by_last p q action.Add value n w l h = tt
+by_last p q action.Name value n w l h = absurd (cc)
+by_last p q action.Key value n w l h = absurd (cc)
+by_last p q action.Value value n w l h = absurd (cc)
+by_last p q action.AddKey value n w l h = absurd (cc)
+
+pub can_end : (s : Syntax) (p q : TagPhase) (a : TagAction) (c : ℕ) (value : Value) → move_of s p c ≡ Some (q, a) → is_last q ≡ true → IsSettled p value → CanEnd a value
+can_end s p q a c value e l h = by_last p q a value (subst (NextOk p) e (next_ok s p c)) (subst (λ m. lasts_well m ≡ true) e (lasts s p c)) l h

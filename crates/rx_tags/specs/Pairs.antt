@@ -5,6 +5,7 @@ use Rattle.rx_terms.specs.Ascii.{ampersand, is_ascii}
 use Rattle.rx_terms.specs.Text.{Chars}
 use Rattle.rx_chars.specs.declared.syntax.Syntax.{Syntax}
 use Rattle.rx_grammar.specs.References.{meaning}
+use Rattle.rx_grammar.specs.Tags.{firsts, has_repeat}
 use Rattle.rx_grammar.specs.Tokens.{Attribute}
 use Rattle.rx_reader.specs.declared.phases.RunPhase.{RunPhase}
 use Rattle.rx_reader.specs.declared.phases.RunPhase.TheVariants as run
@@ -58,3 +59,11 @@ AddKeyGives syntax old c (Ok done) new =
     (value : Chars) × (value_end syntax old.value ≡ Ok value) × (new ≡ record { whole = old.whole ++ (old.key, value) ∷ []; key = c ∷ []; value = no_value_yet })
 AddKeyGives syntax old c (Err (Bad kind)) new = value_end syntax old.value ≡ Err kind
 AddKeyGives syntax old c (Err NoMemory) new = Unit {0}
+
+-- the end of the last attribute, and of those of one name the first
+abbrev pub AddLastGives : Syntax → Pairs → Result Bool TagError → Pairs → Type 0
+AddLastGives syntax old (Ok repeated) new =
+    (value : Chars) × (value_end syntax old.value ≡ Ok value) × (repeated ≡ has_repeat (old.whole ++ (old.key, value) ∷ []))
+    × (new ≡ record { whole = firsts (old.whole ++ (old.key, value) ∷ []); key = []; value = no_value_yet })
+AddLastGives syntax old (Err (Bad kind)) new = value_end syntax old.value ≡ Err kind
+AddLastGives syntax old (Err NoMemory) new = Unit {0}

@@ -1,11 +1,12 @@
 -- The names of a tag's attributes, as a sorted set of texts has them.
-use Rattle.std.specs.Prelude.{ℕ, Bool, List}
+use Rattle.std.specs.Prelude.{◌≡◌, ℕ, Bool, true, List}
 use Rattle.std.specs.BTreeSet.{BTreeSet, contains_by}
 use Rattle.std.specs.Cmp.Lexicographic.{slice_cmp}
 use Rattle.std.specs.List.{list_any}
 use Rattle.std.specs.Ordering.{nat_cmp}
 use Rattle.rx_grammar.specs.Names.{same}
-use Rattle.rx_tags.specs.Reading.{piece}
+use Rattle.rx_grammar.specs.Tags.{firsts, has_repeat}
+use Rattle.rx_tags.specs.Reading.{piece, rows_read, RowsFit}
 use Rattle.rx_tags.specs.declared.attributes.Row.{Row}
 use denote.Ref.{Bor}
 
@@ -16,3 +17,9 @@ has_text names text = contains_by (λ name. slice_cmp nat_cmp text name.now) nam
 -- whether a row has a name of these bytes
 abbrev pub is_named : List ℕ → List Row → List ℕ → Bool
 is_named text rows name = list_any (λ row. same (piece text row.start row.middle) name) rows
+
+-- a name stands twice in the rows, and these are the first ones of each name
+pub record KeepsFirsts (text : List ℕ) (rows kept : List Row) : Type 0 where
+  pub repeated : has_repeat (rows_read text rows) ≡ true
+  pub read : rows_read text kept ≡ firsts (rows_read text rows)
+  pub fit : (limit : ℕ) → RowsFit text limit rows → RowsFit text limit kept

@@ -1,13 +1,12 @@
 -- One tag while it is read: what contracts see, and what each answer tells of the characters so far.
-use Rattle.std.specs.Prelude.{◌≡◌, ℕ, Bool, true, false, ◌++◌, Result, Ok, Err}
+use Rattle.std.specs.Prelude.{◌≡◌, ◌⊎◌, ℕ, Bool, true, false, Result, Ok, Err}
 use Rattle.rx_terms.specs.Text.{Chars}
 use Rattle.rx_chars.specs.declared.syntax.Syntax.{Syntax}
 use Rattle.rx_grammar.specs.declared.faults.Kind.{Kind}
-use Rattle.rx_grammar.specs.declared.faults.Kind.TheVariants.{BadTag, RepeatedAttribute}
 use Rattle.rx_grammar.specs.References.{meaning}
 use Rattle.rx_grammar.specs.Tokens.{Tag}
 use Rattle.rx_grammar.specs.Tags.{SpellsTag}
-use Rattle.rx_grammar.specs.TagFaults.{BeginsShape, BeginsNoShape, TagFault}
+use Rattle.rx_grammar.specs.TagFaults.{BeginsTag, TagFault}
 use Rattle.rx_reader.specs.Tables.{is_last}
 use Rattle.rx_reader.specs.TagReader.{TagState, fresh, tag_on, parts_of}
 use Rattle.rx_tags.specs.declared.tag_text.TagStep.{TagStep}
@@ -16,16 +15,14 @@ use Rattle.rx_tags.specs.declared.pairs.TagError.{TagError}
 use Rattle.rx_tags.specs.declared.pairs.TagError.TheVariants.{Bad, NoMemory}
 use Rattle.rx_tags.specs.TagReads.{TagRead, ReadGives}
 
--- A tag so far. `refused` says that a fault was answered, and `spent` that there was no memory, since the buffer was
--- made or cleared.
+-- A tag so far. `refused` says that a fault was answered since the buffer was made or cleared.
 pub record TagSoFar : Type 0 where
   pub syntax : Syntax
   pub state : TagState
   pub refused : Bool
-  pub spent : Bool
 
 abbrev pub no_tag : Syntax → TagSoFar
-no_tag syntax = record { syntax = syntax; state = fresh; refused = false; spent = false }
+no_tag syntax = record { syntax = syntax; state = fresh; refused = false }
 
 abbrev pub read_of : TagSoFar → TagRead
 read_of tag = record { syntax = tag.syntax; state = tag.state }
@@ -35,44 +32,38 @@ pub record MayStep (tag : TagSoFar) : Type 0 where
   pub unfinished : is_last tag.state.phase ≡ false
   pub unrefused : tag.refused ≡ false
 
--- there was no memory, and there is none until the tag is cleared
-pub record Spends (old new : TagSoFar) : Type 0 where
-  pub may_step : MayStep new
-  pub syntax : new.syntax ≡ old.syntax
-  pub spent : new.spent ≡ true
-
 -- one more character, exactly by the reader
 abbrev pub StepGives : TagSoFar → ℕ → Result TagStep TagError → TagSoFar → Type 0
 StepGives old c (Ok step) new =
-    (old.spent ≡ false) × ReadGives (read_of old) c (Ok step) new.state
-    × (new ≡ record { syntax = old.syntax; state = new.state; refused = old.refused; spent = old.spent })
+    ReadGives (read_of old) c (Ok step) new.state × (new ≡ record { syntax = old.syntax; state = new.state; refused = old.refused })
 StepGives old c (Err (Bad kind)) new =
-    (old.spent ≡ false) × ReadGives (read_of old) c (Err (Bad kind)) new.state
-    × (new ≡ record { syntax = old.syntax; state = fresh; refused = true; spent = false })
-StepGives old c (Err NoMemory) new = Spends old new
+    ReadGives (read_of old) c (Err (Bad kind)) new.state × (new ≡ record { syntax = old.syntax; state = fresh; refused = true })
+StepGives old c (Err NoMemory) new = new ≡ old
 
 -- These are the characters since the buffer was made or cleared, and no fault was answered.
 pub record Stands (tag : TagSoFar) (chars : Chars) : Type 0 where
   pub run : tag_on tag.syntax (meaning tag.syntax) (Ok fresh) chars ≡ Ok tag.state
   pub may_step : MayStep tag
-  pub unspent : tag.spent ≡ false
 
--- They stand on: they begin a tag, whatever its values hold, and spell none yet.
+-- They stand on: they begin a tag in which no fault stands, and spell none yet.
 pub record GoesOn (tag : TagSoFar) (chars : Chars) : Type 0 where
   pub stands : Stands tag chars
-  pub begins : BeginsShape tag.syntax chars
+  pub begins : BeginsTag tag.syntax chars
   pub unspelled : (spelled : Tag) → SpellsTag tag.syntax chars spelled → ⊥
-
--- What a fault tells: no tag that is spelled goes on from these characters. Where the kind is BadTag, none does, whatever
--- its values hold. Where it is RepeatedAttribute, they are a whole tag of XHTML in which a name stands twice.
-pub record RefusalTells (syntax : Syntax) (chars : Chars) (kind : Kind) : Type 0 where
-  pub unspelled : (more : Chars) (spelled : Tag) → SpellsTag syntax (chars ++ more) spelled → ⊥
-  pub bad_tag : kind ≡ BadTag → BeginsNoShape syntax chars
-  pub repeated : kind ≡ RepeatedAttribute → TagFault syntax RepeatedAttribute chars
 
 -- what a step's answer tells of the characters through its own
 abbrev pub StepTells : Chars → Result TagStep TagError → TagSoFar → Type 0
 StepTells chars (Ok More) new = GoesOn new chars
 StepTells chars (Ok Done) new = SpellsTag new.syntax chars (parts_of new.state)
-StepTells chars (Err (Bad kind)) new = RefusalTells new.syntax chars kind
+StepTells chars (Err (Bad kind)) new = TagFault new.syntax kind chars
 StepTells chars (Err NoMemory) new = Unit {0}
+
+-- this answer, or want of memory
+abbrev pub IsUnlessNoMemory : Result TagStep TagError → Result TagStep TagError → Type 0
+IsUnlessNoMemory answer result = (result ≡ answer) ⊎ (result ≡ Err NoMemory)
+
+-- what the characters through a step's own tell of its answer
+pub record AnswersAll (syntax : Syntax) (chars : Chars) (result : Result TagStep TagError) : Type 0 where
+  pub more : BeginsTag syntax chars → IsUnlessNoMemory (Ok More) result
+  pub done : (spelled : Tag) → SpellsTag syntax chars spelled → IsUnlessNoMemory (Ok Done) result
+  pub bad : (kind : Kind) → TagFault syntax kind chars → IsUnlessNoMemory (Err (Bad kind)) result

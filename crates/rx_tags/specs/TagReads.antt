@@ -3,14 +3,14 @@ use Rattle.std.specs.Prelude.{◌≡◌, ℕ, Bool, true, false, Result, Ok, Err
 use Rattle.rx_terms.specs.Text.{Chars}
 use Rattle.rx_chars.specs.declared.syntax.Syntax.{Syntax}
 use Rattle.rx_grammar.specs.References.{meaning}
-use Rattle.rx_grammar.specs.Tags.{firsts, is_repeated}
-use Rattle.rx_grammar.specs.declared.faults.Kind.TheVariants.{RepeatedAttribute}
+use Rattle.rx_grammar.specs.Tags.{firsts, has_repeat}
 use Rattle.rx_reader.specs.declared.phases.TagPhase.{TagPhase}
 use Rattle.rx_reader.specs.declared.phases.TagPhase.TheVariants as phase
 use Rattle.rx_reader.specs.declared.phases.TagAction.{TagAction}
+use Rattle.rx_reader.specs.declared.phases.TagAction.TheVariants as action
 use Rattle.rx_reader.specs.Values.{Value, no_value_yet}
 use Rattle.rx_reader.specs.Tables.{is_last}
-use Rattle.rx_reader.specs.TagReader.{TagState, done_by, tag_move, tag_step}
+use Rattle.rx_reader.specs.TagReader.{TagState, done_by, checked, tag_step}
 use Rattle.rx_tags.specs.Pairs.{Pairs}
 use Rattle.rx_tags.specs.declared.tag_text.TagStep.{TagStep}
 use Rattle.rx_tags.specs.declared.tag_text.TagStep.TheVariants.{More, Done}
@@ -42,12 +42,6 @@ ActGives syntax action c name pairs (Err (Bad kind)) new_name new_pairs =
     (p q : TagPhase) → done_by syntax (meaning syntax) (state_of p name pairs) c q action ≡ Err kind
 ActGives syntax action c name pairs (Err NoMemory) new_name new_pairs = Unit {0}
 
--- one more character, names that stand twice not being looked at
-abbrev pub MoveGives : TagRead → ℕ → Result (Unit {0}) TagError → TagRead → Type 0
-MoveGives old c (Ok done) new = tag_move old.syntax (meaning old.syntax) old.state c ≡ Ok new.state
-MoveGives old c (Err (Bad kind)) new = tag_move old.syntax (meaning old.syntax) old.state c ≡ Err kind
-MoveGives old c (Err NoMemory) new = Unit {0}
-
 -- the state without the attributes whose name stands before them
 abbrev pub firsts_of : TagState → TagState
 firsts_of s = record { phase = s.phase; name = s.name; attributes = firsts s.attributes; key = s.key; value = s.value }
@@ -66,8 +60,34 @@ ReadGives old c (Ok Done) new = Ends old c new
 ReadGives old c (Err (Bad kind)) new = tag_step old.syntax (meaning old.syntax) old.state c ≡ Err kind
 ReadGives old c (Err NoMemory) new = Unit {0}
 
--- names that stand twice
-abbrev pub FinishGives : TagRead → Result (Unit {0}) TagError → TagState → Type 0
-FinishGives old (Ok done) new = (is_repeated old.syntax old.state.attributes ≡ false) × (new ≡ firsts_of old.state)
-FinishGives old (Err (Bad kind)) new = (is_repeated old.syntax old.state.attributes ≡ true) × (kind ≡ RepeatedAttribute)
-FinishGives old (Err NoMemory) new = Unit {0}
+-- With this action a tag is read to its `>`.
+abbrev pub CanEnd : TagAction → Value → Type 0
+CanEnd action.Skip value = value ≡ no_value_yet
+CanEnd action.Add value = Unit {0}
+CanEnd _ value = ⊥
+
+abbrev pub EndsTag : TagPhase → TagAction → Value → Type 0
+EndsTag phase action value = (is_last phase ≡ true) × CanEnd action value
+
+-- what the attributes are at the tag's `>`, and of those of one name the first
+abbrev pub EndGives : Syntax → TagAction → Pairs → Result Bool TagError → Pairs → Type 0
+EndGives syntax action old (Ok repeated) new =
+    (whole : Pairs) × ((p q : TagPhase) (c : ℕ) (name : Chars) → done_by syntax (meaning syntax) (state_of p name old) c q action ≡ Ok (state_of q name whole))
+    × (whole.value ≡ no_value_yet) × (repeated ≡ has_repeat whole.whole) × (new ≡ record whole { whole = firsts whole.whole })
+EndGives syntax action old (Err (Bad kind)) new =
+    (p q : TagPhase) (c : ℕ) (name : Chars) → done_by syntax (meaning syntax) (state_of p name old) c q action ≡ Err kind
+EndGives syntax action old (Err NoMemory) new = Unit {0}
+
+-- the tag's `>`
+abbrev pub FinishGives : TagRead → TagPhase → TagAction → Result (Unit {0}) TagError → TagState → Type 0
+FinishGives old phase action (Ok done) new =
+    (last : TagState) × ((c : ℕ) → checked old.syntax (done_by old.syntax (meaning old.syntax) old.state c phase action) ≡ Ok last)
+    × (is_last last.phase ≡ true) × (new ≡ firsts_of last)
+FinishGives old phase action (Err (Bad kind)) new =
+    (c : ℕ) → checked old.syntax (done_by old.syntax (meaning old.syntax) old.state c phase action) ≡ Err kind
+FinishGives old phase action (Err NoMemory) new = Unit {0}
+
+-- want of memory leaves the tag as it was
+abbrev pub KeepsAtNoMemory : {A : Type 0} → Result A TagError → TagRead → TagRead → Type 0
+KeepsAtNoMemory (Err NoMemory) old new = new ≡ old
+KeepsAtNoMemory _ old new = Unit {0}

@@ -1,22 +1,20 @@
 //! The attributes of one tag in one buffer.
-ghost use Rattle.std.specs.Prelude.{◌≡◌, ℕ, ◌<◌, ◌≤◌, List, [], ◌∷◌, ◌++◌, ◌||◌, not, length, IfOk, OnErr, OnOk, encode_utf8, encode_utf8_all, Some, slice_get};
+ghost use Rattle.std.specs.Prelude.{◌≡◌, ℕ, ◌<◌, ◌≤◌, List, [], ◌∷◌, ◌++◌, length, IfOk, OnErr, OnOk, encode_utf8, encode_utf8_all, Some, slice_get};
 ghost use Rattle.std.specs.Str.{chars, IsUtf8};
-ghost use Rattle.rx_grammar.specs.Names.{same};
 ghost use Rattle.rx_grammar.specs.Tags.{firsts, has_repeat};
-ghost use Rattle.rx_tags.specs.Reading.{piece, rows_read, RowsFit};
-ghost use Rattle.rx_tags.specs.Repeats.{has_text};
+ghost use Rattle.rx_tags.specs.Reading.{piece};
 
+use crate::repeats::unrepeated;
 use rx_terms::NoMemory;
 use std::alloc::Global;
-use std::collections::BTreeSet;
 use std::marker::Model;
 
 /// Where an attribute stands in the buffer: its name from `start` to `middle`, its value from there to `end`.
 #[derive(Clone, Copy, Drop)]
 pub(crate) struct Row {
-    start: usize,
-    middle: usize,
-    end: usize,
+    pub(crate) start: usize,
+    pub(crate) middle: usize,
+    pub(crate) end: usize,
 }
 
 /// Names and values one after another in one buffer: those of the attributes that are whole, and of the one that is read.
@@ -200,45 +198,45 @@ impl Attributes {
         ensures repeated { IfOk result (λ repeated. repeated ≡ has_repeat self.old.whole) }
         ensures err { OnErr result (self.new ≡ self.old) }
     {
-        if self.rows.len() < 2 {
+        let Some(kept) = unrepeated(alloc, &self.text, &self.rows)? else {
             return Ok(false);
-        }
-        let kept = first_rows(alloc, &self.text, &self.rows)?;
-        if kept.len() == self.rows.len() {
-            return Ok(false);
-        }
+        };
         self.rows = kept;
         Ok(true)
     }
-}
 
-// The rows whose names stand in no row before them.
-fn first_rows(alloc: Global, text: &[u8], rows: &[Row]) -> Result<Vec<Row>, NoMemory>
-    requires { RowsFit text.now (length text.now) rows.now }
-    ensures read { IfOk result (λ kept. rows_read text.now kept.items ≡ firsts (rows_read text.now rows.now)) }
-    ensures fit { IfOk result (λ kept. (limit : ℕ) → RowsFit text.now limit rows.now → RowsFit text.now limit kept.items) }
-{
-    let mut names = BTreeSet::new(alloc);
-    let mut kept = Vec::new(alloc);
-    for row in rows {
-        if !add_name(&mut names, text_between(text, row.start, row.middle))? {
-            continue;
-        }
-        if kept.push(*row).is_err() {
+    /// The attribute is whole, and it is the last one. Forgets each whose name stands before it, and tells whether there was
+    /// one.
+    pub(crate) fn add_last(&mut self, alloc: Global) -> Result<bool, NoMemory>
+        ensures kept { OnOk result (self.new ≡ record { whole = firsts (self.old.whole ++ (self.old.key, self.old.known ++ self.old.pending) ∷ []); key = []; known = []; pending = [] }) }
+        ensures repeated { IfOk result (λ repeated. repeated ≡ has_repeat (self.old.whole ++ (self.old.key, self.old.known ++ self.old.pending) ∷ [])) }
+        ensures err { OnErr result (self.new ≡ self.old) }
+    {
+        let count = self.rows.len();
+        let end = self.text.len();
+        let row = Row {
+            start: self.start,
+            middle: self.middle,
+            end,
+        };
+        if self.rows.push(row).is_err() {
             return Err(NoMemory);
         }
-    }
-    Ok(kept)
-}
-
-// Adds a name, and tells whether it is new.
-fn add_name<'a>(names: &mut BTreeSet<&'a str>, name: &'a str) -> Result<bool, NoMemory>
-    ensures is_new { IfOk result (λ is_new. is_new ≡ not (has_text names.old name.now)) }
-    ensures added { OnOk result ((text : List ℕ) → has_text names.new text ≡ (same name.now text || has_text names.old text)) }
-{
-    match names.insert(name) {
-        Ok(is_new) => Ok(is_new),
-        Err(_) => Err(NoMemory),
+        let kept = match unrepeated(alloc, &self.text, &self.rows) {
+            Ok(kept) => kept,
+            Err(NoMemory) => {
+                self.rows.truncate(count);
+                return Err(NoMemory);
+            }
+        };
+        self.start = end;
+        self.middle = end;
+        self.end = end;
+        let Some(rows) = kept else {
+            return Ok(false);
+        };
+        self.rows = rows;
+        Ok(true)
     }
 }
 
@@ -253,7 +251,7 @@ fn push_char(text: &mut Vec<u8>, c: char) -> Result<(), NoMemory>
 }
 
 // The bytes from one place to another. They are known to be UTF-8, so they aren't looked at again.
-fn text_between(bytes: &[u8], start: usize, end: usize) -> &str
+pub(crate) fn text_between(bytes: &[u8], start: usize, end: usize) -> &str
     requires rises { start ≤ end }
     requires within { end ≤ length bytes.now }
     requires utf8 { IsUtf8 (piece bytes.now start end) }

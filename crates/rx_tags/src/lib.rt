@@ -1,20 +1,17 @@
 //! One tag of a page, read a character at a time and lent as slices.
 //!
-//! [`TagBuf::step`] answers exactly what the reader of rx_reader does with the characters after a tag's `<`, in HTML and in
-//! XHTML. By the grammar, `Done` comes where these characters spell a tag, which is the one that is lent; `More` where they
-//! begin a tag and spell none; and `Bad` where nothing that spells a tag goes on from them. A whole [`Tag`] lends its name,
-//! and the names and values of its attributes, from the buffer in which they were decoded, and the buffer keeps its memory
-//! from tag to tag.
-//!
-//! Of the faults BadTag is proved to come where no tag goes on so, whatever its values hold, and RepeatedAttribute to be
-//! the grammar's `TagFault`. That UnknownReference, BadReference and StrictText are its `TagFault` too, and that no such
-//! fault stands before a BadTag, isn't proved: there the kind and the character are the reader's.
+//! [`TagBuf::step`] answers `Done` exactly where the characters after a tag's `<` spell a tag, which is the one that is
+//! lent; `More` exactly where they begin one in which no fault stands, and spell none; and `Bad` exactly where the last of
+//! them decides the tag's fault, with its kind, in HTML and in XHTML. Only want of memory is free: it leaves the tag as it
+//! was. A whole [`Tag`] lends its name, and the names and values of its attributes, from the buffer in which they were
+//! decoded, and the buffer keeps its memory from tag to tag.
 #![tactic(auto)]
 
 mod attributes;
 mod moves;
 mod pairs;
 mod references;
+mod repeats;
 mod stops;
 mod tag_buf;
 mod tag_text;

@@ -157,6 +157,7 @@ impl Pairs {
 impl Pairs {
     ghost use Rattle.std.specs.Prelude.{IfOk};
     ghost use Rattle.rx_grammar.specs.Tags.{firsts, has_repeat};
+    ghost use Rattle.rx_tags.specs.Pairs.{AddLastGives};
 
     /// Forgets each attribute whose name stands before it, and tells whether there was one.
     pub(crate) fn keep_firsts(&mut self, alloc: Global) -> Result<bool, NoMemory>
@@ -165,6 +166,24 @@ impl Pairs {
         ensures err { OnErr result (self.new ≡ self.old) }
     {
         self.attributes.keep_firsts(alloc)
+    }
+
+    /// The attribute that is read is whole, and the last one. Forgets each whose name stands before it, and tells whether
+    /// there was one.
+    pub(crate) fn add_last(&mut self, syntax: Syntax, alloc: Global) -> Result<bool, TagError>
+        ensures gives { AddLastGives syntax self.old result self.new }
+        ensures err { OnErr result (self.new ≡ self.old) }
+    {
+        if !may_end(syntax, self.run) {
+            return Err(TagError::Bad(Kind::StrictText));
+        }
+        match self.attributes.add_last(alloc) {
+            Ok(repeated) => {
+                self.run = RunPhase::Plain;
+                Ok(repeated)
+            }
+            Err(NoMemory) => Err(TagError::NoMemory),
+        }
     }
 }
 

@@ -4,7 +4,7 @@ ghost use Rattle.rx_terms.specs.Text.{Chars};
 ghost use Rattle.rx_reader.specs.Tables.{is_last};
 ghost use Rattle.rx_reader.specs.TagReader.{parts_of};
 ghost use Rattle.rx_tags.specs.Seen.{tag_seen};
-ghost use Rattle.rx_tags.specs.TagBufs.{no_tag, MayStep, StepGives, Stands, StepTells};
+ghost use Rattle.rx_tags.specs.TagBufs.{no_tag, MayStep, StepGives, Stands, StepTells, AnswersAll};
 
 use crate::pairs::TagError;
 use crate::tag_text::{TagStep, TagText};
@@ -15,13 +15,12 @@ use std::alloc::Global;
 use std::marker::Model;
 
 /// Reads the characters of one tag after its `<`, and lends the tag when it is whole. A contract sees how the reader
-/// stands after these characters, and whether a fault or want of memory was answered.
+/// stands after these characters, and whether a fault was answered.
 #[derive(Drop)]
 pub struct TagBuf {
     text: TagText,
     alloc: Global,
     refused: bool,
-    spent: bool,
 }
 
 impl Model for TagBuf {
@@ -29,7 +28,7 @@ impl Model for TagBuf {
 
     ghost Value = { TagSoFar };
 
-    ghost view = { λ buf. record { syntax = buf.text.syntax; state = buf.text.state; refused = buf.refused; spent = buf.spent } };
+    ghost view = { λ buf. record { syntax = buf.text.syntax; state = buf.text.state; refused = buf.refused } };
 }
 
 impl TagBuf {
@@ -41,17 +40,18 @@ impl TagBuf {
             text: TagText::new(alloc, syntax),
             alloc,
             refused: false,
-            spent: false,
         })
     }
 
-    /// Reads the tag's next character. `Done` comes exactly at the tag's `>`. `Bad` comes exactly where the reader has a
-    /// fault at this character, with its kind: BadTag, UnknownReference, BadReference, StrictText, and at the `>` in XHTML
-    /// RepeatedAttribute. After want of memory nothing else is answered until the tag is cleared.
+    /// Reads the tag's next character. `Done` comes exactly where the characters spell a tag, which ends at this `>`.
+    /// `More` comes exactly where they begin one in which no fault stands, and spell none yet. `Bad` comes exactly where
+    /// this character decides the tag's fault, with its kind: BadTag, UnknownReference, BadReference, StrictText, or at
+    /// the `>` in XHTML RepeatedAttribute. Want of memory leaves the tag as it was before this character.
     pub fn step(&mut self, c: char) -> Result<TagStep, TagError>
         requires { MayStep self.old }
         ensures gives { StepGives self.old c result self.new }
         ensures tells { (chars : Chars) → Stands self.old chars → StepTells (chars ++ c ∷ []) result self.new }
+        ensures answers { (chars : Chars) → Stands self.old chars → AnswersAll self.old.syntax (chars ++ c ∷ []) result }
     {
         self.read(c)
     }
@@ -60,9 +60,6 @@ impl TagBuf {
         requires { MayStep self.old }
         ensures { StepGives self.old c result self.new }
     {
-        if self.spent {
-            return Err(TagError::NoMemory);
-        }
         match self.text.step(self.alloc, c) {
             Ok(step) => Ok(step),
             Err(TagError::Bad(kind)) => {
@@ -70,11 +67,7 @@ impl TagBuf {
                 self.refused = true;
                 Err(TagError::Bad(kind))
             }
-            Err(TagError::NoMemory) => {
-                self.text.clear();
-                self.spent = true;
-                Err(TagError::NoMemory)
-            }
+            Err(TagError::NoMemory) => Err(TagError::NoMemory),
         }
     }
 
@@ -94,6 +87,5 @@ impl TagBuf {
     {
         self.text.clear();
         self.refused = false;
-        self.spent = false;
     }
 }

@@ -3,7 +3,7 @@ ghost use Rattle.std.specs.Prelude.{◌≡◌, [], ◌∷◌, ◌++◌, ◌&&◌
 ghost use Rattle.std.specs.Str.{chars};
 ghost use Rattle.rx_reader.specs.Tables.{is_html};
 ghost use Rattle.rx_reader.specs.Values.{no_value_yet};
-ghost use Rattle.rx_tags.specs.TagReads.{ActGives};
+ghost use Rattle.rx_tags.specs.TagReads.{ActGives, CanEnd, EndGives};
 
 use crate::moves::{is_last, move_at};
 use crate::pairs::{Pairs, TagError};
@@ -46,7 +46,6 @@ impl Model for TagText {
 }
 
 impl TagText {
-    ghost use Rattle.rx_tags.specs.TagReads.{MoveGives};
     ghost use Rattle.rx_reader.specs.TagReader.{fresh};
 
     pub(crate) fn new(alloc: Global, syntax: Syntax) -> TagText
@@ -68,59 +67,51 @@ impl TagText {
         self.name.clear();
         self.pairs.clear();
     }
-
-    /// Reads one more character. Names that stand twice aren't looked at.
-    pub(crate) fn read(&mut self, c: char) -> Result<(), TagError>
-        ensures gives { MoveGives self.old c result self.new }
-        ensures syntax { self.new.syntax ≡ self.old.syntax }
-        ensures err { OnErr result (self.new ≡ self.old) }
-    {
-        let Some((phase, action)) = move_at(self.syntax, self.phase, c) else {
-            return Err(TagError::Bad(Kind::BadTag));
-        };
-        match act(self.syntax, action, c, &mut self.name, &mut self.pairs) {
-            Ok(()) => {
-                self.phase = phase;
-                Ok(())
-            }
-            Err(error) => Err(error),
-        }
-    }
 }
 
 impl TagText {
-    ghost use Rattle.rx_tags.specs.TagReads.{ReadGives, FinishGives};
+    ghost use Rattle.rx_tags.specs.TagReads.{ReadGives, EndsTag, FinishGives, KeepsAtNoMemory};
 
     /// Reads one more character, and at the tag's `>` keeps the first attribute of each name.
     pub(crate) fn step(&mut self, alloc: Global, c: char) -> Result<TagStep, TagError>
         ensures gives { ReadGives self.old c result self.new.state }
         ensures syntax { self.new.syntax ≡ self.old.syntax }
+        ensures memory { KeepsAtNoMemory result self.old self.new }
     {
-        match self.read(c) {
-            Ok(()) => {}
-            Err(error) => return Err(error),
+        let Some((phase, action)) = move_at(self.syntax, self.phase, c) else {
+            return Err(TagError::Bad(Kind::BadTag));
+        };
+        if is_last(phase) {
+            return match self.finish(alloc, phase, action) {
+                Ok(()) => Ok(TagStep::Done),
+                Err(error) => Err(error),
+            };
         }
-        if !is_last(self.phase) {
-            return Ok(TagStep::More);
-        }
-        match self.finish(alloc) {
-            Ok(()) => Ok(TagStep::Done),
+        match act(self.syntax, action, c, &mut self.name, &mut self.pairs) {
+            Ok(()) => {
+                self.phase = phase;
+                Ok(TagStep::More)
+            }
             Err(error) => Err(error),
         }
     }
 
-    fn finish(&mut self, alloc: Global) -> Result<(), TagError>
-        ensures gives { FinishGives self.old result self.new.state }
+    // The tag's `>`, which ends the last attribute or does nothing.
+    fn finish(&mut self, alloc: Global, phase: TagPhase, action: TagAction) -> Result<(), TagError>
+        requires { EndsTag phase action self.old.state.value }
+        ensures gives { FinishGives self.old phase action result self.new.state }
         ensures syntax { self.new.syntax ≡ self.old.syntax }
+        ensures memory { KeepsAtNoMemory result self.old self.new }
     {
-        match self.pairs.keep_firsts(alloc) {
+        match end_pairs(self.syntax, action, alloc, &mut self.pairs) {
             Ok(repeated) => {
+                self.phase = phase;
                 if refuses(self.syntax, repeated) {
                     return Err(TagError::Bad(Kind::RepeatedAttribute));
                 }
                 Ok(())
             }
-            Err(NoMemory) => Err(TagError::NoMemory),
+            Err(error) => Err(error),
         }
     }
 }
@@ -183,6 +174,26 @@ fn act(
         TagAction::Value => pairs.take(syntax, c),
         TagAction::Add => pairs.add(syntax),
         TagAction::AddKey => pairs.add_key(syntax, cased(syntax, c)),
+    }
+}
+
+// Ends the last attribute or does nothing, and keeps of those of one name the first. Tells whether a name stood twice.
+fn end_pairs(
+    syntax: Syntax,
+    action: TagAction,
+    alloc: Global,
+    pairs: &mut Pairs,
+) -> Result<bool, TagError>
+    requires { CanEnd action pairs.old.value }
+    ensures gives { EndGives syntax action pairs.old result pairs.new }
+    ensures err { OnErr result (pairs.new ≡ pairs.old) }
+{
+    if action == TagAction::Add {
+        return pairs.add_last(syntax, alloc);
+    }
+    match pairs.keep_firsts(alloc) {
+        Ok(repeated) => Ok(repeated),
+        Err(NoMemory) => Err(TagError::NoMemory),
     }
 }
 

@@ -1,0 +1,29 @@
+-- Names are compared with words of ASCII as their bytes are.
+use Rattle.std.proofs.Common.{◌≡◌, ◌∙◌, ℕ, Bool, true, cond, List, [], ◌∷◌, refl, ap, Option, Some, None}
+use Rattle.std.specs.Prelude.{◌||◌, ◌&&◌, nat_eq, codes}
+use Rattle.std.specs.Str.{chars, IsUtf8}
+use Rattle.std.specs.List.{list_all, list_any}
+use Rattle.std.specs.Cmp.Lexicographic.{pointwise}
+use Rattle.std.proofs.lemmas.Bool.{and_parts}
+use Rattle.rx_terms.specs.Ascii.{is_ascii}
+use Rattle.rx_terms.specs.Text.{Chars}
+use Rattle.rx_terms.proofs.CharLemmas.{same-ascii}
+use Rattle.rx_grammar.specs.Names.{same, is_among, row_among, row_of, omissible_rows}
+
+abbrev pub are_ascii : List Chars → Bool
+are_ascii names = list_all (list_all is_ascii) names
+
+pub among-chars : (names : List Chars) → are_ascii names ≡ true → (bs : List ℕ) → IsUtf8 bs → is_among names bs ≡ is_among names (chars bs)
+among-chars [] h bs u = refl
+among-chars (name ∷ names) h bs u =
+    let p = and_parts (list_all is_ascii name) (are_ascii names) h in
+    rw (same-ascii bs name u p.0, among-chars names p.1 bs u) refl
+
+abbrev pub rows_ascii : List (Chars × List Chars) → Bool
+rows_ascii rows = list_all (λ row. list_all is_ascii row.0) rows
+
+pub row-chars : (rows : List (Chars × List Chars)) → rows_ascii rows ≡ true → (bs : List ℕ) → IsUtf8 bs → row_among rows bs ≡ row_among rows (chars bs)
+row-chars [] h bs u = refl
+row-chars (row ∷ rows) h bs u =
+    let p = and_parts (list_all is_ascii row.0) (rows_ascii rows) h in
+    rw (same-ascii bs row.0 u p.0, row-chars rows p.1 bs u) refl

@@ -1,0 +1,27 @@
+-- The rows are of ASCII, and so are the names that choose a content.
+use Rattle.std.proofs.Common.{◌≡◌, ◌∙◌, ℕ, Bool, true, cond, List, [], ◌∷◌, refl, ap}
+use Rattle.std.specs.Prelude.{codes}
+use Rattle.std.specs.Str.{chars, IsUtf8}
+use Rattle.rx_terms.proofs.CharLemmas.{same-ascii}
+use Rattle.rx_grammar.specs.Contents.{inside_html}
+use Rattle.rx_nest.specs.Rows.{row_seen}
+use Rattle.rx_nest.specs.declared.tables.Row.{Row}
+use Rattle.rx_nest.specs.declared.tables.Row.TheVariants.{Item, Definition, Paragraph, Choice, Part, TableRow, Cell}
+use Rattle.rx_nest.proofs.NameLemmas.{are_ascii}
+
+pub row_ascii : (row : Row) → are_ascii (row_seen row) ≡ true
+row_ascii Item = refl
+row_ascii Definition = refl
+row_ascii Paragraph = refl
+row_ascii Choice = refl
+row_ascii Part = refl
+row_ascii TableRow = refl
+row_ascii Cell = refl
+
+pub inside-chars : (bs : List ℕ) → IsUtf8 bs → inside_html bs ≡ inside_html (chars bs)
+inside-chars bs u =
+    rw (
+      same-ascii bs (codes "svg") u refl, same-ascii bs (codes "math") u refl, same-ascii bs (codes "script") u refl, same-ascii bs (codes "style") u refl,
+      same-ascii bs (codes "iframe") u refl, same-ascii bs (codes "noembed") u refl, same-ascii bs (codes "noframes") u refl, same-ascii bs (codes "xmp") u refl,
+      same-ascii bs (codes "title") u refl, same-ascii bs (codes "textarea") u refl,
+    ) refl

@@ -1,0 +1,340 @@
+-- A tag is taken as the tables of nesting say.
+use Rattle.std.proofs.Common.{◌≡◌, ◌∙◌, ⊎_elim, ℕ, zero, suc, ◌+◌, Bool, true, false, cond, List, [], ◌∷◌, ◌++◌, refl, sym, ap, subst, length, nat_le, Option, Some, None, Result, Ok, Err}
+use Rattle.std.specs.Prelude.{◌&&◌, ◌||◌, not, map, drop, if◌then◌else◌}
+use Rattle.rx_terms.specs.Text.{Chars}
+use Rattle.rx_chars.specs.declared.syntax.Syntax.{Syntax}
+use Rattle.rx_reader.proofs.Bools.{by_test}
+use Rattle.rx_grammar.specs.declared.faults.Kind.{Kind}
+use Rattle.rx_grammar.specs.declared.faults.Kind.TheVariants.{TooDeep, NothingOpen, Mismatch}
+use Rattle.rx_grammar.specs.Names.{same}
+use Rattle.rx_grammar.specs.Tokens.{Tag, tag}
+use Rattle.rx_grammar.specs.Contents.{Place, is_alone, hides, drops_line_feed, place_in}
+use Rattle.rx_grammar.specs.Trees.{StartTag}
+use Rattle.rx_grammar.specs.Items.{Item, start_of}
+use Rattle.rx_grammar.specs.Omission.{is_held}
+use Rattle.rx_grammar.specs.Begun.{Line, inside_of, parent_of, Phase, before, within, after}
+use Rattle.rx_grammar.specs.PageFaults.{Rows, first_row, tag_rows, start_rows, end_rows, after_start, under_start, after_end, is_innermost, is_no_line, has_ended, is_before}
+use Rattle.rx_pages.specs.Nesting.{Nesting, Event, begins, finishes, Step, nest_step, step_by, unless_refused, over, line_above, ended_under, ended_by_end, begun_under, tag_passes}
+use Rattle.rx_nest.specs.declared.lines.Told.{Told}
+use Rattle.rx_nest.specs.declared.lines.Refused.{Refused}
+use Rattle.rx_nest.specs.declared.lines.Refused.TheVariants.{Fault, NoMemory}
+use Rattle.rx_nest.specs.declared.lines.Own.{Own}
+use Rattle.rx_nest.specs.declared.lines.Own.TheVariants.{Alone, Begin, Finish, Nothing}
+use Rattle.rx_nest.specs.Levels.{Level, Levels, row_at, place_under, name_under, hidden_under, ends_by, kept, ended}
+use Rattle.rx_nest.specs.Lines.{Lines, start_refusals, is_none_open, is_named, kept_at_start, ended_at_start, level_under, own_of_start, TagGives, GivesBy, is_room, Begins, own_of_end, shown_under, Ends, drops_under}
+use Rattle.rx_nest.specs.Signs.{Sign, begun, finished, Flags, Sight, sees, see, ended_sight, finishing, is_hidden}
+use Rattle.rx_nest.specs.Follows.{AreLevels, Follows, flags_of, phase_at, phase_over, own_signs, own_tag, tag_by}
+use Rattle.rx_nest.proofs.LineLemmas.{place_is, name_is, length_is, none_is, named_is, under_kept, under_seen, end_kept, end_seen}
+
+rows_none : (rows : Rows) (row : Bool × Kind) → first_row rows ≡ None → first_row (rows ++ row ∷ []) ≡ first_row (row ∷ [])
+rows_none [] row h = refl
+rows_none (r ∷ rows) row h =
+    by_test r.0 (λ e. absurd (none_some (sym (ap (λ b. cond b (Some r.1) (first_row rows)) (sym e) ∙ h)))) (λ e. rw e (rows_none rows row (ap (λ b. cond b (Some r.1) (first_row rows)) (sym e) ∙ h)))
+  where
+    none_some : None ≡ Some r.1 → ⊥
+    none_some p = cc
+
+pub rows_some : (rows : Rows) (row : Bool × Kind) (kind : Kind) → first_row rows ≡ Some kind → first_row (rows ++ row ∷ []) ≡ Some kind
+rows_some [] row kind h = absurd (cc)
+rows_some (r ∷ rows) row kind h =
+    by_test r.0 (λ e. rw e (ap (λ b. cond b (Some r.1) (first_row rows)) (sym e) ∙ h)) (λ e. rw e (rows_some rows row kind (ap (λ b. cond b (Some r.1) (first_row rows)) (sym e) ∙ h)))
+
+-- the phase is told by what is kept
+ended_is : (b : Bool) (levels : Levels) (stood : Bool) → has_ended (phase_at b levels stood) ≡ (b && is_none_open levels)
+ended_is false levels stood = refl
+ended_is true [] stood = refl
+ended_is true (level ∷ levels) stood = refl
+
+before_is : (b : Bool) (levels : Levels) (stood : Bool) → is_before (phase_at b levels stood) ≡ not b
+before_is false levels stood = refl
+before_is true [] stood = refl
+before_is true (level ∷ levels) stood = refl
+
+module _ (l : Lines) (n : Nesting) (f : Follows l n) where
+  pub refusals_are : (t : Tag) → start_rows l.syntax l.depth n.line n.phase t ≡ start_refusals l t ++ (nat_le l.depth (length (kept_at_start t.name l.levels)), TooDeep) ∷ []
+  refusals_are t =
+      rw (
+        f.phase_is, ended_is l.begun l.levels f.stood, before_is l.begun l.levels f.stood,
+        sym (length_is l.syntax (kept_at_start t.name l.levels) (under_start l.syntax t.name n.line) (under_kept l.syntax t.name l.levels n.line f.levels_are)), sym (place_is l.syntax l.levels n.line f.levels_are),
+      ) refl
+
+  -- a refused tag
+  pub start_refused : (t : Tag) (kind : Kind) → first_row (start_refusals l t) ≡ Some kind → first_row (start_rows l.syntax l.depth n.line n.phase t) ≡ Some kind
+  start_refused t kind h = ap first_row (refusals_are t) ∙ rows_some (start_refusals l t) _ kind h
+
+  pub start_deep : (t : Tag) → first_row (start_refusals l t) ≡ None → is_room l t ≡ false → first_row (start_rows l.syntax l.depth n.line n.phase t) ≡ Some TooDeep
+  start_deep t h r =
+      ap first_row (refusals_are t) ∙ (rows_none (start_refusals l t) _ h
+      ∙ by_test (nat_le l.depth (length (kept_at_start t.name l.levels))) (λ e. rw e refl) (λ e. absurd (true_false (sym (ap not e) ∙ r))))
+    where
+      true_false : true ≡ false → ⊥
+      true_false p = cc
+
+  pub start_passes : (t : Tag) → first_row (start_refusals l t) ≡ None → is_room l t ≡ true → first_row (start_rows l.syntax l.depth n.line n.phase t) ≡ None
+  start_passes t h r =
+      ap first_row (refusals_are t) ∙ (rows_none (start_refusals l t) _ h
+      ∙ by_test (nat_le l.depth (length (kept_at_start t.name l.levels))) (λ e. absurd (false_true (sym (ap not e) ∙ r))) (λ e. rw e refl))
+    where
+      false_true : false ≡ true → ⊥
+      false_true p = cc
+
+  -- an end tag
+  pub end_refusals_are : (t : Tag) → end_rows l.syntax n.line t ≡ (is_none_open l.levels, NothingOpen) ∷ (not (is_named t.name (kept (ends_by true t.name) l.levels)), Mismatch) ∷ []
+  end_refusals_are t =
+      rw (
+        sym (none_is l.syntax l.levels n.line f.levels_are),
+        sym (named_is l.syntax t.name (kept (ends_by true t.name) l.levels) (after_end l.syntax t.name n.line) (end_kept l.syntax t.name l.levels n.line f.levels_are)),
+      ) refl
+
+-- what a tag leads to and shows
+pub record Taken (l : Lines) (n : Nesting) (item : Item) (told : Told) (new : Lines) : Type 0 where
+  pub step : Step
+  pub is_step : nest_step l.syntax l.depth n item ≡ Ok step
+  pub follows : Follows new step.next
+  pub drops_is : step.next.drops ≡ told.drops
+  pub seen : (signs : List Sign) → sees (record { flags = flags_of l.levels; signs = signs }) step.events ≡ record { flags = flags_of new.levels; signs = (signs ++ finishing told.ends) ++ own_signs told.own (own_tag item) }
+
+-- the phase after an element that is its start tag alone
+over_phase : (syntax : Syntax) (levels : Levels) (line : Line) (stood : Bool) → AreLevels syntax levels line → (over line).phase ≡ phase_at true levels stood
+over_phase syntax [] [] stood h = refl
+over_phase syntax [] (t ∷ above) stood h = elim h [ ]
+over_phase syntax (level ∷ levels) [] stood h = elim h [ ]
+over_phase syntax (level ∷ levels) (t ∷ above) stood h = refl
+
+over_line : (line : Line) → (over line).line ≡ line
+over_line [] = refl
+over_line (t ∷ above) = refl
+
+over_drops : (line : Line) → (over line).drops ≡ false
+over_drops [] = refl
+over_drops (t ∷ above) = refl
+
+hidden_flags : (levels : Levels) → is_hidden (flags_of levels) ≡ hidden_under levels
+hidden_flags [] = refl
+hidden_flags (level ∷ levels) = refl
+
+append_assoc : (a b c : List Sign) → (a ++ b) ++ c ≡ a ++ (b ++ c)
+append_assoc [] b c = refl
+append_assoc (x ∷ a) b c = ap (λ l. x ∷ l) (append_assoc a b c)
+
+append_nil : (a : List Sign) → a ++ [] ≡ a
+append_nil [] = refl
+append_nil (x ∷ a) = ap (λ l. x ∷ l) (append_nil a)
+
+module _ (flags : Flags) (signs : List Sign) (s : StartTag) (h : Bool) where
+  abbrev alone_seen : Bool → Sight
+  alone_seen hidden = sees (if hidden then record { flags = (false, true) ∷ flags; signs = signs } else record { flags = (true, h) ∷ flags; signs = signs ++ begun s ∷ [] }) (finishes ∷ [])
+
+  alone_shows : (hidden : Bool) → alone_seen hidden ≡ record { flags = flags; signs = signs ++ own_signs (if hidden then Nothing else Alone) s }
+  alone_shows true = refl
+  alone_shows false = ap (λ l. record { flags = flags; signs = l }) (append_assoc signs (begun s ∷ []) (finished ∷ []))
+
+  begin_shows : (hidden : Bool) → sees (if hidden then record { flags = (false, true) ∷ flags; signs = signs } else record { flags = (true, h) ∷ flags; signs = signs ++ begun s ∷ [] }) []
+      ≡ record { flags = (not hidden, hidden || h) ∷ flags; signs = signs ++ own_signs (if hidden then Nothing else Begin) s }
+  begin_shows true = ap (λ l. record { flags = (false, true) ∷ flags; signs = l }) (sym (append_nil signs))
+  begin_shows false = refl
+
+-- the step of a start tag, by whether it is the whole element
+module _ (syntax : Syntax) (depth : ℕ) (n : Nesting) (item : Item) (t : Tag) (is_tag : item.token ≡ tag t) (is_start : t.closing ≡ false) where
+  abbrev line : Line
+  line = under_start syntax t.name n.line
+
+  abbrev start_step : Bool → Step
+  start_step alone =
+      if alone then record { next = over line; events = ended_under syntax t.name n.line ++ begins (start_of item t) (hides (inside_of syntax line) t) ∷ finishes ∷ [] }
+      else record {
+        next = record { line = start_of item t ∷ line; phase = within; drops = drops_line_feed (inside_of syntax line) t };
+        events = ended_under syntax t.name n.line ++ begins (start_of item t) (hides (inside_of syntax line) t) ∷ [];
+      }
+
+  pub start_steps : first_row (start_rows syntax depth n.line n.phase t) ≡ None → nest_step syntax depth n item ≡ Ok (start_step (is_alone syntax (inside_of syntax line) t))
+  start_steps h =
+      ap (λ token. step_by syntax depth n item token) is_tag
+      ∙ (ap (λ closing. unless_refused (first_row (if closing then end_rows syntax n.line t else start_rows syntax depth n.line n.phase t)) (if closing then ended_step else begun_step)) is_start
+      ∙ ap (λ row. unless_refused row begun_step) h)
+    where
+      ended_step : Step
+      ended_step = record { next = over (line_above (after_end syntax t.name n.line)); events = ended_by_end syntax t.name n.line ++ finishes ∷ [] }
+      begun_step : Step
+      begun_step = start_step (is_alone syntax (inside_of syntax line) t)
+
+-- what the levels and the elements become
+abbrev next_of : Syntax → Line → Item → Tag → Bool → Nesting
+next_of syntax line item t alone = if alone then over line else record { line = start_of item t ∷ line; phase = within; drops = drops_line_feed (inside_of syntax line) t }
+
+abbrev events_of : Syntax → Line → Item → Tag → Bool → List Event
+events_of syntax line item t alone = if alone then begins (start_of item t) (hides (inside_of syntax line) t) ∷ finishes ∷ [] else begins (start_of item t) (hides (inside_of syntax line) t) ∷ []
+
+abbrev levels_of : Syntax → Levels → Tag → Bool → Levels
+levels_of syntax levels t alone = if alone then levels else level_under syntax t levels ∷ levels
+
+step_next : (syntax : Syntax) (depth : ℕ) (n : Nesting) (item : Item) (t : Tag) (e : item.token ≡ tag t) (o : t.closing ≡ false) (alone : Bool) → (start_step syntax depth n item t e o alone).next ≡ next_of syntax (under_start syntax t.name n.line) item t alone
+step_next syntax depth n item t e o true = refl
+step_next syntax depth n item t e o false = refl
+
+step_events : (syntax : Syntax) (depth : ℕ) (n : Nesting) (item : Item) (t : Tag) (e : item.token ≡ tag t) (o : t.closing ≡ false) (alone : Bool)
+    → (start_step syntax depth n item t e o alone).events ≡ ended_under syntax t.name n.line ++ events_of syntax (under_start syntax t.name n.line) item t alone
+step_events syntax depth n item t e o true = refl
+step_events syntax depth n item t e o false = refl
+
+module _ (syntax : Syntax) (levels : Levels) (line : Line) (item : Item) (t : Tag) (stood : Bool) (are : AreLevels syntax levels line) where
+  next_levels : (alone : Bool) → AreLevels syntax (levels_of syntax levels t alone) (next_of syntax line item t alone).line
+  next_levels true = subst (λ (x : Line). AreLevels syntax levels x) (sym (over_line line)) are
+  next_levels false =
+      (refl, ap (λ (p : Place). place_in syntax p t.name) (place_is syntax levels line are), ap (λ (p : Place). row_at p t.name) (place_is syntax levels line are),
+        ap (λ name. is_held name t.name) (name_is syntax levels line are), are)
+
+  next_phase : (alone : Bool) → (next_of syntax line item t alone).phase ≡ phase_at true (levels_of syntax levels t alone) stood
+  next_phase true = over_phase syntax levels line stood are
+  next_phase false = refl
+
+  next_drops : (alone : Bool) → (next_of syntax line item t alone).drops ≡ (not alone && drops_line_feed (place_under levels) t)
+  next_drops true = over_drops line
+  next_drops false = ap (λ (p : Place). drops_line_feed p t) (sym (place_is syntax levels line are))
+
+  -- and what is shown
+  abbrev own_of : Bool → Own
+  own_of alone = if hidden_under levels then Nothing else if alone then Alone else Begin
+
+  next_seen : (alone : Bool) (signs : List Sign) → sees (record { flags = flags_of levels; signs = signs }) (events_of syntax line item t alone) ≡ record { flags = flags_of (levels_of syntax levels t alone); signs = signs ++ own_signs (own_of alone) (start_of item t) }
+  next_seen true signs =
+      ap (λ b. alone_seen (flags_of levels) signs (start_of item t) (hides (inside_of syntax line) t) b) (hidden_flags levels)
+      ∙ alone_shows (flags_of levels) signs (start_of item t) (hides (inside_of syntax line) t) (hidden_under levels)
+  next_seen false signs =
+      ap (λ b. sees (if b then record { flags = (false, true) ∷ flags_of levels; signs = signs } else record { flags = (true, hides (inside_of syntax line) t) ∷ flags_of levels; signs = signs ++ begun (start_of item t) ∷ [] }) []) (hidden_flags levels)
+      ∙ (begin_shows (flags_of levels) signs (start_of item t) (hides (inside_of syntax line) t) (hidden_under levels)
+      ∙ ap (λ (p : Place). record { flags = (not (hidden_under levels), hidden_under levels || hides p t) ∷ flags_of levels; signs = signs ++ own_signs (if hidden_under levels then Nothing else Begin) (start_of item t) }) (sym (place_is syntax levels line are)))
+
+
+-- a start tag is taken
+pub start_taken : (l new : Lines) (n : Nesting) (item : Item) (t : Tag) (told : Told) → Follows l n → item.token ≡ tag t → t.closing ≡ false → Begins l t told new → Taken l n item told new
+start_taken l new n item t told f is_tag is_start b =
+    let ls : Levels = kept_at_start t.name l.levels in
+    let line : Line = under_start l.syntax t.name n.line in
+    let are : AreLevels l.syntax ls line = under_kept l.syntax t.name l.levels n.line f.levels_are in
+    let alone : Bool = is_alone l.syntax (inside_of l.syntax line) t in
+    let same_alone : is_alone l.syntax (place_under ls) t ≡ alone = ap (λ (p : Place). is_alone l.syntax p t) (place_is l.syntax ls line are) in
+    let becomes : Bool → Lines = λ a. record { syntax = l.syntax; depth = l.depth; begun = true; levels = levels_of l.syntax ls t a } in
+    let is : new ≡ becomes alone = b.becomes ∙ ap becomes same_alone in
+    let own : told.own ≡ own_of l.syntax ls line item t f.stood are alone = b.own ∙ ap (λ a. own_of l.syntax ls line item t f.stood are a) same_alone in
+    let tag_is : own_tag item ≡ start_of item t = ap (λ token. tag_by item token) is_tag in
+    record {
+      step = start_step l.syntax l.depth n item t is_tag is_start alone;
+      is_step = start_steps l.syntax l.depth n item t is_tag is_start (start_passes l n f t b.allowed b.room);
+      follows =
+        subst (λ (x : Lines). Follows x (start_step l.syntax l.depth n item t is_tag is_start alone).next) (sym is)
+        (subst (λ (m : Nesting). Follows (becomes alone) m) (sym (step_next l.syntax l.depth n item t is_tag is_start alone))
+        (record { levels_are = next_levels l.syntax ls line item t f.stood are alone; stood = f.stood; phase_is = next_phase l.syntax ls line item t f.stood are alone; none_yet = λ e. absurd (cc) }));
+      drops_is =
+        ap (λ (m : Nesting). m.drops) (step_next l.syntax l.depth n item t is_tag is_start alone)
+        ∙ (next_drops l.syntax ls line item t f.stood are alone ∙ (ap (λ a. not a && drops_line_feed (place_under ls) t) (sym same_alone) ∙ sym b.drops));
+      seen = λ signs.
+        ap (λ events. sees (record { flags = flags_of l.levels; signs = signs }) events) (step_events l.syntax l.depth n item t is_tag is_start alone)
+        ∙ (under_seen l.syntax t.name l.levels n.line signs (events_of l.syntax line item t alone) f.levels_are
+        ∙ (next_seen l.syntax ls line item t f.stood are alone (signs ++ finishing (ended_at_start t.name l.levels))
+        ∙ (ap (λ k. record { flags = flags_of (levels_of l.syntax ls t alone); signs = (signs ++ finishing k) ++ own_signs (own_of l.syntax ls line item t f.stood are alone) (start_of item t) }) (sym b.ends)
+        ∙ (ap (λ o. record { flags = flags_of (levels_of l.syntax ls t alone); signs = (signs ++ finishing told.ends) ++ own_signs o (start_of item t) }) (sym own)
+        ∙ (ap (λ (s : StartTag). record { flags = flags_of (levels_of l.syntax ls t alone); signs = (signs ++ finishing told.ends) ++ own_signs told.own s }) (sym tag_is)
+        ∙ ap (λ (x : Lines). record { flags = flags_of x.levels; signs = (signs ++ finishing told.ends) ++ own_signs told.own (own_tag item) }) (sym is))))));
+    }
+
+-- an end tag is taken
+module _ (syntax : Syntax) (levels : Levels) (line : Line) (are : AreLevels syntax levels line) where
+  above_levels : AreLevels syntax (drop 1 levels) (line_above line)
+  above_levels = go levels line are
+    where
+      go : (levels : Levels) (line : Line) → AreLevels syntax levels line → AreLevels syntax (drop 1 levels) (line_above line)
+      go [] [] h = h
+      go [] (t ∷ above) h = elim h [ ]
+      go (level ∷ levels) [] h = elim h [ ]
+      go (level ∷ levels) (t ∷ above) h = h.4
+
+end_shows : (name : Chars) (levels : Levels) (signs : List Sign) (s : StartTag) → is_named name levels ≡ true
+    → sees (record { flags = flags_of levels; signs = signs }) (finishes ∷ []) ≡ record { flags = flags_of (drop 1 levels); signs = signs ++ own_signs (own_of_end levels) s }
+end_shows name [] signs s h = absurd (cc)
+end_shows name (level ∷ levels) signs s h = by_test level.shown (λ e. rw e refl) (λ e. rw e refl)
+
+has_begun : (l : Lines) (n : Nesting) → Follows l n → is_none_open l.levels ≡ false → l.begun ≡ true
+has_begun l n f h = by_test l.begun (λ e. e) (λ e. absurd (true_false (sym (ap is_none_open (f.none_yet e)) ∙ h)))
+  where
+    true_false : true ≡ false → ⊥
+    true_false p = cc
+
+module _ (syntax : Syntax) (depth : ℕ) (n : Nesting) (item : Item) (t : Tag) (is_tag : item.token ≡ tag t) (is_end : t.closing ≡ true) where
+  abbrev end_step : Step
+  end_step = record { next = over (line_above (after_end syntax t.name n.line)); events = ended_by_end syntax t.name n.line ++ finishes ∷ [] }
+
+  end_by_row : (row : Option Kind) → first_row (end_rows syntax n.line t) ≡ row → nest_step syntax depth n item ≡ unless_refused row end_step
+  end_by_row row h =
+      ap (λ token. step_by syntax depth n item token) is_tag
+      ∙ (ap (λ closing. unless_refused (first_row (if closing then end_rows syntax n.line t else start_rows syntax depth n.line n.phase t)) (if closing then end_step else begun_step)) is_end
+      ∙ ap (λ row. unless_refused row end_step) h)
+    where
+      begun_step : Step
+      begun_step = begun_under syntax item t (under_start syntax t.name n.line) (ended_under syntax t.name n.line)
+
+pub end_taken : (l new : Lines) (n : Nesting) (item : Item) (t : Tag) (told : Told) → Follows l n → item.token ≡ tag t → t.closing ≡ true → Ends l t told new → Taken l n item told new
+end_taken l new n item t told f is_tag is_end b =
+    let ls : Levels = kept (ends_by true t.name) l.levels in
+    let line : Line = after_end l.syntax t.name n.line in
+    let are : AreLevels l.syntax ls line = end_kept l.syntax t.name l.levels n.line f.levels_are in
+    let above : AreLevels l.syntax (drop 1 ls) (line_above line) = above_levels l.syntax ls line are in
+    let begun_is : l.begun ≡ true = has_begun l n f b.there in
+    let passes : first_row (end_rows l.syntax n.line t) ≡ None = ap first_row (end_refusals_are l n f t) ∙ rw (b.there, b.named) refl in
+    record {
+      step = end_step l.syntax l.depth n item t is_tag is_end;
+      is_step = end_by_row l.syntax l.depth n item t is_tag is_end None passes;
+      follows =
+        subst (λ (x : Lines). Follows x (over (line_above line))) (sym b.becomes)
+        (record {
+          levels_are = subst (λ (x : Line). AreLevels l.syntax (drop 1 ls) x) (sym (over_line (line_above line))) above;
+          stood = f.stood;
+          phase_is = over_phase l.syntax (drop 1 ls) (line_above line) f.stood above ∙ ap (λ x. phase_at x (drop 1 ls) f.stood) (sym begun_is);
+          none_yet = λ e. absurd (true_false (sym begun_is ∙ e));
+        });
+      drops_is = over_drops (line_above line) ∙ sym b.drops;
+      seen = λ signs.
+        end_seen l.syntax t.name l.levels n.line signs (finishes ∷ []) f.levels_are
+        ∙ (end_shows t.name ls (signs ++ finishing (ended (ends_by true t.name) l.levels)) (own_tag item) b.named
+        ∙ (ap (λ k. record { flags = flags_of (drop 1 ls); signs = (signs ++ finishing k) ++ own_signs (own_of_end ls) (own_tag item) }) (sym b.ends)
+        ∙ (ap (λ o. record { flags = flags_of (drop 1 ls); signs = (signs ++ finishing told.ends) ++ own_signs o (own_tag item) }) (sym b.own)
+        ∙ ap (λ (x : Lines). record { flags = flags_of x.levels; signs = (signs ++ finishing told.ends) ++ own_signs told.own (own_tag item) }) (sym b.becomes))));
+    }
+  where
+    true_false : true ≡ false → ⊥
+    true_false p = cc
+
+-- a tag that isn't taken
+pub start_is_refused : (l : Lines) (n : Nesting) (item : Item) (t : Tag) (kind : Kind) → Follows l n → item.token ≡ tag t → t.closing ≡ false → first_row (start_rows l.syntax l.depth n.line n.phase t) ≡ Some kind → nest_step l.syntax l.depth n item ≡ Err kind
+start_is_refused l n item t kind f is_tag is_start h =
+    ap (λ token. step_by l.syntax l.depth n item token) is_tag
+    ∙ (ap (λ closing. unless_refused (first_row (if closing then end_rows l.syntax n.line t else start_rows l.syntax l.depth n.line n.phase t)) (tag_passes l.syntax n.line item t)) is_start
+    ∙ ap (λ row. unless_refused row (tag_passes l.syntax n.line item t)) h)
+
+pub end_is_refused : (l : Lines) (n : Nesting) (item : Item) (t : Tag) (kind : Kind) → Follows l n → item.token ≡ tag t → t.closing ≡ true → first_row (end_rows l.syntax n.line t) ≡ Some kind → nest_step l.syntax l.depth n item ≡ Err kind
+end_is_refused l n item t kind f is_tag is_end h = end_by_row l.syntax l.depth n item t is_tag is_end (Some kind) h
+
+-- what a tag's answer says of the tables of nesting
+abbrev pub TagSteps : Lines → Nesting → Item → Result Told Refused → Lines → Type 0
+TagSteps l n item (Ok told) new = Taken l n item told new
+TagSteps l n item (Err (Fault kind)) new = nest_step l.syntax l.depth n item ≡ Err kind
+TagSteps l n item (Err NoMemory) new = Unit {0}
+
+pub tag_steps : (l new : Lines) (n : Nesting) (item : Item) (t : Tag) (result : Result Told Refused) → Follows l n → item.token ≡ tag t → TagGives l t result new → TagSteps l n item result new
+tag_steps l new n item t result f is_tag gives = go t.closing refl result gives
+  where
+    go : (closing : Bool) → t.closing ≡ closing → (result : Result Told Refused) → GivesBy closing l t result new → TagSteps l n item result new
+    go true e (Ok told) g = end_taken l new n item t told f is_tag e g
+    go true e (Err (Fault kind)) g =
+        ⊎_elim
+        (λ w. end_is_refused l n item t kind f is_tag e (ap first_row (end_refusals_are l n f t) ∙ rw (w.0, w.1) refl))
+        (λ w. end_is_refused l n item t kind f is_tag e (ap first_row (end_refusals_are l n f t) ∙ rw (w.0, w.1, w.2) refl))
+        g
+    go true e (Err NoMemory) g = tt
+    go false e (Ok told) g = start_taken l new n item t told f is_tag e g
+    go false e (Err (Fault kind)) g =
+        ⊎_elim
+        (λ w. start_is_refused l n item t kind f is_tag e (start_refused l n f t kind w))
+        (λ w. start_is_refused l n item t kind f is_tag e (start_deep l n f t w.0 w.1 ∙ ap (λ k. Some k) (sym w.2)))
+        g
+    go false e (Err NoMemory) g = tt

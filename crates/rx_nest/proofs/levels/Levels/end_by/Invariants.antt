@@ -1,0 +1,14 @@
+use Rattle.std.proofs.Common.{◌≡◌, ◌≤◌, ◌+◌, length}
+use Rattle.std.specs.Str.{chars}
+use Rattle.rx_nest.specs.Levels as levels
+use Rattle.rx_nest.proofs.levels.Levels.end_by.Given as goal
+
+abbrev pub invariant-loop : goal.invariant-loop
+invariant-loop l =
+    record {
+      kept : levels.kept (levels.ends_by l.closing (chars l.name)) l.fn.self.levels ≡ levels.kept (levels.ends_by l.closing (chars l.name)) l.self.levels;
+      ended : levels.ended (levels.ends_by l.closing (chars l.name)) l.fn.self.levels ≡ l.ended + levels.ended (levels.ends_by l.closing (chars l.name)) l.self.levels;
+      room : l.self.room ≡ l.fn.self.room;
+      count : l.ended ≤ l.counter;
+      left : length l.self.levels + l.counter ≡ length l.fn.self.levels;
+    }

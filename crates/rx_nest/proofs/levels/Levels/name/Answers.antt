@@ -1,0 +1,7 @@
+use Rattle.std.proofs.Common.{◌≡◌, ◌∙◌, sym, ap, List, ℕ}
+use Rattle.std.proofs.lemmas.Str.{chars-nil}
+use Rattle.rx_nest.specs.Levels.{Levels, name_under}
+use Rattle.rx_nest.proofs.levels.Levels.name.Goals as goal
+
+pub returns-in-None : goal.returns-in-None
+returns-in-None c = chars-nil ∙ ap (λ (l : Levels). name_under l) (sym (c.in-None.ensures))

@@ -1,0 +1,8 @@
+use Rattle.std.proofs.Common.{◌∙◌, refl, sym, ap, cond, true, false}
+use Rattle.std.specs.Prelude.{codes, [], ◌∷◌}
+use Rattle.rx_nest.proofs.NameLemmas.{among-chars, row-chars}
+use Rattle.rx_terms.proofs.CharLemmas.{same-chars, same-ascii}
+use Rattle.rx_nest.proofs.names.drops.Goals as goal
+
+pub returns : goal.returns
+returns c = c.drops.ensures ∙ among-chars (codes "pre" ∷ codes "textarea" ∷ codes "listing" ∷ []) refl c.args.name.now c.utf8.name

@@ -1,0 +1,5 @@
+pub mod Follows
+pub mod Levels
+pub mod Lines
+pub mod Rows
+pub mod Signs

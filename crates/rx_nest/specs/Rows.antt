@@ -1,0 +1,15 @@
+-- The rows of the table of end tags that may be omitted.
+use Rattle.std.specs.Prelude.{List, [], ◌∷◌, codes}
+use Rattle.rx_terms.specs.Text.{Chars}
+use Rattle.rx_grammar.specs.Names.{table_parts, paragraph_enders}
+use Rattle.rx_nest.specs.declared.tables.Row.{Row}
+use Rattle.rx_nest.specs.declared.tables.Row.TheVariants.{Item, Definition, Paragraph, Choice, Part, TableRow, Cell}
+
+abbrev pub row_seen : Row → List Chars
+row_seen Item = codes "li" ∷ []
+row_seen Definition = codes "dt" ∷ codes "dd" ∷ []
+row_seen Paragraph = paragraph_enders
+row_seen Choice = codes "option" ∷ codes "optgroup" ∷ codes "hr" ∷ []
+row_seen Part = table_parts
+row_seen TableRow = codes "tr" ∷ table_parts
+row_seen Cell = codes "td" ∷ codes "th" ∷ codes "tr" ∷ table_parts

@@ -1,0 +1,229 @@
+//! The open elements, kept for all levels from the start.
+ghost use Rattle.std.specs.Prelude.{◌≡◌, ◌∷◌, [], ◌<◌, OnOk, IfOk, MatchOption, length, drop};
+ghost use Rattle.std.specs.Str.{chars};
+ghost use Rattle.rx_nest.specs.Levels as levels;
+
+use crate::names;
+use crate::places::Place;
+use crate::tables::Row;
+use rx_grammar::Content;
+use rx_terms::NoMemory;
+use std::alloc::Global;
+use std::marker::Model;
+
+/// What an open element's ancestors make of it.
+#[derive(Clone, Copy)]
+pub(crate) struct Traits {
+    /// What may stand inside.
+    pub(crate) inside: Place,
+    /// The start tags that end it, where its end tag may be omitted.
+    pub(crate) row: Option<Row>,
+    /// Whether it is a p that its parent's end doesn't end.
+    pub(crate) held: bool,
+    /// Whether it is in the page's tree.
+    pub(crate) shown: bool,
+    /// Whether what it holds isn't.
+    pub(crate) hides: bool,
+}
+
+/// An open element.
+#[derive(Drop)]
+pub(crate) struct Level {
+    name: String,
+    traits: Traits,
+}
+
+impl Model for Level {
+    ghost use Rattle.std.specs.Prelude.{option_map, string_bytes};
+    ghost use Rattle.std.specs.Str.{chars};
+    ghost use Rattle.rx_nest.specs.Rows.{row_seen};
+    ghost use Rattle.rx_nest.specs.Levels.{Level as TheLevel, level_of};
+
+    ghost Value = { TheLevel };
+
+    ghost view = { λ level. level_of (chars (string_bytes level.name)) level.traits };
+}
+
+impl Level {
+    ghost use Rattle.rx_nest.specs.Levels.{level_of};
+
+    fn new(alloc: Global) -> Level {
+        Level {
+            name: String::new(alloc),
+            traits: Traits {
+                inside: Place::of(Content::Outside),
+                row: None,
+                held: false,
+                shown: false,
+                hides: false,
+            },
+        }
+    }
+
+    fn set(&mut self, name: &str, traits: Traits) -> Result<(), NoMemory>
+        ensures { OnOk result (self.new ≡ level_of (chars name.now) traits) }
+    {
+        self.name.clear();
+        self.name.push_str(name)?;
+        self.traits = traits;
+        Ok(())
+    }
+
+    // Whether a start tag of this name, or an end tag, ends the element.
+    fn ends_by(&self, closing: bool, name: &str) -> bool
+        ensures { result ≡ levels.ends_by closing (chars name.now) self.now }
+    {
+        match self.traits.row {
+            Some(_) if closing => !names::is_same(&self.name, name) && !self.traits.held,
+            Some(row) => names::has(row, name),
+            None => false,
+        }
+    }
+
+    pub(crate) fn name(&self) -> &str
+        ensures { chars result.now ≡ self.now.name }
+    {
+        &self.name
+    }
+
+    pub(crate) fn inside(&self) -> Place
+        ensures { result ≡ self.now.inside }
+    {
+        self.traits.inside
+    }
+
+    pub(crate) fn shown(&self) -> bool
+        ensures { result ≡ self.now.shown }
+    {
+        self.traits.shown
+    }
+
+    pub(crate) fn hides(&self) -> bool
+        ensures { result ≡ self.now.hides }
+    {
+        self.traits.hides
+    }
+}
+
+/// The open elements. A contract sees them with the innermost first.
+#[derive(Drop)]
+pub(crate) struct Levels {
+    levels: Vec<Level>,
+    open: usize,
+}
+
+impl Model for Levels {
+    ghost use Rattle.std.specs.Prelude.{◌≤◌, length};
+    ghost use Rattle.rx_nest.specs.Levels.{Opened, innermost_first};
+
+    ghost Value = { Opened };
+
+    ghost view = { λ l. record { levels = innermost_first l.open l.levels.items; room = length l.levels.items } };
+
+    ghost invariant = { λ l. l.open ≤ length l.levels.items };
+}
+
+impl Levels {
+    /// No element is open. The memory of all levels is taken.
+    pub(crate) fn new(alloc: Global, depth: u32) -> Result<Levels, NoMemory>
+        ensures { IfOk result (λ l. l ≡ record { levels = []; room = depth }) }
+    {
+        let mut levels = Vec::new(alloc);
+        for _ in 0..depth {
+            if levels.push(Level::new(alloc)).is_err() {
+                return Err(NoMemory);
+            }
+        }
+        Ok(Levels {
+            levels,
+            open: 0,
+        })
+    }
+
+    /// How many elements are open.
+    pub(crate) fn depth(&self) -> usize
+        ensures { result ≡ length self.now.levels }
+    {
+        self.open
+    }
+
+    /// An element begins inside the innermost one.
+    pub(crate) fn push(&mut self, name: &str, traits: Traits) -> Result<(), NoMemory>
+        requires { length self.old.levels < self.old.room }
+        ensures levels { OnOk result (self.new.levels ≡ levels.level_of (chars name.now) traits ∷ self.old.levels) }
+        ensures room { self.new.room ≡ self.old.room }
+    {
+        let open = self.open;
+        self.levels[open].set(name, traits)?;
+        self.open = open + 1;
+        Ok(())
+    }
+
+    /// The innermost element ends.
+    pub(crate) fn pop(&mut self)
+        ensures levels { self.new.levels ≡ drop 1 self.old.levels }
+        ensures room { self.new.room ≡ self.old.room }
+    {
+        self.open = self.open.saturating_sub(1);
+    }
+
+    /// The innermost element.
+    pub(crate) fn top(&self) -> Option<&Level>
+        ensures { MatchOption result (self.now.levels ≡ []) (λ level. levels.IsTop level.now self.now.levels) }
+    {
+        match self.open.checked_sub(1) {
+            Some(last) => Some(&self.levels[last]),
+            None => None,
+        }
+    }
+
+    /// What may stand inside the innermost element.
+    pub(crate) fn place(&self) -> Place
+        ensures { result ≡ levels.place_under self.now.levels }
+    {
+        match self.top() {
+            Some(level) => level.inside(),
+            None => Place::of(Content::Outside),
+        }
+    }
+
+    /// Whether what stands inside the innermost element is hidden.
+    pub(crate) fn hides(&self) -> bool
+        ensures { result ≡ levels.hidden_under self.now.levels }
+    {
+        match self.top() {
+            Some(level) => level.hides(),
+            None => false,
+        }
+    }
+
+    /// The name of the innermost element, empty where none is open.
+    pub(crate) fn name(&self) -> &str
+        ensures { chars result.now ≡ levels.name_under self.now.levels }
+    {
+        match self.top() {
+            Some(level) => level.name(),
+            None => "",
+        }
+    }
+
+    /// Ends the elements that a start tag of this name ends, or an end tag, and counts those in the tree.
+    pub(crate) fn end_by(&mut self, closing: bool, name: &str) -> usize
+        ensures levels { self.new.levels ≡ levels.kept (levels.ends_by closing (chars name.now)) self.old.levels }
+        ensures ended { result ≡ levels.ended (levels.ends_by closing (chars name.now)) self.old.levels }
+        ensures room { self.new.room ≡ self.old.room }
+    {
+        let mut ended = 0;
+        for _ in 0..self.depth() {
+            let Some(level) = self.top() else {
+                return ended;
+            };
+            if !level.ends_by(closing, name) {
+                return ended;
+            }
+            ended += usize::from(level.shown());
+            self.pop();
+        }
+        ended
+    }
+}

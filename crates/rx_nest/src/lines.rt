@@ -1,0 +1,265 @@
+//! What a tag does to the open elements.
+ghost use Rattle.std.specs.Prelude.{◌≡◌, OnOk, true, false, nat_le, length, not};
+ghost use Rattle.rx_grammar.specs.PageFaults.{first_row};
+ghost use Rattle.rx_tags.specs.Seen.{tag_seen};
+ghost use Rattle.rx_nest.specs.Levels as levels;
+ghost use Rattle.rx_nest.specs.Lines as lines;
+
+use crate::levels::{Levels, Traits};
+use crate::names;
+use rx_chars::Syntax;
+use rx_grammar::{Content, Kind};
+use rx_tags::Tag;
+use rx_terms::NoMemory;
+use std::alloc::Global;
+use std::marker::Model;
+
+/// What a tag tells besides the elements that it ends by omission.
+#[derive(Clone, Copy, Debug, PartialEq, Eq)]
+pub(crate) enum Own {
+    /// Nothing: it is hidden.
+    Nothing,
+    /// An element begins.
+    Begin,
+    /// An element begins, and ends with the tag.
+    Alone,
+    /// The element of its name ends.
+    Finish,
+}
+
+/// What a tag tells: how many elements end by omission, and then its own.
+#[derive(Clone, Copy, Debug, PartialEq, Eq)]
+pub(crate) struct Told {
+    pub(crate) ends: usize,
+    pub(crate) own: Own,
+    /// Whether a line feed directly after the tag is dropped.
+    pub(crate) drops: bool,
+}
+
+/// Why a tag isn't taken.
+#[derive(Clone, Copy, Debug, PartialEq, Eq)]
+pub(crate) enum Refused {
+    Fault(Kind),
+    NoMemory,
+}
+
+/// The open elements of a page.
+#[derive(Drop)]
+pub(crate) struct Line {
+    syntax: Syntax,
+    depth: u32,
+    begun: bool,
+    levels: Levels,
+}
+
+impl Model for Line {
+    ghost use Rattle.std.specs.Prelude.{◌≡◌};
+    ghost use Rattle.rx_nest.specs.Lines.{Lines};
+
+    ghost Value = { Lines };
+
+    ghost view = { λ l. record { syntax = l.syntax; depth = l.depth; begun = l.begun; levels = l.levels.levels } };
+
+    ghost invariant = { λ l. l.levels.room ≡ l.depth };
+}
+
+impl Line {
+    ghost use Rattle.std.specs.Prelude.{[], false, IfOk};
+
+    /// Before the root. The memory of all levels is taken.
+    pub(crate) fn new(alloc: Global, syntax: Syntax, depth: u32) -> Result<Line, NoMemory>
+        ensures { IfOk result (λ l. l ≡ record { syntax = syntax; depth = depth; begun = false; levels = [] }) }
+    {
+        let levels = Levels::new(alloc, depth)?;
+        Ok(Line {
+            syntax,
+            depth,
+            begun: false,
+            levels,
+        })
+    }
+
+    /// How many elements are open.
+    pub(crate) fn depth(&self) -> usize
+        ensures { result ≡ length self.now.levels }
+    {
+        self.levels.depth()
+    }
+
+    /// What may stand inside the innermost element.
+    pub(crate) fn content(&self) -> Content
+        ensures { result ≡ (levels.place_under self.now.levels).content }
+    {
+        self.levels.place().content()
+    }
+
+    /// Whether text is text of the tree.
+    pub(crate) fn says_text(&self) -> bool
+        ensures { result ≡ lines.says_text self.now }
+    {
+        self.is_open() && !self.levels.hides()
+    }
+
+    // Whether an element is open.
+    fn is_open(&self) -> bool
+        ensures { result ≡ not (lines.is_none_open self.now.levels) }
+    {
+        self.levels.depth() > 0
+    }
+
+    // Why the start tag isn't taken, whatever it ends.
+    fn refusal(&self, tag: &Tag<'_>) -> Option<Kind>
+        ensures { result ≡ first_row (lines.start_refusals self.now (tag_seen tag.now)) }
+    {
+        if self.begun && !self.is_open() {
+            return Some(Kind::Outside);
+        }
+        if !self.begun && !names::is_root(tag.name()) {
+            return Some(Kind::RootNotHtml);
+        }
+        if self.levels.place().is_plaintext(self.syntax, tag) {
+            return Some(Kind::Plaintext);
+        }
+        if self.levels.place().is_self_closed(self.syntax, tag) {
+            return Some(Kind::SelfClosed);
+        }
+        None
+    }
+
+    /// A tag begins an element, or ends one, after those that it ends by omission. After a refusal nothing is said of the
+    /// elements.
+    pub(crate) fn take(&mut self, tag: &Tag<'_>) -> Result<Told, Refused>
+        ensures { lines.TagGives self.old (tag_seen tag.now) result self.new }
+    {
+        if tag.closing() {
+            self.end(tag)
+        } else {
+            self.begin(tag)
+        }
+    }
+
+    fn begin(&mut self, tag: &Tag<'_>) -> Result<Told, Refused>
+        ensures { lines.BeginGives self.old (tag_seen tag.now) result self.new }
+    {
+        if let Some(kind) = self.refusal(tag) {
+            return Err(Refused::Fault(kind));
+        }
+        let ends = self.end_before(tag);
+        if self.is_full() {
+            return Err(Refused::Fault(Kind::TooDeep));
+        }
+        let own = self.own_of_start(tag);
+        let drops = self.drops_line_feed(tag);
+        match self.enter(tag) {
+            Ok(()) => Ok(Told {
+                ends,
+                own,
+                drops,
+            }),
+            Err(NoMemory) => Err(Refused::NoMemory),
+        }
+    }
+
+    // Ends the elements that the start tag ends.
+    fn end_before(&mut self, tag: &Tag<'_>) -> usize
+        ensures ends { result ≡ lines.ended_at_start (tag_seen tag.now).name self.old.levels }
+        ensures becomes { self.new ≡ record self.old { levels = lines.kept_at_start (tag_seen tag.now).name self.old.levels } }
+    {
+        if self.levels.place().is_html() {
+            self.levels.end_by(false, tag.name())
+        } else {
+            0
+        }
+    }
+
+    fn is_full(&self) -> bool
+        ensures { result ≡ nat_le self.now.depth (length self.now.levels) }
+    {
+        self.levels.depth() >= self.depth as usize
+    }
+
+    fn own_of_start(&self, tag: &Tag<'_>) -> Own
+        ensures { result ≡ lines.own_of_start self.now.syntax (tag_seen tag.now) self.now.levels }
+    {
+        if self.levels.hides() {
+            Own::Nothing
+        } else if self.levels.place().is_alone(self.syntax, tag) {
+            Own::Alone
+        } else {
+            Own::Begin
+        }
+    }
+
+    fn drops_line_feed(&self, tag: &Tag<'_>) -> bool
+        ensures { result ≡ lines.drops_under self.now.syntax (tag_seen tag.now) self.now.levels }
+    {
+        let place = self.levels.place();
+        !place.is_alone(self.syntax, tag) && place.drops_line_feed(tag)
+    }
+
+    // The element begins.
+    fn enter(&mut self, tag: &Tag<'_>) -> Result<(), NoMemory>
+        requires { nat_le self.old.depth (length self.old.levels) ≡ false }
+        ensures { OnOk result (self.new ≡ record self.old { begun = true; levels = lines.begun_under self.old.syntax (tag_seen tag.now) self.old.levels }) }
+    {
+        self.begun = true;
+        if self.levels.place().is_alone(self.syntax, tag) {
+            return Ok(());
+        }
+        let traits = self.traits(tag);
+        self.levels.push(tag.name(), traits)
+    }
+
+    // What the open elements make of one that begins inside them.
+    fn traits(&self, tag: &Tag<'_>) -> Traits
+        ensures { levels.level_of (tag_seen tag.now).name result ≡ lines.level_under self.now.syntax (tag_seen tag.now) self.now.levels }
+    {
+        let place = self.levels.place();
+        let hidden = self.levels.hides();
+        Traits {
+            inside: place.inside(self.syntax, tag.name()),
+            row: place.row_of(tag.name()),
+            held: names::is_held(self.levels.name(), tag.name()),
+            shown: !hidden,
+            hides: hidden || place.hides(tag),
+        }
+    }
+
+    fn end(&mut self, tag: &Tag<'_>) -> Result<Told, Refused>
+        ensures { lines.EndGives self.old (tag_seen tag.now) result self.new }
+    {
+        if !self.is_open() {
+            return Err(Refused::Fault(Kind::NothingOpen));
+        }
+        let ends = self.levels.end_by(true, tag.name());
+        if !self.is_named(tag) {
+            return Err(Refused::Fault(Kind::Mismatch));
+        }
+        let own = self.own_of_end();
+        self.levels.pop();
+        Ok(Told {
+            ends,
+            own,
+            drops: false,
+        })
+    }
+
+    // Whether the innermost element has the end tag's name.
+    fn is_named(&self, tag: &Tag<'_>) -> bool
+        ensures { result ≡ lines.is_named (tag_seen tag.now).name self.now.levels }
+    {
+        match self.levels.top() {
+            Some(level) => names::is_same(level.name(), tag.name()),
+            None => false,
+        }
+    }
+
+    fn own_of_end(&self) -> Own
+        ensures { result ≡ lines.own_of_end self.now.levels }
+    {
+        match self.levels.top() {
+            Some(level) if level.shown() => Own::Finish,
+            _ => Own::Nothing,
+        }
+    }
+}

@@ -1,0 +1,130 @@
+//! The tables of names, on the bytes of a name.
+ghost use Rattle.std.specs.Prelude.{◌≡◌, option_map, codes, [], ◌∷◌};
+ghost use Rattle.rx_grammar.specs.Names.{same, is_among};
+ghost use Rattle.rx_grammar.specs.Names as names;
+ghost use Rattle.rx_grammar.specs.Contents as contents;
+ghost use Rattle.rx_nest.specs.Rows.{row_seen};
+
+use crate::places::Place;
+use rx_grammar::{Content, RawName};
+
+/// The start tags that end an element whose end tag may be omitted.
+#[derive(Clone, Copy, Debug, PartialEq, Eq)]
+pub(crate) enum Row {
+    Item,
+    Definition,
+    Paragraph,
+    Choice,
+    Part,
+    TableRow,
+    Cell,
+}
+
+pub(crate) fn row_of(name: &str) -> Option<Row>
+    ensures { option_map row_seen result ≡ names.row_of name.now }
+{
+    match name {
+        "li" => Some(Row::Item),
+        "dt" | "dd" => Some(Row::Definition),
+        "p" => Some(Row::Paragraph),
+        "option" => Some(Row::Choice),
+        "thead" | "tbody" | "tfoot" => Some(Row::Part),
+        "tr" => Some(Row::TableRow),
+        "td" | "th" => Some(Row::Cell),
+        _ => None,
+    }
+}
+
+fn is_part(name: &str) -> bool
+    ensures { result ≡ is_among names.table_parts name.now }
+{
+    matches!(name, "thead" | "tbody" | "tfoot")
+}
+
+fn ends_paragraph(name: &str) -> bool
+    ensures { result ≡ is_among names.paragraph_enders name.now }
+{
+    matches!(
+        name,
+        "address" | "article" | "aside" | "blockquote" | "dd" | "details" | "div" | "dl" | "dt"
+            | "fieldset" | "figcaption" | "figure" | "footer" | "form" | "h1" | "h2" | "h3" | "h4"
+            | "h5" | "h6" | "header" | "hgroup" | "hr" | "li" | "main" | "menu" | "nav" | "ol"
+            | "p" | "pre" | "section" | "table" | "tbody" | "td" | "tfoot" | "th" | "thead" | "tr"
+            | "ul"
+    )
+}
+
+/// Whether the row has the name.
+pub(crate) fn has(row: Row, name: &str) -> bool
+    ensures { result ≡ is_among (row_seen row) name.now }
+{
+    match row {
+        Row::Item => name == "li",
+        Row::Definition => matches!(name, "dt" | "dd"),
+        Row::Paragraph => ends_paragraph(name),
+        Row::Choice => matches!(name, "option" | "optgroup" | "hr"),
+        Row::Part => is_part(name),
+        Row::TableRow => name == "tr" || is_part(name),
+        Row::Cell => matches!(name, "td" | "th" | "tr") || is_part(name),
+    }
+}
+
+pub(crate) fn is_void(name: &str) -> bool
+    ensures { result ≡ is_among names.void_names name.now }
+{
+    matches!(
+        name,
+        "area" | "base" | "br" | "col" | "embed" | "hr" | "img" | "input" | "link" | "meta"
+            | "param" | "source" | "track" | "wbr"
+    )
+}
+
+pub(crate) fn is_holding(name: &str) -> bool
+    ensures { result ≡ is_among names.holding_names name.now }
+{
+    matches!(name, "a" | "audio" | "del" | "ins" | "map" | "noscript" | "video")
+}
+
+/// Whether a line feed directly after the start tag is dropped.
+pub(crate) fn drops(name: &str) -> bool
+    ensures { result ≡ is_among (codes "pre" ∷ codes "textarea" ∷ codes "listing" ∷ []) name.now }
+{
+    matches!(name, "pre" | "textarea" | "listing")
+}
+
+pub(crate) fn holds_html_in_svg(name: &str) -> bool
+    ensures { result ≡ is_among contents.html_in_svg name.now }
+{
+    matches!(name, "foreignobject" | "desc" | "title")
+}
+
+pub(crate) fn inside_html(name: &str) -> Place
+    ensures { result ≡ contents.inside_html name.now }
+{
+    match name {
+        "svg" => Place::foreign(true),
+        "math" => Place::foreign(false),
+        "script" => Place::of(Content::Raw(RawName::Script)),
+        "style" => Place::of(Content::Raw(RawName::Style)),
+        "iframe" => Place::of(Content::Raw(RawName::Iframe)),
+        "noembed" => Place::of(Content::Raw(RawName::Noembed)),
+        "noframes" => Place::of(Content::Raw(RawName::Noframes)),
+        "xmp" => Place::of(Content::Raw(RawName::Xmp)),
+        "title" => Place::of(Content::Rcdata(RawName::Title)),
+        "textarea" => Place::of(Content::Rcdata(RawName::Textarea)),
+        _ => Place::of(Content::Html),
+    }
+}
+
+pub(crate) fn is_foreign_root(name: &str) -> bool
+    ensures { result ≡ contents.is_foreign_root name.now }
+{
+    matches!(name, "svg" | "math")
+}
+
+/// Whether the name is this word of ASCII.
+pub(crate) fn is_word(name: &str, word: &str) -> bool
+    ensures { result ≡ same name.now word.now }
+{
+    name == word
+}

@@ -1,0 +1,252 @@
+-- Reading the characters of a page from left to right.
+use Rattle.std.proofs.Common.{◌≡◌, ◌≢◌, ◌∙◌, ℕ, ◌+◌, ◌-◌, ◌<◌, ◌≤◌, Bool, true, false, List, [], ◌∷◌, ◌++◌, refl, sym, ap, subst, length, nat_lt, append_assoc, Ok, arith}
+use Rattle.std.specs.Prelude.{◌&&◌, ◌==◌, not}
+use Rattle.std.specs.Char.{IsScalar, len_utf8}
+use Rattle.std.specs.Str.{all_scalars}
+use lib.Utf8.{encode, encodes, scalar}
+use Rattle.std.proofs.lemmas.List.{length-append}
+use Rattle.std.proofs.lemmas.Str.{length-encode}
+use Rattle.std.proofs.lemmas.Bool.Decides.{nat_tests}
+use Rattle.std.proofs.lemmas.Bool.{and_parts, cond-true, cond-false}
+use Rattle.std.specs.List.{list_all}
+use Rattle.rx_chars.specs.declared.syntax.Syntax.{Syntax}
+use Rattle.rx_chars.specs.Characters.{Entry, byte_order_mark, line_feed, carriage_return, line_end_entry, placed, entered, without_mark}
+use Rattle.rx_grammar.specs.declared.limits.Limits.{Limits}
+use Rattle.rx_grammar.specs.Items.{values}
+use Rattle.rx_grammar.specs.PageFaults.{is_known_tag}
+use Rattle.rx_reader.proofs.Bools.{by_test, untrue}
+use Rattle.rx_pages.specs.Nesting.{content_at}
+use Rattle.rx_pages.specs.PageReader.{first_of, is_too_long, spot_of, Progress, page_on}
+use Rattle.rx_pages.proofs.EntrySteps.{Stood, entry_step}
+use Rattle.rx_pages.proofs.ByteSteps.{progress_at, settle, last_read, bytes_on}
+use Rattle.rx_pages.proofs.CharSteps.{passes, passes_on, entry_on, entry_at}
+
+pub no_return : (c : ℕ) → (c == line_feed) ≡ true → (c == carriage_return) ≡ false
+no_return c h = grind (arith, nat_tests)
+
+pub no_mark : (c : ℕ) → (c == byte_order_mark) ≡ true → (c == carriage_return) ≡ false
+no_mark c h = grind (arith, nat_tests)
+
+-- a list by its last element
+pub data Snoc (bytes : List ℕ) : Type 0 where
+  none : bytes ≡ [] → Snoc bytes
+  some : (front : List ℕ) (byte : ℕ) → bytes ≡ front ++ byte ∷ [] → Snoc bytes
+
+pub snoc_of : (bytes : List ℕ) → Snoc bytes
+snoc_of [] = none refl
+snoc_of (b ∷ bytes) = by (snoc_of bytes)
+  where
+    by : Snoc bytes → Snoc (b ∷ bytes)
+    by (none e) = some [] b (ap (λ x. b ∷ x) e)
+    by (some front byte e) = some (b ∷ front) byte (ap (λ x. b ∷ x) e)
+
+pub len_positive : (c : ℕ) → 1 ≤ len_utf8 c
+len_positive c = by_test (nat_lt c 0x80) (λ e. rw e (omega arith)) (λ e. rw e (by_test (nat_lt c 0x800) (λ d. rw d (omega arith)) (λ d. rw d (by_test (nat_lt c 0x1_0000) (λ b. rw b (omega arith)) (λ b. rw b (omega arith))))))
+
+-- the first entry of some characters stands among their bytes
+pub record Among (start : ℕ) (cs : List ℕ) (e : Entry) : Type 0 where
+  pub from : start ≤ e.first
+  pub order : e.first ≤ e.last
+  pub to : e.last < start + length (encodes cs)
+
+among_later : (start c : ℕ) (cs : List ℕ) (e : Entry) → Among (start + len_utf8 c) cs e → Among start (c ∷ cs) e
+among_later start c cs e a =
+    let n = length-append (encode c) (encodes cs) in
+    let l = length-encode c in
+    let f = a.from in
+    let t = a.to in
+    record { from = omega arith; order = a.order; to = omega arith }
+
+among_first : (start c : ℕ) (cs : List ℕ) → Among start (c ∷ cs) (line_end_entry (record { value = c; first = start; last = start + len_utf8 c - 1 }))
+among_first start c cs =
+    let n = length-append (encode c) (encodes cs) in
+    let l = length-encode c in
+    let p = len_positive c in
+    record { from = omega arith; order = omega arith; to = omega arith }
+
+pub first_among : (after_return : Bool) (start : ℕ) (cs : List ℕ) (e : Entry) (es : List Entry) → entered after_return (placed start cs) ≡ e ∷ es → Among start cs e
+first_among after_return start [] e es h = absurd (cc)
+first_among after_return start (c ∷ cs) e es h =
+    by_test {G = Among start (c ∷ cs) e} (after_return && c == line_feed)
+    (λ t. among_later start c cs e (first_among false (start + len_utf8 c) cs e es (sym (cond-true _ _ _ t) ∙ h)))
+    (λ t. let k = sym (cond-false _ _ _ t) ∙ h in let same : line_end_entry (record { value = c; first = start; last = start + len_utf8 c - 1 }) ≡ e = cc in subst (λ x. Among start (c ∷ cs) x) same (among_first start c cs))
+
+-- the flags behind some characters
+abbrev pub ends_return : Bool → List ℕ → Bool
+ends_return after_return [] = after_return
+ends_return after_return (c ∷ cs) = ends_return (c == carriage_return) cs
+
+abbrev pub no_nuls : List ℕ → Bool
+no_nuls cs = list_all (λ c. not (c == 0)) cs
+
+abbrev pub is_started : List ℕ → Bool
+is_started [] = false
+is_started (c ∷ cs) = true
+
+module _ (syntax : Syntax) (limits : Limits) where
+  abbrev pub is_known : Stood → Bool
+  is_known st = is_known_tag syntax (content_at syntax st.nest) (values st.run)
+
+  -- where a run is a tag, it has a first character
+  pub first_same : (st : Stood) (a b : ℕ) → is_known st ≡ true → first_of st.run a ≡ first_of st.run b
+  first_same st a b h = by st.run h
+    where
+      by : (run : List Entry) → is_known_tag syntax (content_at syntax st.nest) (values run) ≡ true → first_of run a ≡ first_of run b
+      by [] k = absurd (cc)
+      by (e ∷ run) k = refl
+
+  -- The entries lead from one state to another within the limits, and `hi` bytes stand there.
+  abbrev pub Fine : ℕ → Stood → List Entry → Stood → Type 0
+  Fine hi st [] end = (st ≡ end) × (is_known st ≡ true → hi ≤ first_of st.run hi + limits.tag)
+  Fine hi st (e ∷ es) end =
+      (is_known st ≡ true → e.last < first_of st.run e.first + limits.tag)
+      × (is_too_long syntax limits (spot_of syntax st.nest) (st.run ++ e ∷ []) (first_of st.run e.first) e.last ≡ false)
+      × ((next : Stood) × ((entry_step syntax limits st e ≡ Ok next) × Fine hi next es end))
+
+  -- bytes that stand before the next entry, or before the end, belong to no tag that is too long
+  pub before_next : (hi at : ℕ) (st end : Stood) (es : List Entry) → Fine hi st es end → ((e : Entry) (more : List Entry) → es ≡ e ∷ more → at < e.last) → (es ≡ [] → at < hi) → is_known st ≡ true → at < first_of st.run at + limits.tag
+  before_next hi at st end [] f next last k = let s = first_same st at hi k in let b = f.1 k in let l = last refl in omega arith
+  before_next hi at st end (e ∷ es) f next last k = let s = first_same st at e.first k in let b = f.0 k in let l = next e es refl in omega arith
+
+  -- one character, and the rest of the walk
+  module _ (c : ℕ) (cs rest : List ℕ) (start : ℕ) (started after_return : Bool) (st end : Stood) (front : List ℕ) (byte : ℕ) (is_scalar : IsScalar c) (form : encode c ≡ front ++ byte ∷ []) (size : length front + 1 ≡ len_utf8 c)
+      (nonzero : (c == 0) ≡ false) (page : start + len_utf8 c ≤ limits.page) where
+    abbrev Goal : Bool → Stood → Type 0
+    Goal ar reached = page_on syntax limits (Ok (progress_at start [] started after_return st)) (encode c ++ rest) ≡ page_on syntax limits (Ok (progress_at (start + len_utf8 c) [] true ar reached)) rest
+
+    last_at : start + len_utf8 c - 1 ≡ start + length front
+    last_at = omega arith
+
+    next_at : start + length front + 1 ≡ start + len_utf8 c
+    next_at = omega arith
+
+    some_bytes : encode c ≢ []
+    some_bytes e = let v = ap length (sym form ∙ e) in let w = length-append front (byte ∷ []) in absurd (omega arith)
+
+    pub to_last : (is_known st ≡ true → start + length front < first_of st.run start + limits.tag)
+        → page_on syntax limits (Ok (progress_at start [] started after_return st)) (encode c ++ rest) ≡ page_on syntax limits (last_read syntax limits st started after_return c start front byte is_scalar form) rest
+    to_last k =
+        let e : start + 0 ≡ start = omega arith in
+        ap (λ x. page_on syntax limits (Ok (progress_at x [] started after_return st)) (encode c ++ rest)) (sym e)
+        ∙ bytes_on syntax limits st started after_return c start front byte is_scalar form [] (encode c) rest form some_bytes nonzero (omega arith) k
+
+    pub passed_on : passes started after_return c ≡ true → (is_known st ≡ true → start + length front < first_of st.run start + limits.tag) → Goal false st
+    passed_on t k =
+        to_last k
+        ∙ (ap (λ x. page_on syntax limits x rest) (passes_on syntax limits st started after_return c start front byte is_scalar form t)
+        ∙ ap (λ x. page_on syntax limits (Ok (progress_at x [] true false st)) rest) next_at)
+
+    pub entered_on : passes started after_return c ≡ false → (next : Stood)
+        → (is_known st ≡ true → start + length front < first_of st.run start + limits.tag)
+        → is_too_long syntax limits (spot_of syntax st.nest) (st.run ++ entry_at c start (start + length front) ∷ []) (first_of st.run start) (start + length front) ≡ false
+        → entry_step syntax limits st (entry_at c start (start + length front)) ≡ Ok next → Goal (c == carriage_return) next
+    entered_on t next k long step =
+        to_last k
+        ∙ (ap (λ x. page_on syntax limits x rest) (entry_on syntax limits st started after_return c start front byte is_scalar form t long)
+        ∙ (ap (λ x. page_on syntax limits (settle (start + length front + 1) (c == carriage_return) (first_of st.run start) (start + length front) x) rest) step
+        ∙ ap (λ x. page_on syntax limits (Ok (progress_at x [] true (c == carriage_return) next)) rest) next_at))
+
+  -- the rest of the walk
+  abbrev pub Rest : List ℕ → List ℕ → ℕ → Stood → Type 0
+  Rest cs rest at end =
+      (pages : at + length (encodes cs) ≤ limits.page) (ar : Bool) (next : Stood) → Fine (at + length (encodes cs)) next (entered ar (placed at cs)) end
+      → page_on syntax limits (Ok (progress_at at [] true ar next)) (encodes cs ++ rest) ≡ page_on syntax limits (Ok (progress_at (at + length (encodes cs)) [] true (ends_return ar cs) end)) rest
+
+  pub walk : (cs rest : List ℕ) (start : ℕ) (after_return : Bool) (st end : Stood) → all_scalars cs ≡ true → no_nuls cs ≡ true → start + length (encodes cs) ≤ limits.page
+      → Fine (start + length (encodes cs)) st (entered after_return (placed start cs)) end
+      → page_on syntax limits (Ok (progress_at start [] true after_return st)) (encodes cs ++ rest) ≡ page_on syntax limits (Ok (progress_at (start + length (encodes cs)) [] true (ends_return after_return cs) end)) rest
+  walk [] rest start after_return st end s z p f =
+      let e : start + 0 ≡ start = omega arith in
+      ap (λ x. page_on syntax limits (Ok (progress_at start [] true after_return x)) rest) f.0 ∙ ap (λ x. page_on syntax limits (Ok (progress_at x [] true after_return end)) rest) (sym e)
+  walk (c ∷ cs) rest start after_return st end s z p f =
+      by (λ pages ar next g. walk cs rest (start + len_utf8 c) ar next end (and_parts (scalar c) (all_scalars cs) s).1 (and_parts (not (c == 0)) (no_nuls cs) z).1 pages g) (snoc_of (encode c))
+    where
+      l : length (encode c) ≡ len_utf8 c
+      l = length-encode c
+
+      n : length (encodes (c ∷ cs)) ≡ length (encode c) + length (encodes cs)
+      n = length-append (encode c) (encodes cs)
+
+      hi : start + length (encodes (c ∷ cs)) ≡ start + len_utf8 c + length (encodes cs)
+      hi = let a = n in let b = l in omega arith
+
+      by : Rest cs rest (start + len_utf8 c) end → Snoc (encode c) → page_on syntax limits (Ok (progress_at start [] true after_return st)) (encodes (c ∷ cs) ++ rest) ≡ page_on syntax limits (Ok (progress_at (start + length (encodes (c ∷ cs))) [] true (ends_return after_return (c ∷ cs)) end)) rest
+      by ih (none e) = let w = len_positive c in let v : length (encode c) ≡ 0 = ap length e in let a = l in absurd (omega arith)
+      by ih (some front byte form) =
+          let size : length front + 1 ≡ len_utf8 c = sym (length-append front (byte ∷ [])) ∙ (ap length (sym form) ∙ l) in
+          let parts = and_parts (scalar c) (all_scalars cs) s in
+          let zs = and_parts (not (c == 0)) (no_nuls cs) z in
+          let nonzero : (c == 0) ≡ false = untrue (c == 0) zs.0 in
+          let page : start + len_utf8 c ≤ limits.page = (let a = hi in omega arith) in
+          let pages : start + len_utf8 c + length (encodes cs) ≤ limits.page = (let a = hi in omega arith) in
+          let more : page_on syntax limits (Ok (progress_at start [] true after_return st)) (encodes (c ∷ cs) ++ rest) ≡ page_on syntax limits (Ok (progress_at start [] true after_return st)) (encode c ++ (encodes cs ++ rest))
+          = ap (λ b. page_on syntax limits (Ok (progress_at start [] true after_return st)) b) (append_assoc (encode c) (encodes cs) rest) in
+          by_test {G = page_on syntax limits (Ok (progress_at start [] true after_return st)) (encodes (c ∷ cs) ++ rest) ≡ page_on syntax limits (Ok (progress_at (start + length (encodes (c ∷ cs))) [] true (ends_return after_return (c ∷ cs)) end)) rest} (after_return && c == line_feed)
+          (λ t.
+          let f2 : Fine (start + length (encodes (c ∷ cs))) st (entered false (placed (start + len_utf8 c) cs)) end = subst (λ es. Fine (start + length (encodes (c ∷ cs))) st es end) (cond-true _ _ _ t) f in
+          let f3 : Fine (start + len_utf8 c + length (encodes cs)) st (entered false (placed (start + len_utf8 c) cs)) end = subst (λ x. Fine x st (entered false (placed (start + len_utf8 c) cs)) end) hi f2 in
+          let later : (e : Entry) (es : List Entry) → entered false (placed (start + len_utf8 c) cs) ≡ e ∷ es → start + length front < e.last = λ e es h. (let a = first_among false (start + len_utf8 c) cs e es h in let b = a.from in let d = a.order in omega arith) in
+          let k : is_known st ≡ true → start + length front < first_of st.run start + limits.tag = λ w. (let b = before_next (start + length (encodes (c ∷ cs))) (start + length front) st end (entered false (placed (start + len_utf8 c) cs)) f2 later (λ h. let a = hi in omega arith) w in let d = first_same st start (start + length front) w in omega arith) in
+          let is_return : (c == carriage_return) ≡ false = no_return c (and_parts after_return (c == line_feed) t).1 in
+          more ∙ (passed_on c cs (encodes cs ++ rest) start true after_return st end front byte parts.0 form size nonzero page t k
+          ∙ (ih pages false st f3
+          ∙ (ap (λ x. page_on syntax limits (Ok (progress_at x [] true (ends_return false cs) end)) rest) (sym hi)
+          ∙ ap (λ b. page_on syntax limits (Ok (progress_at (start + length (encodes (c ∷ cs))) [] true (ends_return b cs) end)) rest) (sym is_return)))))
+          (λ t.
+          let q : start + len_utf8 c - 1 ≡ start + length front = omega arith in
+          let f2 : Fine (start + length (encodes (c ∷ cs))) st (entry_at c start (start + len_utf8 c - 1) ∷ entered (c == carriage_return) (placed (start + len_utf8 c) cs)) end = subst (λ es. Fine (start + length (encodes (c ∷ cs))) st es end) (cond-false _ _ _ t) f in
+          let f3 : Fine (start + length (encodes (c ∷ cs))) st (entry_at c start (start + length front) ∷ entered (c == carriage_return) (placed (start + len_utf8 c) cs)) end = subst (λ x. Fine (start + length (encodes (c ∷ cs))) st (entry_at c start x ∷ entered (c == carriage_return) (placed (start + len_utf8 c) cs)) end) q f2 in
+          let f4 : Fine (start + len_utf8 c + length (encodes cs)) f3.2.0 (entered (c == carriage_return) (placed (start + len_utf8 c) cs)) end = subst (λ x. Fine x f3.2.0 (entered (c == carriage_return) (placed (start + len_utf8 c) cs)) end) hi f3.2.1.1 in
+          more ∙ (entered_on c cs (encodes cs ++ rest) start true after_return st end front byte parts.0 form size nonzero page t f3.2.0 f3.0 f3.1 f3.2.1.0
+          ∙ (ih pages (c == carriage_return) f3.2.0 f4
+          ∙ ap (λ x. page_on syntax limits (Ok (progress_at x [] true (ends_return (c == carriage_return) cs) end)) rest) (sym hi))))
+
+  -- a page from its first character on
+  abbrev pub at_first : Stood → Progress
+  at_first st = progress_at 0 [] false false st
+
+  pub page_walk : (cs rest : List ℕ) (st end : Stood) → all_scalars cs ≡ true → no_nuls cs ≡ true → length (encodes cs) ≤ limits.page
+      → Fine (length (encodes cs)) st (entered false (without_mark (placed 0 cs))) end
+      → page_on syntax limits (Ok (at_first st)) (encodes cs ++ rest) ≡ page_on syntax limits (Ok (progress_at (length (encodes cs)) [] (is_started cs) (ends_return false cs) end)) rest
+  page_walk [] rest st end s z p f = ap (λ x. page_on syntax limits (Ok (at_first x)) rest) f.0
+  page_walk (c ∷ cs) rest st end s z p f = by (snoc_of (encode c))
+    where
+      l : length (encode c) ≡ len_utf8 c
+      l = length-encode c
+
+      n : length (encodes (c ∷ cs)) ≡ length (encode c) + length (encodes cs)
+      n = length-append (encode c) (encodes cs)
+
+      hi : length (encodes (c ∷ cs)) ≡ 0 + len_utf8 c + length (encodes cs)
+      hi = let a = n in let b = l in omega arith
+
+      by : Snoc (encode c) → page_on syntax limits (Ok (at_first st)) (encodes (c ∷ cs) ++ rest) ≡ page_on syntax limits (Ok (progress_at (length (encodes (c ∷ cs))) [] true (ends_return false (c ∷ cs)) end)) rest
+      by (none e) = let w = len_positive c in let v : length (encode c) ≡ 0 = ap length e in let a = l in absurd (omega arith)
+      by (some front byte form) =
+          let size : length front + 1 ≡ len_utf8 c = sym (length-append front (byte ∷ [])) ∙ (ap length (sym form) ∙ l) in
+          let parts = and_parts (scalar c) (all_scalars cs) s in
+          let zs = and_parts (not (c == 0)) (no_nuls cs) z in
+          let nonzero : (c == 0) ≡ false = untrue (c == 0) zs.0 in
+          let page : 0 + len_utf8 c ≤ limits.page = (let a = hi in omega arith) in
+          let pages : 0 + len_utf8 c + length (encodes cs) ≤ limits.page = (let a = hi in omega arith) in
+          let more : page_on syntax limits (Ok (at_first st)) (encodes (c ∷ cs) ++ rest) ≡ page_on syntax limits (Ok (at_first st)) (encode c ++ (encodes cs ++ rest))
+          = ap (λ b. page_on syntax limits (Ok (at_first st)) b) (append_assoc (encode c) (encodes cs) rest) in
+          by_test {G = page_on syntax limits (Ok (at_first st)) (encodes (c ∷ cs) ++ rest) ≡ page_on syntax limits (Ok (progress_at (length (encodes (c ∷ cs))) [] true (ends_return false (c ∷ cs)) end)) rest} (c == byte_order_mark)
+          (λ t.
+          let f2 : Fine (length (encodes (c ∷ cs))) st (entered false (placed (0 + len_utf8 c) cs)) end = subst (λ es. Fine (length (encodes (c ∷ cs))) st (entered false es) end) (cond-true _ _ _ t) f in
+          let f3 : Fine (0 + len_utf8 c + length (encodes cs)) st (entered false (placed (0 + len_utf8 c) cs)) end = subst (λ x. Fine x st (entered false (placed (0 + len_utf8 c) cs)) end) hi f2 in
+          let later : (e : Entry) (es : List Entry) → entered false (placed (0 + len_utf8 c) cs) ≡ e ∷ es → 0 + length front < e.last = λ e es h. (let a = first_among false (0 + len_utf8 c) cs e es h in let b = a.from in let d = a.order in omega arith) in
+          let k : is_known st ≡ true → 0 + length front < first_of st.run 0 + limits.tag = λ w. (let b = before_next (length (encodes (c ∷ cs))) (0 + length front) st end (entered false (placed (0 + len_utf8 c) cs)) f2 later (λ h. let a = hi in omega arith) w in let d = first_same st 0 (0 + length front) w in omega arith) in
+          let is_return : (c == carriage_return) ≡ false = no_mark c t in
+          more ∙ (passed_on c cs (encodes cs ++ rest) 0 false false st end front byte parts.0 form size nonzero page (rw t refl) k
+          ∙ (walk cs rest (0 + len_utf8 c) false st end parts.1 zs.1 pages f3
+          ∙ (ap (λ x. page_on syntax limits (Ok (progress_at x [] true (ends_return false cs) end)) rest) (sym hi)
+          ∙ ap (λ b. page_on syntax limits (Ok (progress_at (length (encodes (c ∷ cs))) [] true (ends_return b cs) end)) rest) (sym is_return)))))
+          (λ t.
+          let q : 0 + len_utf8 c - 1 ≡ 0 + length front = omega arith in
+          let f2 : Fine (length (encodes (c ∷ cs))) st (entry_at c 0 (0 + len_utf8 c - 1) ∷ entered (c == carriage_return) (placed (0 + len_utf8 c) cs)) end = subst (λ es. Fine (length (encodes (c ∷ cs))) st (entered false es) end) (cond-false _ _ _ t) f in
+          let f3 : Fine (length (encodes (c ∷ cs))) st (entry_at c 0 (0 + length front) ∷ entered (c == carriage_return) (placed (0 + len_utf8 c) cs)) end = subst (λ x. Fine (length (encodes (c ∷ cs))) st (entry_at c 0 x ∷ entered (c == carriage_return) (placed (0 + len_utf8 c) cs)) end) q f2 in
+          let f4 : Fine (0 + len_utf8 c + length (encodes cs)) f3.2.0 (entered (c == carriage_return) (placed (0 + len_utf8 c) cs)) end = subst (λ x. Fine x f3.2.0 (entered (c == carriage_return) (placed (0 + len_utf8 c) cs)) end) hi f3.2.1.1 in
+          more ∙ (entered_on c cs (encodes cs ++ rest) 0 false false st end front byte parts.0 form size nonzero page (rw t refl) f3.2.0 f3.0 f3.1 f3.2.1.0
+          ∙ (walk cs rest (0 + len_utf8 c) (c == carriage_return) f3.2.0 end parts.1 zs.1 pages f4
+          ∙ ap (λ x. page_on syntax limits (Ok (progress_at x [] true (ends_return (c == carriage_return) cs) end)) rest) (sym hi))))

@@ -1,0 +1,290 @@
+-- The reader of bytes finds each fault of the grammar.
+use Rattle.std.proofs.Common.{◌≡◌, ◌≢◌, ◌∙◌, ⊎_elim, inl, inr, ℕ, ◌+◌, ◌<◌, ◌≤◌, Bool, true, false, List, [], ◌∷◌, ◌++◌, refl, sym, ap, subst, length, nat_le, Option, Some, None, Result, Ok, Err, arith}
+use Rattle.std.specs.Prelude.{◌&&◌, not, codes, if◌then◌else◌}
+use Rattle.std.proofs.lemmas.List.{length-append}
+use Rattle.rx_terms.specs.Ascii.{greater_than_sign, right_bracket}
+use Rattle.rx_terms.specs.Text.{Chars}
+use Rattle.rx_chars.specs.declared.syntax.Syntax.{Syntax}
+use Rattle.rx_chars.specs.declared.syntax.Syntax.TheVariants.{Xhtml}
+use Rattle.rx_chars.specs.Characters.{Entry}
+use Rattle.rx_grammar.specs.declared.contents.Content.{Content}
+use Rattle.rx_grammar.specs.declared.contents.Content.TheVariants as content
+use Rattle.rx_grammar.specs.declared.faults.Fault.{Fault}
+use Rattle.rx_grammar.specs.declared.faults.Kind.{Kind}
+use Rattle.rx_grammar.specs.declared.faults.Kind.TheVariants as kind
+use Rattle.rx_grammar.specs.declared.limits.Limits.{Limits}
+use Rattle.rx_grammar.specs.Tokens.{Tag, Token, tag, character, reference, kept, section, comment, doctype}
+use Rattle.rx_grammar.specs.Spelling.{Spells, a_doctype, keeps_runs}
+use Rattle.rx_grammar.specs.Shapes.{begins_tag, begins}
+use Rattle.rx_grammar.specs.Items.{values, Item, is_literal, is_strict_literal}
+use Rattle.rx_grammar.specs.Begun.{Line, inside_of, Phase, before, within, after}
+use Rattle.rx_grammar.specs.PageFaults.{is_known_tag, token_of, IsPending, IsShort, Unfinished, token_begun, tag_begun, run_begun, opening_begun, Reached, first_row, tag_rows, Faulty, FaultAt, Before, ends_in_brackets}
+use Rattle.rx_grammar.specs.PageFaults as faults
+use Rattle.rx_reader.proofs.TagFaultLaws.{reads_each_front}
+use Rattle.rx_pages.specs.Nesting.{Event, Nesting, content_at, IsAt, step_by, unless_refused, tag_passes}
+use Rattle.rx_pages.specs.Scanner.{GoesOn, Verdict, whole, refused, verdict, ReadAs, at_last, at_next}
+use Rattle.rx_pages.specs.PageReader.{Scanned, first_of, spot_of, may_lead, item_of, is_doctype, entering, told as told_by, with_events, read_byte, page_read, end_of}
+use Rattle.rx_pages.proofs.Texts.{run_goes}
+use Rattle.rx_pages.proofs.Openings.{opening_goes, refuses_opening}
+use Rattle.rx_pages.proofs.Pending.{begun_goes}
+use Rattle.rx_pages.proofs.Refusals.{IsRefused, refuses_run, refuses_comment, refuses_text, refuses_less_than, refuses_section}
+use Rattle.rx_pages.proofs.DoctypeFaults.{refuses_doctype}
+use Rattle.rx_pages.proofs.TagRuns.{tag_goes_on, tag_refused}
+use Rattle.rx_pages.proofs.Spellings.{reads_each}
+use Rattle.rx_pages.proofs.EntrySteps.{Stood, scanning_of, stood_by, nested_by, entry_step}
+use Rattle.rx_pages.proofs.ByteSteps.{not_long, is_le}
+use Rattle.rx_pages.proofs.TokenWalk.{stood}
+use Rattle.rx_pages.proofs.TokensWalk.{flags_behind}
+use Rattle.rx_pages.proofs.HitsRead.{decided_is_read}
+use Rattle.rx_pages.proofs.KnownTags.{known_more}
+use Rattle.rx_pages.proofs.Tokens.{values_append}
+use Rattle.rx_pages.proofs.FaultRead.{stands_there, scan_there, byte_fault, page_too_long, not_utf8, nul, tag_too_long, page_ends}
+
+-- what begins a token goes on
+pub pending_goes : (s : Syntax) (i : Content) (run : Chars) → IsPending s i run → GoesOn s i [] run
+pending_goes s i run p = ⊎_elim (λ e. subst (λ x. GoesOn s i [] x) (sym e) tt) (by run) p
+  where
+    by : (run : Chars) → Unfinished s i run → GoesOn s i [] run
+    by _ (token_begun c d run rest {next = next} token sp) = begun_goes s i (c ∷ run) d rest next token sp
+    by _ (tag_begun text k b) = tag_goes_on s i text k ((reads_each_front s text).0 b)
+    by _ (run_begun run r b) = run_goes s i run r b
+    by _ (opening_begun text e m h) = subst (λ (x : Syntax). GoesOn x i [] (60 ∷ text)) (sym e) (opening_goes i m text h)
+
+-- XHTML keeps no runs
+strict_runs : (line : Line) → keeps_runs (inside_of Xhtml line).content ≡ false
+strict_runs [] = refl
+strict_runs (t ∷ above) = refl
+
+two_lasts : (a b : Chars) (x y : ℕ) → a ++ x ∷ [] ≡ b ++ y ∷ [] → (a ≡ b) × (x ≡ y)
+two_lasts [] [] x y e = (refl, cc)
+two_lasts [] (c ∷ []) x y e = absurd (cc)
+two_lasts [] (c ∷ d ∷ b) x y e = absurd (cc)
+two_lasts (c ∷ []) [] x y e = absurd (cc)
+two_lasts (c ∷ d ∷ a) [] x y e = absurd (cc)
+two_lasts (c ∷ a) (d ∷ b) x y e = let r = two_lasts a b x y (cc) in let h : c ≡ d = cc in (ap (λ z. z ∷ a) h ∙ ap (λ z. d ∷ z) r.0, r.1)
+
+-- a whole token that needs no next character is read at its last one
+whole_verdict : (s : Syntax) (i : Content) (front : Chars) (c : ℕ) (chars : Chars) (token : Token) → Spells s i chars None token → chars ≡ front ++ c ∷ [] → verdict s i front c ≡ whole token
+whole_verdict s i front c chars token sp e = by chars None token (reads_each s i chars None token sp) e refl
+  where
+    by : (x : Chars) (n : Option ℕ) (t : Token) → ReadAs s i x n t → x ≡ front ++ c ∷ [] → n ≡ None → verdict s i front c ≡ whole t
+    by _ _ _ (at_last f d t go v) e n = let p = two_lasts f front d c e in subst (λ x. verdict s i x c ≡ whole t) p.0 (subst (λ x. verdict s i f x ≡ whole t) p.1 v)
+    by _ _ _ (at_next x d t go v) e n = absurd (cc)
+
+-- two brackets stand before
+brackets_before : (items : List Item) (two last : Bool) → ends_in_brackets items ≡ true → (flags_behind items two last).0 ≡ true
+brackets_before [] two last h = absurd (cc)
+brackets_before (a ∷ []) two last h = absurd (cc)
+brackets_before (a ∷ b ∷ []) two last h = h
+brackets_before (a ∷ b ∷ c ∷ items) two last h = brackets_before (b ∷ c ∷ items) (last && is_literal right_bracket a) (is_literal right_bracket a) h
+
+-- only a character is a literal one
+no_literal : (d : ℕ) (i : Content) (token : Token) → ((c : ℕ) → token ≢ character c) → is_strict_literal d i token ≡ false
+no_literal d content.Strict (tag t) n = refl
+no_literal d content.Strict (character c) n = absurd (n c refl)
+no_literal d content.Strict (reference c) n = refl
+no_literal d content.Strict (kept x) n = refl
+no_literal d content.Strict (section x) n = refl
+no_literal d content.Strict comment n = refl
+no_literal d content.Strict doctype n = refl
+no_literal d content.Outside token n = refl
+no_literal d content.Html token n = refl
+no_literal d content.Foreign token n = refl
+no_literal d (content.Raw name) token n = refl
+no_literal d (content.Rcdata name) token n = refl
+
+and_false : (b : Bool) → (b && false) ≡ false
+and_false true = refl
+and_false false = refl
+
+no_lead : (phase : Phase) → phase ≢ before false → may_lead phase ≡ false
+no_lead (before true) n = refl
+no_lead (before false) n = absurd (n refl)
+no_lead within n = refl
+no_lead after n = refl
+
+item_token : (i : Content) (token : Token) (run : List Entry) → (item_of i token run).token ≡ token
+item_token i token [] = refl
+item_token i token (e ∷ run) = refl
+
+item_content : (i : Content) (token : Token) (run : List Entry) (e : Entry) → (item_of i token (run ++ e ∷ [])).content ≡ i
+item_content i token [] e = refl
+item_content i token (d ∷ run) e = refl
+
+module _ (syntax : Syntax) (limits : Limits) (m : Nesting) (events : List Event) (two last : Bool) (run : List Entry) (c : Entry) where
+  abbrev inside : Content
+  inside = content_at syntax m
+
+  abbrev st : Stood
+  st = stood m events two last run
+
+  abbrev reads : Verdict → Result Stood Kind
+  reads v = nested_by syntax limits.depth st (told_by syntax limits (spot_of syntax m) false c (scanning_of st) v)
+
+  abbrev item : Token → Item
+  item token = item_of inside token (run ++ c ∷ [])
+
+  abbrev done : Token → Scanned
+  done token = record { next = entering false [] (last && is_literal right_bracket (item token)) (is_literal right_bracket (item token)) (scanning_of st); items = item token ∷ [] }
+
+  by_refusal : (found : Kind) → verdict syntax inside (values run) c.value ≡ refused found → entry_step syntax limits st c ≡ Err found
+  by_refusal found h = ap reads h
+
+  by_bracket : inside ≡ content.Strict → two ≡ true → verdict syntax inside (values run) c.value ≡ whole (character 62) → entry_step syntax limits st c ≡ Err kind.StrictText
+  by_bracket i t h =
+      ap reads h
+      ∙ (ap (λ b. nested_by syntax limits.depth st (if b && is_literal greater_than_sign (item (character 62)) then Err kind.StrictText else if is_doctype (item (character 62)).token && not (may_lead m.phase) then Err kind.BadDoctype else Ok (done (character 62)))) t
+      ∙ ap (λ b. nested_by syntax limits.depth st (if b then Err kind.StrictText else if is_doctype (item (character 62)).token && not (may_lead m.phase) then Err kind.BadDoctype else Ok (done (character 62))))
+      (ap (λ token. is_strict_literal 62 (item (character 62)).content token) (item_token inside (character 62) (run ++ c ∷ [])) ∙ ap (λ x. is_strict_literal 62 x (character 62)) (item_content inside (character 62) run c ∙ i)))
+
+  no_bracket : (token : Token) → ((d : ℕ) → token ≢ character d) → (two && is_literal greater_than_sign (item token)) ≡ false
+  no_bracket token n = ap (λ b. two && b) (ap (λ t. is_strict_literal 62 (item token).content t) (item_token inside token (run ++ c ∷ [])) ∙ no_literal 62 (item token).content token n) ∙ and_false two
+
+  by_doctype : m.phase ≢ before false → verdict syntax inside (values run) c.value ≡ whole doctype → entry_step syntax limits st c ≡ Err kind.BadDoctype
+  by_doctype n h =
+      ap reads h
+      ∙ (ap (λ b. nested_by syntax limits.depth st (if b then Err kind.StrictText else if is_doctype (item doctype).token && not (may_lead m.phase) then Err kind.BadDoctype else Ok (done doctype))) (no_bracket doctype (λ d e. cc))
+      ∙ (ap (λ token. nested_by syntax limits.depth st (if is_doctype token && not (may_lead m.phase) then Err kind.BadDoctype else Ok (done doctype))) (item_token inside doctype (run ++ c ∷ []))
+      ∙ ap (λ b. nested_by syntax limits.depth st (if not b then Err kind.BadDoctype else Ok (done doctype))) (no_lead m.phase n)))
+
+  by_tag : (t : Tag) (found : Kind) → first_row (tag_rows syntax limits.depth m.line m.phase t) ≡ Some found → verdict syntax inside (values run) c.value ≡ whole (tag t) → entry_step syntax limits st c ≡ Err found
+  by_tag t found r h =
+      ap reads h
+      ∙ (ap (λ b. nested_by syntax limits.depth st (if b then Err kind.StrictText else if is_doctype (item (tag t)).token && not (may_lead m.phase) then Err kind.BadDoctype else Ok (done (tag t)))) (no_bracket (tag t) (λ d e. cc))
+      ∙ (ap (λ token. nested_by syntax limits.depth st (if is_doctype token && not (may_lead m.phase) then Err kind.BadDoctype else Ok (done (tag t)))) (item_token inside (tag t) (run ++ c ∷ []))
+      ∙ (ap (λ token. stood_by (done (tag t)).next events (with_events [] (step_by syntax limits.depth m (item (tag t)) token))) (item_token inside (tag t) (run ++ c ∷ []))
+      ∙ ap (λ row. stood_by (done (tag t)).next events (with_events [] (unless_refused row (tag_passes syntax m.line (item (tag t)) t)))) r)))
+
+-- a fault of a token is the reader's
+module _ (syntax : Syntax) (limits : Limits) (items : List Item) (line : Line) (phase : Phase) (run : List Entry) (c : Entry) (m : Nesting) (at : IsAt line phase m) (events : List Event) where
+  abbrev place : Content
+  place = (inside_of syntax line).content
+
+  abbrev there : Stood
+  there = stood m events (flags_behind items false false).0 (flags_behind items false false).1 run
+
+  same_place : content_at syntax m ≡ place
+  same_place = ap (λ (l : Line). (inside_of syntax l).content) at.line_is
+
+  from_refusal : (found : Kind) (chars : Chars) → IsRefused syntax place found chars → chars ≡ values run ++ c.value ∷ [] → entry_step syntax limits there c ≡ Err found
+  from_refusal found chars r e =
+      let p = two_lasts r.front (values run) r.c c.value (sym r.are ∙ e) in
+      by_refusal syntax limits m events (flags_behind items false false).0 (flags_behind items false false).1 run c found
+      (ap (λ i. verdict syntax i (values run) c.value) same_place ∙ subst (λ x. verdict syntax place x c.value ≡ refused found) p.0 (subst (λ x. verdict syntax place r.front x ≡ refused found) p.1 r.refuses))
+
+  at_place : (token : Token) → verdict syntax place (values run) c.value ≡ whole token → verdict syntax (content_at syntax m) (values run) c.value ≡ whole token
+  at_place token h = ap (λ i. verdict syntax i (values run) c.value) same_place ∙ h
+
+  pub faulty_step : (found : Kind) (chars : Chars) → Faulty syntax limits.depth items line phase place found chars → chars ≡ values run ++ c.value ∷ [] → entry_step syntax limits there c ≡ Err found
+  faulty_step _ _ (faults.in_tag {found = found} text k f) e = from_refusal found (60 ∷ text) (tag_refused syntax place text found k f) e
+  faulty_step _ _ (faults.no_markup text d x markup o mo b) e =
+      from_refusal kind.BadTag (60 ∷ (text ++ d ∷ [])) (subst (λ (s : Syntax). IsRefused s place kind.BadTag (60 ∷ (text ++ d ∷ []))) (sym x) (refuses_opening place markup text d o mo (subst (λ (s : Syntax). begins (begins_tag s) (text ++ d ∷ []) ≡ false) x b))) e
+  faulty_step _ _ (faults.in_run {found = found} r h f) e =
+      from_refusal found (38 ∷ r) (refuses_run syntax place h (λ x. subst (λ (s : Syntax). keeps_runs (inside_of s line).content ≡ false) (sym x) (strict_runs line)) found r f) e
+  faulty_step _ _ (faults.in_comment text d x markup f n) e =
+      from_refusal kind.StrictText (60 ∷ (codes "!--" ++ (text ++ d ∷ []))) (subst (λ (s : Syntax). IsRefused s place kind.StrictText (60 ∷ (codes "!--" ++ (text ++ d ∷ [])))) (sym x) (refuses_comment place markup text d f n)) e
+  faulty_step _ _ (faults.section_end i b) e =
+      let p = two_lasts [] (values run) 62 c.value e in
+      by_bracket syntax limits m events (flags_behind items false false).0 (flags_behind items false false).1 run c (same_place ∙ i) (brackets_before items false false b)
+      (at_place (character 62) (ap (λ x. verdict syntax x (values run) c.value) i ∙ (ap (λ x. verdict syntax content.Strict x c.value) (sym p.0) ∙ ap (λ x. verdict syntax content.Strict [] x) (sym p.1))))
+  faulty_step _ _ (faults.no_doctype keyword text d markup w b n) e =
+      from_refusal kind.BadDoctype (60 ∷ 33 ∷ (keyword ++ (text ++ d ∷ []))) (refuses_doctype syntax place markup keyword text d w b n) e
+  faulty_step _ _ (faults.late_doctype text markup d n) e =
+      by_doctype syntax limits m events (flags_behind items false false).0 (flags_behind items false false).1 run c (λ h. n (sym at.phase_is ∙ h))
+      (at_place doctype (whole_verdict syntax place (values run) c.value (60 ∷ 33 ∷ text) doctype (a_doctype text markup d) e))
+  faulty_step _ _ (faults.outside_text d i w n) e = from_refusal kind.Outside (d ∷ []) (subst (λ x. IsRefused syntax x kind.Outside (d ∷ [])) (sym i) (refuses_text syntax d w n)) e
+  faulty_step _ _ (faults.outside_less_than d x i b) e =
+      from_refusal kind.Outside (60 ∷ d ∷ []) (subst (λ y. IsRefused syntax y kind.Outside (60 ∷ d ∷ [])) (sym i) (subst (λ (s : Syntax). IsRefused s content.Outside kind.Outside (60 ∷ d ∷ [])) (sym x) (refuses_less_than d b))) e
+  faulty_step _ _ (faults.outside_section x i) e =
+      from_refusal kind.Outside (codes "<![CDATA[") (subst (λ y. IsRefused syntax y kind.Outside (codes "<![CDATA[")) (sym i) (subst (λ (s : Syntax). IsRefused s content.Outside kind.Outside (codes "<![CDATA[")) (sym x) refuses_section)) e
+  faulty_step _ _ (faults.at_tag {found = found} chars t sp row) e =
+      by_tag syntax limits m events (flags_behind items false false).0 (flags_behind items false false).1 run c t found
+      (ap (λ (l : Line). first_row (tag_rows syntax limits.depth l m.phase t)) at.line_is ∙ (ap (λ (p : Phase). first_row (tag_rows syntax limits.depth line p t)) at.phase_is ∙ row))
+      (at_place (tag t) (whole_verdict syntax place (values run) c.value chars (tag t) sp e))
+
+-- the token of a run with one more character
+token_first : (bytes_before : List ℕ) (run : List Entry) (c : Entry) → token_of bytes_before (run ++ c ∷ []) ≡ first_of run c.first
+token_first bytes_before [] c = refl
+token_first bytes_before (e ∷ run) c = refl
+
+module _ (syntax : Syntax) (limits : Limits) where
+  first_there : (i : Content) (run : List Entry) (c : Entry) → is_known_tag syntax i (values run) ≡ true → first_of run 0 ≡ first_of run c.first
+  first_there i [] c k = absurd (cc)
+  first_there i (e ∷ run) c k = refl
+
+  -- a fault at a byte that isn't read as a character
+  module _ (bytes : List ℕ) (token at : ℕ) (b : Before syntax limits bytes token at) (below : at ≤ limits.page) (short : IsShort syntax limits b.line b.run token at) where
+    pub at_end : length b.whole ≤ limits.page
+    at_end = let a = b.at_is in omega arith
+
+    pub short_whole : IsShort syntax limits b.line b.run (token_of b.whole b.run) (length b.whole)
+    short_whole k = let s = short k in let a = b.at_is in let t = b.token_is in omega arith
+
+    short_part : IsShort syntax limits b.line b.run (token_of b.whole b.run) (length b.whole + length b.part)
+    short_part k = let s = short k in let a = b.at_is in let t = b.token_is in omega arith
+
+    pub byte_is_read : (found : Kind) → read_byte syntax limits (spot_of syntax (stands_there pending_goes syntax limits b.whole b.items b.line b.phase b.run b.reached b.pending at_end short_whole).place) b.byte (scan_there pending_goes syntax limits b.whole b.items b.line b.phase b.run b.reached b.pending at_end short_whole b.part b.byte b.rest) ≡ Err found
+        → end_of (page_read syntax limits bytes) ≡ Err (record { kind = found; token = token; at = at })
+    byte_is_read found h =
+        ap (λ x. end_of (page_read syntax limits x)) b.are
+        ∙ (ap end_of (byte_fault pending_goes syntax limits b.whole b.items b.line b.phase b.run b.reached b.pending at_end short_whole b.part b.byte b.rest b.is_part (let a = b.at_is in omega arith) short_part found h)
+        ∙ (λ i. Err (record { kind = found; token = sym b.token_is i; at = sym b.at_is i })))
+
+  known_with : (i : Content) (run : List Entry) (c : Entry) → is_known_tag syntax i (values run) ≡ true → is_known_tag syntax i (values (run ++ c ∷ [])) ≡ true
+  known_with i run c k = subst (λ x. is_known_tag syntax i x ≡ true) (sym (values_append run (c ∷ []))) (known_more syntax i (values run) (c.value ∷ []) k)
+
+  -- a fault that a character decides
+  pub character_is_read : (bytes bytes_before rest : List ℕ) (items : List Item) (line : Line) (phase : Phase) (run : List Entry) (c : Entry) (found : Kind) → bytes ≡ bytes_before ++ rest → Reached syntax limits bytes_before items line phase (run ++ c ∷ []) → IsPending syntax (inside_of syntax line).content (values run)
+      → Faulty syntax limits.depth items line phase (inside_of syntax line).content found (values (run ++ c ∷ [])) → IsShort syntax limits line (run ++ c ∷ []) (token_of bytes_before (run ++ c ∷ [])) (c.last + 1) → c.last < limits.page
+      → end_of (page_read syntax limits bytes) ≡ Err (record { kind = found; token = token_of bytes_before (run ++ c ∷ []); at = c.last })
+  character_is_read bytes bytes_before rest items line phase run c found are reached pending faulty short below =
+      let token_is = token_first bytes_before run c in
+      let f : Fault = record { kind = found; token = token_of bytes_before (run ++ c ∷ []); at = c.last } in
+      let bound : is_known_tag syntax (inside_of syntax line).content (values (run ++ c ∷ [])) ≡ true → c.last < first_of run c.first + limits.tag = λ k. (let s = short k in omega arith) in
+      ap (λ x. end_of (page_read syntax limits x)) are
+      ∙ ap end_of (decided_is_read syntax limits bytes_before items line phase run c f reached (pending_goes syntax (inside_of syntax line).content (values run) pending) below
+      (λ k. (let s = bound (known_with (inside_of syntax line).content run c k) in let t = first_there (inside_of syntax line).content run c k in omega arith))
+      (λ m at events. inr (
+        not_long (is_known_tag syntax (content_at syntax m) (values (run ++ c ∷ []))) (first_of run c.first + limits.tag) c.last (λ k. bound (subst (λ (l : Line). is_known_tag syntax (inside_of syntax l).content (values (run ++ c ∷ [])) ≡ true) at.line_is k)),
+        (faulty_step syntax limits items line phase run c m at events found (values (run ++ c ∷ [])) faulty (values_append run (c ∷ [])), λ i. record { kind = found; token = token_is i; at = c.last }),
+      ))
+      rest)
+
+  -- a tag that is known at the character that passes its limit
+  pub known_is_read : (bytes bytes_before rest : List ℕ) (items : List Item) (line : Line) (phase : Phase) (first : Entry) (more : List Entry) (c : Entry) → bytes ≡ bytes_before ++ rest → Reached syntax limits bytes_before items line phase ((first ∷ more) ++ c ∷ [])
+      → Unfinished syntax (inside_of syntax line).content (values (first ∷ more)) → is_known_tag syntax (inside_of syntax line).content (values (first ∷ more)) ≡ false → is_known_tag syntax (inside_of syntax line).content (values ((first ∷ more) ++ c ∷ [])) ≡ true
+      → first.first + limits.tag ≤ c.last → c.last < limits.page → end_of (page_read syntax limits bytes) ≡ Err (record { kind = kind.TagTooLong; token = first.first; at = c.last })
+  known_is_read bytes bytes_before rest items line phase first more c are reached pending unknown known long below =
+      let f : Fault = record { kind = kind.TagTooLong; token = first.first; at = c.last } in
+      ap (λ x. end_of (page_read syntax limits x)) are
+      ∙ ap end_of (decided_is_read syntax limits bytes_before items line phase (first ∷ more) c f reached (pending_goes syntax (inside_of syntax line).content (values (first ∷ more)) (inr pending)) below
+      (λ k. absurd (true_false (sym k ∙ unknown)))
+      (λ m at events. inl (
+        ap (λ b. b && nat_le (first.first + limits.tag) c.last) (subst (λ (l : Line). is_known_tag syntax (inside_of syntax l).content (values ((first ∷ more) ++ c ∷ [])) ≡ true) (sym at.line_is) known) ∙ is_le (first.first + limits.tag) c.last long,
+        refl,
+      ))
+      rest)
+    where
+      true_false : true ≡ false → ⊥
+      true_false e = cc
+
+pub fault_is_read : (syntax : Syntax) (limits : Limits) (bytes : List ℕ) (fault : Fault) → FaultAt syntax limits bytes fault → end_of (page_read syntax limits bytes) ≡ Err fault
+fault_is_read syntax limits bytes _ (faults.page_too_long token at b p s) =
+    byte_is_read syntax limits bytes token at b (omega arith) s kind.PageTooLong
+    (page_too_long pending_goes syntax limits b.whole b.items b.line b.phase b.run b.reached b.pending (at_end syntax limits bytes token at b (omega arith) s) (short_whole syntax limits bytes token at b (omega arith) s) b.part b.byte b.rest (let a = b.at_is in omega arith))
+fault_is_read syntax limits bytes _ (faults.not_utf8 token at b p s n) =
+    byte_is_read syntax limits bytes token at b (omega arith) s kind.NotUtf8
+    (not_utf8 pending_goes syntax limits b.whole b.items b.line b.phase b.run b.reached b.pending (at_end syntax limits bytes token at b (omega arith) s) (short_whole syntax limits bytes token at b (omega arith) s) b.part b.byte b.rest (let a = b.at_is in omega arith) n)
+fault_is_read syntax limits bytes _ (faults.nul token at b p s n z) =
+    byte_is_read syntax limits bytes token at b (omega arith) s kind.Nul
+    (nul pending_goes syntax limits b.whole b.items b.line b.phase b.run b.reached b.pending (at_end syntax limits bytes token at b (omega arith) s) (short_whole syntax limits bytes token at b (omega arith) s) b.part b.byte b.rest (let a = b.at_is in omega arith) n z)
+fault_is_read syntax limits bytes _ (faults.tag_too_long token at b p k l g) =
+    byte_is_read syntax limits bytes token at b (omega arith) (λ w. omega arith) kind.TagTooLong
+    (tag_too_long pending_goes syntax limits b.whole b.items b.line b.phase b.run b.reached b.pending (at_end syntax limits bytes token at b (omega arith) (λ w. omega arith)) (short_whole syntax limits bytes token at b (omega arith) (λ w. omega arith)) b.part b.byte b.rest (let a = b.at_is in omega arith) k (let a = b.at_is in let t = b.token_is in omega arith) g)
+fault_is_read syntax limits bytes _ (faults.known_too_long bytes_before rest items line phase first more c are r u unknown known l p) = known_is_read syntax limits bytes bytes_before rest items line phase first more c are r u unknown known l p
+fault_is_read syntax limits bytes _ (faults.decided {found = found} bytes_before rest items line phase run c are r pending f s p) = character_is_read syntax limits bytes bytes_before rest items line phase run c found are r pending f s p
+fault_is_read syntax limits bytes _ (faults.unended bytes_before part items line phase run are r pending is open_there size s) =
+    let sizes : length bytes ≡ length bytes_before + length part = ap length are ∙ length-append bytes_before part in
+    ap (λ x. end_of (page_read syntax limits x)) are
+    ∙ (page_ends pending_goes syntax limits bytes_before items line phase run r pending (omega arith) (λ k. (let t = s k in omega arith)) part is (omega arith) (λ k. (let t = s k in omega arith)) open_there
+    ∙ ap (λ n. Err (record { kind = kind.Unended; token = token_of bytes_before run; at = n })) (sym sizes))

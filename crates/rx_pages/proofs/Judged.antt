@@ -1,0 +1,182 @@
+-- Unfinished characters go on, and faults are decided as the tables say, both ways.
+use Rattle.std.proofs.Common.{◌≡◌, ◌≢◌, ◌∙◌, ℕ, Bool, true, false, List, [], ◌∷◌, ◌++◌, Option, Some, None, refl, ap, sym, subst}
+use Rattle.std.specs.Prelude.{◌&&◌, codes, Err}
+use Rattle.rx_terms.specs.Text.{Chars}
+use Rattle.rx_chars.specs.declared.syntax.Syntax.{Syntax}
+use Rattle.rx_chars.specs.declared.syntax.Syntax.TheVariants.{Html, Xhtml}
+use Rattle.rx_grammar.specs.declared.contents.Content.{Content}
+use Rattle.rx_grammar.specs.declared.contents.Content.TheVariants as content
+use Rattle.rx_grammar.specs.declared.contents.RawName.{RawName}
+use Rattle.rx_grammar.specs.declared.faults.Kind.{Kind}
+use Rattle.rx_grammar.specs.declared.faults.Kind.TheVariants as kind
+use Rattle.rx_grammar.specs.Names.{same, is_among, name_of_raw}
+use Rattle.rx_grammar.specs.Tokens.{Tag, Token, tag, character, reference, kept, section, comment, doctype}
+use Rattle.rx_grammar.specs.Contents.{in_html, raw_place, raw_names, rcdata_names, inside_html, inside_foreign, html_in_svg, Place, inside_at}
+use Rattle.rx_grammar.specs.Spelling.{Spells, keeps_runs, IsDoctype, a_doctype}
+use Rattle.rx_grammar.specs.Spelling as spelling
+use Rattle.rx_grammar.specs.Shapes.{begins, begins_tag}
+use Rattle.rx_grammar.specs.Items.{Item}
+use Rattle.rx_grammar.specs.Begun.{Line, inside_of, Phase, before, within, after}
+use Rattle.rx_grammar.specs.PageFaults.{Unfinished, token_begun, tag_begun, run_begun, opening_begun, tag_rows, first_row, Faulty, in_tag, no_markup, in_run, in_comment, section_end, no_doctype, late_doctype, outside_text, outside_less_than, outside_section, at_tag}
+use Rattle.rx_pages.specs.Nesting.{Nesting, Step, unless_refused, tag_passes, doctype_step, step_by, nest_step, IsAt}
+use Rattle.rx_pages.specs.Scanner.{GoesOn, ReadAs, at_last, at_next}
+use Rattle.rx_pages.specs.Faults.{Decides, by_character, by_token, by_section_end}
+use Rattle.rx_pages.specs.Laws.{UnfinishedGoesOn, SpellsEachToken, FaultsAreDecided}
+use Rattle.rx_pages.proofs.Spellings.{reads_each}
+use Rattle.rx_pages.proofs.Texts.{run_goes}
+use Rattle.rx_pages.proofs.Pending.{begun_goes}
+use Rattle.rx_pages.proofs.Openings.{opening_goes, refuses_opening}
+use Rattle.rx_pages.proofs.Refusals.{IsRefused, refuses_run, refuses_comment, refuses_text, refuses_less_than, refuses_section}
+use Rattle.rx_pages.proofs.DoctypeFaults.{refuses_doctype}
+use Rattle.rx_pages.proofs.TagRuns.{tag_goes_on, tag_refused}
+use Rattle.rx_pages.proofs.Pends.{occurs}
+use Rattle.rx_pages.proofs.PendsOn.{pends, unfinished, spells_read, faulty_read}
+use Rattle.rx_reader.proofs.Bools.{split}
+use Rattle.rx_reader.proofs.TagFaultLaws.{reads_on}
+
+-- the contents inside of open elements
+abbrev Fits : Place → Type 0
+Fits place = occurs Html place.content ≡ true
+
+raw_fits : (as_content : RawName → Content) → ((r : RawName) → occurs Html (as_content r) ≡ true) → (names : List RawName) (name : Chars) (other : Place) → Fits other → Fits (raw_place as_content names name other)
+raw_fits as_content f [] name other h = h
+raw_fits as_content f (r ∷ names) name other h = split Fits (same name (name_of_raw r)) _ _ (λ e. f r) (λ e. raw_fits as_content f names name other h)
+
+html_fits : (name : Chars) → Fits (inside_html name)
+html_fits name =
+    split Fits (same name (codes "svg")) _ _ (λ e. refl)
+    (λ e. split Fits (same name (codes "math")) _ _ (λ f. refl)
+    (λ f. raw_fits content.Raw (λ r. refl) raw_names name _ (raw_fits content.Rcdata (λ r. refl) rcdata_names name in_html refl)))
+
+foreign_fits : (in_svg : Bool) (name : Chars) → Fits (inside_foreign in_svg name)
+foreign_fits in_svg name = split Fits (in_svg && is_among html_in_svg name) _ _ (λ e. refl) (λ e. refl)
+
+inside_fits : (c : Content) (in_svg : Bool) (name : Chars) → Fits (inside_at c in_svg name)
+inside_fits content.Foreign in_svg name = foreign_fits in_svg name
+inside_fits content.Outside in_svg name = html_fits name
+inside_fits content.Html in_svg name = html_fits name
+inside_fits content.Strict in_svg name = html_fits name
+inside_fits (content.Raw r) in_svg name = html_fits name
+inside_fits (content.Rcdata r) in_svg name = html_fits name
+
+pub inside_occurs : (s : Syntax) (line : Line) → occurs s (inside_of s line).content ≡ true
+inside_occurs Html [] = refl
+inside_occurs Xhtml [] = refl
+inside_occurs Html (t ∷ above) = inside_fits (inside_of Html above).content (inside_of Html above).in_svg t.name
+inside_occurs Xhtml (t ∷ above) = refl
+
+-- what is unfinished goes on
+goes : (s : Syntax) (i : Content) (run : Chars) → Unfinished s i run → GoesOn s i [] run
+goes s i _ (token_begun c d run rest {next = next} token sp) = begun_goes s i (c ∷ run) d rest next token sp
+goes s i _ (tag_begun text h b) = tag_goes_on s i text h (reads_on s text b)
+goes s i _ (run_begun run r b) = run_goes s i run r b
+goes s i _ (opening_begun text z m b) = subst (λ x. GoesOn x i [] (60 ∷ text)) (sym z) (opening_goes i m text b)
+
+pub unfinished_goes_on : UnfinishedGoesOn
+unfinished_goes_on s line c run =
+    let i = (inside_of s line).content in
+    (λ u. goes s i (c ∷ run) u, λ g. unfinished s i (inside_occurs s line) (pends s i (inside_occurs s line) (c ∷ run) g) (λ e. cc))
+
+pub spells_each_token : SpellsEachToken
+spells_each_token s line text next token r = spells_read s (inside_of s line).content (inside_occurs s line) text next token r
+
+strict_keeps : (i : Content) → occurs Xhtml i ≡ true → keeps_runs i ≡ false
+strict_keeps content.Outside o = refl
+strict_keeps content.Strict o = refl
+strict_keeps content.Html o = absurd (cc)
+strict_keeps content.Foreign o = absurd (cc)
+strict_keeps (content.Raw r) o = absurd (cc)
+strict_keeps (content.Rcdata r) o = absurd (cc)
+
+abbrev at_place : Line → Phase → Nesting
+at_place line phase = record { line = line; phase = phase; drops = false }
+
+abbrev an_item : Token → Content → Item
+an_item token inside = record { token = token; content = inside; first = 0; last = 0 }
+
+late : (phase : Phase) → phase ≢ before false → doctype_step phase ≡ Err kind.BadDoctype
+late (before false) n = absurd (n refl)
+late (before true) n = refl
+late within n = refl
+late after n = refl
+
+module _ (s : Syntax) (depth : ℕ) (items : List Item) (line : Line) (phase : Phase) (i : Content) (o : occurs s i ≡ true) where
+  abbrev D : Kind → Chars → Type 0
+  D found chars = Decides s depth items line phase i found chars
+
+  refused_so : (found : Kind) (chars : Chars) → IsRefused s i found chars → D found chars
+  refused_so found chars r = subst (D found) (sym r.are) (by_character r.front r.c r.go r.refuses)
+
+  -- a token that nothing has to follow is whole at its last character
+  whole_so : (found : Kind) (chars : Chars) (token : Token) → ReadAs s i chars None token → nest_step s depth (at_place line phase) (an_item token i) ≡ Err found → D found chars
+  whole_so found chars token r h = by chars None token r refl refl
+    where
+      by : (x : Chars) (n : Option ℕ) (t : Token) → ReadAs s i x n t → n ≡ None → t ≡ token → D found x
+      by _ _ _ (at_last run c t g v) e q = by_token run c (at_place line phase) (an_item t i) g v (record { line_is = refl; phase_is = refl }) (subst (λ y. nest_step s depth (at_place line phase) (an_item y i) ≡ Err found) (sym q) h)
+      by _ _ _ (at_next x c t g v) e q = absurd (cc)
+
+  strict : s ≡ Xhtml → keeps_runs i ≡ false
+  strict z = strict_keeps i (subst (λ x. occurs x i ≡ true) z o)
+
+  decided : {found : Kind} {chars : Chars} → Faulty s depth items line phase i found chars → D found chars
+  decided {found = found} (in_tag text h f) = refused_so found _ (tag_refused s i text found h f)
+  decided (no_markup text c z m b n t) = refused_so kind.BadTag _ (subst (λ x. IsRefused x i kind.BadTag (60 ∷ (text ++ c ∷ []))) (sym z) (refuses_opening i m text c b n (subst (λ x. begins (begins_tag x) (text ++ c ∷ []) ≡ false) z t)))
+  decided {found = found} (in_run run r f) = refused_so found _ (refuses_run s i r strict found run f)
+  decided (in_comment text c z m f n) = refused_so kind.StrictText _ (subst (λ x. IsRefused x i kind.StrictText (60 ∷ (codes "!--" ++ (text ++ c ∷ [])))) (sym z) (refuses_comment i m text c f n))
+  decided (section_end e b) = by_section_end e b
+  decided (no_doctype word text c m w b n) = refused_so kind.BadDoctype _ (refuses_doctype s i m word text c w b n)
+  decided (late_doctype text m d n) = whole_so kind.BadDoctype _ doctype (reads_each s i (60 ∷ 33 ∷ text) None doctype (a_doctype text m d)) (late phase n)
+  decided (outside_text c e w n) = refused_so kind.Outside _ (subst (λ x. IsRefused s x kind.Outside (c ∷ [])) (sym e) (refuses_text s c w n))
+  decided (outside_less_than c z e b) = refused_so kind.Outside _ (subst (λ y. IsRefused y i kind.Outside (60 ∷ c ∷ [])) (sym z) (subst (λ x. IsRefused Html x kind.Outside (60 ∷ c ∷ [])) (sym e) (refuses_less_than c b)))
+  decided (outside_section z e) = refused_so kind.Outside _ (subst (λ y. IsRefused y i kind.Outside (codes "<![CDATA[")) (sym z) (subst (λ x. IsRefused Xhtml x kind.Outside (codes "<![CDATA[")) (sym e) refuses_section))
+  decided {found = found} (at_tag chars t sp h) = whole_so found chars (tag t) (reads_each s i chars None (tag t) sp) (ap (λ x. unless_refused x (tag_passes s line (an_item (tag t) i) t)) h)
+
+  -- a document type that doesn't stand first
+  doctype_inside : (chars : Chars) (token : Token) → Spells s i chars None token → token ≡ doctype → phase ≢ before false → Faulty s depth items line phase i kind.BadDoctype chars
+  doctype_inside _ _ (a_doctype text m d) e n = late_doctype text m d n
+  doctype_inside _ _ (spelling.a_tag text t m sp) e n = absurd (cc)
+  doctype_inside _ _ (spelling.an_end_of_raw text name t r sp c q) e n = absurd (cc)
+  doctype_inside _ _ (spelling.a_character c h) e n = absurd (cc)
+  doctype_inside _ _ (spelling.a_less_than z h b) e n = absurd (cc)
+  doctype_inside _ _ (spelling.a_raw_run text name r h b) e n = absurd (cc)
+  doctype_inside _ _ (spelling.a_reference body c r b m) e n = absurd (cc)
+  doctype_inside _ _ (spelling.a_kept_run run k h b) e n = absurd (cc)
+  doctype_inside _ _ (spelling.a_comment text z m f) e n = absurd (cc)
+  doctype_inside _ _ (spelling.a_bogus_comment text z m q f) e n = absurd (cc)
+  doctype_inside _ _ (spelling.a_question text z m f) e n = absurd (cc)
+  doctype_inside _ _ (spelling.a_strict_comment text z m f) e n = absurd (cc)
+  doctype_inside _ _ (spelling.an_instruction text z m f) e n = absurd (cc)
+  doctype_inside _ _ (spelling.a_section text h f) e n = absurd (cc)
+
+  tag_inside : (found : Kind) (chars : Chars) (t : Tag) (step : Step) (o : Option Kind) → Spells s i chars None (tag t) → first_row (tag_rows s depth line phase t) ≡ o → unless_refused o step ≡ Err found → Faulty s depth items line phase i found chars
+  tag_inside found chars t step None sp e h = absurd (cc)
+  tag_inside found chars t step (Some k) sp e h = let q : k ≡ found = cc in at_tag chars t sp (e ∙ ap Some q)
+
+  not_first : (found : Kind) (p : Phase) → doctype_step p ≡ Err found → (found ≡ kind.BadDoctype) × (p ≢ before false)
+  not_first found (before false) h = absurd (cc)
+  not_first found (before true) h = (cc, λ e. cc)
+  not_first found within h = (cc, λ e. cc)
+  not_first found after h = (cc, λ e. cc)
+
+  at_line : (found : Kind) (item : Item) (n : Nesting) (chars : Chars) (token : Token) → item.token ≡ token → IsAt line phase n → Spells s i chars None token → step_by s depth n item token ≡ Err found → Faulty s depth items line phase i found chars
+  at_line found item n chars (tag t) q at sp h =
+      tag_inside found chars t (tag_passes s n.line item t) (first_row (tag_rows s depth line phase t)) sp refl
+      (ap (λ l. unless_refused (first_row (tag_rows s depth l phase t)) (tag_passes s n.line item t)) (sym at.line_is) ∙ (ap (λ p. unless_refused (first_row (tag_rows s depth n.line p t)) (tag_passes s n.line item t)) (sym at.phase_is) ∙ h))
+  at_line found item n chars (character c) q at sp h = absurd (cc)
+  at_line found item n chars (reference c) q at sp h = absurd (cc)
+  at_line found item n chars (kept text) q at sp h = absurd (cc)
+  at_line found item n chars (section text) q at sp h = absurd (cc)
+  at_line found item n chars comment q at sp h = absurd (cc)
+  at_line found item n chars doctype q at sp h =
+      let k = not_first found n.phase h in
+      subst (λ x. Faulty s depth items line phase i x chars) (sym k.0) (doctype_inside chars doctype sp refl (λ e. k.1 (at.phase_is ∙ e)))
+
+  faulty : {found : Kind} {chars : Chars} → D found chars → Faulty s depth items line phase i found chars
+  faulty {found = found} (by_character run c g h) = faulty_read s i o run c found g h depth items line phase
+  faulty {found = found} (by_token run c n item g v at h) = at_line found item n (run ++ c ∷ []) item.token refl at (spells_read s i o (run ++ c ∷ []) None item.token (at_last run c item.token g v)) h
+  faulty (by_section_end e b) = section_end e b
+
+pub faults_are_decided : FaultsAreDecided
+faults_are_decided s depth items line phase found chars =
+    let i = (inside_of s line).content in
+    (λ f. decided s depth items line phase i (inside_occurs s line) f, λ d. faulty s depth items line phase i (inside_occurs s line) d)

@@ -1,0 +1,33 @@
+-- The reader of bytes reads each page.
+use Rattle.std.proofs.Common.{◌≡◌, ◌∙◌, ℕ, List, [], ◌++◌, refl, sym, ap, subst, length, append-nil, Ok, Err, true, false}
+use Rattle.std.specs.Prelude.{if◌then◌else◌}
+use Rattle.rx_chars.specs.declared.syntax.Syntax.{Syntax}
+use Rattle.rx_chars.specs.Characters.{IsRead}
+use Rattle.rx_grammar.specs.declared.faults.Kind.TheVariants.{Unended}
+use Rattle.rx_grammar.specs.declared.limits.Limits.{Limits}
+use Rattle.rx_grammar.specs.Trees.{Tree}
+use Rattle.rx_grammar.specs.Pages.{Page, has_no_nul}
+use Rattle.rx_grammar.specs.Begun.{Phase, after}
+use Rattle.rx_pages.specs.Nesting.{IsAt}
+use Rattle.rx_pages.specs.PageReader.{Progress, nothing_read, page_on, page_read, end_of, is_over, fault_in}
+use Rattle.rx_pages.specs.Laws.{PageIsRead}
+use Rattle.rx_pages.proofs.Documents.{document_tells}
+use Rattle.rx_pages.proofs.ByteSteps.{progress_at}
+use Rattle.rx_pages.proofs.TokenWalk.{stood}
+use Rattle.rx_pages.proofs.TokensWalk.{flags_behind}
+use Rattle.rx_pages.proofs.FrontRead.{front_is_read}
+
+pub page_is_read : (syntax : Syntax) (limits : Limits) (bytes : List ℕ) (tree : Tree) → Page syntax limits bytes tree → PageIsRead syntax limits bytes tree
+page_is_read syntax limits bytes tree page =
+    let d = document_tells syntax limits.depth (IsAt [] after) (λ k h. record { line_is = h.line_is; phase_is = h.phase_is }) (record { line_is = refl; phase_is = refl }) page.items tree page.document in
+    let all : page.entries ++ [] ≡ page.entries = append-nil page.entries in
+    let r =
+    front_is_read syntax limits bytes (IsAt [] after) page.entries [] page.items d.events (subst (λ es. IsRead bytes es) (sym all) page.read) (subst (λ es. has_no_nul es ≡ true) (sym all) page.no_nul)
+    page.spelled page.fit page.sections d.going page.size (λ m p. tt) (λ m p k. absurd (cc)) in
+    let final : Progress = progress_at (length bytes) [] r.started r.after_return (stood r.place d.events (flags_behind page.items false false).0 (flags_behind page.items false false).1 []) in
+    let read : page_read syntax limits bytes ≡ Ok final = ap (λ b. page_on syntax limits (Ok nothing_read) b) (sym (append-nil bytes)) ∙ r.is_read [] in
+    record {
+      final = final;
+      is_read = ap end_of read ∙ ap (λ (p : Phase). if is_over p then Ok final else Err (fault_in final.now.scan Unended)) r.is_meant.phase_is;
+      trees = d.tree_is;
+    }

@@ -1,0 +1,254 @@
+-- A run that is known to be a tag is read as one.
+use Rattle.std.proofs.Common.{◌≡◌, ◌≢◌, ◌∙◌, ℕ, ◌+◌, ◌≤◌, length, take, Bool, true, false, [], ◌∷◌, ◌++◌, Some, Ok, Err, refl, ap, sym, subst, append-nil, append_assoc, inl, inr, ◌⊎◌, arith}
+use Rattle.std.specs.Prelude.{◌&&◌, ◌||◌, ◌==◌, not, drop}
+use Rattle.std.proofs.lemmas.Bool.{cond-true, cond-false}
+use Rattle.std.proofs.lemmas.List.{length-append, length-map, take-append-drop}
+use Rattle.rx_terms.specs.Ascii.{lowered_char, solidus, less_than_sign}
+use Rattle.rx_terms.specs.Text.{Chars, begins_with, lowered}
+use Rattle.rx_chars.specs.declared.syntax.Syntax.{Syntax}
+use Rattle.rx_chars.specs.declared.syntax.Syntax.TheVariants.{Html, Xhtml}
+use Rattle.rx_grammar.specs.declared.contents.Content.{Content}
+use Rattle.rx_grammar.specs.declared.contents.Content.TheVariants as content
+use Rattle.rx_grammar.specs.declared.faults.Kind.{Kind}
+use Rattle.rx_grammar.specs.declared.faults.Kind.TheVariants.{BadTag}
+use Rattle.rx_grammar.specs.Names.{same, name_of_raw}
+use Rattle.rx_grammar.specs.References.{meaning}
+use Rattle.rx_grammar.specs.Shapes.{begins_tag, ends_name, begins}
+use Rattle.rx_grammar.specs.TagFaults.{TagFault}
+use Rattle.rx_grammar.specs.Spelling.{has_markup, raw_name, begins_end, stops_end, begins_markup}
+use Rattle.rx_grammar.specs.PageFaults.{is_known_end, is_known_tag}
+use Rattle.rx_reader.specs.Tables.{is_html, is_last}
+use Rattle.rx_reader.specs.TagReader.{TagState, fresh, moved, checked, tag_step, tag_step_on, tag_on}
+use Rattle.rx_reader.specs.Laws.{ReadsOn}
+use Rattle.rx_pages.specs.Scanner.{goes_on, refused, told_of_tag, in_tag, in_raw, in_markup, is_mark, verdict, GoesOn}
+use Rattle.rx_pages.proofs.Reading.{all_go, markup_is, raw_is}
+use Rattle.rx_pages.proofs.RawText.{begins_end_front}
+use Rattle.rx_pages.proofs.Contents.{same_is}
+use Rattle.rx_pages.proofs.FirstFronts.{same_self}
+use Rattle.rx_pages.proofs.Refusals.{IsRefused}
+use Rattle.rx_reader.proofs.Bools.{both, either, not_both_ways, by_test}
+use Rattle.rx_reader.proofs.Classes.{of_one}
+use Rattle.rx_reader.proofs.Fronts.{equal, two_fronts}
+use Rattle.rx_reader.proofs.TagLaws.{last_none, on_err, tag_on-append}
+use Rattle.rx_reader.proofs.TagFaultLaws.{parts, is_refused}
+
+-- The fronts of what is read as a tag are read so.
+pub after_last : (s : Syntax) (st : TagState) (c : ℕ) (text : Chars) (last : TagState) → is_last st.phase ≡ true → tag_on s (meaning s) (Ok st) (c ∷ text) ≡ Ok last → ⊥
+after_last s st c text last w h =
+    let e : tag_step s (meaning s) st c ≡ Err BadTag = ap (λ m. checked s (moved s (meaning s) st c m)) (last_none s st.phase c w) in
+    let k : tag_on s (meaning s) (Err BadTag) text ≡ Ok last = ap (λ o. tag_on s (meaning s) o text) (sym e) ∙ h in
+    let m = on_err s (meaning s) BadTag text in
+    cc
+
+pub front_reads : (s : Syntax) (a b : Chars) → ReadsOn s (a ++ b) → ReadsOn s a
+front_reads s a [] r = subst (ReadsOn s) (append-nil a) r
+front_reads s a (c ∷ b) r =
+    let p = parts s a (c ∷ b) r.reached r.run in
+    record { reached = p.between; run = p.first; unfinished = by_test (is_last p.between.phase) (λ w. absurd (after_last s p.between c b r.reached w p.second)) (λ w. w) }
+
+pub in_tag_goes : (s : Syntax) (f : Chars) (d : ℕ) → ReadsOn s (f ++ d ∷ []) → in_tag s f d ≡ goes_on
+in_tag_goes s f d r = ap told_of_tag r.run ∙ cond-false _ _ _ r.unfinished
+
+in_tag_refuses : (s : Syntax) (kind : Kind) (f : Chars) (d : ℕ) (r : ReadsOn s f) → tag_step s (meaning s) r.reached d ≡ Err kind → in_tag s f d ≡ refused kind
+in_tag_refuses s kind f d r h = ap told_of_tag (tag_on-append s (meaning s) (Ok fresh) f (d ∷ []) ∙ (ap (λ o. tag_step_on s (meaning s) o d) r.run ∙ h))
+
+-- After `<` a solidus or what begins a name tells that a tag stands there.
+abbrev pub is_first : Syntax → ℕ → Bool
+is_first s c = c == solidus || begins_tag s c
+
+not_first : (s : Syntax) (c d : ℕ) → is_first s c ≡ true → is_first s d ≡ false → (c == d) ≡ false
+not_first s c d h n = by_test {G = (c == d) ≡ false} (c == d) (λ e. absurd (not_both_ways (is_first s c) h (of_one (λ x. is_first s x ≡ false) c d e n))) (λ e. e)
+
+no_mark : (s : Syntax) (c : ℕ) → is_first s c ≡ true → is_mark c ≡ false
+no_mark Html c h = rw (not_first Html c 33 h refl, not_first Html c 63 h refl) refl
+no_mark Xhtml c h = rw (not_first Xhtml c 33 h refl, not_first Xhtml c 63 h refl) refl
+
+no_text : (s : Syntax) (c : ℕ) → is_first s c ≡ true → (is_html s && not (begins_markup c)) ≡ false
+no_text Html c h = elim (either (c == solidus) (begins_tag Html c) h) [ inl e ↦ of_one (λ x. not (begins_markup x) ≡ false) c solidus e refl | inr e ↦ rw e refl ]
+no_text Xhtml c h = refl
+
+pub markup_tag : (s : Syntax) (i : Content) (text f : Chars) (d : ℕ) (more : Chars) → begins (is_first s) text ≡ true → text ≡ f ++ d ∷ more → in_markup s i f d ≡ in_tag s f d
+markup_tag s i text [] d more h e =
+    let k : is_first s d ≡ true = ap (begins (is_first s)) (sym e) ∙ h in
+    cond-false _ _ _ (no_mark s d k) ∙ cond-false _ _ _ (no_text s d k)
+markup_tag s i text (x ∷ f) d more h e =
+    let k : is_first s x ≡ true = ap (begins (is_first s)) (sym e) ∙ h in
+    cond-false _ _ _ (no_bang' s x k) ∙ cond-false _ _ _ (no_question' s x k)
+  where
+    no_bang' : (s : Syntax) (x : ℕ) → is_first s x ≡ true → (x == 33) ≡ false
+    no_bang' Html x k = not_first Html x 33 k refl
+    no_bang' Xhtml x k = not_first Xhtml x 33 k refl
+
+    no_question' : (s : Syntax) (x : ℕ) → is_first s x ≡ true → (x == 63) ≡ false
+    no_question' Html x k = not_first Html x 63 k refl
+    no_question' Xhtml x k = not_first Xhtml x 63 k refl
+
+-- In raw text the whole name and a character that ends it do.
+pub record KnownEnd (name text : Chars) : Type 0 where
+  pub word : Chars
+  pub e : ℕ
+  pub rest : Chars
+  pub are : text ≡ word ++ e ∷ rest
+  pub is : lowered word ≡ solidus ∷ name
+  pub ends : ends_name e ≡ true
+
+-- a list that begins with a character that meets a test
+record Heads (test : ℕ → Bool) (text : Chars) : Type 0 where
+  c : ℕ
+  more : Chars
+  is : text ≡ c ∷ more
+  meets : test c ≡ true
+
+heads : (test : ℕ → Bool) (text : Chars) → begins test text ≡ true → Heads test text
+heads test [] h = absurd (cc)
+heads test (c ∷ text) h = record { c = c; more = text; is = refl; meets = h }
+
+pub known_end : (name text : Chars) → is_known_end name text ≡ true → KnownEnd name text
+known_end name text h =
+    let k = both (same (lowered (take (length name + 1) text)) (solidus ∷ name)) _ h in
+    let d = heads ends_name (drop (length name + 1) text) k.1 in
+    record {
+      word = take (length name + 1) text;
+      e = d.c;
+      rest = d.more;
+      are = sym (take-append-drop (length name + 1) text) ∙ ap (λ x. take (length name + 1) text ++ x) d.is;
+      is = same_is (lowered (take (length name + 1) text)) (solidus ∷ name) k.0;
+      ends = d.meets;
+    }
+
+begins_no_longer : (p q : Chars) → begins_with p q ≡ true → length p ≤ length q
+begins_no_longer [] q h = omega arith
+begins_no_longer (c ∷ p) [] h = absurd (cc)
+begins_no_longer (c ∷ p) (d ∷ q) h = let k = both (c == d) _ h in let l = begins_no_longer p q k.1 in omega arith
+
+-- more than the whole name begins no end tag's front
+pub past_name : (name word z : Chars) (c : ℕ) → lowered word ≡ solidus ∷ name → begins_end name (word ++ c ∷ z) ≡ false
+past_name name word z c e = by_test (begins_end name (word ++ c ∷ z)) (λ h. absurd (too_long (begins_no_longer (lowered (word ++ c ∷ z)) (solidus ∷ name) h))) (λ h. h)
+  where
+    too_long : length (lowered (word ++ c ∷ z)) ≤ length (solidus ∷ name) → ⊥
+    too_long l =
+        let a = length-map (word ++ c ∷ z) lowered_char in
+        let b = length-append word (c ∷ z) in
+        let d = length-map word lowered_char in
+        let f : length (lowered word) ≡ length (solidus ∷ name) = ap length e in
+        omega (arith, l, a, b, d, f)
+
+pub whole_begins : (name word : Chars) → lowered word ≡ solidus ∷ name → begins_end name word ≡ true
+whole_begins name word e = ap (λ x. begins_with x (solidus ∷ name)) e ∙ begins_self (solidus ∷ name)
+  where
+    begins_self : (x : Chars) → begins_with x x ≡ true
+    begins_self [] = refl
+    begins_self (c ∷ x) = rw (equal c, begins_self x) refl
+
+-- the name is whole, and the character ends it
+no_stop : (name word : Chars) (e : ℕ) → lowered word ≡ solidus ∷ name → ends_name e ≡ true → stops_end name word e ≡ false
+no_stop name word e i h =
+    let k : (same (lowered word) (solidus ∷ name) && ends_name e) ≡ true = rw (i, same_self (solidus ∷ name), h) refl in
+    let f : not (same (lowered word) (solidus ∷ name) && ends_name e) ≡ false = ap not k in
+    and_false (not (begins_end name (word ++ e ∷ []))) _ f
+  where
+    and_false : (a b : Bool) → b ≡ false → (a && b) ≡ false
+    and_false true b h = h
+    and_false false b h = refl
+
+module _ (s : Syntax) (name text : Chars) (k : KnownEnd name text) (f : Chars) (d : ℕ) (more : Chars) (e : text ≡ f ++ d ∷ more) where
+  behind_name : (z : Chars) → f ≡ k.word ++ z → k.e ∷ k.rest ≡ z ++ d ∷ more → in_raw s name f d ≡ in_tag s f d
+  behind_name z q r =
+      cond-false _ _ _ (past z q) ∙ cond-false _ _ _ (stopped z q r)
+    where
+      past : (z : Chars) → f ≡ k.word ++ z → begins_end name (f ++ d ∷ []) ≡ false
+      past [] q = ap (λ x. begins_end name (x ++ d ∷ [])) (q ∙ append-nil k.word) ∙ past_name name k.word [] d k.is
+      past (x ∷ z) q = ap (λ y. begins_end name (y ++ d ∷ [])) q ∙ (ap (begins_end name) (append_assoc k.word (x ∷ z) (d ∷ [])) ∙ past_name name k.word (z ++ d ∷ []) x k.is)
+
+      stopped : (z : Chars) → f ≡ k.word ++ z → k.e ∷ k.rest ≡ z ++ d ∷ more → (begins_end name f && stops_end name f d) ≡ false
+      stopped [] q r =
+          let c : k.e ≡ d = cc in
+          let w : f ≡ k.word = q ∙ append-nil k.word in
+          let n : stops_end name f d ≡ false = ap (λ x. stops_end name x d) w ∙ (ap (stops_end name k.word) (sym c) ∙ no_stop name k.word k.e k.is k.ends) in
+          ap (λ b. begins_end name f && b) n ∙ none (begins_end name f)
+        where
+          none : (b : Bool) → (b && false) ≡ false
+          none true = refl
+          none false = refl
+      stopped (x ∷ z) q r = ap (λ b. b && stops_end name f d) (ap (begins_end name) q ∙ past_name name k.word z x k.is)
+
+  -- each character of it is one of the name or one of the tag
+  pub known_at : (in_raw s name f d ≡ in_tag s f d) ⊎ ((in_raw s name f d ≡ goes_on) × (more ≢ []))
+  known_at = elim (two_fronts k.word f (k.e ∷ k.rest) (d ∷ more) (sym k.are ∙ e)) [
+    | inl l ↦ inl (behind_name l.z l.is l.rest)
+    | inr l ↦ within l.z l.is l.rest
+  ]
+    where
+      within : (z : Chars) → k.word ≡ f ++ z → d ∷ more ≡ z ++ k.e ∷ k.rest → (in_raw s name f d ≡ in_tag s f d) ⊎ ((in_raw s name f d ≡ goes_on) × (more ≢ []))
+      within [] q r = inl (behind_name [] (sym (q ∙ append-nil f) ∙ sym (append-nil k.word)) (sym r))
+      within (x ∷ z) q r =
+          let c : d ≡ x = cc in
+          let m : more ≡ z ++ k.e ∷ k.rest = cc in
+          let b : begins_end name (f ++ d ∷ []) ≡ true = begins_end_front name (f ++ d ∷ []) z (ap (begins_end name) (append_assoc f (d ∷ []) z ∙ (ap (λ y. f ++ y ∷ z) c ∙ sym q)) ∙ whole_begins name k.word k.is) in
+          inr (cond-true _ _ _ b, λ n. not_nothing z (sym m ∙ n))
+        where
+          not_nothing : (z : Chars) → z ++ k.e ∷ k.rest ≡ [] → ⊥
+          not_nothing [] h = cc
+          not_nothing (y ∷ z) h = cc
+
+-- what is known to be a tag, in each content
+pub data Known (s : Syntax) (i : Content) (text : Chars) : Type 0 where
+  in_markup' : has_markup i ≡ true → begins (is_first s) text ≡ true → Known s i text
+  in_raw' : (name : Chars) → raw_name i ≡ Some name → is_known_end name text ≡ true → Known s i text
+
+pub known : (s : Syntax) (i : Content) (text : Chars) → is_known_tag s i (less_than_sign ∷ text) ≡ true → Known s i text
+known s content.Outside text h = in_markup' refl h
+known s content.Html text h = in_markup' refl h
+known s content.Foreign text h = in_markup' refl h
+known s content.Strict text h = in_markup' refl h
+known s (content.Raw name) text h = in_raw' (name_of_raw name) refl h
+known s (content.Rcdata name) text h = in_raw' (name_of_raw name) refl h
+
+pub is_known : (s : Syntax) (i : Content) (text : Chars) → Known s i text → is_known_tag s i (less_than_sign ∷ text) ≡ true
+is_known s content.Outside text (in_markup' m h) = h
+is_known s content.Html text (in_markup' m h) = h
+is_known s content.Foreign text (in_markup' m h) = h
+is_known s content.Strict text (in_markup' m h) = h
+is_known s (content.Raw name) text (in_markup' m h) = absurd (cc)
+is_known s (content.Rcdata name) text (in_markup' m h) = absurd (cc)
+is_known s content.Outside text (in_raw' name r h) = absurd (cc)
+is_known s content.Html text (in_raw' name r h) = absurd (cc)
+is_known s content.Foreign text (in_raw' name r h) = absurd (cc)
+is_known s content.Strict text (in_raw' name r h) = absurd (cc)
+is_known s (content.Raw n) text (in_raw' name r h) = let e : name_of_raw n ≡ name = cc in ap (λ x. is_known_end x text) e ∙ h
+is_known s (content.Rcdata n) text (in_raw' name r h) = let e : name_of_raw n ≡ name = cc in ap (λ x. is_known_end x text) e ∙ h
+
+module _ (s : Syntax) (i : Content) (text : Chars) where
+  pub verdict_at : Known s i text → (f : Chars) (d : ℕ) (more : Chars) → text ≡ f ++ d ∷ more → (verdict s i (60 ∷ f) d ≡ in_tag s f d) ⊎ ((verdict s i (60 ∷ f) d ≡ goes_on) × (more ≢ []))
+  verdict_at (in_markup' m h) f d more e = inl (markup_is s i f d m ∙ markup_tag s i text f d more h e)
+  verdict_at (in_raw' name r h) f d more e = elim (known_at s name text (known_end name text h) f d more e) [
+    | inl k ↦ inl (raw_is s i f name d r ∙ k)
+    | inr k ↦ inr (raw_is s i f name d r ∙ k.0, k.1)
+  ]
+
+  -- each character of the front of a tag goes on
+  pub front_goes : Known s i text → (front more : Chars) → text ≡ front ++ more → ReadsOn s front → GoesOn s i [] (60 ∷ front)
+  front_goes k front more t r = (
+    refl,
+    all_go s i (60 ∷ []) front (λ f d rest e.
+        elim (verdict_at k f d (rest ++ more) (t ∙ (ap (λ x. x ++ more) e ∙ append_assoc f (d ∷ rest) more))) [
+          | inl q ↦ q ∙ in_tag_goes s f d (front_reads s (f ++ d ∷ []) rest (subst (ReadsOn s) (e ∙ sym (append_assoc f (d ∷ []) rest)) r))
+          | inr q ↦ q.0
+        ]),
+  )
+
+  pub tag_goes_on : is_known_tag s i (less_than_sign ∷ text) ≡ true → ReadsOn s text → GoesOn s i [] (60 ∷ text)
+  tag_goes_on h r = front_goes (known s i text h) text [] (sym (append-nil text)) r
+
+  -- and the one that decides a fault is refused
+  pub tag_refused : (kind : Kind) → is_known_tag s i (less_than_sign ∷ text) ≡ true → TagFault s kind text → IsRefused s i kind (60 ∷ text)
+  tag_refused kind h f =
+      let r = is_refused f in
+      let k = known s i text h in
+      record {
+        front = 60 ∷ r.front;
+        c = r.c;
+        are = ap (λ x. 60 ∷ x) r.are;
+        go = front_goes k r.front (r.c ∷ []) r.are r.before;
+        refuses = elim (verdict_at k r.front r.c [] r.are) [ inl q ↦ q ∙ in_tag_refuses s kind r.front r.c r.before r.refused | inr q ↦ absurd (q.1 refl) ];
+      }

@@ -1,0 +1,235 @@
+-- Reading the entries of a page token by token.
+use Rattle.std.proofs.Common.{◌≡◌, ◌∙◌, ◌⊎◌, ⊎_elim, inl, inr, ℕ, ◌+◌, ◌<◌, Bool, true, false, List, [], ◌∷◌, ◌++◌, refl, sym, ap, subst, nat_le, append_assoc, append-nil, Option, None, Result, Ok, Err}
+use Rattle.std.specs.Prelude.{◌&&◌, ◌||◌, ◌==◌, not, if◌then◌else◌}
+use Rattle.rx_terms.specs.Ascii.{greater_than_sign, right_bracket, less_than_sign, ampersand}
+use Rattle.rx_terms.specs.Text.{Chars}
+use Rattle.rx_chars.specs.declared.syntax.Syntax.{Syntax}
+use Rattle.rx_chars.specs.Characters.{Entry}
+use Rattle.rx_grammar.specs.declared.contents.Content.{Content}
+use Rattle.rx_grammar.specs.declared.faults.Kind.{Kind}
+use Rattle.rx_grammar.specs.declared.faults.Kind.TheVariants.{BadDoctype, StrictText}
+use Rattle.rx_grammar.specs.declared.limits.Limits.{Limits}
+use Rattle.rx_grammar.specs.Tokens.{Token, tag, character, reference, kept, section, comment, doctype}
+use Rattle.rx_grammar.specs.Spelling as spelling
+use Rattle.rx_grammar.specs.Spelling.{Spells, has_references, is_text}
+use Rattle.rx_grammar.specs.Items.{values, Item, is_literal}
+use Rattle.rx_grammar.specs.Begun.{Phase, before, within, after}
+use Rattle.rx_grammar.specs.PageFaults.{is_known_tag}
+use Rattle.rx_reader.proofs.Bools.{by_test}
+use Rattle.rx_pages.specs.Nesting.{Event, Nesting, Step, content_at, nest_step, step_by, going_on, doctype_step, text_step}
+use Rattle.rx_pages.specs.Scanner.{Verdict, goes_on, whole, ended, at_first, verdict, GoesOn, ReadAs, at_last, at_next}
+use Rattle.rx_pages.specs.PageReader.{Spot, Scanning, Scanned, first_of, is_too_long, item_of, is_doctype, entering, completed, told_first, with_item, told as told_by, spot_of, may_lead, with_events, steps_on, no_step}
+use Rattle.rx_pages.proofs.Pending.{goes_at, not_whole}
+use Rattle.rx_pages.proofs.Spellings.{reads_each}
+use Rattle.rx_pages.proofs.Tokens.{values_append}
+use Rattle.rx_pages.proofs.KnownTags.{TagVerdict, on, a_tag, a_fault, known_more, known_verdict}
+use Rattle.rx_pages.proofs.EntrySteps.{Stood, scanning_of, stood_by, nested_by, entry_step}
+use Rattle.rx_pages.proofs.ByteSteps.{not_long}
+use Rattle.rx_pages.proofs.CharWalk.{is_known, Fine}
+
+abbrev pub stood : Nesting → List Event → Bool → Bool → List Entry → Stood
+stood n events two last run = record { run = run; two = two; last = last; nest = n; told = events }
+
+-- what steps are told does not depend on what was told before
+with_nothing : (r : Result Step Kind) → with_events [] r ≡ r
+with_nothing (Ok step) = refl
+with_nothing (Err kind) = refl
+
+with_both : (a b : List Event) (r : Result Step Kind) → with_events a (with_events b r) ≡ with_events (a ++ b) r
+with_both a b (Ok step) = ap (λ x. Ok (record { next = step.next; events = x })) (sym (append_assoc a b step.events))
+with_both a b (Err kind) = refl
+
+module _ (syntax : Syntax) (depth : ℕ) where
+  steps_of_fault : (kind : Kind) (items : List Item) → steps_on syntax depth (Err kind) items ≡ Err kind
+  steps_of_fault kind [] = refl
+  steps_of_fault kind (item ∷ items) = steps_of_fault kind items
+
+  pub steps_from : (first : List Event) (r : Result Step Kind) (items : List Item) → steps_on syntax depth (with_events first r) items ≡ with_events first (steps_on syntax depth r items)
+  steps_from first r [] = refl
+  steps_from first (Ok step) (item ∷ items) =
+      ap (λ x. steps_on syntax depth x items) (sym (with_both first step.events (nest_step syntax depth step.next item)))
+      ∙ steps_from first (with_events step.events (nest_step syntax depth step.next item)) items
+  steps_from first (Err kind) (item ∷ items) = steps_of_fault kind items ∙ ap (λ x. with_events first x) (sym (steps_of_fault kind items))
+
+  pub stood_from : (s : Scanning) (events more : List Event) (r : Result Step Kind) → stood_by s events (with_events more r) ≡ stood_by s (events ++ more) r
+  stood_from s events more (Ok step) = ap (λ x. Ok (record { run = s.run; two = s.two; last = s.last; nest = step.next; told = x })) (sym (append_assoc events more step.events))
+  stood_from s events more (Err kind) = refl
+
+-- a token that stays text because of what follows it
+pub data IsKept (token : Token) : Type 0 where
+  is_kept : (text : Chars) → token ≡ kept text → IsKept token
+
+kept_or_any : (s : Syntax) (i : Content) (text : Chars) (next : Option ℕ) (token : Token) → Spells s i text next token → IsKept token ⊎ Spells s i text None token
+kept_or_any s i _ next _ (spelling.a_tag text t m sp) = inr (spelling.a_tag text t m sp)
+kept_or_any s i _ next _ (spelling.an_end_of_raw text name t r sp c n) = inr (spelling.an_end_of_raw text name t r sp c n)
+kept_or_any s i _ next _ (spelling.a_character c h) = inr (spelling.a_character c h)
+kept_or_any s i _ next _ (spelling.a_less_than e h b) = inl (is_kept _ refl)
+kept_or_any s i _ next _ (spelling.a_raw_run text name r h b) = inl (is_kept _ refl)
+kept_or_any s i _ next _ (spelling.a_reference body c r b m) = inr (spelling.a_reference body c r b m)
+kept_or_any s i _ next _ (spelling.a_kept_run run k h b) = inl (is_kept _ refl)
+kept_or_any s i _ next _ (spelling.a_comment text e m f) = inr (spelling.a_comment text e m f)
+kept_or_any s i _ next _ (spelling.a_bogus_comment text e m n f) = inr (spelling.a_bogus_comment text e m n f)
+kept_or_any s i _ next _ (spelling.a_question text e m f) = inr (spelling.a_question text e m f)
+kept_or_any s i _ next _ (spelling.a_strict_comment text e m f) = inr (spelling.a_strict_comment text e m f)
+kept_or_any s i _ next _ (spelling.an_instruction text e m f) = inr (spelling.an_instruction text e m f)
+kept_or_any s i _ next _ (spelling.a_section text h f) = inr (spelling.a_section text h f)
+kept_or_any s i _ next _ (spelling.a_doctype text m d) = inr (spelling.a_doctype text m d)
+
+-- characters that all go on and spell a token spell one that is kept
+pub goes_kept : (s : Syntax) (i : Content) (text : Chars) (next : Option ℕ) (token : Token) → Spells s i text next token → GoesOn s i [] text → IsKept token
+goes_kept s i text next token sp g = ⊎_elim (λ k. k) (λ any. absurd (by text None token (reads_each s i text None token any) refl refl)) (kept_or_any s i text next token sp)
+  where
+    by : (x : Chars) (n : Option ℕ) (t : Token) → ReadAs s i x n t → x ≡ text → n ≡ None → ⊥
+    by _ _ _ (at_last front c t go k) e n = not_whole s i (verdict s i front c) t (goes_at s i [] front c [] (subst (λ x. GoesOn s i [] x) (sym e) g)) k
+    by _ _ _ (at_next x c t go k) e n = absurd (cc)
+
+-- a document type that nests may come there
+pub leads_there : (syntax : Syntax) (depth : ℕ) (n : Nesting) (item : Item) (step : Step) → nest_step syntax depth n item ≡ Ok step → (is_doctype item.token && not (may_lead n.phase)) ≡ false
+leads_there syntax depth n item step h = by item.token h
+  where
+    by : (token : Token) → step_by syntax depth n item token ≡ Ok step → (is_doctype token && not (may_lead n.phase)) ≡ false
+    by (tag t) k = refl
+    by (character c) k = refl
+    by (reference c) k = refl
+    by (kept text) k = refl
+    by (section text) k = refl
+    by comment k = refl
+    by doctype k = at n.phase k
+      where
+        at : (phase : Phase) → doctype_step phase ≡ Ok step → (true && not (may_lead phase)) ≡ false
+        at (before false) m = refl
+        at (before true) m = absurd (cc)
+        at within m = absurd (cc)
+        at after m = absurd (cc)
+
+-- text leaves the elements as they are
+pub kept_goes_on : (syntax : Syntax) (depth : ℕ) (n : Nesting) (item : Item) (step : Step) → nest_step syntax depth n item ≡ Ok step → IsKept item.token → step.next ≡ going_on n
+kept_goes_on syntax depth n item step h (is_kept text e) =
+    let same : Ok (text_step n false text) ≡ Ok step = sym (ap (λ token. step_by syntax depth n item token) e) ∙ h in let is : text_step n false text ≡ step = cc in sym (ap (λ (s : Step). s.next) is)
+
+-- the first character of a whole token or of a run, behind some of its characters
+pub first_behind : (unit a : List Entry) (e : Entry) (b : List Entry) → unit ≡ a ++ e ∷ b → first_of a e.first ≡ first_of unit 0
+first_behind unit [] e b h = ap (λ x. first_of x 0) (sym h)
+first_behind unit (d ∷ a) e b h = ap (λ x. first_of x 0) (sym h)
+
+module _ (syntax : Syntax) (limits : Limits) where
+  -- entries that lead from one state to another
+  abbrev pub Leads : Stood → List Entry → Stood → Type 0
+  Leads st [] mid = st ≡ mid
+  Leads st (e ∷ es) mid =
+      (is_known syntax limits st ≡ true → e.last < first_of st.run e.first + limits.tag)
+      × (is_too_long syntax limits (spot_of syntax st.nest) (st.run ++ e ∷ []) (first_of st.run e.first) e.last ≡ false)
+      × ((next : Stood) × ((entry_step syntax limits st e ≡ Ok next) × Leads next es mid))
+
+  pub fine_append : (hi : ℕ) (st mid end : Stood) (xs ys : List Entry) → Leads st xs mid → Fine syntax limits hi mid ys end → Fine syntax limits hi st (xs ++ ys) end
+  fine_append hi st mid end [] ys l f = subst (λ x. Fine syntax limits hi x ys end) (sym l) f
+  fine_append hi st mid end (e ∷ xs) ys l f = (l.0, l.1, (l.2.0, (l.2.1.0, fine_append hi l.2.0 mid end xs ys l.2.1.1 f)))
+
+  -- in one content, where no tag is too long
+  module _ (n : Nesting) (events : List Event) (two last : Bool) (unit : List Entry) where
+    abbrev pub inside : Content
+    inside = content_at syntax n
+
+    abbrev pub Bound : Type 0
+    Bound = (a : List Entry) (e : Entry) (b : List Entry) → unit ≡ a ++ e ∷ b → is_known_tag syntax inside (values (a ++ e ∷ [])) ≡ true → e.last < first_of unit 0 + limits.tag
+
+    -- the limits at one entry
+    pub known_next : (a : List Entry) (e : Entry) → is_known_tag syntax inside (values a) ≡ true → is_known_tag syntax inside (values (a ++ e ∷ [])) ≡ true
+    known_next a e h = subst (λ x. is_known_tag syntax inside x ≡ true) (sym (values_append a (e ∷ []))) (known_more syntax inside (values a) (e.value ∷ []) h)
+
+    pub limit_before : Bound → (a : List Entry) (e : Entry) (b : List Entry) → unit ≡ a ++ e ∷ b → is_known_tag syntax inside (values a) ≡ true → e.last < first_of a e.first + limits.tag
+    limit_before bound a e b h k = let m = bound a e b h (known_next a e k) in subst (λ x. e.last < x + limits.tag) (sym (first_behind unit a e b h)) m
+
+    pub limit_with : Bound → (a : List Entry) (e : Entry) (b : List Entry) → unit ≡ a ++ e ∷ b → is_too_long syntax limits (spot_of syntax n) (a ++ e ∷ []) (first_of a e.first) e.last ≡ false
+    limit_with bound a e b h =
+        not_long (is_known_tag syntax inside (values (a ++ e ∷ []))) (first_of a e.first + limits.tag) e.last
+        (λ k. let m = bound a e b h k in subst (λ x. e.last < x + limits.tag) (sym (first_behind unit a e b h)) m)
+
+    go_step : (a : List Entry) (e : Entry) → verdict syntax inside (values a) e.value ≡ goes_on → entry_step syntax limits (stood n events two last a) e ≡ Ok (stood n events two last (a ++ e ∷ []))
+    go_step a e v =
+        ap (λ x. nested_by syntax limits.depth (stood n events two last a) (told_by syntax limits (spot_of syntax n) false e (scanning_of (stood n events two last a)) x)) v
+        ∙ ap (λ x. Ok (stood n x two last (a ++ e ∷ []))) (append-nil events)
+
+    -- entries that go on
+    pub go_all : Bound → (a es b : List Entry) → unit ≡ a ++ (es ++ b) → GoesOn syntax inside (values a) (values es) → Leads (stood n events two last a) es (stood n events two last (a ++ es))
+    go_all bound a [] b h g = ap (λ x. stood n events two last x) (sym (append-nil a))
+    go_all bound a (e ∷ es) b h g = (
+      limit_before bound a e (es ++ b) h,
+      limit_with bound a e (es ++ b) h,
+      (
+        stood n events two last (a ++ e ∷ []),
+        (
+          go_step a e g.0,
+          subst (λ x. Leads (stood n events two last (a ++ e ∷ [])) es (stood n events two last x)) (append_assoc a (e ∷ []) es)
+              (go_all bound (a ++ e ∷ []) es b (h ∙ sym (append_assoc a (e ∷ []) (es ++ b))) (subst (λ x. GoesOn syntax inside x (values es)) (sym (values_append a (e ∷ []))) g.1)),
+        ),
+      ),
+    )
+
+    -- the entry that completes a token
+    pub whole_step : (a : List Entry) (e : Entry) (item : Item) (step : Step) → verdict syntax inside (values a) e.value ≡ whole item.token → item_of inside item.token (a ++ e ∷ []) ≡ item
+        → nest_step syntax limits.depth n item ≡ Ok step → (two && is_literal greater_than_sign item) ≡ false
+        → entry_step syntax limits (stood n events two last a) e ≡ Ok (stood step.next (events ++ step.events) (last && is_literal right_bracket item) (is_literal right_bracket item) [])
+    whole_step a e item step v i st sec =
+        ap (λ x. nested_by syntax limits.depth (stood n events two last a) (told_by syntax limits (spot_of syntax n) false e (scanning_of (stood n events two last a)) x)) v
+        ∙ (ap (λ x. nested_by syntax limits.depth (stood n events two last a) (completed syntax limits (spot_of syntax n) false x (scanning_of (stood n events two last a)))) i
+        ∙ (ap (λ b. nested_by syntax limits.depth (stood n events two last a) (if b then Err StrictText else if is_doctype item.token && not (may_lead n.phase) then Err BadDoctype else Ok done)) sec
+        ∙ (ap (λ b. nested_by syntax limits.depth (stood n events two last a) (if b then Err BadDoctype else Ok done)) (leads_there syntax limits.depth n item step st)
+        ∙ ap (λ x. stood_by done.next events (with_events [] x)) st)))
+      where
+        done : Scanned
+        done = record { next = entering false [] (last && is_literal right_bracket item) (is_literal right_bracket item) (scanning_of (stood n events two last a)); items = item ∷ [] }
+
+    -- the entry that tells that a run was text
+    first_again : (spot : Spot) (e : Entry) (sc : Scanning) → sc.run ≡ [] → told_by syntax limits spot false e sc (at_first spot.inside e.value) ≡ told_first syntax limits spot false e sc (at_first spot.inside e.value)
+    first_again spot e sc h =
+        by_test {G = told_by syntax limits spot false e sc (at_first spot.inside e.value) ≡ told_first syntax limits spot false e sc (at_first spot.inside e.value)} (e.value == less_than_sign || (e.value == ampersand && has_references spot.inside))
+        (λ t. rw t refl)
+        (λ t. rw t (by_test (is_text spot.inside e.value) (λ x. rw x refl) (λ x. rw x refl)))
+
+    and_false : (b : Bool) → (b && false) ≡ false
+    and_false true = refl
+    and_false false = refl
+
+    with_item_steps : (item : Item) (step : Step) (x : Result Scanned Kind) → nest_step syntax limits.depth n item ≡ Ok step
+        → nested_by syntax limits.depth (stood n events two last unit) (with_item syntax limits (spot_of syntax n) item x) ≡ nested_by syntax limits.depth (stood step.next (events ++ step.events) false false []) x
+    with_item_steps item step (Err kind) h = refl
+    with_item_steps item step (Ok r) h =
+        ap (λ y. stood_by r.next events (steps_on syntax limits.depth (with_events [] y) r.items)) h
+        ∙ (ap (λ y. stood_by r.next events (steps_on syntax limits.depth (Ok (record { next = step.next; events = y })) r.items)) (sym (append-nil step.events))
+        ∙ (ap (λ y. stood_by r.next events y) (steps_from syntax limits.depth step.events (Ok (no_step step.next)) r.items)
+        ∙ stood_from syntax limits.depth r.next events step.events (steps_on syntax limits.depth (Ok (no_step step.next)) r.items)))
+
+    pub kept_step : (e : Entry) (item : Item) (step : Step) → verdict syntax inside (values unit) e.value ≡ ended item.token → item_of inside item.token unit ≡ item → nest_step syntax limits.depth n item ≡ Ok step → IsKept item.token
+        → entry_step syntax limits (stood n events two last unit) e ≡ entry_step syntax limits (stood step.next (events ++ step.events) false false []) e
+    kept_step e item step v i st k =
+        let on : step.next ≡ going_on n = kept_goes_on syntax limits.depth n item step st k in
+        ap (λ x. nested_by syntax limits.depth (stood n events two last unit) (told_by syntax limits (spot_of syntax n) false e (scanning_of (stood n events two last unit)) x)) v
+        ∙ (ap (λ x. nested_by syntax limits.depth (stood n events two last unit) (with_item syntax limits (spot_of syntax n) x (told_first syntax limits (spot_of syntax n) false e nothing (at_first inside e.value)))) i
+        ∙ (with_item_steps item step (told_first syntax limits (spot_of syntax n) false e nothing (at_first inside e.value)) st
+        ∙ (ap (λ x. nested_by syntax limits.depth (stood step.next (events ++ step.events) false false []) x) (sym (first_again (spot_of syntax n) e nothing refl))
+        ∙ ap (λ (m : Nesting). nested_by syntax limits.depth (stood step.next (events ++ step.events) false false []) (told_by syntax limits (spot_of syntax m) false e nothing (at_first (content_at syntax m) e.value))) (sym on))))
+      where
+        nothing : Scanning
+        nothing = scanning_of (stood n events false false [])
+
+    -- and no tag is known there
+    pub kept_unknown : (e : Entry) (token : Token) → verdict syntax inside (values unit) e.value ≡ ended token → is_known_tag syntax inside (values (unit ++ e ∷ [])) ≡ true → ⊥
+    kept_unknown e token v k = by (verdict syntax inside (values unit) e.value) (known_verdict syntax inside (values unit) e.value (subst (λ x. is_known_tag syntax inside x ≡ true) (values_append unit (e ∷ [])) k)) v
+      where
+        by : (x : Verdict) → TagVerdict x → x ≡ ended token → ⊥
+        by _ on h = cc
+        by _ (a_tag t) h = cc
+        by _ (a_fault kind) h = cc
+
+    pub kept_fine : (hi : ℕ) (e : Entry) (es : List Entry) (end : Stood) (item : Item) (step : Step) → verdict syntax inside (values unit) e.value ≡ ended item.token → item_of inside item.token unit ≡ item → nest_step syntax limits.depth n item ≡ Ok step → IsKept item.token
+        → Fine syntax limits hi (stood step.next (events ++ step.events) false false []) (e ∷ es) end → Fine syntax limits hi (stood n events two last unit) (e ∷ es) end
+    kept_fine hi e es end item step v i st k f = (
+      (λ w. absurd (kept_unknown e item.token v (known_next unit e w))),
+      ap (λ b. b && nat_le (first_of unit e.first + limits.tag) e.last) (unknown (is_known_tag syntax inside (values (unit ++ e ∷ []))) (kept_unknown e item.token v)),
+      (f.2.0, (kept_step e item step v i st k ∙ f.2.1.0, f.2.1.1)),
+    )
+      where
+        unknown : (b : Bool) → (b ≡ true → ⊥) → b ≡ false
+        unknown true h = absurd (h refl)
+        unknown false h = refl

@@ -1,0 +1,227 @@
+-- Reading all tokens of a front.
+use Rattle.std.proofs.Common.{◌≡◌, ◌∙◌, ℕ, ◌+◌, ◌≤◌, Bool, true, false, cond, List, [], ◌∷◌, ◌++◌, refl, sym, ap, subst, append_assoc, append-nil, Option, Some, None, Ok, arith}
+use Rattle.std.specs.Prelude.{◌&&◌, if◌then◌else◌}
+use Rattle.rx_terms.specs.Ascii.{greater_than_sign, right_bracket}
+use Rattle.rx_terms.specs.Text.{Chars}
+use Rattle.rx_chars.specs.declared.syntax.Syntax.{Syntax}
+use Rattle.rx_chars.specs.Characters.{Entry}
+use Rattle.rx_grammar.specs.declared.contents.Content.{Content}
+use Rattle.rx_grammar.specs.declared.contents.Content.TheVariants as content
+use Rattle.rx_grammar.specs.declared.limits.Limits.{Limits}
+use Rattle.rx_grammar.specs.Tokens.{Token, tag, kept}
+use Rattle.rx_grammar.specs.Spelling.{Spells}
+use Rattle.rx_grammar.specs.Items.{values, next_of, Item, last_from, Spelled, no_more, one, Fits, AllFit, is_literal, is_strict_literal, no_section_end}
+use Rattle.rx_grammar.specs.PageFaults.{is_known_tag}
+use Rattle.rx_pages.specs.Nesting.{Event, Nesting, Step, content_at, nest_step, Goes, stands, goes}
+use Rattle.rx_pages.specs.Scanner.{Verdict, whole, ended, verdict, GoesOn, ReadAs, at_last, at_next}
+use Rattle.rx_pages.specs.PageReader.{item_of}
+use Rattle.rx_pages.proofs.Spellings.{reads_each}
+use Rattle.rx_pages.proofs.Tokens.{values_append}
+use Rattle.rx_pages.proofs.KnownTags.{TagVerdict, on, a_tag, a_fault, known_more, known_verdict}
+use Rattle.rx_pages.proofs.EntrySteps.{Stood}
+use Rattle.rx_pages.proofs.TokenWalk.{stood, IsKept, is_kept, goes_kept, Bound, limit_before, limit_with, go_all, whole_step, kept_unknown, Leads}
+
+-- places rise
+abbrev pub RisesFrom : ℕ → List Entry → Type 0
+RisesFrom last [] = Unit {0}
+RisesFrom last (e ∷ es) = (last ≤ e.last) × RisesFrom e.last es
+
+pub rises_last : (c : Entry) (r a : List Entry) (e : Entry) (b : List Entry) → RisesFrom c.last r → c ∷ r ≡ a ++ e ∷ b → e.last ≤ last_from c.last r
+rises_last c r [] e b h k = let same : c ≡ e = cc in subst (λ (x : Entry). x.last ≤ last_from c.last r) same (from c.last r h)
+  where
+    from : (last : ℕ) (r : List Entry) → RisesFrom last r → last ≤ last_from last r
+    from last [] h = omega arith
+    from last (d ∷ r) h = let m = from d.last r h.1 in let n = h.0 in omega arith
+rises_last c [] (d ∷ []) e b h k = absurd (cc)
+rises_last c [] (d ∷ f ∷ a) e b h k = absurd (cc)
+rises_last c (d ∷ r) (f ∷ a) e b h k = let same : d ∷ r ≡ a ++ e ∷ b = cc in rises_last d r a e b h.1 same
+
+pub rises_behind : (last : ℕ) (a b : List Entry) → RisesFrom last (a ++ b) → RisesFrom (last_from last a) b
+rises_behind last [] b h = h
+rises_behind last (e ∷ a) b h = rises_behind e.last a b h.1
+
+pub rises_front : (last : ℕ) (a b : List Entry) → RisesFrom last (a ++ b) → RisesFrom last a
+rises_front last [] b h = tt
+rises_front last (e ∷ a) b h = (h.0, rises_front e.last a b h.1)
+
+abbrev pub Rises : List Entry → Type 0
+Rises [] = Unit {0}
+Rises (e ∷ es) = RisesFrom e.last es
+
+pub rises_rest : (last : ℕ) (es : List Entry) → RisesFrom last es → Rises es
+rises_rest last [] h = tt
+rises_rest last (e ∷ es) h = h.1
+
+-- a list by its last element
+data Ends (es : List Entry) : Type 0 where
+  no_end : es ≡ [] → Ends es
+  an_end : (front : List Entry) (e : Entry) → es ≡ front ++ e ∷ [] → Ends es
+
+end_of : (es : List Entry) → Ends es
+end_of [] = no_end refl
+end_of (e ∷ es) = by (end_of es)
+  where
+    by : Ends es → Ends (e ∷ es)
+    by (no_end h) = an_end [] e (ap (λ x. e ∷ x) h)
+    by (an_end front d h) = an_end (e ∷ front) d (ap (λ x. e ∷ x) h)
+
+two_lasts : (a b : Chars) (x y : ℕ) → a ++ x ∷ [] ≡ b ++ y ∷ [] → (a ≡ b) × (x ≡ y)
+two_lasts [] [] x y e = (refl, cc)
+two_lasts [] (c ∷ []) x y e = absurd (cc)
+two_lasts [] (c ∷ d ∷ b) x y e = absurd (cc)
+two_lasts (c ∷ []) [] x y e = absurd (cc)
+two_lasts (c ∷ d ∷ a) [] x y e = absurd (cc)
+two_lasts (c ∷ a) (d ∷ b) x y e = let r = two_lasts a b x y (cc) in let h : c ≡ d = cc in (ap (λ z. z ∷ a) h ∙ ap (λ z. d ∷ z) r.0, r.1)
+
+kept_literal : (c : ℕ) (item : Item) → IsKept item.token → is_literal c item ≡ false
+kept_literal c item (is_kept text e) = ap (λ token. is_strict_literal c item.content token) e ∙ by item.content
+  where
+    by : (i : Content) → is_strict_literal c i (kept text) ≡ false
+    by content.Outside = refl
+    by content.Html = refl
+    by content.Foreign = refl
+    by content.Strict = refl
+    by (content.Raw name) = refl
+    by (content.Rcdata name) = refl
+
+item_is : (inside : Content) (item : Item) (c : Entry) (r : List Entry) → item.content ≡ inside → item.first ≡ c.first → item.last ≡ last_from c.last r → item_of inside item.token (c ∷ r) ≡ item
+item_is inside item c r ci f l = λ i. record { token = item.token; content = sym ci i; first = sym f i; last = sym l i }
+
+and_false : (b : Bool) → (b && false) ≡ false
+and_false true = refl
+and_false false = refl
+
+-- the two flags behind some tokens
+abbrev pub flags_behind : List Item → Bool → Bool → Bool × Bool
+flags_behind [] two last = (two, last)
+flags_behind (item ∷ items) two last = flags_behind items (last && is_literal right_bracket item) (is_literal right_bracket item)
+
+-- what is had of a state and the entries behind it, where the tokens end in another
+abbrev pub Appends : Syntax → Limits → (Stood → Stood → List Entry → Type 0) → Type 0
+Appends syntax limits G = (end st mid : Stood) (xs ys : List Entry) → Leads syntax limits st xs mid → G end mid ys → G end st (xs ++ ys)
+
+abbrev pub Keeps : Syntax → Limits → (Stood → Stood → List Entry → Type 0) → Type 0
+Keeps syntax limits G =
+    (end : Stood) (n : Nesting) (events : List Event) (two last : Bool) (unit : List Entry) (e : Entry) (es : List Entry) (item : Item) (step : Step) → verdict syntax (content_at syntax n) (values unit) e.value ≡ ended item.token
+    → item_of (content_at syntax n) item.token unit ≡ item → nest_step syntax limits.depth n item ≡ Ok step → IsKept item.token → Spells syntax (content_at syntax n) (values unit) (Some e.value) item.token
+    → G end (stood step.next (events ++ step.events) false false []) (e ∷ es) → G end (stood n events two last unit) (e ∷ es)
+
+module _ (syntax : Syntax) (limits : Limits) (G : Stood → Stood → List Entry → Type 0) (appends : Appends syntax limits G) (keeps : Keeps syntax limits G) where
+  -- one token
+  module _ (n : Nesting) (events : List Event) (two last : Bool) (c : Entry) (r : List Entry) (item : Item) (step : Step) (ci : item.content ≡ content_at syntax n) (first : item.first ≡ c.first) (is_last : item.last ≡ last_from c.last r)
+      (st : nest_step syntax limits.depth n item ≡ Ok step) (rises : RisesFrom c.last r) (fits : Fits limits.tag item item.token) where
+    abbrev unit : List Entry
+    unit = c ∷ r
+
+    abbrev inside : Content
+    inside = content_at syntax n
+
+    -- a tag fits
+    tag_fits : (v : Verdict) → TagVerdict v → v ≡ whole item.token → item.last + 1 ≤ item.first + limits.tag
+    tag_fits _ on h = absurd (cc)
+    tag_fits _ (a_tag t) h = let same : tag t ≡ item.token = cc in subst (λ token. Fits limits.tag item token) (sym same) fits
+    tag_fits _ (a_fault kind) h = absurd (cc)
+
+    known_all : (a : List Entry) (e : Entry) (b : List Entry) → unit ≡ a ++ e ∷ b → is_known_tag syntax inside (values (a ++ e ∷ [])) ≡ true → is_known_tag syntax inside (values unit) ≡ true
+    known_all a e b h k =
+        subst (λ x. is_known_tag syntax inside x ≡ true) (sym (values_append (a ++ e ∷ []) b) ∙ ap values (append_assoc a (e ∷ []) b ∙ sym h))
+        (known_more syntax inside (values (a ++ e ∷ [])) (values b) k)
+
+    last_bound : (es : List Entry) (e : Entry) → unit ≡ es ++ e ∷ [] → verdict syntax inside (values es) e.value ≡ whole item.token → Bound syntax limits n events two last unit
+    last_bound es e h v a d b k w =
+        let known = known_all a d b k w in
+        let fit = tag_fits (verdict syntax inside (values es) e.value) (known_verdict syntax inside (values es) e.value (subst (λ x. is_known_tag syntax inside x ≡ true) (ap values h ∙ values_append es (e ∷ [])) known)) v in
+        let below = rises_last c r a d b rises k in
+        let f = first in
+        let l = is_last in
+        omega arith
+
+    next_bound : (e : Entry) → verdict syntax inside (values unit) e.value ≡ ended item.token → Bound syntax limits n events two last unit
+    next_bound e v a d b k w =
+        absurd (kept_unknown syntax limits n events two last unit e item.token v
+        (subst (λ x. is_known_tag syntax inside x ≡ true) (sym (values_append unit (e ∷ []))) (known_more syntax inside (values unit) (e.value ∷ []) (known_all a d b k w))))
+
+    pub token_fine : (more : List Entry) (end : Stood) (text : Chars) (next : Option ℕ) → ReadAs syntax inside text next item.token → text ≡ values unit → next ≡ next_of (values more) None → Spells syntax inside text next item.token
+        → (two && is_literal greater_than_sign item) ≡ false
+        → G end (stood step.next (events ++ step.events) (last && is_literal right_bracket item) (is_literal right_bracket item) []) more
+        → G end (stood n events two last []) (unit ++ more)
+    token_fine more end text next read te ne sp sec f = by text next item.token read te ne refl sp
+      where
+        by : (x : Chars) (m : Option ℕ) (token : Token) → ReadAs syntax inside x m token → x ≡ values unit → m ≡ next_of (values more) None → token ≡ item.token → Spells syntax inside x m token → G end (stood n events two last []) (unit ++ more)
+        by _ _ _ (at_last front z token go v) e m k s = at (end_of unit)
+          where
+            at : Ends unit → G end (stood n events two last []) (unit ++ more)
+            at (no_end h) = absurd (cc)
+            at (an_end es d h) =
+                let parts = two_lasts front (values es) z d.value (e ∙ (ap values h ∙ values_append es (d ∷ []))) in
+                let v2 : verdict syntax inside (values es) d.value ≡ whole item.token = subst (λ x. verdict syntax inside (values es) x ≡ whole item.token) parts.1 (subst (λ x. verdict syntax inside x z ≡ whole item.token) parts.0 (v ∙ ap whole k)) in
+                let go2 : GoesOn syntax inside [] (values es) = subst (λ x. GoesOn syntax inside [] x) parts.0 go in
+                let bound : Bound syntax limits n events two last unit = last_bound es d h v2 in
+                let it : item_of inside item.token (es ++ d ∷ []) ≡ item = ap (λ x. item_of inside item.token x) (sym h) ∙ item_is inside item c r ci first is_last in
+                subst (λ x. G end (stood n events two last []) (x ++ more)) (sym h)
+                (subst (λ x. G end (stood n events two last []) x) (sym (append_assoc es (d ∷ []) more))
+                (appends end (stood n events two last []) (stood n events two last es) es (d ∷ more) (go_all syntax limits n events two last unit bound [] es (d ∷ []) h go2)
+                (appends end (stood n events two last es) (stood step.next (events ++ step.events) (last && is_literal right_bracket item) (is_literal right_bracket item) []) (d ∷ []) more (
+                  limit_before syntax limits n events two last unit bound es d [] h,
+                  limit_with syntax limits n events two last unit bound es d [] h,
+                  (stood step.next (events ++ step.events) (last && is_literal right_bracket item) (is_literal right_bracket item) [], (whole_step syntax limits n events two last unit es d item step v2 it st sec, refl)),
+                )
+                f)))
+        by _ _ _ (at_next x d token go v) e m k s = at more m f
+          where
+            kept_is : IsKept item.token
+            kept_is = subst IsKept k (goes_kept syntax inside x (Some d) token s go)
+
+            at : (es : List Entry) → Some d ≡ next_of (values es) None → G end (stood step.next (events ++ step.events) (last && is_literal right_bracket item) (is_literal right_bracket item) []) es → G end (stood n events two last []) (unit ++ es)
+            at [] h g = absurd (cc)
+            at (z ∷ es) h g =
+                let same : d ≡ z.value = cc in
+                let v2 : verdict syntax inside (values unit) z.value ≡ ended item.token = subst (λ y. verdict syntax inside (values unit) y ≡ ended item.token) same (subst (λ y. verdict syntax inside y d ≡ ended item.token) e (v ∙ ap ended k)) in
+                let go2 : GoesOn syntax inside [] (values unit) = subst (λ y. GoesOn syntax inside [] y) e go in
+                let it : item_of inside item.token unit ≡ item = item_is inside item c r ci first is_last in
+                let l : is_literal right_bracket item ≡ false = kept_literal right_bracket item kept_is in
+                let g2 : G end (stood step.next (events ++ step.events) false false []) (z ∷ es) =
+                subst (λ b. G end (stood step.next (events ++ step.events) b false []) (z ∷ es)) (and_false last) (subst (λ b. G end (stood step.next (events ++ step.events) (last && b) b []) (z ∷ es)) l g) in
+                appends end (stood n events two last []) (stood n events two last unit) unit (z ∷ es)
+                (go_all syntax limits n events two last unit (next_bound z v2) [] unit [] (sym (append-nil unit)) go2)
+                (keeps end n events two last unit z es item step v2 it st kept_is (subst (λ y. Spells syntax inside (values unit) (Some y) item.token) same (subst (λ token. Spells syntax inside (values unit) (Some d) token) k (subst (λ y. Spells syntax inside y (Some d) token) e s))) g2)
+
+  -- what is had of a front and the run behind it
+  pub record Walked (st : Stood) (front run : List Entry) (meant : Nesting → Type 0) (events : List Event) (flags : Bool × Bool) : Type 0 where
+    pub place : Nesting
+    pub is_meant : meant place
+    pub fine : G (stood place events flags.0 flags.1 []) st (front ++ run)
+
+  abbrev pub Finish : List Entry → (Nesting → Type 0) → Type 0
+  Finish run meant = (m : Nesting) → meant m → (events : List Event) (two last : Bool) → G (stood m events two last []) (stood m events two last []) run
+
+  sec_first : (two : Bool) (item : Item) (x : Bool) → (if two && is_literal greater_than_sign item then false else x) ≡ true → ((two && is_literal greater_than_sign item) ≡ false) × (x ≡ true)
+  sec_first two item x h = by (two && is_literal greater_than_sign item) h
+    where
+      by : (b : Bool) → cond b false x ≡ true → (b ≡ false) × (x ≡ true)
+      by true k = absurd (cc)
+      by false k = (refl, k)
+
+  next_same : (rest run : List Entry) (next : Option ℕ) → next ≡ next_of (values run) None → next_of (values rest) next ≡ next_of (values (rest ++ run)) None
+  next_same [] run next h = h
+  next_same (e ∷ rest) run next h = refl
+
+  pub tokens_walk : {n : Nesting} {front : List Entry} {next : Option ℕ} {items : List Item} {events : List Event} (run : List Entry) (meant : Nesting → Type 0) → Spelled syntax front next items → next ≡ next_of (values run) None → Goes syntax limits.depth meant n items events
+      → AllFit limits.tag items → (two last : Bool) → no_section_end items two last ≡ true → Rises (front ++ run) → (told : List Event) → Finish run meant → Walked (stood n told two last []) front run meant (told ++ events) (flags_behind items two last)
+  tokens_walk {n = n} run meant no_more h (stands n2 p) fit two last sec rises told finish =
+      record { place = n; is_meant = p; fine = subst (λ x. G (stood n x two last []) (stood n told two last []) run) (sym (append-nil told)) (finish n p told two last) }
+  tokens_walk {n = n} {next = next} run meant (one c r rest item {items = items} sp f l more) h (goes {events = events} item2 step ci st g) fit two last sec rises told finish =
+      let parts = sec_first two item (no_section_end items (last && is_literal right_bracket item) (is_literal right_bracket item)) sec in
+      let rises2 : RisesFrom c.last (r ++ (rest ++ run)) = subst (λ x. RisesFrom c.last x) (append_assoc r rest run) rises in
+      let ih = tokens_walk run meant more h g fit.1 (last && is_literal right_bracket item) (is_literal right_bracket item) parts.1 (rises_rest (last_from c.last r) (rest ++ run) (rises_behind c.last r (rest ++ run) rises2)) (told ++ step.events) finish in
+      let end : Stood = stood ih.place ((told ++ step.events) ++ events) (flags_behind items (last && is_literal right_bracket item) (is_literal right_bracket item)).0 (flags_behind items (last && is_literal right_bracket item) (is_literal right_bracket item)).1 [] in
+      let sp2 = subst (λ i. Spells syntax i (values (c ∷ r)) (next_of (values rest) next) item.token) ci sp in
+      record {
+        place = ih.place;
+        is_meant = ih.is_meant;
+        fine =
+            subst (λ x. G (stood ih.place x (flags_behind items (last && is_literal right_bracket item) (is_literal right_bracket item)).0 (flags_behind items (last && is_literal right_bracket item) (is_literal right_bracket item)).1 []) (stood n told two last []) (((c ∷ r) ++ rest) ++ run)) (append_assoc told step.events events)
+            (subst (λ x. G end (stood n told two last []) x) (sym (append_assoc (c ∷ r) rest run))
+            (token_fine n told two last c r item step ci f l st (rises_front c.last r (rest ++ run) rises2) fit.0 (rest ++ run) end (values (c ∷ r)) (next_of (values rest) next)
+            (reads_each syntax (content_at syntax n) (values (c ∷ r)) (next_of (values rest) next) item.token sp2) refl (next_same rest run next h) sp2 parts.0 ih.fine));
+      }

@@ -1,0 +1,12 @@
+use Rattle.std.proofs.Common.{◌≡◌, ℕ, List, take}
+use Rattle.rx_grammar.specs.Tags.{firsts}
+use Rattle.rx_tags.specs.Reading.{rows_read, RowsFit}
+use Rattle.rx_tags.specs.Repeats.{has_text, is_named}
+use Rattle.rx_tags.proofs.repeats.first_rows.Given as goal
+
+abbrev pub invariant-loop-row : goal.invariant-loop-row
+invariant-loop-row l = record {
+  read : rows_read l.text l.kept.items ≡ firsts (rows_read l.text (take l.row-index l.rows));
+  fit : (limit : ℕ) → RowsFit l.text limit l.rows → RowsFit l.text limit l.kept.items;
+  names : (name : List ℕ) → has_text l.names name ≡ is_named l.text (take l.row-index l.rows) name;
+}

@@ -1,0 +1,7 @@
+use Rattle.std.proofs.Common.{◌≡◌, drop}
+use Rattle.rx_grammar.specs.Tags.{has_repeat}
+use Rattle.rx_tags.specs.Reading.{rows_read}
+use Rattle.rx_tags.proofs.repeats.has_pair.Given as goal
+
+abbrev pub invariant-loop-i : goal.invariant-loop-i
+invariant-loop-i l = has_repeat (rows_read l.text l.rows) ≡ has_repeat (rows_read l.text (drop l.i l.rows))
