@@ -8,7 +8,7 @@ use Rattle.rx_ports.proofs.MoveLemmas.{moves_at}
 use Rattle.rx_names.specs.ContextFiles.{context_of}
 use Rattle.rx_command.specs.Words.{Asked}
 use Rattle.rx_command.specs.Files.{ReadsFile, TakesOf, size_of}
-use Rattle.rx_command.specs.Contexts.{IsContextFile, HasContext, LacksContext, TakesContext, ReadsContext, is_context}
+use Rattle.rx_command.specs.Contexts.{IsContextFile, HasContext, TakesContext, ReadsContext, is_context}
 use Rattle.rx_command.specs.Inputs.{ReadsInputs, TellsThat, WhereTold}
 use Rattle.rx_command.specs.Outcome.{IsLacking}
 use Rattle.rx_command.specs.Runs.{TakesFiles}
@@ -98,11 +98,3 @@ pub page_failed : (told mid : Option Told) (asked : Asked) (file : Option (List 
     → Rose b c ⊎ Lacks mid name → Rose a c ⊎ TellsThat (IsLacking asked) told
 page_failed told mid asked file name a b c e named m low (inl rose) = inl (rose_before a b c low rose)
 page_failed told mid asked file name a b c e named m low (inr lacks) = inr (lacks_page told mid asked file name e named m lacks)
-
-lacks_context : (told : Option Told) (asked : Asked) (file : Option (List ℕ)) → file ≡ asked.context → TellsThat (LacksContext file) told → TellsThat (IsLacking asked) told
-lacks_context None asked file e l = absurd l
-lacks_context (Some x) asked file e l = inl (subst (λ f. LacksContext f x) e l)
-
-pub context_failed : (told : Option Told) (asked : Asked) (file : Option (List ℕ)) (a b : ℕ) → file ≡ asked.context → Rose a b ⊎ TellsThat (LacksContext file) told → Rose a b ⊎ TellsThat (IsLacking asked) told
-context_failed told asked file a b e (inl rose) = inl rose
-context_failed told asked file a b e (inr lacks) = inr (lacks_context told asked file e lacks)

@@ -7,10 +7,10 @@ use Rattle.rx_ports.proofs.MoveLemmas.{moves_at}
 use Rattle.rx_command.specs.declared.statuses.Fault.{Fault}
 use Rattle.rx_command.specs.Words.{Asked, job}
 use Rattle.rx_command.specs.Page.{IsPage}
-use Rattle.rx_command.specs.Contexts.{HasContext, HasOther, LacksContext, TakesContext, is_context}
+use Rattle.rx_command.specs.Contexts.{HasContext, HasOther, LacksContext, is_context}
 use Rattle.rx_command.specs.Outcome.{HasText, Denotes, IsNotBuilt, NamesPage, Yields, YieldsGraph, Refuses, Meets, IsLacking, LacksFile, HasBadContext, not_built}
-use Rattle.rx_command.specs.Inputs.{ReadsInputs, TellsThat, WhereTold}
-use Rattle.rx_command.specs.Runs.{ReadCause, TakesFiles, IsAtEnd, context_named}
+use Rattle.rx_command.specs.Inputs.{ReadsInputs, TellsThat}
+use Rattle.rx_command.specs.Runs.{ReadCause, TakesFiles, IsAtEnd}
 
 -- the whole page was read
 whole : (asked : Asked) (bytes : List ℕ) (x y : Told) → ReadsInputs asked bytes x y → length bytes ≤ 1048576 → file_of x.files (encode_utf8_all asked.page) ≡ Some bytes
@@ -96,10 +96,6 @@ not_missing : (file : Option (List ℕ)) (shelf : Told) → HasContext file shel
 not_missing None shelf h l = l
 not_missing (Some name) shelf h l = there _ h.bytes h.file l
 
-other_there : (file : Option (List ℕ)) (shelf : Told) → HasOther file shelf → LacksContext file shelf → ⊥
-other_there None shelf o l = o
-other_there (Some name) shelf o l = there _ o.bytes o.file l
-
 not_lack : (asked : Asked) (bytes : List ℕ) (x y : Told) → ReadsInputs asked bytes x y → IsLacking asked x → ⊥
 not_lack asked bytes x y r (inl l) = not_missing asked.context x r.context l
 not_lack asked bytes x y r (inr l) = there _ (bytes ++ y.left) r.file l.1
@@ -132,65 +128,6 @@ pub read_cause : (words : List (List ℕ)) (told : Option Told) (asked : Asked) 
 read_cause words told asked before now a (inl rose) = record { asked = asked; asks = a; cause = inl rose }
 read_cause words told asked before now a (inr lacks) = record { asked = asked; asks = a; cause = inr (meets words told asked IsLacking a lacks) }
 
--- ---- where the context is bad
-
-pub bad_context : (words : List (List ℕ)) (told : Option Told) (asked : Asked) (t : Told) → job words ≡ Some asked → WhereTold (HasOther asked.context) told → told ≡ Some t → HasBadContext words told
-bad_context words None asked t a w e = absurd (cc)
-bad_context words (Some x) asked t a w e = meets words (Some x) asked (λ asked shelf. HasOther asked.context shelf) a w
-
-bad_or_there : (words : List (List ℕ)) (t : Told) (asked : Asked) → job words ≡ Some asked → HasOther asked.context t → IsLacking asked t → ⊥
-bad_or_there words t asked a o (inl l) = other_there asked.context t o l
-bad_or_there words t asked a o (inr l) = not_other asked.context t l.0 o
-
--- where the context is bad, no file is missing and there is neither text nor refusal
-pub bad_not_lacking : (words : List (List ℕ)) (told : Option Told) (asked : Asked) → job words ≡ Some asked → WhereTold (HasOther asked.context) told → LacksFile words told → ⊥
-bad_not_lacking words None asked a w l = let e = l.tells in absurd (cc)
-bad_not_lacking words (Some t) asked a w l = bad_or_there words t asked a w (met words (Some t) asked IsLacking a l)
-
-bad_not_named : (words : List (List ℕ)) (told : Option Told) (asked : Asked) (bytes : List ℕ) → job words ≡ Some asked → WhereTold (HasOther asked.context) told → NamesPage words told bytes → ⊥
-bad_not_named words None asked bytes a w p = let e = p.tells in absurd (cc)
-bad_not_named words (Some t) asked bytes a w p =
-    let h : HasContext p.asked.context t = subst (HasContext p.asked.context) (one_shelf (Some t) p.shelf t p.tells refl) p.context in
-    not_other asked.context t (subst (λ k. HasContext k.context t) (one_asked words p.asked asked p.asks a) h) w
-
-pub bad_no_text : (words : List (List ℕ)) (told : Option Told) (asked : Asked) (text : List ℕ) → job words ≡ Some asked → WhereTold (HasOther asked.context) told → Yields words told text → ⊥
-bad_no_text words told asked text a w y = bad_not_named words told asked y.bytes a w y.page
-
-pub bad_no_refusal : (words : List (List ℕ)) (told : Option Told) (asked : Asked) (fault : Fault) → job words ≡ Some asked → WhereTold (HasOther asked.context) told → Refuses words told fault → ⊥
-bad_no_refusal words told asked fault a w r = bad_not_named words told asked r.bytes a w r.page
-
--- ---- where reading failed
-
-lacking_not_bad : (words : List (List ℕ)) (told : Option Told) (asked : Asked) → job words ≡ Some asked → TellsThat (IsLacking asked) told → HasBadContext words told → ⊥
-lacking_not_bad words None asked a l b = absurd l
-lacking_not_bad words (Some t) asked a l b = bad_or_there words t asked a (met words (Some t) asked (λ asked shelf. HasOther asked.context shelf) a b) l
-
-lacking_not_named : (words : List (List ℕ)) (told : Option Told) (asked : Asked) (bytes : List ℕ) → job words ≡ Some asked → TellsThat (IsLacking asked) told → NamesPage words told bytes → ⊥
-lacking_not_named words None asked bytes a l p = absurd l
-lacking_not_named words (Some t) asked bytes a l p = by_case l
-  where
-    shelf : p.shelf ≡ t
-    shelf = one_shelf (Some t) p.shelf t p.tells refl
-
-    same : p.asked ≡ asked
-    same = one_asked words p.asked asked p.asks a
-
-    by_case : IsLacking asked t → ⊥
-    by_case (inl lacks) = not_missing asked.context t (subst (λ k. HasContext k.context t) same (subst (HasContext p.asked.context) shelf p.context)) lacks
-    by_case (inr lacks) = there _ bytes (subst (λ k. file_of t.files (encode_utf8_all k.page) ≡ Some bytes) same (subst (λ s. file_of s.files (encode_utf8_all p.asked.page) ≡ Some bytes) shelf p.file)) lacks.1
-
-pub failed_not_bad : (words : List (List ℕ)) (told : Option Told) (asked : Asked) (before now : ℕ) → job words ≡ Some asked → Rose before now ⊎ TellsThat (IsLacking asked) told → HasBadContext words told → ¬ Rose before now → ⊥
-failed_not_bad words told asked before now a (inl rose) b quiet = quiet rose
-failed_not_bad words told asked before now a (inr lacks) b quiet = lacking_not_bad words told asked a lacks b
-
-pub failed_no_text : (words : List (List ℕ)) (told : Option Told) (asked : Asked) (text : List ℕ) (before now : ℕ) → job words ≡ Some asked → Rose before now ⊎ TellsThat (IsLacking asked) told → Yields words told text → ¬ Rose before now → ⊥
-failed_no_text words told asked text before now a (inl rose) y quiet = quiet rose
-failed_no_text words told asked text before now a (inr lacks) y quiet = lacking_not_named words told asked y.bytes a lacks y.page
-
-pub failed_no_refusal : (words : List (List ℕ)) (told : Option Told) (asked : Asked) (fault : Fault) (before now : ℕ) → job words ≡ Some asked → Rose before now ⊎ TellsThat (IsLacking asked) told → Refuses words told fault → ¬ Rose before now → ⊥
-failed_no_refusal words told asked fault before now a (inl rose) r quiet = quiet rose
-failed_no_refusal words told asked fault before now a (inr lacks) r quiet = lacking_not_named words told asked r.bytes a lacks r.page
-
 -- ---- how much was taken
 
 pub at_end : (asked : Asked) (bytes text : List ℕ) (told now : Option Told) → Moves (ReadsInputs asked bytes) told now → HasText bytes text → IsAtEnd now
@@ -200,6 +137,3 @@ at_end asked bytes text (Some told) (Some now) m h = let r = m.taken told now re
 
 pub takes_files : (words : List (List ℕ)) (asked : Asked) (old new : Option Told) → job words ≡ Some asked → Moves (TakesFiles (Some asked)) old new → Moves (TakesFiles (job words)) old new
 takes_files words asked old new a m = subst (λ k. Moves (TakesFiles k) old new) (sym a) m
-
-pub takes_context_file : (words : List (List ℕ)) (asked : Asked) (old new : Option Told) → job words ≡ Some asked → Moves (TakesContext asked.context) old new → Moves (TakesContext (context_named (job words))) old new
-takes_context_file words asked old new a m = subst (λ k. Moves (TakesContext (context_named k)) old new) (sym a) m

@@ -184,6 +184,7 @@ fn worked_rows(rt: HostRuntime) -> Result<(), Fail> {
 }
 
 /// What comes of a context file, before the page or behind it.
+#[derive(Clone, Copy)]
 struct ContextRow {
     context: &'static str,
     page: &'static str,
