@@ -8,7 +8,7 @@ use Rattle.rx_model.specs.Terms.{Plain, Iri, Literal, Triple}
 use Rattle.rx_nquads.specs.Quads.{quads}
 use Rattle.rx_nquads.specs.Document.{Nquads}
 use Rattle.rx_nquads.specs.Writing.{nquads}
-use Rattle.rx_command.specs.Words.{Asked, job}
+use Rattle.rx_command.specs.Words.{Asked, Task, extracts, checks, job}
 use Rattle.rx_command.specs.Contexts.{HasContext, HasOther, LacksContext}
 use Rattle.rx_command.specs.Page.{IsPage}
 use Rattle.rx_command.specs.declared.statuses.Fault.{Fault}
@@ -38,6 +38,20 @@ pub record Denotes (bytes text : List ℕ) : Type 0 where
 abbrev pub IsNotBuilt : List ℕ → Type 0
 IsNotBuilt bytes = (about property run : List ℕ) → IsPage bytes about property run → ⊥
 
+-- what a task makes of a page: an extraction gives the text of its triples, where it is of the form; a check gives
+-- nothing yet, whatever the page
+abbrev pub TaskGives : Task → List ℕ → List ℕ → Type 0
+TaskGives (extracts address) bytes text = HasText bytes text
+TaskGives (checks syntax) bytes text = ⊥
+
+abbrev pub TaskDenotes : Task → List ℕ → List ℕ → Type 0
+TaskDenotes (extracts address) bytes text = Denotes bytes text
+TaskDenotes (checks syntax) bytes text = ⊥
+
+abbrev pub TaskRefuses : Task → List ℕ → Type 0
+TaskRefuses (extracts address) bytes = IsNotBuilt bytes
+TaskRefuses (checks syntax) bytes = Unit {0}
+
 abbrev pub not_built : Fault
 not_built = record { kind = NotBuilt; token = 0; at = 0 }
 
@@ -54,19 +68,19 @@ pub record NamesPage (words : List Chars) (told : Option Told) (bytes : List ℕ
 pub record Yields (words : List Chars) (told : Option Told) (text : List ℕ) : Type 0 where
   pub bytes : List ℕ
   pub page : NamesPage words told bytes
-  pub has_text : HasText bytes text
+  pub has_text : TaskGives page.asked.task bytes text
 
 -- the words name a page, and this text denotes exactly its graph
 pub record YieldsGraph (words : List Chars) (told : Option Told) (text : List ℕ) : Type 0 where
   pub bytes : List ℕ
   pub page : NamesPage words told bytes
-  pub graph : Denotes bytes text
+  pub graph : TaskDenotes page.asked.task bytes text
 
 -- the outcome is this refusal
 pub record Refuses (words : List Chars) (told : Option Told) (fault : Fault) : Type 0 where
   pub bytes : List ℕ
   pub page : NamesPage words told bytes
-  pub other : IsNotBuilt bytes
+  pub other : TaskRefuses page.asked.task bytes
   pub is_fault : fault ≡ not_built
 
 -- the words name a page, the shelf tells its files, and this holds of both

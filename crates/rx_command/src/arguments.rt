@@ -1,17 +1,18 @@
 //! The options and the last word behind a task.
-ghost use Rattle.std.specs.Prelude.{◌≡◌, ◌<◌, ◌∷◌, MatchOption, IsTrue, length, nat_eq, None};
+ghost use Rattle.std.specs.Prelude.{◌≡◌, ◌<◌, ◌∷◌, MatchOption, IsTrue, length, nat_eq, None, Some};
 ghost use Rattle.std.specs.Cmp.Lexicographic.{pointwise};
 ghost use Rattle.std.specs.List.{list_all};
 ghost use Rattle.std.specs.Str.{chars};
 ghost use Rattle.rx_terms.specs.Ascii.{is_ascii};
-ghost use Rattle.rx_command.specs.Words.{is_file_name, is_page_name};
-ghost use Rattle.rx_command.specs.Jobs.{asked_behind, extraction_asked, one_or_none, text_in};
+ghost use Rattle.rx_command.specs.Words.{given, are_names, is_file_name, is_page_name};
+ghost use Rattle.rx_command.specs.Jobs.{given_seen, text_in};
 
 use rx_terms::Text;
 
-/// The values of the options of `extract`, and the word behind them.
+/// The values of the options, and the word behind them.
 #[derive(Clone, Copy, Debug)]
 pub(crate) struct Arguments<'a> {
+    pub syntax: Option<&'a Text>,
     pub context: Option<&'a Text>,
     pub base: Option<&'a Text>,
     pub last: &'a Text,
@@ -19,14 +20,19 @@ pub(crate) struct Arguments<'a> {
 
 /// Reads words in pairs of an option and its value. None where there is a word that is no option, or one comes twice.
 pub(crate) fn arguments_of(words: &[Text]) -> Option<Arguments<'_>>
-    ensures { MatchOption result (asked_behind words.now ≡ None) (λ given.
-        asked_behind words.now ≡ extraction_asked given) }
+    ensures { MatchOption result (given words.now ≡ None) (λ found. given words.now ≡ Some (given_seen found)) }
 {
     let mut left = words;
+    let mut syntax = None;
     let mut context = None;
     let mut base = None;
     while let Some((name, value, rest)) = next_pair(left) {
-        if is_word(name, "--context") {
+        if is_word(name, "--syntax") {
+            if syntax.is_some() {
+                return None;
+            }
+            syntax = Some(value);
+        } else if is_word(name, "--context") {
             if context.is_some() {
                 return None;
             }
@@ -46,6 +52,7 @@ pub(crate) fn arguments_of(words: &[Text]) -> Option<Arguments<'_>>
         return None;
     };
     Some(Arguments {
+        syntax,
         context,
         base,
         last,
@@ -70,7 +77,7 @@ pub(crate) fn is_word(text: &Text, word: &str) -> bool
     text.as_str() == word
 }
 
-pub(crate) fn is_page_name(page: &str) -> bool
+fn is_page_name(page: &str) -> bool
     ensures { result ≡ is_page_name (chars page.now) }
 {
     match page.chars().next() {
@@ -79,13 +86,13 @@ pub(crate) fn is_page_name(page: &str) -> bool
     }
 }
 
-/// Whether the context file, where one is named, has a name.
-pub(crate) fn has_file_name(file: Option<&Text>) -> bool
-    ensures { result ≡ list_all is_file_name (one_or_none (text_in file.entry)) }
+/// Whether the page has a name, and the context file too, where there is one.
+pub(crate) fn are_names(file: Option<&Text>, page: &Text) -> bool
+    ensures { result ≡ are_names (text_in file.entry) page.now }
 {
     match file {
-        None => true,
-        Some(file) => is_file_name(file.as_str()),
+        None => is_page_name(page.as_str()),
+        Some(file) => is_file_name(file.as_str()) && is_page_name(page.as_str()),
     }
 }
 

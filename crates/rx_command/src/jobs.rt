@@ -1,9 +1,10 @@
 //! What the words of the command line ask for.
 ghost use Rattle.std.specs.Prelude.{◌≡◌, MatchResult, IfOk, Some};
-ghost use Rattle.rx_command.specs.Words.{job};
-ghost use Rattle.rx_command.specs.Jobs.{asked_by, asked_behind, extraction_asked, text_in, FailsJob};
+ghost use Rattle.rx_command.specs.Words.{job, extraction, checking, syntax_of};
+ghost use Rattle.rx_command.specs.Jobs.{asked_by, given_seen, text_in, FailsJob};
 
-use crate::arguments::{Arguments, arguments_of, has_file_name, is_page_name, is_word};
+use crate::arguments::{Arguments, are_names, arguments_of, is_word};
+use rx_chars::Syntax;
 use rx_terms::{Iri, IriError, NoMemory, Text};
 use std::alloc::Global;
 use thiserror::Error;
@@ -16,6 +17,12 @@ pub enum Job {
     Extract {
         context: Option<Text>,
         address: Iri,
+        page: Text,
+    },
+    /// The faults of the page of this name, in this syntax, with the names of a context file or the standard ones.
+    Check {
+        syntax: Syntax,
+        context: Option<Text>,
         page: Text,
     },
 }
@@ -40,31 +47,28 @@ impl Job {
         let Some((task, behind)) = words.split_first() else {
             return Err(JobError::Usage);
         };
-        if !is_word(task, "extract") {
-            return Err(JobError::Usage);
-        }
-        Job::extraction(alloc, behind)
-    }
-
-    fn extraction(alloc: Global, words: &[Text]) -> Result<Job, JobError>
-        ensures { MatchResult result (λ found. asked_behind words.now ≡ Some (asked_by found)) (FailsJob (asked_behind words.now)) }
-    {
-        let Some(arguments) = arguments_of(words) else {
+        let Some(arguments) = arguments_of(behind) else {
             return Err(JobError::Usage);
         };
-        Job::extraction_with(alloc, arguments)
+        if is_word(task, "extract") {
+            return Job::extraction(alloc, arguments);
+        }
+        if is_word(task, "check") {
+            return Job::checking(alloc, arguments);
+        }
+        Err(JobError::Usage)
     }
 
-    fn extraction_with(alloc: Global, given: Arguments<'_>) -> Result<Job, JobError>
-        ensures { MatchResult result (λ found. extraction_asked given.entry ≡ Some (asked_by found)) (FailsJob (extraction_asked given.entry)) }
+    fn extraction(alloc: Global, given: Arguments<'_>) -> Result<Job, JobError>
+        ensures { MatchResult result (λ found. extraction (given_seen given.entry) ≡ Some (asked_by found)) (FailsJob (extraction (given_seen given.entry))) }
     {
+        let None = given.syntax else {
+            return Err(JobError::Usage);
+        };
         let Some(address) = given.base else {
             return Err(JobError::Usage);
         };
-        if !is_page_name(given.last.as_str()) {
-            return Err(JobError::Usage);
-        }
-        if !has_file_name(given.context) {
+        if !are_names(given.context, given.last) {
             return Err(JobError::Usage);
         }
         let address = match Iri::of(alloc, address.as_str()) {
@@ -85,12 +89,38 @@ impl Job {
         }
     }
 
+    fn checking(alloc: Global, given: Arguments<'_>) -> Result<Job, JobError>
+        ensures { MatchResult result (λ found. checking (given_seen given.entry) ≡ Some (asked_by found)) (FailsJob (checking (given_seen given.entry))) }
+    {
+        let Some(syntax) = syntax_of(given.syntax) else {
+            return Err(JobError::Usage);
+        };
+        let None = given.base else {
+            return Err(JobError::Usage);
+        };
+        if !are_names(given.context, given.last) {
+            return Err(JobError::Usage);
+        }
+        let Ok(context) = copied(given.context) else {
+            return Err(JobError::NoMemory);
+        };
+        match given.last.try_clone() {
+            Ok(page) => Ok(Job::Check {
+                syntax,
+                context,
+                page,
+            }),
+            Err(_) => Err(JobError::NoMemory),
+        }
+    }
+
     /// The name of the page.
     pub(crate) fn page(&self) -> &Text
         ensures { result.now ≡ (asked_by self.now).page }
     {
         match self {
             Job::Extract { page, .. } => page,
+            Job::Check { page, .. } => page,
         }
     }
 
@@ -100,6 +130,7 @@ impl Job {
     {
         match self {
             Job::Extract { context, .. } => context.as_ref(),
+            Job::Check { context, .. } => context.as_ref(),
         }
     }
 }
@@ -115,4 +146,20 @@ fn copied(text: Option<&Text>) -> Result<Option<Text>, NoMemory>
             Err(_) => Err(NoMemory),
         },
     }
+}
+
+/// The syntax of this name, which is HTML where none is given.
+fn syntax_of(name: Option<&Text>) -> Option<Syntax>
+    ensures { result ≡ syntax_of (text_in name.entry) }
+{
+    let Some(name) = name else {
+        return Some(Syntax::Html);
+    };
+    if is_word(name, "html") {
+        return Some(Syntax::Html);
+    }
+    if is_word(name, "xhtml") {
+        return Some(Syntax::Xhtml);
+    }
+    None
 }

@@ -7,7 +7,7 @@ ghost use Rattle.rx_command.specs.Contexts.{TakesContext};
 ghost use Rattle.rx_command.specs.Outcome.{Yields, YieldsGraph, Refuses, LacksFile, HasBadContext, NamesContext};
 ghost use Rattle.rx_command.specs.Runs.{ReadCause, TakesFiles, IsAtEnd, Says, usage_line, refused_line, context_line, context_named};
 
-use crate::extract::text_of;
+use crate::extract::outcome_of;
 use crate::inputs::{InputError, read_inputs};
 use crate::jobs::{Job, JobError};
 use crate::statuses::{Fault, Kind, Status};
@@ -107,7 +107,7 @@ pub fn run<F: Shelf, O: Sink, E: Sink>(
         }
         Err(InputError::NoMemory) => return Status::Memory,
     };
-    match text_of(alloc, bytes.as_slice()) {
+    match outcome_of(alloc, &job, bytes.as_slice()) {
         Ok(Some(text)) => match put_all(out, text.as_slice()) {
             Ok(()) => Status::Done,
             Err(_failed) => Status::WriteFault,
