@@ -1,6 +1,8 @@
 pub mod Words
 pub mod Jobs
 pub mod Page
-pub mod Outcome
 pub mod Files
+pub mod Contexts
+pub mod Outcome
+pub mod Inputs
 pub mod Runs

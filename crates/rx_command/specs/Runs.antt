@@ -3,10 +3,12 @@ use Rattle.std.specs.Prelude.{◌≡◌, ◌⊎◌, ℕ, ◌+◌, ◌≤◌, Lis
 use Rattle.std.specs.Fmt.{decimal}
 use Rattle.rx_ports.specs.Counts.{Rose}
 use Rattle.rx_ports.specs.Files.{file_of}
-use Rattle.rx_ports.specs.Told.{Told, Lacks, Moves, GrowsBy, GrowsByPart}
+use Rattle.rx_ports.specs.Told.{Told, Moves, GrowsBy, GrowsByPart}
 use Rattle.rx_terms.specs.Text.{Chars}
 use Rattle.rx_command.specs.Words.{Asked, job}
 use Rattle.rx_command.specs.Files.{size_of}
+use Rattle.rx_command.specs.Contexts.{context_size, context_limit}
+use Rattle.rx_command.specs.Outcome.{LacksFile}
 use Rattle.rx_command.specs.Page.{largest_page}
 use Rattle.rx_command.specs.declared.statuses.Fault.{Fault}
 use Rattle.rx_command.specs.declared.statuses.Kind.{Kind}
@@ -24,21 +26,31 @@ code_of status.WriteFault = 4
 code_of status.Memory = 5
 code_of status.BadContext = 6
 
--- a page was asked for, and the shelf's count of faults rose, or it tells its files and lacks the page
+-- a page was asked for, and the shelf's count of faults rose, or it tells its files and lacks one that is named
 pub record ReadCause (words : List Chars) (told : Option Told) (before now : ℕ) : Type 0 where
   pub asked : Asked
   pub asks : job words ≡ Some asked
-  pub cause : Rose before now ⊎ Lacks told (encode_utf8_all asked.page)
+  pub cause : Rose before now ⊎ LacksFile words told
 
-abbrev pub page_size : Option Asked → Told → ℕ
-page_size None told = 0
-page_size (Some asked) told = size_of (file_of told.files (encode_utf8_all asked.page))
+-- how much the files have that are named, and how much of them is read at most
+abbrev pub named_size : Option Asked → Told → ℕ
+named_size None told = 0
+named_size (Some asked) told = context_size asked.context told + size_of (file_of told.files (encode_utf8_all asked.page))
 
--- no more was taken than the page has, nor more than one byte past the largest page
-pub record TakesPage (words : List Chars) (old new : Told) : Type 0 where
+abbrev pub named_limit : Option Asked → ℕ
+named_limit None = 0
+named_limit (Some asked) = context_limit asked.context + (largest_page + 1)
+
+-- no more was taken than the files have that are named, nor more than one byte past the largest page and, where a
+-- context file is named, one byte past the largest of these
+pub record TakesFiles (asked : Option Asked) (old new : Told) : Type 0 where
   pub files : new.files ≡ old.files
-  pub page : new.taken ≤ old.taken + page_size (job words) old
-  pub most : new.taken ≤ old.taken + (largest_page + 1)
+  pub size : new.taken ≤ old.taken + named_size asked old
+  pub most : new.taken ≤ old.taken + named_limit asked
+
+abbrev pub context_named : Option Asked → Option Chars
+context_named None = None
+context_named (Some asked) = asked.context
 
 abbrev pub IsAtEnd : Option Told → Type 0
 IsAtEnd None = Unit {0}
@@ -46,6 +58,9 @@ IsAtEnd (Some told) = told.left ≡ []
 
 abbrev pub usage_line : List ℕ
 usage_line = codes "usage: rdfax extract|items|check|sample\n"
+
+abbrev pub context_line : List ℕ
+context_line = codes "refused: context file\n"
 
 abbrev pub kind_name : Kind → List ℕ
 kind_name NotBuilt = codes "NotBuilt"

@@ -1,13 +1,22 @@
 -- What a list of words asks for.
-use Rattle.std.specs.Prelude.{Bool, false, ◌&&◌, ◌==◌, not, List, [], ◌∷◌, codes, nat_eq, if◌then◌else◌, Option, Some, None}
+use Rattle.std.specs.Prelude.{Bool, true, false, ◌&&◌, ◌||◌, ◌==◌, not, List, [], ◌∷◌, codes, nat_eq, if◌then◌else◌, Option, Some, None, option_map, option_and_then}
 use Rattle.std.specs.Cmp.Lexicographic.{pointwise}
+use Rattle.std.specs.List.{list_all}
+use Rattle.rx_chars.specs.declared.syntax.Syntax.{Syntax}
+use Rattle.rx_chars.specs.declared.syntax.Syntax.TheVariants.{Html, Xhtml}
 use Rattle.rx_terms.specs.Ascii.{hyphen}
 use Rattle.rx_terms.specs.Text.{Chars}
 use Rattle.rx_terms.specs.Iri.{is_iri}
 
--- an extraction: the page's address and its name
+-- what is done with the page: its triples are written, which needs its address; or its faults are looked for
+pub data Task : Type 0 where
+  extracts : Chars → Task
+  checks : Syntax → Task
+
+-- the task, the name of its context file and that of its page
 pub record Asked : Type 0 where
-  pub address : Chars
+  pub task : Task
+  pub context : Option Chars
   pub page : Chars
 
 abbrev pub is_word : Chars → Chars → Bool
@@ -18,10 +27,90 @@ abbrev pub is_page_name : Chars → Bool
 is_page_name [] = false
 is_page_name (c ∷ name) = not (c == hyphen)
 
--- `extract --base IRI PAGE`; any other list asks for nothing
+-- a name that isn't empty
+abbrev pub is_file_name : Chars → Bool
+is_file_name [] = false
+is_file_name (c ∷ name) = true
+
+-- the words behind the task: each option with the word after it, which is its value, and one word more
+pub record Arguments : Type 0 where
+  pub options : List (Chars × Chars)
+  pub last : Chars
+
+abbrev pub with_option : Chars → Chars → Arguments → Arguments
+with_option name value rest = record { options = (name, value) ∷ rest.options; last = rest.last }
+
+abbrev pub arguments : List Chars → Option Arguments
+arguments [] = None
+arguments (last ∷ []) = Some (record { options = []; last = last })
+arguments (name ∷ value ∷ words) = option_map (with_option name value) (arguments words)
+
+-- the values that an option has been given
+abbrev pub values : Chars → List (Chars × Chars) → List Chars
+values name [] = []
+values name (option ∷ options) = if is_word option.0 name then option.1 ∷ values name options else values name options
+
+abbrev pub is_option : Chars → Bool
+is_option name = is_word name (codes "--syntax") || is_word name (codes "--context") || is_word name (codes "--base")
+
+abbrev pub are_options : List (Chars × Chars) → Bool
+are_options options = list_all (λ option. is_option option.0) options
+
+-- the options, each given once or not at all, and the last word
+pub record Given : Type 0 where
+  pub syntax : Option Chars
+  pub context : Option Chars
+  pub base : Option Chars
+  pub last : Chars
+
+-- the value of an option, where it is given; no answer where it is given twice
+abbrev pub at_most_one : List Chars → Option (Option Chars)
+at_most_one [] = Some None
+at_most_one (value ∷ []) = Some (Some value)
+at_most_one (value ∷ second ∷ values) = None
+
+abbrev pub given_with : List Chars → List Chars → List Chars → Chars → Option Given
+given_with syntaxes files bases last =
+    option_and_then (λ syntax. option_and_then (λ context. option_map (λ base. record { syntax = syntax; context = context; base = base; last = last }) (at_most_one bases)) (at_most_one files)) (at_most_one syntaxes)
+
+abbrev pub given_of : Arguments → Option Given
+given_of words =
+    if are_options words.options then given_with (values (codes "--syntax") words.options) (values (codes "--context") words.options) (values (codes "--base") words.options) words.last else None
+
+-- what the words behind the task give
+abbrev pub given : List Chars → Option Given
+given words = option_and_then given_of (arguments words)
+
+-- the page has a name, and so has the context file, where there is one
+abbrev pub are_names : Option Chars → Chars → Bool
+are_names None page = is_page_name page
+are_names (Some file) page = is_file_name file && is_page_name page
+
+-- `[--context FILE] --base IRI PAGE`
+abbrev pub extraction_with : Option Chars → Option Chars → Option Chars → Chars → Option Asked
+extraction_with None (Some address) context page =
+    if is_iri address && are_names context page then Some (record { task = extracts address; context = context; page = page }) else None
+extraction_with syntax base context page = None
+
+abbrev pub extraction : Given → Option Asked
+extraction words = extraction_with words.syntax words.base words.context words.last
+
+-- the syntax of this name, which is HTML where none is given
+abbrev pub syntax_of : Option Chars → Option Syntax
+syntax_of None = Some Html
+syntax_of (Some name) = if is_word name (codes "html") then Some Html else (if is_word name (codes "xhtml") then Some Xhtml else None)
+
+-- `[--syntax html|xhtml] [--context FILE] PAGE`
+abbrev pub checking_with : Option Syntax → Option Chars → Option Chars → Chars → Option Asked
+checking_with (Some syntax) None context page = if are_names context page then Some (record { task = checks syntax; context = context; page = page }) else None
+checking_with syntax base context page = None
+
+abbrev pub checking : Given → Option Asked
+checking words = checking_with (syntax_of words.syntax) words.base words.context words.last
+
+-- `extract` or `check` with its options, in any order, and the page; any other list asks for nothing
 abbrev pub job : List Chars → Option Asked
-job (task ∷ option ∷ address ∷ page ∷ []) =
-    if is_word task (codes "extract") && is_word option (codes "--base") && is_iri address && is_page_name page
-    then Some (record { address = address; page = page })
-    else None
-job words = None
+job [] = None
+job (task ∷ words) =
+    if is_word task (codes "extract") then option_and_then extraction (given words)
+    else (if is_word task (codes "check") then option_and_then checking (given words) else None)

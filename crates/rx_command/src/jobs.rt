@@ -1,21 +1,30 @@
 //! What the words of the command line ask for.
-ghost use Rattle.std.specs.Prelude.{◌≡◌, MatchResult, IsTrue, nat_eq, Some};
-ghost use Rattle.std.specs.Cmp.Lexicographic.{pointwise};
-ghost use Rattle.std.specs.List.{list_all};
-ghost use Rattle.std.specs.Str.{chars};
-ghost use Rattle.rx_terms.specs.Ascii.{is_ascii};
-ghost use Rattle.rx_command.specs.Words.{job, is_page_name};
-ghost use Rattle.rx_command.specs.Jobs.{asked_by, page_of, FailsJob};
+ghost use Rattle.std.specs.Prelude.{◌≡◌, MatchResult, IfOk, Some};
+ghost use Rattle.rx_command.specs.Words.{job, extraction, checking, syntax_of};
+ghost use Rattle.rx_command.specs.Jobs.{asked_by, given_seen, text_in, FailsJob};
 
-use rx_terms::{Iri, IriError, Text};
+use crate::arguments::{Arguments, are_names, arguments_of, is_word};
+use rx_chars::Syntax;
+use rx_terms::{Iri, IriError, NoMemory, Text};
 use std::alloc::Global;
 use thiserror::Error;
 
 /// What is asked for.
 #[derive(Debug, Drop)]
 pub enum Job {
-    /// The triples of the page of this name, whose address is given.
-    Extract { address: Iri, page: Text },
+    /// The triples of the page of this name, whose address is given, with the names of a context file or the standard
+    /// ones.
+    Extract {
+        context: Option<Text>,
+        address: Iri,
+        page: Text,
+    },
+    /// The faults of the page of this name, in this syntax, with the names of a context file or the standard ones.
+    Check {
+        syntax: Syntax,
+        context: Option<Text>,
+        page: Text,
+    },
 }
 
 /// Why the words are no job.
@@ -33,15 +42,33 @@ impl Job {
     /// The job that the words ask for, which are those after the program's name. Usage comes exactly where they ask
     /// for nothing.
     pub fn of(alloc: Global, words: &[Text]) -> Result<Job, JobError>
-        ensures { MatchResult result (λ found. job words.now ≡ Some (asked_by found)) (FailsJob words.now) }
+        ensures { MatchResult result (λ found. job words.now ≡ Some (asked_by found)) (FailsJob (job words.now)) }
     {
-        let [task, option, address, page] = words else {
+        let Some((task, behind)) = words.split_first() else {
             return Err(JobError::Usage);
         };
-        if !is_word(task, "extract") || !is_word(option, "--base") {
+        let Some(arguments) = arguments_of(behind) else {
             return Err(JobError::Usage);
+        };
+        if is_word(task, "extract") {
+            return Job::extraction(alloc, arguments);
         }
-        if !is_page_name(page.as_str()) {
+        if is_word(task, "check") {
+            return Job::checking(alloc, arguments);
+        }
+        Err(JobError::Usage)
+    }
+
+    fn extraction(alloc: Global, given: Arguments<'_>) -> Result<Job, JobError>
+        ensures { MatchResult result (λ found. extraction (given_seen given.entry) ≡ Some (asked_by found)) (FailsJob (extraction (given_seen given.entry))) }
+    {
+        let None = given.syntax else {
+            return Err(JobError::Usage);
+        };
+        let Some(address) = given.base else {
+            return Err(JobError::Usage);
+        };
+        if !are_names(given.context, given.last) {
             return Err(JobError::Usage);
         }
         let address = match Iri::of(alloc, address.as_str()) {
@@ -49,35 +76,90 @@ impl Job {
             Err(IriError::NoMemory) => return Err(JobError::NoMemory),
             Err(_) => return Err(JobError::Usage),
         };
-        match page.try_clone() {
-            Ok(page) => Ok(Job::Extract { address, page }),
+        let Ok(context) = copied(given.context) else {
+            return Err(JobError::NoMemory);
+        };
+        match given.last.try_clone() {
+            Ok(page) => Ok(Job::Extract {
+                context,
+                address,
+                page,
+            }),
+            Err(_) => Err(JobError::NoMemory),
+        }
+    }
+
+    fn checking(alloc: Global, given: Arguments<'_>) -> Result<Job, JobError>
+        ensures { MatchResult result (λ found. checking (given_seen given.entry) ≡ Some (asked_by found)) (FailsJob (checking (given_seen given.entry))) }
+    {
+        let Some(syntax) = syntax_of(given.syntax) else {
+            return Err(JobError::Usage);
+        };
+        let None = given.base else {
+            return Err(JobError::Usage);
+        };
+        if !are_names(given.context, given.last) {
+            return Err(JobError::Usage);
+        }
+        let Ok(context) = copied(given.context) else {
+            return Err(JobError::NoMemory);
+        };
+        match given.last.try_clone() {
+            Ok(page) => Ok(Job::Check {
+                syntax,
+                context,
+                page,
+            }),
             Err(_) => Err(JobError::NoMemory),
         }
     }
 
     /// The name of the page.
     pub(crate) fn page(&self) -> &Text
-        ensures { result.now ≡ page_of self.now }
+        ensures { result.now ≡ (asked_by self.now).page }
     {
         match self {
             Job::Extract { page, .. } => page,
+            Job::Check { page, .. } => page,
+        }
+    }
+
+    /// The name of the context file.
+    pub(crate) fn context(&self) -> Option<&Text>
+        ensures { text_in result ≡ (asked_by self.now).context }
+    {
+        match self {
+            Job::Extract { context, .. } => context.as_ref(),
+            Job::Check { context, .. } => context.as_ref(),
         }
     }
 }
 
-/// Whether the text is this word of ASCII.
-fn is_word(text: &Text, word: &str) -> bool
-    requires { IsTrue (list_all is_ascii word.now) }
-    ensures { result ≡ pointwise nat_eq text.now word.now }
+/// The text that is lent, as one of its own.
+fn copied(text: Option<&Text>) -> Result<Option<Text>, NoMemory>
+    ensures { IfOk result (λ copy. copy ≡ text_in text.entry) }
 {
-    text.as_str() == word
+    match text {
+        None => Ok(None),
+        Some(text) => match text.try_clone() {
+            Ok(text) => Ok(Some(text)),
+            Err(_) => Err(NoMemory),
+        },
+    }
 }
 
-fn is_page_name(page: &str) -> bool
-    ensures { result ≡ is_page_name (chars page.now) }
+/// The syntax of this name, which is HTML where none is given.
+fn syntax_of(name: Option<&Text>) -> Option<Syntax>
+    ensures { result ≡ syntax_of (text_in name.entry) }
 {
-    match page.chars().next() {
-        None => false,
-        Some(first) => first != '-',
+    let Some(name) = name else {
+        return Some(Syntax::Html);
+    };
+    if is_word(name, "html") {
+        return Some(Syntax::Html);
     }
+    if is_word(name, "xhtml") {
+        return Some(Syntax::Xhtml);
+    }
+    None
 }

@@ -7,8 +7,10 @@
 
 ghost use Rattle.rx_command.specs.Page.{OneReading};
 
+mod arguments;
 mod extract;
 mod files;
+mod inputs;
 mod jobs;
 mod pages;
 mod statuses;

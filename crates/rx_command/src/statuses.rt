@@ -33,7 +33,7 @@ pub enum Status {
     WriteFault,
     /// There was no memory, and nothing was written.
     Memory,
-    /// The context file has another shape. It doesn't come yet.
+    /// The context file has another shape, or it is too long; nothing was written.
     BadContext,
 }
 

@@ -39,10 +39,29 @@ fn failing(alloc: Global, number: u64) -> Result<Vec<u64>, Fail> {
     Ok(numbers)
 }
 
+/// An empty object, and so many spaces.
+fn with_spaces(alloc: Global, count: usize) -> Result<Vec<u8>, Fail> {
+    let mut bytes = Vec::new(alloc);
+    bytes.extend_from_slice(b"{}")?;
+    for _ in 0..count {
+        bytes.push(b' ')?;
+    }
+    Ok(bytes)
+}
+
 fn shelf_of(alloc: Global, behaviour: (usize, u64)) -> Result<MemShelf, Fail> {
     let mut files = FileList::new(alloc);
     files.push("page.html", PAGE)?;
     files.push("other.html", b"<html><br></html>")?;
+    files.push(
+        "names.json",
+        b"{\"prefixes\":{\"e\":\"http://v.example/\"}}",
+    )?;
+    files.push("relative.json", b"{\"prefixes\":{\"e\":\"v/\"}}")?;
+    files.push("list.json", b"[]")?;
+    files.push("vocabulary.json", b"{\"vocab\":\"http://v.example/\"}")?;
+    files.push("largest.json", with_spaces(alloc, 65_534)?.as_slice())?;
+    files.push("longer.json", with_spaces(alloc, 65_535)?.as_slice())?;
     Ok(MemShelf::new(files, behaviour.0.max(1), failing(alloc, behaviour.1)?))
 }
 
@@ -137,6 +156,61 @@ fn worked_rows(rt: HostRuntime) -> Result<(), Fail> {
             said: USAGE,
         },
         Row {
+            words: &["check", "page.html"],
+            shelf: (10_000, 0),
+            out: (10, 0),
+            status: NOT_BUILT,
+            written: b"",
+            said: b"refused: NotBuilt at byte 0 in token 0\n",
+        },
+        Row {
+            words: &[
+                "check",
+                "--context",
+                "names.json",
+                "--syntax",
+                "xhtml",
+                "page.html",
+            ],
+            shelf: (10_000, 0),
+            out: (10, 0),
+            status: NOT_BUILT,
+            written: b"",
+            said: b"refused: NotBuilt at byte 0 in token 0\n",
+        },
+        Row {
+            words: &["check", "--context", "list.json", "page.html"],
+            shelf: (10_000, 0),
+            out: (10, 0),
+            status: Status::BadContext,
+            written: b"",
+            said: b"refused: context file\n",
+        },
+        Row {
+            words: &["check", "missing.html"],
+            shelf: (10_000, 0),
+            out: (10, 0),
+            status: Status::ReadFault,
+            written: b"",
+            said: b"",
+        },
+        Row {
+            words: &["check", "--syntax", "xml", "page.html"],
+            shelf: (10_000, 0),
+            out: (10, 0),
+            status: Status::Usage,
+            written: b"",
+            said: USAGE,
+        },
+        Row {
+            words: &["check", "--base", "http://h.example/d", "page.html"],
+            shelf: (10_000, 0),
+            out: (10, 0),
+            status: Status::Usage,
+            written: b"",
+            said: USAGE,
+        },
+        Row {
             words: &["extract", "--base", "http://h.example/a^b", "page.html"],
             shelf: (10, 0),
             out: (10, 0),
@@ -160,6 +234,91 @@ fn worked_rows(rt: HostRuntime) -> Result<(), Fail> {
         assert_eq!(rt; status, row.status);
         assert_eq!(rt; out.held(), row.written);
         assert_eq!(rt; err.held(), row.said);
+    }
+    Ok(())
+}
+
+/// What comes of a context file, before the page or behind it.
+#[derive(Clone, Copy)]
+struct ContextRow {
+    context: &'static str,
+    page: &'static str,
+    status: Status,
+    written: &'static [u8],
+    said: &'static [u8],
+}
+
+const fn bad(context: &'static str) -> ContextRow {
+    ContextRow {
+        context,
+        page: "page.html",
+        status: Status::BadContext,
+        written: b"",
+        said: b"refused: context file\n",
+    }
+}
+
+const fn done(context: &'static str) -> ContextRow {
+    ContextRow {
+        context,
+        page: "page.html",
+        status: Status::Done,
+        written: LINE,
+        said: b"",
+    }
+}
+
+const fn missing(context: &'static str, page: &'static str) -> ContextRow {
+    ContextRow {
+        context,
+        page,
+        status: Status::ReadFault,
+        written: b"",
+        said: b"",
+    }
+}
+
+#[test]
+fn context_files(rt: HostRuntime) -> Result<(), Fail> {
+    let rows = [
+        done("names.json"),
+        done("largest.json"),
+        bad("relative.json"),
+        bad("list.json"),
+        bad("vocabulary.json"),
+        bad("longer.json"),
+        missing("missing.json", "page.html"),
+        missing("names.json", "missing.html"),
+    ];
+    let alloc = rt.alloc();
+    for row in rows.iter() {
+        let base = "http://h.example/d";
+        let before = [
+            "extract",
+            "--context",
+            row.context,
+            "--base",
+            base,
+            row.page,
+        ];
+        let behind = [
+            "extract",
+            "--base",
+            base,
+            "--context",
+            row.context,
+            row.page,
+        ];
+        for list in [before, behind].iter() {
+            let mut shelf = shelf_of(alloc, (10_000, 0))?;
+            let mut out = MemSink::with_room(alloc, 1000, 100, Vec::new(alloc))?;
+            let mut err = MemSink::with_room(alloc, 1000, 7, Vec::new(alloc))?;
+            let words = words_of(alloc, list.as_slice())?;
+            let status = run(alloc, words.as_slice(), &mut shelf, &mut out, &mut err);
+            assert_eq!(rt; status, row.status);
+            assert_eq!(rt; out.held(), row.written);
+            assert_eq!(rt; err.held(), row.said);
+        }
     }
     Ok(())
 }

@@ -3,29 +3,30 @@ ghost use Rattle.std.specs.Prelude.{◌≡◌, ◌≢◌, ◌⊎◌, ℕ, List, 
 ghost use Rattle.rx_ports.specs.Counts.{Rose};
 ghost use Rattle.rx_ports.specs.Told.{Told, Moves, GrowsBy, GrowsByPart, Stays};
 ghost use Rattle.rx_command.specs.Words.{job};
-ghost use Rattle.rx_command.specs.Outcome.{Yields, YieldsGraph, Refuses, LacksPage};
-ghost use Rattle.rx_command.specs.Runs.{ReadCause, TakesPage, IsAtEnd, Says, usage_line, refused_line};
+ghost use Rattle.rx_command.specs.Contexts.{TakesContext};
+ghost use Rattle.rx_command.specs.Outcome.{Yields, YieldsGraph, Refuses, LacksFile, HasBadContext, NamesContext};
+ghost use Rattle.rx_command.specs.Runs.{ReadCause, TakesFiles, IsAtEnd, Says, usage_line, refused_line, context_line, context_named};
 
-use crate::extract::text_of;
-use crate::files::{ReadError, read_file};
+use crate::extract::outcome_of;
+use crate::inputs::{InputError, read_inputs};
 use crate::jobs::{Job, JobError};
 use crate::statuses::{Fault, Kind, Status};
 use rx_ports::{Shelf, Sink, put_all};
 use rx_terms::Text;
 use std::alloc::Global;
 
-/// The most bytes that a page of the built form has.
-const LARGEST_PAGE: usize = 1_048_576;
-
 const USAGE: &[u8] = b"usage: rdfax extract|items|check|sample\n";
 
 const REFUSED: &[u8] = b"refused: NotBuilt at byte 0 in token 0\n";
 
-/// Does what the words ask for, which are those after the program's name: reads the page from the shelf, writes its
-/// text to `out`, and says on `err` why there is none.
+const BAD_CONTEXT: &[u8] = b"refused: context file\n";
+
+/// Does what the words ask for, which are those after the program's name: reads the context file, where one is named,
+/// and the page from the shelf, writes the page's text to `out`, and says on `err` why there is none.
 ///
-/// What is said of the page's bytes is said of a shelf that tells its files, and what is said of the bytes written of
-/// a sink that tells what it holds. The first text that a run meets decides: the words, then the page, then writing.
+/// What is said of the files' bytes is said of a shelf that tells its files, and what is said of the bytes written of
+/// a sink that tells what it holds. The first text that a run meets decides: the words, then the context file, then
+/// the page, then writing.
 /// Want of memory may come at any place before the first byte is written.
 pub fn run<F: Shelf, O: Sink, E: Sink>(
     alloc: Global,
@@ -51,9 +52,10 @@ pub fn run<F: Shelf, O: Sink, E: Sink>(
     ensures refused { (fault : Fault) → result ≡ Status.Refused fault → (told : Told) → F.told shelf.old ≡ Some told →
         Refuses words.now (F.told shelf.old) fault }
 
-    // ReadFault comes only where the shelf failed, or lacks the page; and then there is no other answer.
+    // ReadFault comes only where the shelf failed, or lacks the context file, or lacks the page where the context file is
+    // a context; and where it lacks one of them there is no other answer.
     ensures read_fault { result ≡ Status.ReadFault → ReadCause words.now (F.told shelf.old) (F.faults shelf.old) (F.faults shelf.new) }
-    ensures lacking { LacksPage words.now (F.told shelf.old) → (result ≡ Status.ReadFault) ⊎ (result ≡ Status.Memory) }
+    ensures lacking { LacksFile words.now (F.told shelf.old) → (result ≡ Status.ReadFault) ⊎ (result ≡ Status.Memory) }
 
     // WriteFault comes only where out failed, which then holds a proper front of the page's text more than before.
     ensures write_fault { result ≡ Status.WriteFault → Rose (O.faults out.old) (O.faults out.new) }
@@ -63,16 +65,24 @@ pub fn run<F: Shelf, O: Sink, E: Sink>(
     // On any other status nothing is written.
     ensures nothing_written { result ≢ Status.Done → result ≢ Status.WriteFault → Moves Stays (O.held out.old) (O.held out.new) }
 
-    ensures no_context { result ≢ Status.BadContext }
+    // BadContext comes only where the words name a context file, which is there and has another shape or is too long; and
+    // then there is no other answer, where nothing failed. No other file is read then.
+    ensures names_context { result ≡ Status.BadContext → NamesContext words.now }
+    ensures bad_context { result ≡ Status.BadContext → (told : Told) → F.told shelf.old ≡ Some told → HasBadContext words.now (F.told shelf.old) }
+    ensures refuses_context { HasBadContext words.now (F.told shelf.old) → ¬ Rose (F.faults shelf.old) (F.faults shelf.new)
+        → (result ≡ Status.BadContext) ⊎ (result ≡ Status.Memory) }
+    ensures takes_context { result ≡ Status.BadContext → Moves (TakesContext (context_named (job words.now))) (F.told shelf.old) (F.told shelf.new) }
 
-    // What err is told: one line on Usage and on Refused, or a front of it where err failed; on other statuses nothing.
+    // What err is told: one line on Usage, on Refused and on BadContext, or a front of it where err failed; on other statuses nothing.
     ensures says_usage { result ≡ Status.Usage → Says usage_line (E.held err.old) (E.held err.new) (E.faults err.old) (E.faults err.new) }
     ensures says_refused { (fault : Fault) → result ≡ Status.Refused fault →
         Says (refused_line fault) (E.held err.old) (E.held err.new) (E.faults err.old) (E.faults err.new) }
-    ensures says_nothing { result ≢ Status.Usage → ((fault : Fault) → result ≢ Status.Refused fault) → Moves Stays (E.held err.old) (E.held err.new) }
+    ensures says_context { result ≡ Status.BadContext → Says context_line (E.held err.old) (E.held err.new) (E.faults err.old) (E.faults err.new) }
+    ensures says_nothing { result ≢ Status.Usage → result ≢ Status.BadContext → ((fault : Fault) → result ≢ Status.Refused fault) → Moves Stays (E.held err.old) (E.held err.new) }
 
-    // How much is read: no more than the page has, nor more than one byte past the largest page.
-    ensures takes { Moves (TakesPage words.now) (F.told shelf.old) (F.told shelf.new) }
+    // How much is read: no more than the named files have, nor more than one byte past the largest page and, where a
+    // context file is named, one byte past the largest of these.
+    ensures takes { Moves (TakesFiles (job words.now)) (F.told shelf.old) (F.told shelf.new) }
 
     // Where nothing failed, a page that has a text is done, and one that has a fault is refused.
     ensures completes { (text : List ℕ) → Yields words.now (F.told shelf.old) text → ¬ Rose (F.faults shelf.old) (F.faults shelf.new)
@@ -88,12 +98,16 @@ pub fn run<F: Shelf, O: Sink, E: Sink>(
         }
         Err(JobError::NoMemory) => return Status::Memory,
     };
-    let bytes = match read_file(alloc, shelf, job.page().as_str(), LARGEST_PAGE) {
+    let bytes = match read_inputs(alloc, shelf, &job) {
         Ok(bytes) => bytes,
-        Err(ReadError::Failed) => return Status::ReadFault,
-        Err(ReadError::NoMemory) => return Status::Memory,
+        Err(InputError::Failed) => return Status::ReadFault,
+        Err(InputError::BadContext) => {
+            say(err, BAD_CONTEXT);
+            return Status::BadContext;
+        }
+        Err(InputError::NoMemory) => return Status::Memory,
     };
-    match text_of(alloc, bytes.as_slice()) {
+    match outcome_of(alloc, &job, bytes.as_slice()) {
         Ok(Some(text)) => match put_all(out, text.as_slice()) {
             Ok(()) => Status::Done,
             Err(_failed) => Status::WriteFault,
