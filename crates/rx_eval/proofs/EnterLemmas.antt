@@ -90,18 +90,18 @@ module _ (N : Naming ℕ ℕ) (base : Chars) (S : Standing ℕ ℕ) where
       → start_by N base S.facts H v S.around.subject ws ≡ start_of N base S
   start_is H v ws r e w =
       ap₂ (λ (a b : List (Triple ℕ)). a ++ (if H.skipped then [] else b)) (voc S.facts.vocab) parts ∙ ap whole r ∙ start_whole
-   where
-    C : List (Triple ℕ)
-    C = filter_map (completed N base S H) S.around.hanging
+    where
+      C : List (Triple ℕ)
+      C = filter_map (completed N base S H) S.around.hanging
 
-    rest : values_of S.facts H.subject v ++ filter_map (completed_by S.around.subject H.subject) ws ≡ properties_by N base S H (value_now (rule N base S.facts H) S.facts) ++ C
-    rest = ap₂ (λ (a b : List (Triple ℕ)). a ++ b) (values H v ∙ ap (properties_by N base S H) e) (completes H ws ∙ ap (filter_map (completed N base S H)) w)
+      rest : values_of S.facts H.subject v ++ filter_map (completed_by S.around.subject H.subject) ws ≡ properties_by N base S H (value_now (rule N base S.facts H) S.facts) ++ C
+      rest = ap₂ (λ (a b : List (Triple ℕ)). a ++ b) (values H v ∙ ap (properties_by N base S H) e) (completes H ws ∙ ap (filter_map (completed N base S H)) w)
 
-    parts : found_by N base S.facts H ++ (values_of S.facts H.subject v ++ filter_map (completed_by S.around.subject H.subject) ws)
-        ≡ types_by N base S H.typed ++ links_by N base S H H.object ++ properties_by N base S H (value_now (rule N base S.facts H) S.facts) ++ C
-    parts =
-        ap₂ (λ (a b : List (Triple ℕ)). a ++ b) (ap₂ (λ (a b : List (Triple ℕ)). a ++ b) (types H.typed) (links H H.object)) rest
-        ∙ sym (append_assoc (types_by N base S H.typed ++ links_by N base S H H.object) (properties_by N base S H (value_now (rule N base S.facts H) S.facts)) C)
+      parts : found_by N base S.facts H ++ (values_of S.facts H.subject v ++ filter_map (completed_by S.around.subject H.subject) ws)
+          ≡ types_by N base S H.typed ++ links_by N base S H H.object ++ properties_by N base S H (value_now (rule N base S.facts H) S.facts) ++ C
+      parts =
+          ap₂ (λ (a b : List (Triple ℕ)). a ++ b) (ap₂ (λ (a b : List (Triple ℕ)). a ++ b) (types H.typed) (links H H.object)) rest
+          ∙ sym (append_assoc (types_by N base S H.typed ++ links_by N base S H H.object) (properties_by N base S H (value_now (rule N base S.facts H) S.facts)) C)
 
 -- ---- the owners
 
@@ -145,37 +145,37 @@ handed_is at around facts here s a object own below context old mid k e f o w m 
     h ∙ ap₂ (λ (x y : ℕ). handed_by facts here (option_map node_seen object) x y) (own_is around here s a own (length old) e f w) (last_owner object below b)
     ∙ ap (λ (x : Option (Node ℕ)). handed_by facts here x (own_number around here (length old)) (last_number x)) o
     ∙ by_skip here.skipped k
- where
-  n : ℕ
-  n = length old
+  where
+    n : ℕ
+    n = length old
 
-  -- the owner of the children, by the object
-  last_number : Option (Node ℕ) → ℕ
-  last_number x = owner_below (naming_by at around here n) (standing_in at around facts) here x (own_number around here n)
+    -- the owner of the children, by the object
+    last_number : Option (Node ℕ) → ℕ
+    last_number x = owner_below (naming_by at around here n) (standing_in at around facts) here x (own_number around here n)
 
-  next_is : length mid ≡ next_number around here n
-  next_is =
-      ap length m ∙ more_owners s a old
-      ∙ ap₂ (λ (x : Node ℕ) (y : CodeNode). if same_node nat_eq x (node_seen y) then length old else suc (length old)) e f
+    next_is : length mid ≡ next_number around here n
+    next_is =
+        ap length m ∙ more_owners s a old
+        ∙ ap₂ (λ (x : Node ℕ) (y : CodeNode). if same_node nat_eq x (node_seen y) then length old else suc (length old)) e f
 
-  last_owner : (x : Option CodeNode) (y : Option Owner) → y ≡ begun_below_number x s (length mid) → (owner_in y (owner_in own around.owner)).0 ≡ last_number (option_map node_seen x)
-  last_owner None y g = ap (λ (z : Option Owner). (owner_in z (owner_in own around.owner)).0) g ∙ own_is around here s a own n e f w
-  last_owner (Some x) y g =
-      ap (λ (z : Option Owner). (owner_in z (owner_in own around.owner)).0) g ∙ number_is x s (length mid) (owner_in own around.owner)
-      ∙ ap₂ (λ (u v : ℕ). if same_node nat_eq (node_seen x) (node_seen s) then u else v) (own_is around here s a own n e f w) next_is
-      ∙ ap (λ (z : Node ℕ). if same_node nat_eq (node_seen x) z then own_number around here n else next_number around here n) e
+    last_owner : (x : Option CodeNode) (y : Option Owner) → y ≡ begun_below_number x s (length mid) → (owner_in y (owner_in own around.owner)).0 ≡ last_number (option_map node_seen x)
+    last_owner None y g = ap (λ (z : Option Owner). (owner_in z (owner_in own around.owner)).0) g ∙ own_is around here s a own n e f w
+    last_owner (Some x) y g =
+        ap (λ (z : Option Owner). (owner_in z (owner_in own around.owner)).0) g ∙ number_is x s (length mid) (owner_in own around.owner)
+        ∙ ap₂ (λ (u v : ℕ). if same_node nat_eq (node_seen x) (node_seen s) then u else v) (own_is around here s a own n e f w) next_is
+        ∙ ap (λ (z : Node ℕ). if same_node nat_eq (node_seen x) z then own_number around here n else next_number around here n) e
 
-  by_skip : (b : Bool) → b ≡ false
-      → handed_by facts here (object_below (naming at) (standing at facts) here) (own_number around here n) (last_number (object_below (naming at) (standing at facts) here))
-      ≡ (if b then context_seen around
+    by_skip : (b : Bool) → b ≡ false
+        → handed_by facts here (object_below (naming at) (standing at facts) here) (own_number around here n) (last_number (object_below (naming at) (standing at facts) here))
+        ≡ (if b then context_seen around
         else record {
           subject = here.subject;
           object = unwrap_or (object_below (naming_by at around here n) (standing_in at around facts) here) here.subject;
           hanging = (if hangs facts here then hanging_by facts (own_number around here n) else []);
           owner = last_number (object_below (naming_by at around here n) (standing_in at around facts) here);
         })
-  by_skip false g = refl
-  by_skip true g = absurd (cc)
+    by_skip false g = refl
+    by_skip true g = absurd (cc)
 
 below_opened : (N : Naming ℕ ℕ) (base : Chars) (S : Standing ℕ ℕ) → handed N S (resources N base S) ≡ below N base S
 unfolding below
@@ -215,13 +215,13 @@ module _ (N : Naming ℕ ℕ) (S : Standing ℕ ℕ) (H : Resources ℕ) (v : Op
   pub entries_are : H.skipped ≡ false → entries_in (own_owner N S H) S.facts H v S.around.hanging ≡ entries_by N Some v S H
   entries_are k =
       rw k (ap₂ (λ (a b : Entries). (if S.facts.inlist then a else []) ++ b)
-        (ap (λ (l : Entries). l ++ (T ++ V)) (linked_is H.object) ∙ sym (append_assoc (linked N Some v S H H.object) T V)) (awaited_is S.around.hanging))
-   where
-    T : Entries
-    T = if hangs S.facts H then map (entry (own_owner N S H) None) (listed S.facts.rel) else []
+      (ap (λ (l : Entries). l ++ (T ++ V)) (linked_is H.object) ∙ sym (append_assoc (linked N Some v S H H.object) T V)) (awaited_is S.around.hanging))
+    where
+      T : Entries
+      T = if hangs S.facts H then map (entry (own_owner N S H) None) (listed S.facts.rel) else []
 
-    V : Entries
-    V = map (entry (own_owner N S H) (Some v)) (listed S.facts.property)
+      V : Entries
+      V = map (entry (own_owner N S H) (Some v)) (listed S.facts.property)
 
 abbrev lists_at : Place → Context → Facts → ℕ → List (Option Owning) → Resources ℕ → List (Option Owning)
 lists_at at around facts n owners here =
@@ -234,12 +234,12 @@ pub lists_skipped : (at : Place) (around : Context) (facts : Facts) (here : Reso
     → here.skipped ≡ true → owners ≡ entered_lists at around facts owners
 lists_skipped at around facts here owners r k =
     skips here.skipped k ∙ ap (lists_at at around facts (length owners) owners) r
- where
-  skips : (b : Bool) → b ≡ true → owners ≡ (if b then owners else put_entries
-    (entries_by (naming_by at around here (length owners)) Some (value_now (rule (naming at) at.base.now facts here) facts) (standing_in at around facts) here)
-    (owners_begun at around facts here owners))
-  skips true g = refl
-  skips false g = absurd (cc)
+  where
+    skips : (b : Bool) → b ≡ true → owners ≡ (if b then owners else put_entries
+        (entries_by (naming_by at around here (length owners)) Some (value_now (rule (naming at) at.base.now facts here) facts) (standing_in at around facts) here)
+        (owners_begun at around facts here owners))
+    skips true g = refl
+    skips false g = absurd (cc)
 
 pub lists_entered : (at : Place) (around : Context) (facts : Facts) (here : Resources ℕ) (value : Option (Term ℕ)) (old new : List (Option Owning)) (n : ℕ) → n ≡ length old
     → here ≡ resources (naming at) at.base.now (standing_in at around facts) → here.skipped ≡ false → value ≡ value_now (rule (naming at) at.base.now facts here) facts
@@ -250,15 +250,15 @@ lists_entered at around facts here value old new n z r k e h =
     ∙ ap (λ (x : Entries). put_entries x (owners_begun at around facts here old)) (entries_are (naming_by at around here (length old)) (standing_in at around facts) here value k)
     ∙ ap (λ (x : Option (Term ℕ)). put_entries (entries_by (naming_by at around here (length old)) Some x (standing_in at around facts) here) (owners_begun at around facts here old)) e
     ∙ skips here.skipped k ∙ ap (lists_at at around facts (length old) old) r
- where
-  E : List (Option Owning)
-  E = put_entries
-    (entries_by (naming_by at around here (length old)) Some (value_now (rule (naming at) at.base.now facts here) facts) (standing_in at around facts) here)
-    (owners_begun at around facts here old)
+  where
+    E : List (Option Owning)
+    E = put_entries
+        (entries_by (naming_by at around here (length old)) Some (value_now (rule (naming at) at.base.now facts here) facts) (standing_in at around facts) here)
+        (owners_begun at around facts here old)
 
-  skips : (b : Bool) → b ≡ false → E ≡ (if b then old else E)
-  skips false g = refl
-  skips true g = absurd (cc)
+    skips : (b : Bool) → b ≡ false → E ≡ (if b then old else E)
+    skips false g = refl
+    skips true g = absurd (cc)
 
 -- ---- the text
 
@@ -267,19 +267,19 @@ pub gathers_entered : (at : Place) (around : Context) (facts : Facts) (here : Re
 gathers_entered at around facts here value r k e =
     ap (λ (x : Option (Term ℕ)). is_some facts.property && is_none x) e ∙ not_skipped here.skipped k
     ∙ ap (λ (h : Resources ℕ). not h.skipped && gathers (naming at) at.base.now facts h) r
- where
-  not_skipped : (b : Bool) → b ≡ false → gathers (naming at) at.base.now facts here ≡ (not b && gathers (naming at) at.base.now facts here)
-  not_skipped false g = refl
-  not_skipped true g = absurd (cc)
+  where
+    not_skipped : (b : Bool) → b ≡ false → gathers (naming at) at.base.now facts here ≡ (not b && gathers (naming at) at.base.now facts here)
+    not_skipped false g = refl
+    not_skipped true g = absurd (cc)
 
 pub gathers_skipped : (at : Place) (around : Context) (facts : Facts) (here : Resources ℕ) → here ≡ resources (naming at) at.base.now (standing_in at around facts)
     → here.skipped ≡ true → false ≡ gathers_in at around facts
 gathers_skipped at around facts here r k =
     skips here.skipped k ∙ ap (λ (h : Resources ℕ). not h.skipped && gathers (naming at) at.base.now facts h) r
- where
-  skips : (b : Bool) → b ≡ true → false ≡ (not b && gathers (naming at) at.base.now facts here)
-  skips true g = refl
-  skips false g = absurd (cc)
+  where
+    skips : (b : Bool) → b ≡ true → false ≡ (not b && gathers (naming at) at.base.now facts here)
+    skips true g = refl
+    skips false g = absurd (cc)
 
 pub ok_then : {A E : Type 0} {P Q : A → Type 0} (r : Result A E) → ((a : A) → P a → Q a) → IfOk r P → IfOk r Q
 ok_then (Ok a) f h = f a h

@@ -41,8 +41,8 @@ number_at p (k ∷ ks) [] d e h = absurd (omega arith)
 number_at p (k ∷ ks) (n ∷ ns) d e h =
     by_test (bytes_eq k p) (λ t. rw t refl)
     (λ f.
-      let z : first_place p (k ∷ ks) ≡ suc (first_place p ks) = rw f refl in
-      rw f (number_at p ks ns d (omega arith) (omega (arith, z, h))))
+    let z : first_place p (k ∷ ks) ≡ suc (first_place p ks) = rw f refl in
+    rw f (number_at p ks ns d (omega arith) (omega (arith, z, h))))
 
 no_number : (p : List ℕ) (ks : List (List ℕ)) (ns : List ℕ) → first_place p ks ≡ length ks → None ≡ number_of (rows ks ns) p
 no_number p [] ns h = refl
@@ -50,8 +50,8 @@ no_number p (k ∷ ks) [] h = refl
 no_number p (k ∷ ks) (n ∷ ns) h =
     by_test (bytes_eq k p) (λ t. let z : first_place p (k ∷ ks) ≡ 0 = rw t refl in absurd (omega (arith, z, h)))
     (λ f.
-      let z : first_place p (k ∷ ks) ≡ suc (first_place p ks) = rw f refl in
-      rw f (no_number p ks ns (omega (arith, z, h))))
+    let z : first_place p (k ∷ ks) ≡ suc (first_place p ks) = rw f refl in
+    rw f (no_number p ks ns (omega (arith, z, h))))
 
 pub found : (p : List ℕ) (ks : List (List ℕ)) (ns : List ℕ) (all : Numbered) (i n : ℕ) → rows ks ns ≡ all → length ks ≡ length ns → Some i ≡ position (bytes_eq p) ks → n ≡ get_or ns i n
     → Some n ≡ number_of all p

@@ -14,6 +14,10 @@ use Rattle.rx_eval.specs.declared.contexts.Context.{Context}
 use Rattle.rx_eval.specs.declared.frames.Frame.{Frame as CodeFrame}
 use Rattle.rx_eval.specs.declared.frames.Gathered.{Gathered}
 use Rattle.rx_eval.specs.declared.places.Level.{Level}
+use Rattle.rx_eval.specs.declared.contexts.Waiting.{Waiting}
+use Rattle.rx_eval.specs.declared.contexts.Waiting.TheVariants as code
+use Rattle.rx_eval.specs.Triples.{waiting_seen}
+use Rattle.rx_eval.specs.Waits.{Wait, wait_seen, wait_by}
 use Rattle.rx_eval.proofs.DrawLemmas.{drawn_most}
 
 handed_seen : (page : Context) (frames : List CodeFrame) → context_seen (around_in page frames) ≡ handed_on (context_seen page) (map frame_seen frames)
@@ -32,3 +36,12 @@ fresh_fits old new drawn fresh labels d h = omega (arith, drawn_most old new dra
 
 pub labels_fit : (drawn n : ℕ) → drawn + 1 + n ≤ 2 ^ 61 → drawn + n < 2 ^ 64
 labels_fit drawn n h = omega arith
+
+waits_are : (ws : List Waiting) → map wait_seen ws ≡ map wait_by (map waiting_seen ws)
+waits_are [] = refl
+waits_are (code.Forward p ∷ ws) = ap (λ (l : List Wait). wait_seen (code.Forward p) ∷ l) (waits_are ws)
+waits_are (code.Reverse p ∷ ws) = ap (λ (l : List Wait). wait_seen (code.Reverse p) ∷ l) (waits_are ws)
+waits_are (code.InList o p ∷ ws) = ap (λ (l : List Wait). wait_seen (code.InList o p) ∷ l) (waits_are ws)
+
+pub shown_waits : (around : Context) (ws : List Waiting) (context : Inherited ℕ ℕ) → ws ≡ around.hanging → context_seen around ≡ context → map wait_seen ws ≡ map wait_by context.hanging
+shown_waits around ws context e a = ap (map wait_seen) e ∙ waits_are around.hanging ∙ ap (λ (x : Inherited ℕ ℕ). map wait_by x.hanging) a

@@ -65,10 +65,10 @@ awaited_seen subject (InList owner p ∷ waiting) owners =
     awaited_seen subject waiting (changed (put p (Some (Some (term_of subject)))) owners owner.0)
     ∙ ap (put_entries (filter_map (awaited_entry (node_seen subject)) (map waiting_seen waiting)))
     (changed_seen p (Some (Some (term_of subject))) owners owner.0 ∙ ap (λ (t : Term ℕ). put_at owner.0 p (Some (Some t)) (owners_seen owners)) (term_is subject))
- where
-  term_is : (node : CodeNode) → term_seen (term_of node) ≡ resource_term (node_seen node)
-  term_is (code_node.Iri iri) = refl
-  term_is (code_node.Blank b) = refl
+  where
+    term_is : (node : CodeNode) → term_seen (term_of node) ≡ resource_term (node_seen node)
+    term_is (code_node.Iri iri) = refl
+    term_is (code_node.Blank b) = refl
 
 entries_then : (xs ys : Entries) (owners : List (Option Owning)) → put_entries (xs ++ ys) owners ≡ put_entries ys (put_entries xs owners)
 entries_then [] ys owners = refl

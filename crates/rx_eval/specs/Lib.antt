@@ -19,3 +19,4 @@ pub mod Closing
 pub mod States
 pub mod Opened
 pub mod Ending
+pub mod Waits

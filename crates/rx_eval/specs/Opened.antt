@@ -1,8 +1,8 @@
 -- What the start of an element does to the stack, by the rules.
-use Rattle.std.specs.Prelude.{◌≡◌, ℕ, suc, Bool, not, ◌&&◌, List, [], ◌∷◌, ◌++◌, length, Option, Some, None, nat_eq, is_some, if◌then◌else◌}
+use Rattle.std.specs.Prelude.{◌≡◌, ◌<◌, ◌≤◌, ◌^◌, ◌+◌, false, ℕ, suc, Bool, not, ◌&&◌, List, [], ◌∷◌, ◌++◌, length, Option, Some, None, nat_eq, is_some, if◌then◌else◌}
 use Rattle.std.specs.Str.{encode_utf8_all}
 use Rattle.rx_terms.specs.Text.{Chars}
-use Rattle.rx_model.specs.Terms.{Triple, same_node}
+use Rattle.rx_model.specs.Terms.{Iri, Triple, same_node}
 use Rattle.rx_rdfa.specs.Naming.{Naming}
 use Rattle.rx_rdfa.specs.Facts.{Facts}
 use Rattle.rx_rdfa.specs.Renaming.{labels}
@@ -14,7 +14,7 @@ use Rattle.rx_rdfa.specs.Lists.{entries_by}
 use Rattle.rx_eval.specs.Labels.{Numbered, draw}
 use Rattle.rx_eval.specs.Moment.{moment}
 use Rattle.rx_eval.specs.Places.{level_at, path_at}
-use Rattle.rx_eval.specs.OwnersSeen.{Owning, put_entries}
+use Rattle.rx_eval.specs.OwnersSeen.{Owning, owning, put_entries}
 use Rattle.rx_eval.specs.Entering.{begun_seen, begun_for}
 use Rattle.rx_eval.specs.Opening.{drawn_after}
 use Rattle.rx_eval.specs.States.{State, Frame}
@@ -71,3 +71,31 @@ pub record Opens (old : State) (facts : Facts) (new : State) : Type 0 where
   pub first : new.outermost ≡ first_of old.outermost (is_some frame.text) (length old.frames)
   pub counted : new.drawn ≡ drawn_after frame.context fresh
   pub rest : (new.base ≡ old.base) × (new.levels ≡ old.levels) × (new.page ≡ old.page) × (new.cells ≡ old.cells) × (new.kept ≡ old.kept) × (new.ended ≡ old.ended) × (new.spent ≡ old.spent)
+
+-- one more may be opened
+pub record MayOpen (old : State) (facts : Facts) : Type 0 where
+  pub level : length old.frames < old.levels
+  pub root : old.ended ≡ false
+  pub drawn : old.drawn + 1 + length (labels facts) ≤ 2 ^ 61
+
+-- before the root
+abbrev pub begun_state : Chars → ℕ → State
+begun_state base levels = record {
+  base = base;
+  levels = levels;
+  page = record { subject = Iri base; object = Iri base; hanging = []; owner = 0 };
+  frames = [];
+  labels = [];
+  drawn = 0;
+  cells = 2 ^ 61;
+  owners = Some (owning (Iri base) []) ∷ [];
+  kept = [];
+  outermost = None;
+  out = [];
+  ended = false;
+  spent = false;
+}
+
+-- text is kept while some open element gathers it
+abbrev pub read_text : Chars → State → State
+read_text chars old = record old { kept = (if is_some old.outermost then old.kept ++ chars else old.kept) }

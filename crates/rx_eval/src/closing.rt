@@ -81,7 +81,7 @@ pub(crate) fn end_lists(
 }
 
 /// The same of an owner, if there is one.
-fn end_owner(
+pub(crate) fn end_owner(
     out: &mut TripleList,
     lists: &mut Lists,
     owner: Option<Owner>,

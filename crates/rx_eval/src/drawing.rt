@@ -21,11 +21,7 @@ pub(crate) fn draw_labels(labels: &mut Labels, facts: &Facts, next: u64) -> Resu
     draw_all_types(labels, &facts.types, next)
 }
 
-fn draw_all_types(
-    labels: &mut Labels,
-    types: &Option<Nodes2>,
-    next: u64,
-) -> Result<u64, NoMemory>
+fn draw_all_types(labels: &mut Labels, types: &Option<Nodes2>, next: u64) -> Result<u64, NoMemory>
     requires { next + length (flat_map label_of (listed (option_map refs_seen types.now))) < 2 ^ 64 }
     ensures { IfOk result (λ after. Drawn labels.old next (flat_map label_of (listed (option_map refs_seen types.now))) labels.new after) }
 {

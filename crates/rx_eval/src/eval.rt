@@ -1,18 +1,26 @@
 //! The stack of contexts.
-ghost use Rattle.std.specs.Prelude.{◌≡◌, ◌<◌, ◌≤◌, ◌^◌, ◌+◌, length, OnOk};
-ghost use Rattle.rx_eval.specs.Opened.{Opens, first_of};
+ghost use Rattle.std.specs.Prelude.{◌≡◌, ◌<◌, ◌≤◌, ◌^◌, ◌+◌, ◌↔◌, ◌==◌, true, false, [], None, Some, option_map, if◌then◌else◌, length, IfOk, OnOk, OnErr, IsOk, IsErr};
+ghost use Rattle.std.specs.Str.{chars};
+ghost use Rattle.rx_model.specs.Seen.{triples_seen};
 ghost use Rattle.rx_rdfa.specs.Renaming.{labels as labels_of};
 ghost use Rattle.rx_curie.specs.Seen.{facts_seen};
+ghost use Rattle.rx_eval.specs.Opened.{handed_on, Opens, MayOpen, first_of, begun_state, read_text};
+ghost use Rattle.rx_eval.specs.Waits.{Shows};
+ghost use Rattle.rx_eval.specs.Ending.{Closes, is_place};
+ghost use Rattle.rx_eval.specs.States.{owner_seen};
 
-use crate::contexts::Context;
+use crate::closing::{end_frame, end_owner};
+use crate::contexts::{Context, Hangings};
 use crate::drawing::draw_labels;
 use crate::frames::Frame;
+use crate::inherited::Inherited;
 use crate::labels::Labels;
 use crate::opening::{around, next_number};
 use crate::places::{Place, level_at};
+use crate::shared::Shared;
 use rx_curie::Facts;
-use rx_lists::Lists;
-use rx_terms::{Iri, NoMemory, TripleList};
+use rx_lists::{Lists, Owner};
+use rx_terms::{Iri, NoMemory, Node, TripleList};
 use rx_values::TextStore;
 use std::alloc::Global;
 use std::marker::Model;
@@ -63,6 +71,140 @@ impl Eval {
         self.frames.as_slice().len() as u32
     }
 
+    /// The context in which a child of the innermost open element would stand.
+    pub fn inherited(&self) -> Inherited<'_>
+        ensures { Shows result (handed_on self.now.page self.now.frames) }
+    {
+        let context = around(&self.page, self.frames.as_slice());
+        Inherited {
+            subject: context.subject.node(),
+            object: context.object.node(),
+            waiting: context.hanging.as_slice(),
+        }
+    }
+
+    /// No element, before the root, with the memory for so many levels of frames.
+    pub fn new(alloc: Global, base: Iri, levels: u32) -> Result<Eval, NoMemory>
+        ensures { IfOk result (λ eval. eval ≡ begun_state base levels) }
+    {
+        let page = Shared::new(alloc, Node::Iri(base.try_clone()?))?;
+        let mut lists = Lists::new(alloc)?;
+        let owner = lists.start(page.node().try_clone()?)?;
+        let page = Context {
+            subject: page.share()?,
+            object: page,
+            hanging: Hangings::of(alloc, Vec::new(alloc))?,
+            owner,
+        };
+        Ok(Eval {
+            alloc,
+            base,
+            levels,
+            page,
+            frames: Vec::with_capacity(alloc, levels as usize)?,
+            labels: Labels::new(alloc)?,
+            drawn: 0,
+            cells: CELLS,
+            lists,
+            text: TextStore::new(alloc),
+            outermost: None,
+            out: TripleList::new(alloc),
+            ended: false,
+            spent: false,
+        })
+    }
+
+    /// A start tag: opens an element inside the innermost one.
+    pub fn enter(&mut self, facts: &Facts) -> Result<(), NoMemory>
+        requires { self.old.spent ≡ false → MayOpen self.old (facts_seen facts.now) }
+        ensures ok { OnOk result (Opens self.old (facts_seen facts.now) self.new) }
+        ensures unspent { OnOk result (self.old.spent ≡ false) }
+        ensures spent { OnErr result (self.new.spent ≡ true) }
+    {
+        if self.spent {
+            return Err(NoMemory);
+        }
+        if self.open(facts).is_err() {
+            self.spent = true;
+            return Err(NoMemory);
+        }
+        Ok(())
+    }
+
+    /// Text inside the innermost element. It is kept only while some open element gathers it; else it takes no memory.
+    pub fn text(&mut self, text: &str) -> Result<(), NoMemory>
+        ensures ok { OnOk result (self.new ≡ read_text (chars text.now) self.old) }
+        ensures unspent { OnOk result (self.old.spent ≡ false) }
+        ensures spent { OnErr result (self.new.spent ≡ true) }
+        ensures quiet { self.old.spent ≡ false → self.old.outermost ≡ None → IsOk result }
+    {
+        if self.spent {
+            return Err(NoMemory);
+        }
+        if self.outermost.is_none() {
+            return Ok(());
+        }
+        if self.text.push(text).is_err() {
+            self.spent = true;
+            return Err(NoMemory);
+        }
+        Ok(())
+    }
+
+    /// The end of the innermost element.
+    pub fn leave(&mut self) -> Result<(), NoMemory>
+        requires { self.old.spent ≡ false → 0 < length self.old.frames }
+        ensures ok { OnOk result (Closes self.old self.new) }
+        ensures unspent { OnOk result (self.old.spent ≡ false) }
+        ensures spent { OnErr result (self.new.spent ≡ true) }
+    {
+        if self.spent {
+            return Err(NoMemory);
+        }
+        if self.close().is_err() {
+            self.spent = true;
+            return Err(NoMemory);
+        }
+        Ok(())
+    }
+
+    /// The triples of the page, whose root has ended.
+    pub fn finish(self) -> Result<TripleList, NoMemory>
+        ensures ok { IfOk result (λ triples. triples_seen triples ≡ self.out) }
+        ensures spent { IsErr result ↔ (self.spent ≡ true) }
+    {
+        if self.spent {
+            return Err(NoMemory);
+        }
+        Ok(self.out)
+    }
+
+    /// Closes the innermost element: the same, but for want of memory.
+    fn close(&mut self) -> Result<(), NoMemory>
+        requires { 0 < length self.old.frames }
+        ensures { OnOk result (Closes self.old self.new) }
+    {
+        let Some(frame) = self.frames.pop() else {
+            unreachable!();
+        };
+        let depth = self.frames.as_slice().len();
+        let cells = end_frame(
+            self.alloc,
+            &mut self.out,
+            &mut self.lists,
+            &frame,
+            &self.text,
+            self.cells,
+        )?;
+        let page = page_owner(depth, self.page.owner);
+        self.cells = end_owner(&mut self.out, &mut self.lists, page, cells)?;
+        let was_outermost = is_place(self.outermost, depth);
+        self.outermost = without(self.outermost, was_outermost);
+        forget(&mut self.text, was_outermost);
+        self.ended = is_ended(self.ended, depth);
+        Ok(())
+    }
+
     /// Opens an element: the same, but for want of memory.
     fn open(&mut self, facts: &Facts) -> Result<(), NoMemory>
         requires drawn { self.old.drawn + 1 + length (labels_of (facts_seen facts.now)) ≤ 2 ^ 61 }
@@ -106,5 +248,49 @@ fn first_of(outermost: Option<usize>, gathers: bool, depth: usize) -> Option<usi
             }
             None
         }
+    }
+}
+
+/// The page's owner, where no element is open any more.
+fn page_owner(depth: usize, owner: Owner) -> Option<Owner>
+    ensures { option_map owner_seen result ≡ (if depth == 0 then Some owner.0 else None) }
+{
+    if depth == 0 {
+        return Some(owner);
+    }
+    None
+}
+
+fn is_ended(ended: bool, depth: usize) -> bool
+    ensures { result ≡ (if depth == 0 then true else ended) }
+{
+    depth == 0 || ended
+}
+
+/// Whether the frame that gathers outermost has this place.
+fn is_place(outermost: Option<usize>, depth: usize) -> bool
+    ensures { result ≡ is_place outermost depth }
+{
+    match outermost {
+        Some(place) => place == depth,
+        None => false,
+    }
+}
+
+fn without(outermost: Option<usize>, ends: bool) -> Option<usize>
+    ensures { result ≡ (if ends then None else outermost) }
+{
+    if ends {
+        return None;
+    }
+    outermost
+}
+
+/// Drops the text that is kept, where nothing gathers it any more.
+fn forget(text: &mut TextStore, ends: bool)
+    ensures { text.new ≡ (if ends then [] else text.old) }
+{
+    if ends {
+        text.cut(0);
     }
 }

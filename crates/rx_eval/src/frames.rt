@@ -93,7 +93,11 @@ fn push_reverse(waiting: &mut Vec<Waiting>, predicates: &Iris) -> Result<(), NoM
 }
 
 /// What waits below an element without object: the predicates of `rel`, then those of `rev`.
-pub(crate) fn waiting_of(alloc: Global, facts: &Facts, owner: Owner) -> Result<Vec<Waiting>, NoMemory>
+pub(crate) fn waiting_of(
+    alloc: Global,
+    facts: &Facts,
+    owner: Owner,
+) -> Result<Vec<Waiting>, NoMemory>
     ensures { IfOk result (λ waiting. map waiting_seen waiting.items ≡ hanging_by (facts_seen facts.now) owner.0) }
 {
     let mut waiting = Vec::new(alloc);

@@ -42,7 +42,11 @@ pub(crate) fn hangs(facts: &Facts, found: &Found) -> bool
 
 impl<'a> Place<'a> {
     /// The object that the children inherit, where it isn't the subject.
-    pub(crate) fn object_below(&self, facts: &Facts, found: &Found) -> Result<Option<Shared>, NoMemory>
+    pub(crate) fn object_below(
+        &self,
+        facts: &Facts,
+        found: &Found,
+    ) -> Result<Option<Shared>, NoMemory>
         ensures { IfOk result (λ object. option_map node_seen object ≡ object_below (naming self.now) (standing self.now (facts_seen facts.now)) (found_seen found.now)) }
     {
         if hangs(facts, found) {
@@ -53,7 +57,11 @@ impl<'a> Place<'a> {
 }
 
 /// A new owner of lists with the subject, where that isn't the other node.
-pub(crate) fn begin(lists: &mut Lists, subject: &Node, other: &Node) -> Result<Option<Owner>, NoMemory>
+pub(crate) fn begin(
+    lists: &mut Lists,
+    subject: &Node,
+    other: &Node,
+) -> Result<Option<Owner>, NoMemory>
     ensures lists { OnOk result (lists.new ≡ begun subject.now other.now lists.old) }
     ensures owner { IfOk result (λ owner. owner ≡ begun_number subject.now other.now (length lists.old)) }
 {

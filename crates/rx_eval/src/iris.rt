@@ -11,6 +11,7 @@ use rx_values::TimeKind;
 use std::alloc::Global;
 
 const TYPE: &str = "http://www.w3.org/1999/02/22-rdf-syntax-ns#type";
+
 const USES_VOCABULARY: &str = "http://www.w3.org/ns/rdfa#usesVocabulary";
 
 /// rdf:type.

@@ -9,6 +9,7 @@ mod entries;
 mod eval;
 mod frames;
 mod handing;
+mod inherited;
 mod iris;
 mod labels;
 mod listing;
@@ -20,4 +21,9 @@ mod starts;
 mod triples;
 mod values;
 
+pub use eval::Eval;
+pub use inherited::{Direction, Hanging, Inherited};
 pub use labels::Labels;
+
+#[cfg(test)]
+mod tests;

@@ -107,12 +107,7 @@ impl<'a> Place<'a> {
     }
 
     /// Adds the types and the links of the element.
-    fn push_found(
-        &self,
-        out: &mut TripleList,
-        facts: &Facts,
-        found: &Found,
-    ) -> Result<(), NoMemory>
+    fn push_found(&self, out: &mut TripleList, facts: &Facts, found: &Found) -> Result<(), NoMemory>
         ensures { OnOk result (triples_seen out.new ≡ triples_seen out.old ++ found_by (naming self.now) self.now.base.now (facts_seen facts.now) (found_seen found.now)) }
     {
         if let Some(typed) = &found.typed {

@@ -53,10 +53,7 @@ fn plain_literal(lang: &Option<Lang>, lexical: Text) -> Result<Term, NoMemory>
 fn typed_literal(lexical: Text, datatype: &Iri) -> Result<Term, NoMemory>
     ensures { IfOk result (λ term. term_seen term ≡ typed_literal lexical datatype.now) }
 {
-    Ok(Term::Literal(Literal::typed(
-        lexical,
-        datatype.try_clone()?,
-    )))
+    Ok(Term::Literal(Literal::typed(lexical, datatype.try_clone()?)))
 }
 
 /// A literal of the datatype whose form the text has, else a plain one.

@@ -13,10 +13,10 @@ pub returns : goal.returns
 returns c =
     if_ok c.put_valued.result
     (λ h.
-      three_put (linked_entries c.args.owner.0 c.args.facts.now.rel (option_map node_seen c.args.found.now.object))
-      (if hangs (facts_seen c.args.facts.now) (found_seen c.args.found.now) then entries_for c.args.owner.0 None c.args.facts.now.rel else [])
-      (entries_for c.args.owner.0 (Some (option_map term_seen c.args.value.now)) c.args.facts.now.property)
-      (owners_seen c.args.lists.now) (owners_seen c.put_linked.new.lists) (owners_seen c.put_touched.new.lists) (owners_seen c.put_valued.new.lists) c.in_ok-put_linked.ensures
-      (c.in_ok-put_touched.ensures
-      ∙ ap (λ (b : Bool). put_entries (if b then entries_for c.args.owner.0 None c.args.facts.now.rel else []) (owners_seen c.put_linked.new.lists)) c.hangs.ensures) h)
+    three_put (linked_entries c.args.owner.0 c.args.facts.now.rel (option_map node_seen c.args.found.now.object))
+    (if hangs (facts_seen c.args.facts.now) (found_seen c.args.found.now) then entries_for c.args.owner.0 None c.args.facts.now.rel else [])
+    (entries_for c.args.owner.0 (Some (option_map term_seen c.args.value.now)) c.args.facts.now.property)
+    (owners_seen c.args.lists.now) (owners_seen c.put_linked.new.lists) (owners_seen c.put_touched.new.lists) (owners_seen c.put_valued.new.lists) c.in_ok-put_linked.ensures
+    (c.in_ok-put_touched.ensures
+    ∙ ap (λ (b : Bool). put_entries (if b then entries_for c.args.owner.0 None c.args.facts.now.rel else []) (owners_seen c.put_linked.new.lists)) c.hangs.ensures) h)
     c.put_valued.ensures

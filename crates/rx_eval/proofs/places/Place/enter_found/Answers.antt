@@ -23,15 +23,15 @@ returns-clause-context c =
     (c.owner_or.ensures ∙ ap (owner_in c.in_ok-below.below) c.owner_or-owner.ensures))
 
 pub returns-clause-lists : goal.returns-clause-lists
-returns-clause-lists c = 
+returns-clause-lists c =
     c.in_ok-slots.ensures
     ∙ ap (λ (n : ℕ). put_entries (entries_in n (facts_seen c.args.facts.now) (found_seen c.args.found.now) (option_map term_seen c.args.value.now) (map waiting_seen c.as_slice-waiting.result.now))
-      (owners_seen c.begin_below.new.lists))
+    (owners_seen c.begin_below.new.lists))
     (ap (λ (o : Owner). o.0) c.owner_or-owner.ensures
     ∙ own_is c.args.around.now (found_seen c.args.found.now) c.node-subject.result.now c.node.result.now c.in_ok-own.own (length c.args.lists.now) (ap node_seen c.node-subject.ensures) c.node.ensures
-      c.in_ok-own.ensures.owner)
+    c.in_ok-own.ensures.owner)
     ∙ ap₂ (λ (w : List Waiting) (l : List (Option Owning)). put_entries (entries_in (own_number c.args.around.now (found_seen c.args.found.now) (length c.args.lists.now))
-        (facts_seen c.args.facts.now) (found_seen c.args.found.now) (option_map term_seen c.args.value.now) (map waiting_seen w)) l)
+    (facts_seen c.args.facts.now) (found_seen c.args.found.now) (option_map term_seen c.args.value.now) (map waiting_seen w)) l)
     c.as_slice-waiting.ensures
     (owners_are c.args.self.now c.args.around.now (facts_seen c.args.facts.now) (found_seen c.args.found.now) c.node-subject.result.now c.node.result.now c.in_ok-object.object c.args.lists.now
-      c.begin.new.lists c.begin_below.new.lists (ap node_seen c.node-subject.ensures) c.node.ensures c.in_ok-object.ensures c.in_ok-own.ensures.lists c.in_ok-below.ensures.lists)
+    c.begin.new.lists c.begin_below.new.lists (ap node_seen c.node-subject.ensures) c.node.ensures c.in_ok-object.ensures c.in_ok-own.ensures.lists c.in_ok-below.ensures.lists)

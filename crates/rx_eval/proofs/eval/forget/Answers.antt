@@ -1,0 +1,9 @@
+use Rattle.std.proofs.Common.{◌≡◌, ◌∙◌, [], refl, sym, ap, Bool, List, ℕ}
+use Rattle.std.specs.Prelude.{if◌then◌else◌}
+use Rattle.rx_values.specs.Marks.{CutAt}
+use Rattle.rx_eval.proofs.eval.forget.Goals as goal
+
+pub returns-then-ends : goal.returns-then-ends
+returns-then-ends c =
+    let kept : Bool → List ℕ = λ b. if b then [] else c.args.text.now in
+    c.cut.ensures [] c.args.text.now (record { whole = refl; size = refl }) ∙ ap kept (sym c.if-ends.true)
