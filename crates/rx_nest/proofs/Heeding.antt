@@ -202,11 +202,11 @@ module _ (syntax : Syntax) (limits : Limits) (bytes : List ℕ) (told : List Eve
           let none : p.step ≡ no_step doctype_next.next = (let w : Ok (no_step doctype_next.next) ≡ Ok p.step = p.is_step in cc) in
           record {
             page =
-              page_from xs
-              ∙ (ap (λ x. page_on syntax limits (from_there syntax limits spot s nest told) x) (b.are ∙ sym (append_assoc b.front (b.byte ∷ []) b.rest))
-              ∙ (page_append syntax limits spot (from_there syntax limits spot s nest told) (b.front ++ b.byte ∷ []) b.rest
-              ∙ (ap (λ x. page_on syntax limits x b.rest) (page_last syntax limits spot s nest told b.front b.byte b.before (record { next = b.after; items = item ∷ [] }) (Ok doctype_next) refl b.reads b.completes (one_step_on (Ok doctype_next) steps_so))
-              ∙ (p.read ∙ (ap (λ (z : Step). from_there syntax limits spot next z.next ((told ++ []) ++ z.events)) none ∙ ap (λ z. from_there syntax limits spot next doctype_next.next z) (append-nil (told ++ [])))))));
+                page_from xs
+                ∙ (ap (λ x. page_on syntax limits (from_there syntax limits spot s nest told) x) (b.are ∙ sym (append_assoc b.front (b.byte ∷ []) b.rest))
+                ∙ (page_append syntax limits spot (from_there syntax limits spot s nest told) (b.front ++ b.byte ∷ []) b.rest
+                ∙ (ap (λ x. page_on syntax limits x b.rest) (page_last syntax limits spot s nest told b.front b.byte b.before (record { next = b.after; items = item ∷ [] }) (Ok doctype_next) refl b.reads b.completes (one_step_on (Ok doctype_next) steps_so))
+                ∙ (p.read ∙ (ap (λ (z : Step). from_there syntax limits spot next z.next ((told ++ []) ++ z.events)) none ∙ ap (λ z. from_there syntax limits spot next doctype_next.next z) (append-nil (told ++ [])))))));
           }
 
       pub doctype_at : (mid : Scanner) → scan.Stands mid next → mid.reading.setting ≡ setting_behind token.Doctype v.reading.setting (item ∷ []) → At syntax limits (bytes ++ xs) (told ++ []) mid line

@@ -35,10 +35,7 @@ pub(crate) struct Owed {
 
 impl Owed {
     /// Nothing is owed.
-    pub(crate) const PAID: Owed = Owed {
-        ends: 0,
-        own: None,
-    };
+    pub(crate) const PAID: Owed = Owed { ends: 0, own: None };
 }
 
 impl Line {

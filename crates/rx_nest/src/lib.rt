@@ -1,10 +1,10 @@
 //! The elements of a page in pieces.
 #![tactic(auto)]
 
+mod heard;
 mod levels;
 mod lines;
 mod names;
 mod nests;
-mod heard;
 mod places;
 mod tables;

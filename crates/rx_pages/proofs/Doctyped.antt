@@ -1,5 +1,5 @@
 -- Where one token is complete among some bytes, and that a document type is complete only where it may come.
-use Rattle.std.proofs.Common.{◌≡◌, ◌≢◌, ◌∙◌, ℕ, ◌+◌, Bool, true, false, List, [], ◌∷◌, ◌++◌, refl, sym, ap, subst, append_assoc, Option, Some, None, Result, Ok, Err}
+use Rattle.std.proofs.Common.{◌≡◌, ◌∙◌, ℕ, Bool, true, false, List, [], ◌∷◌, ◌++◌, refl, sym, ap, subst, Result, Ok, Err}
 use Rattle.std.specs.Prelude.{◌&&◌, ◌||◌, ◌==◌, not, nat_le, if◌then◌else◌}
 use Rattle.rx_terms.specs.Ascii.{greater_than_sign}
 use Rattle.rx_chars.specs.declared.syntax.Syntax.{Syntax}
@@ -12,9 +12,8 @@ use Rattle.rx_grammar.specs.declared.faults.Kind.TheVariants.{BadDoctype, NotUtf
 use Rattle.rx_grammar.specs.declared.limits.Limits.{Limits}
 use Rattle.rx_grammar.specs.Tokens.{Token, kept, doctype}
 use Rattle.rx_grammar.specs.Items.{values, Item, is_literal}
-use Rattle.rx_reader.proofs.Bools.{by_test}
 use Rattle.rx_pages.specs.Scanner.{Verdict, goes_on, whole, ended, refused, verdict}
-use Rattle.rx_pages.specs.PageReader.{Spot, Scanning, Scanned, first_of, starts_at, token_at, item_of, is_doctype, is_too_long, completed, told_first, with_item, after_token, told, read_entry, read_char, read_answer, read_byte, scan_from}
+use Rattle.rx_pages.specs.PageReader.{Spot, Scanning, Scanned, first_of, starts_at, token_at, item_of, is_doctype, is_too_long, completed, with_item, told, read_entry, read_char, read_answer, read_byte, scan_from}
 use Rattle.rx_pages.proofs.TokenWalk.{IsKept, is_kept}
 use Rattle.rx_pages.proofs.EndedRuns.{ended_kept}
 use Rattle.rx_pages.proofs.ScanSteps.{First, first, ok_same, scan_first, with_before}

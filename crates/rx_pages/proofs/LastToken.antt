@@ -1,7 +1,6 @@
 -- A tag is complete at the last byte that was read.
-use Rattle.std.proofs.Common.{◌≡◌, ◌≢◌, ◌∙◌, ℕ, zero, suc, ◌+◌, List, [], ◌∷◌, ◌++◌, refl, sym, ap, subst, length, append_assoc, Result, Ok, Err, arith}
+use Rattle.std.proofs.Common.{◌≡◌, ◌∙◌, ℕ, ◌+◌, List, [], ◌∷◌, ◌++◌, refl, sym, ap, subst, length, Ok, arith}
 use Rattle.rx_chars.specs.declared.syntax.Syntax.{Syntax}
-use Rattle.rx_grammar.specs.declared.faults.Fault.{Fault}
 use Rattle.rx_grammar.specs.declared.limits.Limits.{Limits}
 use Rattle.rx_grammar.specs.Tokens.{Token}
 use Rattle.rx_grammar.specs.declared.contents.Content.{Content}
@@ -10,7 +9,7 @@ use Rattle.rx_grammar.specs.Items.{values, Item}
 use Rattle.rx_pages.specs.PageReader.{Spot, Scanning, Scanned, token_at, read_byte, scan_from, item_of}
 use Rattle.rx_pages.proofs.TokenWalk.{IsKept}
 use Rattle.rx_pages.proofs.EndedRuns.{ended_kept}
-use Rattle.rx_pages.proofs.ByteFacts.{FirstEnds, no_item, ends_here, told_next, ByteIs, byte_is}
+use Rattle.rx_pages.proofs.ByteFacts.{FirstEnds, no_item, ends_here, told_next, byte_is}
 use Rattle.rx_pages.proofs.ScanSteps.{First, first, ok_same, scan_first, with_before}
 
 nothing : (bytes : List ℕ) → length bytes ≡ 0 → bytes ≡ []
@@ -83,8 +82,8 @@ module _ (syntax : Syntax) (limits : Limits) (spot : Spot) where
           let end = scan_at bytes f.r.next next f.more f.behind in
           let no_bytes : bytes ≡ [] = nothing bytes (omega arith) in
           let is_next : f.r.next ≡ next = (
-            let same2 = ok_same syntax limits spot (record { next = f.r.next; items = [] }) (record { next = next; items = f.more }) (subst (λ x. scan_from syntax limits spot f.r.next x ≡ Ok (record { next = next; items = f.more })) no_bytes f.behind) in
-            ap (λ (z : Scanned). z.next) same2) in
+          let same2 = ok_same syntax limits spot (record { next = f.r.next; items = [] }) (record { next = next; items = f.more }) (subst (λ x. scan_from syntax limits spot f.r.next x ≡ Ok (record { next = next; items = f.more })) no_bytes f.behind) in
+          ap (λ (z : Scanned). z.next) same2) in
           record {
             front = [];
             byte = byte;

@@ -1,12 +1,12 @@
 -- What is read under one spot is read of the page, as long as its tokens leave the spot as it is.
-use Rattle.std.proofs.Common.{◌≡◌, ◌≢◌, ◌∙◌, ◌⊎◌, ⊎_elim, inl, inr, ℕ, ◌+◌, Bool, true, false, List, [], ◌∷◌, ◌++◌, refl, sym, ap, subst, length, append_assoc, append-nil, Option, Some, None, Result, Ok, Err}
+use Rattle.std.proofs.Common.{◌≡◌, ◌∙◌, ℕ, List, [], ◌∷◌, ◌++◌, refl, sym, ap, subst, append_assoc, append-nil, Result, Ok, Err}
 use Rattle.rx_chars.specs.declared.syntax.Syntax.{Syntax}
 use Rattle.rx_grammar.specs.declared.faults.Fault.{Fault}
 use Rattle.rx_grammar.specs.declared.faults.Kind.{Kind}
 use Rattle.rx_grammar.specs.declared.limits.Limits.{Limits}
 use Rattle.rx_grammar.specs.Items.{Item}
 use Rattle.rx_pages.specs.Nesting.{Event, Nesting, Step, nest_step}
-use Rattle.rx_pages.specs.PageReader.{Spot, Scanning, Scanned, fault_in, read_byte, with_items, scan_byte_on, scan_on, scan_from, spot_of, step_on, steps_on, no_step, with_events, Reading, Progress, progress_of, nested_items, page_byte, page_byte_on, page_on, telling}
+use Rattle.rx_pages.specs.PageReader.{Spot, Scanning, Scanned, fault_in, read_byte, with_items, scan_byte_on, scan_on, scan_from, spot_of, step_on, steps_on, no_step, with_events, Progress, progress_of, nested_items, page_byte_on, page_on, telling}
 use Rattle.rx_pages.proofs.TokenWalk.{steps_from}
 
 -- a fault of the scanner stays
@@ -144,14 +144,14 @@ module _ (syntax : Syntax) (limits : Limits) (spot : Spot) where
       record {
         step = record { next = ih.step.next; events = p.step.events ++ ih.step.events };
         is_step =
-          ap (λ x. steps_on syntax limits.depth (Ok (no_step n)) x) f.are
-          ∙ (steps_append (Ok (no_step n)) f.r.items f.more
-          ∙ (ap (λ x. steps_on syntax limits.depth x f.more) (p.is_step ∙ ap (λ x. Ok (record { next = p.step.next; events = x })) (sym (append-nil p.step.events)))
-          ∙ (steps_from syntax limits.depth p.step.events (Ok (no_step p.step.next)) f.more ∙ ap (λ x. with_events p.step.events x) ih.is_step)));
+            ap (λ x. steps_on syntax limits.depth (Ok (no_step n)) x) f.are
+            ∙ (steps_append (Ok (no_step n)) f.r.items f.more
+            ∙ (ap (λ x. steps_on syntax limits.depth x f.more) (p.is_step ∙ ap (λ x. Ok (record { next = p.step.next; events = x })) (sym (append-nil p.step.events)))
+            ∙ (steps_from syntax limits.depth p.step.events (Ok (no_step p.step.next)) f.more ∙ ap (λ x. with_events p.step.events x) ih.is_step)));
         stays = ih.stays;
         read =
-          ap (λ x. page_on syntax limits x bytes) (page_byte_ok s n told byte f.r p.step (stays_here n items st) f.read p.is_step)
-          ∙ (ih.read ∙ ap (λ x. from_there next ih.step.next x) (append_assoc told p.step.events ih.step.events));
+            ap (λ x. page_on syntax limits x bytes) (page_byte_ok s n told byte f.r p.step (stays_here n items st) f.read p.is_step)
+            ∙ (ih.read ∙ ap (λ x. from_there next ih.step.next x) (append_assoc told p.step.events ih.step.events));
       }
     where
       steps_append : (r : Result Step Kind) (a b : List Item) → steps_on syntax limits.depth r (a ++ b) ≡ steps_on syntax limits.depth (steps_on syntax limits.depth r a) b

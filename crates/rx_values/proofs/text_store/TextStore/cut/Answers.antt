@@ -5,7 +5,7 @@ use Rattle.rx_values.proofs.CutLemmas.{boundary, kept}
 use Rattle.rx_values.proofs.text_store.TextStore.cut.Goals as goal
 
 pub invariant_of-self : goal.invariant_of-self
-invariant_of-self c = 
+invariant_of-self c =
     rw c.truncate.ensures.bytes
     (IsUtf8-take _ c.args.mark c.self.invariant
     (subst (λ (x : List ℕ). IsCharBoundary x c.args.mark) c.as_str.ensures.value (c.is_char_boundary.ensures.test.0 c.if-is_char_boundary.true)))
