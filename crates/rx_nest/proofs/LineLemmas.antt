@@ -107,10 +107,10 @@ module _ (syntax : Syntax) where
   start_seen name (level ∷ levels) (t ∷ above) signs more h =
       by_test (ends_by false name level)
       (λ e. rw (e, sym (start_test syntax name level levels t above h) ∙ e)
-        (start_seen name levels above (signs ++ cond level.shown (finished ∷ []) []) more h.4
-        ∙ ap (λ l. sees (record { flags = flags_of (kept (ends_by false name) levels); signs = l }) more) (ends_one level.shown (ended (ends_by false name) levels) signs)))
+      (start_seen name levels above (signs ++ cond level.shown (finished ∷ []) []) more h.4
+      ∙ ap (λ l. sees (record { flags = flags_of (kept (ends_by false name) levels); signs = l }) more) (ends_one level.shown (ended (ends_by false name) levels) signs)))
       (λ e. rw (e, sym (start_test syntax name level levels t above h) ∙ e)
-        (ap (λ l. sees (record { flags = flags_of (level ∷ levels); signs = l }) more) (sym (append_nil signs))))
+      (ap (λ l. sees (record { flags = flags_of (level ∷ levels); signs = l }) more) (sym (append_nil signs))))
 
   pub end_seen : (name : Chars) (levels : Levels) (line : Line) (signs : List Sign) (more : List Event) → AreLevels syntax levels line
       → sees (record { flags = flags_of levels; signs = signs }) (ended_by_end syntax name line ++ more)
@@ -121,10 +121,10 @@ module _ (syntax : Syntax) where
   end_seen name (level ∷ levels) (t ∷ above) signs more h =
       by_test (ends_by true name level)
       (λ e. rw (e, sym (end_test syntax name level levels t above h) ∙ e)
-        (end_seen name levels above (signs ++ cond level.shown (finished ∷ []) []) more h.4
-        ∙ ap (λ l. sees (record { flags = flags_of (kept (ends_by true name) levels); signs = l }) more) (ends_one level.shown (ended (ends_by true name) levels) signs)))
+      (end_seen name levels above (signs ++ cond level.shown (finished ∷ []) []) more h.4
+      ∙ ap (λ l. sees (record { flags = flags_of (kept (ends_by true name) levels); signs = l }) more) (ends_one level.shown (ended (ends_by true name) levels) signs)))
       (λ e. rw (e, sym (end_test syntax name level levels t above h) ∙ e)
-        (ap (λ l. sees (record { flags = flags_of (level ∷ levels); signs = l }) more) (sym (append_nil signs))))
+      (ap (λ l. sees (record { flags = flags_of (level ∷ levels); signs = l }) more) (sym (append_nil signs))))
 
   pub under_kept : (name : Chars) (levels : Levels) (line : Line) → AreLevels syntax levels line → AreLevels syntax (kept_at_start name levels) (under_start syntax name line)
   under_kept name levels line h =
@@ -139,4 +139,4 @@ module _ (syntax : Syntax) where
       by_test (is_html (place_under levels).content)
       (λ e. rw (e, sym (ap (λ (p : Place). is_html p.content) (place_is syntax levels line h)) ∙ e) (start_seen name levels line signs more h))
       (λ e. rw (e, sym (ap (λ (p : Place). is_html p.content) (place_is syntax levels line h)) ∙ e)
-        (ap (λ l. sees (record { flags = flags_of levels; signs = l }) more) (sym (append_nil signs))))
+      (ap (λ l. sees (record { flags = flags_of levels; signs = l }) more) (sym (append_nil signs))))

@@ -21,7 +21,14 @@ row_ascii Cell = refl
 pub inside-chars : (bs : List ℕ) → IsUtf8 bs → inside_html bs ≡ inside_html (chars bs)
 inside-chars bs u =
     rw (
-      same-ascii bs (codes "svg") u refl, same-ascii bs (codes "math") u refl, same-ascii bs (codes "script") u refl, same-ascii bs (codes "style") u refl,
-      same-ascii bs (codes "iframe") u refl, same-ascii bs (codes "noembed") u refl, same-ascii bs (codes "noframes") u refl, same-ascii bs (codes "xmp") u refl,
-      same-ascii bs (codes "title") u refl, same-ascii bs (codes "textarea") u refl,
+      same-ascii bs (codes "svg") u refl,
+      same-ascii bs (codes "math") u refl,
+      same-ascii bs (codes "script") u refl,
+      same-ascii bs (codes "style") u refl,
+      same-ascii bs (codes "iframe") u refl,
+      same-ascii bs (codes "noembed") u refl,
+      same-ascii bs (codes "noframes") u refl,
+      same-ascii bs (codes "xmp") u refl,
+      same-ascii bs (codes "title") u refl,
+      same-ascii bs (codes "textarea") u refl,
     ) refl

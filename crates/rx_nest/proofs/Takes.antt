@@ -54,8 +54,11 @@ module _ (l : Lines) (n : Nesting) (f : Follows l n) where
   pub refusals_are : (t : Tag) → start_rows l.syntax l.depth n.line n.phase t ≡ start_refusals l t ++ (nat_le l.depth (length (kept_at_start t.name l.levels)), TooDeep) ∷ []
   refusals_are t =
       rw (
-        f.phase_is, ended_is l.begun l.levels f.stood, before_is l.begun l.levels f.stood,
-        sym (length_is l.syntax (kept_at_start t.name l.levels) (under_start l.syntax t.name n.line) (under_kept l.syntax t.name l.levels n.line f.levels_are)), sym (place_is l.syntax l.levels n.line f.levels_are),
+        f.phase_is,
+        ended_is l.begun l.levels f.stood,
+        before_is l.begun l.levels f.stood,
+        sym (length_is l.syntax (kept_at_start t.name l.levels) (under_start l.syntax t.name n.line) (under_kept l.syntax t.name l.levels n.line f.levels_are)),
+        sym (place_is l.syntax l.levels n.line f.levels_are),
       ) refl
 
   -- a refused tag
@@ -155,6 +158,7 @@ module _ (syntax : Syntax) (depth : ℕ) (n : Nesting) (item : Item) (t : Tag) (
     where
       ended_step : Step
       ended_step = record { next = over (line_above (after_end syntax t.name n.line)); events = ended_by_end syntax t.name n.line ++ finishes ∷ [] }
+
       begun_step : Step
       begun_step = start_step (is_alone syntax (inside_of syntax line) t)
 
@@ -180,9 +184,13 @@ step_events syntax depth n item t e o false = refl
 module _ (syntax : Syntax) (levels : Levels) (line : Line) (item : Item) (t : Tag) (stood : Bool) (are : AreLevels syntax levels line) where
   next_levels : (alone : Bool) → AreLevels syntax (levels_of syntax levels t alone) (next_of syntax line item t alone).line
   next_levels true = subst (λ (x : Line). AreLevels syntax levels x) (sym (over_line line)) are
-  next_levels false =
-      (refl, ap (λ (p : Place). place_in syntax p t.name) (place_is syntax levels line are), ap (λ (p : Place). row_at p t.name) (place_is syntax levels line are),
-        ap (λ name. is_held name t.name) (name_is syntax levels line are), are)
+  next_levels false = (
+    refl,
+    ap (λ (p : Place). place_in syntax p t.name) (place_is syntax levels line are),
+    ap (λ (p : Place). row_at p t.name) (place_is syntax levels line are),
+    ap (λ name. is_held name t.name) (name_is syntax levels line are),
+    are,
+  )
 
   next_phase : (alone : Bool) → (next_of syntax line item t alone).phase ≡ phase_at true (levels_of syntax levels t alone) stood
   next_phase true = over_phase syntax levels line stood are
@@ -205,7 +213,6 @@ module _ (syntax : Syntax) (levels : Levels) (line : Line) (item : Item) (t : Ta
       ∙ (begin_shows (flags_of levels) signs (start_of item t) (hides (inside_of syntax line) t) (hidden_under levels)
       ∙ ap (λ (p : Place). record { flags = (not (hidden_under levels), hidden_under levels || hides p t) ∷ flags_of levels; signs = signs ++ own_signs (if hidden_under levels then Nothing else Begin) (start_of item t) }) (sym (place_is syntax levels line are)))
 
-
 -- a start tag is taken
 pub start_taken : (l new : Lines) (n : Nesting) (item : Item) (t : Tag) (told : Told) → Follows l n → item.token ≡ tag t → t.closing ≡ false → Begins l t told new → Taken l n item told new
 start_taken l new n item t told f is_tag is_start b =
@@ -222,20 +229,20 @@ start_taken l new n item t told f is_tag is_start b =
       step = start_step l.syntax l.depth n item t is_tag is_start alone;
       is_step = start_steps l.syntax l.depth n item t is_tag is_start (start_passes l n f t b.allowed b.room);
       follows =
-        subst (λ (x : Lines). Follows x (start_step l.syntax l.depth n item t is_tag is_start alone).next) (sym is)
-        (subst (λ (m : Nesting). Follows (becomes alone) m) (sym (step_next l.syntax l.depth n item t is_tag is_start alone))
-        (record { levels_are = next_levels l.syntax ls line item t f.stood are alone; stood = f.stood; phase_is = next_phase l.syntax ls line item t f.stood are alone; none_yet = λ e. absurd (cc) }));
+          subst (λ (x : Lines). Follows x (start_step l.syntax l.depth n item t is_tag is_start alone).next) (sym is)
+          (subst (λ (m : Nesting). Follows (becomes alone) m) (sym (step_next l.syntax l.depth n item t is_tag is_start alone))
+          (record { levels_are = next_levels l.syntax ls line item t f.stood are alone; stood = f.stood; phase_is = next_phase l.syntax ls line item t f.stood are alone; none_yet = λ e. absurd (cc) }));
       drops_is =
-        ap (λ (m : Nesting). m.drops) (step_next l.syntax l.depth n item t is_tag is_start alone)
-        ∙ (next_drops l.syntax ls line item t f.stood are alone ∙ (ap (λ a. not a && drops_line_feed (place_under ls) t) (sym same_alone) ∙ sym b.drops));
+          ap (λ (m : Nesting). m.drops) (step_next l.syntax l.depth n item t is_tag is_start alone)
+          ∙ (next_drops l.syntax ls line item t f.stood are alone ∙ (ap (λ a. not a && drops_line_feed (place_under ls) t) (sym same_alone) ∙ sym b.drops));
       seen = λ signs.
-        ap (λ events. sees (record { flags = flags_of l.levels; signs = signs }) events) (step_events l.syntax l.depth n item t is_tag is_start alone)
-        ∙ (under_seen l.syntax t.name l.levels n.line signs (events_of l.syntax line item t alone) f.levels_are
-        ∙ (next_seen l.syntax ls line item t f.stood are alone (signs ++ finishing (ended_at_start t.name l.levels))
-        ∙ (ap (λ k. record { flags = flags_of (levels_of l.syntax ls t alone); signs = (signs ++ finishing k) ++ own_signs (own_of l.syntax ls line item t f.stood are alone) (start_of item t) }) (sym b.ends)
-        ∙ (ap (λ o. record { flags = flags_of (levels_of l.syntax ls t alone); signs = (signs ++ finishing told.ends) ++ own_signs o (start_of item t) }) (sym own)
-        ∙ (ap (λ (s : StartTag). record { flags = flags_of (levels_of l.syntax ls t alone); signs = (signs ++ finishing told.ends) ++ own_signs told.own s }) (sym tag_is)
-        ∙ ap (λ (x : Lines). record { flags = flags_of x.levels; signs = (signs ++ finishing told.ends) ++ own_signs told.own (own_tag item) }) (sym is))))));
+          ap (λ events. sees (record { flags = flags_of l.levels; signs = signs }) events) (step_events l.syntax l.depth n item t is_tag is_start alone)
+          ∙ (under_seen l.syntax t.name l.levels n.line signs (events_of l.syntax line item t alone) f.levels_are
+          ∙ (next_seen l.syntax ls line item t f.stood are alone (signs ++ finishing (ended_at_start t.name l.levels))
+          ∙ (ap (λ k. record { flags = flags_of (levels_of l.syntax ls t alone); signs = (signs ++ finishing k) ++ own_signs (own_of l.syntax ls line item t f.stood are alone) (start_of item t) }) (sym b.ends)
+          ∙ (ap (λ o. record { flags = flags_of (levels_of l.syntax ls t alone); signs = (signs ++ finishing told.ends) ++ own_signs o (start_of item t) }) (sym own)
+          ∙ (ap (λ (s : StartTag). record { flags = flags_of (levels_of l.syntax ls t alone); signs = (signs ++ finishing told.ends) ++ own_signs told.own s }) (sym tag_is)
+          ∙ ap (λ (x : Lines). record { flags = flags_of x.levels; signs = (signs ++ finishing told.ends) ++ own_signs told.own (own_tag item) }) (sym is))))));
     }
 
 -- an end tag is taken
@@ -285,20 +292,20 @@ end_taken l new n item t told f is_tag is_end b =
       step = end_step l.syntax l.depth n item t is_tag is_end;
       is_step = end_by_row l.syntax l.depth n item t is_tag is_end None passes;
       follows =
-        subst (λ (x : Lines). Follows x (over (line_above line))) (sym b.becomes)
-        (record {
-          levels_are = subst (λ (x : Line). AreLevels l.syntax (drop 1 ls) x) (sym (over_line (line_above line))) above;
-          stood = f.stood;
-          phase_is = over_phase l.syntax (drop 1 ls) (line_above line) f.stood above ∙ ap (λ x. phase_at x (drop 1 ls) f.stood) (sym begun_is);
-          none_yet = λ e. absurd (true_false (sym begun_is ∙ e));
-        });
+          subst (λ (x : Lines). Follows x (over (line_above line))) (sym b.becomes)
+          (record {
+            levels_are = subst (λ (x : Line). AreLevels l.syntax (drop 1 ls) x) (sym (over_line (line_above line))) above;
+            stood = f.stood;
+            phase_is = over_phase l.syntax (drop 1 ls) (line_above line) f.stood above ∙ ap (λ x. phase_at x (drop 1 ls) f.stood) (sym begun_is);
+            none_yet = λ e. absurd (true_false (sym begun_is ∙ e));
+          });
       drops_is = over_drops (line_above line) ∙ sym b.drops;
       seen = λ signs.
-        end_seen l.syntax t.name l.levels n.line signs (finishes ∷ []) f.levels_are
-        ∙ (end_shows t.name ls (signs ++ finishing (ended (ends_by true t.name) l.levels)) (own_tag item) b.named
-        ∙ (ap (λ k. record { flags = flags_of (drop 1 ls); signs = (signs ++ finishing k) ++ own_signs (own_of_end ls) (own_tag item) }) (sym b.ends)
-        ∙ (ap (λ o. record { flags = flags_of (drop 1 ls); signs = (signs ++ finishing told.ends) ++ own_signs o (own_tag item) }) (sym b.own)
-        ∙ ap (λ (x : Lines). record { flags = flags_of x.levels; signs = (signs ++ finishing told.ends) ++ own_signs told.own (own_tag item) }) (sym b.becomes))));
+          end_seen l.syntax t.name l.levels n.line signs (finishes ∷ []) f.levels_are
+          ∙ (end_shows t.name ls (signs ++ finishing (ended (ends_by true t.name) l.levels)) (own_tag item) b.named
+          ∙ (ap (λ k. record { flags = flags_of (drop 1 ls); signs = (signs ++ finishing k) ++ own_signs (own_of_end ls) (own_tag item) }) (sym b.ends)
+          ∙ (ap (λ o. record { flags = flags_of (drop 1 ls); signs = (signs ++ finishing told.ends) ++ own_signs o (own_tag item) }) (sym b.own)
+          ∙ ap (λ (x : Lines). record { flags = flags_of x.levels; signs = (signs ++ finishing told.ends) ++ own_signs told.own (own_tag item) }) (sym b.becomes))));
     }
   where
     true_false : true ≡ false → ⊥

@@ -134,10 +134,7 @@ impl Levels {
                 return Err(NoMemory);
             }
         }
-        Ok(Levels {
-            levels,
-            open: 0,
-        })
+        Ok(Levels { levels, open: 0 })
     }
 
     /// How many elements are open.

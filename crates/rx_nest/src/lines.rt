@@ -151,11 +151,7 @@ impl Line {
         let own = self.own_of_start(tag);
         let drops = self.drops_line_feed(tag);
         match self.enter(tag) {
-            Ok(()) => Ok(Told {
-                ends,
-                own,
-                drops,
-            }),
+            Ok(()) => Ok(Told { ends, own, drops }),
             Err(NoMemory) => Err(Refused::NoMemory),
         }
     }
