@@ -25,7 +25,9 @@ use Rattle.rx_eval.specs.declared.places.Place.{Place}
 use Rattle.rx_eval.specs.Labels.{Numbered}
 use Rattle.rx_eval.specs.Moment.{moment}
 use Rattle.rx_eval.specs.Places.{path_at, standing_at}
-use Rattle.rx_eval.specs.Found.{naming, standing}
+use Rattle.rx_eval.specs.Found.{naming, standing, found_seen}
+use Rattle.rx_eval.specs.Placing.{resources_of}
+use Rattle.rx_eval.specs.declared.resources.Found.{Found}
 use Rattle.rx_eval.specs.TextRules.{resource_term}
 use Rattle.rx_eval.specs.Triples.{waiting_seen, completed_by}
 use Rattle.rx_eval.specs.Starts.{vocabulary_by, typed_by, linked_by, given_values, values_of, found_by, start_by}
@@ -39,7 +41,7 @@ use Rattle.rx_eval.proofs.LabelLemmas.{by_test}
 
 -- ---- the resources ask for the parent object alone
 
-same_object : (N : Naming ℕ ℕ) (base : Chars) (facts : Facts) (path : Path) (a b : Inherited ℕ ℕ) → a.object ≡ b.object
+pub same_object : (N : Naming ℕ ℕ) (base : Chars) (facts : Facts) (path : Path) (a b : Inherited ℕ ℕ) → a.object ≡ b.object
     → resources N base (record { facts = facts; path = path; around = a }) ≡ resources N base (record { facts = facts; path = path; around = b })
 unfolding resources
 same_object N base facts path a b e =
@@ -296,3 +298,16 @@ on_always (Err e) q = tt
 pub gathers_is : (value : Option CodeTerm) (facts : Facts) → (is_some facts.property && is_none value) ≡ (is_some facts.property && is_none (option_map term_seen value))
 gathers_is None facts = refl
 gathers_is (Some v) facts = refl
+
+-- ---- the resources by themselves
+
+pub placed_is : (found : Found) (s : CodeNode) (t o : Option CodeNode) → s ≡ found.subject → t ≡ found.typed → o ≡ found.object
+    → resources_of (node_seen s) (option_map node_seen t) (option_map node_seen o) found.skipped ≡ found_seen found
+placed_is found s t o e f g = rw (e, f, g) refl
+
+pub given_value : (v : Option (Term ℕ)) (w : Term ℕ) → None ≡ v → w ≡ unwrap_or v w
+given_value v w e = ap (λ (x : Option (Term ℕ)). unwrap_or x w) e
+
+pub ok_value : {E : Type 0} (v : Option (Term ℕ)) (w : Term ℕ) (r : Result CodeTerm E) → None ≡ v → IfOk r (λ term. term_seen term ≡ w) → IfOk r (λ term. term_seen term ≡ unwrap_or v w)
+ok_value v w (Ok t) e h = h ∙ given_value v w e
+ok_value v w (Err x) e h = h

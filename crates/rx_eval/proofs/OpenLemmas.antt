@@ -45,3 +45,6 @@ waits_are (code.InList o p ∷ ws) = ap (λ (l : List Wait). wait_seen (code.InL
 
 pub shown_waits : (around : Context) (ws : List Waiting) (context : Inherited ℕ ℕ) → ws ≡ around.hanging → context_seen around ≡ context → map wait_seen ws ≡ map wait_by context.hanging
 shown_waits around ws context e a = ap (map wait_seen) e ∙ waits_are around.hanging ∙ ap (λ (x : Inherited ℕ ℕ). map wait_by x.hanging) a
+
+pub fresh_room : (old new : Numbered) (next fresh : ℕ) (labels : List Chars) → Drawn old next labels new fresh → next + 1 + length labels < 2 ^ 64 → fresh + 1 < 2 ^ 64
+fresh_room old new next fresh labels d h = omega (arith, drawn_most old new next fresh labels d, h)

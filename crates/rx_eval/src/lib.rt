@@ -14,6 +14,7 @@ mod iris;
 mod labels;
 mod listing;
 mod opening;
+mod placed;
 mod places;
 mod resources;
 mod shared;
@@ -24,6 +25,7 @@ mod values;
 pub use eval::Eval;
 pub use inherited::{Direction, Hanging, Inherited};
 pub use labels::Labels;
+pub use placed::{Placed, value_of};
 
 #[cfg(test)]
 mod tests;

@@ -19,7 +19,7 @@ pub(crate) fn around<'a>(page: &'a Context, frames: &'a [Frame]) -> &'a Context
 }
 
 /// Whether the node is the blank node of the number.
-fn is_blank(node: &Node, number: u64) -> bool
+pub(crate) fn is_blank(node: &Node, number: u64) -> bool
     ensures { result ≡ is_blank (node_seen node.now) number }
 {
     match node {
