@@ -1,5 +1,5 @@
 -- What holds of the grammar as a whole.
-use Rattle.std.specs.Prelude.{◌≡◌, ℕ, ◌≤◌, ◌<◌, ◌⊎◌, List, [], ◌∷◌, ◌++◌, None}
+use Rattle.std.specs.Prelude.{◌≡◌, ℕ, ◌⊎◌, List, ◌++◌, None}
 use Rattle.rx_terms.specs.Text.{Chars}
 use Rattle.rx_chars.specs.declared.syntax.Syntax.{Syntax}
 use Rattle.rx_grammar.specs.declared.contents.Content.{Content}
@@ -22,18 +22,13 @@ abbrev pub OneToken : Type 0
 OneToken = (syntax : Syntax) (inside : Content) (front more other others : Chars) (a b : Token) → front ++ more ≡ other ++ others
     → Spells syntax inside front (next_of more None) a → Spells syntax inside other (next_of others None) b → IsSameToken front other a b
 
--- numbers from 0 to 255
-pub data AreBytes : List ℕ → Type 0 where
-  none : AreBytes []
-  one : {bytes : List ℕ} (byte : ℕ) → byte < 256 → AreBytes bytes → AreBytes (byte ∷ bytes)
-
 -- a byte list has at most one tree
 abbrev pub OneTree : Type 0
 OneTree = (syntax : Syntax) (limits : Limits) (bytes : List ℕ) (a b : Tree) → Page syntax limits bytes a → Page syntax limits bytes b → a ≡ b
 
 -- it has a tree or a fault,
 abbrev pub PageOrFault : Type 0
-PageOrFault = (syntax : Syntax) (limits : Limits) (bytes : List ℕ) → AreBytes bytes → 1 ≤ limits.depth → 1 ≤ limits.tag → 1 ≤ limits.page
+PageOrFault = (syntax : Syntax) (limits : Limits) (bytes : List ℕ)
     → ((tree : Tree) × Page syntax limits bytes tree) ⊎ ((fault : Fault) × FaultAt syntax limits bytes fault)
 
 -- not both,

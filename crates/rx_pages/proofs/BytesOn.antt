@@ -404,4 +404,4 @@ module _ (syntax : Syntax) (limits : Limits) where
       by (up_to front rest e f) = inr (f.fault, subst (λ x. FaultAt syntax limits x f.fault) (sym e) (f.stays rest))
 
 pub page_or_fault : PageOrFault
-page_or_fault syntax limits bytes are_bytes depth tag size = each_bytes syntax limits bytes
+page_or_fault syntax limits bytes = each_bytes syntax limits bytes
