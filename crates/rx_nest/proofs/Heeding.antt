@@ -75,7 +75,7 @@ module _ (syntax : Syntax) (limits : Limits) (bytes : List ℕ) (told : List Eve
   abbrev scan_by : Setting → List ℕ → Result Scanned Fault
   scan_by setting xs = scan_from setting.syntax setting.limits (record { inside = setting.inside; leads = setting.leads }) s xs
 
-  scan_is : (xs : List ℕ) → scan_by v.reading.setting xs ≡ scan_from syntax limits spot s xs
+  pub scan_is : (xs : List ℕ) → scan_by v.reading.setting xs ≡ scan_from syntax limits spot s xs
   scan_is xs = ap (λ (x : Setting). scan_by x xs) at.setting
 
   -- a fault of the scanner
@@ -99,7 +99,7 @@ module _ (syntax : Syntax) (limits : Limits) (bytes : List ℕ) (told : List Eve
   setting_same : (m : Nesting) (d : Bool) → m.line ≡ nest.line → m.phase ≡ nest.phase → m.drops ≡ d → setting_by nest.line nest.phase d ≡ setting_of syntax limits m
   setting_same m d l p e = ap (λ x. setting_by x nest.phase d) (sym l) ∙ (ap (λ x. setting_by m.line x d) (sym p) ∙ ap (λ x. setting_by m.line m.phase x) (sym e))
 
-  behind_is : (t : Token) (items : List Item) → ends_leading t ≡ false → setting_behind t v.reading.setting items ≡ setting_by nest.line nest.phase (if is_none_left items then nest.drops else false)
+  pub behind_is : (t : Token) (items : List Item) → ends_leading t ≡ false → setting_behind t v.reading.setting items ≡ setting_by nest.line nest.phase (if is_none_left items then nest.drops else false)
   behind_is t items h = ap (λ (x : Setting). setting_behind t x items) at.setting ∙ by items
     where
       by : (items : List Item) → setting_behind t (setting_of syntax limits nest) items ≡ setting_by nest.line nest.phase (if is_none_left items then nest.drops else false)
@@ -112,7 +112,7 @@ module _ (syntax : Syntax) (limits : Limits) (bytes : List ℕ) (told : List Eve
   module _ (xs : List ℕ) (mid : Scanner) (next : Scanning) (items : List Item) (reads : scan_from syntax limits spot s xs ≡ Ok (record { next = next; items = items })) (stands : scan.Stands mid next) where
     -- tokens that leave the elements as they are
     module _ (shown : Bool → List Sign) (q : Quiet syntax limits spot nest items shown) where
-      quiet_at : mid.reading.setting ≡ setting_by nest.line nest.phase (if is_none_left items then nest.drops else false) → At syntax limits (bytes ++ xs) (told ++ q.step.events) mid line
+      pub quiet_at : mid.reading.setting ≡ setting_by nest.line nest.phase (if is_none_left items then nest.drops else false) → At syntax limits (bytes ++ xs) (told ++ q.step.events) mid line
       quiet_at e =
           let p = page_scan syntax limits spot xs s nest told next items reads q.stays in
           let same : p.step ≡ q.step = (let w : Ok p.step ≡ Ok q.step = sym p.is_step ∙ q.is_step in cc) in
@@ -126,11 +126,11 @@ module _ (syntax : Syntax) (limits : Limits) (bytes : List ℕ) (told : List Eve
             depth_is = at.depth_is;
           }
 
-      quiet_shows : (h : Heard) → shown (is_hidden (flags_of line.levels)) ≡ heard_signs h mid → (signs : List Sign) → sees (record { flags = flags_of line.levels; signs = signs }) q.step.events ≡ record { flags = flags_of line.levels; signs = signs ++ heard_signs h mid }
+      pub quiet_shows : (h : Heard) → shown (is_hidden (flags_of line.levels)) ≡ heard_signs h mid → (signs : List Sign) → sees (record { flags = flags_of line.levels; signs = signs }) q.step.events ≡ record { flags = flags_of line.levels; signs = signs ++ heard_signs h mid }
       quiet_shows h e signs = q.shows (flags_of line.levels) signs ∙ ap (λ x. record { flags = flags_of line.levels; signs = signs ++ x }) e
 
   -- text shows where an element is open that doesn't hide it
-  said_is : (text : Chars) → said_by nest.phase (is_hidden (flags_of line.levels)) text ≡ (if says_text line then map said text else [])
+  pub said_is : (text : Chars) → said_by nest.phase (is_hidden (flags_of line.levels)) text ≡ (if says_text line then map said text else [])
   said_is text = ap (λ p. said_by p (is_hidden (flags_of line.levels)) text) at.follows.phase_is ∙ (ap (λ b. said_by (phase_at line.begun line.levels at.follows.stood) b text) (hidden_flags line.levels) ∙ by line.begun line.levels refl refl)
     where
       no_levels : [] ≡ line.levels → line.levels ≢ [] → ⊥

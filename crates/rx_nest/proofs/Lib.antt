@@ -5,3 +5,6 @@ pub mod RowLemmas
 pub mod Takes
 pub mod TextSteps
 pub mod Heeding
+pub mod ReadTokens
+pub mod SeenTrees
+mod TreeSeen

@@ -1,5 +1,5 @@
 -- What a nest stands for, and what its calls answer of a page's bytes.
-use Rattle.std.specs.Prelude.{◌≡◌, ◌⊎◌, ℕ, ◌≤◌, Bool, true, false, List, [], ◌∷◌, ◌++◌, map, length, take, Option, Some, None, Result, Ok, Err}
+use Rattle.std.specs.Prelude.{◌≡◌, ◌⊎◌, ℕ, ◌+◌, ◌≤◌, ◌<◌, Bool, true, false, List, [], ◌∷◌, ◌++◌, map, length, take, Option, Some, None, Result, Ok, Err}
 use Rattle.std.specs.Str.{chars}
 use Rattle.rx_terms.specs.Text.{Chars}
 use Rattle.rx_chars.specs.declared.syntax.Syntax.{Syntax}
@@ -101,6 +101,10 @@ Lends heard.Skipped v = Unit {0}
 Lends heard.Text v = has_text v.what ≡ true
 Lends (heard.Tag told) v = v.what ≡ what.Tag
 
+abbrev pub is_tag_heard : Heard → Bool
+is_tag_heard (heard.Tag told) = true
+is_tag_heard _ = false
+
 abbrev pub hears_more : Heard → Bool
 hears_more heard.More = true
 hears_more _ = false
@@ -118,6 +122,11 @@ abbrev pub ReadGives : Syntax → Limits → List ℕ → List nesting.Event →
 ReadGives syntax limits bytes told piece old (Ok r) v new = Heeds syntax limits bytes told piece r.0 r.1 old v new
 ReadGives syntax limits bytes told piece old (Err (stop.Fault fault)) v new = page_read syntax limits (bytes ++ piece) ≡ Err fault
 ReadGives syntax limits bytes told piece old (Err stop.NoMemory) v new = Unit {0}
+
+-- how much of the piece was taken
+abbrev pub ReadTakes : List ℕ → Result (ℕ × Heard) Stop → Type 0
+ReadTakes piece (Ok r) = scan.TakesSome piece r.0 (hears_more r.1)
+ReadTakes piece (Err e) = Unit {0}
 
 abbrev pub owes_own : Option Own → StartTag → List Sign
 owes_own None t = []
@@ -161,6 +170,32 @@ DidLends _ v = Unit {0}
 abbrev pub did_more : Did → Bool
 did_more did.More = true
 did_more _ = false
+
+-- after this nothing else is answered
+abbrev pub FailsBy : Stop → Nested → Nested → Type 0
+FailsBy (stop.Fault fault) old new = (new.failed ≡ Some fault) × (new.spent ≡ old.spent) × (new.scan ≡ old.scan) × (new.line ≡ old.line) × (new.owed ≡ old.owed)
+FailsBy stop.NoMemory old new = (new.failed ≡ old.failed) × (new.spent ≡ true) × (new.scan ≡ old.scan) × (new.line ≡ old.line) × (new.owed ≡ old.owed)
+
+-- how many events the last tag still tells
+abbrev pub own_left : Option Own → ℕ
+own_left None = 0
+own_left (Some own.Alone) = 2
+own_left (Some other) = 1
+
+abbrev pub left : Owed → ℕ
+left owed = owed.ends + own_left owed.own
+
+-- How much of the piece was taken: all of it where there is nothing yet, and else a byte at least, or something that was due is told.
+pub record Takes (piece : List ℕ) (n : ℕ) (is_nothing : Bool) (old new : Owed) : Type 0 where
+  pub fits : n ≤ length piece
+  pub all : is_nothing ≡ true → n ≡ length piece
+  pub some : is_nothing ≡ false → (0 < n) ⊎ ((n ≡ 0) × (left new < left old))
+
+-- Whatever it stands for: it answers only where neither a fault nor want of memory was answered; a fault comes again, and want of memory.
+abbrev pub KeepsOn : Nested → List ℕ → Result (ℕ × Did) Stop → Nested → Type 0
+KeepsOn old piece (Ok r) new = (old.failed ≡ None) × (old.spent ≡ false) × (new.failed ≡ None) × (new.spent ≡ false) × Takes piece r.0 (did_more r.1) old.owed new.owed
+KeepsOn old piece (Err (stop.Fault fault)) new = (old.spent ≡ false) × ((old.failed ≡ None) ⊎ (old.failed ≡ Some fault)) × (new.failed ≡ Some fault) × (new.spent ≡ false)
+KeepsOn old piece (Err stop.NoMemory) new = ((old.spent ≡ true) ⊎ (old.failed ≡ None)) × (new.spent ≡ true)
 
 -- this fault was answered, and is from then on
 pub record Fallen (fault : Fault) (v : Nested) : Type 0 where

@@ -1,5 +1,16 @@
-//! The events of a page's tree.
-use rx_tags::Tag;
+//! The elements of a page, told in pieces.
+ghost use Rattle.std.specs.Prelude.{◌≡◌, ℕ, List, [], IfOk, length};
+ghost use Rattle.rx_nest.specs.Nests as nests;
+
+use crate::heard::{Did, Owed, first_of, next_owed};
+use crate::lines::Line;
+use crate::reads::read;
+use rx_grammar::{Fault, Kind, Limits};
+use rx_scan::{Scan, Syntax, Token};
+use rx_tags::{Stop, Tag};
+use rx_terms::NoMemory;
+use std::alloc::Global;
+use std::marker::Model;
 
 /// What comes next in a page's tree, or that there is nothing yet.
 #[derive(Clone, Copy)]
@@ -14,4 +25,109 @@ pub enum Event<'a> {
     Finish,
     /// What the tree doesn't show: a comment, a document type, white space outside the root, and what a template hides.
     Skipped,
+}
+
+/// Reads a page's bytes in pieces, and tells its tree: each element that begins, its text and its end, also where the end
+/// tag is omitted. A contract sees what it stands for: the scanner, the open elements and what the last tag still tells;
+/// and whether a fault or want of memory was answered, which then comes again.
+#[derive(Drop)]
+pub struct Nest {
+    scan: Scan,
+    line: Line,
+    owed: Owed,
+    failed: Option<Fault>,
+    spent: bool,
+}
+
+impl Model for Nest {
+    ghost use Rattle.rx_nest.specs.Nests.{Nested, Ready};
+
+    ghost Value = { Nested };
+
+    ghost view = { λ n. record { scan = n.scan; line = n.line; owed = n.owed; failed = n.failed; spent = n.spent } };
+
+    ghost invariant = { λ n. Ready n.scan n.line n.failed n.spent };
+}
+
+impl Nest {
+    ghost use Rattle.rx_chars.specs.declared.syntax.Syntax as syntaxes;
+    ghost use Rattle.rx_grammar.specs.declared.limits.Limits as limit;
+    ghost use Rattle.rx_nest.specs.Signs.{Sign};
+
+    /// Before the first byte of a page. It takes the memory of all levels.
+    pub fn new(alloc: Global, syntax: Syntax, limits: Limits) -> Result<Nest, NoMemory>
+        ensures { IfOk result (λ n. nests.Stands syntax limits n [] []) }
+    {
+        Ok(Nest {
+            scan: Scan::new(alloc, syntax, limits)?,
+            line: Line::new(alloc, syntax, limits.depth)?,
+            owed: Owed::PAID,
+            failed: None,
+            spent: false,
+        })
+    }
+
+    /// How many elements are open, those that a template hides included.
+    pub fn depth(&self) -> u32
+        ensures depth { result ≡ length self.now.line.levels }
+    {
+        self.line.depth() as u32
+    }
+
+    // Answers this from now on.
+    fn fail(&mut self, stop: Stop)
+        ensures { nests.FailsBy stop self.old self.new }
+    {
+        match stop {
+            Stop::Fault(fault) => self.failed = Some(fault),
+            Stop::NoMemory => self.spent = true,
+        }
+    }
+
+    // What is due first, then what the next bytes tell.
+    fn advance(&mut self, piece: &[u8]) -> Result<(usize, Did), Stop>
+        ensures steps { (syntax : syntaxes.Syntax) (limits : limit.Limits) (bytes : List ℕ) (signs : List Sign) → nests.Stands syntax limits self.old bytes signs → nests.AdvanceGives syntax limits bytes signs piece.now result self.new }
+        ensures keeps { nests.KeepsOn self.old piece.now result self.new }
+    {
+        if self.spent {
+            return Err(Stop::NoMemory);
+        }
+        if let Some(fault) = self.failed {
+            return Err(Stop::Fault(fault));
+        }
+        if let Some((did, owed)) = next_owed(self.owed) {
+            self.owed = owed;
+            return Ok((0, did));
+        }
+        match read(&mut self.scan, &mut self.line, piece) {
+            Ok((taken, heard)) => {
+                let (did, owed) = first_of(heard);
+                self.owed = owed;
+                Ok((taken, did))
+            }
+            Err(stop) => {
+                self.fail(stop);
+                Err(stop)
+            }
+        }
+    }
+
+    // The event of what was done.
+    fn shown(&self, did: Did) -> Event<'_>
+        ensures { nests.Shown did self.now.scan result }
+    {
+        match did {
+            Did::More => Event::More,
+            Did::Skipped => Event::Skipped,
+            Did::Finish => Event::Finish,
+            Did::Begin => match self.scan.last() {
+                Some(tag) => Event::Begin(tag),
+                None => Event::Skipped,
+            },
+            Did::Text => match self.scan.token() {
+                Token::Text(text) => Event::Text(text),
+                _ => Event::Skipped,
+            },
+        }
+    }
 }

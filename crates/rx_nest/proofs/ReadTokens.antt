@@ -1,0 +1,495 @@
+-- What was taken of a piece, and what the elements made of it, is what the page's bytes lead to.
+use Rattle.std.proofs.Common.{◌≡◌, ◌≢◌, ◌∙◌, ⊎_elim, inl, inr, ℕ, ◌+◌, Bool, true, false, cond, List, [], ◌∷◌, ◌++◌, refl, sym, ap, subst, length, append_assoc, append-nil, Option, Some, None, Result, Ok, Err}
+use Rattle.std.specs.Prelude.{◌⊎◌, ◌&&◌, not, map, take, drop, codes, if◌then◌else◌}
+use Rattle.std.specs.Str.{chars}
+use Rattle.rx_terms.specs.Text.{Chars}
+use Rattle.rx_chars.specs.declared.syntax.Syntax.{Syntax}
+use Rattle.rx_chars.specs.declared.syntax.Syntax.TheVariants.{Html, Xhtml}
+use Rattle.rx_reader.proofs.Bools.{by_test}
+use Rattle.rx_reader.specs.TagReader.{parts_of}
+use Rattle.rx_grammar.specs.declared.contents.Content.{Content}
+use Rattle.rx_grammar.specs.declared.contents.Content.TheVariants as content
+use Rattle.rx_grammar.specs.declared.contents.RawName.{RawName}
+use Rattle.rx_grammar.specs.declared.faults.Fault.{Fault}
+use Rattle.rx_grammar.specs.declared.faults.Kind.{Kind}
+use Rattle.rx_grammar.specs.declared.limits.Limits.{Limits}
+use Rattle.rx_grammar.specs.Names.{same, is_among, name_of_raw}
+use Rattle.rx_grammar.specs.Tokens as tokens
+use Rattle.rx_grammar.specs.Tokens.{tag}
+use Rattle.rx_grammar.specs.Trees.{StartTag}
+use Rattle.rx_grammar.specs.Contents.{Place, place_in, inside_at, inside_html, inside_foreign, in_html, raw_place, raw_names, rcdata_names, html_in_svg}
+use Rattle.rx_grammar.specs.Items.{Item, start_of}
+use Rattle.rx_grammar.specs.Begun.{Line, inside_of, Phase}
+use Rattle.rx_pages.specs.Nesting.{Event, Nesting, Step, content_at, nest_step}
+use Rattle.rx_pages.specs.PageReader.{Spot, spot_of, Scanning, Scanned, scan_from, is_none_left, may_lead, page_on, page_read, nothing_read, Reading}
+use Rattle.rx_pages.proofs.FaultWalk.{fault_stays}
+use Rattle.rx_pages.proofs.ScanSteps.{page_append}
+use Rattle.rx_tags.specs.declared.stops.Stop.{Stop}
+use Rattle.rx_tags.specs.declared.stops.Stop.TheVariants as stop
+use Rattle.rx_tags.specs.declared.tags.Tag.{Tag}
+use Rattle.rx_tags.specs.Seen.{tag_seen}
+use Rattle.rx_scan.specs.declared.answers.What.{What}
+use Rattle.rx_scan.specs.declared.answers.What.TheVariants as what
+use Rattle.rx_scan.specs.declared.answers.Token.{Token}
+use Rattle.rx_scan.specs.declared.answers.Token.TheVariants as token
+use Rattle.rx_scan.specs.declared.places.Setting.{Setting}
+use Rattle.rx_scan.specs.Scanner.{Scanner}
+use Rattle.rx_scan.specs.Entries.{undropped}
+use Rattle.rx_scan.specs.Steps.{IsOne, IsTag, Skips, a_mark, a_comment, an_empty_section, a_line_feed, Are, Shows, ShowsTag, after_some, ends_leading, setting_behind, is_more, is_of_syntax}
+use Rattle.rx_scan.specs.Steps as scan
+use Rattle.rx_nest.specs.declared.heard.Heard.{Heard}
+use Rattle.rx_nest.specs.declared.heard.Heard.TheVariants as heard
+use Rattle.rx_nest.specs.declared.lines.Told.{Told}
+use Rattle.rx_nest.specs.declared.lines.Own.{Own}
+use Rattle.rx_nest.specs.declared.lines.Refused.{Refused}
+use Rattle.rx_nest.specs.declared.lines.Refused.TheVariants as refused
+use Rattle.rx_nest.specs.Lines.{Lines, TagGives, GivesBy, Begins, Ends, says_text, is_none_open}
+use Rattle.rx_nest.specs.Levels.{Levels, place_under}
+use Rattle.rx_nest.specs.Signs.{Sign, said, is_hidden, sees, finishing}
+use Rattle.rx_nest.specs.Follows.{Follows, flags_of, phase_at, own_signs, own_tag, tag_by}
+use Rattle.rx_nest.specs.Heard.{Hears, HearsTag, heard_of}
+use Rattle.rx_nest.specs.Nests.{At, setting_of, start_seen, heard_signs, Lends, is_tag_heard, hears_more, Heeds, ReadGives, last_text, has_text, last_tag}
+use Rattle.rx_nest.proofs.LineLemmas.{place_is}
+use Rattle.rx_nest.proofs.Takes.{Taken, TagSteps, tag_steps}
+use Rattle.rx_nest.proofs.TextSteps.{said_by, Quiet, none_quiet, texts_quiet, comment_quiet, empty_quiet, line_feed_quiet}
+use Rattle.rx_nest.proofs.Heeding.{front_rest, scan_fails, scan_is, quiet_at, quiet_shows, said_is, behind_is, doctype_at, tag_fault, tag_leads, Leads}
+
+-- the text that is shown is the one that was told
+text_is : (answer : What) (v : Scanner) → v.what ≡ answer → (text : _) → Shows answer v.reading (token.Text text) → (chars text.now ≡ last_text v) × (has_text v.what ≡ true)
+text_is what.Text v e text s = rw e (s, refl)
+text_is what.Section v e text s = rw e (s, refl)
+text_is what.Nothing v e text s = absurd (let w : token.Text text ≡ token.More = s in cc)
+text_is what.Skipped v e text s = absurd (let w : token.Text text ≡ token.Skipped = s in cc)
+text_is what.Doctype v e text s = absurd (let w : token.Text text ≡ token.Doctype = s in cc)
+text_is what.Tag v e text s = elim s [ ]
+
+pub record TagShown (v : Scanner) (closing : Bool) (t : Tag) : Type 0 where
+  pub what_is : v.what ≡ what.Tag
+  pub shows : ShowsTag v.reading closing t
+
+start_is : (answer : What) (v : Scanner) → v.what ≡ answer → (t : Tag) → Shows answer v.reading (token.Start t) → TagShown v false t
+start_is what.Tag v e t s = record { what_is = e; shows = s }
+start_is what.Text v e t s = elim s [ ]
+start_is what.Section v e t s = elim s [ ]
+start_is what.Nothing v e t s = absurd (let w : token.Start t ≡ token.More = s in cc)
+start_is what.Skipped v e t s = absurd (let w : token.Start t ≡ token.Skipped = s in cc)
+start_is what.Doctype v e t s = absurd (let w : token.Start t ≡ token.Doctype = s in cc)
+
+end_is : (answer : What) (v : Scanner) → v.what ≡ answer → (t : Tag) → Shows answer v.reading (token.End t) → TagShown v true t
+end_is what.Tag v e t s = record { what_is = e; shows = s }
+end_is what.Text v e t s = elim s [ ]
+end_is what.Section v e t s = elim s [ ]
+end_is what.Nothing v e t s = absurd (let w : token.End t ≡ token.More = s in cc)
+end_is what.Skipped v e t s = absurd (let w : token.End t ≡ token.Skipped = s in cc)
+end_is what.Doctype v e t s = absurd (let w : token.End t ≡ token.Doctype = s in cc)
+
+-- the content inside open elements is one of the syntax
+module _ where
+  raw_is : (as_content : RawName → Content) → ((r : RawName) → is_of_syntax Html (as_content r) ≡ true) → (names : List RawName) (name : Chars) (other : Place) → is_of_syntax Html other.content ≡ true → is_of_syntax Html (raw_place as_content names name other).content ≡ true
+  raw_is as_content h [] name other o = o
+  raw_is as_content h (raw ∷ more) name other o = by_test (same name (name_of_raw raw)) (λ e. rw e (h raw)) (λ e. rw e (raw_is as_content h more name other o))
+
+  html_is : (name : Chars) → is_of_syntax Html (inside_html name).content ≡ true
+  html_is name =
+      by_test (same name (codes "svg")) (λ e. rw e refl)
+      (λ e. rw e (by_test (same name (codes "math")) (λ k. rw k refl)
+      (λ k. rw k (raw_is content.Raw (λ r. refl) raw_names name (raw_place content.Rcdata rcdata_names name in_html) (raw_is content.Rcdata (λ r. refl) rcdata_names name in_html refl)))))
+
+  foreign_is : (in_svg : Bool) (name : Chars) → is_of_syntax Html (inside_foreign in_svg name).content ≡ true
+  foreign_is in_svg name = by_test (in_svg && is_among html_in_svg name) (λ e. rw e refl) (λ e. rw e refl)
+
+  at_is : (c : Content) (in_svg : Bool) (name : Chars) → is_of_syntax Html (inside_at c in_svg name).content ≡ true
+  at_is content.Foreign in_svg name = foreign_is in_svg name
+  at_is content.Outside in_svg name = html_is name
+  at_is content.Html in_svg name = html_is name
+  at_is content.Strict in_svg name = html_is name
+  at_is (content.Raw r) in_svg name = html_is name
+  at_is (content.Rcdata r) in_svg name = html_is name
+
+  pub inside_is : (syntax : Syntax) (line : Line) → is_of_syntax syntax (inside_of syntax line).content ≡ true
+  inside_is Html [] = refl
+  inside_is Xhtml [] = refl
+  inside_is Html (t ∷ above) = at_is (inside_of Html above).content (inside_of Html above).in_svg t.name
+  inside_is Xhtml (t ∷ above) = refl
+
+-- nothing is heard exactly where no token is complete
+pub more_same : (t : Token) (h : Heard) (old new : Lines) → Hears old t (Ok h) new → is_more t ≡ hears_more h
+more_same t h old new hears = by t hears
+  where
+    same : (a : Heard) → ◌≡◌ {A = Result Heard Stop} (Ok h) (Ok a) → a ≡ h
+    same a e = cc
+
+    text_more : (says : Bool) → false ≡ hears_more (if says then heard.Text else heard.Skipped)
+    text_more true = refl
+    text_more false = refl
+
+    tag_more : (g : Tag) (taken : Result Told Refused) → ◌≡◌ {A = Result Heard Stop} (Ok h) (heard_of g taken) → false ≡ hears_more h
+    tag_more g (Ok tells) e = ap hears_more (same (heard.Tag tells) e)
+    tag_more g (Err (refused.Fault kind)) e = absurd (cc)
+    tag_more g (Err refused.NoMemory) e = absurd (cc)
+
+    by : (x : Token) → Hears old x (Ok h) new → is_more x ≡ hears_more h
+    by token.More k = ap hears_more (same heard.More k.0)
+    by token.Skipped k = ap hears_more (same heard.Skipped k.0)
+    by token.Doctype k = ap hears_more (same heard.Skipped k.0)
+    by (token.Text text) k = text_more (says_text old) ∙ ap hears_more (same (if says_text old then heard.Text else heard.Skipped) k.0)
+    by (token.Start g) k = tag_more g k.taken k.is
+    by (token.End g) k = tag_more g k.taken k.is
+
+-- what a taken tag leaves of the elements
+pub record Becomes (old new : Lines) : Type 0 where
+  pub syntax : new.syntax ≡ old.syntax
+  pub depth : new.depth ≡ old.depth
+  pub begun : new.begun ≡ true
+
+module _ (syntax : Syntax) (limits : Limits) (bytes : List ℕ) (told : List Event) (v : Scanner) (line : Lines) (at : At syntax limits bytes told v line) where
+  abbrev nest : Nesting
+  nest = at.now.nest
+
+  abbrev s : Scanning
+  s = at.now.scan
+
+  abbrev spot : Spot
+  spot = spot_of syntax nest
+
+  module _ (piece : List ℕ) (n : ℕ) (t : Token) (mid : Scanner) (st : scan.Stepped v s piece n t mid) where
+    abbrev items : List Item
+    items = st.scanned.items
+
+    abbrev front : List ℕ
+    front = take n piece
+
+    reads : scan_from syntax limits spot s front ≡ Ok st.scanned
+    reads = sym (scan_is syntax limits bytes told v line at front) ∙ st.read
+
+    -- tokens that leave the elements as they are
+    quiet_heeds : (h : Heard) (shown : Bool → List Sign) → Quiet syntax limits spot nest items shown → ends_leading t ≡ false → shown (is_hidden (flags_of line.levels)) ≡ heard_signs h mid → Lends h mid → (hears_more h ≡ true → n ≡ length piece)
+        → Heeds syntax limits bytes told piece n h line mid line
+    quiet_heeds h shown q l e lends all =
+        record {
+          fits = st.fits;
+          events = q.step.events;
+          at = quiet_at syntax limits bytes told v line at front mid st.scanned.next items reads st.stands shown q (st.setting ∙ behind_is syntax limits bytes told v line at t items l);
+          shows = quiet_shows syntax limits bytes told v line at front mid st.scanned.next items reads st.stands shown q h e;
+          lends = lends;
+          all = all;
+        }
+
+    quiet_of : (shown : Bool → List Sign) (other : List Item) → items ≡ other → Quiet syntax limits spot nest other shown → Quiet syntax limits spot nest items shown
+    quiet_of shown other e q = subst (λ i. Quiet syntax limits spot nest i shown) (sym e) q
+
+    more_heeds : t ≡ token.More → Heeds syntax limits bytes told piece n heard.More line mid line
+    more_heeds e =
+        let none : items ≡ [] = subst (λ x. Are v.reading.setting.drops x items) e st.are in
+        quiet_heeds heard.More (λ hidden. []) (quiet_of (λ hidden. []) [] none (none_quiet syntax limits spot nest refl)) (ap ends_leading e) refl tt (λ h. st.all (ap is_more e))
+
+    abbrev silent : Bool → List Sign
+    silent hidden = []
+
+    skips_quiet : Skips v.reading.setting.drops items → Quiet syntax limits spot nest items silent
+    skips_quiet (a_mark none) = quiet_of silent [] none (none_quiet syntax limits spot nest refl)
+    skips_quiet (a_comment o) = quiet_of silent (o.item ∷ []) o.one (comment_quiet syntax limits spot nest o.item refl o.is)
+    skips_quiet (an_empty_section o) = quiet_of silent (o.item ∷ []) o.one (empty_quiet syntax limits spot nest o.item refl o.is)
+    skips_quiet (a_line_feed item d one l) = quiet_of silent (item ∷ []) one (line_feed_quiet syntax limits spot nest item refl (ap (λ (x : Setting). x.drops) (sym at.setting) ∙ d) l)
+
+    skip_heeds : t ≡ token.Skipped → Heeds syntax limits bytes told piece n heard.Skipped line mid line
+    skip_heeds e = quiet_heeds heard.Skipped silent (skips_quiet (subst (λ x. Are v.reading.setting.drops x items) e st.are)) (ap ends_leading e) refl tt (λ h. absurd (cc))
+
+    abbrev text_heard : Bool → Heard
+    text_heard says = if says then heard.Text else heard.Skipped
+
+    text_signs : (says : Bool) (text : Chars) → text ≡ last_text mid → (if says then map said text else []) ≡ heard_signs (text_heard says) mid
+    text_signs true text e = ap (λ x. map said x) e
+    text_signs false text e = refl
+
+    text_lends : (says : Bool) → has_text mid.what ≡ true → Lends (text_heard says) mid
+    text_lends true h = h
+    text_lends false h = tt
+
+    never_more : (says : Bool) → hears_more (text_heard says) ≡ true → n ≡ length piece
+    never_more true h = absurd (cc)
+    never_more false h = absurd (cc)
+
+    text_heeds : (text : _) → t ≡ token.Text text → Shows mid.what mid.reading t → Heeds syntax limits bytes told piece n (text_heard (says_text line)) line mid line
+    text_heeds text e shows =
+        let is = text_is mid.what mid refl text (subst (λ x. Shows mid.what mid.reading x) e shows) in
+        let are = subst (λ x. Are v.reading.setting.drops x items) e st.are in
+        let keeps = ap (λ (x : Setting). scan.keeps_first x.drops items) (sym at.setting) ∙ are.2 in
+        quiet_heeds (text_heard (says_text line)) (λ hidden. said_by nest.phase hidden (chars text.now)) (texts_quiet syntax limits spot items nest (chars text.now) refl are.0 keeps) (ap ends_leading e)
+        (said_is syntax limits bytes told v line at (chars text.now) ∙ text_signs (says_text line) (chars text.now) is.0) (text_lends (says_text line) is.1) (never_more (says_text line))
+
+    doctype_heeds : t ≡ token.Doctype → Heeds syntax limits bytes told piece n heard.Skipped line mid line
+    doctype_heeds e =
+        let one = subst (λ x. Are v.reading.setting.drops x items) e st.are in
+        let reads_one : scan_from syntax limits spot s front ≡ Ok (record { next = st.scanned.next; items = one.item ∷ [] }) = reads ∙ ap (λ i. Ok (record { next = st.scanned.next; items = i })) one.one in
+        record {
+          fits = st.fits;
+          events = [];
+          at = doctype_at syntax limits bytes told v line at front st.scanned.next one.item reads_one one.is mid st.stands
+              (st.setting ∙ (ap (λ x. setting_behind x v.reading.setting items) e ∙ ap (λ i. setting_behind token.Doctype v.reading.setting i) one.one));
+          shows = λ signs. ap (λ x. record { flags = flags_of line.levels; signs = x }) (sym (append-nil signs));
+          lends = tt;
+          all = λ h. absurd (cc);
+        }
+
+    -- a tag
+    module _ (g : Tag) (is : IsTag (tag_seen g) g.token g.at items) (ends : st.scanned.next.at ≡ g.at + 1) (new : Lines) where
+      abbrev item : Item
+      item = is.item
+
+      reads_tag : scan_from syntax limits spot s front ≡ Ok (record { next = st.scanned.next; items = item ∷ [] })
+      reads_tag = reads ∙ ap (λ i. Ok (record { next = st.scanned.next; items = i })) is.one
+
+      steps_as : (x : Result Step Kind) → nest_step line.syntax line.depth nest item ≡ x → nest_step syntax limits.depth nest item ≡ x
+      steps_as x h = subst (λ d. nest_step syntax d nest item ≡ x) at.depth_is (subst (λ l. nest_step l line.depth nest item ≡ x) at.syntax_is h)
+
+      tag_refused : (kind : Kind) → TagGives line (tag_seen g) (Err (refused.Fault kind)) new → page_read syntax limits (bytes ++ piece) ≡ Err (record { kind = kind; token = g.token; at = g.at })
+      tag_refused kind gives =
+          let steps : nest_step line.syntax line.depth nest item ≡ Err kind = tag_steps line new nest item (tag_seen g) (Err (refused.Fault kind)) at.follows is.is gives in
+          let fault : Fault = record { kind = kind; token = g.token; at = g.at } in
+          ap (λ x. page_read syntax limits x) (ap (λ x. bytes ++ x) (sym (front_rest n piece)) ∙ sym (append_assoc bytes front (drop n piece)))
+          ∙ (page_append syntax limits spot (Ok nothing_read) (bytes ++ front) (drop n piece)
+          ∙ (ap (λ x. page_on syntax limits x (drop n piece)) (tag_fault syntax limits bytes told v line at front st.scanned.next item reads_tag g is.is is.first_is is.last_is ends kind (steps_as (Err kind) steps))
+          ∙ fault_stays syntax limits fault (drop n piece)))
+
+      pub hears_refused : (fault : Fault) → HearsTag line g (Err (stop.Fault fault)) new → page_read syntax limits (bytes ++ piece) ≡ Err fault
+      hears_refused fault h = by h.taken h.is h.gives
+        where
+          by : (taken : Result Told Refused) → Err (stop.Fault fault) ≡ heard_of g taken → TagGives line (tag_seen g) taken new → page_read syntax limits (bytes ++ piece) ≡ Err fault
+          by (Ok told) e gives = absurd (cc)
+          by (Err refused.NoMemory) e gives = absurd (let w : Err (stop.Fault fault) ≡ Err stop.NoMemory = e in cc)
+          by (Err (refused.Fault kind)) e gives =
+              let same : fault ≡ record { kind = kind; token = g.token; at = g.at } = (let w : Err (stop.Fault fault) ≡ Err (stop.Fault (record { kind = kind; token = g.token; at = g.at })) = e in cc) in
+              tag_refused kind gives ∙ ap (λ f. Err f) (sym same)
+
+      -- the elements after it
+      module _ (tells : Told) (taken : Taken line nest item tells new) (b : Becomes line new) (closing : Bool) (shown : TagShown mid closing g) (no_lead : (if ends_leading t then false else may_lead nest.phase) ≡ false) where
+        abbrev step : Step
+        step = taken.step
+
+        abbrev inside : Content
+        inside = (place_under new.levels).content
+
+        new_syntax : new.syntax ≡ syntax
+        new_syntax = b.syntax ∙ at.syntax_is
+
+        inside_same : inside ≡ content_at syntax step.next
+        inside_same = ap (λ (p : Place). p.content) (place_is new.syntax new.levels step.next.line taken.follows.levels_are ∙ ap (λ x. inside_of x step.next.line) new_syntax)
+
+        leads_no_more : may_lead step.next.phase ≡ false
+        leads_no_more = ap may_lead (taken.follows.phase_is ∙ ap (λ x. phase_at x new.levels taken.follows.stood) b.begun) ∙ by new.levels
+          where
+            by : (levels : Levels) → may_lead (phase_at true levels taken.follows.stood) ≡ false
+            by [] = refl
+            by (level ∷ levels) = refl
+
+        setting_by : Setting → Bool → Setting
+        setting_by x d = record { syntax = x.syntax; limits = x.limits; inside = inside; leads = x.leads; drops = d }
+
+        mid_setting : mid.reading.setting ≡ setting_behind t (setting_of syntax limits nest) (item ∷ [])
+        mid_setting = st.setting ∙ (ap (λ i. setting_behind t v.reading.setting i) is.one ∙ ap (λ x. setting_behind t x (item ∷ [])) at.setting)
+
+        setting_same : (scan.inside_of inside tells.drops mid).reading.setting ≡ setting_of syntax limits step.next
+        setting_same =
+            ap (λ (x : Setting). record { syntax = x.syntax; limits = x.limits; inside = inside; leads = x.leads; drops = tells.drops }) mid_setting
+            ∙ (ap (λ x. record { syntax = syntax; limits = limits; inside = inside; leads = x; drops = tells.drops }) (no_lead ∙ sym leads_no_more)
+            ∙ (ap (λ x. record { syntax = syntax; limits = limits; inside = x; leads = may_lead step.next.phase; drops = tells.drops }) inside_same
+            ∙ ap (λ x. record { syntax = syntax; limits = limits; inside = content_at syntax step.next; leads = may_lead step.next.phase; drops = x }) (sym taken.drops_is)))
+
+        tag_same : own_tag item ≡ last_tag mid
+        tag_same =
+            ap (λ x. tag_by item x) is.is
+            ∙ (ap (λ x. start_seen (tag_seen g) x item.last) (is.first_is ∙ shown.shows.1)
+            ∙ (ap (λ x. start_seen (tag_seen g) mid.reading.place.token x) (is.last_is ∙ shown.shows.2)
+            ∙ ap (λ x. start_seen x mid.reading.place.token mid.reading.end) shown.shows.0))
+
+        pub tag_heeds : scan.Stands (scan.inside_of inside tells.drops mid) st.scanned.next → Heeds syntax limits bytes told piece n (heard.Tag tells) line (scan.inside_of inside tells.drops mid) new
+        tag_heeds stands =
+            record {
+              fits = st.fits;
+              events = step.events;
+              at = record {
+                now = record { scan = st.scanned.next; nest = step.next };
+                read = (tag_leads syntax limits bytes told v line at front st.scanned.next item reads_tag g is.is is.first_is is.last_is ends step (steps_as (Ok step) taken.is_step)).page;
+                stands = stands;
+                setting = setting_same;
+                follows = taken.follows;
+                syntax_is = new_syntax;
+                depth_is = b.depth ∙ at.depth_is;
+              };
+              shows = λ signs.
+                  taken.seen signs
+                  ∙ ap (λ x. record { flags = flags_of new.levels; signs = x }) (append_assoc signs (finishing tells.ends) (own_signs tells.own (own_tag item)) ∙ ap (λ x. signs ++ (finishing tells.ends ++ own_signs tells.own x)) tag_same);
+              lends = shown.what_is;
+              all = λ h. absurd (cc);
+            }
+
+      open_has_begun : line.levels ≢ [] → line.begun ≡ true
+      open_has_begun open_one = by line.begun refl
+        where
+          by : (x : Bool) → line.begun ≡ x → line.begun ≡ true
+          by true e = e
+          by false e = absurd (open_one (at.follows.none_yet e))
+
+      is_open : (levels : Levels) → is_none_open levels ≡ false → levels ≢ []
+      is_open [] e p = absurd (cc)
+      is_open (level ∷ levels) e p = cc
+
+      begins_so : (tells : Told) → Begins line (tag_seen g) tells new → Becomes line new
+      begins_so tells h = record { syntax = ap (λ (x : Lines). x.syntax) h.becomes; depth = ap (λ (x : Lines). x.depth) h.becomes; begun = ap (λ (x : Lines). x.begun) h.becomes }
+
+      ends_so : (tells : Told) → Ends line (tag_seen g) tells new → Becomes line new
+      ends_so tells h = record { syntax = ap (λ (x : Lines). x.syntax) h.becomes; depth = ap (λ (x : Lines). x.depth) h.becomes; begun = ap (λ (x : Lines). x.begun) h.becomes ∙ open_has_begun (is_open line.levels h.there) }
+
+      open_phase : line.begun ≡ true → may_lead nest.phase ≡ false
+      open_phase e = ap may_lead (at.follows.phase_is ∙ ap (λ x. phase_at x line.levels at.follows.stood) e) ∙ by line.levels
+        where
+          by : (levels : Levels) → may_lead (phase_at true levels at.follows.stood) ≡ false
+          by [] = refl
+          by (level ∷ levels) = refl
+
+    gives_of : (g : Tag) (new : Lines) (tells : Told) → HearsTag line g (Ok (heard.Tag tells)) new → TagGives line (tag_seen g) (Ok tells) new
+    gives_of g new tells h = by h.taken h.is h.gives
+      where
+        by : (taken : Result Told Refused) → Ok (heard.Tag tells) ≡ heard_of g taken → TagGives line (tag_seen g) taken new → TagGives line (tag_seen g) (Ok tells) new
+        by (Ok other) e gives = let same : tells ≡ other = cc in subst (λ x. TagGives line (tag_seen g) (Ok x) new) (sym same) gives
+        by (Err (refused.Fault kind)) e gives = absurd (let w : Ok (heard.Tag tells) ≡ Err (stop.Fault (record { kind = kind; token = g.token; at = g.at })) = e in cc)
+        by (Err refused.NoMemory) e gives = absurd (let w : Ok (heard.Tag tells) ≡ Err stop.NoMemory = e in cc)
+
+    start_heeds : (g : Tag) → t ≡ token.Start g → Shows mid.what mid.reading t → (new : Lines) (tells : Told) → HearsTag line g (Ok (heard.Tag tells)) new → scan.Stands (scan.inside_of (place_under new.levels).content tells.drops mid) st.scanned.next
+        → Heeds syntax limits bytes told piece n (heard.Tag tells) line (scan.inside_of (place_under new.levels).content tells.drops mid) new
+    start_heeds g e shows new tells h stands =
+        let are = subst (λ x. Are v.reading.setting.drops x items) e st.are in
+        let last = subst (λ x. scan.IsLast x st.scanned.next.at) e st.last in
+        let gives : TagGives line (tag_seen g) (Ok tells) new = gives_of g new tells h in
+        let begins : Begins line (tag_seen g) tells new = subst (λ c. GivesBy c line (tag_seen g) (Ok tells) new) are.1 gives in
+        let taken : Taken line nest are.0.item tells new = tag_steps line new nest are.0.item (tag_seen g) (Ok tells) at.follows are.0.is gives in
+        tag_heeds g are.0 last new tells taken (begins_so g are.0 last new tells begins) false (start_is mid.what mid refl g (subst (λ x. Shows mid.what mid.reading x) e shows)) (ap (λ x. if ends_leading x then false else may_lead nest.phase) e) stands
+
+    end_heeds : (g : Tag) → t ≡ token.End g → Shows mid.what mid.reading t → (new : Lines) (tells : Told) → HearsTag line g (Ok (heard.Tag tells)) new → scan.Stands (scan.inside_of (place_under new.levels).content tells.drops mid) st.scanned.next
+        → Heeds syntax limits bytes told piece n (heard.Tag tells) line (scan.inside_of (place_under new.levels).content tells.drops mid) new
+    end_heeds g e shows new tells h stands =
+        let are = subst (λ x. Are v.reading.setting.drops x items) e st.are in
+        let last = subst (λ x. scan.IsLast x st.scanned.next.at) e st.last in
+        let gives : TagGives line (tag_seen g) (Ok tells) new = gives_of g new tells h in
+        let finishes : Ends line (tag_seen g) tells new = subst (λ c. GivesBy c line (tag_seen g) (Ok tells) new) are.1 gives in
+        let taken : Taken line nest are.0.item tells new = tag_steps line new nest are.0.item (tag_seen g) (Ok tells) at.follows are.0.is gives in
+        let begun_is : line.begun ≡ true = open_has_begun g are.0 last new (is_open g are.0 last new line.levels finishes.there) in
+        tag_heeds g are.0 last new tells taken (ends_so g are.0 last new tells finishes) true (end_is mid.what mid refl g (subst (λ x. Shows mid.what mid.reading x) e shows))
+        (ap (λ x. if ends_leading x then false else may_lead nest.phase) e ∙ open_phase g are.0 last new begun_is) stands
+
+    -- a tag that was heard
+    pub heard_heeds : (new : Lines) (tells : Told) → Hears line t (Ok (heard.Tag tells)) new → Shows mid.what mid.reading t → scan.Stands (scan.inside_of (place_under new.levels).content tells.drops mid) st.scanned.next
+        → Heeds syntax limits bytes told piece n (heard.Tag tells) line (scan.inside_of (place_under new.levels).content tells.drops mid) new
+    heard_heeds new tells h shows stands = by t refl h
+      where
+        Goal : Type 0
+        Goal = Heeds syntax limits bytes told piece n (heard.Tag tells) line (scan.inside_of (place_under new.levels).content tells.drops mid) new
+
+        text_no : (says : Bool) → ◌≡◌ {A = Result Heard Stop} (Ok (heard.Tag tells)) (Ok (text_heard says)) → ⊥
+        text_no true e = cc
+        text_no false e = cc
+
+        by : (x : Token) → t ≡ x → Hears line x (Ok (heard.Tag tells)) new → Goal
+        by token.More e k = absurd (let w : Ok (heard.Tag tells) ≡ Ok heard.More = k.0 in cc)
+        by token.Skipped e k = absurd (let w : Ok (heard.Tag tells) ≡ Ok heard.Skipped = k.0 in cc)
+        by token.Doctype e k = absurd (let w : Ok (heard.Tag tells) ≡ Ok heard.Skipped = k.0 in cc)
+        by (token.Text text) e k = absurd (text_no (says_text line) k.0)
+        by (token.Start g) e k = start_heeds g e shows new tells k stands
+        by (token.End g) e k = end_heeds g e shows new tells k stands
+
+    -- whatever else was heard
+    pub other_heeds : (h : Heard) (new : Lines) → Hears line t (Ok h) new → Shows mid.what mid.reading t → is_tag_heard h ≡ false → Heeds syntax limits bytes told piece n h line mid new
+    other_heeds h new hears shows no_tag = by t refl hears
+      where
+        turn : (a : Heard) → ◌≡◌ {A = Result Heard Stop} (Ok h) (Ok a) → new ≡ line → Heeds syntax limits bytes told piece n a line mid line → Heeds syntax limits bytes told piece n h line mid new
+        turn a e l x =
+            let same : h ≡ a = cc in
+            subst (λ y. Heeds syntax limits bytes told piece n h line mid y) (sym l) (subst (λ y. Heeds syntax limits bytes told piece n y line mid line) (sym same) x)
+
+        tag_no : (g : Tag) → HearsTag line g (Ok h) new → ⊥
+        tag_no g k = on k.taken k.is
+          where
+            on : (taken : Result Told Refused) → Ok h ≡ heard_of g taken → ⊥
+            on (Ok tells) e = let w : h ≡ heard.Tag tells = cc in let z : is_tag_heard (heard.Tag tells) ≡ false = ap is_tag_heard (sym w) ∙ no_tag in cc
+            on (Err (refused.Fault kind)) e = let w : Ok h ≡ Err (stop.Fault (record { kind = kind; token = g.token; at = g.at })) = e in cc
+            on (Err refused.NoMemory) e = let w : Ok h ≡ Err stop.NoMemory = e in cc
+
+        by : (x : Token) → t ≡ x → Hears line x (Ok h) new → Heeds syntax limits bytes told piece n h line mid new
+        by token.More e k = turn heard.More k.0 k.1 (more_heeds e)
+        by token.Skipped e k = turn heard.Skipped k.0 k.1 (skip_heeds e)
+        by token.Doctype e k = turn heard.Skipped k.0 k.1 (doctype_heeds e)
+        by (token.Text text) e k = turn (text_heard (says_text line)) k.0 k.1 (text_heeds text e shows)
+        by (token.Start g) e k = absurd (tag_no g k)
+        by (token.End g) e k = absurd (tag_no g k)
+
+    -- a fault of the elements
+    pub heard_fails : (fault : Fault) (new : Lines) → Hears line t (Err (stop.Fault fault)) new → page_read syntax limits (bytes ++ piece) ≡ Err fault
+    heard_fails fault new hears = by t refl hears
+      where
+        Goal : Type 0
+        Goal = page_read syntax limits (bytes ++ piece) ≡ Err fault
+
+        by : (x : Token) → t ≡ x → Hears line x (Err (stop.Fault fault)) new → Goal
+        by token.More e k = absurd (let w : Err (stop.Fault fault) ≡ Ok heard.More = k.0 in cc)
+        by token.Skipped e k = absurd (let w : Err (stop.Fault fault) ≡ Ok heard.Skipped = k.0 in cc)
+        by token.Doctype e k = absurd (let w : Err (stop.Fault fault) ≡ Ok heard.Skipped = k.0 in cc)
+        by (token.Text text) e k = absurd (let w : Err (stop.Fault fault) ≡ Ok (text_heard (says_text line)) = k.0 in cc)
+        by (token.Start g) e k =
+            let are = subst (λ x. Are v.reading.setting.drops x items) e st.are in
+            hears_refused g are.0 (subst (λ x. scan.IsLast x st.scanned.next.at) e st.last) new fault k
+        by (token.End g) e k =
+            let are = subst (λ x. Are v.reading.setting.drops x items) e st.are in
+            hears_refused g are.0 (subst (λ x. scan.IsLast x st.scanned.next.at) e st.last) new fault k
+
+    -- the content after a tag is one of the syntax
+    pub content_is : (new : Lines) (tells : Told) → Hears line t (Ok (heard.Tag tells)) new → is_of_syntax mid.reading.setting.syntax (place_under new.levels).content ≡ true
+    content_is new tells hears = by t refl hears
+      where
+        Goal : Type 0
+        Goal = is_of_syntax mid.reading.setting.syntax (place_under new.levels).content ≡ true
+
+        text_no : (says : Bool) → ◌≡◌ {A = Result Heard Stop} (Ok (heard.Tag tells)) (Ok (text_heard says)) → ⊥
+        text_no true e = cc
+        text_no false e = cc
+
+        some_syntax : (is : List Item) → (setting_behind t (setting_of syntax limits nest) is).syntax ≡ syntax
+        some_syntax [] = refl
+        some_syntax (i ∷ is) = refl
+
+        mid_syntax : mid.reading.setting.syntax ≡ syntax
+        mid_syntax = ap (λ (x : Setting). x.syntax) (st.setting ∙ ap (λ x. setting_behind t x items) at.setting) ∙ some_syntax items
+
+        on : (m : Nesting) → Follows new m → new.syntax ≡ line.syntax → Goal
+        on m f e =
+            ap (λ (p : Place). is_of_syntax mid.reading.setting.syntax p.content) (place_is new.syntax new.levels m.line f.levels_are)
+            ∙ (ap (λ x. is_of_syntax mid.reading.setting.syntax (inside_of x m.line).content) (e ∙ at.syntax_is)
+            ∙ (ap (λ x. is_of_syntax x (inside_of syntax m.line).content) mid_syntax ∙ inside_is syntax m.line))
+
+        tagged : (g : Tag) (is : IsTag (tag_seen g) g.token g.at items) → (tag_seen g).closing ≡ true ⊎ (tag_seen g).closing ≡ false → HearsTag line g (Ok (heard.Tag tells)) new → Goal
+        tagged g is which k =
+            let gives : TagGives line (tag_seen g) (Ok tells) new = gives_of g new tells k in
+            let taken : Taken line nest is.item tells new = tag_steps line new nest is.item (tag_seen g) (Ok tells) at.follows is.is gives in
+            on taken.step.next taken.follows (⊎_elim (λ c. ends_syntax (subst (λ x. GivesBy x line (tag_seen g) (Ok tells) new) c gives)) (λ c. begins_syntax (subst (λ x. GivesBy x line (tag_seen g) (Ok tells) new) c gives)) which)
+          where
+            ends_syntax : Ends line (tag_seen g) tells new → new.syntax ≡ line.syntax
+            ends_syntax h = ap (λ (x : Lines). x.syntax) h.becomes
+
+            begins_syntax : Begins line (tag_seen g) tells new → new.syntax ≡ line.syntax
+            begins_syntax h = ap (λ (x : Lines). x.syntax) h.becomes
+
+        by : (x : Token) → t ≡ x → Hears line x (Ok (heard.Tag tells)) new → Goal
+        by token.More e k = absurd (let w : Ok (heard.Tag tells) ≡ Ok heard.More = k.0 in cc)
+        by token.Skipped e k = absurd (let w : Ok (heard.Tag tells) ≡ Ok heard.Skipped = k.0 in cc)
+        by token.Doctype e k = absurd (let w : Ok (heard.Tag tells) ≡ Ok heard.Skipped = k.0 in cc)
+        by (token.Text text) e k = absurd (text_no (says_text line) k.0)
+        by (token.Start g) e k = let are = subst (λ x. Are v.reading.setting.drops x items) e st.are in tagged g are.0 (inr are.1) k
+        by (token.End g) e k = let are = subst (λ x. Are v.reading.setting.drops x items) e st.are in tagged g are.0 (inl are.1) k
+
+    pub heard_stops : (stop : Stop) (other : Scanner) (new : Lines) → Hears line t (Err stop) new → ReadGives syntax limits bytes told piece line (Err stop) other new
+    heard_stops (stop.Fault fault) other new h = heard_fails fault new h
+    heard_stops stop.NoMemory other new h = tt
+
+  pub scan_stops : (piece : List ℕ) (stop : Stop) (other : Scanner) (new : Lines) → scan.Steps v s piece (Err stop) other → ReadGives syntax limits bytes told piece line (Err stop) other new
+  scan_stops piece (stop.Fault fault) other new f = scan_fails syntax limits bytes told v line at piece fault f
+  scan_stops piece stop.NoMemory other new f = tt
