@@ -7,4 +7,5 @@ pub mod TextSteps
 pub mod Heeding
 pub mod ReadTokens
 pub mod SeenTrees
-mod TreeSeen
+pub mod TreeSeen
+pub mod Advancing

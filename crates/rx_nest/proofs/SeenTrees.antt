@@ -61,7 +61,7 @@ module _ (t : StartTag) (hidden : Bool) (signs : List Sign) (inside nodes : Tree
       ∙ ap (λ x. signs ++ (begun t ∷ x)) (ap (λ x. x ++ (finished ∷ (signs_of nodes ++ rest))) inside_signs ∙ sym (append_assoc (signs_of (shown hidden inside)) (finished ∷ signs_of nodes) rest))
 
 module _ (t : StartTag) (hidden : Bool) (flag : Bool × Bool) (flags : Flags) (signs : List Sign) (inside nodes : Tree) (more : List Tree) where
-  rest : List Sign
+  abbrev rest : List Sign
   rest = finish_of flag.0 ++ left_signs flags more
 
   abbrev next : Bool → Sight

@@ -101,7 +101,7 @@ module _ (syntax : Syntax) where
       by false (before stood) rest h = h
       by false after rest h = h
 
-  ok_is : (a b : Step) → Ok {Step} {Kind} a ≡ Ok b → a ≡ b
+  ok_is : (a b : Step) → ◌≡◌ {A = Result Step Kind} (Ok a) (Ok b) → a ≡ b
   ok_is a b e = cc
 
   passes : (row : Option Kind) (a b : Step) → unless_refused row a ≡ Ok b → (row ≡ None) × (a ≡ b)
@@ -171,7 +171,7 @@ whole syntax limits bytes final h =
     let r = read_page syntax limits bytes final h in
     let d = document_tells syntax limits.depth (IsAt [] after) (λ k w. record { line_is = w.line_is; phase_is = w.phase_is }) (record { line_is = refl; phase_is = refl }) r.page.items r.tree r.page.document in
     let p = page_is_read syntax limits bytes r.tree r.page in
-    let same : p.final ≡ final = (let w : Ok {Progress} {Fault} p.final ≡ Ok final = sym p.is_read ∙ h in cc) in
+    let same : p.final ≡ final = (let w : ◌≡◌ {A = Result Progress Fault} (Ok p.final) (Ok final) = sym p.is_read ∙ h in cc) in
     let told_is : d.events ≡ final.told = ap (λ (x : Progress). x.told) same in
     record {
       tree = r.tree;

@@ -171,11 +171,6 @@ abbrev pub did_more : Did → Bool
 did_more did.More = true
 did_more _ = false
 
--- after this nothing else is answered
-abbrev pub FailsBy : Stop → Nested → Nested → Type 0
-FailsBy (stop.Fault fault) old new = (new.failed ≡ Some fault) × (new.spent ≡ old.spent) × (new.scan ≡ old.scan) × (new.line ≡ old.line) × (new.owed ≡ old.owed)
-FailsBy stop.NoMemory old new = (new.failed ≡ old.failed) × (new.spent ≡ true) × (new.scan ≡ old.scan) × (new.line ≡ old.line) × (new.owed ≡ old.owed)
-
 -- how many events the last tag still tells
 abbrev pub own_left : Option Own → ℕ
 own_left None = 0

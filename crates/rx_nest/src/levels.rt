@@ -1,5 +1,5 @@
 //! The open elements, kept for all levels from the start.
-ghost use Rattle.std.specs.Prelude.{◌≡◌, ◌∷◌, [], ◌<◌, OnOk, IfOk, MatchOption, length, drop};
+ghost use Rattle.std.specs.Prelude.{◌≡◌, ◌∷◌, [], ◌<◌, ◌≤◌, OnOk, IfOk, MatchOption, length, drop};
 ghost use Rattle.std.specs.Str.{chars};
 ghost use Rattle.rx_nest.specs.Levels as levels;
 
@@ -139,7 +139,8 @@ impl Levels {
 
     /// How many elements are open.
     pub(crate) fn depth(&self) -> usize
-        ensures { result ≡ length self.now.levels }
+        ensures depth { result ≡ length self.now.levels }
+        ensures fits { result ≤ self.now.room }
     {
         self.open
     }

@@ -80,10 +80,10 @@ impl Line {
     }
 
     /// How many elements are open.
-    pub(crate) fn depth(&self) -> usize
+    pub(crate) fn depth(&self) -> u32
         ensures { result ≡ length self.now.levels }
     {
-        self.levels.depth()
+        self.levels.depth() as u32
     }
 
     /// What may stand inside the innermost element.

@@ -58,9 +58,11 @@ impl Nest {
     pub fn new(alloc: Global, syntax: Syntax, limits: Limits) -> Result<Nest, NoMemory>
         ensures { IfOk result (λ n. nests.Stands syntax limits n [] []) }
     {
+        let scan = Scan::new(alloc, syntax, limits)?;
+        let line = Line::new(alloc, syntax, limits.depth)?;
         Ok(Nest {
-            scan: Scan::new(alloc, syntax, limits)?,
-            line: Line::new(alloc, syntax, limits.depth)?,
+            scan,
+            line,
             owed: Owed::PAID,
             failed: None,
             spent: false,
@@ -71,17 +73,7 @@ impl Nest {
     pub fn depth(&self) -> u32
         ensures depth { result ≡ length self.now.line.levels }
     {
-        self.line.depth() as u32
-    }
-
-    // Answers this from now on.
-    fn fail(&mut self, stop: Stop)
-        ensures { nests.FailsBy stop self.old self.new }
-    {
-        match stop {
-            Stop::Fault(fault) => self.failed = Some(fault),
-            Stop::NoMemory => self.spent = true,
-        }
+        self.line.depth()
     }
 
     // What is due first, then what the next bytes tell.
@@ -105,9 +97,13 @@ impl Nest {
                 self.owed = owed;
                 Ok((taken, did))
             }
-            Err(stop) => {
-                self.fail(stop);
-                Err(stop)
+            Err(Stop::Fault(fault)) => {
+                self.failed = Some(fault);
+                Err(Stop::Fault(fault))
+            }
+            Err(Stop::NoMemory) => {
+                self.spent = true;
+                Err(Stop::NoMemory)
             }
         }
     }

@@ -1,0 +1,47 @@
+use Rattle.std.proofs.Common.{◌≡◌, ◌≢◌, ◌∙◌, ℕ, List, ◌++◌, refl, sym, ap, subst, Bool, true, false, Option, Some, None, Ok, Err}
+use Rattle.rx_chars.specs.declared.syntax.Syntax.{Syntax}
+use Rattle.rx_grammar.specs.declared.limits.Limits.{Limits}
+use Rattle.rx_pages.specs.PageReader.{page_read}
+use Rattle.rx_nest.specs.declared.heard.Owed.{Owed}
+use Rattle.rx_nest.specs.declared.heard.Did.{Did}
+use Rattle.rx_nest.specs.Signs.{Sign}
+use Rattle.rx_nest.specs.Heard.{next_owed, first_of}
+use Rattle.rx_nest.specs.Nests.{Nested, Stands, Done, ReadGives}
+use Rattle.rx_nest.proofs.Advancing.{due_done, read_done, fault_at}
+use Rattle.rx_nest.proofs.nests.Nest.advance.Goals as goal
+
+none_of : (o : Option (Did × Owed)) → ((x : Did × Owed) → o ≢ Some x) → o ≡ None
+none_of None n = refl
+none_of (Some x) n = absurd (n x refl)
+
+-- src/nests.rt:92:13
+pub returns-in-Some-next_owed-clause-steps : goal.returns-in-Some-next_owed-clause-steps
+returns-in-Some-next_owed-clause-steps c syntax limits bytes signs st =
+    let old : Nested = record { scan = c.self.inside.scan; line = c.self.inside.line; owed = c.self.inside.owed; failed = c.self.inside.failed; spent = c.self.inside.spent } in
+    due_done syntax limits old bytes signs (subst (λ v. Stands syntax limits v bytes signs) (sym c.self.view_is) st) c.args.piece.now c.in-Some-next_owed.did c.in-Some-next_owed.owed
+    (record { scan = c.self.inside.scan; line = c.self.inside.line; owed = c.in-Some-next_owed.owed; failed = c.self.inside.failed; spent = c.self.inside.spent }) (sym c.next_owed.ensures ∙ c.in-Some-next_owed.is) refl
+
+-- src/nests.rt:98:17
+pub invariant_of-self-in-Ok : goal.invariant_of-self-in-Ok
+invariant_of-self-in-Ok c unfailed unspent =
+    let s = c.self.invariant unfailed unspent in
+    let heeds = c.in-Ok.ensures.reads s.syntax s.limits s.bytes s.told s.at in
+    record { syntax = s.syntax; limits = s.limits; bytes = _; told = _; at = heeds.at }
+
+-- src/nests.rt:80:5
+pub returns-in-Ok-clause-steps : goal.returns-in-Ok-clause-steps
+returns-in-Ok-clause-steps c syntax limits bytes signs st =
+    let old : Nested = record { scan = c.self.inside.scan; line = c.self.inside.line; owed = c.self.inside.owed; failed = c.self.inside.failed; spent = c.self.inside.spent } in
+    let new : Nested = record { scan = c.read.new.scan; line = c.read.new.line; owed = c.first_of-did.result.1; failed = c.self.inside.failed; spent = c.self.inside.spent } in
+    let was = subst (λ v. Stands syntax limits v bytes signs) (sym c.self.view_is) st in
+    let none = sym c.next_owed.ensures ∙ none_of c.next_owed.result c.in_default-next_owed.not-Some in
+    subst (λ d. Done syntax limits bytes signs c.args.piece.now c.in-Ok.taken d new) (sym (ap (λ (p : Did × Owed). p.0) c.first_of-did.ensures))
+    (read_done syntax limits old bytes signs was c.args.piece.now c.in-Ok.taken c.in-Ok.heard new none (c.in-Ok.ensures.reads syntax limits bytes was.told was.at) (ap (λ (p : Did × Owed). p.1) c.first_of-did.ensures) was.unfailed was.unspent)
+
+-- src/nests.rt:80:5
+pub returns-in-Err-Fault-clause-steps : goal.returns-in-Err-Fault-clause-steps
+returns-in-Err-Fault-clause-steps c syntax limits bytes signs st =
+    let was = subst (λ v. Stands syntax limits v bytes signs) (sym c.self.view_is) st in
+    let reads : page_read syntax limits (bytes ++ c.args.piece.now) ≡ Err c.in-Err-Fault.fault =
+    subst (λ x. ReadGives syntax limits bytes was.told c.args.piece.now c.self.inside.line (Err x) c.read.new.scan c.read.new.line) c.in-Err-Fault.field-0-is (c.in-Err-Fault.ensures.reads syntax limits bytes was.told was.at) in
+    (fault_at syntax limits (bytes ++ c.args.piece.now) c.in-Err-Fault.fault reads, record { failed = refl; unspent = was.unspent })
