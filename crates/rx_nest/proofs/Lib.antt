@@ -9,3 +9,4 @@ pub mod ReadTokens
 pub mod SeenTrees
 pub mod TreeSeen
 pub mod Advancing
+pub mod Endings

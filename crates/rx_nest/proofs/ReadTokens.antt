@@ -202,7 +202,7 @@ module _ (syntax : Syntax) (limits : Limits) (bytes : List ℕ) (told : List Eve
     text_signs true text e = ap (λ x. map said x) e
     text_signs false text e = refl
 
-    text_lends : (says : Bool) → has_text mid.what ≡ true → Lends (text_heard says) mid
+    text_lends : (says : Bool) → (has_text mid.what ≡ true) × (last_text mid ≢ []) → Lends (text_heard says) mid
     text_lends true h = h
     text_lends false h = tt
 
@@ -216,7 +216,7 @@ module _ (syntax : Syntax) (limits : Limits) (bytes : List ℕ) (told : List Eve
         let are = subst (λ x. Are v.reading.setting.drops x items) e st.are in
         let keeps = ap (λ (x : Setting). scan.keeps_first x.drops items) (sym at.setting) ∙ are.2 in
         quiet_heeds (text_heard (says_text line)) (λ hidden. said_by nest.phase hidden (chars text.now)) (texts_quiet syntax limits spot items nest (chars text.now) refl are.0 keeps) (ap ends_leading e)
-        (said_is syntax limits bytes told v line at (chars text.now) ∙ text_signs (says_text line) (chars text.now) is.0) (text_lends (says_text line) is.1) (never_more (says_text line))
+        (said_is syntax limits bytes told v line at (chars text.now) ∙ text_signs (says_text line) (chars text.now) is.0) (text_lends (says_text line) (is.1, λ h. are.1 (is.0 ∙ h))) (never_more (says_text line))
 
     doctype_heeds : t ≡ token.Doctype → Heeds syntax limits bytes told piece n heard.Skipped line mid line
     doctype_heeds e =

@@ -20,8 +20,7 @@ use Rattle.rx_grammar.specs.PageFaults.{Rows, first_row, tag_rows, start_rows, e
 use Rattle.rx_pages.specs.Nesting.{Event, begins, says, finishes, Nesting, not_begun, Step, going_on, told, text_step, doctype_step, over, line_above, begun_under, ended_by_start, ended_under, ended_by_end, tag_passes, unless_refused, step_by, nest_step, Goes, stands, goes, IsAt}
 use Rattle.rx_pages.specs.PageReader.{Progress, page_read, end_of}
 use Rattle.rx_pages.specs.Laws.{IsPageRead}
-use Rattle.rx_pages.proofs.Documents.{document_tells}
-use Rattle.rx_pages.proofs.PageRead.{page_is_read}
+use Rattle.rx_pages.proofs.PageRead.{page_is_told}
 use Rattle.rx_pages.proofs.OnlyPages.{read_page}
 use Rattle.rx_nest.specs.Signs.{sees, nothing_seen, signs_of}
 use Rattle.rx_nest.proofs.SeenTrees.{Ends, tree_is_seen}
@@ -169,12 +168,11 @@ pub record Whole (syntax : Syntax) (limits : Limits) (bytes : List ℕ) (final :
 pub whole : (syntax : Syntax) (limits : Limits) (bytes : List ℕ) (final : Progress) → end_of (page_read syntax limits bytes) ≡ Ok final → Whole syntax limits bytes final
 whole syntax limits bytes final h =
     let r = read_page syntax limits bytes final h in
-    let d = document_tells syntax limits.depth (IsAt [] after) (λ k w. record { line_is = w.line_is; phase_is = w.phase_is }) (record { line_is = refl; phase_is = refl }) r.page.items r.tree r.page.document in
-    let p = page_is_read syntax limits bytes r.tree r.page in
+    let p = page_is_told syntax limits bytes r.tree r.page in
     let same : p.final ≡ final = (let w : ◌≡◌ {A = Result Progress Fault} (Ok p.final) (Ok final) = sym p.is_read ∙ h in cc) in
-    let told_is : d.events ≡ final.told = ap (λ (x : Progress). x.told) same in
+    let told_is : p.tells.events ≡ final.told = sym p.told_is ∙ ap (λ (x : Progress). x.told) same in
     record {
       tree = r.tree;
       page = r.page;
-      shows = tree_is_seen final.told r.tree (subst (λ x. Ends 0 x) told_is (goes_end syntax limits.depth d.going (λ stood e. refl))) r.trees;
+      shows = tree_is_seen final.told r.tree (subst (λ x. Ends 0 x) told_is (goes_end syntax limits.depth p.tells.going (λ stood e. refl))) r.trees;
     }

@@ -1,5 +1,5 @@
 -- What a nest stands for, and what its calls answer of a page's bytes.
-use Rattle.std.specs.Prelude.{◌≡◌, ◌⊎◌, ℕ, ◌+◌, ◌≤◌, ◌<◌, Bool, true, false, List, [], ◌∷◌, ◌++◌, map, length, take, Option, Some, None, Result, Ok, Err}
+use Rattle.std.specs.Prelude.{◌≡◌, ◌≢◌, ◌⊎◌, ℕ, ◌+◌, ◌≤◌, ◌<◌, Bool, true, false, List, [], ◌∷◌, ◌++◌, map, length, take, Option, Some, None, Result, Ok, Err}
 use Rattle.std.specs.Str.{chars}
 use Rattle.rx_terms.specs.Text.{Chars}
 use Rattle.rx_chars.specs.declared.syntax.Syntax.{Syntax}
@@ -12,7 +12,7 @@ use Rattle.rx_grammar.specs.PageFaults.{FaultAt}
 use Rattle.rx_reader.specs.TagReader.{parts_of}
 use Rattle.rx_pages.specs.Nesting as nesting
 use Rattle.rx_pages.specs.Nesting.{Nesting, content_at}
-use Rattle.rx_pages.specs.PageReader.{Reading, page_read, may_lead}
+use Rattle.rx_pages.specs.PageReader.{Progress, Reading, page_read, end_of, may_lead}
 use Rattle.rx_tags.specs.declared.stops.Stop.{Stop}
 use Rattle.rx_tags.specs.declared.stops.Stop.TheVariants as stop
 use Rattle.rx_tags.specs.declared.tags.Tag.{Tag}
@@ -98,7 +98,7 @@ heard_signs (heard.Tag told) v = finishing told.ends ++ own_signs told.own (last
 abbrev pub Lends : Heard → Scanner → Type 0
 Lends heard.More v = Unit {0}
 Lends heard.Skipped v = Unit {0}
-Lends heard.Text v = has_text v.what ≡ true
+Lends heard.Text v = (has_text v.what ≡ true) × (last_text v ≢ [])
 Lends (heard.Tag told) v = v.what ≡ what.Tag
 
 abbrev pub is_tag_heard : Heard → Bool
@@ -164,7 +164,7 @@ did_signs did.Finish v = finished ∷ []
 
 abbrev pub DidLends : Did → Scanner → Type 0
 DidLends did.Begin v = v.what ≡ what.Tag
-DidLends did.Text v = has_text v.what ≡ true
+DidLends did.Text v = (has_text v.what ≡ true) × (last_text v ≢ [])
 DidLends _ v = Unit {0}
 
 abbrev pub did_more : Did → Bool
@@ -224,23 +224,49 @@ abbrev pub is_more : Event → Bool
 is_more event.More = true
 is_more _ = false
 
+-- text isn't empty
+abbrev pub Speaks : Event → Type 0
+Speaks (event.Text text) = chars text.now ≢ []
+Speaks _ = Unit {0}
+
 -- the event of what was done
 abbrev pub Shown : Did → Scanner → Event → Type 0
 Shown did.More v e = e ≡ event.More
 Shown did.Skipped v e = e ≡ event.Skipped
 Shown did.Finish v e = e ≡ event.Finish
-Shown did.Begin v e = v.what ≡ what.Tag → event_signs e ≡ did_signs did.Begin v
-Shown did.Text v e = has_text v.what ≡ true → event_signs e ≡ did_signs did.Text v
+Shown did.Begin v e = (is_more e ≡ false) × (v.what ≡ what.Tag → event_signs e ≡ did_signs did.Begin v)
+Shown did.Text v e = (is_more e ≡ false) × (has_text v.what ≡ true → event_signs e ≡ did_signs did.Text v)
 
 -- A step has taken the first n bytes of the piece, and shows what the page's tree has next.
 pub record Stepped (syntax : Syntax) (limits : Limits) (bytes : List ℕ) (signs : List Sign) (piece : List ℕ) (n : ℕ) (e : Event) (new : Nested) : Type 0 where
   pub fits : n ≤ length piece
   pub stands : Stands syntax limits new (bytes ++ take n piece) (signs ++ event_signs e)
+  pub speaks : Speaks e
   pub all : is_more e ≡ true → n ≡ length piece
 
 abbrev pub StepGives : Syntax → Limits → List ℕ → List Sign → List ℕ → Result (ℕ × Event) Stop → Nested → Type 0
 StepGives syntax limits bytes signs piece (Ok r) new = Stepped syntax limits bytes signs piece r.0 r.1 new
 StepGives syntax limits bytes signs piece (Err stop) new = FaultGives syntax limits (bytes ++ piece) stop new
+
+-- Whatever the nest stands for: it answers only where neither a fault nor want of memory was answered; a fault comes again, and want of memory.
+abbrev pub Keeps : Nested → List ℕ → Result (ℕ × Event) Stop → Nested → Type 0
+Keeps old piece (Ok r) new = (old.failed ≡ None) × (old.spent ≡ false) × (new.failed ≡ None) × (new.spent ≡ false) × Takes piece r.0 (is_more r.1) old.owed new.owed
+Keeps old piece (Err (stop.Fault fault)) new = (old.spent ≡ false) × ((old.failed ≡ None) ⊎ (old.failed ≡ Some fault)) × (new.failed ≡ Some fault) × (new.spent ≡ false)
+Keeps old piece (Err stop.NoMemory) new = ((old.spent ≡ true) ⊎ (old.failed ≡ None)) × (new.spent ≡ true)
+
+abbrev pub KeepsEnd : Nested → Result (Unit {0}) Stop → Nested → Type 0
+KeepsEnd old (Ok done) new = (old.failed ≡ None) × (old.spent ≡ false) × (new ≡ old)
+KeepsEnd old (Err (stop.Fault fault)) new = (old.spent ≡ false) × ((old.failed ≡ None) ⊎ (old.failed ≡ Some fault)) × (new.failed ≡ Some fault) × (new.spent ≡ false)
+KeepsEnd old (Err stop.NoMemory) new = (old.spent ≡ true) × (new ≡ old)
+
+-- the end of the page's reading, by its fault if it has one
+abbrev pub EndsWith : Syntax → Limits → List ℕ → List nesting.Event → Option Fault → Type 0
+EndsWith syntax limits bytes told (Some fault) = end_of (page_read syntax limits bytes) ≡ Err fault
+EndsWith syntax limits bytes told None = (final : Progress) × (end_of (page_read syntax limits bytes) ≡ Ok final) × (final.told ≡ told)
+
+abbrev pub IfNoFault : Option Fault → Type 0 → Type 0
+IfNoFault None holds = holds
+IfNoFault (Some fault) holds = Unit {0}
 
 -- The bytes are a page, and what was shown, with what is owed, is its tree.
 pub record Ended (syntax : Syntax) (limits : Limits) (bytes : List ℕ) (signs : List Sign) (owed : List Sign) : Type 0 where
@@ -249,5 +275,6 @@ pub record Ended (syntax : Syntax) (limits : Limits) (bytes : List ℕ) (signs :
   pub shown : signs ++ owed ≡ signs_of tree
 
 abbrev pub EndGives : Syntax → Limits → List ℕ → List Sign → Nested → Result (Unit {0}) Stop → Nested → Type 0
-EndGives syntax limits bytes signs old (Ok done) new = Ended syntax limits bytes signs (owed_signs old.owed (last_tag old.scan)) × (new ≡ old)
-EndGives syntax limits bytes signs old (Err stop) new = FaultGives syntax limits bytes stop new
+EndGives syntax limits bytes signs old (Ok done) new = Ended syntax limits bytes signs (owed_signs old.owed (last_tag old.scan))
+EndGives syntax limits bytes signs old (Err (stop.Fault fault)) new = FaultAt syntax limits bytes fault
+EndGives syntax limits bytes signs old (Err stop.NoMemory) new = ⊥

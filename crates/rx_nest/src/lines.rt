@@ -1,5 +1,5 @@
 //! What a tag does to the open elements.
-ghost use Rattle.std.specs.Prelude.{◌≡◌, OnOk, true, false, nat_le, length, not};
+ghost use Rattle.std.specs.Prelude.{◌≡◌, OnOk, true, false, nat_le, length, not, ◌&&◌};
 ghost use Rattle.rx_grammar.specs.PageFaults.{first_row};
 ghost use Rattle.rx_tags.specs.Seen.{tag_seen};
 ghost use Rattle.rx_nest.specs.Levels as levels;
@@ -83,6 +83,7 @@ impl Line {
     pub(crate) fn depth(&self) -> u32
         ensures { result ≡ length self.now.levels }
     {
+        let _most = self.depth;
         self.levels.depth() as u32
     }
 
@@ -105,6 +106,13 @@ impl Line {
         ensures { result ≡ not (lines.is_none_open self.now.levels) }
     {
         self.levels.depth() > 0
+    }
+
+    /// Whether the root has ended.
+    pub(crate) fn is_over(&self) -> bool
+        ensures { result ≡ (self.now.begun && lines.is_none_open self.now.levels) }
+    {
+        self.begun && !self.is_open()
     }
 
     // Why the start tag isn't taken, whatever it ends.

@@ -1,5 +1,8 @@
 //! The elements of a page, told in pieces.
 ghost use Rattle.std.specs.Prelude.{◌≡◌, ℕ, List, [], IfOk, length};
+ghost use Rattle.rx_chars.specs.declared.syntax.Syntax as syntaxes;
+ghost use Rattle.rx_grammar.specs.declared.limits.Limits as limit;
+ghost use Rattle.rx_pages.specs.Nesting as nesting;
 ghost use Rattle.rx_nest.specs.Nests as nests;
 
 use crate::heard::{Did, Owed, first_of, next_owed};
@@ -50,8 +53,6 @@ impl Model for Nest {
 }
 
 impl Nest {
-    ghost use Rattle.rx_chars.specs.declared.syntax.Syntax as syntaxes;
-    ghost use Rattle.rx_grammar.specs.declared.limits.Limits as limit;
     ghost use Rattle.rx_nest.specs.Signs.{Sign};
 
     /// Before the first byte of a page. It takes the memory of all levels.
@@ -124,6 +125,69 @@ impl Nest {
                 Token::Text(text) => Event::Text(text),
                 _ => Event::Skipped,
             },
+        }
+    }
+}
+
+impl Nest {
+    ghost use Rattle.std.specs.Borrow.{sem};
+    ghost use Rattle.std.specs.Io.BufRead.{Rests};
+    ghost use Rattle.rx_nest.specs.contracts.nests.Nest.{the_row};
+    ghost use Rattle.rx_nest.specs.Signs.{Sign};
+
+    /// Takes bytes of the piece, and tells how many, and what the page's tree has next: up to the end of a token, or all
+    /// of them; or none where the last tag still tells something, as the end of an element whose end tag is omitted.
+    ///
+    /// `More` comes only where the whole piece was taken. Each other event takes a byte, or lowers the number of those
+    /// that the last tag still tells. A fault comes exactly where the page has one in the bytes so far, and then at each
+    /// later call; it is the page's fault, whatever follows. After want of memory nothing else is answered.
+    pub fn step(&mut self, piece: &[u8]) -> Result<(usize, Event<'_>), Stop>
+        ensures* after { sem 𝓛 (Rests the_row self.entry (λ new. nests.Keeps self.old piece.now result new × ((syntax : syntaxes.Syntax) (limits : limit.Limits) (bytes : List ℕ) (signs : List Sign) → nests.Stands syntax limits self.old bytes signs → nests.StepGives syntax limits bytes signs piece.now result new))) }
+    {
+        let (taken, did) = match self.advance(piece) {
+            Ok(done) => done,
+            Err(stop) => return Err(stop),
+        };
+        Ok((taken, self.shown(did)))
+    }
+
+    /// The page's end. `Unended` comes exactly where the bytes so far are no page and no earlier fault stands in them,
+    /// and then at each later call. After `Ok` what was told, with what the last tag still tells, is the page's tree.
+    pub fn end(&mut self) -> Result<(), Stop>
+        ensures ends { (syntax : syntaxes.Syntax) (limits : limit.Limits) (bytes : List ℕ) (signs : List Sign) → nests.Stands syntax limits self.old bytes signs → nests.EndGives syntax limits bytes signs self.old result self.new }
+        ensures keeps { nests.KeepsEnd self.old result self.new }
+    {
+        if self.spent {
+            return Err(Stop::NoMemory);
+        }
+        if let Some(fault) = self.failed {
+            return Err(Stop::Fault(fault));
+        }
+        if let Some(fault) = ending(&mut self.scan, &self.line) {
+            self.failed = Some(fault);
+            return Err(Stop::Fault(fault));
+        }
+        Ok(())
+    }
+}
+
+// The fault of the page's end, if it has one.
+fn ending(scan: &mut Scan, line: &Line) -> Option<Fault>
+    requires { nests.Somewhere scan.old line.now }
+    ensures ends { (syntax : syntaxes.Syntax) (limits : limit.Limits) (bytes : List ℕ) (told : List nesting.Event) → nests.At syntax limits bytes told scan.old line.now → nests.EndsWith syntax limits bytes told result }
+    ensures keeps { nests.IfNoFault result (scan.new ≡ scan.old) }
+{
+    match scan.end() {
+        Err(Stop::Fault(fault)) => Some(fault),
+        Err(Stop::NoMemory) => None,
+        Ok(()) if line.is_over() => None,
+        Ok(()) => {
+            let at = scan.place();
+            Some(Fault {
+                kind: Kind::Unended,
+                token: at,
+                at,
+            })
         }
     }
 }

@@ -6,19 +6,27 @@ use Rattle.rx_chars.specs.Characters.{IsRead}
 use Rattle.rx_grammar.specs.declared.faults.Kind.TheVariants.{Unended}
 use Rattle.rx_grammar.specs.declared.limits.Limits.{Limits}
 use Rattle.rx_grammar.specs.Trees.{Tree}
+use Rattle.rx_grammar.specs.Items.{Item}
 use Rattle.rx_grammar.specs.Pages.{Page, has_no_nul}
 use Rattle.rx_grammar.specs.Begun.{Phase, after}
-use Rattle.rx_pages.specs.Nesting.{IsAt}
+use Rattle.rx_pages.specs.Nesting.{IsAt, told_trees}
 use Rattle.rx_pages.specs.PageReader.{Progress, nothing_read, page_on, page_read, end_of, is_over, fault_in}
 use Rattle.rx_pages.specs.Laws.{PageIsRead}
-use Rattle.rx_pages.proofs.Documents.{document_tells}
+use Rattle.rx_pages.proofs.Documents.{TellsTree, document_tells}
 use Rattle.rx_pages.proofs.ByteSteps.{progress_at}
 use Rattle.rx_pages.proofs.TokenWalk.{stood}
 use Rattle.rx_pages.proofs.TokensWalk.{flags_behind}
 use Rattle.rx_pages.proofs.FrontRead.{front_is_read}
 
-pub page_is_read : (syntax : Syntax) (limits : Limits) (bytes : List ℕ) (tree : Tree) → Page syntax limits bytes tree → PageIsRead syntax limits bytes tree
-page_is_read syntax limits bytes tree page =
+-- A page is read to its end, and what its tokens tell on the way is told.
+pub record PageTold (syntax : Syntax) (limits : Limits) (bytes : List ℕ) (items : List Item) (tree : Tree) : Type 0 where
+  pub tells : TellsTree syntax limits.depth (IsAt [] after) items tree
+  pub final : Progress
+  pub is_read : end_of (page_read syntax limits bytes) ≡ Ok final
+  pub told_is : final.told ≡ tells.events
+
+pub page_is_told : (syntax : Syntax) (limits : Limits) (bytes : List ℕ) (tree : Tree) (page : Page syntax limits bytes tree) → PageTold syntax limits bytes page.items tree
+page_is_told syntax limits bytes tree page =
     let d = document_tells syntax limits.depth (IsAt [] after) (λ k h. record { line_is = h.line_is; phase_is = h.phase_is }) (record { line_is = refl; phase_is = refl }) page.items tree page.document in
     let all : page.entries ++ [] ≡ page.entries = append-nil page.entries in
     let r =
@@ -27,7 +35,13 @@ page_is_read syntax limits bytes tree page =
     let final : Progress = progress_at (length bytes) [] r.started r.after_return (stood r.place d.events (flags_behind page.items false false).0 (flags_behind page.items false false).1 []) in
     let read : page_read syntax limits bytes ≡ Ok final = ap (λ b. page_on syntax limits (Ok nothing_read) b) (sym (append-nil bytes)) ∙ r.is_read [] in
     record {
+      tells = d;
       final = final;
       is_read = ap end_of read ∙ ap (λ (p : Phase). if is_over p then Ok final else Err (fault_in final.now.scan Unended)) r.is_meant.phase_is;
-      trees = d.tree_is;
+      told_is = refl;
     }
+
+pub page_is_read : (syntax : Syntax) (limits : Limits) (bytes : List ℕ) (tree : Tree) → Page syntax limits bytes tree → PageIsRead syntax limits bytes tree
+page_is_read syntax limits bytes tree page =
+    let p = page_is_told syntax limits bytes tree page in
+    record { final = p.final; is_read = p.is_read; trees = ap told_trees p.told_is ∙ p.tells.tree_is }

@@ -1,0 +1,131 @@
+-- The end of a page.
+use Rattle.std.proofs.Common.{◌≡◌, ◌≢◌, ◌∙◌, ℕ, ◌+◌, Bool, true, false, List, [], ◌∷◌, ◌++◌, refl, sym, ap, subst, length, append-nil, Option, Some, None, Result, Ok, Err, arith}
+use Rattle.std.specs.Prelude.{◌-◌, ◌&&◌, not, map, take, if◌then◌else◌}
+use Rattle.std.specs.Str.{chars}
+use Rattle.rx_terms.specs.Text.{Chars}
+use Rattle.rx_chars.specs.declared.syntax.Syntax.{Syntax}
+use Rattle.rx_reader.proofs.Bools.{by_test}
+use Rattle.rx_grammar.specs.declared.faults.Fault.{Fault}
+use Rattle.rx_grammar.specs.declared.faults.Kind.TheVariants.{Unended}
+use Rattle.rx_grammar.specs.declared.limits.Limits.{Limits}
+use Rattle.rx_grammar.specs.Begun.{Phase, before, within, after}
+use Rattle.rx_grammar.specs.PageFaults.{FaultAt}
+use Rattle.rx_pages.specs.Nesting.{Event}
+use Rattle.rx_pages.specs.PageReader.{Scanning, Reading, Progress, page_read, end_of, may_end, is_over, is_none_left, fault_in, token_at}
+use Rattle.rx_pages.proofs.OnlyPages.{found_fault}
+use Rattle.rx_tags.specs.declared.stops.Stop.{Stop}
+use Rattle.rx_tags.specs.declared.stops.Stop.TheVariants as stops
+use Rattle.rx_scan.specs.Scanner.{Scanner}
+use Rattle.rx_scan.specs.Steps as scan
+use Rattle.rx_nest.specs.Lines.{Lines, is_none_open}
+use Rattle.rx_nest.specs.Levels.{Levels}
+use Rattle.rx_nest.specs.Signs.{Sign, said, begun, finished, sees, nothing_seen, signs_of}
+use Rattle.rx_nest.specs.Follows.{flags_of, phase_at}
+use Rattle.rx_nest.specs.declared.heard.Did.{Did}
+use Rattle.rx_nest.specs.declared.heard.Did.TheVariants as did
+use Rattle.rx_nest.specs.declared.nests.Event as shown
+use Rattle.rx_nest.specs.declared.nests.Event.TheVariants as event
+use Rattle.rx_nest.specs.Nests.{Nested, At, Stands, Done, DidLends, did_signs, did_more, event_signs, is_more, Speaks, Shown, KeepsOn, Keeps, Stepped, EndsWith, Ended, last_tag, last_text, owed_signs}
+use Rattle.rx_nest.proofs.TreeSeen.{whole}
+
+module _ (syntax : Syntax) (limits : Limits) (bytes : List ℕ) (told : List Event) (v : Scanner) (line : Lines) (at : At syntax limits bytes told v line) where
+  progress : Progress
+  progress = record { now = at.now; told = told }
+
+  abbrev over_now : Bool
+  over_now = line.begun && is_none_open line.levels
+
+  phase_over : is_over at.now.nest.phase ≡ over_now
+  phase_over = ap is_over at.follows.phase_is ∙ by line.begun line.levels
+    where
+      by : (b : Bool) (levels : Levels) → is_over (phase_at b levels at.follows.stood) ≡ (b && is_none_open levels)
+      by true [] = refl
+      by true (level ∷ levels) = refl
+      by false levels = refl
+
+  end_is : (b : Bool) → may_end at.now ≡ b → end_of (page_read syntax limits bytes) ≡ (if b then Ok (record { now = at.now; told = told }) else Err (fault_in at.now.scan Unended))
+  end_is b e = ap end_of at.read ∙ ap (λ x. if x then Ok (record { now = at.now; told = told }) else Err (fault_in at.now.scan Unended)) e
+
+  pub unwhole_ends : (fault : Fault) → fault ≡ fault_in at.now.scan Unended → (scan.IsWhole at.now.scan → ⊥) → EndsWith syntax limits bytes told (Some fault)
+  unwhole_ends fault is part = end_is false (by at.now.scan.held at.now.scan.run refl refl) ∙ ap (λ x. Err x) (sym is)
+    where
+      by : (held : _) (run : _) → at.now.scan.held ≡ held → at.now.scan.run ≡ run → (is_none_left held && is_none_left run && is_over at.now.nest.phase) ≡ false
+      by (x ∷ held) run h r = refl
+      by [] (x ∷ run) h r = refl
+      by [] [] h r = absurd (part (record { run = r; held = h }))
+
+  whole_end : scan.IsWhole at.now.scan → may_end at.now ≡ over_now
+  whole_end w = rw (w.run, w.held) phase_over
+
+  pub open_ends : scan.IsWhole at.now.scan → over_now ≡ false → (n : ℕ) → n ≡ at.now.scan.at → EndsWith syntax limits bytes told (Some (record { kind = Unended; token = n; at = n }))
+  open_ends w h n e = end_is false (whole_end w ∙ h) ∙ ap (λ x. Err x) (fault_is ∙ ap (λ x. record { kind = Unended; token = x; at = x }) (sym e))
+    where
+      token_is : token_at at.now.scan ≡ at.now.scan.at
+      token_is = rw (w.run, w.held) (omega arith)
+
+      fault_is : fault_in at.now.scan Unended ≡ record { kind = Unended; token = at.now.scan.at; at = at.now.scan.at }
+      fault_is = ap (λ x. record { kind = Unended; token = x; at = at.now.scan.at }) token_is
+
+  pub over_ends : scan.IsWhole at.now.scan → over_now ≡ true → EndsWith syntax limits bytes told None
+  over_ends w h = (record { now = at.now; told = told }, end_is true (whole_end w ∙ h), refl)
+
+-- what was told at a page's end is its tree
+module _ (syntax : Syntax) (limits : Limits) (old : Nested) (bytes : List ℕ) (signs : List Sign) (st : Stands syntax limits old bytes signs) where
+  pub fault_ends : (fault : Fault) → EndsWith syntax limits bytes st.told (Some fault) → FaultAt syntax limits bytes fault
+  fault_ends fault h = found_fault syntax limits bytes fault h
+
+  pub page_ends : EndsWith syntax limits bytes st.told None → Ended syntax limits bytes signs (owed_signs old.owed (last_tag old.scan))
+  page_ends h =
+      let w = whole syntax limits bytes h.0 h.1 in
+      let same = sym st.sight ∙ (ap (λ x. sees nothing_seen x) (sym h.2) ∙ w.shows) in
+      record { tree = w.tree; page = w.page; shown = ap (λ x. x.signs) same }
+
+-- an event shows what was done
+not_said : (text : Chars) → map said text ≢ [] → text ≢ []
+not_said [] n h = n refl
+not_said (c ∷ text) n h = absurd (cc)
+
+some_said : (text : Chars) → text ≢ [] → map said text ≢ []
+some_said [] n h = n refl
+some_said (c ∷ text) n h = absurd (cc)
+
+speaks_so : (e : shown.Event) → event_signs e ≢ [] → Speaks e
+speaks_so (event.Text text) n = not_said (chars text.now) n
+speaks_so event.More n = tt
+speaks_so (event.Begin t) n = tt
+speaks_so event.Finish n = tt
+speaks_so event.Skipped n = tt
+
+record Tells (d : Did) (v : Scanner) (e : shown.Event) : Type 0 where
+  signs_are : event_signs e ≡ did_signs d v
+  speaks : Speaks e
+  more : is_more e ≡ did_more d
+
+tells : (d : Did) (v : Scanner) (e : shown.Event) → DidLends d v → Shown d v e → Tells d v e
+tells did.More v e l s = subst (λ x. Tells did.More v x) (sym s) (record { signs_are = refl; speaks = tt; more = refl })
+tells did.Skipped v e l s = subst (λ x. Tells did.Skipped v x) (sym s) (record { signs_are = refl; speaks = tt; more = refl })
+tells did.Finish v e l s = subst (λ x. Tells did.Finish v x) (sym s) (record { signs_are = refl; speaks = tt; more = refl })
+tells did.Begin v e l s = let is = s.1 l in record { signs_are = is; speaks = speaks_so e (λ h. let w : begun (last_tag v) ∷ [] ≡ [] = sym is ∙ h in absurd (cc)); more = s.0 }
+tells did.Text v e l s = let is = s.1 l.0 in record { signs_are = is; speaks = speaks_so e (λ h. some_said (last_text v) l.1 (sym is ∙ h)); more = s.0 }
+
+pub stepped : (syntax : Syntax) (limits : Limits) (bytes : List ℕ) (signs : List Sign) (piece : List ℕ) (n : ℕ) (d : Did) (e : shown.Event) (new : Nested) → Done syntax limits bytes signs piece n d new → Shown d new.scan e → Stepped syntax limits bytes signs piece n e new
+stepped syntax limits bytes signs piece n d e new done s =
+    let t = tells d new.scan e done.lends s in
+    record {
+      fits = done.fits;
+      stands = subst (λ x. Stands syntax limits new (bytes ++ take n piece) (signs ++ x)) (sym t.signs_are) done.stands;
+      speaks = t.speaks;
+      all = λ m. done.all (sym t.more ∙ m);
+    }
+
+-- an event is nothing exactly where nothing was done
+pub shown_more : (d : Did) (v : Scanner) (e : shown.Event) → Shown d v e → is_more e ≡ did_more d
+shown_more did.More v e s = ap is_more s
+shown_more did.Skipped v e s = ap is_more s
+shown_more did.Finish v e s = ap is_more s
+shown_more did.Begin v e s = s.0
+shown_more did.Text v e s = s.0
+
+pub keeps_stop : (old : Nested) (piece : List ℕ) (stop : Stop) (new : Nested) → KeepsOn old piece (Err stop) new → Keeps old piece (Err stop) new
+keeps_stop old piece (stops.Fault fault) new k = k
+keeps_stop old piece stops.NoMemory new k = k

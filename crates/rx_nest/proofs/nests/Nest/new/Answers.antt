@@ -1,0 +1,26 @@
+use Rattle.std.proofs.Common.{◌≡◌, refl, List, [], true, false}
+use Rattle.rx_nest.specs.Nests.{Somewhere}
+use Rattle.rx_nest.proofs.Advancing.{new_at}
+use Rattle.rx_nest.proofs.nests.Nest.new.Goals as goal
+
+pub invariant_of-result : goal.invariant_of-result
+invariant_of-result c unfailed unspent =
+    record {
+      syntax = c.args.syntax;
+      limits = c.args.limits;
+      bytes = [];
+      told = [];
+      at = new_at c.args.syntax c.args.limits c.in_ok-scan.scan c.in_ok-line.line c.in_ok-scan.ensures.setting c.in_ok-scan.ensures.stands c.in_ok-line.ensures;
+    }
+
+pub returns : goal.returns
+returns c =
+    let at = new_at c.args.syntax c.args.limits c.in_ok-scan.scan c.in_ok-line.line c.in_ok-scan.ensures.setting c.in_ok-scan.ensures.stands c.in_ok-line.ensures in
+    record {
+      told = [];
+      at = at;
+      sight = rw c.in_ok-line.ensures refl;
+      lends = λ h. absurd (cc);
+      unfailed = refl;
+      unspent = refl;
+    }
