@@ -3,13 +3,10 @@ use Rattle.std.proofs.Common.{◌≡◌, ◌∙◌, ℕ, zero, suc, ◌<◌, ◌
 use Rattle.std.proofs.lemmas.Bool.Decides.{nat_tests}
 use Rattle.std.specs.Prelude.{◌-◌, nat_lt, take, map, if◌then◌else◌}
 use Rattle.rx_chars.specs.declared.syntax.Syntax.{Syntax}
-use Rattle.rx_grammar.specs.declared.faults.Fault.{Fault}
 use Rattle.rx_grammar.specs.declared.limits.Limits.{Limits}
 use Rattle.rx_grammar.specs.Trees.{StartTag}
-use Rattle.rx_grammar.specs.PageFaults.{FaultAt}
 use Rattle.rx_pages.specs.Nesting.{Event}
-use Rattle.rx_pages.specs.PageReader.{page_read, end_of, no_bytes, no_page}
-use Rattle.rx_pages.proofs.OnlyPages.{found_fault}
+use Rattle.rx_pages.specs.PageReader.{no_bytes, no_page}
 use Rattle.rx_scan.specs.declared.answers.What.TheVariants as what
 use Rattle.rx_scan.specs.Scanner.{Scanner}
 use Rattle.rx_scan.specs.Steps as scan
@@ -200,7 +197,3 @@ module _ (syntax : Syntax) (limits : Limits) (old : Nested) (bytes : List ℕ) (
         lends = f.lends;
         all = λ m. heeds.all (sym f.more ∙ m);
       }
-
--- a fault of the reading is one of the grammar
-pub fault_at : (syntax : Syntax) (limits : Limits) (bytes : List ℕ) (fault : Fault) → page_read syntax limits bytes ≡ Err fault → FaultAt syntax limits bytes fault
-fault_at syntax limits bytes fault h = found_fault syntax limits bytes fault (ap end_of h)

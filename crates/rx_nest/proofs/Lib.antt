@@ -10,3 +10,4 @@ pub mod SeenTrees
 pub mod TreeSeen
 pub mod Advancing
 pub mod Endings
+pub mod Sizes

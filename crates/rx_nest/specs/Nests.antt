@@ -203,14 +203,19 @@ pub record Done (syntax : Syntax) (limits : Limits) (bytes : List ℕ) (signs : 
   pub lends : DidLends d new.scan
   pub all : did_more d ≡ true → n ≡ length piece
 
--- a fault of the grammar in the bytes so far
-abbrev pub FaultGives : Syntax → Limits → List ℕ → Stop → Nested → Type 0
-FaultGives syntax limits bytes (stop.Fault fault) new = FaultAt syntax limits bytes fault × Fallen fault new
-FaultGives syntax limits bytes stop.NoMemory new = new.spent ≡ true
+-- A byte of the piece decides the page's fault, whatever follows.
+pub record Faults (syntax : Syntax) (limits : Limits) (bytes piece : List ℕ) (fault : Fault) : Type 0 where
+  pub stays : (rest : List ℕ) → FaultAt syntax limits ((bytes ++ piece) ++ rest) fault
+  pub from : length bytes ≤ fault.at
+  pub within : fault.at < length (bytes ++ piece)
+
+abbrev pub FaultGives : Syntax → Limits → List ℕ → List ℕ → Stop → Nested → Type 0
+FaultGives syntax limits bytes piece (stop.Fault fault) new = Faults syntax limits bytes piece fault × Fallen fault new
+FaultGives syntax limits bytes piece stop.NoMemory new = new.spent ≡ true
 
 abbrev pub AdvanceGives : Syntax → Limits → List ℕ → List Sign → List ℕ → Result (ℕ × Did) Stop → Nested → Type 0
 AdvanceGives syntax limits bytes signs piece (Ok r) new = Done syntax limits bytes signs piece r.0 r.1 new
-AdvanceGives syntax limits bytes signs piece (Err stop) new = FaultGives syntax limits (bytes ++ piece) stop new
+AdvanceGives syntax limits bytes signs piece (Err stop) new = FaultGives syntax limits bytes piece stop new
 
 -- what an event shows
 abbrev pub event_signs : Event → List Sign
@@ -246,7 +251,7 @@ pub record Stepped (syntax : Syntax) (limits : Limits) (bytes : List ℕ) (signs
 
 abbrev pub StepGives : Syntax → Limits → List ℕ → List Sign → List ℕ → Result (ℕ × Event) Stop → Nested → Type 0
 StepGives syntax limits bytes signs piece (Ok r) new = Stepped syntax limits bytes signs piece r.0 r.1 new
-StepGives syntax limits bytes signs piece (Err stop) new = FaultGives syntax limits (bytes ++ piece) stop new
+StepGives syntax limits bytes signs piece (Err stop) new = FaultGives syntax limits bytes piece stop new
 
 -- Whatever the nest stands for: it answers only where neither a fault nor want of memory was answered; a fault comes again, and want of memory.
 abbrev pub Keeps : Nested → List ℕ → Result (ℕ × Event) Stop → Nested → Type 0

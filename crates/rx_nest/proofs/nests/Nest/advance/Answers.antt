@@ -7,7 +7,8 @@ use Rattle.rx_nest.specs.declared.heard.Did.{Did}
 use Rattle.rx_nest.specs.Signs.{Sign}
 use Rattle.rx_nest.specs.Heard.{next_owed, first_of}
 use Rattle.rx_nest.specs.Nests.{Nested, Stands, Done, ReadGives}
-use Rattle.rx_nest.proofs.Advancing.{due_done, read_done, fault_at}
+use Rattle.rx_nest.proofs.Advancing.{due_done, read_done}
+use Rattle.rx_nest.proofs.Sizes.{faults_so}
 use Rattle.rx_nest.proofs.nests.Nest.advance.Goals as goal
 
 none_of : (o : Option (Did × Owed)) → ((x : Did × Owed) → o ≢ Some x) → o ≡ None
@@ -44,4 +45,4 @@ returns-in-Err-Fault-clause-steps c syntax limits bytes signs st =
     let was = subst (λ v. Stands syntax limits v bytes signs) (sym c.self.view_is) st in
     let reads : page_read syntax limits (bytes ++ c.args.piece.now) ≡ Err c.in-Err-Fault.fault =
     subst (λ x. ReadGives syntax limits bytes was.told c.args.piece.now c.self.inside.line (Err x) c.read.new.scan c.read.new.line) c.in-Err-Fault.field-0-is (c.in-Err-Fault.ensures.reads syntax limits bytes was.told was.at) in
-    (fault_at syntax limits (bytes ++ c.args.piece.now) c.in-Err-Fault.fault reads, record { failed = refl; unspent = was.unspent })
+    (faults_so syntax limits bytes c.args.piece.now _ c.in-Err-Fault.fault was.at.read reads, record { failed = refl; unspent = was.unspent })
