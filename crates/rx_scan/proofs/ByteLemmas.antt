@@ -21,19 +21,22 @@ use Rattle.rx_tags.specs.declared.stops.Stop.{Stop}
 use Rattle.rx_tags.specs.TagBufs.{TagSoFar}
 use Rattle.rx_scan.specs.declared.answers.What.{What}
 use Rattle.rx_scan.specs.declared.answers.What.TheVariants as what
-use Rattle.rx_scan.specs.declared.marks.Mark.{Mark}
-use Rattle.rx_scan.specs.declared.marks.Mark.TheVariants as mark
+use Rattle.rx_marks.specs.declared.marks.Mark.{Mark}
+use Rattle.rx_marks.specs.declared.marks.Mark.TheVariants as mark
 use Rattle.rx_scan.specs.declared.places.Place.{Place}
 use Rattle.rx_scan.specs.Places.{entered, holding}
-use Rattle.rx_scan.specs.Pending.{PendsAs}
+use Rattle.rx_marks.specs.KnownTags as known_tags
+use Rattle.rx_marks.specs.Pending.{PendsAs}
 use Rattle.rx_scan.specs.Scanner.{Reading, spot_of}
 use Rattle.rx_scan.specs.Entries as entries
 use Rattle.rx_scan.specs.Steps.{ReadsAs, a_mark}
 use Rattle.rx_scan.proofs.Standing.{some_mark, values_snoc, no_values}
-use Rattle.rx_scan.proofs.Simulation.{known, known_with}
-use Rattle.rx_scan.proofs.EntryLemmas.{Gives, gives_at, gives_by, refuses, nothing_told, enters}
+use Rattle.rx_marks.proofs.Simulation.{known, known_with}
+use Rattle.rx_scan.proofs.GivesLemmas.{Gives, gives_at, gives_by, refuses, nothing_told}
+use Rattle.rx_scan.proofs.EntryLemmas.{enters}
 
-match_by : {G : Type 0} (b : Bool) (P Q : Type 0) → MatchBool b P Q → (b ≡ true → P → G) → (b ≡ false → Q → G) → G
+-- a case by a test, in what is chosen by it
+pub match_by : {G : Type 0} (b : Bool) (P Q : Type 0) → MatchBool b P Q → (b ≡ true → P → G) → (b ≡ false → Q → G) → G
 match_by true P Q m f g = f refl m
 match_by false P Q m f g = g refl m
 
@@ -80,16 +83,16 @@ module _ (v : Reading) (s : reader.Scanning) (h : ReadsAs v s) where
         ∙ (q ∙ (sym (some_mark sy v.setting.inside v.pending.mark v.pending.run v.pending.tag (values s.run) f.first f.more v.place h.pends f.is) ∙ (h.token ∙ first_same s.run f.first f.more (reader.starts_at s) starts f.is)))
   ]
 
-  long_is : reader.is_too_long sy lim spot s.run (reader.token_at s) s.at ≡ entries.is_long v (entries.is_tag v.pending.mark)
+  long_is : reader.is_too_long sy lim spot s.run (reader.token_at s) s.at ≡ entries.is_long v (known_tags.is_tag v.pending.mark)
   long_is =
       ap (λ b. b && nat_le (reader.token_at s + lim.tag) s.at) (known sy v.setting.inside v.pending.run v.pending.tag (values s.run) v.pending.mark h.pends)
-      ∙ (ap (λ a. entries.is_tag v.pending.mark && nat_le (a + lim.tag) s.at) (sym h.token) ∙ ap (λ a. entries.is_tag v.pending.mark && nat_le (entries.token_from v.pending.mark v.place + lim.tag) a) (sym h.at))
+      ∙ (ap (λ a. known_tags.is_tag v.pending.mark && nat_le (a + lim.tag) s.at) (sym h.token) ∙ ap (λ a. known_tags.is_tag v.pending.mark && nat_le (entries.token_from v.pending.mark v.place + lim.tag) a) (sym h.at))
 
-  long_with : (c : ℕ) → reader.is_too_long sy lim spot (s.run ++ (record { value = c; first = reader.starts_at s; last = s.at }) ∷ []) (reader.first_of s.run (reader.starts_at s)) s.at ≡ entries.is_long v (entries.is_tag_with sy v.setting.inside v.pending.mark c)
+  long_with : (c : ℕ) → reader.is_too_long sy lim spot (s.run ++ (record { value = c; first = reader.starts_at s; last = s.at }) ∷ []) (reader.first_of s.run (reader.starts_at s)) s.at ≡ entries.is_long v (known_tags.is_tag_with sy v.setting.inside v.pending.mark c)
   long_with c =
       let entry : Entry = record { value = c; first = reader.starts_at s; last = s.at } in
       ap (λ b. b && nat_le (reader.token_at s + lim.tag) s.at) (ap (is_known_tag sy v.setting.inside) (values_snoc s.run entry) ∙ known_with sy v.setting.inside v.pending.run v.pending.tag (values s.run) v.pending.mark c h.pends)
-      ∙ (ap (λ a. entries.is_tag_with sy v.setting.inside v.pending.mark c && nat_le (a + lim.tag) s.at) (sym h.token) ∙ ap (λ a. entries.is_tag_with sy v.setting.inside v.pending.mark c && nat_le (entries.token_from v.pending.mark v.place + lim.tag) a) (sym h.at))
+      ∙ (ap (λ a. known_tags.is_tag_with sy v.setting.inside v.pending.mark c && nat_le (a + lim.tag) s.at) (sym h.token) ∙ ap (λ a. known_tags.is_tag_with sy v.setting.inside v.pending.mark c && nat_le (entries.token_from v.pending.mark v.place + lim.tag) a) (sym h.at))
 
   passed_is : ReadsAs (entries.with_passed v) (reader.passed s)
   passed_is =
@@ -142,14 +145,14 @@ module _ (v : Reading) (s : reader.Scanning) (h : ReadsAs v s) where
       let e : entries.is_passed v.place c ≡ (not s.started && c == byte_order_mark || s.after_return && c == line_feed) = λ i. not (h.started i) && c == byte_order_mark || h.after_return i && c == line_feed in
       match_by (entries.is_passed v.place c) _ _ k
       (λ t k. gives_by (reader.read_char sy lim spot c s) (Ok (record { next = reader.passed s; items = [] })) s v result new (cond-true _ _ _ (sym e ∙ t)) (byte_passed c result new k.0 k.1))
-      (λ t k. match_by (entries.is_long v (entries.is_tag_with sy v.setting.inside v.pending.mark (as_line_end c))) _ _ k
+      (λ t k. match_by (entries.is_long v (known_tags.is_tag_with sy v.setting.inside v.pending.mark (as_line_end c))) _ _ k
       (λ u k. refuses (reader.read_char sy lim spot c s) v s TagTooLong result new h (cond-false _ _ _ (sym e ∙ t) ∙ cond-true _ _ _ (long_with (as_line_end c) ∙ u)) k)
       (λ u k. gives_by (reader.read_char sy lim spot c s) _ s v result new (cond-false _ _ _ (sym e ∙ t) ∙ cond-false _ _ _ (long_with (as_line_end c) ∙ u)) (enters v s h (c == carriage_return) (as_line_end c) result new k)))
 
   reads_answer : (byte : ℕ) (answer : Utf8Step) (result : Result What Stop) (new : Reading) → entries.ReadsAnswer v (s.held ++ byte ∷ []) answer result new → Gives (reader.read_answer sy lim spot (s.held ++ byte ∷ []) s answer) s v result new
   reads_answer byte Bad result new k = refuses (Err NotUtf8) v s NotUtf8 result new h refl k
   reads_answer byte More result new k =
-      match_by (entries.is_long v (entries.is_tag v.pending.mark)) _ _ k
+      match_by (entries.is_long v (known_tags.is_tag v.pending.mark)) _ _ k
       (λ u k. refuses (reader.read_answer sy lim spot (s.held ++ byte ∷ []) s More) v s TagTooLong result new h (cond-true _ _ _ (long_is ∙ u)) k)
       (λ u k. subst (λ (x : Result What Stop). Gives (reader.read_answer sy lim spot (s.held ++ byte ∷ []) s More) s v x new) (sym k.0)
       (gives_at (reader.read_answer sy lim spot (s.held ++ byte ∷ []) s More) s v (Ok what.Nothing) (entries.with_held v (s.held ++ byte ∷ [])) new k.1
@@ -157,7 +160,7 @@ module _ (v : Reading) (s : reader.Scanning) (h : ReadsAs v s) where
   reads_answer byte (Char c) result new k =
       match_by (c == 0) _ _ k
       (λ t k. refuses (reader.read_answer sy lim spot (s.held ++ byte ∷ []) s (Char c)) v s Nul result new h (cond-true _ _ _ t) k)
-      (λ t k. match_by (entries.is_long v (entries.is_tag v.pending.mark)) _ _ k
+      (λ t k. match_by (entries.is_long v (known_tags.is_tag v.pending.mark)) _ _ k
       (λ u k. refuses (reader.read_answer sy lim spot (s.held ++ byte ∷ []) s (Char c)) v s TagTooLong result new h (cond-false _ _ _ t ∙ cond-true _ _ _ (long_is ∙ u)) k)
       (λ u k. gives_by (reader.read_answer sy lim spot (s.held ++ byte ∷ []) s (Char c)) _ s v result new (cond-false _ _ _ t ∙ cond-false _ _ _ (long_is ∙ u)) (reads_char c result new k)))
 

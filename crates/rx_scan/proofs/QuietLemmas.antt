@@ -1,7 +1,7 @@
 -- Between tokens a byte tells text, begins a token, or is skipped.
 use Rattle.std.proofs.Common.{◌≡◌, ◌∙◌, ◌⊎◌, ℕ, ◌<◌, Bool, true, false, List, [], ◌∷◌, ◌++◌, refl, ap, sym, subst, Result, Ok, Err, inl, inr, eqb-true, arith, length, get_or, lit<, zero, suc}
-use Rattle.std.specs.Prelude.{◌&&◌, ◌||◌, ◌==◌, not, nat_le, MatchBool, if◌then◌else◌}
-use Rattle.std.proofs.lemmas.Bool.{cond-true, cond-false}
+use Rattle.std.specs.Prelude.{◌&&◌, ◌||◌, ◌==◌, not, nat_le, if◌then◌else◌}
+use Rattle.std.proofs.lemmas.Bool.{cond-true, cond-false, or_left, or_right}
 use Rattle.std.proofs.lemmas.Str.{encode_ascii}
 use Rattle.rx_chars.specs.Utf8.{answer_of}
 use Rattle.rx_chars.specs.declared.utf8.Utf8Step.{Utf8Step}
@@ -19,16 +19,18 @@ use Rattle.rx_tags.specs.declared.stops.Stop.{Stop}
 use Rattle.rx_tags.specs.declared.stops.Stop.TheVariants as stop
 use Rattle.rx_scan.specs.declared.answers.What.{What}
 use Rattle.rx_scan.specs.declared.answers.What.TheVariants as what
-use Rattle.rx_scan.specs.declared.marks.First.{First}
-use Rattle.rx_scan.specs.declared.marks.Mark.{Mark}
-use Rattle.rx_scan.specs.declared.marks.Mark.TheVariants as mark
-use Rattle.rx_scan.specs.declared.marks.Move.TheVariants as move
-use Rattle.rx_scan.specs.Marks as marks
+use Rattle.rx_marks.specs.declared.marks.First.{First}
+use Rattle.rx_marks.specs.declared.marks.Mark.{Mark}
+use Rattle.rx_marks.specs.declared.marks.Mark.TheVariants as mark
+use Rattle.rx_marks.specs.declared.marks.Move.TheVariants as move
+use Rattle.rx_marks.specs.KnownTags as known_tags
+use Rattle.rx_marks.specs.Marks as marks
 use Rattle.rx_scan.specs.declared.places.Place.{Place}
 use Rattle.rx_scan.specs.Places.{ended}
 use Rattle.rx_scan.specs.Scanner.{Reading}
 use Rattle.rx_scan.specs.Entries as entries
 use Rattle.rx_scan.specs.Steps.{is_quiet}
+use Rattle.rx_scan.proofs.ByteLemmas.{match_by}
 use Rattle.rx_scan.proofs.RunLemmas.{IsApart}
 
 -- What a byte does between tokens.
@@ -37,13 +39,6 @@ pub data Does (l : Reading) (byte : ℕ) (answer : What) (new : Reading) : Type 
   begins : answer ≡ what.Nothing → (byte == 60 || byte == 38) ≡ true → Does l byte answer new
   drops : l.setting.drops ≡ true → new.pending.mark ≡ mark.Nothing → Does l byte answer new
   is_a_mark : l.place.started ≡ false → new.pending.mark ≡ mark.Nothing → Does l byte answer new
-
-or_left : (a b : Bool) → a ≡ true → (a || b) ≡ true
-or_left a b h = rw h refl
-
-or_right : (a b : Bool) → b ≡ true → (a || b) ≡ true
-or_right true b h = refl
-or_right false b h = h
 
 -- a character of ASCII is its last byte
 last_byte : (held : List ℕ) (byte c : ℕ) → answer_of (held ++ byte ∷ []) ≡ Char c → c < 128 → byte ≡ c
@@ -60,10 +55,6 @@ last_byte held byte c e h =
 -- what a line end stands for begins nothing
 begins_line : (c d : ℕ) → as_line_end c ≡ d → (10 == d) ≡ false → c ≡ d
 begins_line c d e n = by_test {G = c ≡ d} (c == carriage_return) (λ h. absurd (let q : 10 ≡ d = sym (cond-true _ _ _ h) ∙ e in let z : true ≡ false = ap (λ (x : ℕ). 10 == x) q ∙ n in cc)) (λ h. sym (cond-false _ _ _ h) ∙ e)
-
-match_by : {G : Type 0} (b : Bool) (P Q : Type 0) → MatchBool b P Q → (b ≡ true → P → G) → (b ≡ false → Q → G) → G
-match_by true P Q m f g = f refl m
-match_by false P Q m f g = g refl m
 
 module _ (l new : Reading) (byte : ℕ) (answer : What) (m : l.pending.mark ≡ mark.Nothing) where
   abbrev result : Result What Stop
@@ -105,7 +96,7 @@ module _ (l new : Reading) (byte : ℕ) (answer : What) (m : l.pending.mark ≡ 
   does_char c e k =
       match_by (entries.is_passed l.place c) _ _ k
       (λ t k. passed (either (not l.place.started && c == 65279) _ t) k.0 (ap (λ (x : Reading). x.pending.mark) k.1 ∙ m))
-      (λ t k. match_by (entries.is_long l (entries.is_tag_with l.setting.syntax l.setting.inside l.pending.mark (as_line_end c))) _ _ k
+      (λ t k. match_by (entries.is_long l (known_tags.is_tag_with l.setting.syntax l.setting.inside l.pending.mark (as_line_end c))) _ _ k
       (λ u k. no_fault _ k)
       (λ u k. does_first (as_line_end c) (c == carriage_return) (λ d q n h. last_byte l.held byte d (e ∙ ap Char (begins_line c d q n)) h)
       (subst (λ (x : Mark). entries.Enters l (as_line_end c) (c == carriage_return) (entries.judged l.setting l.place.two (as_line_end c) (marks.move_of l.setting.syntax l.setting.inside x (as_line_end c))) result new) m k)))
@@ -126,7 +117,7 @@ module _ (l new : Reading) (byte : ℕ) (answer : What) (m : l.pending.mark ≡ 
       by : (a : Utf8Step) → answer_of (l.held ++ byte ∷ []) ≡ a → entries.ReadsAnswer l (l.held ++ byte ∷ []) a result new → Does l byte answer new
       by Bad e k = no_fault _ k
       by More e k =
-          match_by (entries.is_long l (entries.is_tag l.pending.mark)) _ _ k
+          match_by (entries.is_long l (known_tags.is_tag l.pending.mark)) _ _ k
           (λ u k. no_fault _ k)
           (λ u k. says (arrive k.0) (ap (λ (x : Reading). x.pending.mark) k.1 ∙ m))
         where
@@ -134,7 +125,7 @@ module _ (l new : Reading) (byte : ℕ) (answer : What) (m : l.pending.mark ≡ 
           arrive e = cc
       by (Char c) e k =
           match_by (c == 0) _ _ k (λ t k. no_fault _ k)
-          (λ t k. match_by (entries.is_long l (entries.is_tag l.pending.mark)) _ _ k (λ u k. no_fault _ k) (λ u k. does_char c e k))
+          (λ t k. match_by (entries.is_long l (known_tags.is_tag l.pending.mark)) _ _ k (λ u k. no_fault _ k) (λ u k. does_char c e k))
 
 -- where text is told nothing else is
 pub apart_tells : (l new : Reading) (byte : ℕ) (answer : What) → IsApart l → entries.Reads l byte (Ok answer) new → answer ≡ what.Nothing

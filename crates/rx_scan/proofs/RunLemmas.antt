@@ -11,12 +11,12 @@ use Rattle.rx_pages.specs.PageReader as reader
 use Rattle.rx_tags.specs.declared.stops.Stop.TheVariants as stop
 use Rattle.rx_scan.specs.declared.answers.What.{What}
 use Rattle.rx_scan.specs.declared.answers.What.TheVariants as what
-use Rattle.rx_scan.specs.declared.marks.Mark.TheVariants as mark
+use Rattle.rx_marks.specs.declared.marks.Mark.TheVariants as mark
 use Rattle.rx_scan.specs.declared.places.Setting.{Setting}
 use Rattle.rx_scan.specs.Scanner.{Reading, spot_of}
 use Rattle.rx_scan.specs.Entries as entries
 use Rattle.rx_scan.specs.Steps.{ReadsAs, joined, texts_of, keeps_first, after_some, setting_after, is_nothing, is_token, Took, Faults, Tells}
-use Rattle.rx_scan.proofs.EntryLemmas.{GivesOk, Told}
+use Rattle.rx_scan.proofs.GivesLemmas.{GivesOk, Told}
 use Rattle.rx_scan.proofs.ByteLemmas.{reads}
 
 -- while text is told, no token is begun, and what might be skipped is over

@@ -1,22 +1,17 @@
 -- What the scanner does with one character.
-use Rattle.std.specs.Prelude.{◌≡◌, ℕ, ◌+◌, ◌≤◌, Bool, true, false, not, ◌&&◌, ◌||◌, ◌==◌, nat_le, MatchBool, List, [], ◌∷◌, ◌++◌, encode_utf8_all, slice_get, Option, Some, None, Result, Ok, Err, if◌then◌else◌}
-use Rattle.rx_terms.specs.Ascii.{ampersand, line_feed, solidus, less_than_sign, greater_than_sign, right_bracket}
+use Rattle.std.specs.Prelude.{◌≡◌, ℕ, ◌+◌, ◌≤◌, Bool, true, false, not, ◌&&◌, ◌||◌, ◌==◌, nat_le, MatchBool, List, [], ◌∷◌, ◌++◌, encode_utf8_all, Option, Some, None, Result, Ok, Err, if◌then◌else◌}
+use Rattle.rx_terms.specs.Ascii.{line_feed, greater_than_sign, right_bracket}
 use Rattle.rx_terms.specs.Text.{Chars, is_empty}
-use Rattle.rx_chars.specs.declared.syntax.Syntax.{Syntax}
 use Rattle.rx_chars.specs.declared.utf8.Utf8Step.{Utf8Step}
 use Rattle.rx_chars.specs.declared.utf8.Utf8Step.TheVariants.{More, Char, Bad}
 use Rattle.rx_chars.specs.Utf8.{answer_of}
 use Rattle.rx_chars.specs.Characters.{byte_order_mark, carriage_return, as_line_end}
-use Rattle.rx_grammar.specs.declared.contents.Content.{Content}
 use Rattle.rx_grammar.specs.declared.faults.Fault.{Fault}
 use Rattle.rx_grammar.specs.declared.faults.Kind.{Kind}
 use Rattle.rx_grammar.specs.declared.faults.Kind.TheVariants.{BadDoctype, NotUtf8, Nul, PageTooLong, StrictText, TagTooLong}
 use Rattle.rx_grammar.specs.Tokens.{character}
 use Rattle.rx_grammar.specs.References.{meaning}
-use Rattle.rx_grammar.specs.Shapes.{begins_tag, ends_name}
 use Rattle.rx_grammar.specs.Items.{is_strict_literal}
-use Rattle.rx_reader.specs.declared.phases.RunPhase.{RunPhase}
-use Rattle.rx_reader.specs.declared.phases.RunPhase.TheVariants as run
 use Rattle.rx_reader.specs.Values.{no_meaning}
 use Rattle.rx_reader.specs.Tables.{is_last}
 use Rattle.rx_reader.specs.TagReader.{is_closing}
@@ -27,37 +22,23 @@ use Rattle.rx_tags.specs.declared.pairs.TagError.TheVariants as tag_error
 use Rattle.rx_tags.specs.TagBufs.{TagSoFar, no_tag, MayStep, StepGives}
 use Rattle.rx_scan.specs.declared.answers.What.{What}
 use Rattle.rx_scan.specs.declared.answers.What.TheVariants as what
-use Rattle.rx_scan.specs.declared.marks.Brackets.TheVariants as brackets
-use Rattle.rx_scan.specs.declared.marks.Mark.{Mark}
-use Rattle.rx_scan.specs.declared.marks.Mark.TheVariants as mark
-use Rattle.rx_scan.specs.declared.marks.Whole.{Whole}
-use Rattle.rx_scan.specs.declared.marks.Whole.TheVariants as whole
-use Rattle.rx_scan.specs.declared.marks.First.{First}
-use Rattle.rx_scan.specs.declared.marks.First.TheVariants as first
-use Rattle.rx_scan.specs.declared.marks.Move.{Move}
-use Rattle.rx_scan.specs.declared.marks.Move.TheVariants as move
+use Rattle.rx_marks.specs.declared.marks.Brackets.TheVariants as brackets
+use Rattle.rx_marks.specs.declared.marks.Mark.{Mark}
+use Rattle.rx_marks.specs.declared.marks.Mark.TheVariants as mark
+use Rattle.rx_marks.specs.declared.marks.Whole.{Whole}
+use Rattle.rx_marks.specs.declared.marks.Whole.TheVariants as whole
+use Rattle.rx_marks.specs.declared.marks.First.{First}
+use Rattle.rx_marks.specs.declared.marks.First.TheVariants as first
+use Rattle.rx_marks.specs.declared.marks.Move.{Move}
+use Rattle.rx_marks.specs.declared.marks.Move.TheVariants as move
 use Rattle.rx_scan.specs.declared.places.Place.{Place}
 use Rattle.rx_scan.specs.declared.places.Setting.{Setting}
 use Rattle.rx_scan.specs.Buffers.{Buffered}
-use Rattle.rx_scan.specs.Marks.{end_word, at_first, move_of}
-use Rattle.rx_scan.specs.Pending.{Pending, bracket_text}
+use Rattle.rx_marks.specs.KnownTags.{is_tag, is_tag_with}
+use Rattle.rx_marks.specs.Marks.{at_first, move_of}
+use Rattle.rx_marks.specs.Pending.{Pending, bracket_text, first_char, phase_of}
 use Rattle.rx_scan.specs.Places.{holding, entered, begun, ended, cut}
 use Rattle.rx_scan.specs.Scanner.{Reading}
-
--- whether the mark is a tag's, and whether it is one with the next character
-abbrev pub is_tag : Mark → Bool
-is_tag mark.Tag = true
-is_tag _ = false
-
-abbrev pub ends_word : Option ℕ → ℕ → Bool
-ends_word (Some d) c = false
-ends_word None c = ends_name c
-
-abbrev pub is_tag_with : Syntax → Content → Mark → ℕ → Bool
-is_tag_with syntax inside mark.LessThan c = c == solidus || begins_tag syntax c
-is_tag_with syntax inside (mark.RawEnd n) c = ends_word (slice_get (end_word inside) n) c
-is_tag_with syntax inside mark.Tag c = true
-is_tag_with syntax inside _ c = false
 
 -- where the token begins that the next character belongs to
 abbrev pub token_from : Mark → Place → ℕ
@@ -164,11 +145,6 @@ Tags old c after_return pending (Ok _) new = ⊥
 Tags old c after_return pending (Err (stop.Fault f)) new = (kind : Kind) × (tag : TagSoFar) × StepGives old.pending.tag c (Err (tag_error.Bad kind)) tag × (f ≡ fault_at old kind)
 Tags old c after_return pending (Err stop.NoMemory) new = Unit {0}
 
--- the character with which a run begins that may stay text
-abbrev pub first_char : Mark → ℕ
-first_char (mark.Run p) = ampersand
-first_char _ = less_than_sign
-
 -- the run was text, and the character is read afresh
 abbrev pub Stops : Reading → ℕ → Bool → First → Result What Stop → Reading → Type 0
 Stops old c after_return (first.Begins m) result new =
@@ -183,10 +159,6 @@ Stops old c after_return (first.Refuses kind) result new = result ≡ Err (stop.
 pub record TellsRun (old new : Reading) : Type 0 where
   pub text : TextGrows old.text new.text (first_char old.pending.mark ∷ old.pending.run)
   pub is : new ≡ record { setting = undropped old.setting; place = cut old.place; held = old.held; pending = old.pending; text = new.text; end = old.end }
-
-abbrev pub phase_of : Mark → RunPhase
-phase_of (mark.Run p) = p
-phase_of _ = run.Plain
 
 abbrev pub Closes : Reading → Bool → Option ℕ → Result What Stop → Reading → Type 0
 Closes old after_return (Some d) result new = Says old d (ended after_return false old.place) result new

@@ -1,5 +1,3 @@
-pub mod Marks
-pub mod Pending
 pub mod Buffers
 pub mod Places
 pub mod Scanner

@@ -6,19 +6,12 @@ ghost use Rattle.rx_scan.specs.Entries as entries;
 ghost use Rattle.rx_tags.specs.TagBufs.{MayStep};
 
 use crate::answers::What;
-use crate::marks::Mark;
-use crate::moves::is_tag_with;
 use crate::places::{Place, reaches};
 use crate::readers::Reader;
 use rx_chars::{Utf8, Utf8Step};
 use rx_grammar::Kind;
+use rx_marks::{Mark, is_tag, is_tag_with};
 use rx_tags::Stop;
-
-fn is_tag(mark: Mark) -> bool
-    ensures { result ≡ entries.is_tag mark }
-{
-    mark == Mark::Tag
-}
 
 fn is_passed(place: Place, c: char) -> bool
     ensures { result ≡ entries.is_passed place c }

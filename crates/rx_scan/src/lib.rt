@@ -9,17 +9,18 @@
 mod answers;
 mod buffers;
 mod bytes;
-mod declarations;
-mod doctypes;
+mod endings;
 mod entries;
-mod marks;
-mod moves;
+mod goings;
+mod judgements;
 mod pending;
 mod places;
 mod readers;
 mod runs;
 mod scans;
-mod words;
+mod settings;
+mod tag_entries;
+mod texts;
 
 pub use answers::Token;
 pub use rx_chars::Syntax;

@@ -1,0 +1,10 @@
+pub mod Fronts
+pub mod Snoc
+pub mod Behinds
+pub mod Doctype
+pub mod OpeningWords
+pub mod Openings
+pub mod Markup
+pub mod References
+pub mod RawEnds
+pub mod Simulation

@@ -1,0 +1,5 @@
+pub mod Marks
+pub mod KnownTags
+pub mod Pending
+pub mod Meant
+pub mod Laws

@@ -1,0 +1,33 @@
+//! The last character of a token of which no text is told, or of a CDATA section.
+ghost use Rattle.std.specs.Prelude.{◌≡◌, ◌+◌, ◌<◌, ◌^◌};
+ghost use Rattle.rx_scan.specs.Entries as entries;
+ghost use Rattle.rx_tags.specs.TagBufs.{MayStep};
+
+use crate::answers::What;
+use crate::readers::Reader;
+use crate::settings::{after_doctype, undropped};
+use rx_chars::Utf8;
+use rx_marks::{Mark, Whole};
+use rx_tags::Stop;
+
+impl Reader {
+    pub(crate) fn finish(&mut self, after_return: bool, whole: Whole) -> Result<What, Stop>
+        requires may_step { MayStep self.old.pending.tag }
+        requires room { self.old.place.at + 1 < 2 ^ 64 }
+        ensures does { entries.Ends self.old after_return whole result self.new }
+        ensures ready { entries.IsReady self.old result self.new }
+    {
+        self.setting = match whole {
+            Whole::Doctype => after_doctype(self.setting),
+            Whole::Comment | Whole::Section => undropped(self.setting),
+        };
+        self.place = self.place.ended(after_return, false);
+        self.pending.turn(Mark::Nothing);
+        self.utf8 = Utf8::new();
+        match whole {
+            Whole::Doctype => Ok(What::Doctype),
+            Whole::Section if !self.pending.run().is_empty() => Ok(What::Section),
+            Whole::Comment | Whole::Section => Ok(What::Skipped),
+        }
+    }
+}
