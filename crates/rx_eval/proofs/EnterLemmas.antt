@@ -1,109 +1,30 @@
 -- The start of an element: what its parts come to is what the rules say.
-use Rattle.std.proofs.Common.{◌≡◌, ◌∙◌, ℕ, suc, ◌+◌, Bool, true, false, List, [], ◌∷◌, ◌++◌, map, filter_map, length, Option, Some, None, option_map, option_to_list, is_some, unwrap_or, nat_eq, refl, sym, ap, ap₂, arith, append_assoc, append-nil, length-append, Result, Ok, Err, OnOk, IfOk}
-use Rattle.std.specs.Prelude.{not, ◌&&◌, is_none, if◌then◌else◌}
-use Rattle.std.proofs.lemmas.List.{map-append, length-map}
+use Rattle.std.proofs.Common.{◌≡◌, ◌∙◌, ℕ, suc, Bool, true, false, List, [], ◌∷◌, ◌++◌, map, filter_map, length, Option, Some, None, option_map, unwrap_or, nat_eq, refl, sym, ap, ap₂, arith, append_assoc, length-append, Result, Ok, Err, OnOk, IfOk}
+use Rattle.std.specs.Prelude.{not, ◌&&◌, is_some, is_none, if◌then◌else◌}
+use Rattle.std.proofs.lemmas.List.{map-append}
 use Rattle.rx_terms.specs.Text.{Chars}
 use Rattle.rx_terms.specs.declared.triples.Node.{Node as CodeNode}
-use Rattle.rx_model.specs.Terms.{Node, Iri, Term, Triple, same_node}
 use Rattle.rx_terms.specs.declared.triples.Term.{Term as CodeTerm}
+use Rattle.rx_model.specs.Terms.{Node, Term, same_node}
 use Rattle.rx_model.specs.Seen.{node_seen, term_seen}
-use Rattle.rx_rdfa.specs.Iris.{uses_vocabulary}
-use Rattle.rx_rdfa.specs.Naming.{Naming, Path}
+use Rattle.rx_rdfa.specs.Naming.{Naming}
 use Rattle.rx_rdfa.specs.Facts.{Facts}
-use Rattle.rx_rdfa.specs.Resources as rules
 use Rattle.rx_rdfa.specs.Resources.{Hanging, Forward, Reverse, InList, Inherited, Standing, Resources, resources}
 use Rattle.rx_rdfa.specs.Inherited.{listed, hangs, object_below, own_owner, owner_below, handed, below}
 use Rattle.rx_rdfa.specs.Value.{rule, value_now, gathers}
-use Rattle.rx_rdfa.specs.Element.{to_node, of_vocabulary, types_by, links_by, properties_by, completed, start_of}
-use Rattle.rx_rdfa.specs.Lists.{Entry, entry, entries_by, linked, awaited}
+use Rattle.rx_rdfa.specs.Lists.{entry, entries_by, linked, awaited}
 use Rattle.rx_lists.specs.Owners.{Owners, owned}
 use Rattle.rx_lists.specs.declared.lists.Owner.{Owner}
-use Rattle.rx_eval.specs.declared.contexts.Waiting.{Waiting}
-use Rattle.rx_eval.specs.declared.contexts.Waiting.TheVariants as code
-use Rattle.rx_eval.specs.declared.contexts.Context.{Context}
-use Rattle.rx_eval.specs.declared.places.Place.{Place}
-use Rattle.rx_eval.specs.Labels.{Numbered}
-use Rattle.rx_eval.specs.Moment.{moment}
-use Rattle.rx_eval.specs.Places.{path_at, standing_at}
-use Rattle.rx_eval.specs.Found.{naming, standing, found_seen}
-use Rattle.rx_eval.specs.Placing.{resources_of}
-use Rattle.rx_eval.specs.declared.resources.Found.{Found}
-use Rattle.rx_eval.specs.TextRules.{resource_term}
-use Rattle.rx_eval.specs.Triples.{waiting_seen, completed_by}
-use Rattle.rx_eval.specs.Starts.{vocabulary_by, typed_by, linked_by, given_values, values_of, found_by, start_by}
-use Rattle.rx_eval.specs.Handing.{begun, begun_number, owner_numbered}
-use Rattle.rx_eval.specs.Frames.{context_seen, hanging_by}
+use Rattle.rx_element.specs.Labels.{Numbered}
+use Rattle.rx_element.specs.Moment.{moment}
+use Rattle.rx_element.specs.TextRules.{resource_term}
+use Rattle.rx_element.proofs.LabelLemmas.{by_test}
+use Rattle.rx_eval.specs.Handing.{begun, begun_number}
+use Rattle.rx_eval.specs.Frames.{hanging_by}
 use Rattle.rx_eval.specs.Elements.{handed_by, owner_in, begun_below, begun_below_number}
-use Rattle.rx_eval.specs.OwnersSeen.{Owning, owning, owning_seen, owners_seen, put_entries}
-use Rattle.rx_eval.specs.Listing.{Entries, linked_entries, awaited_entry, own_entries, entries_in}
-use Rattle.rx_eval.specs.Entering.{standing_in, next_number, naming_by, own_number, begun_seen, begun_for, owners_begun, entered_lists, gathers_in}
-use Rattle.rx_eval.proofs.LabelLemmas.{by_test}
-
--- ---- the resources ask for the parent object alone
-
-pub same_object : (N : Naming ℕ ℕ) (base : Chars) (facts : Facts) (path : Path) (a b : Inherited ℕ ℕ) → a.object ≡ b.object
-    → resources N base (record { facts = facts; path = path; around = a }) ≡ resources N base (record { facts = facts; path = path; around = b })
-unfolding resources
-same_object N base facts path a b e =
-    ap (λ (o : Node ℕ). resources N base (record { facts = facts; path = path; around = record { subject = o; object = o; hanging = []; owner = 0 } })) e
-
-pub found_here : (at : Place) (around : Context) (facts : Facts) (here : Resources ℕ) → at.object.now ≡ around.object → here ≡ resources (naming at) at.base.now (standing at facts)
-    → here ≡ resources (naming at) at.base.now (standing_in at around facts)
-found_here at around facts here e h = h ∙ same_object (naming at) at.base.now facts (path_at at.level) _ (context_seen around) (ap node_seen e)
-
--- ---- the triples
-
-module _ (N : Naming ℕ ℕ) (base : Chars) (S : Standing ℕ ℕ) where
-  voc : (v : Option Chars) → vocabulary_by base v ≡ option_to_list (option_map (λ vocab. to_node (Iri base) uses_vocabulary (Iri vocab)) v)
-  voc None = refl
-  voc (Some v) = refl
-
-  types : (t : Option (Node ℕ)) → typed_by N base S.facts t ≡ types_by N base S t
-  types None = refl
-  types (Some t) = refl
-
-  module _ (H : Resources ℕ) where
-    links : (o : Option (Node ℕ)) → linked_by S.facts H.subject o ≡ links_by N base S H o
-    links None = refl
-    links (Some o) = refl
-
-    values : (v : Option (Term ℕ)) → values_of S.facts H.subject v ≡ properties_by N base S H v
-    values None = by_test S.facts.inlist (λ t. rw t refl) (λ f. rw f refl)
-    values (Some v) = refl
-
-    completes : (ws : List Waiting) → filter_map (completed_by S.around.subject H.subject) ws ≡ filter_map (completed N base S H) (map waiting_seen ws)
-    completes [] = refl
-    completes (code.Forward p ∷ ws) = ap (λ (l : List (Triple ℕ)). to_node S.around.subject p H.subject ∷ l) (completes ws)
-    completes (code.Reverse p ∷ ws) = ap (λ (l : List (Triple ℕ)). to_node H.subject p S.around.subject ∷ l) (completes ws)
-    completes (code.InList o p ∷ ws) = completes ws
-
-  abbrev whole : Resources ℕ → List (Triple ℕ)
-  whole h =
-      of_vocabulary N base S
-      ++ (if h.skipped then []
-      else types_by N base S h.typed ++ links_by N base S h h.object ++ properties_by N base S h (value_now (rule N base S.facts h) S.facts)
-      ++ filter_map (completed N base S h) S.around.hanging)
-
-  start_whole : whole (resources N base S) ≡ start_of N base S
-  unfolding start_of
-  start_whole = refl
-
-  pub start_is : (H : Resources ℕ) (v : Option (Term ℕ)) (ws : List Waiting) → H ≡ resources N base S → v ≡ value_now (rule N base S.facts H) S.facts → map waiting_seen ws ≡ S.around.hanging
-      → start_by N base S.facts H v S.around.subject ws ≡ start_of N base S
-  start_is H v ws r e w =
-      ap₂ (λ (a b : List (Triple ℕ)). a ++ (if H.skipped then [] else b)) (voc S.facts.vocab) parts ∙ ap whole r ∙ start_whole
-    where
-      C : List (Triple ℕ)
-      C = filter_map (completed N base S H) S.around.hanging
-
-      rest : values_of S.facts H.subject v ++ filter_map (completed_by S.around.subject H.subject) ws ≡ properties_by N base S H (value_now (rule N base S.facts H) S.facts) ++ C
-      rest = ap₂ (λ (a b : List (Triple ℕ)). a ++ b) (values H v ∙ ap (properties_by N base S H) e) (completes H ws ∙ ap (filter_map (completed N base S H)) w)
-
-      parts : found_by N base S.facts H ++ (values_of S.facts H.subject v ++ filter_map (completed_by S.around.subject H.subject) ws)
-          ≡ types_by N base S H.typed ++ links_by N base S H H.object ++ properties_by N base S H (value_now (rule N base S.facts H) S.facts) ++ C
-      parts =
-          ap₂ (λ (a b : List (Triple ℕ)). a ++ b) (ap₂ (λ (a b : List (Triple ℕ)). a ++ b) (types H.typed) (links H H.object)) rest
-          ∙ sym (append_assoc (types_by N base S H.typed ++ links_by N base S H H.object) (properties_by N base S H (value_now (rule N base S.facts H) S.facts)) C)
+use Rattle.rx_eval.specs.OwnersSeen.{Owning, owning_seen, owners_seen, put_entries}
+use Rattle.rx_eval.specs.Listing.{Entries, linked_entries, awaited_entry, entries_in}
+use Rattle.rx_eval.specs.Entering.{next_number, naming_by, own_number, begun_seen, begun_for, owners_begun}
 
 -- ---- the owners
 
@@ -122,84 +43,87 @@ below_is : (object : Option CodeNode) (s : CodeNode) (owners : Owners) → owner
 below_is None s owners = refl
 below_is (Some object) s owners = begun_is object s owners
 
-pub owners_are : (at : Place) (around : Context) (facts : Facts) (here : Resources ℕ) (s a : CodeNode) (object : Option CodeNode) (old mid new : Owners)
-    → node_seen s ≡ here.subject → a ≡ around.object → option_map node_seen object ≡ object_below (naming at) (standing at facts) here
-    → mid ≡ begun s a old → new ≡ begun_below object s mid → owners_seen new ≡ owners_begun at around facts here (owners_seen old)
-owners_are at around facts here s a object old mid new e f o m n =
-    ap owners_seen n ∙ below_is object s mid ∙ ap (begun_for (option_map node_seen object) (node_seen s)) (ap owners_seen m ∙ begun_is s a old)
-    ∙ ap₂ (λ (x : Option (Node ℕ)) (y : Node ℕ). begun_for x y (begun_seen y (node_seen a) (owners_seen old))) o e
-    ∙ ap (λ (x : CodeNode). begun_for (object_below (naming at) (standing at facts) here) here.subject (begun_seen here.subject (node_seen x) (owners_seen old))) f
+-- an element of which the code has the subject, the parent object, and the object for its children
+module _ (N : Naming ℕ ℕ) (at : Standing ℕ ℕ) (here : Resources ℕ) (s a : CodeNode) (object : Option CodeNode) (e : node_seen s ≡ here.subject) (f : node_seen a ≡ at.around.object) where
+  pub owners_are : (old mid new : Owners) → option_map node_seen object ≡ object_below N at here → mid ≡ begun s a old → new ≡ begun_below object s mid
+      → owners_seen new ≡ owners_begun N at here (owners_seen old)
+  owners_are old mid new o m n =
+      ap owners_seen n ∙ below_is object s mid ∙ ap (begun_for (option_map node_seen object) (node_seen s)) (ap owners_seen m ∙ begun_is s a old)
+      ∙ ap₂ (λ (x : Option (Node ℕ)) (y : Node ℕ). begun_for x y (begun_seen y (node_seen a) (owners_seen old))) o e
+      ∙ ap (λ (x : Node ℕ). begun_for (object_below N at here) here.subject (begun_seen here.subject x (owners_seen old))) f
 
-pub own_is : (around : Context) (here : Resources ℕ) (s a : CodeNode) (own : Option Owner) (n : ℕ) → node_seen s ≡ here.subject → a ≡ around.object → own ≡ begun_number s a n
-    → (owner_in own around.owner).0 ≡ own_number around here n
-own_is around here s a own n e f o =
-    ap (λ (x : Option Owner). (owner_in x around.owner).0) o ∙ number_is s a n around.owner
-    ∙ ap₂ (λ (x : Node ℕ) (y : CodeNode). if same_node nat_eq x (node_seen y) then around.owner.0 else n) e f
+  pub own_is : (own : Option Owner) (around : Owner) (n : ℕ) → around.0 ≡ at.around.owner → own ≡ begun_number s a n → (owner_in own around).0 ≡ own_number at here n
+  own_is own around n z o =
+      ap (λ (x : Option Owner). (owner_in x around).0) o ∙ number_is s a n around
+      ∙ ap₂ (λ (x y : Node ℕ). if same_node nat_eq x y then around.0 else n) e f
+      ∙ ap (λ (x : ℕ). if same_node nat_eq here.subject at.around.object then x else n) z
 
 -- ---- the context
 
-pub handed_is : (at : Place) (around : Context) (facts : Facts) (here : Resources ℕ) (s a : CodeNode) (object : Option CodeNode) (own below : Option Owner) (context : Context) (old mid : Owners)
-    → here.skipped ≡ false → node_seen s ≡ here.subject → a ≡ around.object → option_map node_seen object ≡ object_below (naming at) (standing at facts) here
+pub handed_is : (labels : Numbered) (fresh : ℕ) (at : Standing ℕ ℕ) (here : Resources ℕ) (s a : CodeNode) (object : Option CodeNode) (own below : Option Owner) (around : Owner) (context : Inherited ℕ ℕ) (old mid : Owners)
+    → here.skipped ≡ false → node_seen s ≡ here.subject → node_seen a ≡ at.around.object → around.0 ≡ at.around.owner → option_map node_seen object ≡ object_below (moment labels fresh 0 0) at here
     → own ≡ begun_number s a (length old) → mid ≡ begun s a old → below ≡ begun_below_number object s (length mid)
-    → context_seen context ≡ handed_by facts here (option_map node_seen object) (owner_in own around.owner).0 (owner_in below (owner_in own around.owner)).0
-    → context_seen context ≡ handed (naming_by at around here (length old)) (standing_in at around facts) here
-handed_is at around facts here s a object own below context old mid k e f o w m b h =
-    h ∙ ap₂ (λ (x y : ℕ). handed_by facts here (option_map node_seen object) x y) (own_is around here s a own (length old) e f w) (last_owner object below b)
-    ∙ ap (λ (x : Option (Node ℕ)). handed_by facts here x (own_number around here (length old)) (last_number x)) o
+    → context ≡ handed_by at.facts here (option_map node_seen object) (owner_in own around).0 (owner_in below (owner_in own around)).0
+    → context ≡ handed (naming_by labels fresh at here (length old)) at here
+handed_is labels fresh at here s a object own below around context old mid k e f z o w m b h =
+    h ∙ ap₂ (λ (x y : ℕ). handed_by at.facts here (option_map node_seen object) x y) is_own (last_owner object below b)
+    ∙ ap (λ (x : Option (Node ℕ)). handed_by at.facts here x (own_number at here (length old)) (last_number x)) o
     ∙ by_skip here.skipped k
   where
-    n : ℕ
-    n = length old
+    is_own : (owner_in own around).0 ≡ own_number at here (length old)
+    is_own = own_is (moment labels fresh 0 0) at here s a object e f own around (length old) z w
 
     -- the owner of the children, by the object
     last_number : Option (Node ℕ) → ℕ
-    last_number x = owner_below (naming_by at around here n) (standing_in at around facts) here x (own_number around here n)
+    last_number x = owner_below (naming_by labels fresh at here (length old)) at here x (own_number at here (length old))
 
-    next_is : length mid ≡ next_number around here n
-    next_is =
-        ap length m ∙ more_owners s a old
-        ∙ ap₂ (λ (x : Node ℕ) (y : CodeNode). if same_node nat_eq x (node_seen y) then length old else suc (length old)) e f
+    next_is : length mid ≡ next_number at here (length old)
+    next_is = ap length m ∙ more_owners s a old ∙ ap₂ (λ (x y : Node ℕ). if same_node nat_eq x y then length old else suc (length old)) e f
 
-    last_owner : (x : Option CodeNode) (y : Option Owner) → y ≡ begun_below_number x s (length mid) → (owner_in y (owner_in own around.owner)).0 ≡ last_number (option_map node_seen x)
-    last_owner None y g = ap (λ (z : Option Owner). (owner_in z (owner_in own around.owner)).0) g ∙ own_is around here s a own n e f w
+    last_owner : (x : Option CodeNode) (y : Option Owner) → y ≡ begun_below_number x s (length mid) → (owner_in y (owner_in own around)).0 ≡ last_number (option_map node_seen x)
+    last_owner None y g = ap (λ (v : Option Owner). (owner_in v (owner_in own around)).0) g ∙ is_own
     last_owner (Some x) y g =
-        ap (λ (z : Option Owner). (owner_in z (owner_in own around.owner)).0) g ∙ number_is x s (length mid) (owner_in own around.owner)
-        ∙ ap₂ (λ (u v : ℕ). if same_node nat_eq (node_seen x) (node_seen s) then u else v) (own_is around here s a own n e f w) next_is
-        ∙ ap (λ (z : Node ℕ). if same_node nat_eq (node_seen x) z then own_number around here n else next_number around here n) e
+        ap (λ (v : Option Owner). (owner_in v (owner_in own around)).0) g ∙ number_is x s (length mid) (owner_in own around)
+        ∙ ap₂ (λ (u v : ℕ). if same_node nat_eq (node_seen x) (node_seen s) then u else v) is_own next_is
+        ∙ ap (λ (v : Node ℕ). if same_node nat_eq (node_seen x) v then own_number at here (length old) else next_number at here (length old)) e
 
-    by_skip : (b : Bool) → b ≡ false
-        → handed_by facts here (object_below (naming at) (standing at facts) here) (own_number around here n) (last_number (object_below (naming at) (standing at facts) here))
-        ≡ (if b then context_seen around
+    by_skip : (t : Bool) → t ≡ false
+        → handed_by at.facts here (object_below (moment labels fresh 0 0) at here) (own_number at here (length old)) (last_number (object_below (moment labels fresh 0 0) at here))
+        ≡ (if t then at.around
         else record {
           subject = here.subject;
-          object = unwrap_or (object_below (naming_by at around here n) (standing_in at around facts) here) here.subject;
-          hanging = (if hangs facts here then hanging_by facts (own_number around here n) else []);
-          owner = last_number (object_below (naming_by at around here n) (standing_in at around facts) here);
+          object = unwrap_or (object_below (naming_by labels fresh at here (length old)) at here) here.subject;
+          hanging = (if hangs at.facts here then hanging_by at.facts (own_number at here (length old)) else []);
+          owner = last_number (object_below (naming_by labels fresh at here (length old)) at here);
         })
     by_skip false g = refl
     by_skip true g = absurd (cc)
 
-below_opened : (N : Naming ℕ ℕ) (base : Chars) (S : Standing ℕ ℕ) → handed N S (resources N base S) ≡ below N base S
-unfolding below
-below_opened N base S = refl
+-- an element with its labels' numbers, the number of a new node, and the base
+module _ (labels : Numbered) (fresh : ℕ) (base : Chars) (at : Standing ℕ ℕ) where
+  abbrev N : Naming ℕ ℕ
+  N = moment labels fresh 0 0
 
-same_naming : (at : Place) (around : Context) (facts : Facts) (here : Resources ℕ) (n : ℕ)
-    → resources (naming at) at.base.now (standing_in at around facts) ≡ resources (naming_by at around here n) at.base.now (standing_in at around facts)
-unfolding resources
-same_naming at around facts here n = refl
+  abbrev R : Resources ℕ
+  R = resources N base at
 
-pub below_is_handed : (at : Place) (around : Context) (facts : Facts) (here : Resources ℕ) (n : ℕ) (context : Context) → here ≡ resources (naming at) at.base.now (standing_in at around facts)
-    → context_seen context ≡ handed (naming_by at around here n) (standing_in at around facts) here
-    → context_seen context ≡ below (naming_by at around (resources (naming at) at.base.now (standing_in at around facts)) n) at.base.now (standing_in at around facts)
-below_is_handed at around facts here n context r h =
-    let R = resources (naming at) at.base.now (standing_in at around facts) in
-    h ∙ ap (λ (x : Resources ℕ). handed (naming_by at around x n) (standing_in at around facts) x) r
-    ∙ ap (handed (naming_by at around R n) (standing_in at around facts)) (same_naming at around facts R n)
-    ∙ below_opened (naming_by at around R n) at.base.now (standing_in at around facts)
+  below_opened : (M : Naming ℕ ℕ) → handed M at (resources M base at) ≡ below M base at
+  unfolding below
+  below_opened M = refl
 
-pub below_skipped : (at : Place) (around : Context) (facts : Facts) (here : Resources ℕ) (n : ℕ) → here ≡ resources (naming at) at.base.now (standing_in at around facts) → here.skipped ≡ true
-    → context_seen around ≡ handed (naming_by at around here n) (standing_in at around facts) here
-below_skipped at around facts here n r k = rw k refl
+  same_naming : (here : Resources ℕ) (n : ℕ) → R ≡ resources (naming_by labels fresh at here n) base at
+  unfolding resources
+  same_naming here n = refl
+
+  pub below_is_handed : (here : Resources ℕ) (n : ℕ) (context : Inherited ℕ ℕ) → here ≡ R → context ≡ handed (naming_by labels fresh at here n) at here
+      → context ≡ below (naming_by labels fresh at R n) base at
+  below_is_handed here n context r h =
+      h ∙ ap (λ (x : Resources ℕ). handed (naming_by labels fresh at x n) at x) r
+      ∙ ap (handed (naming_by labels fresh at R n) at) (same_naming R n)
+      ∙ below_opened (naming_by labels fresh at R n)
+
+  pub below_skipped : (here : Resources ℕ) (n : ℕ) → here.skipped ≡ true → at.around ≡ handed (naming_by labels fresh at here n) at here
+  below_skipped here n k = rw k refl
 
 -- ---- the lists
 
@@ -225,63 +149,63 @@ module _ (N : Naming ℕ ℕ) (S : Standing ℕ ℕ) (H : Resources ℕ) (v : Op
       V : Entries
       V = map (entry (own_owner N S H) (Some v)) (listed S.facts.property)
 
-abbrev lists_at : Place → Context → Facts → ℕ → List (Option Owning) → Resources ℕ → List (Option Owning)
-lists_at at around facts n owners here =
-    if here.skipped then owners
-    else put_entries
-    (entries_by (naming_by at around here n) Some (value_now (rule (naming at) at.base.now facts here) facts) (standing_in at around facts) here)
-    (owners_begun at around facts here owners)
+module _ (labels : Numbered) (fresh : ℕ) (base : Chars) (at : Standing ℕ ℕ) (here : Resources ℕ) (r : here ≡ resources (moment labels fresh 0 0) base at) where
+  -- the owners after the element's start, by its resources
+  abbrev lists_with : ℕ → List (Option Owning) → Resources ℕ → List (Option Owning)
+  lists_with n owners h =
+      if h.skipped then owners
+      else put_entries (entries_by (naming_by labels fresh at h n) Some (value_now (rule (moment labels fresh 0 0) base at.facts h) at.facts) at h)
+      (owners_begun (moment labels fresh 0 0) at h owners)
 
-pub lists_skipped : (at : Place) (around : Context) (facts : Facts) (here : Resources ℕ) (owners : List (Option Owning)) → here ≡ resources (naming at) at.base.now (standing_in at around facts)
-    → here.skipped ≡ true → owners ≡ entered_lists at around facts owners
-lists_skipped at around facts here owners r k =
-    skips here.skipped k ∙ ap (lists_at at around facts (length owners) owners) r
-  where
-    skips : (b : Bool) → b ≡ true → owners ≡ (if b then owners else put_entries
-        (entries_by (naming_by at around here (length owners)) Some (value_now (rule (naming at) at.base.now facts here) facts) (standing_in at around facts) here)
-        (owners_begun at around facts here owners))
-    skips true g = refl
-    skips false g = absurd (cc)
+  pub lists_skipped : (owners : List (Option Owning)) → here.skipped ≡ true
+      → owners ≡ lists_with (length owners) owners (resources (moment labels fresh 0 0) base at)
+  lists_skipped owners k = skips here.skipped k ∙ ap (lists_with (length owners) owners) r
+    where
+      skips : (b : Bool) → b ≡ true → owners ≡ (if b then owners else put_entries
+          (entries_by (naming_by labels fresh at here (length owners)) Some (value_now (rule (moment labels fresh 0 0) base at.facts here) at.facts) at here)
+          (owners_begun (moment labels fresh 0 0) at here owners))
+      skips true g = refl
+      skips false g = absurd (cc)
 
-pub lists_entered : (at : Place) (around : Context) (facts : Facts) (here : Resources ℕ) (value : Option (Term ℕ)) (old new : List (Option Owning)) (n : ℕ) → n ≡ length old
-    → here ≡ resources (naming at) at.base.now (standing_in at around facts) → here.skipped ≡ false → value ≡ value_now (rule (naming at) at.base.now facts here) facts
-    → new ≡ put_entries (entries_in (own_number around here n) facts here value (map waiting_seen around.hanging)) (owners_begun at around facts here old)
-    → new ≡ entered_lists at around facts old
-lists_entered at around facts here value old new n z r k e h =
-    h ∙ ap (λ (m : ℕ). put_entries (entries_in (own_number around here m) facts here value (map waiting_seen around.hanging)) (owners_begun at around facts here old)) z
-    ∙ ap (λ (x : Entries). put_entries x (owners_begun at around facts here old)) (entries_are (naming_by at around here (length old)) (standing_in at around facts) here value k)
-    ∙ ap (λ (x : Option (Term ℕ)). put_entries (entries_by (naming_by at around here (length old)) Some x (standing_in at around facts) here) (owners_begun at around facts here old)) e
-    ∙ skips here.skipped k ∙ ap (lists_at at around facts (length old) old) r
-  where
-    E : List (Option Owning)
-    E = put_entries
-        (entries_by (naming_by at around here (length old)) Some (value_now (rule (naming at) at.base.now facts here) facts) (standing_in at around facts) here)
-        (owners_begun at around facts here old)
+  pub lists_entered : (value : Option (Term ℕ)) (old new : List (Option Owning)) (n : ℕ) → n ≡ length old → here.skipped ≡ false
+      → value ≡ value_now (rule (moment labels fresh 0 0) base at.facts here) at.facts
+      → new ≡ put_entries (entries_in (own_number at here n) at.facts here value at.around.hanging) (owners_begun (moment labels fresh 0 0) at here old)
+      → new ≡ lists_with (length old) old (resources (moment labels fresh 0 0) base at)
+  lists_entered value old new n z k e h =
+      h ∙ ap (λ (m : ℕ). put_entries (entries_in (own_number at here m) at.facts here value at.around.hanging) (owners_begun (moment labels fresh 0 0) at here old)) z
+      ∙ ap (λ (x : Entries). put_entries x (owners_begun (moment labels fresh 0 0) at here old)) (entries_are (naming_by labels fresh at here (length old)) at here value k)
+      ∙ ap (λ (x : Option (Term ℕ)). put_entries (entries_by (naming_by labels fresh at here (length old)) Some x at here) (owners_begun (moment labels fresh 0 0) at here old)) e
+      ∙ skips here.skipped k ∙ ap (lists_with (length old) old) r
+    where
+      E : List (Option Owning)
+      E = put_entries
+          (entries_by (naming_by labels fresh at here (length old)) Some (value_now (rule (moment labels fresh 0 0) base at.facts here) at.facts) at here)
+          (owners_begun (moment labels fresh 0 0) at here old)
 
-    skips : (b : Bool) → b ≡ false → E ≡ (if b then old else E)
-    skips false g = refl
-    skips true g = absurd (cc)
+      skips : (b : Bool) → b ≡ false → E ≡ (if b then old else E)
+      skips false g = refl
+      skips true g = absurd (cc)
 
--- ---- the text
+  -- ---- the text
 
-pub gathers_entered : (at : Place) (around : Context) (facts : Facts) (here : Resources ℕ) (value : Option (Term ℕ)) → here ≡ resources (naming at) at.base.now (standing_in at around facts)
-    → here.skipped ≡ false → value ≡ value_now (rule (naming at) at.base.now facts here) facts → (is_some facts.property && is_none value) ≡ gathers_in at around facts
-gathers_entered at around facts here value r k e =
-    ap (λ (x : Option (Term ℕ)). is_some facts.property && is_none x) e ∙ not_skipped here.skipped k
-    ∙ ap (λ (h : Resources ℕ). not h.skipped && gathers (naming at) at.base.now facts h) r
-  where
-    not_skipped : (b : Bool) → b ≡ false → gathers (naming at) at.base.now facts here ≡ (not b && gathers (naming at) at.base.now facts here)
-    not_skipped false g = refl
-    not_skipped true g = absurd (cc)
+  pub gathers_entered : (value : Option (Term ℕ)) → here.skipped ≡ false → value ≡ value_now (rule (moment labels fresh 0 0) base at.facts here) at.facts
+      → (is_some at.facts.property && is_none value)
+      ≡ (not (resources (moment labels fresh 0 0) base at).skipped && gathers (moment labels fresh 0 0) base at.facts (resources (moment labels fresh 0 0) base at))
+  gathers_entered value k e =
+      ap (λ (x : Option (Term ℕ)). is_some at.facts.property && is_none x) e ∙ not_skipped here.skipped k
+      ∙ ap (λ (h : Resources ℕ). not h.skipped && gathers (moment labels fresh 0 0) base at.facts h) r
+    where
+      not_skipped : (b : Bool) → b ≡ false → gathers (moment labels fresh 0 0) base at.facts here ≡ (not b && gathers (moment labels fresh 0 0) base at.facts here)
+      not_skipped false g = refl
+      not_skipped true g = absurd (cc)
 
-pub gathers_skipped : (at : Place) (around : Context) (facts : Facts) (here : Resources ℕ) → here ≡ resources (naming at) at.base.now (standing_in at around facts)
-    → here.skipped ≡ true → false ≡ gathers_in at around facts
-gathers_skipped at around facts here r k =
-    skips here.skipped k ∙ ap (λ (h : Resources ℕ). not h.skipped && gathers (naming at) at.base.now facts h) r
-  where
-    skips : (b : Bool) → b ≡ true → false ≡ (not b && gathers (naming at) at.base.now facts here)
-    skips true g = refl
-    skips false g = absurd (cc)
+  pub gathers_skipped : here.skipped ≡ true
+      → false ≡ (not (resources (moment labels fresh 0 0) base at).skipped && gathers (moment labels fresh 0 0) base at.facts (resources (moment labels fresh 0 0) base at))
+  gathers_skipped k = skips here.skipped k ∙ ap (λ (h : Resources ℕ). not h.skipped && gathers (moment labels fresh 0 0) base at.facts h) r
+    where
+      skips : (b : Bool) → b ≡ true → false ≡ (not b && gathers (moment labels fresh 0 0) base at.facts here)
+      skips true g = refl
+      skips false g = absurd (cc)
 
 pub ok_then : {A E : Type 0} {P Q : A → Type 0} (r : Result A E) → ((a : A) → P a → Q a) → IfOk r P → IfOk r Q
 ok_then (Ok a) f h = f a h
@@ -298,16 +222,3 @@ on_always (Err e) q = tt
 pub gathers_is : (value : Option CodeTerm) (facts : Facts) → (is_some facts.property && is_none value) ≡ (is_some facts.property && is_none (option_map term_seen value))
 gathers_is None facts = refl
 gathers_is (Some v) facts = refl
-
--- ---- the resources by themselves
-
-pub placed_is : (found : Found) (s : CodeNode) (t o : Option CodeNode) → s ≡ found.subject → t ≡ found.typed → o ≡ found.object
-    → resources_of (node_seen s) (option_map node_seen t) (option_map node_seen o) found.skipped ≡ found_seen found
-placed_is found s t o e f g = rw (e, f, g) refl
-
-pub given_value : (v : Option (Term ℕ)) (w : Term ℕ) → None ≡ v → w ≡ unwrap_or v w
-given_value v w e = ap (λ (x : Option (Term ℕ)). unwrap_or x w) e
-
-pub ok_value : {E : Type 0} (v : Option (Term ℕ)) (w : Term ℕ) (r : Result CodeTerm E) → None ≡ v → IfOk r (λ term. term_seen term ≡ w) → IfOk r (λ term. term_seen term ≡ unwrap_or v w)
-ok_value v w (Ok t) e h = h ∙ given_value v w e
-ok_value v w (Err x) e h = h

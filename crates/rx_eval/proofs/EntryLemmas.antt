@@ -1,16 +1,16 @@
 -- Entries that are put one after another.
-use Rattle.std.proofs.Common.{◌≡◌, ◌∙◌, ℕ, zero, suc, ◌+◌, ◌≤◌, Bool, true, false, List, [], ◌∷◌, ◌++◌, length, drop, Option, Some, None, slice_get, slice_set, bytes_eq, refl, sym, ap, subst, arith, add-one, append_assoc, append-nil}
+use Rattle.std.proofs.Common.{◌≡◌, ◌∙◌, ℕ, zero, suc, ◌+◌, ◌≤◌, List, [], ◌∷◌, ◌++◌, length, drop, Option, Some, None, slice_get, slice_set, bytes_eq, refl, sym, ap, add-one, append_assoc, append-nil}
 use Rattle.rx_terms.specs.Text.{Chars}
 use Rattle.rx_terms.specs.declared.triples.Term.{Term}
 use Rattle.rx_rdfa.specs.Tables.{put}
-use Rattle.rx_lists.specs.Owners.{Owned, owned, Owners, Slots, changed, with_term, place_of, slots_of, lists_of, open_at}
+use Rattle.rx_lists.specs.Owners.{owned, Owners, Slots, changed, with_term, place_of, slots_of, lists_of, open_at}
 use Rattle.rx_lists.specs.SlotIds.{slot_in}
 use Rattle.rx_lists.specs.declared.lists.Owner.{Owner}
 use Rattle.rx_lists.specs.declared.lists.SlotId.{SlotId}
-use Rattle.rx_eval.specs.declared.contexts.Waiting.{Waiting}
-use Rattle.rx_eval.specs.Entries.{put_each, slots_for, put_awaited, awaited_by}
-use Rattle.rx_eval.proofs.LabelLemmas.{by_test}
-use Rattle.rx_eval.proofs.DrawLemmas.{drop_at, nothing_left}
+use Rattle.rx_element.specs.declared.contexts.Waiting.{Waiting}
+use Rattle.rx_eval.specs.Entries.{put_each, slots_for, put_awaited}
+use Rattle.rx_element.proofs.LabelLemmas.{by_test}
+use Rattle.rx_element.proofs.DrawLemmas.{drop_at, nothing_left}
 
 set_end : {A : Type 0} (xs : List A) (x y : A) → slice_set (xs ++ x ∷ []) (length xs) y ≡ xs ++ y ∷ []
 set_end [] x y = refl

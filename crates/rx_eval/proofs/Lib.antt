@@ -1,6 +1,3 @@
-pub mod LabelLemmas
-pub mod DrawLemmas
-pub mod TripleLemmas
 pub mod EntryLemmas
 pub mod NodeLemmas
 pub mod GrowLemmas

@@ -1,24 +1,20 @@
 -- The start of an element on the stack.
-use Rattle.std.proofs.Common.{◌≡◌, ◌∙◌, ℕ, ◌+◌, ◌<◌, ◌≤◌, ◌^◌, Bool, List, [], ◌∷◌, ◌++◌, map, length, Option, Some, None, is_some, option_map, refl, sym, ap, ap₂, arith}
+use Rattle.std.proofs.Common.{◌≡◌, ◌∙◌, ℕ, ◌+◌, ◌<◌, ◌≤◌, ◌^◌, List, [], ◌∷◌, map, length, Option, Some, None, is_some, option_map, refl, ap, arith}
 use Rattle.rx_terms.specs.Text.{Chars}
-use Rattle.rx_model.specs.Terms.{Triple}
-use Rattle.rx_rdfa.specs.Facts.{Facts}
 use Rattle.rx_rdfa.specs.Resources.{Inherited}
-use Rattle.rx_eval.specs.Labels.{Numbered, Drawn}
-use Rattle.rx_eval.specs.OwnersSeen.{Owning}
-use Rattle.rx_eval.specs.Frames.{context_seen}
+use Rattle.rx_element.specs.Labels.{Numbered, Drawn}
+use Rattle.rx_element.specs.Contexts.{context_seen}
 use Rattle.rx_eval.specs.Opening.{around_in}
-use Rattle.rx_eval.specs.Opened.{handed_on, start_at, below_at, lists_at, gathers_at, first_of}
-use Rattle.rx_eval.specs.States.{Frame, frame_seen, text_seen}
-use Rattle.rx_eval.specs.declared.contexts.Context.{Context}
+use Rattle.rx_eval.specs.Opened.{handed_on}
+use Rattle.rx_eval.specs.States.{frame_seen, text_seen}
+use Rattle.rx_element.specs.declared.contexts.Context.{Context}
 use Rattle.rx_eval.specs.declared.frames.Frame.{Frame as CodeFrame}
 use Rattle.rx_eval.specs.declared.frames.Gathered.{Gathered}
-use Rattle.rx_eval.specs.declared.places.Level.{Level}
-use Rattle.rx_eval.specs.declared.contexts.Waiting.{Waiting}
-use Rattle.rx_eval.specs.declared.contexts.Waiting.TheVariants as code
-use Rattle.rx_eval.specs.Triples.{waiting_seen}
+use Rattle.rx_element.specs.declared.contexts.Waiting.{Waiting}
+use Rattle.rx_element.specs.declared.contexts.Waiting.TheVariants as code
+use Rattle.rx_element.specs.Contexts.{waiting_seen}
 use Rattle.rx_eval.specs.Waits.{Wait, wait_seen, wait_by}
-use Rattle.rx_eval.proofs.DrawLemmas.{drawn_most}
+use Rattle.rx_element.proofs.DrawLemmas.{drawn_most}
 
 handed_seen : (page : Context) (frames : List CodeFrame) → context_seen (around_in page frames) ≡ handed_on (context_seen page) (map frame_seen frames)
 handed_seen page [] = refl
@@ -45,6 +41,3 @@ waits_are (code.InList o p ∷ ws) = ap (λ (l : List Wait). wait_seen (code.InL
 
 pub shown_waits : (around : Context) (ws : List Waiting) (context : Inherited ℕ ℕ) → ws ≡ around.hanging → context_seen around ≡ context → map wait_seen ws ≡ map wait_by context.hanging
 shown_waits around ws context e a = ap (map wait_seen) e ∙ waits_are around.hanging ∙ ap (λ (x : Inherited ℕ ℕ). map wait_by x.hanging) a
-
-pub fresh_room : (old new : Numbered) (next fresh : ℕ) (labels : List Chars) → Drawn old next labels new fresh → next + 1 + length labels < 2 ^ 64 → fresh + 1 < 2 ^ 64
-fresh_room old new next fresh labels d h = omega (arith, drawn_most old new next fresh labels d, h)

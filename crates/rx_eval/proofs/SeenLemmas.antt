@@ -1,30 +1,28 @@
 -- What is put into the code's lists, as the rules see it.
-use Rattle.std.proofs.Common.{◌≡◌, ◌∙◌, ℕ, zero, suc, List, [], ◌∷◌, ◌++◌, map, filter_map, Option, Some, None, option_map, option_to_list, slice_get, slice_set, bytes_eq, refl, sym, ap, ap₂, length, drop, ◌≤◌, slice_index_or, Result, Ok, Err, OnOk}
-use Rattle.std.specs.Prelude.{Bool, true, false, if◌then◌else◌}
+use Rattle.std.proofs.Common.{◌≡◌, ◌∙◌, ℕ, zero, suc, List, [], ◌∷◌, ◌++◌, map, filter_map, Option, Some, None, option_map, option_to_list, slice_set, bytes_eq, refl, sym, ap, ap₂, length, drop, ◌≤◌, slice_index_or, Result, Ok, Err, OnOk}
 use Rattle.std.proofs.lemmas.List.{map-append, map-set}
 use Rattle.rx_terms.specs.Text.{Chars}
 use Rattle.rx_terms.specs.declared.triples.Node.{Node as CodeNode}
 use Rattle.rx_terms.specs.declared.triples.Node.TheVariants as code_node
 use Rattle.rx_terms.specs.declared.triples.Term.{Term as CodeTerm}
-use Rattle.rx_model.specs.Terms.{Node, Term}
+use Rattle.rx_model.specs.Terms.{Term}
 use Rattle.rx_model.specs.Seen.{node_seen, term_seen}
 use Rattle.rx_rdfa.specs.Tables.{put}
-use Rattle.rx_rdfa.specs.Lists.{Entry, entry}
-use Rattle.rx_rdfa.specs.Inherited.{listed}
+use Rattle.rx_rdfa.specs.Lists.{entry}
 use Rattle.rx_lists.specs.Owners.{Owned, Owners, Slots, changed, with_term, itself, open_at, trimmed, trimmed_by, forgotten, lists_of}
 use Rattle.rx_lists.specs.Cells.{cells_of, items_seen, finished_cells, size}
 use Rattle.rx_eval.specs.Ending.{cells_count}
 use Rattle.rx_lists.specs.declared.lists.SlotId.{SlotId}
 use Rattle.rx_eval.specs.Closing.{filled_in}
-use Rattle.rx_eval.specs.declared.contexts.Waiting.{Waiting}
-use Rattle.rx_eval.specs.declared.contexts.Waiting.TheVariants.{Forward, Reverse, InList}
-use Rattle.rx_eval.specs.Triples.{waiting_seen}
-use Rattle.rx_eval.specs.TextRules.{term_of, resource_term}
-use Rattle.rx_eval.specs.Entries.{put_each, put_awaited, awaited_by}
+use Rattle.rx_element.specs.declared.contexts.Waiting.{Waiting}
+use Rattle.rx_element.specs.declared.contexts.Waiting.TheVariants.{Forward, Reverse, InList}
+use Rattle.rx_element.specs.Contexts.{waiting_seen}
+use Rattle.rx_element.specs.TextRules.{term_of, resource_term}
+use Rattle.rx_eval.specs.Entries.{put_each, put_awaited}
 use Rattle.rx_eval.specs.OwnersSeen.{Owning, owning, slots_seen, owning_seen, owners_seen, put_at, put_entries, with_item, open_seen, fill_seen, fill_all, cells_seen, ended_by, ended, forgotten_seen}
 use Rattle.rx_eval.specs.Listing.{Entries, awaited_entry}
-use Rattle.rx_eval.proofs.DrawLemmas.{nothing_left}
-use Rattle.rx_eval.proofs.LabelLemmas.{by_test}
+use Rattle.rx_element.proofs.DrawLemmas.{nothing_left}
+use Rattle.rx_element.proofs.LabelLemmas.{by_test}
 
 abbrev pub item_seen : Option (Option CodeTerm) → Option (Option (Term ℕ))
 item_seen item = option_map (option_map term_seen) item

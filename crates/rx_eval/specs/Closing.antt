@@ -1,6 +1,5 @@
 -- The end of an element, part by part.
 use Rattle.std.specs.Prelude.{ℕ, List, [], ◌∷◌, map}
-use Rattle.rx_terms.specs.Text.{Chars}
 use Rattle.rx_terms.specs.declared.triples.Term.{Term as CodeTerm}
 use Rattle.rx_model.specs.Terms.{Node, Term, Triple}
 use Rattle.rx_model.specs.Copied.{spo}

@@ -1,7 +1,7 @@
 -- The start of an element, part by part.
-use Rattle.std.specs.Prelude.{ℕ, suc, Bool, List, [], Option, Some, None, unwrap_or, nat_eq, if◌then◌else◌}
+use Rattle.std.specs.Prelude.{ℕ, [], Option, Some, None, unwrap_or, if◌then◌else◌}
 use Rattle.rx_terms.specs.declared.triples.Node.{Node as CodeNode}
-use Rattle.rx_model.specs.Terms.{Node, same_node}
+use Rattle.rx_model.specs.Terms.{Node}
 use Rattle.rx_rdfa.specs.Facts.{Facts}
 use Rattle.rx_rdfa.specs.Resources.{Inherited, Resources}
 use Rattle.rx_rdfa.specs.Inherited.{hangs}

@@ -1,12 +1,12 @@
 -- What the end of an element does to the triples and the lists.
-use Rattle.std.specs.Prelude.{◌≡◌, ℕ, ◌+◌, ◌-◌, ◌==◌, Bool, true, false, List, [], ◌∷◌, ◌++◌, map, filter_map, length, Option, Some, None, is_some, if◌then◌else◌}
+use Rattle.std.specs.Prelude.{◌≡◌, ℕ, ◌+◌, ◌==◌, Bool, true, false, List, [], ◌∷◌, ◌++◌, map, filter_map, length, Option, Some, None, if◌then◌else◌}
 use Rattle.rx_terms.specs.Text.{Chars}
 use Rattle.rx_model.specs.Terms.{Node, Term, Triple}
 use Rattle.rx_model.specs.Copied.{spo}
 use Rattle.rx_values.specs.Marks.{CutAt}
 use Rattle.rx_lists.specs.Owners.{itself}
 use Rattle.rx_lists.specs.Cells.{size}
-use Rattle.rx_eval.specs.TextRules.{text_literal}
+use Rattle.rx_element.specs.TextRules.{text_literal}
 use Rattle.rx_eval.specs.OwnersSeen.{Owning, open_seen, cells_seen, forgotten_seen, fill_all}
 use Rattle.rx_eval.specs.States.{Text, Frame, State}
 
@@ -42,7 +42,7 @@ said_triples (Some predicates) subject value = map (λ p. spo subject p value) p
 abbrev pub say_text : Option Text → Chars → Ending → Ending
 say_text None chars e = e
 say_text (Some text) chars e =
-    ending (e.out ++ said_triples text.said text.subject (text_literal text.rule text.lang chars)) (fill_all text.slots (text_literal text.rule text.lang chars) e.owners) e.cells
+    ending (e.out ++ said_triples text.said text.subject (text_literal text.by chars)) (fill_all text.slots (text_literal text.by chars) e.owners) e.cells
 
 -- the values that are the element's text, the lists of its object, those of its subject
 abbrev pub end_frame : Frame → Chars → Ending → Ending

@@ -5,7 +5,7 @@ use Rattle.rx_model.specs.Seen.{node_seen}
 use Rattle.rx_rdfa.specs.Facts.{Facts}
 use Rattle.rx_rdfa.specs.Resources.{Resources}
 use Rattle.rx_rdfa.specs.Inherited.{listed}
-use Rattle.rx_eval.specs.TextRules.{text_rule}
+use Rattle.rx_element.specs.TextRules.{IsTextRule}
 use Rattle.rx_eval.specs.declared.frames.Gathered.{Gathered}
 use Rattle.rx_eval.specs.declared.frames.Target.{Target}
 use Rattle.rx_eval.specs.declared.frames.Target.TheVariants.{Said, Listed}
@@ -17,7 +17,6 @@ target_seen (Listed slots) = None
 
 pub record Gathers (facts : Facts) (here : Resources ℕ) (mark : ℕ) (gathered : Gathered) : Type 0 where
   pub subject : node_seen gathered.subject ≡ here.subject
-  pub rule : gathered.rule ≡ text_rule facts
-  pub lang : gathered.lang ≡ facts.lang
+  pub rule : IsTextRule facts gathered.rule
   pub target : target_seen gathered.target ≡ (if facts.inlist then None else Some (listed facts.property))
   pub begins : gathered.mark ≡ mark

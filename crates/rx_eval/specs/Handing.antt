@@ -1,5 +1,5 @@
 -- What an element begins and hands on.
-use Rattle.std.specs.Prelude.{ℕ, List, [], ◌∷◌, ◌++◌, Option, Some, None, nat_eq, if◌then◌else◌}
+use Rattle.std.specs.Prelude.{ℕ, [], ◌∷◌, ◌++◌, Option, Some, None, nat_eq, if◌then◌else◌}
 use Rattle.rx_terms.specs.declared.triples.Node.{Node}
 use Rattle.rx_model.specs.Terms.{same_node}
 use Rattle.rx_model.specs.Seen.{node_seen}

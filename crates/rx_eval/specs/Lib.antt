@@ -1,12 +1,4 @@
-pub mod Labels
-pub mod Rows
-pub mod Moment
-pub mod Places
-pub mod Found
-pub mod TextRules
-pub mod Triples
 pub mod Entries
-pub mod Starts
 pub mod Handing
 pub mod Frames
 pub mod OwnersSeen
@@ -20,4 +12,3 @@ pub mod States
 pub mod Opened
 pub mod Ending
 pub mod Waits
-pub mod Placing

@@ -1,12 +1,12 @@
 -- What an element puts into lists, part by part.
-use Rattle.std.specs.Prelude.{ℕ, Bool, List, [], ◌++◌, map, filter_map, Option, Some, None, if◌then◌else◌}
+use Rattle.std.specs.Prelude.{ℕ, List, [], ◌++◌, map, filter_map, Option, Some, None, if◌then◌else◌}
 use Rattle.rx_terms.specs.Text.{Chars}
-use Rattle.rx_model.specs.Terms.{Node, Term, Resource}
+use Rattle.rx_model.specs.Terms.{Node, Term}
 use Rattle.rx_rdfa.specs.Facts.{Facts}
 use Rattle.rx_rdfa.specs.Resources.{Hanging, Forward, Reverse, InList, Resources}
 use Rattle.rx_rdfa.specs.Inherited.{listed, hangs}
 use Rattle.rx_rdfa.specs.Lists.{Entry, entry}
-use Rattle.rx_eval.specs.TextRules.{resource_term}
+use Rattle.rx_element.specs.TextRules.{resource_term}
 
 abbrev pub Entries : Type 0
 Entries = List (Entry ℕ (Option (Term ℕ)))

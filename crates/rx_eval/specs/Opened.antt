@@ -1,57 +1,21 @@
 -- What the start of an element does to the stack, by the rules.
-use Rattle.std.specs.Prelude.{◌≡◌, ◌<◌, ◌≤◌, ◌^◌, ◌+◌, false, ℕ, suc, Bool, not, ◌&&◌, List, [], ◌∷◌, ◌++◌, length, Option, Some, None, nat_eq, is_some, if◌then◌else◌}
-use Rattle.std.specs.Str.{encode_utf8_all}
+use Rattle.std.specs.Prelude.{◌≡◌, ◌<◌, ◌≤◌, ◌^◌, ◌+◌, false, ℕ, Bool, List, [], ◌∷◌, ◌++◌, length, Option, Some, None, is_some, if◌then◌else◌}
 use Rattle.rx_terms.specs.Text.{Chars}
-use Rattle.rx_model.specs.Terms.{Iri, Triple, same_node}
-use Rattle.rx_rdfa.specs.Naming.{Naming}
+use Rattle.rx_model.specs.Terms.{Iri}
 use Rattle.rx_rdfa.specs.Facts.{Facts}
 use Rattle.rx_rdfa.specs.Renaming.{labels}
-use Rattle.rx_rdfa.specs.Resources.{Inherited, Standing, Resources, resources}
-use Rattle.rx_rdfa.specs.Inherited.{below, object_below}
-use Rattle.rx_rdfa.specs.Element.{start_of}
-use Rattle.rx_rdfa.specs.Value.{rule, value_now, gathers}
-use Rattle.rx_rdfa.specs.Lists.{entries_by}
-use Rattle.rx_eval.specs.Labels.{Numbered, draw}
-use Rattle.rx_eval.specs.Moment.{moment}
-use Rattle.rx_eval.specs.Places.{level_at, path_at}
-use Rattle.rx_eval.specs.OwnersSeen.{Owning, owning, put_entries}
-use Rattle.rx_eval.specs.Entering.{begun_seen, begun_for}
+use Rattle.rx_rdfa.specs.Resources.{Inherited}
+use Rattle.rx_element.specs.Labels.{draw}
+use Rattle.rx_element.specs.Places.{level_at}
+use Rattle.rx_eval.specs.OwnersSeen.{owning}
+use Rattle.rx_eval.specs.Entering.{start_at, below_at, gathers_at, lists_at}
 use Rattle.rx_eval.specs.Opening.{drawn_after}
 use Rattle.rx_eval.specs.States.{State, Frame}
-use Rattle.rx_eval.specs.declared.places.Level.{Level}
 
 -- what a child of the last frame inherits
 abbrev pub handed_on : Inherited ℕ ℕ → List Frame → Inherited ℕ ℕ
 handed_on page [] = page
 handed_on page (frame ∷ frames) = handed_on frame.context frames
-
--- an element at a level with the labels' numbers, the number of a new node, the base, and what it inherits
-module _ (labels : Numbered) (fresh : ℕ) (base : Chars) (level : Level) (around : Inherited ℕ ℕ) (facts : Facts) where
-  abbrev pub standing_by : Standing ℕ ℕ
-  standing_by = record { facts = facts; path = path_at level; around = around }
-
-  abbrev pub resources_by : Resources ℕ
-  resources_by = resources (moment labels fresh 0 0) base standing_by
-
-  abbrev pub start_at : List (Triple ℕ)
-  start_at = start_of (moment labels fresh 0 0) base standing_by
-
-  -- its owners having the numbers from n on
-  abbrev pub naming_from : ℕ → Naming ℕ ℕ
-  naming_from n = moment labels fresh n (if same_node nat_eq resources_by.subject around.object then n else suc n)
-
-  abbrev pub below_at : ℕ → Inherited ℕ ℕ
-  below_at n = below (naming_from n) base standing_by
-
-  abbrev pub gathers_at : Bool
-  gathers_at = not resources_by.skipped && gathers (moment labels fresh 0 0) base facts resources_by
-
-  abbrev pub lists_at : List (Option Owning) → List (Option Owning)
-  lists_at owners =
-      if resources_by.skipped then owners
-      else put_entries
-      (entries_by (naming_from (length owners)) Some (value_now (rule (moment labels fresh 0 0) base facts resources_by) facts) standing_by resources_by)
-      (begun_for (object_below (moment labels fresh 0 0) standing_by resources_by) resources_by.subject (begun_seen resources_by.subject around.object owners))
 
 abbrev pub first_of : Option ℕ → Bool → ℕ → Option ℕ
 first_of None gathers depth = if gathers then Some depth else None

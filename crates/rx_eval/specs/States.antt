@@ -1,17 +1,17 @@
 -- The stack of contexts, as the rules see it.
-use Rattle.std.specs.Prelude.{ℕ, ◌+◌, ◌-◌, Bool, true, false, List, [], ◌∷◌, ◌++◌, map, take, length, Option, Some, None, option_map, is_some, if◌then◌else◌}
+use Rattle.std.specs.Prelude.{ℕ, Bool, List, Option, option_map}
 use Rattle.rx_terms.specs.Text.{Chars}
 use Rattle.rx_model.specs.Terms.{Node, Triple}
-use Rattle.rx_model.specs.Seen.{node_seen, triples_seen}
+use Rattle.rx_model.specs.Seen.{node_seen}
 use Rattle.rx_rdfa.specs.Resources.{Inherited}
 use Rattle.rx_lists.specs.declared.lists.SlotId.{SlotId}
 use Rattle.rx_lists.specs.declared.lists.Owner.{Owner}
-use Rattle.rx_eval.specs.Labels.{Numbered}
-use Rattle.rx_eval.specs.Frames.{context_seen}
-use Rattle.rx_eval.specs.OwnersSeen.{Owning, owners_seen}
+use Rattle.rx_element.specs.Labels.{Numbered}
+use Rattle.rx_element.specs.Contexts.{context_seen}
+use Rattle.rx_element.specs.declared.values.TextRule.{TextRule}
+use Rattle.rx_eval.specs.OwnersSeen.{Owning}
 use Rattle.rx_eval.specs.Gathering.{target_seen}
 use Rattle.rx_eval.specs.Closing.{slots_in}
-use Rattle.rx_eval.specs.declared.values.TextRule.{TextRule}
 use Rattle.rx_eval.specs.declared.frames.Gathered.{Gathered}
 use Rattle.rx_eval.specs.declared.frames.Frame.{Frame as CodeFrame}
 
@@ -19,8 +19,7 @@ use Rattle.rx_eval.specs.declared.frames.Frame.{Frame as CodeFrame}
 -- triples or the places in lists that wait for it, and how much text was kept at its start, in bytes
 pub record Text : Type 0 where
   pub subject : Node ℕ
-  pub rule : TextRule
-  pub lang : Option Chars
+  pub by : TextRule
   pub said : Option (List Chars)
   pub slots : List SlotId
   pub mark : ℕ
@@ -35,8 +34,7 @@ pub record Frame : Type 0 where
 abbrev pub text_seen : Gathered → Text
 text_seen gathered = record {
   subject = node_seen gathered.subject;
-  rule = gathered.rule;
-  lang = gathered.lang;
+  by = gathered.rule;
   said = target_seen gathered.target;
   slots = slots_in gathered.target;
   mark = gathered.mark;

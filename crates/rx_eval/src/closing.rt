@@ -2,7 +2,7 @@
 ghost use Rattle.std.specs.Prelude.{◌≡◌, ◌+◌, ◌++◌, OnOk, IfOk, option_map};
 ghost use Rattle.std.specs.Str.{chars};
 ghost use Rattle.rx_model.specs.Seen.{node_seen, term_seen, triples_seen};
-ghost use Rattle.rx_eval.specs.TextRules.{text_literal};
+ghost use Rattle.rx_element.specs.TextRules.{text_literal};
 ghost use Rattle.rx_eval.specs.OwnersSeen.{owners_seen, fill_all, open_seen, cells_seen, forgotten_seen};
 ghost use Rattle.rx_terms.specs.Text.{Chars};
 ghost use Rattle.rx_eval.specs.States.{frame_seen, owner_seen};
@@ -10,7 +10,7 @@ ghost use Rattle.rx_eval.specs.Ending.{ending, end_owner, end_frame, cells_count
 ghost use Rattle.rx_eval.specs.Closing.{filled_in, said_by, slots_in};
 
 use crate::frames::{Frame, Gathered, Target};
-use crate::triples::push_each;
+use rx_element::push_each;
 use rx_lists::{Lists, Owner, SlotId};
 use rx_terms::{NoMemory, Term, TripleList};
 use rx_values::TextStore;
@@ -51,10 +51,10 @@ pub(crate) fn end_text(
     gathered: &Gathered,
     text: &str,
 ) -> Result<(), NoMemory>
-    ensures said { OnOk result (triples_seen out.new ≡ triples_seen out.old ++ said_by gathered.now.target (node_seen gathered.now.subject) (text_literal gathered.now.rule gathered.now.lang (chars text.now))) }
-    ensures filled { OnOk result (owners_seen lists.new ≡ fill_all (slots_in gathered.now.target) (text_literal gathered.now.rule gathered.now.lang (chars text.now)) (owners_seen lists.old)) }
+    ensures said { OnOk result (triples_seen out.new ≡ triples_seen out.old ++ said_by gathered.now.target (node_seen gathered.now.subject) (text_literal gathered.now.rule (chars text.now))) }
+    ensures filled { OnOk result (owners_seen lists.new ≡ fill_all (slots_in gathered.now.target) (text_literal gathered.now.rule (chars text.now)) (owners_seen lists.old)) }
 {
-    let value = gathered.rule.value(alloc, &gathered.lang, text)?;
+    let value = gathered.rule.value(alloc, text)?;
     put_value(out, lists, gathered, &value)
 }
 

@@ -7,7 +7,7 @@ ghost use Rattle.rx_rdfa.specs.Lists.{entry};
 ghost use Rattle.rx_eval.specs.OwnersSeen.{owners_seen, put_entries};
 ghost use Rattle.rx_eval.specs.Entries.{put_each, slots_for, put_awaited};
 
-use crate::contexts::Waiting;
+use rx_element::Waiting;
 use rx_lists::{Lists, Owner, SlotId};
 use rx_terms::{Iri, Iris, NoMemory, Term};
 use std::alloc::Global;

@@ -10,15 +10,12 @@ ghost use Rattle.rx_eval.specs.Ending.{Closes, is_place};
 ghost use Rattle.rx_eval.specs.States.{owner_seen};
 
 use crate::closing::{end_frame, end_owner};
-use crate::contexts::{Context, Hangings};
-use crate::drawing::draw_labels;
+use crate::elements::enter;
 use crate::frames::Frame;
 use crate::inherited::Inherited;
-use crate::labels::Labels;
 use crate::opening::{around, next_number};
-use crate::places::{Place, level_at};
-use crate::shared::Shared;
 use rx_curie::Facts;
+use rx_element::{Context, Hangings, Labels, Place, Shared, draw_labels, level_at};
 use rx_lists::{Lists, Owner};
 use rx_terms::{Iri, NoMemory, Node, TripleList};
 use rx_values::TextStore;
@@ -52,7 +49,7 @@ impl Model for Eval {
     ghost use Rattle.std.specs.Prelude.{map, length, ◌≤◌};
     ghost use Rattle.rx_model.specs.Seen.{triples_seen};
     ghost use Rattle.rx_eval.specs.States.{State, frame_seen};
-    ghost use Rattle.rx_eval.specs.Frames.{context_seen};
+    ghost use Rattle.rx_element.specs.Contexts.{context_seen};
     ghost use Rattle.rx_eval.specs.OwnersSeen.{owners_seen};
 
     ghost Value = { State };
@@ -218,13 +215,13 @@ impl Eval {
         let place = Place {
             alloc: self.alloc,
             base: &self.base,
-            object: &around.object,
+            around,
             level: level_at(depth),
             labels: &self.labels,
             fresh,
         };
         let mark = self.text.mark();
-        let frame = place.enter(around, facts, &mut self.lists, &mut self.out, mark)?;
+        let frame = enter(&place, facts, &mut self.lists, &mut self.out, mark)?;
         let drawn = next_number(&frame.context, fresh);
         let gathers = frame.gathered.is_some();
         let Ok(()) = self.frames.push(frame) else {

@@ -1,15 +1,13 @@
 //! An open element.
 ghost use Rattle.std.specs.Prelude.{◌≡◌, ◌++◌, OnOk, IfOk, map};
 ghost use Rattle.rx_curie.specs.Seen.{facts_seen};
-ghost use Rattle.rx_eval.specs.Triples.{waiting_seen};
+ghost use Rattle.rx_element.specs.Contexts.{waiting_seen};
 ghost use Rattle.rx_eval.specs.Frames.{forward_by, reverse_by, hanging_by};
 
-use crate::contexts::{Context, Waiting};
-use crate::shared::Shared;
-use crate::values::TextRule;
 use rx_curie::Facts;
+use rx_element::{Context, Shared, TextRule, Waiting};
 use rx_lists::{Owner, SlotId};
-use rx_terms::{Iri, Iris, Lang, NoMemory};
+use rx_terms::{Iri, Iris, NoMemory};
 use std::alloc::Global;
 
 /// Where the value of an element's text goes.
@@ -26,7 +24,6 @@ pub(crate) enum Target {
 pub(crate) struct Gathered {
     pub(crate) subject: Shared,
     pub(crate) rule: TextRule,
-    pub(crate) lang: Option<Lang>,
     pub(crate) target: Target,
     /// Where the element's text begins in the text that is kept.
     pub(crate) mark: usize,

@@ -4,13 +4,12 @@ ghost use Rattle.rx_model.specs.Terms.{same_node};
 ghost use Rattle.rx_model.specs.Seen.{node_seen};
 ghost use Rattle.rx_rdfa.specs.Inherited.{hangs, holds_some, listed, object_below};
 ghost use Rattle.rx_curie.specs.Seen.{facts_seen};
-ghost use Rattle.rx_eval.specs.Found.{found_seen, naming, standing};
+ghost use Rattle.rx_element.specs.Found.{found_seen};
+ghost use Rattle.rx_element.specs.Places.{naming, standing};
 ghost use Rattle.rx_eval.specs.Handing.{begun, begun_number};
 
-use crate::places::Place;
-use crate::resources::Found;
-use crate::shared::{Shared, share_option};
 use rx_curie::Facts;
+use rx_element::{Found, Place, Shared, share_option};
 use rx_lists::{Lists, Owner};
 use rx_terms::{Iris, NoMemory, Node};
 
@@ -40,20 +39,18 @@ pub(crate) fn hangs(facts: &Facts, found: &Found) -> bool
     has_some(&facts.rel) || has_some(&facts.rev)
 }
 
-impl<'a> Place<'a> {
-    /// The object that the children inherit, where it isn't the subject.
-    pub(crate) fn object_below(
-        &self,
-        facts: &Facts,
-        found: &Found,
-    ) -> Result<Option<Shared>, NoMemory>
-        ensures { IfOk result (λ object. option_map node_seen object ≡ object_below (naming self.now) (standing self.now (facts_seen facts.now)) (found_seen found.now)) }
-    {
-        if hangs(facts, found) {
-            return Ok(Some(self.fresh()?));
-        }
-        share_option(&found.object)
+/// The object that the children inherit, where it isn't the subject.
+pub(crate) fn object_below(
+    place: &Place<'_>,
+    facts: &Facts,
+    found: &Found,
+) -> Result<Option<Shared>, NoMemory>
+    ensures { IfOk result (λ object. option_map node_seen object ≡ object_below (naming place.now) (standing place.now (facts_seen facts.now)) (found_seen found.now)) }
+{
+    if hangs(facts, found) {
+        return Ok(Some(place.fresh()?));
     }
+    share_option(&found.object)
 }
 
 /// A new owner of lists with the subject, where that isn't the other node.

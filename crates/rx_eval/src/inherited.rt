@@ -2,7 +2,7 @@
 ghost use Rattle.std.specs.Prelude.{◌≡◌, ◌<◌, length, Some, slice_get};
 ghost use Rattle.rx_eval.specs.Waits.{waits, wait_seen, hanging_seen};
 
-use crate::contexts::Waiting;
+use rx_element::Waiting;
 use rx_terms::{Iri, Node};
 
 /// How a triple waits.

@@ -2,18 +2,15 @@
 ghost use Rattle.std.specs.Prelude.{◌≡◌, OnOk, Some, None, map, option_map, if◌then◌else◌, [], filter_map};
 ghost use Rattle.rx_model.specs.Seen.{node_seen, term_seen};
 ghost use Rattle.rx_curie.specs.Seen.{facts_seen};
-ghost use Rattle.rx_eval.specs.Found.{found_seen};
-ghost use Rattle.rx_eval.specs.Triples.{waiting_seen};
+ghost use Rattle.rx_element.specs.Found.{found_seen};
+ghost use Rattle.rx_element.specs.Contexts.{waiting_seen};
 ghost use Rattle.rx_eval.specs.OwnersSeen.{owners_seen, put_entries};
 ghost use Rattle.rx_eval.specs.Listing.{entries_for, linked_entries, awaited_entry, own_entries, entries_in};
 
-use crate::contexts::Waiting;
 use crate::entries::{add_awaited, add_each, slot_each, touch_each};
 use crate::handing::hangs;
-use crate::resources::Found;
-use crate::shared::Shared;
-use crate::values::node_term;
 use rx_curie::Facts;
+use rx_element::{Found, Shared, Waiting, node_term};
 use rx_lists::{Lists, Owner, SlotId};
 use rx_terms::{Iris, NoMemory, Node, Term};
 use std::alloc::Global;

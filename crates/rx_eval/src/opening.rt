@@ -1,12 +1,10 @@
 //! The opening of an element on the stack.
 ghost use Rattle.std.specs.Prelude.{◌≡◌, ◌<◌, ◌^◌, ◌+◌};
-ghost use Rattle.rx_model.specs.Seen.{node_seen};
-ghost use Rattle.rx_eval.specs.Frames.{context_seen};
-ghost use Rattle.rx_eval.specs.Opening.{around_in, is_blank, drawn_after};
+ghost use Rattle.rx_element.specs.Contexts.{context_seen};
+ghost use Rattle.rx_eval.specs.Opening.{around_in, drawn_after};
 
-use crate::contexts::Context;
 use crate::frames::Frame;
-use rx_terms::Node;
+use rx_element::{Context, is_blank};
 
 /// The context in which a child of the innermost open element stands.
 pub(crate) fn around<'a>(page: &'a Context, frames: &'a [Frame]) -> &'a Context
@@ -15,16 +13,6 @@ pub(crate) fn around<'a>(page: &'a Context, frames: &'a [Frame]) -> &'a Context
     match frames {
         [.., frame] => &frame.context,
         [] => page,
-    }
-}
-
-/// Whether the node is the blank node of the number.
-pub(crate) fn is_blank(node: &Node, number: u64) -> bool
-    ensures { result ≡ is_blank (node_seen node.now) number }
-{
-    match node {
-        Node::Blank(blank) => blank.0 == number,
-        Node::Iri(_iri) => false,
     }
 }
 

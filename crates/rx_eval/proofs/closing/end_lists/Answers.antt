@@ -3,7 +3,7 @@ use Rattle.rx_terms.specs.declared.triples.Triple.{Triple as CodeTriple}
 use Rattle.rx_model.specs.Terms.{Triple}
 use Rattle.rx_model.specs.Seen.{triple_seen, triples_seen}
 use Rattle.rx_eval.proofs.GrowLemmas.{mapped_more}
-use Rattle.rx_eval.proofs.TripleLemmas.{one_came, map_at, all_came, map_end}
+use Rattle.rx_element.proofs.TripleLemmas.{one_came, map_at, all_came, map_end}
 use Rattle.rx_eval.proofs.SeenLemmas.{seen_forgotten, seen_cells, seen_count}
 use Rattle.rx_eval.proofs.closing.end_lists.Goals as goal
 

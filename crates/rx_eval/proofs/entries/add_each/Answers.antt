@@ -1,5 +1,5 @@
 use Rattle.rx_eval.proofs.EntryLemmas.{one_put, all_put}
-use Rattle.std.proofs.Common.{arith, refl, Some, None}
+use Rattle.std.proofs.Common.{arith, refl, Some}
 use Rattle.rx_eval.proofs.SeenLemmas.{seen_each}
 use Rattle.rx_eval.proofs.entries.add_each.Goals as goal
 

@@ -1,4 +1,4 @@
-use Rattle.std.proofs.Common.{drop, Some, None}
+use Rattle.std.proofs.Common.{drop, None}
 use Rattle.rx_eval.specs.Entries.{put_each}
 use Rattle.rx_eval.proofs.EntryLemmas.{ToPut}
 use Rattle.rx_eval.proofs.entries.touch_each.Given as goal

@@ -1,6 +1,5 @@
-use Rattle.std.proofs.Common.{◌≡◌, ◌∙◌, [], refl, sym, ap, Bool, List, ℕ}
+use Rattle.std.proofs.Common.{◌∙◌, [], refl, sym, ap, Bool, List, ℕ}
 use Rattle.std.specs.Prelude.{if◌then◌else◌}
-use Rattle.rx_values.specs.Marks.{CutAt}
 use Rattle.rx_eval.proofs.eval.forget.Goals as goal
 
 pub returns-then-ends : goal.returns-then-ends

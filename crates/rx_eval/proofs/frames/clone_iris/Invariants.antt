@@ -1,4 +1,4 @@
-use Rattle.std.proofs.Common.{◌≡◌, ◌++◌, drop}
+use Rattle.std.proofs.Common.{drop}
 use Rattle.rx_eval.proofs.GrowLemmas.{Growing}
 use Rattle.rx_eval.proofs.frames.clone_iris.Given as goal
 

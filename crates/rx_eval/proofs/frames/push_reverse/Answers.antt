@@ -1,6 +1,6 @@
 use Rattle.std.proofs.Common.{ap}
-use Rattle.rx_eval.specs.Triples.{waiting_seen}
-use Rattle.rx_eval.specs.Frames.{forward_by, reverse_by}
+use Rattle.rx_element.specs.Contexts.{waiting_seen}
+use Rattle.rx_eval.specs.Frames.{reverse_by}
 use Rattle.rx_eval.proofs.GrowLemmas.{one_grown, mapped_more}
 use Rattle.rx_eval.proofs.frames.push_reverse.Goals as goal
 

@@ -1,6 +1,6 @@
 use Rattle.std.proofs.Common.{◌++◌, map, drop}
-use Rattle.rx_eval.specs.Triples.{waiting_seen}
-use Rattle.rx_eval.specs.Frames.{forward_by, reverse_by}
+use Rattle.rx_element.specs.Contexts.{waiting_seen}
+use Rattle.rx_eval.specs.Frames.{reverse_by}
 use Rattle.rx_eval.proofs.GrowLemmas.{Growing}
 use Rattle.rx_eval.proofs.frames.push_reverse.Given as goal
 

@@ -3,8 +3,8 @@ use Rattle.std.proofs.Common.{◌∙◌, ap, filter_map, map, option_map, []}
 use Rattle.std.specs.Prelude.{if◌then◌else◌}
 use Rattle.rx_model.specs.Seen.{node_seen, term_seen}
 use Rattle.rx_curie.specs.Seen.{facts_seen}
-use Rattle.rx_eval.specs.Found.{found_seen}
-use Rattle.rx_eval.specs.Triples.{waiting_seen}
+use Rattle.rx_element.specs.Found.{found_seen}
+use Rattle.rx_element.specs.Contexts.{waiting_seen}
 use Rattle.rx_eval.specs.OwnersSeen.{owners_seen, put_entries}
 use Rattle.rx_eval.specs.Listing.{own_entries, awaited_entry}
 use Rattle.rx_eval.proofs.SeenLemmas.{two_put}

@@ -1,10 +1,10 @@
-use Rattle.std.proofs.Common.{◌≡◌, ◌∙◌, ap, List, [], Some, None, option_map, Bool}
-use Rattle.std.specs.Prelude.{Option, if◌then◌else◌}
+use Rattle.std.proofs.Common.{◌∙◌, ap, [], Some, None, option_map, Bool}
+use Rattle.std.specs.Prelude.{if◌then◌else◌}
 use Rattle.rx_model.specs.Seen.{node_seen, term_seen}
 use Rattle.rx_rdfa.specs.Inherited.{hangs}
 use Rattle.rx_curie.specs.Seen.{facts_seen}
-use Rattle.rx_eval.specs.Found.{found_seen}
-use Rattle.rx_eval.specs.OwnersSeen.{Owning, owners_seen, put_entries}
+use Rattle.rx_element.specs.Found.{found_seen}
+use Rattle.rx_eval.specs.OwnersSeen.{owners_seen, put_entries}
 use Rattle.rx_eval.specs.Listing.{linked_entries, entries_for}
 use Rattle.rx_eval.proofs.SeenLemmas.{if_ok, three_put}
 use Rattle.rx_eval.proofs.listing.put_own.Goals as goal

@@ -1,4 +1,4 @@
-use Rattle.std.proofs.Common.{◌≡◌, ◌∙◌, ap, ℕ}
+use Rattle.std.proofs.Common.{◌∙◌, ap, ℕ}
 use Rattle.rx_model.specs.Seen.{node_seen}
 use Rattle.rx_rdfa.specs.Resources.{Inherited}
 use Rattle.rx_eval.proofs.OpenLemmas.{around_is, shown_waits}

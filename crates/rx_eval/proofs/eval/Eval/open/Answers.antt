@@ -1,16 +1,15 @@
-use Rattle.std.proofs.Common.{◌≡◌, ◌∙◌, ℕ, List, map, length, ◌++◌, refl, sym, ap, ap₂, is_some, Bool}
-use Rattle.std.specs.Prelude.{Option}
+use Rattle.std.proofs.Common.{◌≡◌, ◌∙◌, ℕ, map, length, ◌++◌, refl, sym, ap, ap₂, Bool}
 use Rattle.std.proofs.lemmas.List.{length-map}
-use Rattle.rx_model.specs.Terms.{Triple}
 use Rattle.rx_model.specs.Seen.{triples_seen}
 use Rattle.rx_rdfa.specs.Resources.{Inherited}
 use Rattle.rx_curie.specs.Seen.{facts_seen}
-use Rattle.rx_eval.specs.declared.places.Level.{Level}
-use Rattle.rx_eval.specs.OwnersSeen.{Owning, owners_seen}
-use Rattle.rx_eval.specs.Places.{level_at}
-use Rattle.rx_eval.specs.Opened.{handed_on, start_at, below_at, lists_at, gathers_at, first_of}
-use Rattle.rx_eval.specs.Frames.{context_seen}
-use Rattle.rx_eval.specs.States.{State, frame_seen}
+use Rattle.rx_element.specs.declared.places.Level.{Level}
+use Rattle.rx_eval.specs.OwnersSeen.{owners_seen}
+use Rattle.rx_element.specs.Places.{level_at}
+use Rattle.rx_eval.specs.Opened.{handed_on, first_of}
+use Rattle.rx_eval.specs.Entering.{start_at, below_at, lists_at, gathers_at}
+use Rattle.rx_element.specs.Contexts.{context_seen}
+use Rattle.rx_eval.specs.States.{frame_seen}
 use Rattle.rx_eval.proofs.GrowLemmas.{mapped_more}
 use Rattle.rx_eval.proofs.OpenLemmas.{around_is, text_is, fresh_fits}
 use Rattle.rx_eval.proofs.eval.Eval.open.Goals as goal

@@ -1,0 +1,97 @@
+-- Labels draw their numbers one after another.
+use Rattle.std.proofs.Common.{◌≡◌, ◌∙◌, Result, Ok, Err, IfOk, ℕ, zero, suc, Some, slice_get, ◌+◌, ◌<◌, ◌≤◌, ◌^◌, List, [], ◌∷◌, ◌++◌, length, drop, flat_map, refl, sym, ap, subst, arith, length-append, add-one}
+use Rattle.std.specs.Prelude.{is_some}
+use Rattle.rx_terms.specs.Text.{Chars}
+use Rattle.rx_rdfa.specs.Renaming.{label_of}
+use Rattle.rx_curie.specs.declared.refs.Ref.{Ref as CodeRef}
+use Rattle.rx_curie.specs.Seen.{ref_seen, refs_seen}
+use Rattle.rx_element.specs.Labels.{Numbered, number_of, draw, Drawn}
+use Rattle.rx_element.proofs.LabelLemmas.{by_test}
+
+pub drop_at : {A : Type 0} (xs : List A) (i : ℕ) (x : A) → slice_get xs i ≡ Some x → drop i xs ≡ x ∷ drop (suc i) xs
+drop_at [] i x h = absurd (cc)
+drop_at (y ∷ xs) zero x h = let e : y ≡ x = cc in ap (λ (z : _). z ∷ xs) e
+drop_at (y ∷ xs) (suc i) x h = drop_at xs i x h
+
+pub nothing_left : {A : Type 0} (i : ℕ) (xs : List A) → length xs ≤ i → drop i xs ≡ []
+nothing_left zero [] h = refl
+nothing_left (suc i) [] h = refl
+nothing_left zero (x ∷ xs) h = absurd (omega arith)
+nothing_left (suc i) (x ∷ xs) h = nothing_left i xs (omega arith)
+
+draw_then : (old : Numbered) (next : ℕ) (xs ys : List Chars) → draw old next (xs ++ ys) ≡ draw (draw old next xs).0 (draw old next xs).1 ys
+draw_then old next [] ys = refl
+draw_then old next (x ∷ xs) ys =
+    by_test (is_some (number_of old x)) (λ t. rw t (draw_then old next xs ys)) (λ f. rw f (draw_then (old ++ (x, next) ∷ []) (next + 1) xs ys))
+
+pub drawn_then : (old mid new : Numbered) (next middle after : ℕ) (xs ys : List Chars) → Drawn old next xs mid middle → Drawn mid middle ys new after → Drawn old next (xs ++ ys) new after
+drawn_then old mid new next middle after xs ys a b = record { path = draw_then old next xs ys ∙ ap (λ (p : Numbered × ℕ). draw p.0 p.1 ys) a.path ∙ b.path }
+
+draw_most : (old : Numbered) (next : ℕ) (xs : List Chars) → (draw old next xs).1 ≤ next + length xs
+draw_most old next [] = omega arith
+draw_most old next (x ∷ xs) =
+    by_test (is_some (number_of old x)) (λ t. rw t (omega (arith, draw_most old next xs))) (λ f. rw f (omega (arith, draw_most (old ++ (x, next) ∷ []) (next + 1) xs)))
+
+pub drawn_most : (old new : Numbered) (next after : ℕ) (xs : List Chars) → Drawn old next xs new after → after ≤ next + length xs
+drawn_most old new next after xs d = subst (λ (p : Numbered × ℕ). p.1 ≤ next + length xs) d.path (draw_most old next xs)
+
+abbrev pub type_labels : List CodeRef → List Chars
+type_labels types = flat_map label_of (refs_seen types)
+
+-- what has been drawn, and what is still to be drawn for the types that are left, is the whole
+pub record StillToDraw (labels : Numbered) (after : ℕ) (left : List CodeRef) (old : Numbered) (next : ℕ) (types : List CodeRef) : Type 0 where
+  pub path : draw labels after (type_labels left) ≡ draw old next (type_labels types)
+  pub room : after + length (type_labels left) < 2 ^ 64
+
+pub one_type : (labels more : Numbered) (after then_after i : ℕ) (x : CodeRef) (types : List CodeRef) (old : Numbered) (next : ℕ) → slice_get types i ≡ Some x
+    → StillToDraw labels after (drop i types) old next types → Drawn labels after (label_of (ref_seen x)) more then_after
+    → StillToDraw more then_after (drop (i + 1) types) old next types
+one_type labels more after then_after i x types old next g s d =
+    let cut : drop i types ≡ x ∷ drop (suc i) types = drop_at types i x g in
+    let p : draw labels after (label_of (ref_seen x) ++ type_labels (drop (suc i) types)) ≡ draw old next (type_labels types) =
+    ap (λ (l : List CodeRef). draw labels after (type_labels l)) (sym cut) ∙ s.path in
+    let r : after + length (label_of (ref_seen x) ++ type_labels (drop (suc i) types)) < 2 ^ 64 =
+    subst (λ (l : List CodeRef). after + length (type_labels l) < 2 ^ 64) cut s.room in
+    let m = drawn_most labels more after then_after (label_of (ref_seen x)) d in
+    rw add-one (record {
+      path = ap (λ (q : Numbered × ℕ). draw q.0 q.1 (type_labels (drop (suc i) types))) (sym d.path) ∙ sym (draw_then labels after (label_of (ref_seen x)) (type_labels (drop (suc i) types))) ∙ p;
+      room = omega (arith, m, r, length-append (label_of (ref_seen x)) (type_labels (drop (suc i) types)));
+    })
+
+pub type_room : (labels : Numbered) (after i : ℕ) (x : CodeRef) (types : List CodeRef) (old : Numbered) (next : ℕ) → slice_get types i ≡ Some x
+    → StillToDraw labels after (drop i types) old next types → after + length (label_of (ref_seen x)) < 2 ^ 64
+type_room labels after i x types old next g s =
+    let r : after + length (label_of (ref_seen x) ++ type_labels (drop (suc i) types)) < 2 ^ 64 =
+    subst (λ (l : List CodeRef). after + length (type_labels l) < 2 ^ 64) (drop_at types i x g) s.room in
+    omega (arith, r, length-append (label_of (ref_seen x)) (type_labels (drop (suc i) types)))
+
+pub all_drawn : (labels : Numbered) (after i : ℕ) (types : List CodeRef) (old : Numbered) (next : ℕ) → length types ≤ i
+    → StillToDraw labels after (drop i types) old next types → Drawn old next (type_labels types) labels after
+all_drawn labels after i types old next h s = record { path = sym s.path ∙ ap (λ (l : List CodeRef). draw labels after (type_labels l)) (nothing_left i types h) }
+
+pub five_drawn : (l0 l1 l2 l3 l4 l5 : Numbered) (n0 n1 n2 n3 n4 n5 : ℕ) (a b c d e : List Chars)
+    → Drawn l0 n0 a l1 n1 → Drawn l1 n1 b l2 n2 → Drawn l2 n2 c l3 n3 → Drawn l3 n3 d l4 n4 → Drawn l4 n4 e l5 n5
+    → Drawn l0 n0 (a ++ (b ++ (c ++ (d ++ e)))) l5 n5
+five_drawn l0 l1 l2 l3 l4 l5 n0 n1 n2 n3 n4 n5 a b c d e da db dc dd de =
+    drawn_then l0 l1 l5 n0 n1 n5 a _ da
+    (drawn_then l1 l2 l5 n1 n2 n5 b _ db (drawn_then l2 l3 l5 n2 n3 n5 c _ dc (drawn_then l3 l4 l5 n3 n4 n5 d e dd de)))
+
+pub five_room : (l0 l1 l2 l3 l4 : Numbered) (n0 n1 n2 n3 n4 : ℕ) (a b c d e : List Chars)
+    → Drawn l0 n0 a l1 n1 → Drawn l1 n1 b l2 n2 → Drawn l2 n2 c l3 n3 → Drawn l3 n3 d l4 n4 → n0 + length (a ++ (b ++ (c ++ (d ++ e)))) < 2 ^ 64 → n4 + length e < 2 ^ 64
+five_room l0 l1 l2 l3 l4 n0 n1 n2 n3 n4 a b c d e da db dc dd h =
+    let ma = drawn_most l0 l1 n0 n1 a da in
+    let mb = drawn_most l1 l2 n1 n2 b db in
+    let mc = drawn_most l2 l3 n2 n3 c dc in
+    let md = drawn_most l3 l4 n3 n4 d dd in
+    omega (arith, h, length-append a (b ++ (c ++ (d ++ e))), length-append b (c ++ (d ++ e)), length-append c (d ++ e), length-append d e)
+
+pub ok_drawn : {E : Type 0} (old new : Numbered) (next : ℕ) (xs ys : List Chars) (r : Result ℕ E)
+    → IfOk r (λ after. Drawn old next xs new after) → xs ≡ ys → IfOk r (λ after. Drawn old next ys new after)
+ok_drawn old new next xs ys (Ok n) h e = subst (λ (l : List Chars). Drawn old next l new n) e h
+ok_drawn old new next xs ys (Err x) h e = h
+
+pub five_ok : {E : Type 0} (l0 l1 l2 l3 l4 l5 : Numbered) (n0 n1 n2 n3 n4 : ℕ) (a b c d e : List Chars) (r : Result ℕ E)
+    → Drawn l0 n0 a l1 n1 → Drawn l1 n1 b l2 n2 → Drawn l2 n2 c l3 n3 → Drawn l3 n3 d l4 n4 → IfOk r (λ n5. Drawn l4 n4 e l5 n5)
+    → IfOk r (λ n5. Drawn l0 n0 (a ++ (b ++ (c ++ (d ++ e)))) l5 n5)
+five_ok l0 l1 l2 l3 l4 l5 n0 n1 n2 n3 n4 a b c d e (Ok n5) da db dc dd h = five_drawn l0 l1 l2 l3 l4 l5 n0 n1 n2 n3 n4 n5 a b c d e da db dc dd h
+five_ok l0 l1 l2 l3 l4 l5 n0 n1 n2 n3 n4 a b c d e (Err x) da db dc dd h = h

@@ -1,0 +1,51 @@
+-- Triples that are added one after another.
+use Rattle.std.proofs.Common.{◌≡◌, ◌∙◌, ℕ, ◌+◌, ◌≤◌, List, [], ◌∷◌, ◌++◌, map, length, drop, Some, slice_get, refl, sym, ap, append_assoc, append-nil, add-one}
+use Rattle.rx_terms.specs.Text.{Chars}
+use Rattle.rx_model.specs.Terms.{Node, Term, Triple}
+use Rattle.rx_model.specs.Copied.{spo}
+use Rattle.rx_rdfa.specs.Iris.{rdf_type}
+use Rattle.rx_rdfa.specs.Element.{to_node}
+use Rattle.rx_rdfa.specs.Facts.{Ref, IriRef, LabelRef, RelativeRef}
+use Rattle.rx_rdfa.specs.Resources.{resource_named}
+use Rattle.rx_curie.specs.declared.refs.Ref.{Ref as CodeRef}
+use Rattle.rx_curie.specs.Seen.{ref_seen, refs_seen}
+use Rattle.rx_element.specs.Labels.{Numbered}
+use Rattle.rx_element.specs.Moment.{moment}
+use Rattle.rx_element.specs.Places.{named}
+use Rattle.rx_element.specs.TextRules.{resource_term}
+use Rattle.rx_element.specs.Starts.{types_of}
+use Rattle.rx_element.proofs.DrawLemmas.{drop_at, nothing_left}
+
+-- what is there and what is to come is the whole
+pub record ToCome (out left whole : List (Triple ℕ)) : Type 0 where
+  pub path : out ++ left ≡ whole
+
+pub one_came : (out more whole left rest : List (Triple ℕ)) (t : Triple ℕ) → left ≡ t ∷ rest → more ≡ out ++ t ∷ [] → ToCome out left whole → ToCome more rest whole
+one_came out more whole left rest t e m w = record { path = ap (λ (x : List (Triple ℕ)). x ++ rest) m ∙ append_assoc out (t ∷ []) rest ∙ ap (λ (x : List (Triple ℕ)). out ++ x) (sym e) ∙ w.path }
+
+pub all_came : (out left whole : List (Triple ℕ)) → left ≡ [] → ToCome out left whole → out ≡ whole
+all_came out left whole e w = sym (append-nil out) ∙ ap (λ (x : List (Triple ℕ)). out ++ x) (sym e) ∙ w.path
+
+-- of a list that is mapped, the one at a place and those behind it
+pub map_at : {A : Type 0} (f : A → Triple ℕ) (xs : List A) (i : ℕ) (x : A) → slice_get xs i ≡ Some x → map f (drop i xs) ≡ f x ∷ map f (drop (i + 1) xs)
+map_at f xs i x g = rw add-one (ap (map f) (drop_at xs i x g))
+
+pub map_end : {A : Type 0} (f : A → Triple ℕ) (xs : List A) (i : ℕ) → length xs ≤ i → map f (drop i xs) ≡ []
+map_end f xs i h = ap (map f) (nothing_left i xs h)
+
+-- a type more
+same_named : (labels : Numbered) (f : ℕ) (base : Chars) (r : Ref) → resource_named (moment labels 0 0 0) base r ≡ resource_named (moment labels f 0 0) base r
+same_named labels f base (IriRef iri) = refl
+same_named labels f base (LabelRef label) = refl
+same_named labels f base (RelativeRef reference) = refl
+
+pub type_came : (labels : Numbered) (f : ℕ) (base predicate : Chars) (typed : Node ℕ) (types : List CodeRef) (i : ℕ) (x : CodeRef) (node : Node ℕ) (term : Term ℕ) (out more whole : List (Triple ℕ))
+    → slice_get types i ≡ Some x → predicate ≡ rdf_type → node ≡ named labels base (ref_seen x) → term ≡ resource_term node → more ≡ out ++ spo typed predicate term ∷ []
+    → ToCome out (types_of (moment labels f 0 0) base typed (refs_seen (drop i types))) whole → ToCome more (types_of (moment labels f 0 0) base typed (refs_seen (drop (i + 1) types))) whole
+type_came labels f base predicate typed types i x node term out more whole g p n t m w =
+    one_came out more whole _ _ (to_node typed rdf_type (resource_named (moment labels f 0 0) base (ref_seen x)))
+    (rw add-one (ap (λ (l : List CodeRef). types_of (moment labels f 0 0) base typed (refs_seen l)) (drop_at types i x g)))
+    (m ∙ ap (λ (q : Chars). out ++ spo typed q term ∷ []) p ∙ ap (λ (z : Term ℕ). out ++ spo typed rdf_type z ∷ []) (t ∙ ap resource_term (n ∙ same_named labels f base (ref_seen x)))) w
+
+pub after_two : (a b c x y : List (Triple ℕ)) → b ≡ a ++ x → c ≡ b ++ y → c ≡ a ++ (x ++ y)
+after_two a b c x y e f = f ∙ ap (λ (l : List (Triple ℕ)). l ++ y) e ∙ append_assoc a x y

@@ -1,0 +1,13 @@
+use Rattle.std.proofs.Common.{arith}
+use Rattle.rx_element.proofs.DrawLemmas.{one_type, type_room, all_drawn}
+use Rattle.rx_element.proofs.drawing.draw_types.Goals as goal
+
+pub draw_ref-requires : goal.draw_ref-requires
+draw_ref-requires c = type_room _ c.loop-i.after c.loop-i.i _ c.args.types.now c.args.labels.now c.args.next c.at.ensures.node c.loop-i.invariant
+
+pub loop-i-preserved : goal.loop-i-preserved
+loop-i-preserved c =
+    one_type _ _ c.loop-i.after _ c.loop-i.i _ c.args.types.now c.args.labels.now c.args.next c.at.ensures.node c.loop-i.invariant c.in_ok-after.ensures
+
+pub returns : goal.returns
+returns c = all_drawn _ c.loop-i.after c.loop-i.i c.args.types.now c.args.labels.now c.args.next (omega (arith, c.loop-i-test.false, c.len-i-end.ensures)) c.loop-i.invariant

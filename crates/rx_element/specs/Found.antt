@@ -1,0 +1,38 @@
+-- What the code finds of an element, as the resources of the rules.
+use Rattle.std.specs.Prelude.{ℕ, Option, option_map, unwrap_or}
+use Rattle.std.specs.Option.{option_or}
+use Rattle.rx_terms.specs.Text.{Chars}
+use Rattle.rx_model.specs.Terms.{Node, Iri, Blank}
+use Rattle.rx_model.specs.Seen.{node_seen}
+use Rattle.rx_rdfa.specs.Naming.{Naming}
+use Rattle.rx_rdfa.specs.Facts.{Facts, Ref}
+use Rattle.rx_rdfa.specs.Resources.{Standing, Resources, about, base_at_root, linked_resource, parent_for_head_and_body, new_blank}
+use Rattle.rx_element.specs.declared.resources.Found.{Found}
+use Rattle.rx_element.specs.declared.places.Place.{Place}
+
+-- the first present of resource, href and src
+abbrev pub linked_ref : Facts → Option Ref
+linked_ref facts = option_or facts.resource (option_or facts.href facts.src)
+
+-- the new node of the element
+abbrev pub fresh_node : Place → Node ℕ
+fresh_node at = Blank at.fresh
+
+abbrev pub page_node : Chars → Node ℕ
+page_node base = Iri base
+
+abbrev pub found_seen : Found → Resources ℕ
+found_seen found = record {
+  subject = node_seen found.subject;
+  typed = option_map node_seen found.typed;
+  object = option_map node_seen found.object;
+  skipped = found.skipped;
+}
+
+-- the typed resource of an element with property
+abbrev pub property_type : Naming ℕ ℕ → Chars → Standing ℕ ℕ → Node ℕ
+property_type naming base at =
+    unwrap_or
+    (option_or (about naming base at)
+    (option_or (base_at_root naming base at) (option_or (linked_resource naming base at) (parent_for_head_and_body naming base at))))
+    (new_blank naming at)

@@ -1,0 +1,11 @@
+pub mod Labels
+pub mod Rows
+pub mod Moment
+pub mod Contexts
+pub mod Places
+pub mod Found
+pub mod TextRules
+pub mod Triples
+pub mod Starts
+pub mod Blanks
+pub mod Placing

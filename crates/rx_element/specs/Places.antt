@@ -1,0 +1,39 @@
+-- Where an element stands, and how its blank nodes are named.
+use Rattle.std.specs.Prelude.{ℕ, zero, suc, [], ◌∷◌}
+use Rattle.rx_terms.specs.Text.{Chars}
+use Rattle.rx_model.specs.Terms.{Node}
+use Rattle.rx_rdfa.specs.Naming.{Path, Naming}
+use Rattle.rx_rdfa.specs.Facts.{Facts, Ref}
+use Rattle.rx_rdfa.specs.Resources.{Standing, Inherited, resource_named}
+use Rattle.rx_element.specs.Contexts.{context_seen}
+use Rattle.rx_element.specs.Labels.{Numbered}
+use Rattle.rx_element.specs.Moment.{moment}
+use Rattle.rx_element.specs.declared.places.Level.{Level}
+use Rattle.rx_element.specs.declared.places.Level.TheVariants.{Root, RootChild, Deeper}
+use Rattle.rx_element.specs.declared.places.Place.{Place}
+
+-- the level of an element inside so many others
+abbrev pub level_at : ℕ → Level
+level_at zero = Root
+level_at (suc zero) = RootChild
+level_at (suc (suc n)) = Deeper
+
+-- a path of that level: the rules ask no more of a path than this
+abbrev pub path_at : Level → Path
+path_at Root = 0 ∷ []
+path_at RootChild = 0 ∷ 0 ∷ []
+path_at Deeper = []
+
+-- an element at a level, with what it inherits
+abbrev pub standing_by : Level → Inherited ℕ ℕ → Facts → Standing ℕ ℕ
+standing_by level around facts = record { facts = facts; path = path_at level; around = around }
+
+abbrev pub standing : Place → Facts → Standing ℕ ℕ
+standing at facts = standing_by at.level (context_seen at.around.now) facts
+
+abbrev pub naming : Place → Naming ℕ ℕ
+naming at = moment at.labels.now at.fresh 0 0
+
+-- the node that a reading names
+abbrev pub named : Numbered → Chars → Ref → Node ℕ
+named labels base = resource_named (moment labels 0 0 0) base

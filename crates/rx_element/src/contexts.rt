@@ -1,0 +1,88 @@
+//! What an element hands on to its children (RDFa Core 1.1, section 7.5).
+ghost use Rattle.std.specs.Prelude.{◌≡◌, IfOk};
+
+use crate::shared::Shared;
+use rx_lists::Owner;
+use rx_terms::{Iri, NoMemory};
+use std::alloc::Global;
+use std::marker::Model;
+use std::rc::Rc;
+
+/// A triple that waits for the subject of an element further down (RDFa Core 1.1, section 7.5, step 10), by its
+/// predicate.
+#[derive(Debug, Drop)]
+pub enum Waiting {
+    /// From the parent subject to the subject that is to come.
+    Forward(Iri),
+    /// From the subject that is to come to the parent subject.
+    Reverse(Iri),
+    /// The subject that is to come is an item of the owner's list.
+    InList(Owner, Iri),
+}
+
+/// The triples that wait, shared by those who hand them on. A contract sees the list.
+#[derive(Drop)]
+pub struct Hangings {
+    list: Rc<Vec<Waiting>>,
+}
+
+impl Model for Hangings {
+    ghost use Rattle.std.specs.Prelude.{List};
+    ghost use Rattle.rx_element.specs.declared.contexts.Waiting.{Waiting};
+
+    ghost Value = { List Waiting };
+
+    ghost view = { λ h. h.list.value.items };
+}
+
+impl Hangings {
+    /// The list, to be shared.
+    pub fn of(alloc: Global, list: Vec<Waiting>) -> Result<Hangings, NoMemory>
+        ensures { IfOk result (λ hangings. hangings ≡ list.items) }
+    {
+        match Rc::new(alloc, list) {
+            Ok(list) => Ok(Hangings { list }),
+            Err(_refused) => Err(NoMemory),
+        }
+    }
+
+    /// The same list for one more.
+    pub fn share(&self) -> Result<Hangings, NoMemory>
+        ensures { IfOk result (λ hangings. hangings ≡ self.now) }
+    {
+        Ok(Hangings {
+            list: self.list.clone()?,
+        })
+    }
+
+    /// The triples that wait, in order.
+    pub fn as_slice(&self) -> &[Waiting]
+        ensures { result.now ≡ self.now }
+    {
+        self.list.as_ref().as_slice()
+    }
+}
+
+/// What the children of an element inherit, the evaluation context (RDFa Core 1.1, section 7.5): parent subject, parent
+/// object, the triples that wait, and the owner of lists.
+#[derive(Drop)]
+pub struct Context {
+    pub subject: Shared,
+    pub object: Shared,
+    pub hanging: Hangings,
+    pub owner: Owner,
+}
+
+impl Context {
+    /// The same context for one more, where an element is skipped.
+    pub fn share(&self) -> Result<Context, NoMemory>
+        ensures { IfOk result (λ context. context ≡ self.now) }
+    {
+        Ok(Context {
+            subject: self.subject.share()?,
+            object: self.object.share()?,
+            hanging: self.hanging.share()?,
+            owner: self.owner,
+        })
+    }
+}

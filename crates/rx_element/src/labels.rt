@@ -1,0 +1,106 @@
+//! The numbers of authors' blank nodes.
+ghost use Rattle.std.specs.Prelude.{◌≡◌, ◌<◌, ◌^◌, ◌+◌, [], ◌∷◌, ◌++◌, length, OnOk, OnErr, IfOk, None, unwrap_or};
+ghost use Rattle.rx_element.specs.Labels.{number_of, Drawn};
+ghost use Rattle.rx_element.specs.Rows.{IsNew};
+
+use indexmap::IndexSet;
+use rx_terms::{NoMemory, Text};
+use std::alloc::Global;
+use std::marker::Model;
+
+/// The numbers of the blank nodes that authors name by labels. A contract sees the labels with their numbers.
+#[derive(Drop)]
+pub struct Labels {
+    labels: IndexSet<Text>,
+    numbers: Vec<u64>,
+}
+
+impl Model for Labels {
+    ghost use Rattle.std.specs.Prelude.{◌≡◌, ℕ, List, length};
+
+    ghost Value = { List (List ℕ × ℕ) };
+
+    ghost use Rattle.rx_element.specs.Rows.{rows};
+
+    ghost view = { λ l. rows l.labels.keys l.numbers.items };
+
+    ghost invariant = { λ l. length l.labels.keys ≡ length l.numbers.items };
+}
+
+impl Labels {
+    /// No label.
+    pub fn new(alloc: Global) -> Result<Labels, NoMemory>
+        ensures { IfOk result (λ labels. labels ≡ []) }
+    {
+        Ok(Labels {
+            labels: IndexSet::new(alloc),
+            numbers: Vec::new(alloc),
+        })
+    }
+
+    /// The number of a label, and None where it has none.
+    pub(crate) fn find(&self, label: &Text) -> Option<u64>
+        ensures { result ≡ number_of self.now label.now }
+    {
+        match self.labels.get_index_of(label) {
+            Some(place) => Some(self.numbers[place]),
+            None => None,
+        }
+    }
+
+    /// The number of a label, and 0 where it has none.
+    pub(crate) fn number_or_zero(&self, label: &Text) -> u64
+        ensures { result ≡ unwrap_or (number_of self.now label.now) 0 }
+    {
+        match self.find(label) {
+            Some(number) => number,
+            None => 0,
+        }
+    }
+
+    /// Gives the label the number.
+    fn add(&mut self, label: &Text, number: u64) -> Result<(), NoMemory>
+        requires { number_of self.old label.now ≡ None }
+        ensures { OnOk result (self.new ≡ self.old ++ (label.now, number) ∷ []) }
+    {
+        let key = label.try_clone()?;
+        add_row(&mut self.labels, &mut self.numbers, key, number)
+    }
+
+    /// Gives the label the next number where it has none, and answers the number that comes next then.
+    pub(crate) fn draw(&mut self, label: &Text, next: u64) -> Result<u64, NoMemory>
+        requires { next + 1 < 2 ^ 64 }
+        ensures { IfOk result (λ after. Drawn self.old next (label.now ∷ []) self.new after) }
+    {
+        match self.find(label) {
+            Some(_number) => Ok(next),
+            None => {
+                self.add(label, next)?;
+                Ok(next + 1)
+            }
+        }
+    }
+}
+
+/// Adds a new key and its number at the ends.
+fn add_row(
+    keys: &mut IndexSet<Text>,
+    numbers: &mut Vec<u64>,
+    key: Text,
+    number: u64,
+) -> Result<(), NoMemory>
+    requires fresh { IsNew key keys.old.keys }
+    requires even { length keys.old.keys ≡ length numbers.old.items }
+    ensures keys { OnOk result (keys.new.keys ≡ keys.old.keys ++ key ∷ []) }
+    ensures numbers { OnOk result (numbers.new.items ≡ numbers.old.items ++ number ∷ []) }
+    ensures same { OnErr result (length keys.new.keys ≡ length numbers.new.items) }
+{
+    let Ok(()) = numbers.push(number) else {
+        return Err(NoMemory);
+    };
+    let Ok(_is_new) = keys.insert(key) else {
+        numbers.pop();
+        return Err(NoMemory);
+    };
+    Ok(())
+}

@@ -1,0 +1,36 @@
+//! What one element says by the rules of RDFa (RDFa Core 1.1, section 7.5), as functions on values: its resources, the
+//! value of its property, and the triples of its start.
+//!
+//! An element stands at a [`Place`], inside a [`Context`]; its [`rx_curie::Facts`] are what its start tag says.
+//! [`Place::start`] gives its resources and its value, and adds its triples. [`TextRule`] says the value of an element
+//! whose value is its text. [`Labels`] keeps the numbers of the blank nodes that authors name. [`Placed::of`] and
+//! [`value_of`] are the same rules for one element by itself.
+#![tactic(auto)]
+
+mod blanks;
+mod contexts;
+mod drawing;
+mod iris;
+mod labels;
+mod placed;
+mod places;
+mod resources;
+mod shared;
+mod starts;
+mod triples;
+mod values;
+
+pub use blanks::is_blank;
+pub use contexts::{Context, Hangings, Waiting};
+pub use drawing::draw_labels;
+pub use labels::Labels;
+pub use placed::{Placed, value_of};
+pub use places::{Level, Place, level_at};
+pub use resources::Found;
+pub use shared::{Shared, share_option};
+pub use starts::Started;
+pub use triples::push_each;
+pub use values::{TextRule, node_term};
+
+#[cfg(test)]
+mod tests;

@@ -1,0 +1,135 @@
+//! The resources of one element, and its value, by themselves.
+ghost use Rattle.std.specs.Prelude.{◌≡◌, ◌<◌, ◌≤◌, ◌^◌, ◌+◌, ◌-◌, length, option_map, IfOk};
+ghost use Rattle.std.specs.Str.{chars};
+ghost use Rattle.rx_model.specs.Seen.{node_seen, term_seen};
+ghost use Rattle.rx_rdfa.specs.Renaming.{labels as labels_of};
+ghost use Rattle.rx_rdfa.specs.Value.{rule, value};
+ghost use Rattle.rx_curie.specs.Seen.{facts_seen};
+ghost use Rattle.rx_element.specs.Contexts.{context_seen};
+ghost use Rattle.rx_element.specs.Moment.{moment};
+ghost use Rattle.rx_element.specs.Placing.{placed_seen, plain_context, Places};
+ghost use Rattle.rx_element.specs.Found.{found_seen};
+
+use crate::blanks::number_after;
+use crate::contexts::{Context, Hangings};
+use crate::drawing::draw_labels;
+use crate::labels::Labels;
+use crate::places::{Place, level_at};
+use crate::resources::Found;
+use crate::shared::Shared;
+use crate::values::{TextRule, value_now};
+use rx_curie::Facts;
+use rx_lists::Owner;
+use rx_terms::{Iri, NoMemory, Node, Term};
+use std::alloc::Global;
+
+/// The resources of an element (RDFa Core 1.1, section 7.5, steps 5 and 6): new subject, typed resource, current object
+/// resource, and whether it is skipped; and the number that comes next.
+#[derive(Debug, Drop)]
+pub struct Placed {
+    pub subject: Node,
+    pub typed: Option<Node>,
+    pub object: Option<Node>,
+    pub skipped: bool,
+    pub next_blank: u64,
+}
+
+fn clone_option(node: &Option<Shared>) -> Result<Option<Node>, NoMemory>
+    ensures { IfOk result (λ copy. copy ≡ node.now) }
+{
+    match node {
+        Some(node) => Ok(Some(node.node().try_clone()?)),
+        None => Ok(None),
+    }
+}
+
+fn share_option(alloc: Global, node: &Option<Node>) -> Result<Option<Shared>, NoMemory>
+    ensures { IfOk result (λ copy. copy ≡ node.now) }
+{
+    match node {
+        Some(node) => Ok(Some(Shared::new(alloc, node.try_clone()?)?)),
+        None => Ok(None),
+    }
+}
+
+/// A context of which only the subject and the object are known.
+fn plain_context(alloc: Global, subject: &Node, object: &Node) -> Result<Context, NoMemory>
+    ensures { IfOk result (λ context. context_seen context ≡ plain_context (node_seen subject.now) (node_seen object.now)) }
+{
+    Ok(Context {
+        subject: Shared::new(alloc, subject.try_clone()?)?,
+        object: Shared::new(alloc, object.try_clone()?)?,
+        hanging: Hangings::of(alloc, Vec::new(alloc))?,
+        owner: Owner(0),
+    })
+}
+
+impl Placed {
+    /// The resources of an element of a level, the root's being 1, that inherits a subject and an object. Its labels that
+    /// have no number draw theirs first, from `next_blank` on; a new node has the number after them. After want of memory
+    /// some labels may have drawn theirs.
+    pub fn of(
+        alloc: Global,
+        facts: &Facts,
+        level: u32,
+        base: &Iri,
+        subject: &Node,
+        object: &Node,
+        next_blank: u64,
+        labels: &mut Labels,
+    ) -> Result<Placed, NoMemory>
+        requires level { 1 ≤ level }
+        requires room { next_blank + 1 + length (labels_of (facts_seen facts.now)) < 2 ^ 64 }
+        ensures { IfOk result (Places labels.old next_blank base.now (level - 1) (node_seen subject.now) (node_seen object.now) (facts_seen facts.now) labels.new) }
+    {
+        let fresh = draw_labels(labels, facts, next_blank)?;
+        let context = plain_context(alloc, subject, object)?;
+        let place = Place {
+            alloc,
+            base,
+            around: &context,
+            level: level_at((level - 1) as usize),
+            labels,
+            fresh,
+        };
+        let found = place.find(facts)?;
+        Ok(Placed {
+            subject: found.subject.node().try_clone()?,
+            typed: clone_option(&found.typed)?,
+            object: clone_option(&found.object)?,
+            skipped: found.skipped,
+            next_blank: number_after(&found, fresh),
+        })
+    }
+
+    fn found(&self, alloc: Global) -> Result<Found, NoMemory>
+        ensures { IfOk result (λ found. found_seen found ≡ placed_seen self.now) }
+    {
+        Ok(Found {
+            subject: Shared::new(alloc, self.subject.try_clone()?)?,
+            typed: share_option(alloc, &self.typed)?,
+            object: share_option(alloc, &self.object)?,
+            skipped: self.skipped,
+        })
+    }
+}
+
+/// The value of an element's property, with the element's text (RDFa Core 1.1, section 7.5, step 11; HTML+RDFa 1.1,
+/// section 3.1). A label of the facts that has no number yet counts as number 0.
+pub fn value_of(
+    alloc: Global,
+    facts: &Facts,
+    placed: &Placed,
+    base: &Iri,
+    labels: &Labels,
+    text: &str,
+) -> Result<Term, NoMemory>
+    ensures { IfOk result (λ term. term_seen term ≡ value (rule (moment labels.now 0 0 0) base.now (facts_seen facts.now) (placed_seen placed.now)) (facts_seen facts.now) (chars text.now)) }
+{
+    let found = placed.found(alloc)?;
+    let value = value_now(alloc, base, labels, facts, &found)?;
+    match value {
+        Some(value) => Ok(value),
+        None => TextRule::of(facts)?.value(alloc, text),
+    }
+}

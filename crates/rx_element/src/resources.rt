@@ -1,0 +1,241 @@
+//! The resources of one element (RDFa Core 1.1, section 7.5, steps 5 and 6; HTML+RDFa 1.1, section 3.1).
+ghost use Rattle.std.specs.Prelude.{◌≡◌, ◌&&◌, IfOk, option_map, option_copied};
+ghost use Rattle.rx_model.specs.Seen.{node_seen};
+ghost use Rattle.rx_rdfa.specs.Resources.{has_link, is_plain_property, resource_named, linked_resource, default_subject, of_link, of_property, of_no_link, resources, is_root_child, is_head_or_body};
+ghost use Rattle.rx_curie.specs.Seen.{ref_seen, facts_seen};
+ghost use Rattle.rx_element.specs.Found.{linked_ref, fresh_node, page_node, property_type, found_seen};
+ghost use Rattle.rx_element.specs.Places.{path_at, standing, naming};
+
+use crate::places::{Level, Place, named};
+use crate::shared::{Shared, share_option};
+use rx_curie::{ElementKind, Facts, Ref};
+use rx_terms::{Blank, NoMemory, Node};
+
+/// The resources of an element; a skipped one has them for nothing.
+#[derive(Drop)]
+pub struct Found {
+    /// The new subject.
+    pub subject: Shared,
+    /// The typed resource.
+    pub typed: Option<Shared>,
+    /// The current object resource.
+    pub object: Option<Shared>,
+    /// Whether nothing is said of the element, which then hands on what it inherits.
+    pub skipped: bool,
+}
+
+/// Whether there is `rel` or `rev`.
+pub(crate) fn has_link(facts: &Facts) -> bool
+    ensures { result ≡ has_link (facts_seen facts.now) }
+{
+    facts.rel.is_some() || facts.rev.is_some()
+}
+
+/// Whether there is `property`, and neither `content` nor `datatype`.
+fn is_plain_property(facts: &Facts) -> bool
+    ensures { result ≡ is_plain_property (facts_seen facts.now) }
+{
+    facts.property.is_some() && facts.content.is_none() && facts.datatype.is_none()
+}
+
+/// The first present of `resource`, `href` and `src`.
+pub(crate) fn linked_ref(facts: &Facts) -> Option<&Ref>
+    ensures { option_map ref_seen (option_copied result) ≡ linked_ref (facts_seen facts.now) }
+{
+    match &facts.resource {
+        Some(resource) => Some(resource),
+        None => match &facts.href {
+            Some(href) => Some(href),
+            None => facts.src.as_ref(),
+        },
+    }
+}
+
+impl<'a> Place<'a> {
+    /// The resource that is named.
+    fn named(&self, name: &Ref) -> Result<Shared, NoMemory>
+        ensures { IfOk result (λ node. node_seen node ≡ resource_named (naming self.now) self.now.base.now (ref_seen name.now)) }
+    {
+        let node = named(self.alloc, self.base, self.labels, name)?;
+        Shared::new(self.alloc, node)
+    }
+
+    /// The element's new node.
+    pub fn fresh(&self) -> Result<Shared, NoMemory>
+        ensures { IfOk result (λ node. node_seen node ≡ fresh_node self.now) }
+    {
+        Shared::new(self.alloc, Node::Blank(Blank(self.fresh)))
+    }
+
+    /// The resource of the first present of `resource`, `href` and `src`.
+    fn linked(&self, facts: &Facts) -> Result<Option<Shared>, NoMemory>
+        ensures { IfOk result (λ node. option_map node_seen node ≡ linked_resource (naming self.now) self.now.base.now (standing self.now (facts_seen facts.now))) }
+    {
+        match linked_ref(facts) {
+            Some(name) => Ok(Some(self.named(name)?)),
+            None => Ok(None),
+        }
+    }
+
+    /// The subject of an element with a link or a plain property.
+    fn default_subject(&self, facts: &Facts) -> Result<Shared, NoMemory>
+        ensures { IfOk result (λ node. node_seen node ≡ default_subject (naming self.now) self.now.base.now (standing self.now (facts_seen facts.now))) }
+    {
+        if let Some(about) = &facts.about {
+            return self.named(about);
+        }
+        if self.level == Level::Root {
+            return self.page();
+        }
+        self.around.object.share()
+    }
+
+    /// The base as a node.
+    fn page(&self) -> Result<Shared, NoMemory>
+        ensures { IfOk result (λ node. node_seen node ≡ page_node self.now.base.now) }
+    {
+        Shared::new(self.alloc, Node::Iri(self.base.try_clone()?))
+    }
+
+    /// Whether it is the head or the body of the page.
+    fn is_head_or_body(&self, facts: &Facts) -> bool
+        ensures { result ≡ (is_root_child (path_at self.now.level) && is_head_or_body (facts_seen facts.now).kind) }
+    {
+        self.level == Level::RootChild
+            && matches!(facts.element, ElementKind::Head | ElementKind::Body)
+    }
+
+    /// The resources of an element with `rel` or `rev`.
+    fn of_link(&self, facts: &Facts) -> Result<Found, NoMemory>
+        ensures { IfOk result (λ found. found_seen found ≡ of_link (naming self.now) self.now.base.now (standing self.now (facts_seen facts.now))) }
+    {
+        let subject = self.default_subject(facts)?;
+        let object = self.link_object(facts)?;
+        let typed = if facts.types.is_none() {
+            None
+        } else if facts.about.is_some() {
+            Some(subject.share()?)
+        } else {
+            share_option(&object)?
+        };
+        Ok(Found {
+            subject,
+            typed,
+            object,
+            skipped: false,
+        })
+    }
+
+    /// The object of an element with `rel` or `rev`.
+    fn link_object(&self, facts: &Facts) -> Result<Option<Shared>, NoMemory>
+        ensures { IfOk result (λ object. option_map node_seen object ≡ (of_link (naming self.now) self.now.base.now (standing self.now (facts_seen facts.now))).object) }
+    {
+        let linked = self.linked(facts)?;
+        if linked.is_some() || facts.types.is_none() || facts.about.is_some() {
+            return Ok(linked);
+        }
+        Ok(Some(self.fresh()?))
+    }
+
+    /// The resources of an element with `property` and neither `content` nor `datatype`.
+    fn of_property(&self, facts: &Facts) -> Result<Found, NoMemory>
+        ensures { IfOk result (λ found. found_seen found ≡ of_property (naming self.now) self.now.base.now (standing self.now (facts_seen facts.now))) }
+    {
+        let subject = self.default_subject(facts)?;
+        if facts.types.is_none() {
+            return Ok(Found {
+                subject,
+                typed: None,
+                object: None,
+                skipped: false,
+            });
+        }
+        let typed = self.property_type(facts)?;
+        Ok(Found {
+            subject,
+            typed: Some(typed.share()?),
+            object: Some(typed),
+            skipped: false,
+        })
+    }
+
+    /// The typed resource of an element with `property`.
+    fn property_type(&self, facts: &Facts) -> Result<Shared, NoMemory>
+        ensures { IfOk result (λ typed. node_seen typed ≡ property_type (naming self.now) self.now.base.now (standing self.now (facts_seen facts.now))) }
+    {
+        if let Some(about) = &facts.about {
+            return self.named(about);
+        }
+        if self.level == Level::Root {
+            return self.page();
+        }
+        if let Some(linked) = linked_ref(facts) {
+            return self.named(linked);
+        }
+        if self.is_head_or_body(facts) {
+            return self.around.object.share();
+        }
+        self.fresh()
+    }
+
+    /// The subject of an element with neither `rel` nor `rev`.
+    fn no_link_subject(&self, facts: &Facts) -> Result<Shared, NoMemory>
+        ensures { IfOk result (λ subject. node_seen subject ≡ (of_no_link (naming self.now) self.now.base.now (standing self.now (facts_seen facts.now))).subject) }
+    {
+        if let Some(about) = &facts.about {
+            return self.named(about);
+        }
+        if let Some(linked) = linked_ref(facts) {
+            return self.named(linked);
+        }
+        if self.level == Level::Root {
+            return self.page();
+        }
+        if self.is_head_or_body(facts) || facts.types.is_none() {
+            return self.around.object.share();
+        }
+        self.fresh()
+    }
+
+    /// The resources of an element with neither `rel` nor `rev`, and no plain property.
+    fn of_no_link(&self, facts: &Facts) -> Result<Found, NoMemory>
+        ensures { IfOk result (λ found. found_seen found ≡ of_no_link (naming self.now) self.now.base.now (standing self.now (facts_seen facts.now))) }
+    {
+        let subject = self.no_link_subject(facts)?;
+        let typed = if facts.types.is_some() {
+            Some(subject.share()?)
+        } else {
+            None
+        };
+        Ok(Found {
+            subject,
+            typed,
+            object: None,
+            skipped: self.is_skipped(facts),
+        })
+    }
+
+    /// Whether nothing is said of the element, and it isn't the root.
+    fn is_skipped(&self, facts: &Facts) -> bool
+        ensures { result ≡ (of_no_link (naming self.now) self.now.base.now (standing self.now (facts_seen facts.now))).skipped }
+    {
+        if facts.property.is_some() || facts.about.is_some() || linked_ref(facts).is_some() {
+            return false;
+        }
+        self.level != Level::Root && facts.types.is_none()
+    }
+
+    /// The resources of the element.
+    #[tactic(auto, unfolding(rx_rdfa::specs::Resources::resources))]
+    pub(crate) fn find(&self, facts: &Facts) -> Result<Found, NoMemory>
+        ensures { IfOk result (λ found. found_seen found ≡ resources (naming self.now) self.now.base.now (standing self.now (facts_seen facts.now))) }
+    {
+        if has_link(facts) {
+            return self.of_link(facts);
+        }
+        if is_plain_property(facts) {
+            return self.of_property(facts);
+        }
+        self.of_no_link(facts)
+    }
+}

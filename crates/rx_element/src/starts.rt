@@ -1,0 +1,169 @@
+//! The triples of an element's start, in the order of the steps.
+ghost use Rattle.std.specs.Prelude.{◌≡◌, ◌++◌, OnOk, IfOk, option_map};
+ghost use Rattle.rx_model.specs.Seen.{node_seen, term_seen, triples_seen};
+ghost use Rattle.rx_rdfa.specs.Inherited.{listed};
+ghost use Rattle.rx_rdfa.specs.Resources.{resources};
+ghost use Rattle.rx_rdfa.specs.Value.{rule, value_now};
+ghost use Rattle.rx_rdfa.specs.Element.{start_of};
+ghost use Rattle.rx_curie.specs.Seen.{facts_seen, refs_seen};
+ghost use Rattle.rx_element.specs.Found.{found_seen};
+ghost use Rattle.rx_element.specs.Places.{naming, standing};
+ghost use Rattle.rx_element.specs.Starts.{vocabulary_by, types_of, properties_of, links_of, values_of, found_by, start_by};
+
+use crate::iris::{rdf_type, uses_vocabulary};
+use crate::places::{Place, named};
+use crate::resources::Found;
+use crate::triples::{push, push_completed, push_each};
+use crate::values::{node_term, value_now};
+use rx_curie::{Facts, Nodes2};
+use rx_terms::{Iri, Iris, NoMemory, Node, Term, TripleList};
+use std::alloc::Global;
+
+/// What the start of an element finds: its resources, and the value of its property where that isn't its text.
+#[derive(Drop)]
+pub struct Started {
+    pub found: Found,
+    pub value: Option<Term>,
+}
+
+/// Adds the vocabulary that the element uses.
+fn push_vocabulary(
+    alloc: Global,
+    out: &mut TripleList,
+    base: &Iri,
+    vocab: &Option<Iri>,
+) -> Result<(), NoMemory>
+    ensures { OnOk result (triples_seen out.new ≡ triples_seen out.old ++ vocabulary_by base.now vocab.now) }
+{
+    match vocab {
+        Some(vocab) => {
+            let page = Node::Iri(base.try_clone()?);
+            let predicate = uses_vocabulary(alloc)?;
+            push(out, &page, &predicate, &Term::Iri(vocab.try_clone()?))
+        }
+        None => Ok(()),
+    }
+}
+
+/// Adds the subject's triples with the object, one for each predicate of an attribute, if it is there.
+fn push_all(
+    out: &mut TripleList,
+    subject: &Node,
+    predicates: &Option<Iris>,
+    object: &Term,
+) -> Result<(), NoMemory>
+    ensures { OnOk result (triples_seen out.new ≡ triples_seen out.old ++ properties_of (node_seen subject.now) predicates.now (term_seen object.now)) }
+{
+    match predicates {
+        Some(predicates) => push_each(out, subject, predicates, object),
+        None => Ok(()),
+    }
+}
+
+/// Adds the links of an element with an object: those of `rel` where they are no lists, and those of `rev`.
+fn push_links(
+    out: &mut TripleList,
+    facts: &Facts,
+    subject: &Node,
+    object: &Node,
+) -> Result<(), NoMemory>
+    ensures { OnOk result (triples_seen out.new ≡ triples_seen out.old ++ links_of (facts_seen facts.now) (node_seen subject.now) (node_seen object.now)) }
+{
+    if !facts.inlist {
+        push_all(out, subject, &facts.rel, &node_term(object)?)?;
+    }
+    push_all(out, object, &facts.rev, &node_term(subject)?)
+}
+
+/// Adds the properties with a value, where they are no lists.
+fn push_properties(
+    out: &mut TripleList,
+    facts: &Facts,
+    subject: &Node,
+    value: &Option<Term>,
+) -> Result<(), NoMemory>
+    ensures { OnOk result (triples_seen out.new ≡ triples_seen out.old ++ values_of (facts_seen facts.now) (node_seen subject.now) (option_map term_seen value.now)) }
+{
+    if facts.inlist {
+        return Ok(());
+    }
+    match value {
+        Some(value) => push_all(out, subject, &facts.property, value),
+        None => Ok(()),
+    }
+}
+
+impl<'a> Place<'a> {
+    /// The start of the element: finds its resources and its value, and adds its triples. After want of memory some may
+    /// have been added.
+    pub fn start(&self, facts: &Facts, out: &mut TripleList) -> Result<Started, NoMemory>
+        ensures triples { OnOk result (triples_seen out.new ≡ triples_seen out.old ++ start_of (naming self.now) self.now.base.now (standing self.now (facts_seen facts.now))) }
+        ensures found { IfOk result (λ started. found_seen started.found ≡ resources (naming self.now) self.now.base.now (standing self.now (facts_seen facts.now))) }
+        ensures value { IfOk result (λ started. option_map term_seen started.value ≡ value_now (rule (naming self.now) self.now.base.now (facts_seen facts.now) (found_seen started.found)) (facts_seen facts.now)) }
+    {
+        let found = self.find(facts)?;
+        let value = value_now(self.alloc, self.base, self.labels, facts, &found)?;
+        self.push_start(out, facts, &found, &value)?;
+        Ok(Started { found, value })
+    }
+
+    /// Adds the triples of the element's start, with its resources and its value.
+    fn push_start(
+        &self,
+        out: &mut TripleList,
+        facts: &Facts,
+        found: &Found,
+        value: &Option<Term>,
+    ) -> Result<(), NoMemory>
+        ensures { OnOk result (triples_seen out.new ≡ triples_seen out.old ++ start_by (naming self.now) self.now.base.now (facts_seen facts.now) (found_seen found.now) (option_map term_seen value.now) (node_seen self.now.around.now.subject) self.now.around.now.hanging) }
+    {
+        push_vocabulary(self.alloc, out, self.base, &facts.vocab)?;
+        if found.skipped {
+            return Ok(());
+        }
+        let subject = found.subject.node();
+        self.push_found(out, facts, found)?;
+        push_properties(out, facts, subject, value)?;
+        let waiting = self.around.hanging.as_slice();
+        push_completed(out, waiting, self.around.subject.node(), subject)
+    }
+
+    /// Adds the types and the links of the element.
+    fn push_found(&self, out: &mut TripleList, facts: &Facts, found: &Found) -> Result<(), NoMemory>
+        ensures { OnOk result (triples_seen out.new ≡ triples_seen out.old ++ found_by (naming self.now) self.now.base.now (facts_seen facts.now) (found_seen found.now)) }
+    {
+        if let Some(typed) = &found.typed {
+            self.push_all_types(out, typed.node(), &facts.types)?;
+        }
+        match &found.object {
+            Some(object) => push_links(out, facts, found.subject.node(), object.node()),
+            None => Ok(()),
+        }
+    }
+
+    fn push_all_types(
+        &self,
+        out: &mut TripleList,
+        typed: &Node,
+        types: &Option<Nodes2>,
+    ) -> Result<(), NoMemory>
+        ensures { OnOk result (triples_seen out.new ≡ triples_seen out.old ++ types_of (naming self.now) self.now.base.now (node_seen typed.now) (listed (option_map refs_seen types.now))) }
+    {
+        match types {
+            Some(types) => self.push_types(out, typed, types),
+            None => Ok(()),
+        }
+    }
+
+    /// Adds the types of a node.
+    fn push_types(&self, out: &mut TripleList, typed: &Node, types: &Nodes2) -> Result<(), NoMemory>
+        ensures { OnOk result (triples_seen out.new ≡ triples_seen out.old ++ types_of (naming self.now) self.now.base.now (node_seen typed.now) (refs_seen types.now)) }
+    {
+        let predicate = rdf_type(self.alloc)?;
+        for i in 0..types.len() {
+            let node = named(self.alloc, self.base, self.labels, types.at(i))?;
+            push(out, typed, &predicate, &node_term(&node)?)?;
+        }
+        Ok(())
+    }
+}

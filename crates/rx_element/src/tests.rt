@@ -1,0 +1,46 @@
+//! One element as its calls, where all goes well.
+use super::*;
+use rx_curie::{ElementKind, Facts, Ref};
+use rx_terms::{Iri, Iris, Node, Term, Text};
+use std::test::Fail;
+
+#[test]
+fn a_text_about_a_label(rt: HostRuntime) -> Result<(), Fail> {
+    let alloc = rt.alloc();
+    let mut property = Iris::new(alloc);
+    property.push(Iri::of(alloc, "http://v.example/p")?)?;
+    let facts = Facts {
+        element: ElementKind::Other,
+        about: Some(Ref::Label(Text::of(alloc, "x")?)),
+        resource: None,
+        href: None,
+        src: None,
+        rel: None,
+        rev: None,
+        property: Some(property),
+        types: None,
+        content: None,
+        datetime: None,
+        datatype: None,
+        inlist: false,
+        vocab: None,
+        lang: None,
+    };
+    let base = Iri::of(alloc, "http://h.example/d")?;
+    let page = Node::Iri(base.try_clone()?);
+    let mut labels = Labels::new(alloc)?;
+    let placed = Placed::of(alloc, &facts, 2, &base, &page, &page, 7, &mut labels)?;
+    let number = match &placed.subject {
+        Node::Blank(blank) => blank.0,
+        Node::Iri(_iri) => 0,
+    };
+    assert_eq!(rt; number, 7);
+    assert_eq!(rt; placed.next_blank, 8);
+    let value = value_of(alloc, &facts, &placed, &base, &labels, "Hi")?;
+    let text = match &value {
+        Term::Literal(literal) => Text::of(alloc, literal.lexical.as_str())?,
+        _ => Text::of(alloc, "")?,
+    };
+    assert_eq!(rt; text.as_str(), "Hi");
+    Ok(())
+}

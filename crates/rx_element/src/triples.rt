@@ -1,0 +1,60 @@
+//! The triples of an element's start (RDFa Core 1.1, section 7.5, steps 2, 7, 9, 11 and 12).
+ghost use Rattle.std.specs.Prelude.{◌≡◌, ◌∷◌, [], ◌++◌, OnOk, map, filter_map};
+ghost use Rattle.rx_model.specs.Seen.{node_seen, term_seen, triples_seen};
+ghost use Rattle.rx_model.specs.Copied.{spo};
+ghost use Rattle.rx_rdfa.specs.Inherited.{listed};
+ghost use Rattle.rx_rdfa.specs.Element.{completed};
+ghost use Rattle.rx_element.specs.Triples.{completed_by};
+
+use crate::contexts::Waiting;
+use crate::values::node_term;
+use rx_terms::{Iri, Iris, NoMemory, Node, Term, Triple, TripleList};
+
+/// Adds the triples of the subject with the object, one for each predicate.
+pub fn push_each(
+    out: &mut TripleList,
+    subject: &Node,
+    predicates: &Iris,
+    object: &Term,
+) -> Result<(), NoMemory>
+    ensures { OnOk result (triples_seen out.new ≡ triples_seen out.old ++ map (λ p. spo (node_seen subject.now) p (term_seen object.now)) predicates.now) }
+{
+    for i in 0..predicates.len() {
+        push(out, subject, predicates.at(i), object)?;
+    }
+    Ok(())
+}
+
+pub(crate) fn push(
+    out: &mut TripleList,
+    subject: &Node,
+    predicate: &Iri,
+    object: &Term,
+) -> Result<(), NoMemory>
+    ensures { OnOk result (triples_seen out.new ≡ triples_seen out.old ++ spo (node_seen subject.now) predicate.now (term_seen object.now) ∷ []) }
+{
+    out.push(Triple {
+        subject: subject.try_clone()?,
+        predicate: predicate.try_clone()?,
+        object: object.try_clone()?,
+    })
+}
+
+/// Adds the triples that wait, when an element with a subject completes them; lists that wait get an item elsewhere.
+pub(crate) fn push_completed(
+    out: &mut TripleList,
+    waiting: &[Waiting],
+    above: &Node,
+    subject: &Node,
+) -> Result<(), NoMemory>
+    ensures { OnOk result (triples_seen out.new ≡ triples_seen out.old ++ filter_map (completed_by (node_seen above.now) (node_seen subject.now)) waiting.now) }
+{
+    for one in waiting {
+        match one {
+            Waiting::Forward(predicate) => push(out, above, predicate, &node_term(subject)?)?,
+            Waiting::Reverse(predicate) => push(out, subject, predicate, &node_term(above)?)?,
+            Waiting::InList(_owner, _predicate) => {}
+        }
+    }
+    Ok(())
+}

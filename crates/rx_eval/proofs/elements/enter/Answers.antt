@@ -1,0 +1,57 @@
+use Rattle.std.proofs.Common.{◌∙◌, ap, sym, length, is_some, option_map}
+use Rattle.std.proofs.lemmas.List.{length-map}
+use Rattle.rx_model.specs.Seen.{term_seen}
+use Rattle.rx_curie.specs.Seen.{facts_seen}
+use Rattle.rx_element.specs.Contexts.{context_seen}
+use Rattle.rx_element.specs.Found.{found_seen}
+use Rattle.rx_element.specs.Places.{standing}
+use Rattle.rx_eval.specs.OwnersSeen.{owners_seen}
+use Rattle.rx_eval.proofs.EnterLemmas.{below_is_handed, below_skipped, lists_skipped, lists_entered, gathers_entered, gathers_skipped, gathers_is, ok_then, on_then, on_always}
+use Rattle.rx_eval.proofs.elements.enter.Goals as goal
+
+pub returns-then-started-clause-start : goal.returns-then-started-clause-start
+returns-then-started-clause-start c = on_always c.skipped.result c.in_ok-started.ensures.triples
+
+pub returns-then-started-clause-context : goal.returns-then-started-clause-context
+returns-then-started-clause-context c =
+    let at = standing c.args.place.now (facts_seen c.args.facts.now) in
+    let here = found_seen c.in_ok-started.started.found in
+    let below = below_is_handed c.args.place.now.labels.now c.args.place.now.fresh c.args.place.now.base.now at here (length c.args.lists.now) in
+    let same = below_skipped c.args.place.now.labels.now c.args.place.now.fresh c.args.place.now.base.now at here (length c.args.lists.now) c.if-started.true in
+    ok_then c.skipped.result (λ frame e. below (context_seen frame.context) c.in_ok-started.ensures.found (ap context_seen e ∙ same)) c.skipped.ensures.context
+
+pub returns-then-started-clause-lists : goal.returns-then-started-clause-lists
+returns-then-started-clause-lists c =
+    on_always c.skipped.result
+    (lists_skipped c.args.place.now.labels.now c.args.place.now.fresh c.args.place.now.base.now (standing c.args.place.now (facts_seen c.args.facts.now)) (found_seen c.in_ok-started.started.found)
+    c.in_ok-started.ensures.found (owners_seen c.args.lists.now) c.if-started.true)
+
+pub returns-then-started-clause-gathers : goal.returns-then-started-clause-gathers
+returns-then-started-clause-gathers c =
+    let skips = gathers_skipped c.args.place.now.labels.now c.args.place.now.fresh c.args.place.now.base.now (standing c.args.place.now (facts_seen c.args.facts.now))
+    (found_seen c.in_ok-started.started.found) c.in_ok-started.ensures.found c.if-started.true in
+    ok_then c.skipped.result (λ frame e. ap is_some e.2 ∙ skips) c.skipped.ensures.nothing
+
+pub returns-clause-start : goal.returns-clause-start
+returns-clause-start c = on_always c.enter_found.result c.in_ok-started.ensures.triples
+
+pub returns-clause-context : goal.returns-clause-context
+returns-clause-context c =
+    let below = below_is_handed c.args.place.now.labels.now c.args.place.now.fresh c.args.place.now.base.now (standing c.args.place.now (facts_seen c.args.facts.now))
+    (found_seen c.in_ok-started.started.found) (length c.args.lists.now) in
+    ok_then c.enter_found.result (λ frame e. below (context_seen frame.context) c.in_ok-started.ensures.found e) c.enter_found.ensures.context
+
+pub returns-clause-lists : goal.returns-clause-lists
+returns-clause-lists c =
+    on_then c.enter_found.result
+    (λ e.
+    lists_entered c.args.place.now.labels.now c.args.place.now.fresh c.args.place.now.base.now (standing c.args.place.now (facts_seen c.args.facts.now))
+    (found_seen c.in_ok-started.started.found) c.in_ok-started.ensures.found (option_map term_seen c.in_ok-started.started.value) (owners_seen c.args.lists.now)
+    (owners_seen c.enter_found.new.lists) (length c.args.lists.now) (sym (length-map c.args.lists.now _)) c.if-started.false c.in_ok-started.ensures.value e)
+    c.enter_found.ensures.lists
+
+pub returns-clause-gathers : goal.returns-clause-gathers
+returns-clause-gathers c =
+    let gathers = gathers_entered c.args.place.now.labels.now c.args.place.now.fresh c.args.place.now.base.now (standing c.args.place.now (facts_seen c.args.facts.now))
+    (found_seen c.in_ok-started.started.found) c.in_ok-started.ensures.found (option_map term_seen c.in_ok-started.started.value) c.if-started.false c.in_ok-started.ensures.value in
+    ok_then c.enter_found.result (λ frame e. e ∙ gathers_is c.in_ok-started.started.value (facts_seen c.args.facts.now) ∙ gathers) c.enter_found.ensures.gathers

@@ -1,0 +1,38 @@
+use Rattle.std.proofs.Common.{◌∙◌, ap, ap₂, ℕ, List, length, map, option_map, refl}
+use Rattle.std.specs.Prelude.{Option}
+use Rattle.rx_model.specs.Seen.{node_seen, term_seen}
+use Rattle.rx_curie.specs.Seen.{facts_seen}
+use Rattle.rx_lists.specs.declared.lists.Owner.{Owner}
+use Rattle.rx_element.specs.Contexts.{context_seen, waiting_seen}
+use Rattle.rx_element.specs.Found.{found_seen}
+use Rattle.rx_element.specs.Places.{naming, standing}
+use Rattle.rx_element.specs.declared.contexts.Waiting.{Waiting}
+use Rattle.rx_eval.specs.Elements.{handed_by, owner_in}
+use Rattle.rx_eval.specs.Entering.{own_number}
+use Rattle.rx_eval.specs.OwnersSeen.{Owning, owners_seen, put_entries}
+use Rattle.rx_eval.specs.Listing.{entries_in}
+use Rattle.rx_eval.proofs.EnterLemmas.{handed_is, owners_are, own_is}
+use Rattle.rx_eval.proofs.elements.enter_found.Goals as goal
+
+pub returns-clause-context : goal.returns-clause-context
+returns-clause-context c =
+    handed_is c.args.place.now.labels.now c.args.place.now.fresh (standing c.args.place.now (facts_seen c.args.facts.now)) (found_seen c.args.found.now) c.node-subject.result.now c.node.result.now c.in_ok-object.object
+    c.in_ok-own.own c.in_ok-below.below c.args.place.now.around.now.owner (context_seen c.in_ok-context.context) c.args.lists.now c.begin.new.lists c.requires (ap node_seen c.node-subject.ensures) (ap node_seen c.node.ensures) refl
+    c.in_ok-object.ensures c.in_ok-own.ensures.owner c.in_ok-own.ensures.lists c.in_ok-below.ensures.owner
+    (c.in_ok-context.ensures
+    ∙ ap₂ (λ (x y : Owner). handed_by (facts_seen c.args.facts.now) (found_seen c.args.found.now) (option_map node_seen c.in_ok-object.object) x.0 y.0) c.owner_or-owner.ensures
+    (c.owner_or.ensures ∙ ap (owner_in c.in_ok-below.below) c.owner_or-owner.ensures))
+
+pub returns-clause-lists : goal.returns-clause-lists
+returns-clause-lists c =
+    let at = standing c.args.place.now (facts_seen c.args.facts.now) in
+    let here = found_seen c.args.found.now in
+    c.in_ok-slots.ensures
+    ∙ ap (λ (n : ℕ). put_entries (entries_in n (facts_seen c.args.facts.now) here (option_map term_seen c.args.value.now) (map waiting_seen c.as_slice-waiting.result.now)) (owners_seen c.begin_below.new.lists))
+    (ap (λ (o : Owner). o.0) c.owner_or-owner.ensures
+    ∙ own_is (naming c.args.place.now) at here c.node-subject.result.now c.node.result.now c.in_ok-object.object (ap node_seen c.node-subject.ensures) (ap node_seen c.node.ensures) c.in_ok-own.own
+    c.args.place.now.around.now.owner (length c.args.lists.now) refl c.in_ok-own.ensures.owner)
+    ∙ ap₂ (λ (w : List Waiting) (l : List (Option Owning)). put_entries (entries_in (own_number at here (length c.args.lists.now)) (facts_seen c.args.facts.now) here (option_map term_seen c.args.value.now) (map waiting_seen w)) l)
+    c.as_slice-waiting.ensures
+    (owners_are (naming c.args.place.now) at here c.node-subject.result.now c.node.result.now c.in_ok-object.object (ap node_seen c.node-subject.ensures) (ap node_seen c.node.ensures) c.args.lists.now c.begin.new.lists
+    c.begin_below.new.lists c.in_ok-object.ensures c.in_ok-own.ensures.lists c.in_ok-below.ensures.lists)
