@@ -26,6 +26,7 @@ use Rattle.rx_nest.specs.declared.heard.Did.TheVariants as did
 use Rattle.rx_nest.specs.declared.nests.Event as shown
 use Rattle.rx_nest.specs.declared.nests.Event.TheVariants as event
 use Rattle.rx_nest.specs.Nests.{Nested, At, Stands, Done, DidLends, did_signs, did_more, event_signs, is_more, Speaks, Shown, KeepsOn, Keeps, Stepped, EndsWith, Ended, last_tag, last_text, owed_signs}
+use Rattle.rx_nest.proofs.Sizes.{read_size}
 use Rattle.rx_nest.proofs.TreeSeen.{whole}
 
 module _ (syntax : Syntax) (limits : Limits) (bytes : List ℕ) (told : List Event) (v : Scanner) (line : Lines) (at : At syntax limits bytes told v line) where
@@ -71,8 +72,15 @@ module _ (syntax : Syntax) (limits : Limits) (bytes : List ℕ) (told : List Eve
 
 -- what was told at a page's end is its tree
 module _ (syntax : Syntax) (limits : Limits) (old : Nested) (bytes : List ℕ) (signs : List Sign) (st : Stands syntax limits old bytes signs) where
-  pub fault_ends : (fault : Fault) → EndsWith syntax limits bytes st.told (Some fault) → FaultAt syntax limits bytes fault
-  fault_ends fault h = found_fault syntax limits bytes fault h
+  pub fault_ends : (fault : Fault) → EndsWith syntax limits bytes st.told (Some fault) → FaultAt syntax limits bytes fault × (fault.kind ≡ Unended) × (fault.at ≡ length bytes)
+  fault_ends fault h = (found_fault syntax limits bytes fault h, ap (λ (x : Fault). x.kind) same, ap (λ (x : Fault). x.at) same ∙ (read_size syntax limits bytes (record { now = st.at.now; told = st.told }) st.at.read).0)
+    where
+      same : fault ≡ fault_in st.at.now.scan Unended
+      same = by (may_end st.at.now) (sym (ap end_of st.at.read) ∙ h)
+        where
+          by : (b : Bool) → (if b then Ok (record { now = st.at.now; told = st.told }) else Err (fault_in st.at.now.scan Unended)) ≡ Err fault → fault ≡ fault_in st.at.now.scan Unended
+          by true e = absurd (cc)
+          by false e = cc
 
   pub page_ends : EndsWith syntax limits bytes st.told None → Ended syntax limits bytes signs (owed_signs old.owed (last_tag old.scan))
   page_ends h =

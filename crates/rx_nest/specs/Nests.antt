@@ -4,6 +4,7 @@ use Rattle.std.specs.Str.{chars}
 use Rattle.rx_terms.specs.Text.{Chars}
 use Rattle.rx_chars.specs.declared.syntax.Syntax.{Syntax}
 use Rattle.rx_grammar.specs.declared.faults.Fault.{Fault}
+use Rattle.rx_grammar.specs.declared.faults.Kind.TheVariants.{Unended}
 use Rattle.rx_grammar.specs.declared.limits.Limits.{Limits}
 use Rattle.rx_grammar.specs.Tokens as tokens
 use Rattle.rx_grammar.specs.Trees.{Tree, StartTag}
@@ -281,5 +282,5 @@ pub record Ended (syntax : Syntax) (limits : Limits) (bytes : List ℕ) (signs :
 
 abbrev pub EndGives : Syntax → Limits → List ℕ → List Sign → Nested → Result (Unit {0}) Stop → Nested → Type 0
 EndGives syntax limits bytes signs old (Ok done) new = Ended syntax limits bytes signs (owed_signs old.owed (last_tag old.scan))
-EndGives syntax limits bytes signs old (Err (stop.Fault fault)) new = FaultAt syntax limits bytes fault
+EndGives syntax limits bytes signs old (Err (stop.Fault fault)) new = FaultAt syntax limits bytes fault × (fault.kind ≡ Unended) × (fault.at ≡ length bytes)
 EndGives syntax limits bytes signs old (Err stop.NoMemory) new = ⊥
