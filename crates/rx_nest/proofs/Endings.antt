@@ -78,7 +78,7 @@ module _ (syntax : Syntax) (limits : Limits) (old : Nested) (bytes : List ℕ) (
       same : fault ≡ fault_in st.at.now.scan Unended
       same = by (may_end st.at.now) (sym (ap end_of st.at.read) ∙ h)
         where
-          by : (b : Bool) → (if b then Ok (record { now = st.at.now; told = st.told }) else Err (fault_in st.at.now.scan Unended)) ≡ Err fault → fault ≡ fault_in st.at.now.scan Unended
+          by : (b : Bool) → ◌≡◌ {A = Result Progress Fault} (if b then Ok (record { now = st.at.now; told = st.told }) else Err (fault_in st.at.now.scan Unended)) (Err fault) → fault ≡ fault_in st.at.now.scan Unended
           by true e = absurd (cc)
           by false e = cc
 
