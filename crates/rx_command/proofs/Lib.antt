@@ -4,3 +4,4 @@ pub mod FileLemmas
 pub mod WordLemmas
 pub mod InputLemmas
 pub mod RunLemmas
+pub mod CheckLemmas

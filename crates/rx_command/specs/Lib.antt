@@ -1,4 +1,5 @@
 pub mod Words
+pub mod Checks
 pub mod Jobs
 pub mod Page
 pub mod Files

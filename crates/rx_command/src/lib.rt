@@ -8,6 +8,7 @@
 ghost use Rattle.rx_command.specs.Page.{OneReading};
 
 mod arguments;
+mod checks;
 mod extract;
 mod files;
 mod inputs;

@@ -1,0 +1,70 @@
+use Rattle.std.proofs.Common.{arith, rules, ◌≡◌, ◌≤◌, ◌+◌, List, [], ℕ, length, refl, Ok, Err}
+use Rattle.rx_ports.proofs.MoveLemmas.{moves_weaker, moves_then}
+use Rattle.rx_command.specs.Files.{HasRead, TakesOf}
+use Rattle.rx_command.proofs.FileLemmas.{read_start, takes_none, takes_more}
+use Rattle.rx_command.proofs.CheckLemmas.{limits_are, start_reached, more_so_far, not_longer, next_found, file_ends}
+use Rattle.rx_command.proofs.checks.check_page.Goals as goal
+
+pub returns-in_default-start_file-clause-takes : goal.returns-in_default-start_file-clause-takes
+returns-in_default-start_file-clause-takes g c = moves_weaker _ (λ x y s. takes_none _ _ _ x y s) c.in_default-start_file.ensures.told
+
+pub loop-taken-init : goal.loop-taken-init
+loop-taken-init g c =
+    let limits = limits_are c.standard.result c.standard.ensures.depth c.standard.ensures.tag c.standard.ensures.page in
+    record {
+      piece = c.in-Ok-vec.ensures.len;
+      most = omega arith;
+      so_far = record {
+        bytes = [];
+        size = refl;
+        reached = start_reached c.args.syntax c.standard.result c.in-Ok.nest limits c.in-Ok.ensures;
+        read = moves_weaker (HasRead c.args.name.now []) (λ x y s. read_start c.args.name.now [] x y refl s) c.in-Ok-start_file.ensures.told;
+      };
+      later = c.in-Ok-start_file.ensures.later;
+    }
+
+pub returns-in-Ok-eq0-clause-gives : goal.returns-in-Ok-eq0-clause-gives
+returns-in-Ok-eq0-clause-gives g c =
+    let s = c.loop-taken.invariant.so_far in
+    let small : length c.deref_mut.result.now ≤ 65536 = omega (arith, c.deref_mut.ensures.len, c.loop-taken.invariant.piece) in
+    let next = c.in-Ok-eq0.ensures.gives c.args.syntax s.bytes s.reached small in
+    file_ends c.args.syntax c.args.name.now c.loop-taken.nest c.feed_next.new.nest c.loop-taken.taken c.in-Ok-eq0.field-0 _ _ _ s next c.in-Ok-eq0.field-0-test c.end_of.result (c.end_of.ensures.gives c.args.syntax _ next.2)
+
+pub returns-in-Ok-eq0-clause-takes : goal.returns-in-Ok-eq0-clause-takes
+returns-in-Ok-eq0-clause-takes g c =
+    let s = c.loop-taken.invariant.so_far in
+    let within : length s.bytes + length c.deref_mut.result.now ≤ 1073807360 = omega (arith, s.size, c.loop-taken-test.true, c.deref_mut.ensures.len, c.loop-taken.invariant.piece) in
+    moves_then (TakesOf c.args.name.now 1073807359) (λ x y z h t. takes_more c.args.name.now s.bytes 1073807359 (length c.deref_mut.result.now) x y z h t within) s.read c.in-Ok-eq0.ensures.takes
+
+pub returns-in-Ok-eq0-clause-failed : goal.returns-in-Ok-eq0-clause-failed
+returns-in-Ok-eq0-clause-failed g c = λ is. absurd (c.end_of.ensures.reads_none is)
+
+pub loop-taken-preserved : goal.loop-taken-preserved
+loop-taken-preserved g c =
+    let s = c.loop-taken.invariant.so_far in
+    let small : length c.deref_mut.result.now ≤ 65536 = omega (arith, c.deref_mut.ensures.len, c.loop-taken.invariant.piece) in
+    let next = c.in-Ok-feed_next.ensures.gives c.args.syntax s.bytes s.reached small in
+    record {
+      piece = search rules;
+      most = omega (arith, c.loop-taken-test.true, c.in-Ok-feed_next.ensures.bound, c.feed_next.auto.piece, c.deref_mut.ensures.len, c.loop-taken.invariant.piece);
+      so_far = more_so_far c.args.syntax c.args.name.now c.loop-taken.nest c.feed_next.new.nest c.loop-taken.taken c.in-Ok-feed_next.count _ _ _ s next;
+      later = omega (arith, c.loop-taken.invariant.later, c.in-Ok-feed_next.ensures.later);
+    }
+
+pub returns-in-Err-clause-gives : goal.returns-in-Err-clause-gives
+returns-in-Err-clause-gives g c =
+    let s = c.loop-taken.invariant.so_far in
+    let small : length c.deref_mut.result.now ≤ 65536 = omega (arith, c.deref_mut.ensures.len, c.loop-taken.invariant.piece) in
+    next_found c.args.syntax c.args.name.now c.loop-taken.nest c.feed_next.new.nest c.loop-taken.taken c.in-Err.error _ _ _ s (c.in-Err.ensures.gives c.args.syntax s.bytes s.reached small)
+
+pub returns-in-Err-clause-takes : goal.returns-in-Err-clause-takes
+returns-in-Err-clause-takes g c =
+    let s = c.loop-taken.invariant.so_far in
+    let within : length s.bytes + length c.deref_mut.result.now ≤ 1073807360 = omega (arith, s.size, c.loop-taken-test.true, c.deref_mut.ensures.len, c.loop-taken.invariant.piece) in
+    moves_then (TakesOf c.args.name.now 1073807359) (λ x y z h t. takes_more c.args.name.now s.bytes 1073807359 (length c.deref_mut.result.now) x y z h t within) s.read c.in-Err.ensures.takes
+
+pub unreachable-requires : goal.unreachable-requires
+unreachable-requires g c =
+    let s = c.loop-taken.invariant.so_far in
+    let small = not_longer c.args.syntax c.loop-taken.nest s.bytes s.reached in
+    omega (arith, small, s.size, c.loop-taken-test.false)
