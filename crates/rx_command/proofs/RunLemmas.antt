@@ -3,69 +3,30 @@ use Rattle.std.proofs.Common.{◌≡◌, ◌∙◌, ℕ, ◌≤◌, ◌⊎◌, i
 use Rattle.rx_ports.specs.Counts.{Rose}
 use Rattle.rx_ports.specs.Told.{Told, Moves}
 use Rattle.rx_ports.specs.Files.{file_of}
-use Rattle.rx_ports.proofs.MoveLemmas.{moves_at}
+use Rattle.rx_ports.proofs.MoveLemmas.{moves_at, moves_weaker}
 use Rattle.rx_command.specs.declared.statuses.Fault.{Fault}
 use Rattle.rx_command.specs.Words.{Asked, Task, extracts, checks, job}
-use Rattle.rx_command.specs.Page.{IsPage}
+use Rattle.rx_pages.proofs.OneOf.{not_both as not_both_at, one_fault}
+use Rattle.rx_command.specs.Checks.{standard}
 use Rattle.rx_command.specs.Contexts.{HasContext, HasOther, LacksContext, is_context}
-use Rattle.rx_command.specs.Outcome.{IsNotBuilt, TaskGives, TaskDenotes, TaskRefuses, NamesPage, Yields, YieldsGraph, Refuses, Meets, IsLacking, LacksFile, HasBadContext, not_built}
-use Rattle.rx_command.specs.Inputs.{ReadsInputs, TellsThat}
-use Rattle.rx_command.specs.Runs.{ReadCause, TakesFiles, IsAtEnd}
+use Rattle.rx_command.specs.Outcome.{TaskGives, TaskDenotes, TaskRefuses, NamesPage, Yields, YieldsGraph, Refuses, Meets, IsLacking, LacksFile, HasBadContext, page_fault}
+use Rattle.rx_command.specs.Inputs.{JobText, JobRefused, TellsThat}
+use Rattle.rx_command.specs.Runs.{ReadCause, TakesFiles, TakesToFault, IsAtEnd}
 
--- the whole page was read
-whole : (asked : Asked) (bytes : List ℕ) (x y : Told) → ReadsInputs asked bytes x y → length bytes ≤ 1048576 → file_of x.files (encode_utf8_all asked.page) ≡ Some bytes
-whole asked bytes x y r small = r.file ∙ ap (λ left. Some (bytes ++ left)) (r.whole small) ∙ ap Some (append-nil bytes)
-
--- a page that has a text isn't too long, and a text that denotes is of such a page
-text_small : (task : Task) (bytes text : List ℕ) → TaskGives task bytes text → length bytes ≤ 1048576
-text_small (extracts address) bytes text h = h.page.size
-text_small (checks syntax) bytes text h = absurd h
-
-graph_small : (task : Task) (bytes text : List ℕ) → TaskDenotes task bytes text → length bytes ≤ 1048576
-graph_small (extracts address) bytes text h = h.page.size
-graph_small (checks syntax) bytes text h = absurd h
-
-pub yields : (words : List (List ℕ)) (told now : Option Told) (asked : Asked) (bytes text : List ℕ) (t : Told)
-    → job words ≡ Some asked → Moves (ReadsInputs asked bytes) told now → told ≡ Some t → TaskGives asked.task bytes text → Yields words told text
-yields words told now asked bytes text t a m e h =
+pub yields : (words : List (List ℕ)) (told now : Option Told) (asked : Asked) (text : List ℕ) (t : Told) → job words ≡ Some asked → Moves (JobText asked text) told now → told ≡ Some t → Yields words told text
+yields words told now asked text t a m e =
     let r = moves_at t m e in
-    record {
-      bytes = bytes;
-      page = record { asked = asked; shelf = t; asks = a; tells = e; context = (r.1).context; file = whole asked bytes t r.0 r.1 (text_small asked.task bytes text h) };
-      has_text = h;
-    }
+    record { bytes = (r.1).page.bytes; page = record { asked = asked; shelf = t; asks = a; tells = e; context = (r.1).context; file = (r.1).page.file }; has_text = (r.1).page.gives }
 
-pub yields_graph : (words : List (List ℕ)) (told now : Option Told) (asked : Asked) (bytes text : List ℕ) (t : Told)
-    → job words ≡ Some asked → Moves (ReadsInputs asked bytes) told now → told ≡ Some t → TaskDenotes asked.task bytes text → YieldsGraph words told text
-yields_graph words told now asked bytes text t a m e h =
+pub yields_graph : (words : List (List ℕ)) (told now : Option Told) (asked : Asked) (text : List ℕ) (t : Told) → job words ≡ Some asked → Moves (JobText asked text) told now → told ≡ Some t → YieldsGraph words told text
+yields_graph words told now asked text t a m e =
     let r = moves_at t m e in
-    record {
-      bytes = bytes;
-      page = record { asked = asked; shelf = t; asks = a; tells = e; context = (r.1).context; file = whole asked bytes t r.0 r.1 (graph_small asked.task bytes text h) };
-      graph = h;
-    }
+    record { bytes = (r.1).page.bytes; page = record { asked = asked; shelf = t; asks = a; tells = e; context = (r.1).context; file = (r.1).page.file }; graph = (r.1).page.graph }
 
--- more bytes than those read are no page either
-other : (bytes left : List ℕ) → IsNotBuilt bytes → (length bytes ≤ 1048576 → left ≡ []) → IsNotBuilt (bytes ++ left)
-other bytes left n w = λ a q r p.
-    let small : length bytes ≤ 1048576 = omega (arith, p.size, length-append bytes left) in
-    let e : bytes ++ left ≡ bytes = ap (λ l. bytes ++ l) (w small) ∙ append-nil bytes in
-    n a q r (subst (λ b. IsPage b a q r) e p)
-
-still_refused : (task : Task) (bytes left : List ℕ) → TaskRefuses task bytes → (length bytes ≤ 1048576 → left ≡ []) → TaskRefuses task (bytes ++ left)
-still_refused (extracts address) bytes left n w = other bytes left n w
-still_refused (checks syntax) bytes left n w = tt
-
-pub refuses : (words : List (List ℕ)) (told now : Option Told) (asked : Asked) (bytes : List ℕ) (t : Told)
-    → job words ≡ Some asked → Moves (ReadsInputs asked bytes) told now → told ≡ Some t → TaskRefuses asked.task bytes → Refuses words told not_built
-refuses words told now asked bytes t a m e n =
+pub refuses : (words : List (List ℕ)) (told now : Option Told) (asked : Asked) (fault : Fault) (t : Told) → job words ≡ Some asked → Moves (JobRefused asked fault) told now → told ≡ Some t → Refuses words told fault
+refuses words told now asked fault t a m e =
     let r = moves_at t m e in
-    record {
-      bytes = bytes ++ (r.0).left;
-      page = record { asked = asked; shelf = t; asks = a; tells = e; context = (r.1).context; file = (r.1).file };
-      other = still_refused asked.task bytes (r.0).left n (r.1).whole;
-      is_fault = refl;
-    }
+    record { bytes = (r.1).bytes; page = record { asked = asked; shelf = t; asks = a; tells = e; context = (r.1).context; file = (r.1).file }; refused = (r.1).refused }
 
 -- both name one page
 one_page : (words : List (List ℕ)) (told : Option Told) (bytes others : List ℕ) → NamesPage words told bytes → NamesPage words told others → bytes ≡ others
@@ -85,16 +46,27 @@ one_asked words a b e f = let both : Some a ≡ Some b = sym e ∙ f in (cc)
 one_shelf : (told : Option Told) (x y : Told) → told ≡ Some x → told ≡ Some y → x ≡ y
 one_shelf told x y e f = let both : Some x ≡ Some y = sym e ∙ f in (cc)
 
-no_both : (task : Task) (bytes text : List ℕ) → TaskGives task bytes text → TaskRefuses task bytes → ⊥
-no_both (extracts address) bytes text h n = n h.about h.property h.run h.page
-no_both (checks syntax) bytes text h n = h
+no_both : (task : Task) (bytes text : List ℕ) (fault : Fault) → TaskGives task bytes text → TaskRefuses task bytes fault → ⊥
+no_both (extracts address) bytes text fault h n = n.other h.about h.property h.run h.page
+no_both (checks syntax) bytes text fault h n = not_both_at syntax standard bytes h.tree n.found h.page n.is
+
+same_page : (words : List (List ℕ)) (told : Option Told) (bytes others : List ℕ) (a b : Fault) (p : NamesPage words told bytes) (q : NamesPage words told others) → TaskRefuses p.asked.task bytes a → TaskRefuses q.asked.task others a
+same_page words told bytes others a b p q r =
+    let same : bytes ≡ others = one_page words told bytes others p q in
+    let asked : p.asked ≡ q.asked = one_asked words p.asked q.asked p.asks q.asks in
+    subst (λ k. TaskRefuses k.task others a) asked (subst (λ x. TaskRefuses p.asked.task x a) same r)
 
 -- a page has no text and a refusal
 pub not_both : (words : List (List ℕ)) (told : Option Told) (text : List ℕ) (fault : Fault) → Yields words told text → Refuses words told fault → ⊥
-not_both words told text fault y r =
-    let same : r.bytes ≡ y.bytes = one_page words told r.bytes y.bytes r.page y.page in
-    let asked : r.page.asked ≡ y.page.asked = one_asked words r.page.asked y.page.asked r.page.asks y.page.asks in
-    no_both y.page.asked.task y.bytes text y.has_text (subst (λ k. TaskRefuses k.task y.bytes) asked (subst (TaskRefuses r.page.asked.task) same r.other))
+not_both words told text fault y r = no_both y.page.asked.task y.bytes text fault y.has_text (same_page words told r.bytes y.bytes fault fault r.page y.page r.refused)
+
+one_task_fault : (task : Task) (bytes : List ℕ) (a b : Fault) → TaskRefuses task bytes a → TaskRefuses task bytes b → a ≡ b
+one_task_fault (extracts address) bytes a b p q = p.is_fault ∙ sym q.is_fault
+one_task_fault (checks syntax) bytes a b p q = p.same ∙ (ap page_fault (one_fault syntax standard bytes p.found q.found p.is q.is) ∙ sym q.same)
+
+-- a page has one refusal
+pub one_refusal : (words : List (List ℕ)) (told : Option Told) (a b : Fault) → Refuses words told a → Refuses words told b → a ≡ b
+one_refusal words told a b p q = one_task_fault q.page.asked.task q.bytes a b (same_page words told p.bytes q.bytes a b p.page q.page p.refused) q.refused
 
 -- a file isn't there and missing
 there : (file : Option (List ℕ)) (bytes : List ℕ) → file ≡ Some bytes → file ≡ None → ⊥
@@ -113,9 +85,9 @@ not_missing : (file : Option (List ℕ)) (shelf : Told) → HasContext file shel
 not_missing None shelf h l = l
 not_missing (Some name) shelf h l = there _ h.bytes h.file l
 
-not_lack : (asked : Asked) (bytes : List ℕ) (x y : Told) → ReadsInputs asked bytes x y → IsLacking asked x → ⊥
-not_lack asked bytes x y r (inl l) = not_missing asked.context x r.context l
-not_lack asked bytes x y r (inr l) = there _ (bytes ++ y.left) r.file l.1
+not_lack : (asked : Asked) (bytes : List ℕ) (x : Told) → HasContext asked.context x → file_of x.files (encode_utf8_all asked.page) ≡ Some bytes → IsLacking asked x → ⊥
+not_lack asked bytes x c f (inl l) = not_missing asked.context x c l
+not_lack asked bytes x c f (inr l) = there _ bytes f l.1
 
 -- what was asked for and what was read belong to one fact on the words and the shelf
 met : (words : List (List ℕ)) (told : Option Told) (asked : Asked) (fact : Asked → Told → Type 0) → job words ≡ Some asked → Meets fact words told → TellsThat (fact asked) told
@@ -128,18 +100,25 @@ meets words None asked fact a h = absurd h
 meets words (Some t) asked fact a h = record { asked = asked; shelf = t; asks = a; tells = refl; holds = h }
 
 -- files that were read are there
-pub not_lacking : (words : List (List ℕ)) (told now : Option Told) (asked : Asked) (bytes : List ℕ) → job words ≡ Some asked → Moves (ReadsInputs asked bytes) told now → LacksFile words told → ⊥
-not_lacking words None now asked bytes a m l = let e = l.tells in absurd (cc)
-not_lacking words (Some t) now asked bytes a m l =
-    let r = moves_at t m refl in
-    not_lack asked bytes t r.0 r.1 (met words (Some t) asked IsLacking a l)
+pub not_lacking : (words : List (List ℕ)) (told now : Option Told) (asked : Asked) (text : List ℕ) → job words ≡ Some asked → Moves (JobText asked text) told now → LacksFile words told → ⊥
+not_lacking words None now asked text a m l = let e = l.tells in absurd (cc)
+not_lacking words (Some t) now asked text a m l = let r = moves_at t m refl in not_lack asked (r.1).page.bytes t (r.1).context (r.1).page.file (met words (Some t) asked IsLacking a l)
+
+pub refused_not_lacking : (words : List (List ℕ)) (told now : Option Told) (asked : Asked) (fault : Fault) → job words ≡ Some asked → Moves (JobRefused asked fault) told now → LacksFile words told → ⊥
+refused_not_lacking words None now asked fault a m l = let e = l.tells in absurd (cc)
+refused_not_lacking words (Some t) now asked fault a m l = let r = moves_at t m refl in not_lack asked (r.1).bytes t (r.1).context (r.1).file (met words (Some t) asked IsLacking a l)
 
 -- a context that was read is one
-pub not_bad : (words : List (List ℕ)) (told now : Option Told) (asked : Asked) (bytes : List ℕ) → job words ≡ Some asked → Moves (ReadsInputs asked bytes) told now → HasBadContext words told → ⊥
-not_bad words None now asked bytes a m l = let e = l.tells in absurd (cc)
-not_bad words (Some t) now asked bytes a m l =
-    let r = moves_at t m refl in
-    not_other asked.context t (r.1).context (met words (Some t) asked (λ asked shelf. HasOther asked.context shelf) a l)
+not_bad_one : (asked : Asked) (t : Told) → HasContext asked.context t → HasOther asked.context t → ⊥
+not_bad_one asked t c o = not_other asked.context t c o
+
+pub not_bad : (words : List (List ℕ)) (told now : Option Told) (asked : Asked) (text : List ℕ) → job words ≡ Some asked → Moves (JobText asked text) told now → HasBadContext words told → ⊥
+not_bad words None now asked text a m l = let e = l.tells in absurd (cc)
+not_bad words (Some t) now asked text a m l = let r = moves_at t m refl in not_bad_one asked t (r.1).context (met words (Some t) asked (λ asked shelf. HasOther asked.context shelf) a l)
+
+pub refused_not_bad : (words : List (List ℕ)) (told now : Option Told) (asked : Asked) (fault : Fault) → job words ≡ Some asked → Moves (JobRefused asked fault) told now → HasBadContext words told → ⊥
+refused_not_bad words None now asked fault a m l = let e = l.tells in absurd (cc)
+refused_not_bad words (Some t) now asked fault a m l = let r = moves_at t m refl in not_bad_one asked t (r.1).context (met words (Some t) asked (λ asked shelf. HasOther asked.context shelf) a l)
 
 pub read_cause : (words : List (List ℕ)) (told : Option Told) (asked : Asked) (before now : ℕ) → job words ≡ Some asked → Rose before now ⊎ TellsThat (IsLacking asked) told → ReadCause words told before now
 read_cause words told asked before now a (inl rose) = record { asked = asked; asks = a; cause = inl rose }
@@ -147,10 +126,13 @@ read_cause words told asked before now a (inr lacks) = record { asked = asked; a
 
 -- ---- how much was taken
 
-pub at_end : (asked : Asked) (bytes text : List ℕ) (told now : Option Told) → Moves (ReadsInputs asked bytes) told now → TaskGives asked.task bytes text → IsAtEnd now
-at_end asked bytes text told None m h = tt
-at_end asked bytes text None (Some now) m h = let e = m.same in absurd (cc)
-at_end asked bytes text (Some told) (Some now) m h = let r = m.taken told now refl refl in r.whole (text_small asked.task bytes text h)
+pub at_end : (asked : Asked) (text : List ℕ) (told now : Option Told) → Moves (JobText asked text) told now → IsAtEnd now
+at_end asked text told None m = tt
+at_end asked text None (Some now) m = let e = m.same in absurd (cc)
+at_end asked text (Some told) (Some now) m = (m.taken told now refl refl).page.left
+
+pub to_fault : (words : List (List ℕ)) (asked : Asked) (fault : Fault) (old new : Option Told) → job words ≡ Some asked → Moves (JobRefused asked fault) old new → Moves (TakesToFault (job words) fault) old new
+to_fault words asked fault old new a m = subst (λ k. Moves (TakesToFault k fault) old new) (sym a) (moves_weaker (TakesToFault (Some asked) fault) (λ x y j. j.reads) m)
 
 pub takes_files : (words : List (List ℕ)) (asked : Asked) (old new : Option Told) → job words ≡ Some asked → Moves (TakesFiles (Some asked)) old new → Moves (TakesFiles (job words)) old new
 takes_files words asked old new a m = subst (λ k. Moves (TakesFiles k) old new) (sym a) m

@@ -1,16 +1,45 @@
 -- Reading what a job names.
-use Rattle.std.specs.Prelude.{◌≡◌, ◌≤◌, List, ℕ, [], ◌++◌, length, Option, Some, None, encode_utf8_all}
+use Rattle.std.specs.Prelude.{◌≡◌, ℕ, ◌+◌, ◌≤◌, List, [], Option, Some, None, encode_utf8_all}
 use Rattle.rx_ports.specs.Files.{file_of}
 use Rattle.rx_ports.specs.Told.{Told}
-use Rattle.rx_command.specs.Words.{Asked}
-use Rattle.rx_command.specs.Contexts.{HasContext}
-use Rattle.rx_command.specs.Page.{largest_page}
+use Rattle.rx_command.specs.Words.{Asked, Task, extracts, checks}
+use Rattle.rx_command.specs.declared.statuses.Fault.{Fault}
+use Rattle.rx_command.specs.Checks.{largest_piece}
+use Rattle.rx_command.specs.Contexts.{HasContext, context_size}
+use Rattle.rx_command.specs.Outcome.{TaskGives, TaskDenotes, TaskRefuses}
 
--- the context file is a context, where one is named, and the page was read to its end, or to one byte past the largest
-pub record ReadsInputs (asked : Asked) (bytes : List ℕ) (old new : Told) : Type 0 where
+-- the page of this name is there, and the task makes this text of it; it was read to its end
+pub record PageText (task : Task) (name text : List ℕ) (old new : Told) : Type 0 where
+  pub bytes : List ℕ
+  pub file : file_of old.files name ≡ Some bytes
+  pub gives : TaskGives task bytes text
+  pub graph : TaskDenotes task bytes text
+  pub left : new.left ≡ []
+
+-- how much is read of a page that is refused: no more than a piece past the byte that decides the fault
+abbrev pub ReadsToFault : Task → Fault → ℕ → ℕ → Type 0
+ReadsToFault (extracts address) fault before now = Unit {0}
+ReadsToFault (checks syntax) fault before now = now ≤ before + (fault.at + largest_piece)
+
+-- it is there, and the task refuses it with this fault
+pub record PageRefused (task : Task) (name : List ℕ) (fault : Fault) (old new : Told) : Type 0 where
+  pub bytes : List ℕ
+  pub file : file_of old.files name ≡ Some bytes
+  pub refused : TaskRefuses task bytes fault
+  pub reads : ReadsToFault task fault old.taken new.taken
+
+-- the context file is a context, where one is named, and the page has this text
+pub record JobText (asked : Asked) (text : List ℕ) (old new : Told) : Type 0 where
   pub context : HasContext asked.context old
-  pub file : file_of old.files (encode_utf8_all asked.page) ≡ Some (bytes ++ new.left)
-  pub whole : length bytes ≤ largest_page → new.left ≡ []
+  pub page : PageText asked.task (encode_utf8_all asked.page) text old new
+
+-- or this fault
+pub record JobRefused (asked : Asked) (fault : Fault) (old new : Told) : Type 0 where
+  pub context : HasContext asked.context old
+  pub bytes : List ℕ
+  pub file : file_of old.files (encode_utf8_all asked.page) ≡ Some bytes
+  pub refused : TaskRefuses asked.task bytes fault
+  pub reads : ReadsToFault asked.task fault (old.taken + context_size asked.context old) new.taken
 
 -- the shelf tells its files, and this holds of them
 abbrev pub TellsThat : (Told → Type 0) → Option Told → Type 0

@@ -1,5 +1,5 @@
 -- What comes of a page: a text, or a refusal.
-use Rattle.std.specs.Prelude.{◌≡◌, ◌⊎◌, ℕ, true, is_some, List, [], ◌∷◌, encode_utf8_all, Option, Some, None}
+use Rattle.std.specs.Prelude.{◌≡◌, ◌⊎◌, ℕ, true, is_some, List, [], ◌∷◌, encode_utf8_all, codes, Option, Some, None}
 use Rattle.std.specs.Str.{chars}
 use Rattle.rx_ports.specs.Told.{Told}
 use Rattle.rx_ports.specs.Files.{file_of}
@@ -12,7 +12,13 @@ use Rattle.rx_command.specs.Words.{Asked, Task, extracts, checks, job}
 use Rattle.rx_command.specs.Contexts.{HasContext, HasOther, LacksContext}
 use Rattle.rx_command.specs.Page.{IsPage}
 use Rattle.rx_command.specs.declared.statuses.Fault.{Fault}
-use Rattle.rx_command.specs.declared.statuses.Kind.TheVariants.{NotBuilt}
+use Rattle.rx_command.specs.declared.statuses.Kind.TheVariants.{NotBuilt, OfPage}
+use Rattle.rx_command.specs.Checks.{standard}
+use Rattle.rx_grammar.specs.declared.faults.Fault.{Fault as Found}
+use Rattle.rx_grammar.specs.Trees.{Tree}
+use Rattle.rx_grammar.specs.Pages.{Page}
+use Rattle.rx_grammar.specs.PageFaults.{FaultAt}
+use Rattle.rx_chars.specs.declared.syntax.Syntax.{Syntax}
 
 -- the triple of a paragraph: what it is about has, by the property, its text
 abbrev pub page_triple : Chars → Chars → Chars → Triple ℕ
@@ -38,22 +44,44 @@ pub record Denotes (bytes text : List ℕ) : Type 0 where
 abbrev pub IsNotBuilt : List ℕ → Type 0
 IsNotBuilt bytes = (about property run : List ℕ) → IsPage bytes about property run → ⊥
 
--- what a task makes of a page: an extraction gives the text of its triples, where it is of the form; a check gives
--- nothing yet, whatever the page
+abbrev pub ok_line : List ℕ
+ok_line = codes "ok\n"
+
+-- the page is one of the grammar, and the text says so
+pub record IsRight (syntax : Syntax) (bytes text : List ℕ) : Type 0 where
+  pub tree : Tree
+  pub page : Page syntax standard bytes tree
+  pub spelled : text ≡ ok_line
+
+-- what a task makes of a page: an extraction gives the text of its triples, where it is of the form; a check says that the page is one
 abbrev pub TaskGives : Task → List ℕ → List ℕ → Type 0
 TaskGives (extracts address) bytes text = HasText bytes text
-TaskGives (checks syntax) bytes text = ⊥
+TaskGives (checks syntax) bytes text = IsRight syntax bytes text
 
 abbrev pub TaskDenotes : Task → List ℕ → List ℕ → Type 0
 TaskDenotes (extracts address) bytes text = Denotes bytes text
-TaskDenotes (checks syntax) bytes text = ⊥
-
-abbrev pub TaskRefuses : Task → List ℕ → Type 0
-TaskRefuses (extracts address) bytes = IsNotBuilt bytes
-TaskRefuses (checks syntax) bytes = Unit {0}
+TaskDenotes (checks syntax) bytes text = IsRight syntax bytes text
 
 abbrev pub not_built : Fault
 not_built = record { kind = NotBuilt; token = 0; at = 0 }
+
+-- the fault of a page
+abbrev pub page_fault : Found → Fault
+page_fault found = record { kind = OfPage found.kind; token = found.token; at = found.at }
+
+pub record IsOther (bytes : List ℕ) (fault : Fault) : Type 0 where
+  pub other : IsNotBuilt bytes
+  pub is_fault : fault ≡ not_built
+
+-- the page has this fault of the grammar
+pub record HasFault (syntax : Syntax) (bytes : List ℕ) (fault : Fault) : Type 0 where
+  pub found : Found
+  pub is : FaultAt syntax standard bytes found
+  pub same : fault ≡ page_fault found
+
+abbrev pub TaskRefuses : Task → List ℕ → Fault → Type 0
+TaskRefuses (extracts address) bytes fault = IsOther bytes fault
+TaskRefuses (checks syntax) bytes fault = HasFault syntax bytes fault
 
 -- the words name a page, the shelf tells its files, the context file that is named is a context, and the page has these bytes
 pub record NamesPage (words : List Chars) (told : Option Told) (bytes : List ℕ) : Type 0 where
@@ -80,8 +108,7 @@ pub record YieldsGraph (words : List Chars) (told : Option Told) (text : List �
 pub record Refuses (words : List Chars) (told : Option Told) (fault : Fault) : Type 0 where
   pub bytes : List ℕ
   pub page : NamesPage words told bytes
-  pub other : TaskRefuses page.asked.task bytes
-  pub is_fault : fault ≡ not_built
+  pub refused : TaskRefuses page.asked.task bytes fault
 
 -- the words name a page, the shelf tells its files, and this holds of both
 pub record Meets (fact : Asked → Told → Type 0) (words : List Chars) (told : Option Told) : Type 0 where

@@ -5,14 +5,18 @@ use Rattle.rx_ports.specs.Counts.{Rose}
 use Rattle.rx_ports.specs.Files.{file_of}
 use Rattle.rx_ports.specs.Told.{Told, Moves, GrowsBy, GrowsByPart}
 use Rattle.rx_terms.specs.Text.{Chars}
-use Rattle.rx_command.specs.Words.{Asked, job}
+use Rattle.rx_command.specs.Words.{Asked, Task, extracts, checks, job}
 use Rattle.rx_command.specs.Files.{size_of}
 use Rattle.rx_command.specs.Contexts.{context_size, context_limit}
 use Rattle.rx_command.specs.Outcome.{LacksFile}
 use Rattle.rx_command.specs.Page.{largest_page}
+use Rattle.rx_command.specs.Inputs.{ReadsToFault}
 use Rattle.rx_command.specs.declared.statuses.Fault.{Fault}
 use Rattle.rx_command.specs.declared.statuses.Kind.{Kind}
-use Rattle.rx_command.specs.declared.statuses.Kind.TheVariants.{NotBuilt}
+use Rattle.rx_command.specs.declared.statuses.Kind.TheVariants.{NotBuilt, OfPage}
+use Rattle.rx_grammar.specs.declared.faults.Kind.{Kind as PageKind}
+use Rattle.rx_grammar.specs.declared.faults.Kind.TheVariants as page
+use Rattle.rx_command.specs.Checks.{standard, largest_piece}
 use Rattle.rx_command.specs.declared.statuses.Status.{Status}
 use Rattle.rx_command.specs.declared.statuses.Status.TheVariants as status
 
@@ -37,12 +41,17 @@ abbrev pub named_size : Option Asked → Told → ℕ
 named_size None told = 0
 named_size (Some asked) told = context_size asked.context told + size_of (file_of told.files (encode_utf8_all asked.page))
 
+-- how much is read of a page at most
+abbrev pub page_limit : Task → ℕ
+page_limit (extracts address) = largest_page + 1
+page_limit (checks syntax) = standard.page + largest_piece
+
 abbrev pub named_limit : Option Asked → ℕ
 named_limit None = 0
-named_limit (Some asked) = context_limit asked.context + (largest_page + 1)
+named_limit (Some asked) = context_limit asked.context + page_limit asked.task
 
--- no more was taken than the files have that are named, nor more than one byte past the largest page and, where a
--- context file is named, one byte past the largest of these
+-- no more was taken than the files have that are named, nor more than the limit of the page and, where a context file
+-- is named, one byte past the largest of these
 pub record TakesFiles (asked : Option Asked) (old new : Told) : Type 0 where
   pub files : new.files ≡ old.files
   pub size : new.taken ≤ old.taken + named_size asked old
@@ -62,8 +71,35 @@ usage_line = codes "usage: rdfax extract|items|check|sample\n"
 abbrev pub context_line : List ℕ
 context_line = codes "refused: context file\n"
 
+abbrev pub page_kind_name : PageKind → List ℕ
+page_kind_name page.NotUtf8 = codes "NotUtf8"
+page_kind_name page.Nul = codes "Nul"
+page_kind_name page.BadTag = codes "BadTag"
+page_kind_name page.Mismatch = codes "Mismatch"
+page_kind_name page.NothingOpen = codes "NothingOpen"
+page_kind_name page.SelfClosed = codes "SelfClosed"
+page_kind_name page.UnknownReference = codes "UnknownReference"
+page_kind_name page.BadReference = codes "BadReference"
+page_kind_name page.TooDeep = codes "TooDeep"
+page_kind_name page.TagTooLong = codes "TagTooLong"
+page_kind_name page.Outside = codes "Outside"
+page_kind_name page.RootNotHtml = codes "RootNotHtml"
+page_kind_name page.BadDoctype = codes "BadDoctype"
+page_kind_name page.Unended = codes "Unended"
+page_kind_name page.RepeatedAttribute = codes "RepeatedAttribute"
+page_kind_name page.StrictText = codes "StrictText"
+page_kind_name page.Plaintext = codes "Plaintext"
+page_kind_name page.PageTooLong = codes "PageTooLong"
+page_kind_name page.RelativeVocab = codes "RelativeVocab"
+page_kind_name page.XmlLiteral = codes "XmlLiteral"
+page_kind_name page.HtmlLiteral = codes "HtmlLiteral"
+page_kind_name page.Cycle = codes "Cycle"
+page_kind_name page.ItemsTooNested = codes "ItemsTooNested"
+page_kind_name page.ItemsTooMany = codes "ItemsTooMany"
+
 abbrev pub kind_name : Kind → List ℕ
 kind_name NotBuilt = codes "NotBuilt"
+kind_name (OfPage kind) = page_kind_name kind
 
 abbrev pub refused_line : Fault → List ℕ
 refused_line fault = codes "refused: " ++ kind_name fault.kind ++ codes " at byte " ++ decimal fault.at ++ codes " in token " ++ decimal fault.token ++ codes "\n"
@@ -71,3 +107,8 @@ refused_line fault = codes "refused: " ++ kind_name fault.kind ++ codes " at byt
 -- the line was written, or a front of it, where the sink failed
 abbrev pub Says : List ℕ → Option (List ℕ) → Option (List ℕ) → ℕ → ℕ → Type 0
 Says line old new before now = Moves (GrowsBy line) old new ⊎ (Rose before now × Moves (GrowsByPart line) old new)
+
+-- a page that is refused was read no further than a piece past the byte that decides the fault
+abbrev pub TakesToFault : Option Asked → Fault → Told → Told → Type 0
+TakesToFault None fault old new = Unit {0}
+TakesToFault (Some asked) fault old new = ReadsToFault asked.task fault (old.taken + context_size asked.context old) new.taken

@@ -1,11 +1,9 @@
 //! From the bytes of a page to the text of its triples.
 ghost use Rattle.std.specs.Prelude.{◌≡◌, ◌∷◌, [], IfOk, MatchOption};
 ghost use Rattle.rx_model.specs.Seen.{triple_seen, triples_seen};
-ghost use Rattle.rx_command.specs.Outcome.{HasText, Denotes, IsNotBuilt, TaskGives, TaskDenotes, TaskRefuses, page_triple};
-ghost use Rattle.rx_command.specs.Jobs.{asked_by};
+ghost use Rattle.rx_command.specs.Outcome.{HasText, Denotes, IsNotBuilt, page_triple};
 ghost use Rattle.rx_command.specs.Page.{IsPlainIri, IsPage, AllAscii};
 
-use crate::jobs::Job;
 use crate::pages::{Parts, read_page};
 use rx_graph::Graph;
 use rx_nquads::text;
@@ -75,7 +73,7 @@ fn graph_of(alloc: Global, parts: Parts<'_>) -> Result<Graph, NoMemory>
 }
 
 /// The text of a page's triples, or `None` where the page isn't of the form.
-fn text_of(alloc: Global, page: &[u8]) -> Result<Option<Vec<u8>>, NoMemory>
+pub(crate) fn text_of(alloc: Global, page: &[u8]) -> Result<Option<Vec<u8>>, NoMemory>
     ensures text { IfOk result (λ text. MatchOption text (IsNotBuilt page.now) (λ bytes. HasText page.now bytes.items)) }
     ensures denotes { IfOk result (λ text. MatchOption text (IsNotBuilt page.now) (λ bytes. Denotes page.now bytes.items)) }
 {
@@ -84,15 +82,4 @@ fn text_of(alloc: Global, page: &[u8]) -> Result<Option<Vec<u8>>, NoMemory>
     };
     let graph = graph_of(alloc, parts)?;
     Ok(Some(text(alloc, &graph, None)?))
-}
-
-/// What the job makes of the bytes of its page: a text, or `None` where that isn't built. A check isn't built yet.
-pub fn outcome_of(alloc: Global, job: &Job, page: &[u8]) -> Result<Option<Vec<u8>>, NoMemory>
-    ensures text { IfOk result (λ text. MatchOption text (TaskRefuses (asked_by job.now).task page.now) (λ bytes. TaskGives (asked_by job.now).task page.now bytes.items)) }
-    ensures denotes { IfOk result (λ text. MatchOption text (TaskRefuses (asked_by job.now).task page.now) (λ bytes. TaskDenotes (asked_by job.now).task page.now bytes.items)) }
-{
-    match job {
-        Job::Extract { .. } => text_of(alloc, page),
-        Job::Check { .. } => Ok(None),
-    }
 }

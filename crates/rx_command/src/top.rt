@@ -1,23 +1,21 @@
 //! The top call.
-ghost use Rattle.std.specs.Prelude.{◌≡◌, ◌≢◌, ◌⊎◌, ℕ, List, None, Some};
+ghost use Rattle.std.specs.Prelude.{◌≡◌, ◌≢◌, ◌⊎◌, ℕ, List, None, Some, ◌++◌, IfOk, string_bytes, codes};
+ghost use Rattle.std.specs.Fmt.{decimal};
 ghost use Rattle.rx_ports.specs.Counts.{Rose};
 ghost use Rattle.rx_ports.specs.Told.{Told, Moves, GrowsBy, GrowsByPart, Stays};
 ghost use Rattle.rx_command.specs.Words.{job};
 ghost use Rattle.rx_command.specs.Contexts.{TakesContext};
 ghost use Rattle.rx_command.specs.Outcome.{Yields, YieldsGraph, Refuses, LacksFile, HasBadContext, NamesContext};
-ghost use Rattle.rx_command.specs.Runs.{ReadCause, TakesFiles, IsAtEnd, Says, usage_line, refused_line, context_line, context_named};
+ghost use Rattle.rx_command.specs.Runs.{ReadCause, TakesFiles, TakesToFault, IsAtEnd, Says, usage_line, refused_line, context_line, context_named};
 
-use crate::extract::outcome_of;
-use crate::inputs::{InputError, read_inputs};
+use crate::inputs::{InputError, text_of_job};
 use crate::jobs::{Job, JobError};
-use crate::statuses::{Fault, Kind, Status};
+use crate::statuses::{Fault, Status};
 use rx_ports::{Shelf, Sink, put_all};
 use rx_terms::Text;
-use std::alloc::Global;
+use std::alloc::{AllocError, Global};
 
 const USAGE: &[u8] = b"usage: rdfax extract|items|check|sample\n";
-
-const REFUSED: &[u8] = b"refused: NotBuilt at byte 0 in token 0\n";
 
 const BAD_CONTEXT: &[u8] = b"refused: context file\n";
 
@@ -51,6 +49,8 @@ pub fn run<F: Shelf, O: Sink, E: Sink>(
     // Refused comes only where the page has this fault.
     ensures refused { (fault : Fault) → result ≡ Status.Refused fault → (told : Told) → F.told shelf.old ≡ Some told →
         Refuses words.now (F.told shelf.old) fault }
+    // A page that is checked is then read no further than 65,536 bytes past the byte that decides the fault.
+    ensures refused_takes { (fault : Fault) → result ≡ Status.Refused fault → Moves (TakesToFault (job words.now) fault) (F.told shelf.old) (F.told shelf.new) }
 
     // ReadFault comes only where the shelf failed, or lacks the context file, or lacks the page where the context file is
     // a context; and where it lacks one of them there is no other answer.
@@ -80,8 +80,8 @@ pub fn run<F: Shelf, O: Sink, E: Sink>(
     ensures says_context { result ≡ Status.BadContext → Says context_line (E.held err.old) (E.held err.new) (E.faults err.old) (E.faults err.new) }
     ensures says_nothing { result ≢ Status.Usage → result ≢ Status.BadContext → ((fault : Fault) → result ≢ Status.Refused fault) → Moves Stays (E.held err.old) (E.held err.new) }
 
-    // How much is read: no more than the named files have, nor more than one byte past the largest page and, where a
-    // context file is named, one byte past the largest of these.
+    // How much is read: no more than the named files have, nor more than the limit of the page and, where a context file
+    // is named, one byte past the largest of these.
     ensures takes { Moves (TakesFiles (job words.now)) (F.told shelf.old) (F.told shelf.new) }
 
     // Where nothing failed, a page that has a text is done, and one that has a fault is refused.
@@ -98,30 +98,38 @@ pub fn run<F: Shelf, O: Sink, E: Sink>(
         }
         Err(JobError::NoMemory) => return Status::Memory,
     };
-    let bytes = match read_inputs(alloc, shelf, &job) {
-        Ok(bytes) => bytes,
-        Err(InputError::Failed) => return Status::ReadFault,
-        Err(InputError::BadContext) => {
-            say(err, BAD_CONTEXT);
-            return Status::BadContext;
-        }
-        Err(InputError::NoMemory) => return Status::Memory,
-    };
-    match outcome_of(alloc, &job, bytes.as_slice()) {
-        Ok(Some(text)) => match put_all(out, text.as_slice()) {
+    match text_of_job(alloc, shelf, &job) {
+        Ok(text) => match put_all(out, text.as_slice()) {
             Ok(()) => Status::Done,
             Err(_failed) => Status::WriteFault,
         },
-        Ok(None) => {
-            say(err, REFUSED);
-            Status::Refused(Fault {
-                kind: Kind::NotBuilt,
-                token: 0,
-                at: 0,
-            })
+        Err(InputError::Failed) => Status::ReadFault,
+        Err(InputError::BadContext) => {
+            say(err, BAD_CONTEXT);
+            Status::BadContext
         }
-        Err(_no_memory) => Status::Memory,
+        Err(InputError::Refused(fault)) => match line_of(alloc, fault) {
+            Ok(line) => {
+                say(err, line.as_bytes());
+                Status::Refused(fault)
+            }
+            Err(_no_memory) => Status::Memory,
+        },
+        Err(InputError::NoMemory) => Status::Memory,
     }
+}
+
+/// What is said of a refusal.
+fn line_of(alloc: Global, fault: Fault) -> Result<String, AllocError>
+    ensures { IfOk result (λ line. string_bytes line ≡ refused_line fault) }
+{
+    refusal(alloc, fault.kind.name(), fault.at, fault.token)
+}
+
+fn refusal(alloc: Global, kind: &str, at: u64, token: u64) -> Result<String, AllocError>
+    ensures { IfOk result (λ line. string_bytes line ≡ codes "refused: " ++ (kind.now ++ (codes " at byte " ++ (decimal at ++ (codes " in token " ++ (decimal token ++ codes "\n")))))) }
+{
+    format!(in alloc; "refused: {kind} at byte {at} in token {token}\n")
 }
 
 /// Writes a line to err, whose failure changes nothing.
