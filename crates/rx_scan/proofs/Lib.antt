@@ -12,4 +12,5 @@ pub mod ByteLemmas
 pub mod StandLemmas
 pub mod RunLemmas
 pub mod QuietLemmas
+pub mod FrontLemmas
 pub mod LoopLemmas

@@ -2,4 +2,5 @@ pub mod Buffers
 pub mod Places
 pub mod Scanner
 pub mod Entries
+pub mod Fronts
 pub mod Steps

@@ -1,5 +1,5 @@
 -- Where the scanner stands, after each kind of byte.
-use Rattle.std.specs.Prelude.{◌+◌, Bool, true, false, ◌&&◌}
+use Rattle.std.specs.Prelude.{◌+◌, ℕ, Bool, true, false, ◌&&◌}
 use Rattle.rx_scan.specs.declared.places.Place.{Place}
 
 abbrev pub at_first : Place
@@ -19,3 +19,7 @@ ended after_return bracket p = record { at = p.at + 1; starts = p.at + 1; token 
 
 abbrev pub cut : Place → Place
 cut p = record { at = p.at; starts = p.starts; token = p.token; started = p.started; after_return = p.after_return; two = false; last = false }
+
+-- behind so many characters of text of which none is a `]`
+abbrev pub said : ℕ → Place → Place
+said n p = record { at = p.at + n; starts = p.at + n; token = p.token; started = true; after_return = false; two = false; last = false }

@@ -1,6 +1,8 @@
 //! Text that is gathered a character at a time.
-ghost use Rattle.std.specs.Prelude.{◌≡◌, ◌+◌, ◌≤◌, true, [], ◌∷◌, ◌++◌, IfOk, IsOk, OnErr, OnOk, encode_utf8_all};
+ghost use Rattle.std.specs.Prelude.{◌≡◌, ◌+◌, ◌≤◌, true, [], ◌∷◌, ◌++◌, length, IfOk, IsOk, OnErr, OnOk, encode_utf8_all};
+ghost use Rattle.std.specs.List.{list_all};
 ghost use Rattle.std.specs.Str.{chars};
+ghost use Rattle.rx_terms.specs.Ascii.{is_ascii};
 ghost use Rattle.rx_terms.specs.Text.{is_empty};
 
 use rx_terms::NoMemory;
@@ -53,6 +55,23 @@ impl Buffer {
         ensures fits { self.old.size + 4 ≤ self.old.room → IsOk result }
     {
         if self.text.push(c).is_err() {
+            return Err(NoMemory);
+        }
+        Ok(())
+    }
+
+    /// Characters of ASCII behind the text.
+    pub(crate) fn push_ascii(&mut self, bytes: &[u8]) -> Result<(), NoMemory>
+        requires { list_all is_ascii bytes.now ≡ true }
+        ensures ok { OnOk result (self.new.text ≡ self.old.text ++ bytes.now) }
+        ensures size { OnOk result (self.new.size ≡ self.old.size + length bytes.now) }
+        ensures room { self.old.room ≤ self.new.room }
+        ensures fits { self.old.size + length bytes.now ≤ self.old.room → IsOk result }
+    {
+        let Ok(text) = str::from_utf8(bytes) else {
+            return Err(NoMemory);
+        };
+        if self.text.push_str(text).is_err() {
             return Err(NoMemory);
         }
         Ok(())

@@ -11,6 +11,7 @@ mod buffers;
 mod bytes;
 mod endings;
 mod entries;
+mod fronts;
 mod goings;
 mod judgements;
 mod pending;

@@ -109,6 +109,22 @@ impl Place {
         }
     }
 
+    /// Behind so many characters of text of which each has one byte, and none is a `]`.
+    pub(crate) fn said(self, count: u64) -> Place
+        requires { self.at + count < 2 ^ 64 }
+        ensures { result ≡ places.said count self }
+    {
+        Place {
+            at: self.at + count,
+            starts: self.at + count,
+            started: true,
+            after_return: false,
+            two: false,
+            last: false,
+            ..self
+        }
+    }
+
     /// Behind a token that the next character ends.
     pub(crate) fn cut(self) -> Place
         ensures { result ≡ places.cut self }

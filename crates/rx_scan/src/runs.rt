@@ -67,9 +67,9 @@ impl Reader {
         ensures takes { RunsTake piece.now result }
         ensures quiet { self.old.pending.mark ≡ Mark.Nothing → is_quiet piece.now ≡ true → IsNoMemory result ≡ false }
     {
-        let mut taken = 0;
-        for byte in piece {
-            match self.read(*byte) {
+        let mut taken = self.say_front(piece);
+        while taken < piece.len() {
+            match self.read(piece[taken]) {
                 Err(stop) => return self.stopped(taken, stop),
                 Ok(what) => {
                     taken += 1;
@@ -81,6 +81,7 @@ impl Reader {
             if self.must_show() {
                 return Ok((taken, What::Text));
             }
+            taken += self.say_front(&piece[taken..]);
         }
         Ok((taken, self.rest()))
     }

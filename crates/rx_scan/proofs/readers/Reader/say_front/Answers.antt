@@ -1,0 +1,6 @@
+use Rattle.std.proofs.Common.{take}
+use Rattle.rx_scan.proofs.FrontLemmas.{plain_ascii, some_count}
+use Rattle.rx_scan.proofs.readers.Reader.say_front.Goals as goal
+
+pub push_ascii-requires : goal.push_ascii-requires
+push_ascii-requires c = plain_ascii (take c.front-count.result c.args.bytes.now) (c.front-count.ensures.may (some_count c.front-count.result c.if-count-eq0.false)).plain

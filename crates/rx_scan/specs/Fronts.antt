@@ -1,0 +1,35 @@
+-- Plain text at the front of some bytes, which is told at once.
+use Rattle.std.specs.Prelude.{◌≡◌, ◌+◌, ◌≤◌, ℕ, Bool, true, false, not, ◌&&◌, ◌||◌, ◌==◌, nat_le, List, [], ◌++◌, length}
+use Rattle.std.specs.List.{list_all}
+use Rattle.rx_terms.specs.Ascii.{ampersand, less_than_sign, greater_than_sign, right_bracket}
+use Rattle.rx_grammar.specs.declared.contents.Content.{Content}
+use Rattle.rx_grammar.specs.declared.contents.Content.TheVariants as content
+use Rattle.rx_marks.specs.declared.marks.Mark.TheVariants as mark
+use Rattle.rx_scan.specs.Entries.{with_parts, undropped}
+use Rattle.rx_scan.specs.Places.{said}
+use Rattle.rx_scan.specs.Scanner.{Reading}
+
+-- a character of ASCII that is printed and means nothing but itself: neither `&`, `<` and `>` nor `]`
+abbrev pub is_plain : ℕ → Bool
+is_plain byte = (nat_le 32 byte && nat_le byte 126) && not (byte == ampersand || byte == less_than_sign || byte == greater_than_sign || byte == right_bracket)
+
+-- outside the root no such character is text
+abbrev pub has_text : Content → Bool
+has_text content.Outside = false
+has_text _ = true
+
+-- Between tokens and between characters these bytes may be told: none is past the page's limit.
+pub record IsFront (v : Reading) (front : List ℕ) : Type 0 where
+  pub between : v.pending.mark ≡ mark.Nothing
+  pub held : v.held ≡ []
+  pub inside : has_text v.setting.inside ≡ true
+  pub plain : list_all is_plain front ≡ true
+  pub page : v.place.at + length front ≤ v.setting.limits.page
+
+-- They are told.
+pub record TellsFront (old : Reading) (front : List ℕ) (new : Reading) : Type 0 where
+  pub may : IsFront old front
+  pub text : new.text.text ≡ old.text.text ++ front
+  pub size : new.text.size ≡ old.text.size + length front
+  pub room : old.text.room ≤ new.text.room
+  pub is : new ≡ with_parts old (undropped old.setting) (said (length front) old.place) old.pending new.text

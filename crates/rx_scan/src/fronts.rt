@@ -1,0 +1,100 @@
+//! Plain text at the front of some bytes, which is taken at once.
+ghost use Rattle.std.specs.Prelude.{◌≡◌, ◌+◌, ◌<◌, ◌≤◌, ◌^◌, true, ◌==◌, MatchBool, length, take};
+ghost use Rattle.std.specs.List.{list_all};
+ghost use Rattle.rx_scan.specs.Fronts.{IsFront, TellsFront, has_text, is_plain};
+
+use crate::readers::Reader;
+use crate::runs::ROOM;
+use crate::settings::undropped;
+use rx_grammar::Content;
+use rx_marks::Mark;
+
+// A printed character that means nothing but itself in each content that has text, whatever stands before it.
+fn is_plain(byte: u8) -> bool
+    ensures { result ≡ is_plain byte }
+{
+    matches!(byte, b' '..=b'~') && !matches!(byte, b'&' | b'<' | b'>' | b']')
+}
+
+// Outside the root white space alone is text.
+fn has_text(inside: Content) -> bool
+    ensures { result ≡ has_text inside }
+{
+    inside != Content::Outside
+}
+
+// How many bytes at the front are plain, but no more than `most`.
+fn plain_length(bytes: &[u8], most: usize) -> usize
+    ensures most { result ≤ most }
+    ensures fits { result ≤ length bytes.now }
+    ensures plain { list_all is_plain (take result bytes.now) ≡ true }
+{
+    let mut count = 0;
+    for byte in bytes {
+        if count == most {
+            return count;
+        }
+        if !is_plain(*byte) {
+            return count;
+        }
+        count += 1;
+    }
+    count
+}
+
+impl Reader {
+    // How many bytes of text have room, and aren't past the page's limit.
+    fn front_limit(&self) -> usize
+        requires { self.now.text.size + 4 ≤ ROOM }
+        ensures room { (self.now.text.size + result) + 4 ≤ ROOM }
+        ensures page { 0 < result → self.now.place.at + result ≤ self.now.setting.limits.page }
+    {
+        let room = ROOM - 4 - self.text.len();
+        let page = self.setting.limits.page.saturating_sub(self.place.at);
+        if page < room as u64 {
+            page as usize
+        } else {
+            room
+        }
+    }
+
+    // How many bytes at the front are text that is told at once.
+    fn front(&self, bytes: &[u8]) -> usize
+        requires { self.now.text.size + 4 ≤ ROOM }
+        ensures fits { result ≤ length bytes.now }
+        ensures room { (self.now.text.size + result) + 4 ≤ ROOM }
+        ensures may { 0 < result → IsFront self.now (take result bytes.now) }
+    {
+        if self.pending.mark() != Mark::Nothing {
+            return 0;
+        }
+        if !self.utf8.is_whole() {
+            return 0;
+        }
+        if !has_text(self.setting.inside) {
+            return 0;
+        }
+        plain_length(bytes, self.front_limit())
+    }
+
+    /// Takes the plain text at the front, as far as it has room, and tells how many bytes it has.
+    pub(crate) fn say_front(&mut self, bytes: &[u8]) -> usize
+        requires size { self.old.text.size + 4 ≤ ROOM }
+        requires room { ROOM ≤ self.old.text.room }
+        ensures fits { result ≤ length bytes.now }
+        ensures size { self.new.text.size + 4 ≤ ROOM }
+        ensures room { ROOM ≤ self.new.text.room }
+        ensures says { MatchBool (result == 0) (self.new ≡ self.old) (TellsFront self.old (take result bytes.now) self.new) }
+    {
+        let count = self.front(bytes);
+        if count == 0 {
+            return 0;
+        }
+        if self.text.push_ascii(&bytes[..count]).is_err() {
+            return 0;
+        }
+        self.setting = undropped(self.setting);
+        self.place = self.place.said(count as u64);
+        count
+    }
+}
