@@ -5,3 +5,4 @@ pub mod SeenLemmas
 pub mod EnterLemmas
 pub mod FrameLemmas
 pub mod OpenLemmas
+pub mod GatherLemmas
