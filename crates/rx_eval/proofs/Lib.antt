@@ -6,3 +6,4 @@ pub mod EnterLemmas
 pub mod FrameLemmas
 pub mod OpenLemmas
 pub mod GatherLemmas
+pub mod PlaceLemmas

@@ -12,3 +12,4 @@ pub mod States
 pub mod Opened
 pub mod Ending
 pub mod Waits
+pub mod Reserving
