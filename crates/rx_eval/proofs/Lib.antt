@@ -7,3 +7,4 @@ pub mod FrameLemmas
 pub mod OpenLemmas
 pub mod GatherLemmas
 pub mod PlaceLemmas
+pub mod KeepLemmas

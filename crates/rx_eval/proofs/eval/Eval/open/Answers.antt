@@ -1,4 +1,4 @@
-use Rattle.std.proofs.Common.{◌≡◌, ◌∙◌, ℕ, map, length, ◌++◌, refl, sym, ap, ap₂, Option, Bool}
+use Rattle.std.proofs.Common.{◌≡◌, ◌∙◌, ◌<◌, arith, ℕ, map, length, ◌++◌, refl, sym, ap, ap₂, Option, Bool}
 use Rattle.std.proofs.lemmas.List.{length-map}
 use Rattle.rx_model.specs.Seen.{triples_seen}
 use Rattle.rx_rdfa.specs.Resources.{Inherited}
@@ -6,17 +6,26 @@ use Rattle.rx_curie.specs.Seen.{facts_seen}
 use Rattle.rx_element.specs.declared.places.Level.{Level}
 use Rattle.rx_eval.specs.OwnersSeen.{owners_seen}
 use Rattle.rx_element.specs.Places.{level_at}
-use Rattle.rx_eval.specs.Opened.{handed_on, first_of}
+use Rattle.rx_eval.specs.Opened.{handed_on}
 use Rattle.rx_eval.specs.Entering.{start_at, below_at, lists_at, gathers_at, own_at, below_own_at}
 use Rattle.rx_element.specs.Contexts.{context_seen}
 use Rattle.rx_eval.specs.States.{frame_seen}
 use Rattle.rx_eval.proofs.GrowLemmas.{mapped_more}
+use Rattle.rx_eval.specs.Keeping.{first_of}
+use Rattle.rx_eval.proofs.KeepLemmas.{sound_more}
 use Rattle.rx_eval.proofs.OpenLemmas.{around_is, text_is, opened_text, fresh_fits}
 use Rattle.rx_eval.proofs.eval.Eval.open.Goals as goal
 
 pub next_number-drawn-requires : goal.next_number-drawn-requires
 next_number-drawn-requires c =
     fresh_fits _ _ _ c.in_ok-fresh.fresh _ c.in_ok-fresh.ensures (rw (← c.self.view_is) at c.requires.drawn)
+
+pub invariant_of-self-2 : goal.invariant_of-self-2
+invariant_of-self-2 c =
+    let room : length c.self.inside.frames.items < c.self.inside.levels = omega (arith, (rw (← c.self.view_is) at c.requires.level), length-map c.self.inside.frames.items frame_seen) in
+    sound_more c.self.inside.levels _ c.self.inside.frames.items c.push.new.self.items c.in_ok-frame.frame c.self.inside.outermost c.first_of-self-inside.result c.self.inside.text c.self.invariant room
+    c.in-Ok.ensures.items (ap length c.as_slice-frames.ensures.value)
+    (c.first_of-self-inside.ensures ∙ ap (λ (b : Bool). first_of c.self.inside.outermost b (length c.as_slice-frames.result.now)) c.is_some-gathers.ensures)
 
 pub returns : goal.returns
 returns c =
@@ -51,9 +60,6 @@ returns c =
       own = c.in_ok-frame.ensures.own ∙ ap₂ (λ (l : Level) (a : Inherited ℕ ℕ). own_at labels fresh base l a facts (length c.self.inside.lists)) level around ∙ ap own owners;
       below_own =
           c.in_ok-frame.ensures.below ∙ ap₂ (λ (l : Level) (a : Inherited ℕ ℕ). below_own_at labels fresh base l a facts (length c.self.inside.lists)) level around ∙ ap below_own owners;
-      first =
-          c.first_of-self-inside.ensures
-          ∙ ap₂ (λ (b : Bool) (n : ℕ). first_of c.self.inside.outermost b n) (c.is_some-gathers.ensures ∙ sym (text_is c.in_ok-frame.frame.gathered)) depth;
       counted = c.next_number-drawn.ensures;
       rest = (refl, refl, refl, refl, refl, refl, refl);
     })
