@@ -154,7 +154,7 @@ impl Eval {
 
     /// The end of the innermost element: the values that are its text, and the lists that end with it (RDFa Core 1.1,
     /// section 7.5, steps 11 and 14). Want of memory is also the answer where the numbers of blank nodes don't suffice
-    /// for the cells of these lists, one for each item.
+    /// for the cells of these lists, one for each place.
     pub fn leave(&mut self) -> Result<(), NoMemory>
         requires { self.old.spent ≡ false → 0 < length self.old.frames }
         ensures ok { OnOk result (Closes self.old self.new) }
