@@ -1,8 +1,11 @@
 -- Labels and their numbers.
-use Rattle.std.proofs.Common.{◌≡◌, ◌∙◌, ℕ, suc, ◌+◌, ◌<◌, ◌≤◌, Bool, true, false, cond, List, [], ◌∷◌, ◌++◌, length, get_or, Some, None, bytes_eq, refl, sym, ap, subst, arith, Result, Ok, Err, OnOk}
+use Rattle.std.proofs.Common.{◌≡◌, ◌∙◌, ℕ, suc, ◌+◌, ◌<◌, ◌≤◌, Bool, true, false, cond, List, [], ◌∷◌, ◌++◌, map, length, get_or, Some, None, bytes_eq, refl, sym, ap, ap₂, subst, arith, Result, Ok, Err, OnOk}
 use Rattle.std.specs.List.{position, position_or_len, list_any}
 use Rattle.std.specs.Prelude.{nat_lt}
+use Rattle.std.specs.Str.{chars, IsUtf8}
+use Rattle.std.proofs.lemmas.List.{map-append, length-map}
 use Rattle.std.proofs.lemmas.Bool.Decides.{nat_tests}
+use Rattle.rx_terms.proofs.CharLemmas.{same-chars}
 use Rattle.rx_model.proofs.Exact.{exact_texts}
 use Rattle.rx_lists.specs.Rows.{first_place}
 use Rattle.rx_element.specs.Labels.{Numbered, number_of}
@@ -71,10 +74,6 @@ is_new p (k ∷ ks) (n ∷ ns) e h = by_test (bytes_eq k p) (λ t. absurd (cc (r
 pub is_new_in : (p q : List ℕ) (ks : List (List ℕ)) (ns : List ℕ) (all : Numbered) → rows ks ns ≡ all → length ks ≡ length ns → q ≡ p → number_of all p ≡ None → IsNew q ks
 is_new_in p q ks ns all v e s h = subst (λ (x : List ℕ). IsNew x ks) (sym s) (is_new p ks ns e (ap (λ (x : Numbered). number_of x p) v ∙ h))
 
-pub none_alike : (p : List ℕ) (ks : List (List ℕ)) → IsNew p ks → list_any (bytes_eq p) ks ≡ false
-none_alike p [] h = refl
-none_alike p (k ∷ ks) h = by_test (bytes_eq k p) (λ t. absurd (cc (rw t at h))) (λ f. rw (either_way p k, f) (none_alike p ks (rw f at h)))
-
 pub rows_more : (ks : List (List ℕ)) (ns : List ℕ) (k : List ℕ) (n : ℕ) → length ks ≡ length ns → rows (ks ++ k ∷ []) (ns ++ n ∷ []) ≡ rows ks ns ++ (k, n) ∷ []
 rows_more [] [] k n e = refl
 rows_more [] (m ∷ ns) k n e = absurd (omega arith)
@@ -84,6 +83,33 @@ rows_more (j ∷ ks) (m ∷ ns) k n e = ap (λ (x : Numbered). (j, m) ∷ x) (ro
 pub added : (all : Numbered) (ks more_ks : List (List ℕ)) (ns more_ns : List ℕ) (k p : List ℕ) (n : ℕ) → rows ks ns ≡ all → length ks ≡ length ns → k ≡ p
     → more_ks ≡ ks ++ k ∷ [] → more_ns ≡ ns ++ n ∷ [] → rows more_ks more_ns ≡ all ++ (p, n) ∷ []
 added all ks more_ks ns more_ns k p n v e s g h = rw (g, h) (rows_more ks ns k n e ∙ ap (λ (x : Numbered). x ++ (k, n) ∷ []) v ∙ ap (λ (x : List ℕ). all ++ (x, n) ∷ []) s)
+
+-- ---- keys that are kept as bytes
+
+module _ {K : Type 0} (bytes : K → List ℕ) (ok : (k : K) → IsUtf8 (bytes k)) where
+  abbrev texts : List K → List (List ℕ)
+  texts ks = map (λ k. chars (bytes k)) ks
+
+  same_first : (q : List ℕ) (ks : List K) → IsUtf8 q → position_or_len (λ k. bytes_eq q (bytes k)) ks ≡ position_or_len (bytes_eq (chars q)) (texts ks)
+  same_first q [] u = refl
+  same_first q (k ∷ ks) u = rw (same-chars q (bytes k) u (ok k)) (by_test (bytes_eq (chars q) (chars (bytes k))) (λ t. rw t refl) (λ f. rw f (ap (λ (n : ℕ). 1 + n) (same_first q ks u))))
+
+  -- the place of a text among the keys is that of its characters
+  pub same_position : (q : List ℕ) (ks : List K) → IsUtf8 q → position (λ k. bytes_eq q (bytes k)) ks ≡ position (bytes_eq (chars q)) (texts ks)
+  same_position q ks u =
+      ap₂ (λ (n m : ℕ). cond (nat_lt n m) (Some n) None) (same_first q ks u) (sym (length-map ks (λ k. chars (bytes k))))
+
+  pub none_kept : (k : K) (ks : List K) → IsNew (chars (bytes k)) (texts ks) → list_any (λ x. bytes_eq (bytes k) (bytes x)) ks ≡ false
+  none_kept k [] h = refl
+  none_kept k (x ∷ ks) h =
+      by_test (bytes_eq (chars (bytes x)) (chars (bytes k))) (λ t. absurd (cc (rw t at h)))
+      (λ f. rw (same-chars (bytes k) (bytes x) (ok k) (ok x), either_way (chars (bytes k)) (chars (bytes x)), f) (none_kept k ks (rw f at h)))
+
+  pub texts_more : (xs ys : List K) (k : K) → ys ≡ xs ++ k ∷ [] → texts ys ≡ texts xs ++ chars (bytes k) ∷ []
+  texts_more xs ys k e = ap texts e ∙ map-append (λ k. chars (bytes k)) xs (k ∷ [])
+
+  pub same_size : {A : Type 0} (ks : List K) (ns : List A) → length ks ≡ length ns → length (texts ks) ≡ length ns
+  same_size ks ns e = length-map ks (λ k. chars (bytes k)) ∙ e
 
 pub if_both : {A E P Q R : Type 0} (r : Result A E) → (P → Q → R) → OnOk r P → OnOk r Q → OnOk r R
 if_both (Ok a) f p q = f p q

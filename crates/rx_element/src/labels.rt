@@ -1,5 +1,6 @@
 //! The numbers of authors' blank nodes.
-ghost use Rattle.std.specs.Prelude.{◌≡◌, ◌<◌, ◌^◌, ◌+◌, [], ◌∷◌, ◌++◌, length, OnOk, OnErr, IfOk, None, unwrap_or};
+ghost use Rattle.std.specs.Prelude.{◌≡◌, ◌<◌, ◌^◌, ◌+◌, [], ◌∷◌, ◌++◌, length, map, OnOk, OnErr, IfOk, None, unwrap_or, string_bytes};
+ghost use Rattle.std.specs.Str.{chars};
 ghost use Rattle.rx_element.specs.Labels.{number_of, Drawn};
 ghost use Rattle.rx_element.specs.Rows.{IsNew};
 
@@ -11,18 +12,20 @@ use std::marker::Model;
 /// The numbers of the blank nodes that authors name by labels. A contract sees the labels with their numbers.
 #[derive(Drop)]
 pub struct Labels {
-    labels: IndexSet<Text>,
+    alloc: Global,
+    labels: IndexSet<String>,
     numbers: Vec<u64>,
 }
 
 impl Model for Labels {
-    ghost use Rattle.std.specs.Prelude.{◌≡◌, ℕ, List, length};
+    ghost use Rattle.std.specs.Prelude.{◌≡◌, ℕ, List, length, map, string_bytes};
+    ghost use Rattle.std.specs.Str.{chars};
 
     ghost Value = { List (List ℕ × ℕ) };
 
     ghost use Rattle.rx_element.specs.Rows.{rows};
 
-    ghost view = { λ l. rows l.labels.keys l.numbers.items };
+    ghost view = { λ l. rows (map (λ k. chars (string_bytes k)) l.labels.keys) l.numbers.items };
 
     ghost invariant = { λ l. length l.labels.keys ≡ length l.numbers.items };
 }
@@ -33,14 +36,15 @@ impl Labels {
         ensures { IfOk result (λ labels. labels ≡ []) }
     {
         Ok(Labels {
+            alloc,
             labels: IndexSet::new(alloc),
             numbers: Vec::new(alloc),
         })
     }
 
-    /// The number of a label, and None where it has none.
-    pub(crate) fn find(&self, label: &Text) -> Option<u64>
-        ensures { result ≡ number_of self.now label.now }
+    /// The number of a label, and None exactly where it has none.
+    pub fn number(&self, label: &str) -> Option<u64>
+        ensures { result ≡ number_of self.now (chars label.now) }
     {
         match self.labels.get_index_of(label) {
             Some(place) => Some(self.numbers[place]),
@@ -52,7 +56,7 @@ impl Labels {
     pub(crate) fn number_or_zero(&self, label: &Text) -> u64
         ensures { result ≡ unwrap_or (number_of self.now label.now) 0 }
     {
-        match self.find(label) {
+        match self.number(label.as_str()) {
             Some(number) => number,
             None => 0,
         }
@@ -63,7 +67,7 @@ impl Labels {
         requires { number_of self.old label.now ≡ None }
         ensures { OnOk result (self.new ≡ self.old ++ (label.now, number) ∷ []) }
     {
-        let key = label.try_clone()?;
+        let key = String::from_str(self.alloc, label.as_str())?;
         add_row(&mut self.labels, &mut self.numbers, key, number)
     }
 
@@ -72,7 +76,7 @@ impl Labels {
         requires { next + 1 < 2 ^ 64 }
         ensures { IfOk result (λ after. Drawn self.old next (label.now ∷ []) self.new after) }
     {
-        match self.find(label) {
+        match self.number(label.as_str()) {
             Some(_number) => Ok(next),
             None => {
                 self.add(label, next)?;
@@ -84,12 +88,12 @@ impl Labels {
 
 /// Adds a new key and its number at the ends.
 fn add_row(
-    keys: &mut IndexSet<Text>,
+    keys: &mut IndexSet<String>,
     numbers: &mut Vec<u64>,
-    key: Text,
+    key: String,
     number: u64,
 ) -> Result<(), NoMemory>
-    requires fresh { IsNew key keys.old.keys }
+    requires fresh { IsNew (chars (string_bytes key)) (map (λ k. chars (string_bytes k)) keys.old.keys) }
     requires even { length keys.old.keys ≡ length numbers.old.items }
     ensures keys { OnOk result (keys.new.keys ≡ keys.old.keys ++ key ∷ []) }
     ensures numbers { OnOk result (numbers.new.items ≡ numbers.old.items ++ number ∷ []) }

@@ -35,6 +35,8 @@ fn a_text_about_a_label(rt: HostRuntime) -> Result<(), Fail> {
         Node::Iri(_iri) => 0,
     };
     assert_eq!(rt; number, 7);
+    assert_eq!(rt; labels.number("x"), Some(7));
+    assert_eq!(rt; labels.number("y"), None);
     assert_eq!(rt; placed.next_blank, 8);
     let value = value_of(alloc, &facts, &placed, &base, &labels, "Hi")?;
     let text = match &value {

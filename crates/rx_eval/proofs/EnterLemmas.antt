@@ -24,7 +24,8 @@ use Rattle.rx_eval.specs.Frames.{hanging_by}
 use Rattle.rx_eval.specs.Elements.{handed_by, owner_in, begun_below, begun_below_number}
 use Rattle.rx_eval.specs.OwnersSeen.{Owning, owning_seen, owners_seen, put_entries}
 use Rattle.rx_eval.specs.Listing.{Entries, linked_entries, awaited_entry, entries_in}
-use Rattle.rx_eval.specs.Entering.{next_number, naming_by, own_number, begun_seen, begun_for, owners_begun}
+use Rattle.rx_eval.specs.Entering.{next_number, naming_by, own_number, begun_seen, begun_for, owners_begun, owner_begun, owner_for}
+use Rattle.rx_eval.specs.States.{owner_seen}
 
 -- ---- the owners
 
@@ -43,6 +44,13 @@ below_is : (object : Option CodeNode) (s : CodeNode) (owners : Owners) → owner
 below_is None s owners = refl
 below_is (Some object) s owners = begun_is object s owners
 
+seen_begun : (s o : CodeNode) (n : ℕ) → option_map owner_seen (begun_number s o n) ≡ owner_begun (node_seen s) (node_seen o) n
+seen_begun s o n = by_test (same_node nat_eq (node_seen s) (node_seen o)) (λ t. rw t refl) (λ f. rw f refl)
+
+seen_below : (object : Option CodeNode) (s : CodeNode) (n : ℕ) → option_map owner_seen (begun_below_number object s n) ≡ owner_for (option_map node_seen object) (node_seen s) n
+seen_below None s n = refl
+seen_below (Some object) s n = seen_begun object s n
+
 -- an element of which the code has the subject, the parent object, and the object for its children
 module _ (N : Naming ℕ ℕ) (at : Standing ℕ ℕ) (here : Resources ℕ) (s a : CodeNode) (object : Option CodeNode) (e : node_seen s ≡ here.subject) (f : node_seen a ≡ at.around.object) where
   pub owners_are : (old mid new : Owners) → option_map node_seen object ≡ object_below N at here → mid ≡ begun s a old → new ≡ begun_below object s mid
@@ -57,6 +65,20 @@ module _ (N : Naming ℕ ℕ) (at : Standing ℕ ℕ) (here : Resources ℕ) (s 
       ap (λ (x : Option Owner). (owner_in x around).0) o ∙ number_is s a n around
       ∙ ap₂ (λ (x y : Node ℕ). if same_node nat_eq x y then around.0 else n) e f
       ∙ ap (λ (x : ℕ). if same_node nat_eq here.subject at.around.object then x else n) z
+
+  pub next_is : (old mid : Owners) → mid ≡ begun s a old → length mid ≡ next_number at here (length old)
+  next_is old mid m = ap length m ∙ more_owners s a old ∙ ap₂ (λ (x y : Node ℕ). if same_node nat_eq x y then length old else suc (length old)) e f
+
+  -- the owners that the element begins
+  pub own_seen : (own : Option Owner) (n : ℕ) → own ≡ begun_number s a n → option_map owner_seen own ≡ owner_begun here.subject at.around.object n
+  own_seen own n o = ap (option_map owner_seen) o ∙ seen_begun s a n ∙ ap₂ (λ (x y : Node ℕ). owner_begun x y n) e f
+
+  pub below_seen : (below : Option Owner) (old mid : Owners) → option_map node_seen object ≡ object_below N at here → mid ≡ begun s a old → below ≡ begun_below_number object s (length mid)
+      → option_map owner_seen below ≡ owner_for (object_below N at here) here.subject (next_number at here (length old))
+  below_seen below old mid o m b =
+      ap (option_map owner_seen) b ∙ seen_below object s (length mid)
+      ∙ ap₂ (λ (x : Option (Node ℕ)) (y : Node ℕ). owner_for x y (length mid)) o e
+      ∙ ap (owner_for (object_below N at here) here.subject) (next_is old mid m)
 
 -- ---- the context
 
@@ -77,14 +99,11 @@ handed_is labels fresh at here s a object own below around context old mid k e f
     last_number : Option (Node ℕ) → ℕ
     last_number x = owner_below (naming_by labels fresh at here (length old)) at here x (own_number at here (length old))
 
-    next_is : length mid ≡ next_number at here (length old)
-    next_is = ap length m ∙ more_owners s a old ∙ ap₂ (λ (x y : Node ℕ). if same_node nat_eq x y then length old else suc (length old)) e f
-
     last_owner : (x : Option CodeNode) (y : Option Owner) → y ≡ begun_below_number x s (length mid) → (owner_in y (owner_in own around)).0 ≡ last_number (option_map node_seen x)
     last_owner None y g = ap (λ (v : Option Owner). (owner_in v (owner_in own around)).0) g ∙ is_own
     last_owner (Some x) y g =
         ap (λ (v : Option Owner). (owner_in v (owner_in own around)).0) g ∙ number_is x s (length mid) (owner_in own around)
-        ∙ ap₂ (λ (u v : ℕ). if same_node nat_eq (node_seen x) (node_seen s) then u else v) is_own next_is
+        ∙ ap₂ (λ (u v : ℕ). if same_node nat_eq (node_seen x) (node_seen s) then u else v) is_own (next_is (moment labels fresh 0 0) at here s a object e f old mid m)
         ∙ ap (λ (v : Node ℕ). if same_node nat_eq (node_seen x) v then own_number at here (length old) else next_number at here (length old)) e
 
     by_skip : (t : Bool) → t ≡ false
@@ -128,7 +147,7 @@ module _ (labels : Numbered) (fresh : ℕ) (base : Chars) (at : Standing ℕ ℕ
 -- ---- the lists
 
 module _ (N : Naming ℕ ℕ) (S : Standing ℕ ℕ) (H : Resources ℕ) (v : Option (Term ℕ)) where
-  linked_is : (o : Option (Node ℕ)) → linked_entries (own_owner N S H) S.facts.rel o ≡ linked N Some v S H o
+  pub linked_is : (o : Option (Node ℕ)) → linked_entries (own_owner N S H) S.facts.rel o ≡ linked N Some v S H o
   linked_is None = refl
   linked_is (Some o) = refl
 

@@ -5,3 +5,6 @@ pub mod SeenLemmas
 pub mod EnterLemmas
 pub mod FrameLemmas
 pub mod OpenLemmas
+pub mod GatherLemmas
+pub mod PlaceLemmas
+pub mod KeepLemmas

@@ -1,7 +1,12 @@
 -- The start of an element on the stack.
-use Rattle.std.proofs.Common.{◌≡◌, ◌∙◌, ℕ, ◌+◌, ◌<◌, ◌≤◌, ◌^◌, List, [], ◌∷◌, map, length, Option, Some, None, is_some, option_map, refl, ap, arith}
+use Rattle.std.proofs.Common.{◌≡◌, ◌∙◌, ℕ, ◌+◌, ◌<◌, ◌≤◌, ◌^◌, List, [], ◌∷◌, map, length, Option, Some, None, is_some, option_map, refl, ap, subst, arith}
+use Rattle.std.specs.Prelude.{IfSome}
 use Rattle.rx_terms.specs.Text.{Chars}
+use Rattle.rx_rdfa.specs.Facts.{Facts}
 use Rattle.rx_rdfa.specs.Resources.{Inherited}
+use Rattle.rx_element.specs.declared.places.Level.{Level}
+use Rattle.rx_eval.specs.OwnersSeen.{Owning}
+use Rattle.rx_eval.specs.Entering.{Gathers, resources_by, places_at}
 use Rattle.rx_element.specs.Labels.{Numbered, Drawn}
 use Rattle.rx_element.specs.Contexts.{context_seen}
 use Rattle.rx_eval.specs.Opening.{around_in}
@@ -26,6 +31,15 @@ around_is page around frames items e f = ap context_seen (e ∙ ap (around_in pa
 pub text_is : (g : Option Gathered) → is_some (option_map text_seen g) ≡ is_some g
 text_is None = refl
 text_is (Some g) = refl
+
+pub opened_text : (labels : Numbered) (fresh : ℕ) (base : Chars) (facts : Facts) (owners : List (Option Owning)) (l m : Level) (a b : Inherited ℕ ℕ) (n k : ℕ) (g : Option Gathered) → l ≡ m → a ≡ b → n ≡ k
+    → IfSome g (λ x. Gathers facts (resources_by labels fresh base l a facts) (places_at labels fresh base l a facts owners) n (text_seen x))
+    → IfSome (option_map text_seen g) (Gathers facts (resources_by labels fresh base m b facts) (places_at labels fresh base m b facts owners) k)
+opened_text labels fresh base facts owners l m a b n k None d e f h = tt
+opened_text labels fresh base facts owners l m a b n k (Some x) d e f h =
+    subst (λ (j : ℕ). Gathers facts (resources_by labels fresh base m b facts) (places_at labels fresh base m b facts owners) j (text_seen x)) f
+    (subst (λ (c : Inherited ℕ ℕ). Gathers facts (resources_by labels fresh base m c facts) (places_at labels fresh base m c facts owners) n (text_seen x)) e
+    (subst (λ (j : Level). Gathers facts (resources_by labels fresh base j a facts) (places_at labels fresh base j a facts owners) n (text_seen x)) d h))
 
 pub fresh_fits : (old new : Numbered) (drawn fresh : ℕ) (labels : List Chars) → Drawn old drawn labels new fresh → drawn + 1 + length labels ≤ 2 ^ 61 → fresh + 1 < 2 ^ 64
 fresh_fits old new drawn fresh labels d h = omega (arith, drawn_most old new drawn fresh labels d, h)

@@ -1,6 +1,7 @@
 -- What is put into the code's lists, as the rules see it.
-use Rattle.std.proofs.Common.{◌≡◌, ◌∙◌, ℕ, zero, suc, List, [], ◌∷◌, ◌++◌, map, filter_map, Option, Some, None, option_map, option_to_list, slice_set, bytes_eq, refl, sym, ap, ap₂, length, drop, ◌≤◌, slice_index_or, Result, Ok, Err, OnOk}
-use Rattle.std.proofs.lemmas.List.{map-append, map-set}
+use Rattle.std.proofs.Common.{◌≡◌, ◌∙◌, ℕ, Bool, zero, suc, List, [], ◌∷◌, ◌++◌, map, filter_map, Option, Some, None, option_map, option_to_list, slice_set, bytes_eq, refl, sym, ap, ap₂, length, drop, ◌≤◌, slice_index_or, Result, Ok, Err, OnOk, IfOk}
+use Rattle.std.specs.Prelude.{if◌then◌else◌}
+use Rattle.std.proofs.lemmas.List.{map-append, map-set, length-map}
 use Rattle.rx_terms.specs.Text.{Chars}
 use Rattle.rx_terms.specs.declared.triples.Node.{Node as CodeNode}
 use Rattle.rx_terms.specs.declared.triples.Node.TheVariants as code_node
@@ -9,7 +10,9 @@ use Rattle.rx_model.specs.Terms.{Term}
 use Rattle.rx_model.specs.Seen.{node_seen, term_seen}
 use Rattle.rx_rdfa.specs.Tables.{put}
 use Rattle.rx_rdfa.specs.Lists.{entry}
-use Rattle.rx_lists.specs.Owners.{Owned, Owners, Slots, changed, with_term, itself, open_at, trimmed, trimmed_by, forgotten, lists_of}
+use Rattle.rx_lists.specs.Owners.{Owned, Owners, Slots, changed, with_term, itself, open_at, place_of, slots_of, trimmed, trimmed_by, forgotten, lists_of}
+use Rattle.rx_lists.specs.SlotIds.{slot_in}
+use Rattle.rx_lists.specs.declared.lists.Owner.{Owner}
 use Rattle.rx_lists.specs.Cells.{cells_of, items_seen, finished_cells, size}
 use Rattle.rx_eval.specs.Ending.{cells_count}
 use Rattle.rx_lists.specs.declared.lists.SlotId.{SlotId}
@@ -18,8 +21,8 @@ use Rattle.rx_element.specs.declared.contexts.Waiting.{Waiting}
 use Rattle.rx_element.specs.declared.contexts.Waiting.TheVariants.{Forward, Reverse, InList}
 use Rattle.rx_element.specs.Contexts.{waiting_seen}
 use Rattle.rx_element.specs.TextRules.{term_of, resource_term}
-use Rattle.rx_eval.specs.Entries.{put_each, put_awaited}
-use Rattle.rx_eval.specs.OwnersSeen.{Owning, owning, slots_seen, owning_seen, owners_seen, put_at, put_entries, with_item, open_seen, fill_seen, fill_all, cells_seen, ended_by, ended, forgotten_seen}
+use Rattle.rx_eval.specs.Entries.{put_each, put_awaited, slots_for}
+use Rattle.rx_eval.specs.OwnersSeen.{Owning, owning, slots_seen, owning_seen, owners_seen, put_at, put_entries, with_item, open_seen, lists_in, list_place, item_count, next_place, places_for, fill_seen, fill_all, cells_seen, ended_by, ended, forgotten_seen}
 use Rattle.rx_eval.specs.Listing.{Entries, awaited_entry}
 use Rattle.rx_element.proofs.DrawLemmas.{nothing_left}
 use Rattle.rx_element.proofs.LabelLemmas.{by_test}
@@ -83,6 +86,40 @@ pub seen_each : (old new : Owners) (n : ℕ) (item : Option (Option CodeTerm)) (
     → new ≡ put_each n item ps old → owners_seen new ≡ put_entries entries (owners_seen old)
 seen_each old new n item ps entries e h = ap owners_seen h ∙ each_seen n item ps old ∙ ap (λ (x : Entries). put_entries x (owners_seen old)) e
 
+-- ---- places
+
+open_is : (owners : Owners) (n : ℕ) → option_map owning_seen (open_at owners n) ≡ open_seen (owners_seen owners) n
+open_is [] n = refl
+open_is (None ∷ owners) zero = refl
+open_is (Some o ∷ owners) zero = refl
+open_is (o ∷ owners) (suc n) = open_is owners n
+
+place_is : (p : Chars) (lists : Slots) → place_of p lists ≡ list_place p (slots_seen lists)
+place_is p [] = refl
+place_is p (row ∷ lists) = by_test (bytes_eq row.0 p) (λ t. rw t refl) (λ f. rw f (ap suc (place_is p lists)))
+
+count_in : (p : Chars) (lists : Slots) → length (slots_of p lists) ≡ item_count p (slots_seen lists)
+count_in p [] = refl
+count_in p (row ∷ lists) = by_test (bytes_eq row.0 p) (λ t. rw t (sym (length-map row.1 (option_map term_seen)))) (λ f. rw f (count_in p lists))
+
+lists_are : (o : Option Owned) → slots_seen (lists_of o) ≡ lists_in (option_map owning_seen o)
+lists_are None = refl
+lists_are (Some o) = refl
+
+next_is : (owner : Owner) (p : Chars) (owners : Owners) → slot_in owner p (lists_of (open_at owners owner.0)) ≡ next_place owner.0 p (owners_seen owners)
+next_is owner p owners =
+    let l : slots_seen (lists_of (open_at owners owner.0)) ≡ lists_in (open_seen (owners_seen owners) owner.0) =
+    lists_are (open_at owners owner.0) ∙ ap lists_in (open_is owners owner.0) in
+    let a = place_is p (lists_of (open_at owners owner.0)) ∙ ap (list_place p) l in
+    let b = count_in p (lists_of (open_at owners owner.0)) ∙ ap (item_count p) l in
+    λ i. record { owner = owner; list = a i; place = b i }
+
+pub places_are : (owner : Owner) (ps : List Chars) (owners : Owners) → slots_for owner ps owners ≡ places_for owner.0 ps (owners_seen owners)
+places_are owner [] owners = refl
+places_are owner (p ∷ ps) owners =
+    ap₂ (λ (s : SlotId) (l : List SlotId). s ∷ l) (next_is owner p owners)
+    (places_are owner ps (changed (put p (Some None)) owners owner.0) ∙ ap (places_for owner.0 ps) (changed_seen p (Some None) owners owner.0))
+
 pub seen_awaited : (old new : Owners) (subject : CodeNode) (t : CodeTerm) (waiting : List Waiting) → t ≡ term_of subject → new ≡ put_awaited t waiting old
     → owners_seen new ≡ put_entries (filter_map (awaited_entry (node_seen subject)) (map waiting_seen waiting)) (owners_seen old)
 seen_awaited old new subject t waiting e h = ap owners_seen h ∙ ap (λ (x : CodeTerm). owners_seen (put_awaited x waiting old)) e ∙ awaited_seen subject waiting old
@@ -130,12 +167,6 @@ all_items [] = refl
 all_items (row ∷ lists) =
     ap₂ (λ (a : List (Term ℕ)) (b : List (List ℕ × List (Term ℕ))). (row.0, a) ∷ b) (items_are row.1) (all_items lists)
 
-open_is : (owners : Owners) (n : ℕ) → option_map owning_seen (open_at owners n) ≡ open_seen (owners_seen owners) n
-open_is [] n = refl
-open_is (None ∷ owners) zero = refl
-open_is (Some o ∷ owners) zero = refl
-open_is (o ∷ owners) (suc n) = open_is owners n
-
 cells_are : (next : ℕ) (o : Option Owned) → finished_cells next o ≡ cells_seen next (option_map owning_seen o)
 cells_are next None = refl
 cells_are next (Some o) = ap (cells_of next (node_seen o.subject)) (all_items o.lists)
@@ -164,3 +195,13 @@ count_is (Some o) = ap size (all_items o.lists)
 
 pub seen_count : (owners : Owners) (n : ℕ) → size (items_seen (lists_of (open_at owners n))) ≡ cells_count (open_seen (owners_seen owners) n)
 seen_count owners n = count_is (open_at owners n) ∙ ap cells_count (open_is owners n)
+
+-- ---- two and three steps, where places are reserved at the last
+
+pub places_then : (waits : Bool) (owner : ℕ) (xs ys : Entries) (ps : List Chars) (slots : List SlotId) (a b c : List (Option Owning)) → b ≡ put_entries xs a → c ≡ put_entries ys b
+    → slots ≡ (if waits then places_for owner ps c else []) → slots ≡ (if waits then places_for owner ps (put_entries (xs ++ ys) a) else [])
+places_then waits owner xs ys ps slots a b c e f h = h ∙ ap (λ (l : List (Option Owning)). if waits then places_for owner ps l else []) (two_put xs ys a b c e f)
+
+pub ok_both : {A E : Type 0} {P Q : A → Type 0} (r : Result A E) → ((a : A) → P a → Q a) → IfOk r P → IfOk r Q
+ok_both (Ok a) f h = f a h
+ok_both (Err e) f h = h

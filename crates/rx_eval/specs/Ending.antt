@@ -1,5 +1,5 @@
 -- What the end of an element does to the triples and the lists.
-use Rattle.std.specs.Prelude.{◌≡◌, ℕ, ◌+◌, ◌==◌, Bool, true, false, List, [], ◌∷◌, ◌++◌, map, filter_map, length, Option, Some, None, if◌then◌else◌}
+use Rattle.std.specs.Prelude.{◌≡◌, ℕ, ◌+◌, ◌==◌, true, List, [], ◌∷◌, ◌++◌, map, filter_map, length, Option, Some, None, if◌then◌else◌}
 use Rattle.rx_terms.specs.Text.{Chars}
 use Rattle.rx_model.specs.Terms.{Node, Term, Triple}
 use Rattle.rx_model.specs.Copied.{spo}
@@ -9,6 +9,7 @@ use Rattle.rx_lists.specs.Cells.{size}
 use Rattle.rx_element.specs.TextRules.{text_literal}
 use Rattle.rx_eval.specs.OwnersSeen.{Owning, open_seen, cells_seen, forgotten_seen, fill_all}
 use Rattle.rx_eval.specs.States.{Text, Frame, State}
+use Rattle.rx_eval.specs.Keeping.{gathers_some}
 
 -- the triples so far, the owners of lists, and the next number of a cell
 pub record Ending : Type 0 where
@@ -53,11 +54,8 @@ abbrev pub TextAt : Option Text → Chars → Chars → Chars → Type 0
 TextAt None kept front chars = Unit {0}
 TextAt (Some text) kept front chars = CutAt kept text.mark front chars
 
-abbrev pub is_place : Option ℕ → ℕ → Bool
-is_place None n = false
-is_place (Some m) n = m == n
-
--- the last element was closed; at the root's end the page's own lists are written
+-- the last element was closed; at the root's end the page's own lists are written. Text that no open element gathers is
+-- dropped.
 pub record Closes (old new : State) : Type 0 where
   pub frame : Frame
   pub popped : old.frames ≡ new.frames ++ frame ∷ []
@@ -65,7 +63,6 @@ pub record Closes (old new : State) : Type 0 where
       (front chars : Chars) → TextAt frame.text old.kept front chars
       → ending new.out new.owners new.cells
       ≡ end_owner (if length new.frames == 0 then Some old.page.owner else None) (end_frame frame chars (ending old.out old.owners old.cells))
-  pub kept : new.kept ≡ (if is_place old.outermost (length new.frames) then [] else old.kept)
-  pub outermost : new.outermost ≡ (if is_place old.outermost (length new.frames) then None else old.outermost)
+  pub kept : new.kept ≡ (if gathers_some new.frames then old.kept else [])
   pub ended : new.ended ≡ (if length new.frames == 0 then true else old.ended)
   pub rest : (new.base ≡ old.base) × (new.levels ≡ old.levels) × (new.page ≡ old.page) × (new.labels ≡ old.labels) × (new.drawn ≡ old.drawn) × (new.spent ≡ old.spent)

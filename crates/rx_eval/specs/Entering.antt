@@ -1,21 +1,24 @@
 -- The start of an element, by the rules.
-use Rattle.std.specs.Prelude.{ℕ, suc, Bool, not, ◌&&◌, List, [], ◌∷◌, ◌++◌, length, Option, Some, None, nat_eq, if◌then◌else◌}
+use Rattle.std.specs.Prelude.{◌≡◌, ℕ, suc, Bool, not, ◌&&◌, List, [], ◌∷◌, ◌++◌, length, Option, Some, None, nat_eq, if◌then◌else◌}
 use Rattle.rx_terms.specs.Text.{Chars}
 use Rattle.rx_model.specs.Terms.{Node, Triple, same_node}
 use Rattle.rx_rdfa.specs.Naming.{Naming}
 use Rattle.rx_rdfa.specs.Facts.{Facts}
 use Rattle.rx_rdfa.specs.Resources.{Inherited, Standing, Resources, resources}
-use Rattle.rx_rdfa.specs.Inherited.{below, object_below}
+use Rattle.rx_rdfa.specs.Inherited.{listed, below, object_below, own_owner}
 use Rattle.rx_rdfa.specs.Element.{start_of}
 use Rattle.rx_rdfa.specs.Value.{rule, value_now, gathers}
-use Rattle.rx_rdfa.specs.Lists.{entries_by}
+use Rattle.rx_rdfa.specs.Lists.{entries_by, linked, touched}
+use Rattle.rx_lists.specs.declared.lists.SlotId.{SlotId}
 use Rattle.rx_element.specs.Contexts.{context_seen}
 use Rattle.rx_element.specs.Labels.{Numbered}
 use Rattle.rx_element.specs.Moment.{moment}
 use Rattle.rx_element.specs.Places.{standing_by}
+use Rattle.rx_element.specs.TextRules.{IsTextRule}
 use Rattle.rx_element.specs.declared.places.Level.{Level}
 use Rattle.rx_element.specs.declared.places.Place.{Place}
-use Rattle.rx_eval.specs.OwnersSeen.{Owning, owning, put_entries}
+use Rattle.rx_eval.specs.OwnersSeen.{Owning, owning, put_entries, places_for}
+use Rattle.rx_eval.specs.States.{Text}
 
 -- the number after the owner of an element's own lists, the next one being n
 abbrev pub next_number : Standing ℕ ℕ → Resources ℕ → ℕ → ℕ
@@ -41,6 +44,32 @@ begun_for (Some object) subject owners = begun_seen object subject owners
 abbrev pub owners_begun : Naming ℕ ℕ → Standing ℕ ℕ → Resources ℕ → List (Option Owning) → List (Option Owning)
 owners_begun naming at here owners = begun_for (object_below naming at here) here.subject (begun_seen here.subject at.around.object owners)
 
+-- the number of that new owner, the next one being n
+abbrev pub owner_begun : Node ℕ → Node ℕ → ℕ → Option ℕ
+owner_begun subject other n = if same_node nat_eq subject other then None else Some n
+
+abbrev pub owner_for : Option (Node ℕ) → Node ℕ → ℕ → Option ℕ
+owner_for None subject n = None
+owner_for (Some object) subject n = owner_begun object subject n
+
+-- the places that an element with inlist reserves for its text, one in the list of each predicate of property; the object
+-- and the lists that hang come first
+abbrev pub places_by : Naming ℕ ℕ → Standing ℕ ℕ → Resources ℕ → List (Option Owning) → List SlotId
+places_by naming at here owners =
+    if at.facts.inlist
+    then places_for (own_owner naming at here) (listed at.facts.property)
+    (put_entries (linked naming Some None at here here.object ++ touched naming Some None at here) owners)
+    else []
+
+-- what is known of an element that gathers its text: the subject of its value, how the text is the value, where the value
+-- goes, and where the text begins, in bytes
+pub record Gathers (facts : Facts) (here : Resources ℕ) (places : List SlotId) (mark : ℕ) (text : Text) : Type 0 where
+  pub subject : text.subject ≡ here.subject
+  pub rule : IsTextRule facts text.by
+  pub said : text.said ≡ (if facts.inlist then None else Some (listed facts.property))
+  pub slots : text.slots ≡ places
+  pub begins : text.mark ≡ mark
+
 -- an element at a level with the labels' numbers, the number of a new node, the base, and what it inherits
 module _ (labels : Numbered) (fresh : ℕ) (base : Chars) (level : Level) (around : Inherited ℕ ℕ) (facts : Facts) where
   abbrev pub resources_by : Resources ℕ
@@ -58,6 +87,21 @@ module _ (labels : Numbered) (fresh : ℕ) (base : Chars) (level : Level) (aroun
 
   abbrev pub gathers_at : Bool
   gathers_at = not resources_by.skipped && gathers (moment labels fresh 0 0) base facts resources_by
+
+  -- the owners that it begins with its subject, and for its children with its object
+  abbrev pub own_at : ℕ → Option ℕ
+  own_at n = if resources_by.skipped then None else owner_begun resources_by.subject around.object n
+
+  abbrev pub below_own_at : ℕ → Option ℕ
+  below_own_at n =
+      if resources_by.skipped then None
+      else owner_for (object_below (moment labels fresh 0 0) (standing_by level around facts) resources_by) resources_by.subject
+      (next_number (standing_by level around facts) resources_by n)
+
+  abbrev pub places_at : List (Option Owning) → List SlotId
+  places_at owners =
+      places_by (naming_from (length owners)) (standing_by level around facts) resources_by
+      (owners_begun (moment labels fresh 0 0) (standing_by level around facts) resources_by owners)
 
   abbrev pub lists_at : List (Option Owning) → List (Option Owning)
   lists_at owners =

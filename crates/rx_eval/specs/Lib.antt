@@ -9,6 +9,8 @@ pub mod Entering
 pub mod Opening
 pub mod Closing
 pub mod States
+pub mod Keeping
 pub mod Opened
 pub mod Ending
 pub mod Waits
+pub mod Reserving

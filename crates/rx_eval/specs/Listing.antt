@@ -1,12 +1,14 @@
 -- What an element puts into lists, part by part.
-use Rattle.std.specs.Prelude.{ℕ, List, [], ◌++◌, map, filter_map, Option, Some, None, if◌then◌else◌}
+use Rattle.std.specs.Prelude.{ℕ, Bool, List, [], ◌++◌, map, filter_map, Option, Some, None, if◌then◌else◌}
 use Rattle.rx_terms.specs.Text.{Chars}
 use Rattle.rx_model.specs.Terms.{Node, Term}
 use Rattle.rx_rdfa.specs.Facts.{Facts}
 use Rattle.rx_rdfa.specs.Resources.{Hanging, Forward, Reverse, InList, Resources}
 use Rattle.rx_rdfa.specs.Inherited.{listed, hangs}
 use Rattle.rx_rdfa.specs.Lists.{Entry, entry}
+use Rattle.rx_lists.specs.declared.lists.SlotId.{SlotId}
 use Rattle.rx_element.specs.TextRules.{resource_term}
+use Rattle.rx_eval.specs.OwnersSeen.{Owning, put_entries, places_for}
 
 abbrev pub Entries : Type 0
 Entries = List (Entry ℕ (Option (Term ℕ)))
@@ -18,6 +20,9 @@ abbrev pub linked_entries : ℕ → Option (List Chars) → Option (Node ℕ) �
 linked_entries owner rel None = []
 linked_entries owner rel (Some object) = entries_for owner (Some (Some (resource_term object))) rel
 
+abbrev pub touched_entries : ℕ → Option (List Chars) → Bool → Entries
+touched_entries owner rel waits = if waits then entries_for owner None rel else []
+
 abbrev pub awaited_entry : Node ℕ → Hanging ℕ → Option (Entry ℕ (Option (Term ℕ)))
 awaited_entry subject (Forward p) = None
 awaited_entry subject (Reverse p) = None
@@ -27,7 +32,13 @@ awaited_entry subject (InList owner p) = Some (entry owner (Some (Some (resource
 abbrev pub own_entries : ℕ → Facts → Resources ℕ → Option (Term ℕ) → Entries
 own_entries owner facts here value =
     linked_entries owner facts.rel here.object
-    ++ ((if hangs facts here then entries_for owner None facts.rel else []) ++ entries_for owner (Some value) facts.property)
+    ++ (touched_entries owner facts.rel (hangs facts here) ++ entries_for owner (Some value) facts.property)
 
 abbrev pub entries_in : ℕ → Facts → Resources ℕ → Option (Term ℕ) → List (Hanging ℕ) → Entries
 entries_in owner facts here value hanging = (if facts.inlist then own_entries owner facts here value else []) ++ filter_map (awaited_entry here.subject) hanging
+
+-- the places of an element with inlist for its text
+abbrev pub own_places : ℕ → Facts → Resources ℕ → List (Option Owning) → List SlotId
+own_places owner facts here owners =
+    places_for owner (listed facts.property)
+    (put_entries (linked_entries owner facts.rel here.object ++ touched_entries owner facts.rel (hangs facts here)) owners)

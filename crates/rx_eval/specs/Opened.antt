@@ -1,5 +1,5 @@
 -- What the start of an element does to the stack, by the rules.
-use Rattle.std.specs.Prelude.{◌≡◌, ◌<◌, ◌≤◌, ◌^◌, ◌+◌, false, ℕ, Bool, List, [], ◌∷◌, ◌++◌, length, Option, Some, None, is_some, if◌then◌else◌}
+use Rattle.std.specs.Prelude.{◌≡◌, ◌<◌, ◌≤◌, ◌^◌, ◌+◌, false, ℕ, List, [], ◌∷◌, ◌++◌, length, Some, IfSome, is_some, encode_utf8_all, if◌then◌else◌}
 use Rattle.rx_terms.specs.Text.{Chars}
 use Rattle.rx_model.specs.Terms.{Iri}
 use Rattle.rx_rdfa.specs.Facts.{Facts}
@@ -8,21 +8,18 @@ use Rattle.rx_rdfa.specs.Resources.{Inherited}
 use Rattle.rx_element.specs.Labels.{draw}
 use Rattle.rx_element.specs.Places.{level_at}
 use Rattle.rx_eval.specs.OwnersSeen.{owning}
-use Rattle.rx_eval.specs.Entering.{start_at, below_at, gathers_at, lists_at}
+use Rattle.rx_eval.specs.Entering.{Gathers, resources_by, start_at, below_at, gathers_at, own_at, below_own_at, places_at, lists_at}
 use Rattle.rx_eval.specs.Opening.{drawn_after}
 use Rattle.rx_eval.specs.States.{State, Frame}
+use Rattle.rx_eval.specs.Keeping.{gathers_some}
 
 -- what a child of the last frame inherits
 abbrev pub handed_on : Inherited ℕ ℕ → List Frame → Inherited ℕ ℕ
 handed_on page [] = page
 handed_on page (frame ∷ frames) = handed_on frame.context frames
 
-abbrev pub first_of : Option ℕ → Bool → ℕ → Option ℕ
-first_of None gathers depth = if gathers then Some depth else None
-first_of (Some place) gathers depth = Some place
-
--- an element was opened: its labels have drawn their numbers; its triples are there; it is the last frame; its owners are
--- begun, and what it has stands in their lists
+-- an element was opened: its labels have drawn their numbers; its triples are there; it is the last frame, with its owners
+-- and its text where it gathers that; its owners are begun, and what it has stands in their lists
 pub record Opens (old : State) (facts : Facts) (new : State) : Type 0 where
   pub frame : Frame
   pub fresh : ℕ
@@ -32,7 +29,13 @@ pub record Opens (old : State) (facts : Facts) (new : State) : Type 0 where
   pub start : new.out ≡ old.out ++ start_at new.labels fresh old.base (level_at (length old.frames)) (handed_on old.page old.frames) facts
   pub lists : new.owners ≡ lists_at new.labels fresh old.base (level_at (length old.frames)) (handed_on old.page old.frames) facts old.owners
   pub gathers : is_some frame.text ≡ gathers_at new.labels fresh old.base (level_at (length old.frames)) (handed_on old.page old.frames) facts
-  pub first : new.outermost ≡ first_of old.outermost (is_some frame.text) (length old.frames)
+  pub text :
+      IfSome frame.text
+      (Gathers facts (resources_by new.labels fresh old.base (level_at (length old.frames)) (handed_on old.page old.frames) facts)
+      (places_at new.labels fresh old.base (level_at (length old.frames)) (handed_on old.page old.frames) facts old.owners)
+      (length (encode_utf8_all old.kept)))
+  pub own : frame.own ≡ own_at new.labels fresh old.base (level_at (length old.frames)) (handed_on old.page old.frames) facts (length old.owners)
+  pub below_own : frame.below ≡ below_own_at new.labels fresh old.base (level_at (length old.frames)) (handed_on old.page old.frames) facts (length old.owners)
   pub counted : new.drawn ≡ drawn_after frame.context fresh
   pub rest : (new.base ≡ old.base) × (new.levels ≡ old.levels) × (new.page ≡ old.page) × (new.cells ≡ old.cells) × (new.kept ≡ old.kept) × (new.ended ≡ old.ended) × (new.spent ≡ old.spent)
 
@@ -54,7 +57,6 @@ begun_state base levels = record {
   cells = 2 ^ 61;
   owners = Some (owning (Iri base) []) ∷ [];
   kept = [];
-  outermost = None;
   out = [];
   ended = false;
   spent = false;
@@ -62,4 +64,4 @@ begun_state base levels = record {
 
 -- text is kept while some open element gathers it
 abbrev pub read_text : Chars → State → State
-read_text chars old = record old { kept = (if is_some old.outermost then old.kept ++ chars else old.kept) }
+read_text chars old = record old { kept = (if gathers_some old.frames then old.kept ++ chars else old.kept) }

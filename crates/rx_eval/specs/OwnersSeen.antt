@@ -1,5 +1,5 @@
 -- The owners of lists, as the rules see them.
-use Rattle.std.specs.Prelude.{ℕ, List, [], ◌∷◌, map, Option, Some, None, option_map, option_and_then, slice_get, slice_set, slice_index_or, filter_map}
+use Rattle.std.specs.Prelude.{ℕ, suc, List, [], ◌∷◌, map, length, Option, Some, None, option_map, option_and_then, slice_get, slice_set, slice_index_or, filter_map, bytes_eq, if◌then◌else◌}
 use Rattle.rx_terms.specs.Text.{Chars}
 use Rattle.rx_model.specs.Terms.{Node, Term, Triple}
 use Rattle.rx_model.specs.Seen.{node_seen, term_seen}
@@ -42,6 +42,35 @@ with_item list place term lists =
 
 abbrev pub open_seen : List (Option Owning) → ℕ → Option Owning
 open_seen owners number = option_and_then itself (slice_get owners number)
+
+-- the lists of an owner, none where there is none
+abbrev pub lists_in : Option Owning → Table (Option (Term ℕ))
+lists_in None = []
+lists_in (Some o) = o.lists
+
+-- the place of a predicate's list among those of a table, behind the last where it has none
+abbrev pub list_place : {T : Type 0} → Chars → Table T → ℕ
+list_place predicate [] = 0
+list_place predicate (row ∷ more) = if bytes_eq row.0 predicate then 0 else suc (list_place predicate more)
+
+-- how many items a predicate's list has
+abbrev pub item_count : {T : Type 0} → Chars → Table T → ℕ
+item_count predicate [] = 0
+item_count predicate (row ∷ more) = if bytes_eq row.0 predicate then length row.1 else item_count predicate more
+
+-- the place that the next item of an owner's list takes
+abbrev pub next_place : ℕ → Chars → List (Option Owning) → SlotId
+next_place number predicate owners =
+    record {
+      owner = record { 0 = number };
+      list = list_place predicate (lists_in (open_seen owners number));
+      place = item_count predicate (lists_in (open_seen owners number));
+    }
+
+-- the places of items of some predicates, one after another
+abbrev pub places_for : ℕ → List Chars → List (Option Owning) → List SlotId
+places_for number [] owners = []
+places_for number (p ∷ predicates) owners = next_place number p owners ∷ places_for number predicates (put_at number p (Some None) owners)
 
 abbrev pub fill_seen : ℕ → ℕ → Term ℕ → List (Option Owning) → ℕ → List (Option Owning)
 fill_seen list place term owners number =

@@ -63,7 +63,6 @@ pub record State : Type 0 where
   pub cells : ℕ
   pub owners : List (Option Owning)
   pub kept : Chars
-  pub outermost : Option ℕ
   pub out : List (Triple ℕ)
   pub ended : Bool
   pub spent : Bool

@@ -4,7 +4,7 @@ ghost use Rattle.rx_rdfa.specs.Tables.{put};
 ghost use Rattle.rx_lists.specs.Owners.{changed};
 ghost use Rattle.rx_model.specs.Seen.{term_seen};
 ghost use Rattle.rx_rdfa.specs.Lists.{entry};
-ghost use Rattle.rx_eval.specs.OwnersSeen.{owners_seen, put_entries};
+ghost use Rattle.rx_eval.specs.OwnersSeen.{owners_seen, put_entries, places_for};
 ghost use Rattle.rx_eval.specs.Entries.{put_each, slots_for, put_awaited};
 
 use rx_element::Waiting;
@@ -64,6 +64,7 @@ pub(crate) fn slot_each(
     ensures lists { OnOk result (lists.new ≡ put_each owner.0 (Some None) predicates.now lists.old) }
     ensures seen { OnOk result (owners_seen lists.new ≡ put_entries (map (entry owner.0 (Some None)) predicates.now) (owners_seen lists.old)) }
     ensures slots { IfOk result (λ slots. slots.items ≡ slots_for owner predicates.now lists.old) }
+    ensures places { IfOk result (λ slots. slots.items ≡ places_for owner.0 predicates.now (owners_seen lists.old)) }
 {
     let mut slots = Vec::new(alloc);
     for i in 0..predicates.len() {

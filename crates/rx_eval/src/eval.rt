@@ -4,9 +4,10 @@ ghost use Rattle.std.specs.Str.{chars};
 ghost use Rattle.rx_model.specs.Seen.{triples_seen};
 ghost use Rattle.rx_rdfa.specs.Renaming.{labels as labels_of};
 ghost use Rattle.rx_curie.specs.Seen.{facts_seen};
-ghost use Rattle.rx_eval.specs.Opened.{handed_on, Opens, MayOpen, first_of, begun_state, read_text};
+ghost use Rattle.rx_eval.specs.Keeping.{gathers_some, first_of, is_place};
+ghost use Rattle.rx_eval.specs.Opened.{handed_on, Opens, MayOpen, begun_state, read_text};
 ghost use Rattle.rx_eval.specs.Waits.{Shows};
-ghost use Rattle.rx_eval.specs.Ending.{Closes, is_place};
+ghost use Rattle.rx_eval.specs.Ending.{Closes};
 ghost use Rattle.rx_eval.specs.States.{owner_seen};
 
 use crate::closing::{end_frame, end_owner};
@@ -25,7 +26,8 @@ use std::marker::Model;
 /// The first number of a cell; all other blank nodes have lower ones.
 const CELLS: u64 = 1 << 61;
 
-/// The elements of a page that are open, as their start tags, texts and ends come, and the triples so far.
+/// The elements of a page that are open, as their start tags, texts and ends come, and the triples so far. After want of
+/// memory the value is spent: every call that takes memory answers it again, and so does [`Eval::finish`].
 #[derive(Drop)]
 pub struct Eval {
     alloc: Global,
@@ -46,17 +48,18 @@ pub struct Eval {
 }
 
 impl Model for Eval {
-    ghost use Rattle.std.specs.Prelude.{map, length, ◌≤◌};
+    ghost use Rattle.std.specs.Prelude.{map};
     ghost use Rattle.rx_model.specs.Seen.{triples_seen};
     ghost use Rattle.rx_eval.specs.States.{State, frame_seen};
+    ghost use Rattle.rx_eval.specs.Keeping.{IsSound};
     ghost use Rattle.rx_element.specs.Contexts.{context_seen};
     ghost use Rattle.rx_eval.specs.OwnersSeen.{owners_seen};
 
     ghost Value = { State };
 
-    ghost view = { λ e. record { base = e.base; levels = e.levels; page = context_seen e.page; frames = map frame_seen e.frames.items; labels = e.labels; drawn = e.drawn; cells = e.cells; owners = owners_seen e.lists; kept = e.text; outermost = e.outermost; out = triples_seen e.out; ended = e.ended; spent = e.spent } };
+    ghost view = { λ e. record { base = e.base; levels = e.levels; page = context_seen e.page; frames = map frame_seen e.frames.items; labels = e.labels; drawn = e.drawn; cells = e.cells; owners = owners_seen e.lists; kept = e.text; out = triples_seen e.out; ended = e.ended; spent = e.spent } };
 
-    ghost invariant = { λ e. length e.frames.items ≤ e.levels };
+    ghost invariant = { λ e. IsSound e.levels e.frames.items e.outermost e.text };
 }
 
 impl Eval {
@@ -111,7 +114,8 @@ impl Eval {
         })
     }
 
-    /// A start tag: opens an element inside the innermost one.
+    /// A start tag: opens an element inside the innermost one. The triples of its start are there then, its owners of
+    /// lists are begun, and what it has stands in their lists (RDFa Core 1.1, section 7.5, steps 2 to 13).
     pub fn enter(&mut self, facts: &Facts) -> Result<(), NoMemory>
         requires { self.old.spent ≡ false → MayOpen self.old (facts_seen facts.now) }
         ensures ok { OnOk result (Opens self.old (facts_seen facts.now) self.new) }
@@ -133,12 +137,12 @@ impl Eval {
         ensures ok { OnOk result (self.new ≡ read_text (chars text.now) self.old) }
         ensures unspent { OnOk result (self.old.spent ≡ false) }
         ensures spent { OnErr result (self.new.spent ≡ true) }
-        ensures quiet { self.old.spent ≡ false → self.old.outermost ≡ None → IsOk result }
+        ensures quiet { self.old.spent ≡ false → gathers_some self.old.frames ≡ false → IsOk result }
     {
         if self.spent {
             return Err(NoMemory);
         }
-        if self.outermost.is_none() {
+        if !self.gathers() {
             return Ok(());
         }
         if self.text.push(text).is_err() {
@@ -148,7 +152,9 @@ impl Eval {
         Ok(())
     }
 
-    /// The end of the innermost element.
+    /// The end of the innermost element: the values that are its text, and the lists that end with it (RDFa Core 1.1,
+    /// section 7.5, steps 11 and 14). Want of memory is also the answer where the numbers of blank nodes don't suffice
+    /// for the cells of these lists, one for each place.
     pub fn leave(&mut self) -> Result<(), NoMemory>
         requires { self.old.spent ≡ false → 0 < length self.old.frames }
         ensures ok { OnOk result (Closes self.old self.new) }
@@ -165,7 +171,7 @@ impl Eval {
         Ok(())
     }
 
-    /// The triples of the page, whose root has ended.
+    /// The triples of the page, whose root has ended. Takes no memory; want of memory comes exactly from a spent value.
     pub fn finish(self) -> Result<TripleList, NoMemory>
         ensures ok { IfOk result (λ triples. triples_seen triples ≡ self.out) }
         ensures spent { IsErr result ↔ (self.spent ≡ true) }
@@ -174,6 +180,13 @@ impl Eval {
             return Err(NoMemory);
         }
         Ok(self.out)
+    }
+
+    /// Whether some open element gathers its text.
+    fn gathers(&self) -> bool
+        ensures { result ≡ gathers_some self.now.frames }
+    {
+        self.outermost.is_some()
     }
 
     /// Closes the innermost element: the same, but for want of memory.
@@ -185,6 +198,8 @@ impl Eval {
             unreachable!();
         };
         let depth = self.frames.as_slice().len();
+        let was_outermost = is_place(self.outermost, depth);
+        self.outermost = without(self.outermost, was_outermost);
         let cells = end_frame(
             self.alloc,
             &mut self.out,
@@ -192,12 +207,10 @@ impl Eval {
             &frame,
             &self.text,
             self.cells,
-        )?;
-        let page = page_owner(depth, self.page.owner);
-        self.cells = end_owner(&mut self.out, &mut self.lists, page, cells)?;
-        let was_outermost = is_place(self.outermost, depth);
-        self.outermost = without(self.outermost, was_outermost);
+        );
         forget(&mut self.text, was_outermost);
+        let page = page_owner(depth, self.page.owner);
+        self.cells = end_owner(&mut self.out, &mut self.lists, page, cells?)?;
         self.ended = is_ended(self.ended, depth);
         Ok(())
     }

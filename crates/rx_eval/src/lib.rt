@@ -4,6 +4,8 @@
 //! here stand the frames of the open elements, the owners of lists, and the calls.
 #![tactic(auto)]
 
+ghost use Rattle.rx_eval.specs.Reserving.{ReservedAreFilled};
+
 mod closing;
 mod elements;
 mod entries;
@@ -17,6 +19,12 @@ mod opening;
 pub use eval::Eval;
 pub use inherited::{Direction, Hanging, Inherited};
 pub use rx_element::{Labels, Placed, value_of};
+
+/// A text that takes its places in lists at its end stands where it would have stood, had it been known at its element's
+/// start.
+pub fn reserved_are_filled()
+    ensures { ReservedAreFilled }
+{}
 
 #[cfg(test)]
 mod tests;

@@ -1,11 +1,12 @@
 //! What an element puts into lists at its start.
-ghost use Rattle.std.specs.Prelude.{◌≡◌, OnOk, Some, None, map, option_map, if◌then◌else◌, [], filter_map};
+ghost use Rattle.std.specs.Prelude.{◌≡◌, OnOk, IfOk, Some, None, map, option_map, is_none, if◌then◌else◌, [], ◌++◌, filter_map};
 ghost use Rattle.rx_model.specs.Seen.{node_seen, term_seen};
 ghost use Rattle.rx_curie.specs.Seen.{facts_seen};
 ghost use Rattle.rx_element.specs.Found.{found_seen};
 ghost use Rattle.rx_element.specs.Contexts.{waiting_seen};
-ghost use Rattle.rx_eval.specs.OwnersSeen.{owners_seen, put_entries};
-ghost use Rattle.rx_eval.specs.Listing.{entries_for, linked_entries, awaited_entry, own_entries, entries_in};
+ghost use Rattle.rx_rdfa.specs.Inherited.{listed};
+ghost use Rattle.rx_eval.specs.OwnersSeen.{owners_seen, put_entries, places_for};
+ghost use Rattle.rx_eval.specs.Listing.{entries_for, linked_entries, touched_entries, awaited_entry, own_entries, entries_in, own_places};
 
 use crate::entries::{add_awaited, add_each, slot_each, touch_each};
 use crate::handing::hangs;
@@ -40,7 +41,7 @@ fn put_touched(
     rel: &Option<Iris>,
     waits: bool,
 ) -> Result<(), NoMemory>
-    ensures { OnOk result (owners_seen lists.new ≡ put_entries (if waits then entries_for owner.0 None rel.now else []) (owners_seen lists.old)) }
+    ensures { OnOk result (owners_seen lists.new ≡ put_entries (touched_entries owner.0 rel.now waits) (owners_seen lists.old)) }
 {
     if !waits {
         return Ok(());
@@ -59,7 +60,8 @@ fn put_valued(
     property: &Option<Iris>,
     value: &Option<Term>,
 ) -> Result<Vec<SlotId>, NoMemory>
-    ensures { OnOk result (owners_seen lists.new ≡ put_entries (entries_for owner.0 (Some (option_map term_seen value.now)) property.now) (owners_seen lists.old)) }
+    ensures lists { OnOk result (owners_seen lists.new ≡ put_entries (entries_for owner.0 (Some (option_map term_seen value.now)) property.now) (owners_seen lists.old)) }
+    ensures slots { IfOk result (λ slots. slots.items ≡ (if is_none value.now then places_for owner.0 (listed property.now) (owners_seen lists.old) else [])) }
 {
     let Some(property) = property else {
         return Ok(Vec::new(alloc));
@@ -82,7 +84,8 @@ fn put_own(
     found: &Found,
     value: &Option<Term>,
 ) -> Result<Vec<SlotId>, NoMemory>
-    ensures { OnOk result (owners_seen lists.new ≡ put_entries (own_entries owner.0 (facts_seen facts.now) (found_seen found.now) (option_map term_seen value.now)) (owners_seen lists.old)) }
+    ensures lists { OnOk result (owners_seen lists.new ≡ put_entries (own_entries owner.0 (facts_seen facts.now) (found_seen found.now) (option_map term_seen value.now)) (owners_seen lists.old)) }
+    ensures slots { IfOk result (λ slots. slots.items ≡ (if is_none value.now then own_places owner.0 (facts_seen facts.now) (found_seen found.now) (owners_seen lists.old) else [])) }
 {
     put_linked(lists, owner, &facts.rel, &found.object)?;
     put_touched(lists, owner, &facts.rel, hangs(facts, found))?;
@@ -106,7 +109,8 @@ pub(crate) fn put_all(
     value: &Option<Term>,
     waiting: &[Waiting],
 ) -> Result<Vec<SlotId>, NoMemory>
-    ensures { OnOk result (owners_seen lists.new ≡ put_entries (entries_in owner.0 (facts_seen facts.now) (found_seen found.now) (option_map term_seen value.now) (map waiting_seen waiting.now)) (owners_seen lists.old)) }
+    ensures lists { OnOk result (owners_seen lists.new ≡ put_entries (entries_in owner.0 (facts_seen facts.now) (found_seen found.now) (option_map term_seen value.now) (map waiting_seen waiting.now)) (owners_seen lists.old)) }
+    ensures slots { IfOk result (λ slots. slots.items ≡ (if facts.now.inlist then (if is_none value.now then own_places owner.0 (facts_seen facts.now) (found_seen found.now) (owners_seen lists.old) else []) else [])) }
 {
     let slots = put_listed(alloc, lists, owner, facts, found, value)?;
     put_awaited(lists, waiting, found.subject.node())?;
@@ -122,7 +126,8 @@ fn put_listed(
     found: &Found,
     value: &Option<Term>,
 ) -> Result<Vec<SlotId>, NoMemory>
-    ensures { OnOk result (owners_seen lists.new ≡ put_entries (if facts.now.inlist then own_entries owner.0 (facts_seen facts.now) (found_seen found.now) (option_map term_seen value.now) else []) (owners_seen lists.old)) }
+    ensures lists { OnOk result (owners_seen lists.new ≡ put_entries (if facts.now.inlist then own_entries owner.0 (facts_seen facts.now) (found_seen found.now) (option_map term_seen value.now) else []) (owners_seen lists.old)) }
+    ensures slots { IfOk result (λ slots. slots.items ≡ (if facts.now.inlist then (if is_none value.now then own_places owner.0 (facts_seen facts.now) (found_seen found.now) (owners_seen lists.old) else []) else [])) }
 {
     if !facts.inlist {
         return Ok(Vec::new(alloc));

@@ -6,6 +6,8 @@ use Rattle.rx_element.specs.Contexts.{context_seen}
 use Rattle.rx_element.specs.Found.{found_seen}
 use Rattle.rx_element.specs.Places.{standing}
 use Rattle.rx_eval.specs.OwnersSeen.{owners_seen}
+use Rattle.rx_eval.specs.States.{owner_seen}
+use Rattle.rx_eval.proofs.GatherLemmas.{gathers_found, own_found, below_found, no_own, no_below, no_text}
 use Rattle.rx_eval.proofs.EnterLemmas.{below_is_handed, below_skipped, lists_skipped, lists_entered, gathers_entered, gathers_skipped, gathers_is, ok_then, on_then, on_always}
 use Rattle.rx_eval.proofs.elements.enter.Goals as goal
 
@@ -55,3 +57,36 @@ returns-clause-gathers c =
     let gathers = gathers_entered c.args.place.now.labels.now c.args.place.now.fresh c.args.place.now.base.now (standing c.args.place.now (facts_seen c.args.facts.now))
     (found_seen c.in_ok-started.started.found) c.in_ok-started.ensures.found (option_map term_seen c.in_ok-started.started.value) c.if-started.false c.in_ok-started.ensures.value in
     ok_then c.enter_found.result (λ frame e. e ∙ gathers_is c.in_ok-started.started.value (facts_seen c.args.facts.now) ∙ gathers) c.enter_found.ensures.gathers
+
+pub returns-then-started-clause-text : goal.returns-then-started-clause-text
+returns-then-started-clause-text c = ok_then c.skipped.result (λ frame e. no_text _ frame.gathered e.2) c.skipped.ensures.nothing
+
+pub returns-then-started-clause-own : goal.returns-then-started-clause-own
+returns-then-started-clause-own c =
+    let none = no_own c.args.place.now.labels.now c.args.place.now.fresh c.args.place.now.base.now (standing c.args.place.now (facts_seen c.args.facts.now)) (found_seen c.in_ok-started.started.found)
+    c.in_ok-started.ensures.found (length c.args.lists.now) c.if-started.true in
+    ok_then c.skipped.result (λ frame e. ap (option_map owner_seen) e.0 ∙ none) c.skipped.ensures.nothing
+
+pub returns-then-started-clause-below : goal.returns-then-started-clause-below
+returns-then-started-clause-below c =
+    let none = no_below c.args.place.now.labels.now c.args.place.now.fresh c.args.place.now.base.now (standing c.args.place.now (facts_seen c.args.facts.now)) (found_seen c.in_ok-started.started.found)
+    c.in_ok-started.ensures.found (length c.args.lists.now) c.if-started.true in
+    ok_then c.skipped.result (λ frame e. ap (option_map owner_seen) e.1 ∙ none) c.skipped.ensures.nothing
+
+pub returns-clause-text : goal.returns-clause-text
+returns-clause-text c =
+    let text = gathers_found c.args.place.now.labels.now c.args.place.now.fresh c.args.place.now.base.now (standing c.args.place.now (facts_seen c.args.facts.now)) (found_seen c.in_ok-started.started.found)
+    c.in_ok-started.ensures.found (length c.args.lists.now) (length (owners_seen c.args.lists.now)) c.args.mark (owners_seen c.args.lists.now) in
+    ok_then c.enter_found.result (λ frame e. text frame.gathered (sym (length-map c.args.lists.now _)) e) c.enter_found.ensures.text
+
+pub returns-clause-own : goal.returns-clause-own
+returns-clause-own c =
+    let own = own_found c.args.place.now.labels.now c.args.place.now.fresh c.args.place.now.base.now (standing c.args.place.now (facts_seen c.args.facts.now)) (found_seen c.in_ok-started.started.found)
+    c.in_ok-started.ensures.found (length c.args.lists.now) in
+    ok_then c.enter_found.result (λ frame e. own (option_map owner_seen frame.own) c.if-started.false e) c.enter_found.ensures.own
+
+pub returns-clause-below : goal.returns-clause-below
+returns-clause-below c =
+    let own = below_found c.args.place.now.labels.now c.args.place.now.fresh c.args.place.now.base.now (standing c.args.place.now (facts_seen c.args.facts.now)) (found_seen c.in_ok-started.started.found)
+    c.in_ok-started.ensures.found (length c.args.lists.now) in
+    ok_then c.enter_found.result (λ frame e. own (option_map owner_seen frame.below) c.if-started.false e) c.enter_found.ensures.below

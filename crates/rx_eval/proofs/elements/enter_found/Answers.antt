@@ -1,5 +1,5 @@
 use Rattle.std.proofs.Common.{◌∙◌, ap, ap₂, ℕ, List, length, map, option_map, refl}
-use Rattle.std.specs.Prelude.{Option}
+use Rattle.std.specs.Prelude.{Option, is_some, is_none}
 use Rattle.rx_model.specs.Seen.{node_seen, term_seen}
 use Rattle.rx_curie.specs.Seen.{facts_seen}
 use Rattle.rx_lists.specs.declared.lists.Owner.{Owner}
@@ -8,10 +8,11 @@ use Rattle.rx_element.specs.Found.{found_seen}
 use Rattle.rx_element.specs.Places.{naming, standing}
 use Rattle.rx_element.specs.declared.contexts.Waiting.{Waiting}
 use Rattle.rx_eval.specs.Elements.{handed_by, owner_in}
-use Rattle.rx_eval.specs.Entering.{own_number}
+use Rattle.rx_eval.specs.Entering.{own_number, naming_by}
 use Rattle.rx_eval.specs.OwnersSeen.{Owning, owners_seen, put_entries}
 use Rattle.rx_eval.specs.Listing.{entries_in}
-use Rattle.rx_eval.proofs.EnterLemmas.{handed_is, owners_are, own_is}
+use Rattle.rx_eval.proofs.EnterLemmas.{handed_is, owners_are, own_is, own_seen, below_seen}
+use Rattle.rx_eval.proofs.GatherLemmas.{gathers_places}
 use Rattle.rx_eval.proofs.elements.enter_found.Goals as goal
 
 pub returns-clause-context : goal.returns-clause-context
@@ -27,7 +28,7 @@ pub returns-clause-lists : goal.returns-clause-lists
 returns-clause-lists c =
     let at = standing c.args.place.now (facts_seen c.args.facts.now) in
     let here = found_seen c.args.found.now in
-    c.in_ok-slots.ensures
+    c.in_ok-slots.ensures.lists
     ∙ ap (λ (n : ℕ). put_entries (entries_in n (facts_seen c.args.facts.now) here (option_map term_seen c.args.value.now) (map waiting_seen c.as_slice-waiting.result.now)) (owners_seen c.begin_below.new.lists))
     (ap (λ (o : Owner). o.0) c.owner_or-owner.ensures
     ∙ own_is (naming c.args.place.now) at here c.node-subject.result.now c.node.result.now c.in_ok-object.object (ap node_seen c.node-subject.ensures) (ap node_seen c.node.ensures) c.in_ok-own.own
@@ -36,3 +37,26 @@ returns-clause-lists c =
     c.as_slice-waiting.ensures
     (owners_are (naming c.args.place.now) at here c.node-subject.result.now c.node.result.now c.in_ok-object.object (ap node_seen c.node-subject.ensures) (ap node_seen c.node.ensures) c.args.lists.now c.begin.new.lists
     c.begin_below.new.lists c.in_ok-object.ensures c.in_ok-own.ensures.lists c.in_ok-below.ensures.lists)
+
+pub returns-clause-own : goal.returns-clause-own
+returns-clause-own c =
+    own_seen (naming c.args.place.now) (standing c.args.place.now (facts_seen c.args.facts.now)) (found_seen c.args.found.now) c.node-subject.result.now c.node.result.now c.in_ok-object.object
+    (ap node_seen c.node-subject.ensures) (ap node_seen c.node.ensures) c.in_ok-own.own (length c.args.lists.now) c.in_ok-own.ensures.owner
+
+pub returns-clause-below : goal.returns-clause-below
+returns-clause-below c =
+    below_seen (naming c.args.place.now) (standing c.args.place.now (facts_seen c.args.facts.now)) (found_seen c.args.found.now) c.node-subject.result.now c.node.result.now c.in_ok-object.object
+    (ap node_seen c.node-subject.ensures) (ap node_seen c.node.ensures) c.in_ok-below.below c.args.lists.now c.begin.new.lists c.in_ok-object.ensures c.in_ok-own.ensures.lists c.in_ok-below.ensures.owner
+
+pub returns-clause-text : goal.returns-clause-text
+returns-clause-text c =
+    let at = standing c.args.place.now (facts_seen c.args.facts.now) in
+    let here = found_seen c.args.found.now in
+    gathers_places (naming_by c.args.place.now.labels.now c.args.place.now.fresh at here (length c.args.lists.now)) at here c.owner_or-owner.result.0 c.args.mark (is_some c.args.facts.now.property)
+    (is_none c.args.value.now) c.in_ok-slots.slots.items (owners_seen c.begin_below.new.lists) _ c.in_ok-gathered.gathered
+    (ap (λ (o : Owner). o.0) c.owner_or-owner.ensures
+    ∙ own_is (naming c.args.place.now) at here c.node-subject.result.now c.node.result.now c.in_ok-object.object (ap node_seen c.node-subject.ensures) (ap node_seen c.node.ensures) c.in_ok-own.own
+    c.args.place.now.around.now.owner (length c.args.lists.now) refl c.in_ok-own.ensures.owner)
+    (owners_are (naming c.args.place.now) at here c.node-subject.result.now c.node.result.now c.in_ok-object.object (ap node_seen c.node-subject.ensures) (ap node_seen c.node.ensures) c.args.lists.now c.begin.new.lists
+    c.begin_below.new.lists c.in_ok-object.ensures c.in_ok-own.ensures.lists c.in_ok-below.ensures.lists)
+    c.in_ok-gathered.ensures.some c.in_ok-slots.ensures.slots c.in_ok-gathered.ensures.what

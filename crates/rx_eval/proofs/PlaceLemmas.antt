@@ -1,0 +1,167 @@
+-- Places in lists: one that is there stays where it is when lists grow.
+use Rattle.std.proofs.Common.{◌≡◌, ◌∙◌, ℕ, zero, suc, ◌<◌, List, [], ◌∷◌, ◌++◌, map, length, Option, Some, None, option_to_list, slice_set, bytes_eq, refl, sym, ap, ap₂, arith, length-append}
+use Rattle.rx_terms.specs.Text.{Chars}
+use Rattle.rx_model.specs.Terms.{Term}
+use Rattle.rx_rdfa.specs.Tables.{Table, put}
+use Rattle.rx_rdfa.specs.Lists.{entry}
+use Rattle.rx_lists.specs.declared.lists.SlotId.{SlotId}
+use Rattle.rx_element.proofs.LabelLemmas.{by_test}
+use Rattle.rx_eval.specs.Listing.{Entries}
+use Rattle.rx_eval.specs.OwnersSeen.{Owning, owning, lists_in, open_seen, list_place, item_count, next_place, places_for, put_at, put_entries, with_item, fill_seen, fill_all}
+use Rattle.rx_eval.specs.Reserving.{ReservedAreFilled}
+
+abbrev Items : Type 0
+Items = Table (Option (Term ℕ))
+
+-- ---- in one table
+
+-- there is an item at the place
+abbrev pub Has : ℕ → ℕ → Items → Type 0
+Has l i [] = ⊥
+Has zero i (row ∷ t) = i < length row.1
+Has (suc l) i (row ∷ t) = Has l i t
+
+set_end : {A : Type 0} (xs : List A) (x y : A) → slice_set (xs ++ x ∷ []) (length xs) y ≡ xs ++ y ∷ []
+set_end [] x y = refl
+set_end (z ∷ xs) x y = ap (λ (l : List _). z ∷ l) (set_end xs x y)
+
+set_front : {A : Type 0} (xs ys : List A) (i : ℕ) (x : A) → i < length xs → slice_set (xs ++ ys) i x ≡ slice_set xs i x ++ ys
+set_front [] ys i x h = absurd (omega arith)
+set_front (z ∷ xs) ys zero x h = refl
+set_front (z ∷ xs) ys (suc i) x h = ap (λ (l : List _). z ∷ l) (set_front xs ys i x (omega arith))
+
+set_length : {A : Type 0} (xs : List A) (i : ℕ) (x : A) → length (slice_set xs i x) ≡ length xs
+set_length [] i x = refl
+set_length (z ∷ xs) zero x = refl
+set_length (z ∷ xs) (suc i) x = ap suc (set_length xs i x)
+
+-- an item that is reserved and filled is the item
+put_filled : (p : Chars) (v : Term ℕ) (t : Items) → with_item (list_place p t) (item_count p t) v (put p (Some None) t) ≡ put p (Some (Some v)) t
+put_filled p v [] = refl
+put_filled p v (row ∷ t) =
+    by_test (bytes_eq row.0 p) (λ e. rw e (ap (λ (l : List (Option (Term ℕ))). (row.0, l) ∷ t) (set_end row.1 None (Some v))))
+    (λ e. rw e (ap (λ (l : Items). row ∷ l) (put_filled p v t)))
+
+-- what was put is there
+has_put : (p : Chars) (x : Option (Term ℕ)) (t : Items) → Has (list_place p t) (item_count p t) (put p (Some x) t)
+has_put p x [] = omega arith
+has_put p x (row ∷ t) =
+    by_test (bytes_eq row.0 p) (λ e. rw e (let n = length-append row.1 (x ∷ []) in omega (arith, n))) (λ e. rw e (has_put p x t))
+
+-- what is there stays
+has_still : (p : Chars) (item : Option (Option (Term ℕ))) (l i : ℕ) (t : Items) → Has l i t → Has l i (put p item t)
+has_still p item l i [] h = absurd h
+has_still p item zero i (row ∷ t) h =
+    by_test (bytes_eq row.0 p) (λ e. rw e (let n = length-append row.1 (option_to_list item) in omega (arith, n, h))) (λ e. rw e h)
+has_still p item (suc l) i (row ∷ t) h = by_test (bytes_eq row.0 p) (λ e. rw e h) (λ e. rw e (has_still p item l i t h))
+
+fill_put : (p : Chars) (item : Option (Option (Term ℕ))) (v : Term ℕ) (l i : ℕ) (t : Items) → Has l i t → with_item l i v (put p item t) ≡ put p item (with_item l i v t)
+fill_put p item v l i [] h = absurd h
+fill_put p item v zero i (row ∷ t) h =
+    by_test (bytes_eq row.0 p) (λ e. rw e (ap (λ (s : List (Option (Term ℕ))). (row.0, s) ∷ t) (set_front row.1 (option_to_list item) i (Some v) h))) (λ e. rw e refl)
+fill_put p item v (suc l) i (row ∷ t) h = by_test (bytes_eq row.0 p) (λ e. rw e refl) (λ e. rw e (ap (λ (s : Items). row ∷ s) (fill_put p item v l i t h)))
+
+same_place : (p : Chars) (v : Term ℕ) (l i : ℕ) (t : Items) → list_place p (with_item l i v t) ≡ list_place p t
+same_place p v l i [] = refl
+same_place p v zero i (row ∷ t) = refl
+same_place p v (suc l) i (row ∷ t) = by_test (bytes_eq row.0 p) (λ e. rw e refl) (λ e. rw e (ap suc (same_place p v l i t)))
+
+same_count : (p : Chars) (v : Term ℕ) (l i : ℕ) (t : Items) → item_count p (with_item l i v t) ≡ item_count p t
+same_count p v l i [] = refl
+same_count p v zero i (row ∷ t) = by_test (bytes_eq row.0 p) (λ e. rw e (set_length row.1 i (Some v))) (λ e. rw e refl)
+same_count p v (suc l) i (row ∷ t) = by_test (bytes_eq row.0 p) (λ e. rw e refl) (λ e. rw e (same_count p v l i t))
+
+-- ---- among the owners
+
+abbrev Many : Type 0
+Many = List (Option Owning)
+
+-- the owner, where it is there, has an item at the place
+abbrev pub HasIn : ℕ → ℕ → ℕ → Many → Type 0
+HasIn n l i [] = Unit {0}
+HasIn zero l i (None ∷ os) = Unit {0}
+HasIn zero l i (Some o ∷ os) = Has l i o.lists
+HasIn (suc n) l i (o ∷ os) = HasIn n l i os
+
+abbrev fill_in : ℕ → ℕ → ℕ → Term ℕ → Many → Many
+fill_in n l i v os = fill_seen l i v os n
+
+-- the place that an owner's next item takes, as numbers
+abbrev list_at : ℕ → Chars → Many → ℕ
+list_at n p os = list_place p (lists_in (open_seen os n))
+
+abbrev count_at : ℕ → Chars → Many → ℕ
+count_at n p os = item_count p (lists_in (open_seen os n))
+
+filled_at : (n : ℕ) (p : Chars) (v : Term ℕ) (os : Many) → fill_in n (list_at n p os) (count_at n p os) v (put_at n p (Some None) os) ≡ put_at n p (Some (Some v)) os
+filled_at n p v [] = refl
+filled_at zero p v (None ∷ os) = refl
+filled_at zero p v (Some o ∷ os) = ap (λ (t : Items). Some (owning o.subject t) ∷ os) (put_filled p v o.lists)
+filled_at (suc n) p v (o ∷ os) = ap (λ (l : Many). o ∷ l) (filled_at n p v os)
+
+has_at : (n : ℕ) (p : Chars) (x : Option (Term ℕ)) (os : Many) → HasIn n (list_at n p os) (count_at n p os) (put_at n p (Some x) os)
+has_at n p x [] = tt
+has_at zero p x (None ∷ os) = tt
+has_at zero p x (Some o ∷ os) = has_put p x o.lists
+has_at (suc n) p x (o ∷ os) = has_at n p x os
+
+still_at : (m : ℕ) (p : Chars) (item : Option (Option (Term ℕ))) (n l i : ℕ) (os : Many) → HasIn n l i os → HasIn n l i (put_at m p item os)
+still_at m p item n l i [] h = tt
+still_at zero p item zero l i (None ∷ os) h = tt
+still_at zero p item zero l i (Some o ∷ os) h = has_still p item l i o.lists h
+still_at zero p item (suc n) l i (o ∷ os) h = h
+still_at (suc m) p item zero l i (None ∷ os) h = tt
+still_at (suc m) p item zero l i (Some o ∷ os) h = h
+still_at (suc m) p item (suc n) l i (o ∷ os) h = still_at m p item n l i os h
+
+fill_past : (m : ℕ) (p : Chars) (item : Option (Option (Term ℕ))) (n l i : ℕ) (v : Term ℕ) (os : Many) → HasIn n l i os → fill_in n l i v (put_at m p item os) ≡ put_at m p item (fill_in n l i v os)
+fill_past m p item n l i v [] h = refl
+fill_past zero p item zero l i v (None ∷ os) h = refl
+fill_past zero p item zero l i v (Some o ∷ os) h = ap (λ (t : Items). Some (owning o.subject t) ∷ os) (fill_put p item v l i o.lists h)
+fill_past zero p item (suc n) l i v (o ∷ os) h = refl
+fill_past (suc m) p item zero l i v (None ∷ os) h = refl
+fill_past (suc m) p item zero l i v (Some o ∷ os) h = refl
+fill_past (suc m) p item (suc n) l i v (o ∷ os) h = ap (λ (x : Many). o ∷ x) (fill_past m p item n l i v os h)
+
+-- filling doesn't move the next place
+list_same : (m : ℕ) (p : Chars) (n l i : ℕ) (v : Term ℕ) (os : Many) → list_at m p (fill_in n l i v os) ≡ list_at m p os
+list_same m p n l i v [] = refl
+list_same m p zero l i v (None ∷ os) = refl
+list_same zero p zero l i v (Some o ∷ os) = same_place p v l i o.lists
+list_same (suc m) p zero l i v (Some o ∷ os) = refl
+list_same zero p (suc n) l i v (o ∷ os) = refl
+list_same (suc m) p (suc n) l i v (o ∷ os) = list_same m p n l i v os
+
+count_same : (m : ℕ) (p : Chars) (n l i : ℕ) (v : Term ℕ) (os : Many) → count_at m p (fill_in n l i v os) ≡ count_at m p os
+count_same m p n l i v [] = refl
+count_same m p zero l i v (None ∷ os) = refl
+count_same zero p zero l i v (Some o ∷ os) = same_count p v l i o.lists
+count_same (suc m) p zero l i v (Some o ∷ os) = refl
+count_same zero p (suc n) l i v (o ∷ os) = refl
+count_same (suc m) p (suc n) l i v (o ∷ os) = count_same m p n l i v os
+
+pub places_same : (m : ℕ) (ps : List Chars) (n l i : ℕ) (v : Term ℕ) (os : Many) → HasIn n l i os → places_for m ps (fill_in n l i v os) ≡ places_for m ps os
+places_same m [] n l i v os h = refl
+places_same m (p ∷ ps) n l i v os h =
+    ap₂ (λ (a b : ℕ). record { owner = record { 0 = m }; list = a; place = b } ∷ places_for m ps (put_at m p (Some None) (fill_in n l i v os))) (list_same m p n l i v os) (count_same m p n l i v os)
+    ∙ ap (λ (x : List SlotId). next_place m p os ∷ x)
+    (ap (places_for m ps) (sym (fill_past m p (Some None) n l i v os h)) ∙ places_same m ps n l i v (put_at m p (Some None) os) (still_at m p (Some None) n l i os h))
+
+pub fill_past_all : (entries : Entries) (n l i : ℕ) (v : Term ℕ) (os : Many) → HasIn n l i os → fill_in n l i v (put_entries entries os) ≡ put_entries entries (fill_in n l i v os)
+fill_past_all [] n l i v os h = refl
+fill_past_all (e ∷ entries) n l i v os h =
+    fill_past_all entries n l i v (put_at e.owner e.predicate e.item os) (still_at e.owner e.predicate e.item n l i os h)
+    ∙ ap (put_entries entries) (fill_past e.owner e.predicate e.item n l i v os h)
+
+pub reserved_are_filled : ReservedAreFilled
+reserved_are_filled n [] more os v = refl
+reserved_are_filled n (p ∷ ps) more os v =
+    let reserved : Many = put_at n p (Some None) os in
+    let has = has_at n p None os in
+    let filled = filled_at n p v os in
+    ap (fill_all (places_for n ps reserved) v)
+    (fill_past_all (map (entry n (Some None)) ps ++ more) n (list_at n p os) (count_at n p os) v reserved has
+    ∙ ap (put_entries (map (entry n (Some None)) ps ++ more)) filled)
+    ∙ ap (λ (s : List SlotId). fill_all s v (put_entries (map (entry n (Some None)) ps ++ more) (put_at n p (Some (Some v)) os)))
+    (sym (places_same n ps n (list_at n p os) (count_at n p os) v reserved has) ∙ ap (places_for n ps) filled)
+    ∙ reserved_are_filled n ps more (put_at n p (Some (Some v)) os) v

@@ -1,0 +1,6 @@
+use Rattle.std.proofs.Common.{◌∙◌, sym}
+use Rattle.rx_eval.proofs.KeepLemmas.{gathers_is}
+use Rattle.rx_eval.proofs.eval.Eval.gathers.Goals as goal
+
+pub returns : goal.returns
+returns c = rw (← c.self.view_is) (c.is_some.ensures ∙ sym (gathers_is c.self.inside.levels c.self.inside.frames.items c.self.inside.outermost c.self.inside.text c.self.invariant))

@@ -1,0 +1,30 @@
+-- Which text is kept: all that comes while some open element gathers its own.
+use Rattle.std.specs.Prelude.{◌≡◌, ◌≤◌, ◌==◌, ℕ, suc, Bool, false, List, [], ◌∷◌, length, Option, Some, None, is_some, option_map, if◌then◌else◌}
+use Rattle.std.specs.List.{list_any}
+use Rattle.rx_terms.specs.Text.{Chars}
+use Rattle.rx_eval.specs.States.{Frame}
+use Rattle.rx_eval.specs.declared.frames.Frame.{Frame as CodeFrame}
+
+-- some open element gathers its text
+abbrev pub gathers_some : List Frame → Bool
+gathers_some frames = list_any (λ f. is_some f.text) frames
+
+-- the place of the outermost frame that gathers
+abbrev pub first_gathering : List CodeFrame → Option ℕ
+first_gathering [] = None
+first_gathering (frame ∷ frames) = if is_some frame.gathered then Some 0 else option_map suc (first_gathering frames)
+
+-- that place, when one more frame is there
+abbrev pub first_of : Option ℕ → Bool → ℕ → Option ℕ
+first_of None gathers depth = if gathers then Some depth else None
+first_of (Some place) gathers depth = Some place
+
+abbrev pub is_place : Option ℕ → ℕ → Bool
+is_place None n = false
+is_place (Some m) n = m == n
+
+-- the frames have their levels; the place of the outermost frame that gathers is known; where none gathers, nothing is kept
+pub record IsSound (levels : ℕ) (frames : List CodeFrame) (outermost : Option ℕ) (kept : Chars) : Type 0 where
+  pub room : length frames ≤ levels
+  pub first : outermost ≡ first_gathering frames
+  pub quiet : outermost ≡ None → kept ≡ []
