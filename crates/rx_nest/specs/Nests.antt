@@ -181,10 +181,12 @@ own_left (Some other) = 1
 abbrev pub left : Owed → ℕ
 left owed = owed.ends + own_left owed.own
 
--- How much of the piece was taken: all of it where there is nothing yet, and else a byte at least, or something that was due is told.
+-- How much of the piece was taken: all of it where there is nothing yet, and then nothing is due before or after; and else a byte at least, or
+-- something that was due is told.
 pub record Takes (piece : List ℕ) (n : ℕ) (is_nothing : Bool) (old new : Owed) : Type 0 where
   pub fits : n ≤ length piece
   pub all : is_nothing ≡ true → n ≡ length piece
+  pub due : is_nothing ≡ true → (left old ≡ 0) × (left new ≡ 0)
   pub some : is_nothing ≡ false → (0 < n) ⊎ ((n ≡ 0) × (left new < left old))
 
 -- Whatever it stands for: it answers only where neither a fault nor want of memory was answered; a fault comes again, and want of memory.

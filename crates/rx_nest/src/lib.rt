@@ -14,3 +14,6 @@ pub use nests::{Event, Nest};
 pub use rx_grammar::{Content, Fault, Kind, Limits, RawName};
 pub use rx_scan::Syntax;
 pub use rx_tags::{Stop, Tag};
+
+#[cfg(test)]
+mod tests;

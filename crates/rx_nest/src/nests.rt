@@ -138,9 +138,10 @@ impl Nest {
     /// Takes bytes of the piece, and tells how many, and what the page's tree has next: up to the end of a token, or all
     /// of them; or none where the last tag still tells something, as the end of an element whose end tag is omitted.
     ///
-    /// `More` comes only where the whole piece was taken. Each other event takes a byte, or lowers the number of those
-    /// that the last tag still tells. A fault comes exactly where the page has one in the bytes so far, and then at each
-    /// later call; it is the page's fault, whatever follows. After want of memory nothing else is answered.
+    /// `More` comes only where the whole piece was taken and the last tag tells no more. Each other event takes a byte, or
+    /// lowers the number of those that the last tag still tells. A fault comes exactly where the page has one in the bytes
+    /// so far, and then at each later call; it is the page's fault, whatever follows. After want of memory nothing else is
+    /// answered.
     pub fn step(&mut self, piece: &[u8]) -> Result<(usize, Event<'_>), Stop>
         ensures* after { sem 𝓛 (Rests the_row self.entry (λ new. nests.Keeps self.old piece.now result new × ((syntax : syntaxes.Syntax) (limits : limit.Limits) (bytes : List ℕ) (signs : List Sign) → nests.Stands syntax limits self.old bytes signs → nests.StepGives syntax limits bytes signs piece.now result new))) }
     {
