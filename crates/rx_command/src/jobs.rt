@@ -114,16 +114,6 @@ impl Job {
         }
     }
 
-    /// The name of the page.
-    pub(crate) fn page(&self) -> &Text
-        ensures { result.now ≡ (asked_by self.now).page }
-    {
-        match self {
-            Job::Extract { page, .. } => page,
-            Job::Check { page, .. } => page,
-        }
-    }
-
     /// The name of the context file.
     pub(crate) fn context(&self) -> Option<&Text>
         ensures { text_in result ≡ (asked_by self.now).context }

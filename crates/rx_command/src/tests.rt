@@ -29,6 +29,12 @@ const NOT_BUILT: Status = Status::Refused(Fault {
     at: 0,
 });
 
+const MISMATCH: Status = Status::Refused(Fault {
+    kind: Kind::OfPage(rx_nest::Kind::Mismatch),
+    token: 10,
+    at: 16,
+});
+
 const EXTRACT: &[&str] = &["extract", "--base", "http://h.example/d", "page.html"];
 
 fn failing(alloc: Global, number: u64) -> Result<Vec<u64>, Fail> {
@@ -157,11 +163,19 @@ fn worked_rows(rt: HostRuntime) -> Result<(), Fail> {
         },
         Row {
             words: &["check", "page.html"],
-            shelf: (10_000, 0),
+            shelf: (7, 0),
+            out: (2, 0),
+            status: Status::Done,
+            written: b"ok\n",
+            said: b"",
+        },
+        Row {
+            words: &["check", "--syntax", "xhtml", "other.html"],
+            shelf: (3, 0),
             out: (10, 0),
-            status: NOT_BUILT,
+            status: MISMATCH,
             written: b"",
-            said: b"refused: NotBuilt at byte 0 in token 0\n",
+            said: b"refused: Mismatch at byte 16 in token 10\n",
         },
         Row {
             words: &[
@@ -174,9 +188,9 @@ fn worked_rows(rt: HostRuntime) -> Result<(), Fail> {
             ],
             shelf: (10_000, 0),
             out: (10, 0),
-            status: NOT_BUILT,
-            written: b"",
-            said: b"refused: NotBuilt at byte 0 in token 0\n",
+            status: Status::Done,
+            written: b"ok\n",
+            said: b"",
         },
         Row {
             words: &["check", "--context", "list.json", "page.html"],
