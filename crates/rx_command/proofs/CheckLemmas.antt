@@ -1,12 +1,15 @@
 -- A page that is checked as its bytes come.
-use Rattle.std.proofs.Common.{◌≡◌, ◌∙◌, ℕ, zero, suc, ◌+◌, ◌-◌, ◌≤◌, ◌<◌, List, [], ◌∷◌, ◌++◌, length, take, drop, sym, ap, subst, refl, arith, Option, Some, None, Result, Ok, Err, append_assoc, append-nil, length-append, length-take}
+use Rattle.std.proofs.Common.{◌≡◌, ◌∙◌, ℕ, zero, suc, Bool, true, false, ◌+◌, ◌-◌, ◌≤◌, ◌<◌, List, [], ◌∷◌, ◌++◌, length, take, drop, sym, ap, subst, refl, arith, Option, Some, None, Result, Ok, Err, append_assoc, append-nil, length-append, length-take}
 use Rattle.rx_chars.specs.declared.syntax.Syntax.{Syntax}
 use Rattle.rx_grammar.specs.declared.faults.Fault.{Fault}
 use Rattle.rx_grammar.specs.declared.limits.Limits.{Limits}
 use Rattle.rx_grammar.specs.PageFaults.{FaultAt}
 use Rattle.rx_tags.specs.declared.stops.Stop.{Stop}
 use Rattle.rx_tags.specs.declared.stops.Stop.TheVariants as stop
-use Rattle.rx_pages.specs.PageReader.{Progress}
+use Rattle.rx_grammar.specs.declared.faults.Kind.TheVariants.{Unended}
+use Rattle.rx_pages.specs.PageReader.{Progress, page_read, end_of, may_end, fault_in, no_page}
+use Rattle.rx_pages.proofs.FaultsRead.{fault_is_read}
+use Rattle.std.specs.Prelude.{if◌then◌else◌}
 use Rattle.rx_nest.specs.declared.nests.Event.{Event}
 use Rattle.rx_nest.specs.Signs.{Sign}
 use Rattle.rx_nest.specs.Nests.{Nested, Stands, Stepped, StepGives, Faults}
@@ -17,7 +20,7 @@ use Rattle.rx_ports.proofs.MoveLemmas.{moves_then, moves_weaker}
 use Rattle.rx_command.specs.declared.checks.CheckError.{CheckError}
 use Rattle.rx_command.specs.declared.checks.CheckError.TheVariants as error
 use Rattle.rx_command.specs.Files.{HasRead}
-use Rattle.rx_command.specs.Checks.{standard, Reached, TurnGives, FeedGives, Adds, NextGives, EndGives, Checks, Finds, CheckGives}
+use Rattle.rx_command.specs.Checks.{standard, Reached, TurnGives, FeedGives, Adds, AddsNone, NextGives, EndGives, Checks, Finds, ReadsClean, CheckGives}
 
 pub limits_are : (l : Limits) → l.depth ≡ 512 → l.tag ≡ 1048576 → l.page ≡ 1073741824 → l ≡ standard
 limits_are l d t p = ap (λ x. record { depth = x; tag = l.tag; page = l.page }) d ∙ (ap (λ x. record { depth = 512; tag = x; page = l.page }) t ∙ ap (λ x. record { depth = 512; tag = 1048576; page = x }) p)
@@ -129,6 +132,29 @@ more_so_far syntax name v w n k before now later s g =
 pub not_longer : (syntax : Syntax) (v : Nested) (bytes : List ℕ) → Reached syntax v bytes → length bytes ≤ 1073741824
 not_longer syntax v bytes r = (read_size syntax standard bytes (record { now = r.stands.at.now; told = r.stands.told }) r.stands.at.read).1
 
+-- bytes that were read without a fault hold none but that they end
+end_kind : (p : Progress) (b : Bool) (fault : Fault) → ◌≡◌ {A = Result Progress Fault} (if b then Ok p else Err (fault_in p.now.scan Unended)) (Err fault) → fault.kind ≡ Unended
+end_kind p true fault e = absurd (cc)
+end_kind p false fault e = let same : fault_in p.now.scan Unended ≡ fault = cc in sym (ap (λ (f : Fault). f.kind) same)
+
+pub no_fault : (syntax : Syntax) (bytes : List ℕ) (p : Progress) → page_read syntax standard bytes ≡ Ok p → (fault : Fault) → FaultAt syntax standard bytes fault → fault.kind ≡ Unended
+no_fault syntax bytes p h fault is = end_kind p (may_end p.now) fault (sym (ap end_of h) ∙ fault_is_read syntax standard bytes fault is)
+
+clean_of : (syntax : Syntax) (v : Nested) (bytes : List ℕ) → Reached syntax v bytes → (fault : Fault) → FaultAt syntax standard bytes fault → fault.kind ≡ Unended
+clean_of syntax v bytes r = no_fault syntax bytes (record { now = r.stands.at.now; told = r.stands.told }) r.stands.at.read
+
+some_file : (a b : List ℕ) → ◌≡◌ {A = Option (List ℕ)} (Some a) (Some b) → a ≡ b
+some_file a b e = cc
+
+read_clean : (syntax : Syntax) (name : List ℕ) (v : Nested) (bytes : List ℕ) (x y z : Told) → HasRead name bytes x y → AddsNone y z → Reached syntax v bytes → ReadsClean syntax name x z
+read_clean syntax name v bytes x y z h a r file f =
+    record { bytes = bytes; rest = y.left; are = some_file file (bytes ++ y.left) (sym f ∙ h.file); taken = omega (arith, h.taken, a.taken); clean = clean_of syntax v bytes r }
+
+-- nothing was read of the file
+pub unread_clean : (syntax : Syntax) (name : List ℕ) (x y : Told) → y.taken ≤ x.taken → ReadsClean syntax name x y
+unread_clean syntax name x y t file f =
+    record { bytes = []; rest = file; are = refl; taken = omega (arith, t); clean = no_fault syntax [] (record { now = no_page; told = [] }) refl }
+
 -- the first fault
 found : (syntax : Syntax) (name bytes more : List ℕ) (fault : Fault) (x y z : Told) → HasRead name bytes x y → Adds more y z → length more ≤ 65536 → Faults syntax standard bytes more fault → Finds syntax name fault x z
 found syntax name bytes more fault x y z h a small f =
@@ -137,7 +163,7 @@ found syntax name bytes more fault x y z h a small f =
 
 pub next_found : (syntax : Syntax) (name : List ℕ) (v w : Nested) (n : ℕ) (e : CheckError) (before now later : Option Told) (s : SoFar syntax name v n before now) → NextGives syntax s.bytes (Err e) w now later → CheckGives syntax name (Err e) before later
 next_found syntax name v w n (error.Refused fault) before now later s g = moves_then (Finds syntax name fault) (λ x y z h a. found syntax name s.bytes g.0 fault x y z h a g.1 g.2) s.read g.3
-next_found syntax name v w n error.Failed before now later s g = tt
+next_found syntax name v w n error.Failed before now later s g = moves_then (ReadsClean syntax name) (λ x y z h a file f. read_clean syntax name v s.bytes x y z h a s.reached file f) s.read g
 next_found syntax name v w n error.NoMemory before now later s g = tt
 
 -- the file's end
@@ -169,5 +195,5 @@ pub file_ends : (syntax : Syntax) (name : List ℕ) (v w : Nested) (n k : ℕ) (
 file_ends syntax name v w n k before now later s g none (Ok done) e = moves_then (Checks syntax name) (λ x y z h a. ends_so syntax name s.bytes g.0 x y z h a (nothing_more g.0 (g.1 ∙ none)) (Ok done) e) s.read g.3
 file_ends syntax name v w n k before now later s g none (Err (error.Refused fault)) e =
     moves_then (Finds syntax name fault) (λ x y z h a. ends_so syntax name s.bytes g.0 x y z h a (nothing_more g.0 (g.1 ∙ none)) (Err (error.Refused fault)) e) s.read g.3
-file_ends syntax name v w n k before now later s g none (Err error.Failed) e = tt
-file_ends syntax name v w n k before now later s g none (Err error.NoMemory) e = tt
+file_ends syntax name v w n k before now later s g none (Err error.Failed) e = absurd e
+file_ends syntax name v w n k before now later s g none (Err error.NoMemory) e = absurd e

@@ -11,12 +11,13 @@ use Rattle.rx_grammar.specs.declared.faults.Fault.{Fault as Found}
 use Rattle.rx_command.specs.declared.statuses.Fault.{Fault}
 use Rattle.rx_command.specs.Words.{Asked, Task, extracts, checks}
 use Rattle.rx_command.specs.Page.{IsPage}
-use Rattle.rx_command.specs.Checks.{Checks, Finds}
+use Rattle.rx_command.specs.Checks.{Checks, Finds, ReadsClean}
+use Rattle.rx_command.proofs.CheckLemmas.{unread_clean}
 use Rattle.rx_command.specs.Files.{ReadsFile, TakesOf, size_of}
 use Rattle.rx_command.specs.Contexts.{IsContextFile, HasContext, TakesContext, ReadsContext, context_size, is_context}
-use Rattle.rx_command.specs.Inputs.{PageText, PageRefused, ReadsToFault, JobText, JobRefused, TellsThat, WhereTold}
+use Rattle.rx_command.specs.Inputs.{PageText, PageRefused, ReadsToFault, StopsClean, JobText, JobRefused, TellsThat, WhereTold}
 use Rattle.rx_command.specs.Outcome.{IsLacking, IsNotBuilt, HasText, Denotes, IsRight, ok_line, page_fault, not_built}
-use Rattle.rx_command.specs.Runs.{TakesFiles, page_limit}
+use Rattle.rx_command.specs.Runs.{TakesFiles, StopsCleanly, page_limit}
 
 -- ---- the context file
 
@@ -169,3 +170,27 @@ pub if_job : {V E : Type 0} (items : V → List ℕ) (r : Result V E) (asked : A
     → IfOk r (λ text. Moves (PageText asked.task (encode_utf8_all asked.page) (items text)) mid now) → IfOk r (λ text. Moves (JobText asked (items text)) told now)
 if_job items (Ok text) asked file told mid now e m p = moves_then (JobText asked (items text)) (λ x y z c t. job_text asked file (items text) e x y z c t) m p
 if_job items (Err error) asked file told mid now e m p = tt
+
+-- ---- where a read failed
+
+stops_at : (task : Task) (name : List ℕ) (x y : Told) (before : ℕ) → y.taken ≤ before → StopsClean task name before x y
+stops_at (extracts address) name x y before t = tt
+stops_at (checks syntax) name x y before t = λ file f.
+    let c = unread_clean syntax name (record { files = x.files; left = x.left; taken = before }) y t file f in
+    record { bytes = c.bytes; rest = c.rest; are = c.are; taken = c.taken; clean = c.clean }
+
+-- the context file
+pub context_stops : (asked : Asked) (file : Option (List ℕ)) → file ≡ asked.context → (x y : Told) → TakesContext file x y → StopsCleanly (Some asked) x y
+context_stops asked file e x y t = let m : TakesContext asked.context x y = subst (λ f. TakesContext f x y) e t in stops_at asked.task (encode_utf8_all asked.page) x y (x.taken + context_size asked.context x) m.size
+
+-- the page
+pub page_stops : (asked : Asked) (file : Option (List ℕ)) (syntax : Syntax) → file ≡ asked.context → asked.task ≡ checks syntax → (x y z : Told) → ReadsContext file x y → ReadsClean syntax (encode_utf8_all asked.page) y z → StopsCleanly (Some asked) x z
+page_stops asked file syntax e is x y z c r =
+    let size : y.taken ≤ x.taken + context_size asked.context x = subst (λ f. y.taken ≤ x.taken + context_size f x) e c.takes.size in
+    subst (λ task. StopsClean task (encode_utf8_all asked.page) (x.taken + context_size asked.context x) x z) (sym is)
+    (λ file_bytes f.
+    let k = r file_bytes (ap (λ g. file_of g (encode_utf8_all asked.page)) c.takes.files ∙ f) in
+    record { bytes = k.bytes; rest = k.rest; are = k.are; taken = omega (arith, k.taken, size); clean = k.clean })
+
+pub extract_stops : (asked : Asked) (address : List ℕ) → asked.task ≡ extracts address → (x z : Told) → StopsCleanly (Some asked) x z
+extract_stops asked address is x z = subst (λ task. StopsClean task (encode_utf8_all asked.page) (x.taken + context_size asked.context x) x z) (sym is) tt

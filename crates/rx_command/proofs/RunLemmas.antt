@@ -11,7 +11,7 @@ use Rattle.rx_command.specs.Checks.{standard}
 use Rattle.rx_command.specs.Contexts.{HasContext, HasOther, LacksContext, is_context}
 use Rattle.rx_command.specs.Outcome.{TaskGives, TaskDenotes, TaskRefuses, NamesPage, Yields, YieldsGraph, Refuses, Meets, IsLacking, LacksFile, HasBadContext, page_fault}
 use Rattle.rx_command.specs.Inputs.{JobText, JobRefused, TellsThat}
-use Rattle.rx_command.specs.Runs.{ReadCause, TakesFiles, TakesToFault, IsAtEnd}
+use Rattle.rx_command.specs.Runs.{ReadCause, TakesFiles, TakesToFault, StopsCleanly, IsAtEnd}
 
 pub yields : (words : List (List ℕ)) (told now : Option Told) (asked : Asked) (text : List ℕ) (t : Told) → job words ≡ Some asked → Moves (JobText asked text) told now → told ≡ Some t → Yields words told text
 yields words told now asked text t a m e =
@@ -136,3 +136,6 @@ to_fault words asked fault old new a m = subst (λ k. Moves (TakesToFault k faul
 
 pub takes_files : (words : List (List ℕ)) (asked : Asked) (old new : Option Told) → job words ≡ Some asked → Moves (TakesFiles (Some asked)) old new → Moves (TakesFiles (job words)) old new
 takes_files words asked old new a m = subst (λ k. Moves (TakesFiles k) old new) (sym a) m
+
+pub stops_cleanly : (words : List (List ℕ)) (asked : Asked) (old new : Option Told) → job words ≡ Some asked → Moves (StopsCleanly (Some asked)) old new → Moves (StopsCleanly (job words)) old new
+stops_cleanly words asked old new a m = subst (λ k. Moves (StopsCleanly k) old new) (sym a) m

@@ -2,6 +2,7 @@
 use Rattle.std.specs.Prelude.{◌≡◌, ℕ, ◌+◌, ◌≤◌, ◌<◌, List, [], ◌++◌, length, take, Option, Some, Result, Ok, Err}
 use Rattle.rx_chars.specs.declared.syntax.Syntax.{Syntax}
 use Rattle.rx_grammar.specs.declared.faults.Fault.{Fault}
+use Rattle.rx_grammar.specs.declared.faults.Kind.TheVariants.{Unended}
 use Rattle.rx_grammar.specs.declared.limits.Limits.{Limits}
 use Rattle.rx_grammar.specs.Trees.{Tree}
 use Rattle.rx_grammar.specs.Pages.{Page}
@@ -51,11 +52,16 @@ pub record Adds (more : List ℕ) (old new : Told) : Type 0 where
   pub taken : new.taken ≡ old.taken + length more
   pub at_end : more ≡ [] → old.left ≡ []
 
+-- nothing was read
+pub record AddsNone (old new : Told) : Type 0 where
+  pub files : new.files ≡ old.files
+  pub taken : new.taken ≡ old.taken
+
 -- a read gave some bytes, which were taken
 abbrev pub NextGives : Syntax → List ℕ → Result ℕ CheckError → Nested → Option Told → Option Told → Type 0
 NextGives syntax bytes (Ok n) new before now = (more : List ℕ) × (length more ≡ n) × Reached syntax new (bytes ++ more) × Moves (Adds more) before now
 NextGives syntax bytes (Err (error.Refused fault)) new before now = (more : List ℕ) × (length more ≤ largest_piece) × Faults syntax standard bytes more fault × Moves (Adds more) before now
-NextGives syntax bytes (Err error.Failed) new before now = Unit {0}
+NextGives syntax bytes (Err error.Failed) new before now = Moves AddsNone before now
 NextGives syntax bytes (Err error.NoMemory) new before now = Unit {0}
 
 -- the page ends
@@ -80,8 +86,19 @@ pub record Finds (syntax : Syntax) (name : List ℕ) (fault : Fault) (old new : 
   pub is : FaultAt syntax standard bytes fault
   pub read : new.taken ≤ old.taken + (fault.at + largest_piece)
 
+-- The bytes that were read of the file hold no fault but that they end.
+pub record IsClean (syntax : Syntax) (file : List ℕ) (before now : ℕ) : Type 0 where
+  pub bytes : List ℕ
+  pub rest : List ℕ
+  pub are : file ≡ bytes ++ rest
+  pub taken : now ≤ before + length bytes
+  pub clean : (fault : Fault) → FaultAt syntax standard bytes fault → fault.kind ≡ Unended
+
+abbrev pub ReadsClean : Syntax → List ℕ → Told → Told → Type 0
+ReadsClean syntax name old new = (file : List ℕ) → file_of old.files name ≡ Some file → IsClean syntax file old.taken new.taken
+
 abbrev pub CheckGives : Syntax → List ℕ → Result (Unit {0}) CheckError → Option Told → Option Told → Type 0
 CheckGives syntax name (Ok done) before now = Moves (Checks syntax name) before now
 CheckGives syntax name (Err (error.Refused fault)) before now = Moves (Finds syntax name fault) before now
-CheckGives syntax name (Err error.Failed) before now = Unit {0}
+CheckGives syntax name (Err error.Failed) before now = Moves (ReadsClean syntax name) before now
 CheckGives syntax name (Err error.NoMemory) before now = Unit {0}

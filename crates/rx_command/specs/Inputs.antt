@@ -4,7 +4,7 @@ use Rattle.rx_ports.specs.Files.{file_of}
 use Rattle.rx_ports.specs.Told.{Told}
 use Rattle.rx_command.specs.Words.{Asked, Task, extracts, checks}
 use Rattle.rx_command.specs.declared.statuses.Fault.{Fault}
-use Rattle.rx_command.specs.Checks.{largest_piece}
+use Rattle.rx_command.specs.Checks.{largest_piece, IsClean}
 use Rattle.rx_command.specs.Contexts.{HasContext, context_size}
 use Rattle.rx_command.specs.Outcome.{TaskGives, TaskDenotes, TaskRefuses}
 
@@ -40,6 +40,11 @@ pub record JobRefused (asked : Asked) (fault : Fault) (old new : Told) : Type 0 
   pub file : file_of old.files (encode_utf8_all asked.page) ≡ Some bytes
   pub refused : TaskRefuses asked.task bytes fault
   pub reads : ReadsToFault asked.task fault (old.taken + context_size asked.context old) new.taken
+
+-- A read that failed: the bytes that were read of a page that is checked hold no fault but that they end.
+abbrev pub StopsClean : Task → List ℕ → ℕ → Told → Told → Type 0
+StopsClean (extracts address) name before old new = Unit {0}
+StopsClean (checks syntax) name before old new = (file : List ℕ) → file_of old.files name ≡ Some file → IsClean syntax file before new.taken
 
 -- the shelf tells its files, and this holds of them
 abbrev pub TellsThat : (Told → Type 0) → Option Told → Type 0

@@ -10,7 +10,7 @@ use Rattle.rx_command.specs.Files.{size_of}
 use Rattle.rx_command.specs.Contexts.{context_size, context_limit}
 use Rattle.rx_command.specs.Outcome.{LacksFile}
 use Rattle.rx_command.specs.Page.{largest_page}
-use Rattle.rx_command.specs.Inputs.{ReadsToFault}
+use Rattle.rx_command.specs.Inputs.{ReadsToFault, StopsClean}
 use Rattle.rx_command.specs.declared.statuses.Fault.{Fault}
 use Rattle.rx_command.specs.declared.statuses.Kind.{Kind}
 use Rattle.rx_command.specs.declared.statuses.Kind.TheVariants.{NotBuilt, OfPage}
@@ -112,3 +112,8 @@ Says line old new before now = Moves (GrowsBy line) old new ⊎ (Rose before now
 abbrev pub TakesToFault : Option Asked → Fault → Told → Told → Type 0
 TakesToFault None fault old new = Unit {0}
 TakesToFault (Some asked) fault old new = ReadsToFault asked.task fault (old.taken + context_size asked.context old) new.taken
+
+-- where the page is there, what was read of it behind the context file holds no fault but that it ends
+abbrev pub StopsCleanly : Option Asked → Told → Told → Type 0
+StopsCleanly None old new = Unit {0}
+StopsCleanly (Some asked) old new = StopsClean asked.task (encode_utf8_all asked.page) (old.taken + context_size asked.context old) old new

@@ -6,10 +6,11 @@ ghost use Rattle.rx_ports.specs.Told.{Moves, Lacks};
 ghost use Rattle.rx_command.specs.Words.{extracts, checks};
 ghost use Rattle.rx_command.specs.Jobs.{asked_by, text_in};
 ghost use Rattle.rx_command.specs.Files.{TakesOf};
+ghost use Rattle.rx_command.specs.Checks.{ReadsClean};
 ghost use Rattle.rx_command.specs.Contexts.{IsContextFile, ReadsContext, TakesContext, LacksContext, HasOther, is_context};
 ghost use Rattle.rx_command.specs.Outcome.{IsLacking, ok_line};
 ghost use Rattle.rx_command.specs.Inputs.{PageText, PageRefused, JobText, JobRefused, TellsThat, WhereTold};
-ghost use Rattle.rx_command.specs.Runs.{TakesFiles};
+ghost use Rattle.rx_command.specs.Runs.{TakesFiles, StopsCleanly};
 
 use crate::checks::{CheckError, check_page};
 use crate::extract::text_of;
@@ -49,6 +50,7 @@ pub fn text_of_job<F: Shelf>(alloc: Global, shelf: &mut F, job: &Job) -> Result<
     ensures bad_takes { IsErrOf result InputError.BadContext → Moves (TakesContext (asked_by job.now).context) (F.told shelf.old) (F.told shelf.new) }
     ensures named { IsErrOf result InputError.BadContext → is_some (asked_by job.now).context ≡ true }
     ensures failed { IsErrOf result InputError.Failed → Rose (F.faults shelf.old) (F.faults shelf.new) ⊎ TellsThat (IsLacking (asked_by job.now)) (F.told shelf.old) }
+    ensures cleanly { IsErrOf result InputError.Failed → Moves (StopsCleanly (Some (asked_by job.now))) (F.told shelf.old) (F.told shelf.new) }
     ensures later { F.faults shelf.old ≤ F.faults shelf.new }
 {
     match read_context(alloc, shelf, job.context()) {
@@ -98,6 +100,7 @@ fn check<F: Shelf>(
     ensures takes { Moves (TakesOf (encode_utf8_all page.now) 1073807359) (F.told shelf.old) (F.told shelf.new) }
     ensures context { IsErrOf result InputError.BadContext → ⊥ }
     ensures failed { IsErrOf result InputError.Failed → Rose (F.faults shelf.old) (F.faults shelf.new) ⊎ Lacks (F.told shelf.old) (encode_utf8_all page.now) }
+    ensures cleanly { IsErrOf result InputError.Failed → Moves (ReadsClean syntax (encode_utf8_all page.now)) (F.told shelf.old) (F.told shelf.new) }
     ensures later { F.faults shelf.old ≤ F.faults shelf.new }
 {
     match check_page(alloc, shelf, page.as_str(), syntax) {

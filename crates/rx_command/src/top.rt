@@ -6,7 +6,7 @@ ghost use Rattle.rx_ports.specs.Told.{Told, Moves, GrowsBy, GrowsByPart, Stays};
 ghost use Rattle.rx_command.specs.Words.{job};
 ghost use Rattle.rx_command.specs.Contexts.{TakesContext};
 ghost use Rattle.rx_command.specs.Outcome.{Yields, YieldsGraph, Refuses, LacksFile, HasBadContext, NamesContext};
-ghost use Rattle.rx_command.specs.Runs.{ReadCause, TakesFiles, TakesToFault, IsAtEnd, Says, usage_line, refused_line, context_line, context_named};
+ghost use Rattle.rx_command.specs.Runs.{ReadCause, TakesFiles, TakesToFault, StopsCleanly, IsAtEnd, Says, usage_line, refused_line, context_line, context_named};
 
 use crate::inputs::{InputError, text_of_job};
 use crate::jobs::{Job, JobError};
@@ -55,6 +55,8 @@ pub fn run<F: Shelf, O: Sink, E: Sink>(
     // ReadFault comes only where the shelf failed, or lacks the context file, or lacks the page where the context file is
     // a context; and where it lacks one of them there is no other answer.
     ensures read_fault { result ≡ Status.ReadFault → ReadCause words.now (F.told shelf.old) (F.faults shelf.old) (F.faults shelf.new) }
+    // What was read of a page that is checked, where the page is there, holds no fault then but that it ends.
+    ensures cleanly { result ≡ Status.ReadFault → Moves (StopsCleanly (job words.now)) (F.told shelf.old) (F.told shelf.new) }
     ensures lacking { LacksFile words.now (F.told shelf.old) → (result ≡ Status.ReadFault) ⊎ (result ≡ Status.Memory) }
 
     // WriteFault comes only where out failed, which then holds a proper front of the page's text more than before.

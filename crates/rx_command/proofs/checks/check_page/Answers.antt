@@ -1,8 +1,9 @@
 use Rattle.std.proofs.Common.{arith, rules, ◌≡◌, ◌≤◌, ◌+◌, List, [], ℕ, length, refl, Ok, Err}
 use Rattle.rx_ports.proofs.MoveLemmas.{moves_weaker, moves_then}
 use Rattle.rx_command.specs.Files.{HasRead, TakesOf}
+use Rattle.rx_command.specs.Checks.{ReadsClean}
 use Rattle.rx_command.proofs.FileLemmas.{read_start, takes_none, takes_more}
-use Rattle.rx_command.proofs.CheckLemmas.{limits_are, start_reached, more_so_far, not_longer, next_found, file_ends}
+use Rattle.rx_command.proofs.CheckLemmas.{limits_are, start_reached, more_so_far, not_longer, next_found, file_ends, unread_clean}
 use Rattle.rx_command.proofs.checks.check_page.Goals as goal
 
 pub returns-in_default-start_file-clause-takes : goal.returns-in_default-start_file-clause-takes
@@ -68,3 +69,6 @@ unreachable-requires g c =
     let s = c.loop-taken.invariant.so_far in
     let small = not_longer c.args.syntax c.loop-taken.nest s.bytes s.reached in
     omega (arith, small, s.size, c.loop-taken-test.false)
+
+pub returns-in_default-start_file-clause-gives : goal.returns-in_default-start_file-clause-gives
+returns-in_default-start_file-clause-gives g c = moves_weaker (ReadsClean c.args.syntax c.args.name.now) (λ x y s. unread_clean c.args.syntax c.args.name.now x y (omega (arith, s.taken))) c.in_default-start_file.ensures.told

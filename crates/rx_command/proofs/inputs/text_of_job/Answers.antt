@@ -6,9 +6,10 @@ use Rattle.rx_command.specs.declared.inputs.InputError.TheVariants.{Refused}
 use Rattle.rx_command.specs.Words.{Asked}
 use Rattle.rx_command.specs.Jobs.{asked_by}
 use Rattle.rx_command.specs.Files.{TakesOf}
+use Rattle.rx_command.specs.Checks.{ReadsClean}
 use Rattle.rx_command.specs.Inputs.{PageText, PageRefused, JobRefused}
-use Rattle.rx_command.specs.Runs.{TakesFiles, page_limit}
-use Rattle.rx_command.proofs.InputLemmas.{takes_before, takes_both, if_job, job_refused, page_failed}
+use Rattle.rx_command.specs.Runs.{TakesFiles, StopsCleanly, page_limit}
+use Rattle.rx_command.proofs.InputLemmas.{takes_before, takes_both, if_job, job_refused, page_failed, context_stops, page_stops, extract_stops}
 use Rattle.rx_command.proofs.inputs.text_of_job.Goals as goal
 
 pub returns-in-Err-clause-refused : goal.returns-in-Err-clause-refused
@@ -72,3 +73,18 @@ returns-in-Check-clause-failed g c is =
     let e = ap asked_by c.in-Check.is in
     page_failed _ _ asked _ (encode_utf8_all asked.page) _ _ _ c.context.ensures refl c.in-Ok.ensures.ok c.read_context.ensures.later
     (subst (λ (k : Asked). Rose (g.F.Shelf.faults c.read_context.new.shelf) (g.F.Shelf.faults c.check.new.shelf) ⊎ Lacks (g.F.Shelf.told c.read_context.new.shelf) (encode_utf8_all k.page)) (sym e) (c.check.ensures.failed is))
+
+pub returns-in-Err-clause-cleanly : goal.returns-in-Err-clause-cleanly
+returns-in-Err-clause-cleanly g c is = moves_weaker (StopsCleanly (Some (asked_by c.args.job.now))) (λ x y t. context_stops _ _ c.context.ensures x y t) c.read_context.ensures.takes
+
+pub returns-in-Extract-clause-cleanly : goal.returns-in-Extract-clause-cleanly
+returns-in-Extract-clause-cleanly g c is =
+    let e = ap asked_by c.in-Extract.is in
+    moves_then (StopsCleanly (Some (asked_by c.args.job.now))) (λ x y z r p. extract_stops (asked_by c.args.job.now) _ (ap (λ (k : Asked). k.task) e) x z) c.in-Ok.ensures.ok c.extract.ensures.takes
+
+pub returns-in-Check-clause-cleanly : goal.returns-in-Check-clause-cleanly
+returns-in-Check-clause-cleanly g c is =
+    let asked : Asked = asked_by c.args.job.now in
+    let e = ap asked_by c.in-Check.is in
+    moves_then (StopsCleanly (Some asked)) (λ x y z r p. page_stops asked _ c.in-Check.syntax c.context.ensures (ap (λ (k : Asked). k.task) e) x y z r p) c.in-Ok.ensures.ok
+    (subst (λ (k : Asked). Moves (ReadsClean c.in-Check.syntax (encode_utf8_all k.page)) (g.F.Shelf.told c.read_context.new.shelf) (g.F.Shelf.told c.check.new.shelf)) (sym e) (c.check.ensures.cleanly is))

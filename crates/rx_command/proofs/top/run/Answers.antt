@@ -6,7 +6,7 @@ use Rattle.rx_command.specs.Runs.{TakesToFault}
 use Rattle.rx_command.specs.Words.{job}
 use Rattle.rx_command.specs.declared.statuses.Fault.{Fault}
 use Rattle.rx_command.specs.declared.statuses.Status.TheVariants.{Refused}
-use Rattle.rx_command.proofs.RunLemmas.{yields, yields_graph, refuses, not_both, one_refusal, not_lacking, refused_not_lacking, not_bad, refused_not_bad, read_cause, at_end, to_fault}
+use Rattle.rx_command.proofs.RunLemmas.{yields, yields_graph, refuses, not_both, one_refusal, not_lacking, refused_not_lacking, not_bad, refused_not_bad, read_cause, at_end, to_fault, stops_cleanly}
 use Rattle.rx_command.proofs.top.run.Goals as goal
 
 pub returns-in-Ok-put_all-clause-done : goal.returns-in-Ok-put_all-clause-done
@@ -77,3 +77,6 @@ pub returns-in-Ok-line_of-clause-refuses : goal.returns-in-Ok-line_of-clause-ref
 returns-in-Ok-line_of-clause-refuses g c =
     let m = c.in-Err-Refused.ensures.refused c.in-Err-Refused.fault (ap Err c.in-Err-Refused.field-0-is) in
     λ fault r quiet. inl (ap (λ (f : Fault). Refused f) (one_refusal _ _ c.in-Err-Refused.fault fault (refuses c.args.words.now _ _ _ c.in-Err-Refused.fault r.page.shelf c.in-Ok.ensures m r.page.tells) r))
+
+pub returns-in-Err-Failed-clause-cleanly : goal.returns-in-Err-Failed-clause-cleanly
+returns-in-Err-Failed-clause-cleanly g c = λ is. stops_cleanly c.args.words.now (asked_by c.in-Ok.job) _ _ c.in-Ok.ensures (c.in-Err-Failed.ensures.cleanly (ap Err c.in-Err-Failed.field-0-is))
