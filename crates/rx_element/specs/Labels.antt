@@ -19,3 +19,10 @@ draw numbered next (label ∷ more) =
 -- some labels have drawn their numbers
 pub record Drawn (old : Numbered) (next : ℕ) (labels : List Chars) (new : Numbered) (after : ℕ) : Type 0 where
   pub path : draw old next labels ≡ (new, after)
+
+-- some of the labels, the first ones, have drawn theirs
+pub record DrawnSome (old : Numbered) (next : ℕ) (labels : List Chars) (new : Numbered) : Type 0 where
+  pub front : List Chars
+  pub rest : List Chars
+  pub whole : labels ≡ front ++ rest
+  pub path : (draw old next front).0 ≡ new

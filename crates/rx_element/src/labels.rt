@@ -65,7 +65,8 @@ impl Labels {
     /// Gives the label the number.
     fn add(&mut self, label: &Text, number: u64) -> Result<(), NoMemory>
         requires { number_of self.old label.now ≡ None }
-        ensures { OnOk result (self.new ≡ self.old ++ (label.now, number) ∷ []) }
+        ensures ok { OnOk result (self.new ≡ self.old ++ (label.now, number) ∷ []) }
+        ensures err { OnErr result (self.new ≡ self.old) }
     {
         let key = String::from_str(self.alloc, label.as_str())?;
         add_row(&mut self.labels, &mut self.numbers, key, number)
@@ -74,7 +75,8 @@ impl Labels {
     /// Gives the label the next number where it has none, and answers the number that comes next then.
     pub(crate) fn draw(&mut self, label: &Text, next: u64) -> Result<u64, NoMemory>
         requires { next + 1 < 2 ^ 64 }
-        ensures { IfOk result (λ after. Drawn self.old next (label.now ∷ []) self.new after) }
+        ensures ok { IfOk result (λ after. Drawn self.old next (label.now ∷ []) self.new after) }
+        ensures err { OnErr result (self.new ≡ self.old) }
     {
         match self.number(label.as_str()) {
             Some(_number) => Ok(next),
@@ -97,14 +99,15 @@ fn add_row(
     requires even { length keys.old.keys ≡ length numbers.old.items }
     ensures keys { OnOk result (keys.new.keys ≡ keys.old.keys ++ key ∷ []) }
     ensures numbers { OnOk result (numbers.new.items ≡ numbers.old.items ++ number ∷ []) }
-    ensures same { OnErr result (length keys.new.keys ≡ length numbers.new.items) }
+    ensures same_keys { OnErr result (keys.new.keys ≡ keys.old.keys) }
+    ensures same_numbers { OnErr result (numbers.new.items ≡ numbers.old.items) }
 {
-    let Ok(()) = numbers.push(number) else {
-        return Err(NoMemory);
-    };
+    numbers.reserve(1)?;
     let Ok(_is_new) = keys.insert(key) else {
-        numbers.pop();
         return Err(NoMemory);
     };
-    Ok(())
+    match numbers.push(number) {
+        Ok(()) => Ok(()),
+        Err(_refused) => Err(NoMemory),
+    }
 }

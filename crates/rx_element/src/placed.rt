@@ -1,11 +1,12 @@
 //! The resources of one element, and its value, by themselves.
-ghost use Rattle.std.specs.Prelude.{◌≡◌, ◌<◌, ◌≤◌, ◌^◌, ◌+◌, ◌-◌, length, option_map, IfOk};
+ghost use Rattle.std.specs.Prelude.{◌≡◌, ◌<◌, ◌≤◌, ◌^◌, ◌+◌, ◌-◌, length, option_map, IfOk, OnErr};
 ghost use Rattle.std.specs.Str.{chars};
 ghost use Rattle.rx_model.specs.Seen.{node_seen, term_seen};
 ghost use Rattle.rx_rdfa.specs.Renaming.{labels as labels_of};
 ghost use Rattle.rx_rdfa.specs.Value.{rule, value};
 ghost use Rattle.rx_curie.specs.Seen.{facts_seen};
 ghost use Rattle.rx_element.specs.Contexts.{context_seen};
+ghost use Rattle.rx_element.specs.Labels.{DrawnSome};
 ghost use Rattle.rx_element.specs.Moment.{moment};
 ghost use Rattle.rx_element.specs.Placing.{placed_seen, plain_context, Places};
 ghost use Rattle.rx_element.specs.Found.{found_seen};
@@ -67,7 +68,7 @@ fn plain_context(alloc: Global, subject: &Node, object: &Node) -> Result<Context
 impl Placed {
     /// The resources of an element of a level, the root's being 1, that inherits a subject and an object. Its labels that
     /// have no number draw theirs first, from `next_blank` on; a new node has the number after them. After want of memory
-    /// some labels may have drawn theirs.
+    /// the first of these labels may have drawn theirs.
     pub fn of(
         alloc: Global,
         facts: &Facts,
@@ -80,7 +81,8 @@ impl Placed {
     ) -> Result<Placed, NoMemory>
         requires level { 1 ≤ level }
         requires room { next_blank + 1 + length (labels_of (facts_seen facts.now)) < 2 ^ 64 }
-        ensures { IfOk result (Places labels.old next_blank base.now (level - 1) (node_seen subject.now) (node_seen object.now) (facts_seen facts.now) labels.new) }
+        ensures ok { IfOk result (Places labels.old next_blank base.now (level - 1) (node_seen subject.now) (node_seen object.now) (facts_seen facts.now) labels.new) }
+        ensures err { OnErr result (DrawnSome labels.old next_blank (labels_of (facts_seen facts.now)) labels.new) }
     {
         let fresh = draw_labels(labels, facts, next_blank)?;
         let context = plain_context(alloc, subject, object)?;

@@ -18,7 +18,7 @@ use Rattle.rx_eval.proofs.eval.Eval.open.Goals as goal
 
 pub next_number-drawn-requires : goal.next_number-drawn-requires
 next_number-drawn-requires c =
-    fresh_fits _ _ _ c.in_ok-fresh.fresh _ c.in_ok-fresh.ensures (rw (← c.self.view_is) at c.requires.drawn)
+    fresh_fits _ _ _ c.in_ok-fresh.fresh _ c.in_ok-fresh.ensures.ok (rw (← c.self.view_is) at c.requires.drawn)
 
 pub invariant_of-self-2 : goal.invariant_of-self-2
 invariant_of-self-2 c =
@@ -43,7 +43,7 @@ returns c =
     rw (← c.self.view_is) (record {
       frame = frame_seen c.in_ok-frame.frame;
       fresh = fresh;
-      drawing = c.in_ok-fresh.ensures.path;
+      drawing = c.in_ok-fresh.ensures.ok.path;
       pushed = mapped_more frame_seen _ _ _ c.in-Ok.ensures.items;
       context =
           c.in_ok-frame.ensures.context ∙ ap₂ (λ (l : Level) (a : Inherited ℕ ℕ). below_at labels fresh base l a facts (length c.self.inside.lists)) level around
