@@ -1,6 +1,6 @@
 -- What is refused of a start tag.
 use Rattle.std.proofs.Common.{◌≡◌, ◌∙◌, ℕ, ◌<◌, ◌/◌, ◌%◌, Bool, true, false, ◌==◌, ◌&&◌, not, List, [], ◌∷◌, ◌++◌, codes, Option, Some, None, option_map, sym, ap, subst, refl, arith}
-use Rattle.std.specs.Prelude.{option_and_then}
+use Rattle.std.specs.Prelude.{is_some, option_and_then, if◌then◌else◌}
 use Rattle.std.specs.List.{list_all}
 use Rattle.std.proofs.lemmas.Bool.{and_parts}
 use Rattle.std.proofs.lemmas.Bool.Decides.{nat_tests}
@@ -17,7 +17,7 @@ use Rattle.rx_rdfa.specs.Facts.{Facts, facts}
 use Rattle.rx_rdfa.specs.Refusals.{is_relative, refusal, RelativeVocab, has_literals_of, rdf_xml_literal, rdf_html}
 use Rattle.rx_grammar.specs.declared.faults.Kind.TheVariants as kind
 use Rattle.rx_curie.specs.declared.facts.FactsError.TheVariants as error
-use Rattle.rx_curie.specs.Given.{own_vocabulary, RefusesFor}
+use Rattle.rx_curie.specs.Given.{own_vocabulary, vocabulary_from, RefusesFor}
 
 -- Escapes leave the scheme as it is, also where there is none.
 
@@ -97,11 +97,12 @@ own-refused context above tag h =
       first-holds f e = rw e refl
 
 -- a vocabulary in force is the tag's own, or one from above
-pub absolute-line : (tag : Tag) (above : List Tag) → is_relative (own_vocabulary tag) ≡ false → is_relative (vocab above) ≡ false → is_relative (vocab (tag ∷ above)) ≡ false
-absolute-line tag above own other = go (attribute tag (codes "vocab")) own where
-  go : (o : Option Chars) → is_relative (option_and_then (λ value. unless_empty (trimmed value)) o) ≡ false → is_relative (declared_or o (λ value. unless_empty (trimmed value)) (vocab above)) ≡ false
-  go None e = other
-  go (Some value) e = e
+pub absolute-line : (tag : Tag) (above : List Tag) → is_relative (own_vocabulary tag) ≡ false → is_relative (vocabulary_from above tag) ≡ false → is_relative (vocab (tag ∷ above)) ≡ false
+absolute-line tag above own other = go (attribute tag (codes "vocab")) own other where
+  go : (o : Option Chars) → is_relative (option_and_then (λ value. unless_empty (trimmed value)) o) ≡ false → is_relative (if is_some o then None else vocab above) ≡ false
+      → is_relative (declared_or o (λ value. unless_empty (trimmed value)) (vocab above)) ≡ false
+  go None e h = h
+  go (Some value) e h = e
 
 pub nothing-refused : (context : Context) (above : List Tag) (tag : Tag) (made : Facts) → made ≡ facts context above tag → is_relative (own_vocabulary tag) ≡ false
     → has_literals_of made rdf_xml_literal ≡ false → has_literals_of made rdf_html ≡ false → refusal (facts context above tag) ≡ None

@@ -1,8 +1,8 @@
 -- What the code answers of a start tag.
-use Rattle.std.specs.Prelude.{◌≡◌, Bool, true, false, Option, Some, None, codes, option_and_then, Result, MatchResult}
+use Rattle.std.specs.Prelude.{◌≡◌, Bool, true, false, List, Option, Some, None, codes, is_some, option_and_then, Result, MatchResult, if◌then◌else◌}
 use Rattle.rx_terms.specs.Text.{Chars, trimmed}
 use Rattle.rx_rdfa.specs.Tree.{Tag, attribute}
-use Rattle.rx_rdfa.specs.Names.{unless_empty}
+use Rattle.rx_rdfa.specs.Names.{unless_empty, vocab}
 use Rattle.rx_rdfa.specs.Facts.{Facts}
 use Rattle.rx_rdfa.specs.Refusals.{Refusal, RelativeVocab, XmlLiteral, HtmlLiteral, refusal}
 use Rattle.rx_grammar.specs.declared.faults.Kind.{Kind}
@@ -15,6 +15,10 @@ use Rattle.rx_curie.specs.Seen.{facts_seen}
 -- the vocabulary that a tag declares, where that isn't empty
 abbrev pub own_vocabulary : Tag → Option Chars
 own_vocabulary tag = option_and_then (λ value. unless_empty (trimmed value)) (attribute tag (codes "vocab"))
+
+-- the vocabulary in force that the elements around declare, none where the tag has `vocab`, empty or not
+abbrev pub vocabulary_from : List Tag → Tag → Option Chars
+vocabulary_from above tag = if is_some (attribute tag (codes "vocab")) then None else vocab above
 
 abbrev pub kind_of : Refusal → Kind
 kind_of RelativeVocab = kind.RelativeVocab

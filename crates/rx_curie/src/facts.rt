@@ -83,26 +83,28 @@ pub enum FactsError {
 }
 
 impl Facts {
-    ghost use Rattle.std.specs.Prelude.{◌≡◌, List, ◌∷◌, false, true, IfOk, IfErr, OnOk};
+    ghost use Rattle.std.specs.Prelude.{◌≡◌, List, ◌∷◌, false, true, IfOk, IfErr, IsErrOf, OnOk};
     ghost use Rattle.std.specs.List.{list_all};
     ghost use Rattle.rx_terms.specs.Ascii.{is_ascii};
     ghost use Rattle.rx_rdfa.specs.Tree.{Tag as StartTag};
-    ghost use Rattle.rx_rdfa.specs.Names.{vocab};
     ghost use Rattle.rx_rdfa.specs.Refusals.{is_relative, has_literals_of};
     ghost use Rattle.rx_rdfa.specs.Facts as the;
     ghost use Rattle.rx_names.specs.Tags.{tag_of};
     ghost use Rattle.rx_names.specs.Lines.{Stands, vocabulary_of};
     ghost use Rattle.rx_names.specs.Views.{names_seen};
-    ghost use Rattle.rx_curie.specs.Given.{own_vocabulary, Gives, is_for_meaning};
+    ghost use Rattle.rx_curie.specs.Given.{own_vocabulary, vocabulary_from, Gives, is_for_meaning};
     ghost use Rattle.rx_curie.specs.Seen.{facts_seen};
 
     /// What the tag says under these names, which have its own declarations already. The first refusal that holds is
     /// answered: `RelativeVocab` where the tag declares a vocabulary without a scheme, `XmlLiteral` where it has `property`
-    /// and a datatype that reads as rdf:XMLLiteral, `HtmlLiteral` where that is rdf:HTML. A vocabulary without a scheme that
-    /// an element around declares is refused as `RelativeVocab` too.
+    /// and a datatype that reads as rdf:XMLLiteral, `HtmlLiteral` where that is rdf:HTML. Where an element around declares
+    /// the vocabulary in force, and that has no scheme, the answer is `RelativeVocab` too.
     pub fn of(alloc: Global, tag: &Tag<'_>, names: &NamesView<'_>) -> Result<Facts, FactsError>
-        ensures line { (above : List StartTag) → Stands (names_seen names.now) (tag_of tag.now ∷ above) → is_relative (vocab above) ≡ false
+        ensures line { (above : List StartTag) → Stands (names_seen names.now) (tag_of tag.now ∷ above)
+            → is_relative (vocabulary_from above (tag_of tag.now)) ≡ false
             → Gives result (the.facts (names_seen names.now).context above (tag_of tag.now)) }
+        ensures relative { is_relative (vocabulary_of (names_seen names.now)) ≡ true
+            → IsErrOf result (FactsError.Meaning Kind.RelativeVocab) }
         ensures absolute { OnOk result (is_relative (vocabulary_of (names_seen names.now)) ≡ false) }
         ensures kinds { IfErr result (λ why. is_for_meaning why ≡ true) }
     {

@@ -35,7 +35,8 @@ pub(crate) fn datatype(
 ) -> Result<Option<Datatype>, NoMemory>
     requires { is_relative (vocabulary_of (names_seen names.now)) ≡ false }
     ensures { IfOk result (λ datatype. (line : List StartTag) → Stands (names_seen names.now) line
-        → option_map datatype_seen datatype ≡ option_map (λ value. the.datatype_of (the.predicate (names_seen names.now).context line (trimmed value))) (seen_slice value.entry)) }
+        → option_map datatype_seen datatype ≡
+        option_map (λ value. the.datatype_of (the.predicate (names_seen names.now).context line (trimmed value))) (seen_slice value.entry)) }
 {
     let Some(value) = value else {
         return Ok(None);

@@ -48,7 +48,8 @@ impl Resources {
         tag: &Tag<'_>,
         names: &NamesView<'_>,
     ) -> Result<Resources, NoMemory>
-        ensures { IfOk result (λ parts. (line : List StartTag) → Stands (names_seen names.now) line → AreResources (names_seen names.now).context line (tag_of tag.now) parts) }
+        ensures { IfOk result (λ parts. (line : List StartTag) → Stands (names_seen names.now) line
+            → AreResources (names_seen names.now).context line (tag_of tag.now) parts) }
     {
         let about = resource(alloc, names, attribute(tag, "about"))?;
         let resource = resource(alloc, names, attribute(tag, "resource"))?;
@@ -66,7 +67,8 @@ impl Resources {
 impl Links {
     pub(crate) fn of(alloc: Global, tag: &Tag<'_>, names: &NamesView<'_>) -> Result<Links, NoMemory>
         requires { is_relative (vocabulary_of (names_seen names.now)) ≡ false }
-        ensures { IfOk result (λ parts. (line : List StartTag) → Stands (names_seen names.now) line → AreLinks (names_seen names.now).context line (tag_of tag.now) parts) }
+        ensures { IfOk result (λ parts. (line : List StartTag) → Stands (names_seen names.now) line
+            → AreLinks (names_seen names.now).context line (tag_of tag.now) parts) }
     {
         let property = attribute(tag, "property");
         let beside_property = property.is_some();
@@ -84,7 +86,8 @@ impl Content {
         names: &NamesView<'_>,
     ) -> Result<Content, NoMemory>
         requires { is_relative (vocabulary_of (names_seen names.now)) ≡ false }
-        ensures { IfOk result (λ parts. (line : List StartTag) → Stands (names_seen names.now) line → IsContent (names_seen names.now).context line (tag_of tag.now) parts) }
+        ensures { IfOk result (λ parts. (line : List StartTag) → Stands (names_seen names.now) line
+            → IsContent (names_seen names.now).context line (tag_of tag.now) parts) }
     {
         let content = text(alloc, attribute(tag, "content"))?;
         let datetime = text(alloc, attribute(tag, "datetime"))?;

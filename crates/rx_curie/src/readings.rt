@@ -37,7 +37,8 @@ const XHTML_VOCABULARY: &str = "http://www.w3.org/1999/xhtml/vocab#";
 /// What a token of `property`, `rel`, `rev`, `typeof` or `datatype` means, or `None` exactly where it means nothing
 /// (TERMorCURIEorAbsIRI; RDFa Core 1.1, section 7.4.4). No memory is taken.
 pub fn read_term<'a>(names: &NamesView<'a>, text: &'a str) -> Option<Reading<'a>>
-    ensures line { (line : List Tag) → Stands (names_seen names.now) line → option_map reading_seen result ≡ the.read_term (names_seen names.now).context line (chars text.now) }
+    ensures line { (line : List Tag) → Stands (names_seen names.now) line
+        → option_map reading_seen result ≡ the.read_term (names_seen names.now).context line (chars text.now) }
     ensures absolute { is_relative (vocabulary_of (names_seen names.now)) ≡ false → none_or_absolute (option_map reading_seen result) ≡ true }
     ensures named { none_or_named (option_map reading_seen result) ≡ true }
 {
@@ -50,7 +51,8 @@ pub fn read_term<'a>(names: &NamesView<'a>, text: &'a str) -> Option<Reading<'a>
 /// What the value of `about` or `resource` means, or `None` exactly where it means nothing (SafeCURIEorCURIEorIRI; RDFa
 /// Core 1.1, section 7.4.5). No memory is taken.
 pub fn read_resource<'a>(names: &NamesView<'a>, text: &'a str) -> Option<Reading<'a>>
-    ensures line { (line : List Tag) → Stands (names_seen names.now) line → option_map reading_seen result ≡ the.read_resource (names_seen names.now).context line (chars text.now) }
+    ensures line { (line : List Tag) → Stands (names_seen names.now) line
+        → option_map reading_seen result ≡ the.read_resource (names_seen names.now).context line (chars text.now) }
     ensures absolute { none_or_absolute (option_map reading_seen result) ≡ true }
 {
     read_trimmed(names, trim(text))
@@ -58,7 +60,8 @@ pub fn read_resource<'a>(names: &NamesView<'a>, text: &'a str) -> Option<Reading
 
 /// A term, under the default vocabulary or without one.
 fn read_as_term<'a>(names: &NamesView<'a>, text: &'a str) -> Option<Reading<'a>>
-    ensures line { (line : List Tag) → Stands (names_seen names.now) line → option_map reading_seen result ≡ the.read_as_term (names_seen names.now).context line (vocab line) (chars text.now) }
+    ensures line { (line : List Tag) → Stands (names_seen names.now) line
+        → option_map reading_seen result ≡ the.read_as_term (names_seen names.now).context line (vocab line) (chars text.now) }
     ensures absolute { is_relative (vocabulary_of (names_seen names.now)) ≡ false → none_or_absolute (option_map reading_seen result) ≡ true }
     ensures named { none_or_named (option_map reading_seen result) ≡ true }
 {
@@ -73,7 +76,8 @@ fn read_as_term<'a>(names: &NamesView<'a>, text: &'a str) -> Option<Reading<'a>>
 
 /// A CURIE or a text with a scheme.
 pub(crate) fn read_no_term<'a>(names: &NamesView<'a>, text: &'a str) -> Option<Reading<'a>>
-    ensures line { (line : List Tag) → Stands (names_seen names.now) line → option_map reading_seen result ≡ the.read_no_term (names_seen names.now).context line (chars text.now) }
+    ensures line { (line : List Tag) → Stands (names_seen names.now) line
+        → option_map reading_seen result ≡ the.read_no_term (names_seen names.now).context line (chars text.now) }
     ensures absolute { none_or_absolute (option_map reading_seen result) ≡ true }
     ensures named { none_or_named (option_map reading_seen result) ≡ true }
 {
@@ -96,7 +100,8 @@ fn full_if_scheme(text: &str) -> Option<Reading<'_>>
 
 /// A CURIE.
 fn read_curie<'a>(names: &NamesView<'a>, text: &'a str) -> Option<Reading<'a>>
-    ensures line { (line : List Tag) → Stands (names_seen names.now) line → option_map reading_seen result ≡ the.read_curie (names_seen names.now).context line (chars text.now) }
+    ensures line { (line : List Tag) → Stands (names_seen names.now) line
+        → option_map reading_seen result ≡ the.read_curie (names_seen names.now).context line (chars text.now) }
     ensures absolute { none_or_absolute (option_map reading_seen result) ≡ true }
     ensures named { none_or_named (option_map reading_seen result) ≡ true }
 {
@@ -111,7 +116,8 @@ fn read_curie<'a>(names: &NamesView<'a>, text: &'a str) -> Option<Reading<'a>>
 
 /// A prefix with the reference behind its colon.
 fn read_parts<'a>(names: &NamesView<'a>, prefix: &'a str, reference: &'a str) -> Option<Reading<'a>>
-    ensures line { (line : List Tag) → Stands (names_seen names.now) line → option_map reading_seen result ≡ the.read_parts (names_seen names.now).context line (chars prefix.now) (chars reference.now) }
+    ensures line { (line : List Tag) → Stands (names_seen names.now) line
+        → option_map reading_seen result ≡ the.read_parts (names_seen names.now).context line (chars prefix.now) (chars reference.now) }
     ensures absolute { none_or_absolute (option_map reading_seen result) ≡ true }
     ensures named { none_or_named (option_map reading_seen result) ≡ true }
 {
@@ -129,7 +135,8 @@ fn read_parts<'a>(names: &NamesView<'a>, prefix: &'a str, reference: &'a str) ->
 
 /// A text without white space at its ends: a CURIE in brackets, a CURIE or a reference.
 fn read_trimmed<'a>(names: &NamesView<'a>, text: &'a str) -> Option<Reading<'a>>
-    ensures line { (line : List Tag) → Stands (names_seen names.now) line → option_map reading_seen result ≡ the.read_trimmed (names_seen names.now).context line (chars text.now) }
+    ensures line { (line : List Tag) → Stands (names_seen names.now) line
+        → option_map reading_seen result ≡ the.read_trimmed (names_seen names.now).context line (chars text.now) }
     ensures absolute { none_or_absolute (option_map reading_seen result) ≡ true }
 {
     match bracketed(text) {
@@ -149,7 +156,8 @@ fn bracketed(text: &str) -> Option<&str>
 }
 
 fn curie_or_reference<'a>(names: &NamesView<'a>, text: &'a str) -> Option<Reading<'a>>
-    ensures line { (line : List Tag) → Stands (names_seen names.now) line → option_map reading_seen result ≡ the.curie_or_reference (names_seen names.now).context line (chars text.now) }
+    ensures line { (line : List Tag) → Stands (names_seen names.now) line
+        → option_map reading_seen result ≡ the.curie_or_reference (names_seen names.now).context line (chars text.now) }
     ensures absolute { none_or_absolute (option_map reading_seen result) ≡ true }
 {
     match read_curie(names, text) {

@@ -59,7 +59,8 @@ fn push_type(
 ) -> Result<(), NoMemory>
     requires { is_relative (vocabulary_of (names_seen names.now)) ≡ false }
     ensures { OnOk result ((line : List Tag) → Stands (names_seen names.now) line
-        → refs_seen types.new ≡ refs_seen types.old ++ option_to_list (option_map the.ref_of (readings.read_term (names_seen names.now).context line (chars token.now)))) }
+        → refs_seen types.new ≡
+        refs_seen types.old ++ option_to_list (option_map the.ref_of (readings.read_term (names_seen names.now).context line (chars token.now)))) }
 {
     let Some(reading) = read_term(names, token) else {
         return Ok(());
