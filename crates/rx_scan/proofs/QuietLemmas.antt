@@ -1,8 +1,9 @@
 -- Between tokens a byte tells text, begins a token, or is skipped.
 use Rattle.std.proofs.Common.{◌≡◌, ◌∙◌, ◌⊎◌, ℕ, ◌<◌, Bool, true, false, List, [], ◌∷◌, ◌++◌, refl, ap, sym, subst, Result, Ok, Err, inl, inr, eqb-true, arith, length, get_or, lit<, zero, suc}
-use Rattle.std.specs.Prelude.{◌&&◌, ◌||◌, ◌==◌, not, nat_le, if◌then◌else◌}
+use Rattle.std.specs.Prelude.{◌&&◌, ◌||◌, ◌==◌, not, nat_le, if◌then◌else◌, IfOk}
 use Rattle.std.proofs.lemmas.Bool.{cond-true, cond-false, or_left, or_right}
 use Rattle.std.proofs.lemmas.Str.{encode_ascii}
+use Rattle.rx_terms.specs.Text.{Chars}
 use Rattle.rx_chars.specs.Utf8.{answer_of}
 use Rattle.rx_chars.specs.declared.utf8.Utf8Step.{Utf8Step}
 use Rattle.rx_chars.specs.declared.utf8.Utf8Step.TheVariants.{More, Char, Bad}
@@ -29,7 +30,7 @@ use Rattle.rx_scan.specs.declared.places.Place.{Place}
 use Rattle.rx_scan.specs.Places.{ended}
 use Rattle.rx_scan.specs.Scanner.{Reading}
 use Rattle.rx_scan.specs.Entries as entries
-use Rattle.rx_scan.specs.Steps.{is_quiet}
+use Rattle.rx_scan.specs.Steps.{is_quiet, is_tag, is_token, stopped_at}
 use Rattle.rx_scan.proofs.ByteLemmas.{match_by}
 use Rattle.rx_scan.proofs.RunLemmas.{IsApart}
 
@@ -37,8 +38,8 @@ use Rattle.rx_scan.proofs.RunLemmas.{IsApart}
 pub data Does (l : Reading) (byte : ℕ) (answer : What) (new : Reading) : Type 0 where
   says : answer ≡ what.Nothing → new.pending.mark ≡ mark.Nothing → Does l byte answer new
   begins : answer ≡ what.Nothing → (byte == 60 || byte == 38) ≡ true → Does l byte answer new
-  drops : l.setting.drops ≡ true → new.pending.mark ≡ mark.Nothing → Does l byte answer new
-  is_a_mark : l.place.started ≡ false → new.pending.mark ≡ mark.Nothing → Does l byte answer new
+  drops : l.setting.drops ≡ true → answer ≡ what.Skipped → new.pending.mark ≡ mark.Nothing → Does l byte answer new
+  is_a_mark : l.place.started ≡ false → answer ≡ what.Skipped → new.pending.mark ≡ mark.Nothing → Does l byte answer new
 
 -- a character of ASCII is its last byte
 last_byte : (held : List ℕ) (byte c : ℕ) → answer_of (held ++ byte ∷ []) ≡ Char c → c < 128 → byte ≡ c
@@ -63,16 +64,16 @@ module _ (l new : Reading) (byte : ℕ) (answer : What) (m : l.pending.mark ≡ 
   no_fault : (kind : Kind) → result ≡ Err (stop.Fault (entries.fault_at l kind)) → Does l byte answer new
   no_fault kind e = absurd (cc)
 
-  said : (answer : What) (d : ℕ) (place : Place) → entries.Says l d place (Ok answer) new → ((answer ≡ what.Nothing) ⊎ (l.setting.drops ≡ true)) × (new.pending.mark ≡ mark.Nothing)
+  said : (answer : What) (d : ℕ) (place : Place) → entries.Says l d place (Ok answer) new → ((answer ≡ what.Nothing) ⊎ ((l.setting.drops ≡ true) × (answer ≡ what.Skipped))) × (new.pending.mark ≡ mark.Nothing)
   said what.Nothing d place k = (inl refl, ap (λ (x : Reading). x.pending.mark) k.1.is)
-  said what.Skipped d place k = (inr (both l.setting.drops _ k.0).0, ap (λ (x : Reading). x.pending.mark) k.1)
+  said what.Skipped d place k = (inr ((both l.setting.drops _ k.0).0, refl), ap (λ (x : Reading). x.pending.mark) k.1)
   said what.Text d place k = absurd k
   said what.Section d place k = absurd k
   said what.Doctype d place k = absurd k
   said what.Tag d place k = absurd k
 
   does_say : (d : ℕ) (place : Place) → entries.Says l d place result new → Does l byte answer new
-  does_say d place k = let q = said answer d place k in elim q.0 [ inl e ↦ says e q.1 | inr e ↦ drops e q.1 ]
+  does_say d place k = let q = said answer d place k in elim q.0 [ inl e ↦ says e q.1 | inr e ↦ drops e.0 e.1 q.1 ]
 
   -- the character is the byte
   does_first : (c : ℕ) (ar : Bool) → ((d : ℕ) → c ≡ d → (10 == d) ≡ false → d < 128 → byte ≡ d) → entries.Enters l c ar (entries.judged l.setting l.place.two c (marks.of_first (marks.at_first l.setting.inside c))) result new → Does l byte answer new
@@ -101,12 +102,14 @@ module _ (l new : Reading) (byte : ℕ) (answer : What) (m : l.pending.mark ≡ 
       (λ u k. does_first (as_line_end c) (c == carriage_return) (λ d q n h. last_byte l.held byte d (e ∙ ap Char (begins_line c d q n)) h)
       (subst (λ (x : Mark). entries.Enters l (as_line_end c) (c == carriage_return) (entries.judged l.setting l.place.two (as_line_end c) (marks.move_of l.setting.syntax l.setting.inside x (as_line_end c))) result new) m k)))
     where
+      arrive : (other : What) → result ≡ Ok other → answer ≡ other
+      arrive other e = cc
+
       passed : ((not l.place.started && c == 65279) ≡ true) ⊎ ((l.place.after_return && c == 10) ≡ true) → result ≡ Ok (entries.is_mark c) → new.pending.mark ≡ mark.Nothing → Does l byte answer new
-      passed (inl a) q k = is_a_mark (untrue l.place.started (both (not l.place.started) _ a).0) k
-      passed (inr a) q k = says (let z : entries.is_mark c ≡ what.Nothing = ap entries.is_mark (eqb-true c 10 (both l.place.after_return _ a).1) in arrive (q ∙ ap Ok z)) k
-        where
-          arrive : result ≡ Ok what.Nothing → answer ≡ what.Nothing
-          arrive e = cc
+      passed (inl a) q k =
+          let p = both (not l.place.started) _ a in
+          is_a_mark (untrue l.place.started p.0) (let z : entries.is_mark c ≡ what.Skipped = ap entries.is_mark (eqb-true c 65279 p.1) in arrive what.Skipped (q ∙ ap Ok z)) k
+      passed (inr a) q k = says (let z : entries.is_mark c ≡ what.Nothing = ap entries.is_mark (eqb-true c 10 (both l.place.after_return _ a).1) in arrive what.Nothing (q ∙ ap Ok z)) k
 
   pub does : entries.Reads l byte result new → Does l byte answer new
   does k =
@@ -134,8 +137,8 @@ apart_tells l new byte answer a k = by (does l new byte answer a.mark k)
     by : Does l byte answer new → answer ≡ what.Nothing
     by (says e m) = e
     by (begins e m) = e
-    by (drops e m) = absurd (let q = sym e ∙ a.drops in cc)
-    by (is_a_mark e m) = absurd (let q = sym e ∙ a.started in cc)
+    by (drops e k m) = absurd (let q = sym e ∙ a.drops in cc)
+    by (is_a_mark e k m) = absurd (let q = sym e ∙ a.started in cc)
 
 -- a quiet byte begins no token
 pub quiet_tells : (l new : Reading) (byte : ℕ) (answer : What) → l.pending.mark ≡ mark.Nothing → not (byte == 60 || byte == 38) ≡ true → entries.Reads l byte (Ok answer) new → new.pending.mark ≡ mark.Nothing
@@ -144,8 +147,32 @@ quiet_tells l new byte answer n q k = by (does l new byte answer n k)
     by : Does l byte answer new → new.pending.mark ≡ mark.Nothing
     by (says e m) = m
     by (begins e m) = absurd (let z = sym m ∙ untrue (byte == 60 || byte == 38) q in cc)
-    by (drops e m) = m
-    by (is_a_mark e m) = m
+    by (drops e k m) = m
+    by (is_a_mark e k m) = m
+
+-- no byte between tokens ends a tag
+pub between_tells : (l new : Reading) (byte : ℕ) (answer : What) → l.pending.mark ≡ mark.Nothing → entries.Reads l byte (Ok answer) new → is_tag answer ≡ false
+between_tells l new byte answer n k = by (does l new byte answer n k)
+  where
+    by : Does l byte answer new → is_tag answer ≡ false
+    by (says e m) = ap is_tag e
+    by (begins e m) = ap is_tag e
+    by (drops e k m) = ap is_tag k
+    by (is_a_mark e k m) = ap is_tag k
+
+-- and neither does what text is handed out for, before a fault or at the end of the piece
+pub stopped_tells : (text : Chars) (n : ℕ) (s : Stop) → IfOk (stopped_at text n s) (λ answer. is_tag answer.1 ≡ false)
+stopped_tells [] n (stop.Fault fault) = tt
+stopped_tells (c ∷ text) n (stop.Fault fault) = refl
+stopped_tells text n stop.NoMemory = tt
+
+pub other_tells : (answer : What) → is_token answer ≡ false → is_tag answer ≡ false
+other_tells what.Nothing h = refl
+other_tells what.Text h = refl
+other_tells what.Skipped h = refl
+other_tells what.Section h = refl
+other_tells what.Doctype h = refl
+other_tells what.Tag h = absurd (cc)
 
 pub quiet_at : (piece : List ℕ) (i : ℕ) → i < length piece → is_quiet piece ≡ true → not (get_or piece i 0 == 60 || get_or piece i 0 == 38) ≡ true
 quiet_at [] i h q = absurd (omega arith)

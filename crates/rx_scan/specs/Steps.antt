@@ -187,6 +187,12 @@ stopped_at text n stop.NoMemory = Err stop.NoMemory
 abbrev pub is_quiet : List ℕ → Bool
 is_quiet piece = list_all (λ byte. not (byte == less_than_sign || byte == ampersand)) piece
 
+-- a start or an end tag
+abbrev pub shows_tag : shown.Token → Bool
+shows_tag (token.Start t) = true
+shows_tag (token.End t) = true
+shows_tag _ = false
+
 -- before a step: what the last one told is forgotten
 pub record Prepared (old new : Scanner) : Type 0 where
   pub text : new.reading.text.text ≡ []

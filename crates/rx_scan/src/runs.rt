@@ -1,9 +1,9 @@
 //! The bytes of a piece, up to the end of a token.
-ghost use Rattle.std.specs.Prelude.{◌≡◌, ◌≢◌, ◌+◌, ◌≤◌, ◌⊎◌, ℕ, [], true, false};
+ghost use Rattle.std.specs.Prelude.{◌≡◌, ◌≢◌, ◌+◌, ◌≤◌, ◌⊎◌, ℕ, [], true, false, IfOk};
 ghost use Rattle.rx_pages.specs.PageReader.{Scanning};
 ghost use Rattle.rx_tags.specs.TagBufs.{MayStep};
 ghost use Rattle.rx_scan.specs.Entries.{IsNoMemory};
-ghost use Rattle.rx_scan.specs.Steps.{ReadsAs, Runs, RunsReady, RunsTake, is_quiet, is_token, stopped_at};
+ghost use Rattle.rx_scan.specs.Steps.{ReadsAs, Runs, RunsReady, RunsTake, is_quiet, is_tag, is_token, stopped_at};
 
 use crate::answers::What;
 use crate::readers::Reader;
@@ -66,6 +66,7 @@ impl Reader {
         ensures ready { RunsReady result self.new }
         ensures takes { RunsTake piece.now result }
         ensures quiet { self.old.pending.mark ≡ Mark.Nothing → is_quiet piece.now ≡ true → IsNoMemory result ≡ false }
+        ensures quiet_tells { self.old.pending.mark ≡ Mark.Nothing → is_quiet piece.now ≡ true → IfOk result (λ answer. is_tag answer.1 ≡ false) }
     {
         let mut taken = self.say_front(piece);
         while taken < piece.len() {

@@ -129,10 +129,10 @@ impl Scan {
     ghost use Rattle.std.specs.Borrow.{sem};
     ghost use Rattle.std.specs.Io.BufRead.{Rests};
     ghost use Rattle.rx_scan.specs.contracts.scans.Scan.{the_row};
-    ghost use Rattle.std.specs.Prelude.{[], None, Some};
+    ghost use Rattle.std.specs.Prelude.{[], None, Some, OnOk};
     ghost use Rattle.rx_reader.specs.TagReader.{parts_of};
     ghost use Rattle.rx_scan.specs.Entries.{IsNoMemory};
-    ghost use Rattle.rx_scan.specs.Steps.{Stands, Steps, Keeps, KeepsOn, Advances, Prepared, FailsBy, Shows, ShowsTag, IsLastTag, is_quiet};
+    ghost use Rattle.rx_scan.specs.Steps.{Stands, Steps, Keeps, KeepsOn, Advances, Prepared, FailsBy, Shows, ShowsTag, IsLastTag, is_quiet, is_tag, shows_tag};
 
     // What the last step told is forgotten.
     fn prepare(&mut self)
@@ -161,6 +161,7 @@ impl Scan {
         ensures steps { (s : Scanning) → Stands self.old s → Advances self.old s piece.now result self.new }
         ensures keeps { KeepsOn self.old piece.now result self.new }
         ensures quiet { (s : Scanning) → Stands self.old s → s.run ≡ [] → is_quiet piece.now ≡ true → IsNoMemory result ≡ false }
+        ensures quiet_tells { (s : Scanning) → Stands self.old s → s.run ≡ [] → is_quiet piece.now ≡ true → OnOk result (is_tag self.new.what ≡ false) }
     {
         if self.spent {
             self.prepare();
@@ -188,10 +189,11 @@ impl Scan {
     ///
     /// `More` comes exactly where the whole piece was taken and no token is complete. A fault comes exactly where the
     /// scanner's reading has one in the bytes so far, before a token is complete, and then at each later call. After
-    /// want of memory nothing else is answered. Text by itself takes no memory.
+    /// want of memory nothing else is answered. Text by itself takes no memory, and answers no tag.
     pub fn step(&mut self, piece: &[u8]) -> Result<(usize, Token<'_>), Stop>
         ensures* after { sem 𝓛 (Rests the_row self.entry (λ new. Keeps self.old piece.now result new × ((s : Scanning) → Stands self.old s → Steps self.old s piece.now result new))) }
         ensures quiet { (s : Scanning) → Stands self.old s → s.run ≡ [] → is_quiet piece.now ≡ true → IsNoMemory result ≡ false }
+        ensures quiet_tells { (s : Scanning) → Stands self.old s → s.run ≡ [] → is_quiet piece.now ≡ true → IfOk result (λ r. shows_tag r.1 ≡ false) }
     {
         let taken = self.advance(piece)?;
         Ok((taken, self.token()))

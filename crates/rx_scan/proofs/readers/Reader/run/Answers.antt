@@ -1,10 +1,11 @@
-use Rattle.std.proofs.Common.{length, take, drop, ◌-◌, ◌<◌, ◌∙◌, ℕ, ◌+◌, sym, subst, inl, arith, refl, Result, get_or}
+use Rattle.std.proofs.Common.{◌≡◌, length, take, drop, ◌-◌, ◌<◌, ◌∙◌, ℕ, ◌+◌, sym, subst, inl, arith, refl, Result, get_or, false}
+use Rattle.std.specs.Prelude.{IfOk}
 use Rattle.rx_tags.specs.declared.stops.Stop.{Stop}
 use Rattle.rx_scan.specs.declared.answers.What.{What}
-use Rattle.rx_scan.specs.Steps.{Runs}
+use Rattle.rx_scan.specs.Steps.{Runs, is_tag}
 use Rattle.rx_scan.proofs.RunLemmas.{took_text}
 use Rattle.rx_scan.proofs.LoopLemmas.{next_read, token_read, stopped, rest_took, lends, may_step}
-use Rattle.rx_scan.proofs.QuietLemmas.{quiet_tells, quiet_at}
+use Rattle.rx_scan.proofs.QuietLemmas.{quiet_tells, quiet_at, between_tells, stopped_tells, other_tells}
 use Rattle.rx_scan.proofs.FrontLemmas.{IsKept, kept, quiet_on, steps_on, apart_on, later_on, front_first, front_next, front_within}
 use Rattle.rx_scan.proofs.readers.Reader.run.Goals as goal
 
@@ -39,6 +40,14 @@ returns-then-must_show-clause-runs c =
     (next_read c.args.self.now c.loop-taken.self c.read.new.self s c.args.piece.now c.loop-taken.taken c.loop-taken-test.true (c.loop-taken.invariant.so_far s h) c.in-Ok.what (sym c.is_token.ensures ∙ c.if-is_token.false) c.in-Ok.ensures.reads)
     (c.must_show.ensures.some c.if-must_show.true))
 
+pub returns-in-Err-clause-quiet_tells : goal.returns-in-Err-clause-quiet_tells
+returns-in-Err-clause-quiet_tells c =
+    λ m q. subst (λ (r : Result (ℕ × What) Stop). IfOk r (λ answer. is_tag answer.1 ≡ false)) (sym c.stopped.ensures) (stopped_tells c.read.new.self.text.text c.loop-taken.taken c.in-Err.stop)
+
+pub returns-then-is_token-clause-quiet_tells : goal.returns-then-is_token-clause-quiet_tells
+returns-then-is_token-clause-quiet_tells c =
+    λ m q. between_tells c.loop-taken.self c.read.new.self (get_or c.args.piece.now c.loop-taken.taken 0) c.in-Ok.what (c.loop-taken.invariant.quiet m q) c.in-Ok.ensures.reads
+
 pub loop-taken-preserved : goal.loop-taken-preserved
 loop-taken-preserved c =
     let i = c.loop-taken.taken + 1 in
@@ -64,6 +73,9 @@ loop-taken-preserved c =
 pub returns-clause-runs : goal.returns-clause-runs
 returns-clause-runs c =
     λ s h. rest_took c.args.self.now c.loop-taken.self s c.args.piece.now c.loop-taken.taken c.loop-taken.taken c.rest.result refl (omega (arith, c.loop-taken-test.false, c.loop-taken.invariant.within)) (c.loop-taken.invariant.so_far s h) c.rest.ensures.either c.rest.ensures.text c.rest.ensures.nothing
+
+pub returns-clause-quiet_tells : goal.returns-clause-quiet_tells
+returns-clause-quiet_tells c = λ m q. other_tells c.rest.result c.rest.ensures.either
 
 pub returns-clause-ready : goal.returns-clause-ready
 returns-clause-ready c = (lends c.rest.result c.loop-taken.self c.rest.ensures.either c.loop-taken.invariant.may_step, c.loop-taken.invariant.room)
