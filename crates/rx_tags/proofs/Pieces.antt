@@ -1,11 +1,15 @@
 -- Pieces of a buffer that grows at its end.
-use Rattle.std.proofs.Common.{◌≡◌, ◌∙◌, sym, ap, refl, ℕ, ◌+◌, ◌-◌, ◌≤◌, ◌<◌, List, [], ◌∷◌, ◌++◌, length, take, drop, arith, encode_utf8, zero, suc, slice_get, get_or, Some}
+use Rattle.std.proofs.Common.{◌≡◌, ◌∙◌, sym, ap, refl, ℕ, ◌+◌, ◌-◌, ◌≤◌, ◌<◌, List, [], ◌∷◌, ◌++◌, length, take, drop, arith, encode_utf8, zero, suc, slice_get, get_or, Some, true}
 use Rattle.std.specs.Str.{chars, IsUtf8}
 use Rattle.std.specs.Char.{IsScalar}
 use Rattle.std.specs.Prelude.{encode_utf8_all}
+use Rattle.std.specs.List.{list_all}
 use Rattle.std.proofs.lemmas.Grind.{common_steps}
 use Rattle.std.proofs.lemmas.List.{take-append-drop, take-append-le, drop-append-le, length-drop, length-take, length-append, append_assoc, append-nil, map-append}
 use Rattle.std.proofs.lemmas.Str.{chars-append, chars_past_char, chars-nil, encodes-chars, IsUtf8-append, IsUtf8-encode, IsUtf8-nil}
+use Rattle.rx_terms.proofs.CharLemmas.{ascii-utf8, ascii-chars}
+use Rattle.rx_terms.specs.Ascii.{is_ascii}
+use Rattle.rx_terms.specs.Text.{Chars}
 use Rattle.rx_tags.specs.declared.attributes.Row.{Row}
 use Rattle.rx_tags.specs.Reading.{Reading, piece, row_read, rows_read, read_as, RowFits, RowsFit, Fits, nothing_read}
 
@@ -98,10 +102,20 @@ cut_back text rows start middle end f =
       },
     )
 
+one_char : (c : ℕ) → IsScalar c → chars (encode_utf8 c) ≡ c ∷ []
+one_char c s = chars_past_char (encode_utf8 c) [] c (IsUtf8-encode c s) (sym (append-nil (encode_utf8 c))) ∙ ap (λ rest. c ∷ rest) chars-nil
+
+-- more of the value
+abbrev read_on : Reading → Chars → Reading
+read_on r more = record { whole = r.whole; key = r.key; known = r.known ++ (r.pending ++ more); pending = [] }
+
+-- more of the name
+abbrev key_on : Reading → Chars → Reading
+key_on r more = record { whole = r.whole; key = r.key ++ more; known = r.known; pending = r.pending }
+
 pub with_char : (bs : List ℕ) (c : ℕ) → IsUtf8 bs → IsScalar c → IsUtf8 (bs ++ encode_utf8 c) × (chars (bs ++ encode_utf8 c) ≡ chars bs ++ c ∷ [])
 with_char bs c u s =
-    let one : chars (encode_utf8 c) ≡ c ∷ [] = chars_past_char (encode_utf8 c) [] c (IsUtf8-encode c s) (sym (append-nil (encode_utf8 c))) ∙ ap (λ rest. c ∷ rest) chars-nil in
-    (IsUtf8-append bs (encode_utf8 c) u (IsUtf8-encode c s), chars-append bs (encode_utf8 c) u ∙ ap (λ rest. chars bs ++ rest) one)
+    (IsUtf8-append bs (encode_utf8 c) u (IsUtf8-encode c s), chars-append bs (encode_utf8 c) u ∙ ap (λ rest. chars bs ++ rest) (one_char c s))
 
 -- what stands from the value's begin on: what is known, and then the run
 pub from_middle : (text : List ℕ) (rows : List Row) (start middle end : ℕ) → Fits text rows start middle end
@@ -110,36 +124,52 @@ from_middle text rows start middle end f =
     let e = piece_then text middle end f.on in
     (rw e (IsUtf8-append _ _ f.known f.pending), ap chars e ∙ chars-append _ _ f.known)
 
-pub pushed : (text rows_text : List ℕ) (rows : List Row) (start middle end n c : ℕ) → Fits text rows start middle end → IsScalar c
-    → rows_text ≡ text ++ encode_utf8 c → n ≡ length rows_text
-    → Fits rows_text rows start middle n
-    × (read_as rows_text rows start middle n ≡ record { whole = rows_read text rows; key = chars (piece text start middle); known = chars (piece text middle end) ++ (chars (drop end text) ++ c ∷ []); pending = [] })
-pushed text grown rows start middle end n c f s g h =
+pub pushed_all : (text grown : List ℕ) (rows : List Row) (start middle end n : ℕ) (more : List ℕ) → Fits text rows start middle end → IsUtf8 more
+    → grown ≡ text ++ more → n ≡ length grown
+    → Fits grown rows start middle n
+    × (read_as grown rows start middle n ≡ record { whole = rows_read text rows; key = chars (piece text start middle); known = chars (piece text middle end) ++ (chars (drop end text) ++ chars more); pending = [] })
+pushed_all text grown rows start middle end n more f u g h =
     let within : middle ≤ length text = omega (arith, f.on, f.within) in
-    let longer : length (text ++ encode_utf8 c) ≡ length text + length (encode_utf8 c) = length-append text (encode_utf8 c) in
+    let longer : length (text ++ more) ≡ length text + length more = length-append text more in
     let m = from_middle text rows start middle end f in
-    let w = with_char (drop middle text) c m.0 s in
-    let count : n ≡ length (text ++ encode_utf8 c) = h ∙ ap length g in
-    let key : piece (text ++ encode_utf8 c) start middle ≡ piece text start middle = piece_on text (encode_utf8 c) start middle f.rises within in
-    let value : piece (text ++ encode_utf8 c) middle n ≡ drop middle text ++ encode_utf8 c = piece_rest (text ++ encode_utf8 c) middle n count ∙ drop-append-le middle text (encode_utf8 c) within in
-    let past = nothing_past (text ++ encode_utf8 c) n count in
+    let count : n ≡ length (text ++ more) = h ∙ ap length g in
+    let key : piece (text ++ more) start middle ≡ piece text start middle = piece_on text more start middle f.rises within in
+    let value : piece (text ++ more) middle n ≡ drop middle text ++ more = piece_rest (text ++ more) middle n count ∙ drop-append-le middle text more within in
+    let past = nothing_past (text ++ more) n count in
     rw g (
       record {
-        rows_fit = rows_fit_on text (encode_utf8 c) start start rows (omega (arith, f.rises, f.on, f.within)) (omega arith) f.rows_fit;
+        rows_fit = rows_fit_on text more start start rows (omega (arith, f.rises, f.on, f.within)) (omega arith) f.rows_fit;
         rises = f.rises;
         on = omega (arith, f.on, f.within, longer, count);
         within = omega (arith, count);
         key = rw key f.key;
-        known = rw value w.0;
+        known = rw value (IsUtf8-append (drop middle text) more m.0 u);
         pending = past.0;
       },
       λ i. record {
-        whole = rows_on text (encode_utf8 c) start rows (omega (arith, f.rises, f.on, f.within)) f.rows_fit i;
+        whole = rows_on text more start rows (omega (arith, f.rises, f.on, f.within)) f.rows_fit i;
         key = chars (key i);
-        known = (ap chars value ∙ w.1 ∙ ap (λ front. front ++ c ∷ []) m.1 ∙ append_assoc (chars (piece text middle end)) (chars (drop end text)) (c ∷ [])) i;
+        known = (ap chars value ∙ chars-append (drop middle text) more m.0 ∙ ap (λ front. front ++ chars more) m.1 ∙ append_assoc (chars (piece text middle end)) (chars (drop end text)) (chars more)) i;
         pending = past.1 i;
       },
     )
+
+pub pushed : (text grown : List ℕ) (rows : List Row) (start middle end n c : ℕ) → Fits text rows start middle end → IsScalar c
+    → grown ≡ text ++ encode_utf8 c → n ≡ length grown
+    → Fits grown rows start middle n
+    × (read_as grown rows start middle n ≡ record { whole = rows_read text rows; key = chars (piece text start middle); known = chars (piece text middle end) ++ (chars (drop end text) ++ c ∷ []); pending = [] })
+pushed text grown rows start middle end n c f s g h =
+    let all = pushed_all text grown rows start middle end n (encode_utf8 c) f (IsUtf8-encode c s) g h in
+    (all.0, all.1 ∙ ap (λ (more : List ℕ). read_on (read_as text rows start middle end) more) (one_char c s))
+
+-- characters of ASCII are their bytes
+pub pushed_ascii : (text grown : List ℕ) (rows : List Row) (start middle end n : ℕ) (more : List ℕ) → Fits text rows start middle end → list_all is_ascii more ≡ true
+    → grown ≡ text ++ more → n ≡ length grown
+    → Fits grown rows start middle n
+    × (read_as grown rows start middle n ≡ record { whole = rows_read text rows; key = chars (piece text start middle); known = chars (piece text middle end) ++ (chars (drop end text) ++ more); pending = [] })
+pushed_ascii text grown rows start middle end n more f a g h =
+    let all = pushed_all text grown rows start middle end n more f (ascii-utf8 more a) g h in
+    (all.0, all.1 ∙ ap (λ (x : List ℕ). read_on (read_as text rows start middle end) x) (ascii-chars more a))
 
 -- a run begins
 pub begun : (text grown : List ℕ) (rows : List Row) (start middle end n c : ℕ) → Fits text rows start middle end → IsScalar c
@@ -207,40 +237,55 @@ none_of : (bs : List ℕ) → IsUtf8 bs → chars bs ≡ [] → bs ≡ []
 none_of bs u e = sym (encodes-chars bs u) ∙ ap encode_utf8_all e
 
 -- a name goes on, where no value was begun
+key_pushed_all : (text grown : List ℕ) (rows : List Row) (start middle end n : ℕ) (more : List ℕ) → Fits text rows start middle end → IsUtf8 more
+    → grown ≡ text ++ more → n ≡ length grown → chars (piece text middle end) ≡ [] → chars (drop end text) ≡ []
+    → Fits grown rows start n n
+    × (read_as grown rows start n n ≡ record { whole = rows_read text rows; key = chars (piece text start middle) ++ chars more; known = chars (piece text middle end); pending = chars (drop end text) })
+key_pushed_all text grown rows start middle end n more f u g h k p =
+    let within : start ≤ length text = omega (arith, f.rises, f.on, f.within) in
+    let longer : length (text ++ more) ≡ length text + length more = length-append text more in
+    let count : n ≡ length (text ++ more) = h ∙ ap length g in
+    let m = from_middle text rows start middle end f in
+    let no_value : drop middle text ≡ [] = none_of _ m.0 (m.1 ∙ rw (k, p) refl) in
+    let all : drop start text ≡ piece text start middle = piece_then text start middle f.rises ∙ ap (λ rest. piece text start middle ++ rest) no_value ∙ append-nil (piece text start middle) in
+    let key : piece (text ++ more) start n ≡ piece text start middle ++ more =
+    piece_rest (text ++ more) start n count ∙ drop-append-le start text more within ∙ ap (λ front. front ++ more) all in
+    let past = nothing_past (text ++ more) n count in
+    let z : n - n ≡ 0 = omega arith in
+    let value : piece (text ++ more) n n ≡ [] = rw z refl in
+    rw g (
+      record {
+        rows_fit = rows_fit_on text more start start rows (omega (arith, f.rises, f.on, f.within)) (omega arith) f.rows_fit;
+        rises = omega (arith, within, count, longer);
+        on = omega arith;
+        within = omega (arith, count);
+        key = rw key (IsUtf8-append (piece text start middle) more f.key u);
+        known = rw value IsUtf8-nil;
+        pending = past.0;
+      },
+      λ i. record {
+        whole = rows_on text more start rows (omega (arith, f.rises, f.on, f.within)) f.rows_fit i;
+        key = (ap chars key ∙ chars-append (piece text start middle) more f.key) i;
+        known = (ap chars value ∙ chars-nil ∙ sym k) i;
+        pending = (past.1 ∙ sym p) i;
+      },
+    )
+
 pub key_pushed : (text grown : List ℕ) (rows : List Row) (start middle end n c : ℕ) → Fits text rows start middle end → IsScalar c
     → grown ≡ text ++ encode_utf8 c → n ≡ length grown → chars (piece text middle end) ≡ [] → chars (drop end text) ≡ []
     → Fits grown rows start n n
     × (read_as grown rows start n n ≡ record { whole = rows_read text rows; key = chars (piece text start middle) ++ c ∷ []; known = chars (piece text middle end); pending = chars (drop end text) })
 key_pushed text grown rows start middle end n c f s g h k p =
-    let within : start ≤ length text = omega (arith, f.rises, f.on, f.within) in
-    let longer : length (text ++ encode_utf8 c) ≡ length text + length (encode_utf8 c) = length-append text (encode_utf8 c) in
-    let count : n ≡ length (text ++ encode_utf8 c) = h ∙ ap length g in
-    let m = from_middle text rows start middle end f in
-    let no_value : drop middle text ≡ [] = none_of _ m.0 (m.1 ∙ rw (k, p) refl) in
-    let all : drop start text ≡ piece text start middle = piece_then text start middle f.rises ∙ ap (λ rest. piece text start middle ++ rest) no_value ∙ append-nil (piece text start middle) in
-    let w = with_char (piece text start middle) c f.key s in
-    let key : piece (text ++ encode_utf8 c) start n ≡ piece text start middle ++ encode_utf8 c =
-    piece_rest (text ++ encode_utf8 c) start n count ∙ drop-append-le start text (encode_utf8 c) within ∙ ap (λ front. front ++ encode_utf8 c) all in
-    let past = nothing_past (text ++ encode_utf8 c) n count in
-    let z : n - n ≡ 0 = omega arith in
-    let value : piece (text ++ encode_utf8 c) n n ≡ [] = rw z refl in
-    rw g (
-      record {
-        rows_fit = rows_fit_on text (encode_utf8 c) start start rows (omega (arith, f.rises, f.on, f.within)) (omega arith) f.rows_fit;
-        rises = omega (arith, within, count, longer);
-        on = omega arith;
-        within = omega (arith, count);
-        key = rw key w.0;
-        known = rw value IsUtf8-nil;
-        pending = past.0;
-      },
-      λ i. record {
-        whole = rows_on text (encode_utf8 c) start rows (omega (arith, f.rises, f.on, f.within)) f.rows_fit i;
-        key = (ap chars key ∙ w.1) i;
-        known = (ap chars value ∙ chars-nil ∙ sym k) i;
-        pending = (past.1 ∙ sym p) i;
-      },
-    )
+    let all = key_pushed_all text grown rows start middle end n (encode_utf8 c) f (IsUtf8-encode c s) g h k p in
+    (all.0, all.1 ∙ ap (λ (more : List ℕ). key_on (read_as text rows start middle end) more) (one_char c s))
+
+pub key_pushed_ascii : (text grown : List ℕ) (rows : List Row) (start middle end n : ℕ) (more : List ℕ) → Fits text rows start middle end → list_all is_ascii more ≡ true
+    → grown ≡ text ++ more → n ≡ length grown → chars (piece text middle end) ≡ [] → chars (drop end text) ≡ []
+    → Fits grown rows start n n
+    × (read_as grown rows start n n ≡ record { whole = rows_read text rows; key = chars (piece text start middle) ++ more; known = chars (piece text middle end); pending = chars (drop end text) })
+key_pushed_ascii text grown rows start middle end n more f a g h k p =
+    let all = key_pushed_all text grown rows start middle end n more f (ascii-utf8 more a) g h k p in
+    (all.0, all.1 ∙ ap (λ (x : List ℕ). key_on (read_as text rows start middle end) x) (ascii-chars more a))
 
 rows_fit_append : (text : List ℕ) (limit : ℕ) (rows : List Row) (row : Row) → RowsFit text limit rows → RowFits text limit row → RowsFit text limit (rows ++ row ∷ [])
 rows_fit_append text limit [] row f r = (r, tt)

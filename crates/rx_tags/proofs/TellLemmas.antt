@@ -1,5 +1,5 @@
 -- What the reader's answers tell of the characters so far, and they of the answers, by the grammar.
-use Rattle.std.proofs.Common.{◌≡◌, ◌∙◌, sym, ap, subst, refl, ℕ, true, false, [], ◌∷◌, ◌++◌, Result, Ok, Err, inl, inr}
+use Rattle.std.proofs.Common.{◌≡◌, ◌∙◌, sym, ap, subst, refl, ℕ, true, false, List, [], ◌∷◌, ◌++◌, take, Result, Ok, Err, inl, inr}
 use Rattle.rx_terms.specs.Text.{Chars}
 use Rattle.rx_chars.specs.declared.syntax.Syntax.{Syntax}
 use Rattle.rx_grammar.specs.declared.faults.Kind.{Kind}
@@ -17,7 +17,8 @@ use Rattle.rx_tags.specs.declared.tag_text.TagStep.TheVariants.{More, Done}
 use Rattle.rx_tags.specs.declared.pairs.TagError.{TagError}
 use Rattle.rx_tags.specs.declared.pairs.TagError.TheVariants.{Bad, NoMemory}
 use Rattle.rx_tags.specs.TagReads.{Ends}
-use Rattle.rx_tags.specs.TagBufs.{TagSoFar, Stands, StepGives, StepTells, AnswersAll}
+use Rattle.rx_tags.specs.TagBufs.{TagSoFar, Stands, GoesOn, StepGives, TakesMore, StepTells, AnswersAll}
+use Rattle.rx_tags.proofs.TakeLemmas.{goes_read, may_step}
 
 on : (s : Syntax) (st : TagState) (chars : Chars) (c : ℕ) (r : Result TagState Kind) → tag_on s (meaning s) (Ok fresh) chars ≡ Ok st → tag_step s (meaning s) st c ≡ r
     → tag_on s (meaning s) (Ok fresh) (chars ++ c ∷ []) ≡ r
@@ -46,6 +47,20 @@ tells old new c (Err (Bad kind)) g chars h =
     let f = refuses_each_fault old.syntax chars old.state h.run h.may_step.unfinished c kind in
     subst (StepTells (chars ++ c ∷ []) (Err (Bad kind))) (sym g.1) (f.0 g.0)
 tells old new c (Err NoMemory) g chars h = tt
+
+-- the same of many characters at once, of which each goes on
+pub front_tells : (old new : TagSoFar) (bytes : List ℕ) (n : ℕ) → TakesMore old bytes n new → (chars : Chars) → Stands old chars → GoesOn new (chars ++ take n bytes)
+front_tells old new bytes n t chars h =
+    let s = old.syntax in
+    let all = chars ++ take n bytes in
+    let run : tag_on s (meaning s) (Ok fresh) all ≡ Ok new.state =
+    tag_on-append s (meaning s) (Ok fresh) chars (take n bytes) ∙ (ap (λ o. tag_on s (meaning s) o (take n bytes)) h.run ∙ goes_read s old.state new.state (take n bytes) t.front.goes) in
+    let open_yet = (may_step old new bytes n t h.may_step).unfinished in
+    subst (λ (x : TagSoFar). GoesOn x all) (sym t.is) (record {
+      stands = record { run = run; may_step = record { unfinished = open_yet; unrefused = h.may_step.unrefused } };
+      begins = begins_from s all (record { reached = new.state; run = run; unfinished = open_yet });
+      unspelled = no_tag_yet s new.state all run open_yet;
+    })
 
 -- the characters are read to here, to a tag's end, or not at all
 module _ (s : Syntax) (chars : Chars) where

@@ -3,6 +3,7 @@ pub mod Numbers
 pub mod ValueMoves
 pub mod Pairs
 pub mod TagReads
+pub mod Fronts
 pub mod Seen
 pub mod Repeats
 pub mod TagBufs

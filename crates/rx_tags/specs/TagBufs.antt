@@ -1,5 +1,5 @@
 -- One tag while it is read: what contracts see, and what each answer tells of the characters so far.
-use Rattle.std.specs.Prelude.{◌≡◌, ◌⊎◌, ℕ, Bool, true, false, Result, Ok, Err}
+use Rattle.std.specs.Prelude.{◌≡◌, ◌⊎◌, ℕ, Bool, true, false, List, Result, Ok, Err}
 use Rattle.rx_terms.specs.Text.{Chars}
 use Rattle.rx_chars.specs.declared.syntax.Syntax.{Syntax}
 use Rattle.rx_grammar.specs.declared.faults.Kind.{Kind}
@@ -14,6 +14,7 @@ use Rattle.rx_tags.specs.declared.tag_text.TagStep.TheVariants.{More, Done}
 use Rattle.rx_tags.specs.declared.pairs.TagError.{TagError}
 use Rattle.rx_tags.specs.declared.pairs.TagError.TheVariants.{Bad, NoMemory}
 use Rattle.rx_tags.specs.TagReads.{TagRead, ReadGives}
+use Rattle.rx_tags.specs.Fronts.{TakesFront}
 
 -- A tag so far. `refused` says that a fault was answered since the buffer was made or cleared.
 pub record TagSoFar : Type 0 where
@@ -39,6 +40,11 @@ StepGives old c (Ok step) new =
 StepGives old c (Err (Bad kind)) new =
     ReadGives (read_of old) c (Err (Bad kind)) new.state × (new ≡ record { syntax = old.syntax; state = fresh; refused = true })
 StepGives old c (Err NoMemory) new = new ≡ old
+
+-- The first n bytes are characters with which the tag goes on, by so many steps that answer `More`.
+pub record TakesMore (old : TagSoFar) (bytes : List ℕ) (n : ℕ) (new : TagSoFar) : Type 0 where
+  pub front : TakesFront old.syntax old.state bytes n new.state
+  pub is : new ≡ record { syntax = old.syntax; state = new.state; refused = old.refused }
 
 -- These are the characters since the buffer was made or cleared, and no fault was answered.
 pub record Stands (tag : TagSoFar) (chars : Chars) : Type 0 where

@@ -60,6 +60,11 @@ ReadGives old c (Ok Done) new = Ends old c new
 ReadGives old c (Err (Bad kind)) new = tag_step old.syntax (meaning old.syntax) old.state c ≡ Err kind
 ReadGives old c (Err NoMemory) new = Unit {0}
 
+-- one that doesn't end the tag
+abbrev pub GoGives : TagRead → ℕ → Result (Unit {0}) TagError → TagState → Type 0
+GoGives old c (Ok done) new = ReadGives old c (Ok More) new
+GoGives old c (Err error) new = ReadGives old c (Err error) new
+
 -- With this action a tag is read to its `>`.
 abbrev pub CanEnd : TagAction → Value → Type 0
 CanEnd action.Skip value = value ≡ no_value_yet

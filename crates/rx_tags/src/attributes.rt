@@ -1,6 +1,8 @@
 //! The attributes of one tag in one buffer.
-ghost use Rattle.std.specs.Prelude.{◌≡◌, ℕ, ◌<◌, ◌≤◌, List, [], ◌∷◌, ◌++◌, length, IfOk, OnErr, OnOk, encode_utf8, encode_utf8_all, Some, slice_get};
+ghost use Rattle.std.specs.Prelude.{◌≡◌, ℕ, ◌<◌, ◌≤◌, true, List, [], ◌∷◌, ◌++◌, length, IfOk, OnErr, OnOk, encode_utf8, encode_utf8_all, Some, slice_get};
+ghost use Rattle.std.specs.List.{list_all};
 ghost use Rattle.std.specs.Str.{chars, IsUtf8};
+ghost use Rattle.rx_terms.specs.Ascii.{is_ascii};
 ghost use Rattle.rx_grammar.specs.Tags.{firsts, has_repeat};
 ghost use Rattle.rx_tags.specs.Reading.{piece};
 
@@ -84,6 +86,31 @@ impl Attributes {
         ensures err { OnErr result (self.new ≡ self.old) }
     {
         push_char(&mut self.text, c)?;
+        self.end = self.text.len();
+        Ok(())
+    }
+
+    /// Characters of ASCII of the name, where no value was begun.
+    pub(crate) fn push_key_ascii(&mut self, bytes: &[u8]) -> Result<(), NoMemory>
+        requires ascii { list_all is_ascii bytes.now ≡ true }
+        requires known { self.old.known ≡ [] }
+        requires pending { self.old.pending ≡ [] }
+        ensures ok { OnOk result (self.new ≡ record self.old { key = self.old.key ++ bytes.now }) }
+        ensures err { OnErr result (self.new ≡ self.old) }
+    {
+        push_bytes(&mut self.text, bytes)?;
+        self.middle = self.text.len();
+        self.end = self.middle;
+        Ok(())
+    }
+
+    /// Characters of ASCII of the value. A run before them is text.
+    pub(crate) fn push_ascii(&mut self, bytes: &[u8]) -> Result<(), NoMemory>
+        requires { list_all is_ascii bytes.now ≡ true }
+        ensures ok { OnOk result (self.new ≡ record self.old { known = self.old.known ++ (self.old.pending ++ bytes.now); pending = [] }) }
+        ensures err { OnErr result (self.new ≡ self.old) }
+    {
+        push_bytes(&mut self.text, bytes)?;
         self.end = self.text.len();
         Ok(())
     }
@@ -246,6 +273,14 @@ fn push_char(text: &mut Vec<u8>, c: char) -> Result<(), NoMemory>
 {
     let mut room = [0; 4];
     let bytes = c.encode_utf8(&mut room).as_bytes();
+    text.extend_from_slice(bytes)?;
+    Ok(())
+}
+
+fn push_bytes(text: &mut Vec<u8>, bytes: &[u8]) -> Result<(), NoMemory>
+    ensures ok { OnOk result (text.new.items ≡ text.old.items ++ bytes.now) }
+    ensures err { OnErr result (text.new.items ≡ text.old.items) }
+{
     text.extend_from_slice(bytes)?;
     Ok(())
 }

@@ -1,10 +1,12 @@
 //! The attributes of a tag while their values are read.
 ghost use Rattle.std.specs.Prelude.{◌≡◌, ℕ, List, [], ◌∷◌, ◌++◌, IfErr, OnErr, OnOk};
 ghost use Rattle.rx_terms.specs.Ascii.{ampersand};
+ghost use Rattle.rx_reader.specs.Values as values;
 ghost use Rattle.rx_reader.specs.Values.{no_value_yet};
 ghost use Rattle.rx_tags.specs.Pairs as ends;
 
 use crate::attributes::Attributes;
+use crate::fronts::{plain_length, small_length};
 use crate::references::meaning;
 use crate::values::{ValueMove, no_meaning, value_move};
 use rx_chars::Syntax;
@@ -41,6 +43,8 @@ impl Model for Pairs {
 }
 
 impl Pairs {
+    ghost use Rattle.std.specs.Prelude.{◌≤◌, ◌==◌, MatchBool, length, take};
+    ghost use Rattle.rx_tags.specs.Fronts.{GainsValue, GainsKey};
     ghost use Rattle.rx_tags.specs.Pairs.{no_pairs, TakeGives, AddGives};
 
     pub(crate) fn new(alloc: Global) -> Pairs
@@ -113,6 +117,41 @@ impl Pairs {
             }
             ValueMove::Bad => Err(TagError::Bad(Kind::StrictText)),
         }
+    }
+
+    /// Takes the characters at the front that are themselves in each value in quotes, where the value has no run at its
+    /// end and there is memory, and tells how many.
+    pub(crate) fn take_plain(&mut self, bytes: &[u8]) -> usize
+        ensures fits { result ≤ length bytes.now }
+        ensures gains { MatchBool (result == 0) (self.new ≡ self.old) (GainsValue self.old (take result bytes.now) self.new) }
+    {
+        if is_run(self.run) {
+            return 0;
+        }
+        let count = plain_length(bytes);
+        if count == 0 {
+            return 0;
+        }
+        if self.attributes.push_ascii(&bytes[..count]).is_err() {
+            return 0;
+        }
+        count
+    }
+
+    /// Takes the small letters at the front for the name, where no value was begun and there is memory, and tells how many.
+    pub(crate) fn take_small(&mut self, bytes: &[u8]) -> usize
+        requires { self.old.value ≡ no_value_yet }
+        ensures fits { result ≤ length bytes.now }
+        ensures gains { MatchBool (result == 0) (self.new ≡ self.old) (GainsKey self.old (take result bytes.now) self.new) }
+    {
+        let count = small_length(bytes);
+        if count == 0 {
+            return 0;
+        }
+        if self.attributes.push_key_ascii(&bytes[..count]).is_err() {
+            return 0;
+        }
+        count
     }
 
     /// The attribute that is read is whole.
@@ -205,6 +244,12 @@ impl Pairs {
     {
         self.attributes.at(i)
     }
+}
+
+fn is_run(run: RunPhase) -> bool
+    ensures { result ≡ values.is_run run }
+{
+    run != RunPhase::Plain
 }
 
 // Whether a value may end in this phase.

@@ -1,10 +1,10 @@
 //! One tag that is read a character at a time.
-ghost use Rattle.std.specs.Prelude.{◌≡◌, true, [], ◌∷◌, ◌++◌, IfOk};
+ghost use Rattle.std.specs.Prelude.{◌≡◌, true, [], ◌∷◌, ◌++◌, IfOk, take};
 ghost use Rattle.rx_terms.specs.Text.{Chars};
 ghost use Rattle.rx_reader.specs.Tables.{is_last};
 ghost use Rattle.rx_reader.specs.TagReader.{parts_of};
 ghost use Rattle.rx_tags.specs.Seen.{tag_seen};
-ghost use Rattle.rx_tags.specs.TagBufs.{no_tag, MayStep, StepGives, Stands, StepTells, AnswersAll};
+ghost use Rattle.rx_tags.specs.TagBufs.{no_tag, MayStep, StepGives, TakesMore, Stands, GoesOn, StepTells, AnswersAll};
 
 use crate::pairs::TagError;
 use crate::tag_text::{TagStep, TagText};
@@ -69,6 +69,26 @@ impl TagBuf {
             }
             Err(TagError::NoMemory) => Err(TagError::NoMemory),
         }
+    }
+
+    /// Takes characters at the front of some bytes, as far as each is printed ASCII and goes on with the tag and there is
+    /// memory, and tells how many. They are read as by so many steps, each of which answers `More`; what `step` would make
+    /// of the next one isn't known.
+    pub fn take_front(&mut self, bytes: &[u8]) -> usize
+        requires { MayStep self.old }
+        ensures takes { TakesMore self.old bytes.now result self.new }
+        ensures none { result ≡ 0 → self.new ≡ self.old }
+        ensures may_step { MayStep self.new }
+        ensures tells { (chars : Chars) → Stands self.old chars → GoesOn self.new (chars ++ take result bytes.now) }
+    {
+        self.read_front(bytes)
+    }
+
+    fn read_front(&mut self, bytes: &[u8]) -> usize
+        requires { MayStep self.old }
+        ensures { TakesMore self.old bytes.now result self.new }
+    {
+        self.text.take_front(bytes)
     }
 
     /// The tag that was read, with the byte offsets of its `<` and its `>`.

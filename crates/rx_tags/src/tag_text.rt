@@ -5,6 +5,7 @@ ghost use Rattle.rx_reader.specs.Tables.{is_html};
 ghost use Rattle.rx_reader.specs.Values.{no_value_yet};
 ghost use Rattle.rx_tags.specs.TagReads.{ActGives, CanEnd, EndGives};
 
+use crate::fronts::{is_printed, is_quoted};
 use crate::moves::{is_last, move_at};
 use crate::pairs::{Pairs, TagError};
 use crate::values::cased;
@@ -70,7 +71,10 @@ impl TagText {
 }
 
 impl TagText {
-    ghost use Rattle.rx_tags.specs.TagReads.{ReadGives, EndsTag, FinishGives, KeepsAtNoMemory};
+    ghost use Rattle.std.specs.Prelude.{Some, false};
+    ghost use Rattle.rx_reader.specs.Tables as tables;
+    ghost use Rattle.rx_reader.specs.Tables.{move_of};
+    ghost use Rattle.rx_tags.specs.TagReads.{ReadGives, GoGives, EndsTag, FinishGives, KeepsAtNoMemory};
 
     /// Reads one more character, and at the tag's `>` keeps the first attribute of each name.
     pub(crate) fn step(&mut self, alloc: Global, c: char) -> Result<TagStep, TagError>
@@ -87,10 +91,24 @@ impl TagText {
                 Err(error) => Err(error),
             };
         }
+        match self.go(phase, action, c) {
+            Ok(()) => Ok(TagStep::More),
+            Err(error) => Err(error),
+        }
+    }
+
+    // The character by its move, which doesn't end the tag. Where that fails nothing is changed.
+    fn go(&mut self, phase: TagPhase, action: TagAction, c: char) -> Result<(), TagError>
+        requires by_move { move_of self.old.syntax self.old.state.phase c ≡ Some (phase, action) }
+        requires unfinished { tables.is_last phase ≡ false }
+        ensures gives { GoGives self.old c result self.new.state }
+        ensures syntax { self.new.syntax ≡ self.old.syntax }
+        ensures err { OnErr result (self.new ≡ self.old) }
+    {
         match act(self.syntax, action, c, &mut self.name, &mut self.pairs) {
             Ok(()) => {
                 self.phase = phase;
-                Ok(TagStep::More)
+                Ok(())
             }
             Err(error) => Err(error),
         }
@@ -112,6 +130,66 @@ impl TagText {
                 Ok(())
             }
             Err(error) => Err(error),
+        }
+    }
+}
+
+impl TagText {
+    ghost use Rattle.std.specs.Prelude.{true, false};
+    ghost use Rattle.rx_tags.specs.Fronts as fronts;
+    ghost use Rattle.rx_tags.specs.Fronts.{GoesTo, TakesFront};
+
+    /// Takes characters at the front, as far as each is printed ASCII, goes on with the tag and finds memory, and tells how
+    /// many.
+    pub(crate) fn take_front(&mut self, bytes: &[u8]) -> usize
+        ensures takes { TakesFront self.old.syntax self.old.state bytes.now result self.new.state }
+        ensures syntax { self.new.syntax ≡ self.old.syntax }
+    {
+        let mut taken = self.take_run(bytes);
+        while taken < bytes.len() {
+            if !self.goes_on(bytes[taken]) {
+                return taken;
+            }
+            taken += 1;
+            taken += self.take_run(&bytes[taken..]);
+        }
+        taken
+    }
+
+    // What stands at the front of the rest of an attribute's name or of a value in quotes.
+    fn take_run(&mut self, bytes: &[u8]) -> usize
+        ensures takes { TakesFront self.old.syntax self.old.state bytes.now result self.new.state }
+        ensures syntax { self.new.syntax ≡ self.old.syntax }
+    {
+        if is_quoted(self.phase) {
+            return self.pairs.take_plain(bytes);
+        }
+        match self.phase {
+            TagPhase::Key => self.pairs.take_small(bytes),
+            _ => 0,
+        }
+    }
+
+    // One character, if it is printed and the tag goes on with it; else nothing is changed.
+    fn goes_on(&mut self, byte: u8) -> bool
+        ensures goes { result ≡ true → GoesTo self.old.syntax self.old.state byte self.new.state }
+        ensures printed { result ≡ true → fronts.is_printed byte ≡ true }
+        ensures same { result ≡ false → self.new ≡ self.old }
+        ensures syntax { self.new.syntax ≡ self.old.syntax }
+    {
+        if !is_printed(byte) {
+            return false;
+        }
+        let c = char::from(byte);
+        let Some((phase, action)) = move_at(self.syntax, self.phase, c) else {
+            return false;
+        };
+        if is_last(phase) {
+            return false;
+        }
+        match self.go(phase, action, c) {
+            Ok(()) => true,
+            Err(_) => false,
         }
     }
 }

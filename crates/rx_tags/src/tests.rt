@@ -184,6 +184,28 @@ fn one_buffer_for_many_tags(rt: HostRuntime) -> Result<(), Fail> {
 }
 
 #[test]
+fn many_at_once(rt: HostRuntime) -> Result<(), Fail> {
+    let rows: [(Syntax, &[u8], usize); 6] = [
+        (Syntax::Html, b"p about=\"a>b\" rel=c d>", 21),
+        (Syntax::Html, b"p a='&lt;b&' C>", 14),
+        (Syntax::Html, b"p\ta", 1),
+        (Syntax::Html, b"p \xC9", 2),
+        (Syntax::Xhtml, b"/p >", 3),
+        (Syntax::Xhtml, b"p a='1' b=\"<\"", 11),
+    ];
+    for (syntax, text, count) in rows {
+        let mut buf = TagBuf::new(rt.alloc(), syntax)?;
+        assert_eq!(rt; buf.take_front(text), count);
+    }
+    let mut buf = TagBuf::new(rt.alloc(), Syntax::Html)?;
+    assert_eq!(rt; buf.take_front(b"p a='&lt;b' C=\"d e\">"), 19);
+    let (_taken, answer) = read(&mut buf, b">");
+    assert_eq!(rt; answer, Ok(TagStep::Done));
+    assert_eq!(rt; shown(rt.alloc(), buf.tag(0, 19))?.as_str(), "p|a=<b|c=d e");
+    Ok(())
+}
+
+#[test]
 fn five_thousand_attributes(rt: HostRuntime) -> Result<(), Fail> {
     let mut text = String::new(rt.alloc());
     text.push_str("p")?;

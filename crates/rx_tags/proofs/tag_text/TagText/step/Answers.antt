@@ -1,5 +1,5 @@
 use Rattle.std.proofs.Common.{◌∙◌, sym}
-use Rattle.rx_tags.proofs.SettledLemmas.{settled, can_end}
+use Rattle.rx_tags.proofs.SettledLemmas.{can_end}
 use Rattle.rx_tags.proofs.tag_text.TagText.step.Goals as goal
 
 pub finish-requires : goal.finish-requires
@@ -7,7 +7,3 @@ finish-requires c =
     let is_last = sym c.is_last.ensures ∙ c.if-is_last.true in
     rw (← c.self.view_is)
     (is_last, can_end c.self.inside.syntax c.self.inside.phase c.in-Some.phase c.in-Some.action c.args.c c.self.inside.pairs.value (sym c.move_at.ensures ∙ c.in-Some.is) is_last c.self.invariant)
-
-pub invariant_of-self : goal.invariant_of-self
-invariant_of-self c =
-    settled c.self.inside.syntax c.self.inside.phase c.in-Some.phase c.in-Some.action c.args.c _ _ c.self.inside.pairs c.act.new.pairs (sym c.move_at.ensures ∙ c.in-Some.is) c.self.invariant c.in-Ok-act.ensures.gives

@@ -1,0 +1,306 @@
+-- Characters that a tag takes at once are read like one after another.
+use Rattle.std.proofs.Common.{◌≡◌, ◌∙◌, ◌⊎◌, ℕ, ◌+◌, ◌-◌, ◌≤◌, ◌<◌, Bool, true, false, List, [], ◌∷◌, ◌++◌, length, take, drop, refl, ap, sym, subst, Result, Ok, Err, append_assoc, arith, eqb-true, take-add, length-take-le, length-drop, get_or, inl, inr}
+use Rattle.std.specs.Prelude.{◌==◌, ◌&&◌, nat_le, MatchBool}
+use Rattle.std.specs.List.{list_all}
+use Rattle.std.specs.Str.{chars}
+use Rattle.std.proofs.lemmas.Bool.{cond-true, cond-false, lt-ltb, lt-leb, le-leb, leb-true, eqb-false, and_parts, and_from, both_ways, cases_lt}
+use Rattle.std.proofs.lemmas.List.{take_more, take_rest}
+use Rattle.std.proofs.lemmas.List.Folds.{list_all-append}
+use Rattle.rx_terms.specs.Ascii.{is_ascii}
+use Rattle.rx_terms.specs.Text.{Chars}
+use Rattle.rx_chars.specs.NcName.{is_nc}
+use Rattle.rx_chars.specs.declared.syntax.Syntax.{Syntax}
+use Rattle.rx_chars.specs.declared.syntax.Syntax.TheVariants.{Html, Xhtml}
+use Rattle.rx_grammar.specs.declared.faults.Kind.{Kind}
+use Rattle.rx_grammar.specs.References.{meaning}
+use Rattle.rx_grammar.specs.Tags.{cased_char}
+use Rattle.rx_reader.specs.declared.phases.RunPhase.{RunPhase}
+use Rattle.rx_reader.specs.declared.phases.RunPhase.TheVariants as run
+use Rattle.rx_reader.specs.declared.phases.TagPhase.{TagPhase}
+use Rattle.rx_reader.specs.declared.phases.TagPhase.TheVariants as phase
+use Rattle.rx_reader.specs.declared.phases.TagAction.{TagAction}
+use Rattle.rx_reader.specs.declared.phases.TagAction.TheVariants as action
+use Rattle.rx_reader.specs.Tables.{Move, go, move_of, is_last}
+use Rattle.rx_reader.specs.Values.{Value, no_value_yet, known_as, plain_step, value_step, is_run}
+use Rattle.rx_reader.specs.TagReader.{TagState, with_value, moved, checked, tag_on, tag_step}
+use Rattle.rx_reader.proofs.Bools.{by_test}
+use Rattle.rx_tags.specs.Fronts.{is_printed, is_plain, is_small, is_quoted, GoesTo, GoesBy, TakesFront, GainsValue, GainsKey}
+use Rattle.rx_tags.specs.Pairs.{Pairs, pairs_read, IsPending}
+use Rattle.rx_tags.specs.Reading.{Reading}
+use Rattle.rx_tags.specs.TagBufs.{TagSoFar, MayStep, TakesMore}
+use Rattle.rx_tags.specs.TagReads.{state_of, is_value_phase, IsSettled}
+
+-- a character of a class is none outside it
+pub is_none : (p : ℕ → Bool) (c d : ℕ) → p c ≡ true → p d ≡ false → (c == d) ≡ false
+is_none p c d h k = by_test {G = (c == d) ≡ false} (c == d) (λ e. absurd (both_ways (p d) k (ap p (sym (eqb-true c d e)) ∙ h))) (λ e. e)
+
+-- what is plain or small is printed, and what is printed is ASCII
+printed_to : (c : ℕ) → is_printed c ≡ true → c ≤ 126
+printed_to c h = leb-true c 126 (and_parts (nat_le 32 c) (nat_le c 126) h).1
+
+printed_ascii : (front : Chars) → list_all is_printed front ≡ true → list_all is_ascii front ≡ true
+printed_ascii [] h = refl
+printed_ascii (c ∷ front) h =
+    let k = and_parts (is_printed c) _ h in
+    let b = printed_to c k.0 in
+    and_from (is_ascii c) _ (lt-ltb c 128 (omega arith)) (printed_ascii front k.1)
+
+plain_printed : (front : Chars) → list_all is_plain front ≡ true → list_all is_printed front ≡ true
+plain_printed [] h = refl
+plain_printed (c ∷ front) h = let k = and_parts (is_plain c) _ h in and_from (is_printed c) _ (and_parts (is_printed c) _ k.0).0 (plain_printed front k.1)
+
+small_from : (c : ℕ) → is_small c ≡ true → 97 ≤ c
+small_from c h = leb-true 97 c (and_parts (nat_le 97 c) (nat_le c 122) h).0
+
+small_to : (c : ℕ) → is_small c ≡ true → c ≤ 122
+small_to c h = leb-true c 122 (and_parts (nat_le 97 c) (nat_le c 122) h).1
+
+small_printed : (front : Chars) → list_all is_small front ≡ true → list_all is_printed front ≡ true
+small_printed [] h = refl
+small_printed (c ∷ front) h =
+    let k = and_parts (is_small c) _ h in
+    let low = small_from c k.0 in
+    let high = small_to c k.0 in
+    and_from (is_printed c) _ (and_from _ _ (le-leb 32 c (omega arith)) (le-leb c 126 (omega arith))) (small_printed front k.1)
+
+pub plain_ascii : (front : Chars) → list_all is_plain front ≡ true → list_all is_ascii front ≡ true
+plain_ascii front h = printed_ascii front (plain_printed front h)
+
+pub small_ascii : (front : Chars) → list_all is_small front ≡ true → list_all is_ascii front ≡ true
+small_ascii front h = printed_ascii front (small_printed front h)
+
+-- what holds of both quotes
+on_quoted : (P : TagPhase → Type 0) (p : TagPhase) → is_quoted p ≡ true → P phase.DoubleQuoted → P phase.SingleQuoted → P p
+on_quoted P phase.DoubleQuoted q d s = d
+on_quoted P phase.SingleQuoted q d s = s
+on_quoted P phase.Start q d s = absurd (cc)
+on_quoted P phase.Name q d s = absurd (cc)
+on_quoted P phase.Gap q d s = absurd (cc)
+on_quoted P phase.Solidus q d s = absurd (cc)
+on_quoted P phase.Key q d s = absurd (cc)
+on_quoted P phase.AfterKey q d s = absurd (cc)
+on_quoted P phase.BeforeValue q d s = absurd (cc)
+on_quoted P phase.Unquoted q d s = absurd (cc)
+on_quoted P phase.AfterValue q d s = absurd (cc)
+on_quoted P phase.EndStart q d s = absurd (cc)
+on_quoted P phase.EndName q d s = absurd (cc)
+on_quoted P phase.EndGap q d s = absurd (cc)
+on_quoted P phase.Opened q d s = absurd (cc)
+on_quoted P phase.Emptied q d s = absurd (cc)
+on_quoted P phase.Closed q d s = absurd (cc)
+
+pub quoted_settled : (p : TagPhase) (value : Value) → is_quoted p ≡ true → IsSettled p value
+quoted_settled p value q = on_quoted (λ x. IsSettled x value) p q (λ n. absurd (cc)) (λ n. absurd (cc))
+
+-- the state itself, where the tag isn't whole
+checked_open : (s : Syntax) (st : TagState) → is_last st.phase ≡ false → checked s (Ok st) ≡ Ok st
+checked_open s st e = rw e refl
+
+-- a plain character of a value in quotes
+module _ (s : Syntax) (c : ℕ) (h : is_plain c ≡ true) where
+  plain_is : (sy : Syntax) (known : Chars) → plain_step sy known c ≡ Ok (known_as (known ++ c ∷ []))
+  plain_is Html known = rw (is_none is_plain c 38 h refl) refl
+  plain_is Xhtml known = rw (is_none is_plain c 38 h refl, is_none is_plain c 60 h refl, is_none is_plain c 9 h refl, is_none is_plain c 10 h refl) refl
+
+  value_is : (value : Value) → value.phase ≡ run.Plain → value_step s (meaning s) value c ≡ Ok (known_as (value.known ++ c ∷ []))
+  value_is value e = cond-false _ _ _ (ap is_run e) ∙ plain_is s value.known
+
+  quoted_move : (p : TagPhase) → is_quoted p ≡ true → move_of s p c ≡ go p action.Value
+  quoted_move p q = on_quoted (λ x. move_of s x c ≡ go x action.Value) p q (cond-false _ _ _ (is_none is_plain c 34 h refl)) (cond-false _ _ _ (is_none is_plain c 39 h refl))
+
+-- the attributes with more of the value, or of the name
+abbrev valued : Pairs → Chars → Pairs
+valued old text = record { whole = old.whole; key = old.key; value = known_as text }
+
+abbrev keyed : Pairs → Chars → Pairs
+keyed old text = record { whole = old.whole; key = text; value = old.value }
+
+module _ (s : Syntax) (p : TagPhase) (name : Chars) (q : is_quoted p ≡ true) where
+  one_value : (old : Pairs) (c : ℕ) → is_plain c ≡ true → old.value.phase ≡ run.Plain → GoesTo s (state_of p name old) c (state_of p name (valued old (old.value.known ++ c ∷ [])))
+  one_value old c h e =
+      let unfinished = on_quoted (λ x. is_last x ≡ false) p q refl refl in (
+        ap (λ (m : Move). checked s (moved s (meaning s) (state_of p name old) c m)) (quoted_move s c h p q)
+            ∙ (ap (λ (v : Result Value Kind). checked s (with_value p (state_of p name old) v)) (value_is s c h old.value e)
+            ∙ checked_open s (state_of p name (valued old (old.value.known ++ c ∷ []))) unfinished),
+        unfinished,
+      )
+
+  more_value : (old : Pairs) (c : ℕ) (front : Chars) → old.value.phase ≡ run.Plain → list_all is_plain (c ∷ front) ≡ true → GoesBy s (state_of p name old) (c ∷ front) (state_of p name (valued old (old.value.known ++ c ∷ front)))
+  more_value old c [] e h = (state_of p name (valued old (old.value.known ++ c ∷ [])), one_value old c (and_parts (is_plain c) _ h).0 e, refl)
+  more_value old c (d ∷ front) e h =
+      let k = and_parts (is_plain c) _ h in
+      let next : Pairs = valued old (old.value.known ++ c ∷ []) in (
+        state_of p name next,
+        one_value old c k.0 e,
+        subst (λ (x : Chars). GoesBy s (state_of p name next) (d ∷ front) (state_of p name (valued old x))) (append_assoc old.value.known (c ∷ []) (d ∷ front)) (more_value next d front refl k.1),
+      )
+
+  some_value : (old new : Pairs) (front : Chars) → 0 < length front → GainsValue old front new → GoesBy s (state_of p name old) front (state_of p name new)
+  some_value old new [] n g = absurd (omega arith)
+  some_value old new (c ∷ front) n g = subst (λ (x : Pairs). GoesBy s (state_of p name old) (c ∷ front) (state_of p name x)) (sym g.is) (more_value old c front g.outside g.plain)
+
+-- a small letter of an attribute's name
+module _ (c : ℕ) (h : is_small c ≡ true) where
+  small_nc : is_nc c ≡ true
+  small_nc =
+      let low = small_from c h in
+      let parts = and_parts (nat_le 97 c) (nat_le c 122) h in
+      rw (le-leb 65 c (omega arith), lt-leb c 90 (omega arith), is_none is_small c 95 h refl, parts.0, parts.1) refl
+
+  small_move : (s : Syntax) → move_of s phase.Key c ≡ go phase.Key action.Key
+  small_move Html =
+      rw (is_none is_small c 9 h refl, is_none is_small c 10 h refl, is_none is_small c 12 h refl, is_none is_small c 13 h refl, is_none is_small c 32 h refl, is_none is_small c 61 h refl, is_none is_small c 47 h refl, is_none is_small c 62 h refl, is_none is_small c 34 h refl, is_none is_small c 39 h refl, is_none is_small c 60 h refl) refl
+  small_move Xhtml =
+      rw (is_none is_small c 9 h refl, is_none is_small c 10 h refl, is_none is_small c 12 h refl, is_none is_small c 13 h refl, is_none is_small c 32 h refl, is_none is_small c 61 h refl, is_none is_small c 47 h refl, is_none is_small c 62 h refl, small_nc) refl
+
+  small_cased : (s : Syntax) → cased_char s c ≡ c
+  small_cased Html =
+      let low = small_from c h in
+      let no_capital : (nat_le 65 c && nat_le c 90) ≡ false = rw (le-leb 65 c (omega arith), lt-leb c 90 (omega arith)) refl in
+      cond-false _ _ _ no_capital
+  small_cased Xhtml = refl
+
+module _ (s : Syntax) (name : Chars) where
+  abbrev in_key : Pairs → TagState
+  in_key pairs = state_of phase.Key name pairs
+
+  abbrev ok_state : TagState → Result TagState Kind
+  ok_state st = Ok st
+
+  one_key : (old : Pairs) (c : ℕ) → is_small c ≡ true → GoesTo s (in_key old) c (in_key (keyed old (old.key ++ c ∷ [])))
+  one_key old c h = (
+    ap (λ (m : Move). checked s (moved s (meaning s) (in_key old) c m)) (small_move c h s) ∙ ap (λ (d : ℕ). ok_state (in_key (keyed old (old.key ++ d ∷ [])))) (small_cased c h s),
+    refl,
+  )
+
+  more_key : (old : Pairs) (c : ℕ) (front : Chars) → list_all is_small (c ∷ front) ≡ true → GoesBy s (in_key old) (c ∷ front) (in_key (keyed old (old.key ++ c ∷ front)))
+  more_key old c [] h = (in_key (keyed old (old.key ++ c ∷ [])), one_key old c (and_parts (is_small c) _ h).0, refl)
+  more_key old c (d ∷ front) h =
+      let k = and_parts (is_small c) _ h in
+      let next : Pairs = keyed old (old.key ++ c ∷ []) in (
+        in_key next,
+        one_key old c k.0,
+        subst (λ (x : Chars). GoesBy s (in_key next) (d ∷ front) (in_key (keyed old x))) (append_assoc old.key (c ∷ []) (d ∷ front)) (more_key next d front k.1),
+      )
+
+  some_key : (old new : Pairs) (front : Chars) → 0 < length front → GainsKey old front new → GoesBy s (in_key old) front (in_key new)
+  some_key old new [] n g = absurd (omega arith)
+  some_key old new (c ∷ front) n g = subst (λ (x : Pairs). GoesBy s (in_key old) (c ∷ front) (in_key x)) (sym g.is) (more_key old c front g.small)
+
+-- nothing is taken, or some characters are
+some_count : (n : ℕ) → (n ≡ 0 → ⊥) → 0 < n
+some_count n z = elim (cases_lt 0 n) [ inl a ↦ a | inr b ↦ absurd (z (omega (arith, b))) ]
+
+match_by : {G : Type 0} (b : Bool) (P Q : Type 0) → MatchBool b P Q → (b ≡ true → P → G) → (b ≡ false → Q → G) → G
+match_by true P Q m f g = f refl m
+match_by false P Q m f g = g refl m
+
+some_taken : (n : ℕ) (bytes : List ℕ) → n ≤ length bytes → (n == 0) ≡ false → 0 < length (take n bytes)
+some_taken n bytes f z = subst (λ (x : ℕ). 0 < x) (sym (length-take-le n bytes f)) (some_count n (eqb-false n 0 z))
+
+none_taken : (s : Syntax) (old new : TagState) (bytes : List ℕ) (n : ℕ) → n ≡ 0 → new ≡ old → TakesFront s old bytes n new
+none_taken s old new bytes n z e = subst (λ (x : ℕ). TakesFront s old bytes x new) (sym z) (record { fits = omega arith; printed = refl; goes = e })
+
+pub value_front : (s : Syntax) (p : TagPhase) (name : Chars) (old new : Pairs) (bytes : List ℕ) (n : ℕ) → is_quoted p ≡ true → n ≤ length bytes → MatchBool (n == 0) (new ≡ old) (GainsValue old (take n bytes) new)
+    → TakesFront s (state_of p name old) bytes n (state_of p name new)
+value_front s p name old new bytes n q f m =
+    match_by (n == 0) _ _ m
+    (λ z e. none_taken s (state_of p name old) (state_of p name new) bytes n (eqb-true n 0 z) (ap (state_of p name) e))
+    (λ z g. record { fits = f; printed = plain_printed (take n bytes) g.plain; goes = some_value s p name q old new (take n bytes) (some_taken n bytes f z) g })
+
+pub key_front : (s : Syntax) (p : TagPhase) (name : Chars) (old new : Pairs) (bytes : List ℕ) (n : ℕ) → p ≡ phase.Key → n ≤ length bytes → MatchBool (n == 0) (new ≡ old) (GainsKey old (take n bytes) new)
+    → TakesFront s (state_of p name old) bytes n (state_of p name new)
+key_front s p name old new bytes n q f m =
+    subst (λ (x : TagPhase). TakesFront s (state_of x name old) bytes n (state_of x name new)) (sym q)
+    (match_by (n == 0) _ _ m
+    (λ z e. none_taken s (in_key s name old) (in_key s name new) bytes n (eqb-true n 0 z) (ap (in_key s name) e))
+    (λ z g. record { fits = f; printed = small_printed (take n bytes) g.small; goes = some_key s name old new (take n bytes) (some_taken n bytes f z) g }))
+
+-- a name that goes on leaves the value as it is
+pub key_settled : (p : TagPhase) (old new : Pairs) (front : Chars) (n : ℕ) → IsSettled p old.value → MatchBool (n == 0) (new ≡ old) (GainsKey old front new) → IsSettled p new.value
+key_settled p old new front n k m =
+    subst (λ (v : Value). IsSettled p v) (sym (match_by (n == 0) _ _ m (λ z e. ap (λ (x : Pairs). x.value) e) (λ z g. ap (λ (x : Pairs). x.value) g.is))) k
+
+-- no front is taken
+pub nothing_taken : (s : Syntax) (old : TagState) (bytes : List ℕ) → TakesFront s old bytes 0 old
+nothing_taken s old bytes = record { fits = omega arith; printed = refl; goes = refl }
+
+-- one front after another
+goes_then : (s : Syntax) (a b c : TagState) (xs ys : Chars) → GoesBy s a xs b → GoesBy s b ys c → GoesBy s a (xs ++ ys) c
+goes_then s a b c [] ys g h = subst (λ (x : TagState). GoesBy s x ys c) g h
+goes_then s a b c (x ∷ xs) ys g h = (g.0, g.1, goes_then s g.0 b c xs ys g.2 h)
+
+takes_then : (s : Syntax) (a b c : TagState) (bytes : List ℕ) (i n : ℕ) → i ≤ length bytes → TakesFront s a bytes i b → TakesFront s b (take (length bytes - i) (drop i bytes)) n c → TakesFront s a bytes (i + n) c
+takes_then s a b c bytes i n k f g =
+    let more = subst (λ (x : List ℕ). TakesFront s b x n c) (take_rest bytes i) g in
+    record {
+      fits = omega (arith, k, more.fits, length-drop i bytes);
+      printed = subst (λ (x : List ℕ). list_all is_printed x ≡ true) (sym (take-add i n bytes)) (list_all-append is_printed (take i bytes) (take n (drop i bytes)) ∙ and_from _ _ f.printed more.printed);
+      goes = subst (λ (x : List ℕ). GoesBy s a x c) (sym (take-add i n bytes)) (goes_then s a b c (take i bytes) (take n (drop i bytes)) f.goes more.goes);
+    }
+
+takes_one : (s : Syntax) (a b c : TagState) (bytes : List ℕ) (i : ℕ) → i < length bytes → TakesFront s a bytes i b → is_printed (get_or bytes i 0) ≡ true → GoesTo s b (get_or bytes i 0) c → TakesFront s a bytes (i + 1) c
+takes_one s a b c bytes i k f p g =
+    let e = take_more bytes i 0 k in
+    record {
+      fits = omega (arith, k);
+      printed = subst (λ (x : List ℕ). list_all is_printed x ≡ true) (sym e) (list_all-append is_printed (take i bytes) (get_or bytes i 0 ∷ []) ∙ and_from _ _ f.printed (and_from (is_printed (get_or bytes i 0)) true p refl));
+      goes = subst (λ (x : List ℕ). GoesBy s a x c) (sym e) (goes_then s a b c (take i bytes) (get_or bytes i 0 ∷ []) f.goes (c, g, refl));
+    }
+
+-- a turn of the loop: one character, and what stands behind it
+pub turn : (s t u : Syntax) (a b c d : TagState) (bytes : List ℕ) (i n : ℕ) → i < length bytes → TakesFront s a bytes i b → t ≡ s → is_printed (get_or bytes i 0) ≡ true → GoesTo t b (get_or bytes i 0) c
+    → u ≡ t → TakesFront u c (take (length bytes - (i + 1)) (drop (i + 1) bytes)) n d → TakesFront s a bytes (i + 1 + n) d
+turn s t u a b c d bytes i n k f e p g r h =
+    takes_then s a c d bytes (i + 1) n (omega (arith, k)) (takes_one s a b c bytes i k f p (subst (λ (x : Syntax). GoesTo x b (get_or bytes i 0) c) e g))
+    (subst (λ (x : Syntax). TakesFront x c (take (length bytes - (i + 1)) (drop (i + 1) bytes)) n d) (r ∙ e) h)
+
+-- what is taken is read, and ends no tag
+pub goes_unfinished : (s : Syntax) (a b : TagState) (xs : Chars) → GoesBy s a xs b → is_last a.phase ≡ false → is_last b.phase ≡ false
+goes_unfinished s a b [] g h = ap (λ (x : TagState). is_last x.phase) g ∙ h
+goes_unfinished s a b (x ∷ xs) g h = goes_unfinished s g.0 b xs g.2 g.1.1
+
+pub goes_read : (s : Syntax) (a b : TagState) (xs : Chars) → GoesBy s a xs b → tag_on s (meaning s) (Ok a) xs ≡ Ok b
+goes_read s a b [] g = ap (λ (x : TagState). Ok x) (sym g)
+goes_read s a b (x ∷ xs) g = ap (λ (r : Result TagState Kind). tag_on s (meaning s) r xs) g.1.0 ∙ goes_read s g.0 b xs g.2
+
+pub may_step : (old new : TagSoFar) (bytes : List ℕ) (n : ℕ) → TakesMore old bytes n new → MayStep old → MayStep new
+may_step old new bytes n t m =
+    record { unfinished = goes_unfinished old.syntax old.state new.state (take n bytes) t.front.goes m.unfinished; unrefused = ap (λ (x : TagSoFar). x.refused) t.is ∙ m.unrefused }
+
+pub none_same : (old new : TagSoFar) (bytes : List ℕ) (n : ℕ) → TakesMore old bytes n new → n ≡ 0 → new ≡ old
+none_same old new bytes n t z =
+    let e : new.state ≡ old.state = subst (λ (x : ℕ). GoesBy old.syntax old.state (take x bytes) new.state) z t.front.goes in
+    t.is ∙ (λ i. record { syntax = old.syntax; state = e i; refused = old.refused })
+
+-- the value, or the name, by what the buffer has
+chosen : (n : ℕ) (P Q : Type 0) → (n ≡ 0 → ⊥) → Q → MatchBool (n == 0) P Q
+chosen n P Q z q = subst (λ (b : Bool). MatchBool b P Q) (by_test {G = false ≡ (n == 0)} (n == 0) (λ t. absurd (z (eqb-true n 0 t))) (λ t. sym t)) q
+
+gains : (p : RunPhase) (old new : Reading) (front : Chars) → is_run p ≡ false → IsPending p old.pending → list_all is_plain front ≡ true
+    → new ≡ record { whole = old.whole; key = old.key; known = old.known ++ (old.pending ++ front); pending = [] } → GainsValue (pairs_read p old) front (pairs_read p new)
+gains run.Plain old new front r k h e =
+    record { plain = h; outside = refl; is = ap (pairs_read run.Plain) e ∙ ap (λ (x : Chars). valued (pairs_read run.Plain old) (old.known ++ (x ++ front))) k }
+gains run.Ampersand old new front r k h e = absurd (cc)
+gains run.Named old new front r k h e = absurd (cc)
+gains run.Hash old new front r k h e = absurd (cc)
+gains run.Decimal old new front r k h e = absurd (cc)
+gains run.Mark old new front r k h e = absurd (cc)
+gains run.Hexadecimal old new front r k h e = absurd (cc)
+
+pub gains_value : (p : RunPhase) (old new : Reading) (front : Chars) (n : ℕ) (P : Type 0) → (n ≡ 0 → ⊥) → is_run p ≡ false → IsPending p old.pending → list_all is_plain front ≡ true
+    → new ≡ record { whole = old.whole; key = old.key; known = old.known ++ (old.pending ++ front); pending = [] } → MatchBool (n == 0) P (GainsValue (pairs_read p old) front (pairs_read p new))
+gains_value p old new front n P z r k h e = chosen n P _ z (gains p old new front r k h e)
+
+pub stays_pending : (p : RunPhase) (old new : Reading) (front : Chars) → is_run p ≡ false → new ≡ record { whole = old.whole; key = old.key; known = old.known ++ (old.pending ++ front); pending = [] } → IsPending p new.pending
+stays_pending run.Plain old new front r e = ap (λ (x : Reading). x.pending) e
+stays_pending run.Ampersand old new front r e = absurd (cc)
+stays_pending run.Named old new front r e = absurd (cc)
+stays_pending run.Hash old new front r e = absurd (cc)
+stays_pending run.Decimal old new front r e = absurd (cc)
+stays_pending run.Mark old new front r e = absurd (cc)
+stays_pending run.Hexadecimal old new front r e = absurd (cc)
+
+pub gains_key : (p : RunPhase) (old new : Reading) (front : Chars) (n : ℕ) (P : Type 0) → (n ≡ 0 → ⊥) → list_all is_small front ≡ true
+    → new ≡ record { whole = old.whole; key = old.key ++ front; known = old.known; pending = old.pending } → MatchBool (n == 0) P (GainsKey (pairs_read p old) front (pairs_read p new))
+gains_key p old new front n P z h e = chosen n P _ z (record { small = h; is = ap (pairs_read p) e })

@@ -1,0 +1,57 @@
+-- Characters at the front of some bytes that a tag takes at once.
+use Rattle.std.specs.Prelude.{◌≡◌, ◌≤◌, ℕ, Bool, true, false, not, ◌&&◌, ◌||◌, ◌==◌, List, [], ◌∷◌, ◌++◌, length, take, Ok}
+use Rattle.std.specs.List.{list_all}
+use Rattle.rx_terms.specs.Ascii.{quotation_mark, ampersand, apostrophe, less_than_sign, between}
+use Rattle.rx_terms.specs.Text.{Chars}
+use Rattle.rx_chars.specs.declared.syntax.Syntax.{Syntax}
+use Rattle.rx_grammar.specs.References.{meaning}
+use Rattle.rx_reader.specs.declared.phases.RunPhase.TheVariants as run
+use Rattle.rx_reader.specs.declared.phases.TagPhase.{TagPhase}
+use Rattle.rx_reader.specs.declared.phases.TagPhase.TheVariants as phase
+use Rattle.rx_reader.specs.Tables.{is_last}
+use Rattle.rx_reader.specs.TagReader.{TagState, tag_step}
+use Rattle.rx_reader.specs.Values.{known_as}
+use Rattle.rx_tags.specs.Pairs.{Pairs}
+
+-- a space, or a character of ASCII that is printed
+abbrev pub is_printed : ℕ → Bool
+is_printed c = between 32 126 c
+
+-- one that is itself in each value in quotes: no quote, no `&` and no `<`
+abbrev pub is_plain : ℕ → Bool
+is_plain c = is_printed c && not (c == quotation_mark || c == ampersand || c == apostrophe || c == less_than_sign)
+
+-- a to z, which go on with each name
+abbrev pub is_small : ℕ → Bool
+is_small c = between 97 122 c
+
+abbrev pub is_quoted : TagPhase → Bool
+is_quoted phase.DoubleQuoted = true
+is_quoted phase.SingleQuoted = true
+is_quoted _ = false
+
+-- the tag goes on with a character
+abbrev pub GoesTo : Syntax → TagState → ℕ → TagState → Type 0
+GoesTo syntax old c new = (tag_step syntax (meaning syntax) old c ≡ Ok new) × (is_last new.phase ≡ false)
+
+-- it goes on with these characters, one after another
+abbrev pub GoesBy : Syntax → TagState → Chars → TagState → Type 0
+GoesBy syntax old [] new = new ≡ old
+GoesBy syntax old (c ∷ text) new = (middle : TagState) × GoesTo syntax old c middle × GoesBy syntax middle text new
+
+-- The first n bytes are characters with which it goes on.
+pub record TakesFront (syntax : Syntax) (old : TagState) (bytes : List ℕ) (n : ℕ) (new : TagState) : Type 0 where
+  pub fits : n ≤ length bytes
+  pub printed : list_all is_printed (take n bytes) ≡ true
+  pub goes : GoesBy syntax old (take n bytes) new
+
+-- The value that is read has these characters more, which no run stands before.
+pub record GainsValue (old : Pairs) (front : Chars) (new : Pairs) : Type 0 where
+  pub plain : list_all is_plain front ≡ true
+  pub outside : old.value.phase ≡ run.Plain
+  pub is : new ≡ record { whole = old.whole; key = old.key; value = known_as (old.value.known ++ front) }
+
+-- The name that is read has these characters more.
+pub record GainsKey (old : Pairs) (front : Chars) (new : Pairs) : Type 0 where
+  pub small : list_all is_small front ≡ true
+  pub is : new ≡ record { whole = old.whole; key = old.key ++ front; value = old.value }

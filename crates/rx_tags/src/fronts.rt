@@ -1,0 +1,64 @@
+//! Characters at the front of some bytes that a tag takes at once.
+ghost use Rattle.std.specs.Prelude.{◌≡◌, ◌≤◌, true, length, take};
+ghost use Rattle.std.specs.List.{list_all};
+ghost use Rattle.rx_tags.specs.Fronts as fronts;
+
+use rx_reader::TagPhase;
+
+/// A space, or a character of ASCII that is printed.
+pub(crate) fn is_printed(byte: u8) -> bool
+    ensures { result ≡ fronts.is_printed byte }
+{
+    matches!(byte, b' '..=b'~')
+}
+
+// One that is itself in each value in quotes.
+fn is_plain(byte: u8) -> bool
+    ensures { result ≡ fronts.is_plain byte }
+{
+    is_printed(byte) && !matches!(byte, b'"' | b'&' | b'\'' | b'<')
+}
+
+// One that goes on with each name.
+fn is_small(byte: u8) -> bool
+    ensures { result ≡ fronts.is_small byte }
+{
+    matches!(byte, b'a'..=b'z')
+}
+
+/// Whether a value in quotes is read.
+pub(crate) fn is_quoted(phase: TagPhase) -> bool
+    ensures { result ≡ fronts.is_quoted phase }
+{
+    matches!(phase, TagPhase::DoubleQuoted | TagPhase::SingleQuoted)
+}
+
+/// How many bytes at the front are themselves in a value in quotes.
+pub(crate) fn plain_length(bytes: &[u8]) -> usize
+    ensures fits { result ≤ length bytes.now }
+    ensures plain { list_all fronts.is_plain (take result bytes.now) ≡ true }
+{
+    let mut count = 0;
+    for byte in bytes {
+        if !is_plain(*byte) {
+            return count;
+        }
+        count += 1;
+    }
+    count
+}
+
+/// How many bytes at the front go on with a name.
+pub(crate) fn small_length(bytes: &[u8]) -> usize
+    ensures fits { result ≤ length bytes.now }
+    ensures small { list_all fronts.is_small (take result bytes.now) ≡ true }
+{
+    let mut count = 0;
+    for byte in bytes {
+        if !is_small(*byte) {
+            return count;
+        }
+        count += 1;
+    }
+    count
+}
