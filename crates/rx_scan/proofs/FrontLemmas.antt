@@ -1,4 +1,4 @@
--- Plain text that is told at once is read like its bytes one after another.
+-- What is taken at once is read like its bytes one after another.
 use Rattle.std.proofs.Common.{◌≡◌, ◌∙◌, ℕ, ◌+◌, ◌-◌, ◌≤◌, ◌<◌, Bool, true, false, List, [], ◌∷◌, ◌++◌, length, take, drop, refl, ap, sym, subst, Ok, append_assoc, arith, eqb-true, take-add, length-take-le, length-drop, inl, inr, ◌⊎◌}
 use Rattle.std.specs.Prelude.{◌&&◌, ◌==◌, not, nat_le, MatchBool}
 use Rattle.std.specs.List.{list_all}
@@ -29,11 +29,12 @@ use Rattle.rx_tags.specs.TagBufs.{MayStep}
 use Rattle.rx_scan.specs.declared.answers.What.TheVariants as what
 use Rattle.rx_scan.specs.declared.places.Place.{Place}
 use Rattle.rx_scan.specs.Entries as entries
-use Rattle.rx_scan.specs.Fronts.{is_plain, has_text, IsFront, TellsFront}
+use Rattle.rx_scan.specs.Fronts.{is_plain, has_text, IsFront, TellsFront, TakesFront, of_text, of_tag}
 use Rattle.rx_scan.specs.Places.{said, ended}
 use Rattle.rx_scan.specs.Scanner.{Reading}
 use Rattle.rx_scan.specs.Steps.{ReadsAs}
 use Rattle.rx_scan.proofs.ByteLemmas.{match_by}
+use Rattle.rx_scan.proofs.FeedLemmas.{feed_on, feeds_steps}
 use Rattle.rx_scan.proofs.RunLemmas.{ReadsOn, reads_none, reads_more}
 
 -- a plain byte is none that isn't
@@ -188,12 +189,13 @@ module _ (old new : Reading) (s : reader.Scanning) where
       subst (λ (x : List ℕ). ReadsOn old s x new) (append_assoc bytes (b ∷ []) (d ∷ front))
       (front_on d front (middle l b new.text.room) (bytes ++ b ∷ []) (reads_more old l s bytes r b (middle l b new.text.room) (reads_one l (middle l b new.text.room) b (first_tells l new b d front t))) (rest_tells l new b d front t))
 
-  some_front : (front : List ℕ) (l : Reading) (bytes : List ℕ) → 0 < length front → ReadsOn old s bytes l → TellsFront l front new → ReadsOn old s (bytes ++ front) new
+  some_front : (front : List ℕ) (l : Reading) (bytes : List ℕ) → 0 < length front → ReadsOn old s bytes l → TakesFront l front new → ReadsOn old s (bytes ++ front) new
   some_front [] l bytes k r t = absurd (omega arith)
-  some_front (b ∷ front) l bytes k r t = front_on b front l bytes r t
+  some_front (b ∷ front) l bytes k r (of_text t) = front_on b front l bytes r t
+  some_front (b ∷ front) l bytes k r (of_tag t) = feed_on old new s b front l bytes r t
 
-  -- the plain text behind so many bytes of a piece
-  pub front_read : (l : Reading) (piece : List ℕ) (i n : ℕ) → n ≤ length (drop i piece) → ReadsOn old s (take i piece) l → MatchBool (n == 0) (new ≡ l) (TellsFront l (take n (drop i piece)) new) → ReadsOn old s (take (i + n) piece) new
+  -- what is taken at once behind so many bytes of a piece
+  pub front_read : (l : Reading) (piece : List ℕ) (i n : ℕ) → n ≤ length (drop i piece) → ReadsOn old s (take i piece) l → MatchBool (n == 0) (new ≡ l) (TakesFront l (take n (drop i piece)) new) → ReadsOn old s (take (i + n) piece) new
   front_read l piece i n k r m =
       match_by (n == 0) _ _ m
       (λ z e. subst (λ (x : ℕ). ReadsOn old s (take x piece) new) (let q : n ≡ 0 = eqb-true n 0 z in omega arith) (subst (λ (x : Reading). ReadsOn old s (take i piece) x) (sym e) r))
@@ -204,41 +206,55 @@ module _ (old new : Reading) (s : reader.Scanning) where
 
 -- what it leaves as it was
 pub record IsKept (l : Reading) (n : ℕ) (new : Reading) : Type 0 where
-  pub pending : new.pending ≡ l.pending
+  pub mark_same : new.pending.mark ≡ l.pending.mark
+  pub steps : MayStep l.pending.tag → MayStep new.pending.tag
   pub apart : (new.text.text ≡ l.text.text) ⊎ (l.pending.mark ≡ mark.Nothing)
   pub none : n ≡ 0 → new.text.text ≡ l.text.text
 
-pub kept : (l new : Reading) (front : List ℕ) (n : ℕ) → MatchBool (n == 0) (new ≡ l) (TellsFront l front new) → IsKept l n new
+pub kept : (l new : Reading) (front : List ℕ) (n : ℕ) → MatchBool (n == 0) (new ≡ l) (TakesFront l front new) → IsKept l n new
 kept l new front n m =
     match_by (n == 0) _ _ m
-    (λ z e. record { pending = ap (λ (x : Reading). x.pending) e; apart = inl (ap (λ (x : Reading). x.text.text) e); none = λ q. ap (λ (x : Reading). x.text.text) e })
-    (λ z t. record { pending = ap (λ (x : Reading). x.pending) t.is; apart = inr t.may.between; none = λ q. absurd (eqb-false n 0 z q) })
+    (λ z e. record {
+      mark_same = ap (λ (x : Reading). x.pending.mark) e;
+      steps = λ k. subst (λ (x : Reading). MayStep x.pending.tag) (sym e) k;
+      apart = inl (ap (λ (x : Reading). x.text.text) e);
+      none = λ q. ap (λ (x : Reading). x.text.text) e;
+    })
+    (λ z t. by z t)
+  where
+    by : (n == 0) ≡ false → TakesFront l front new → IsKept l n new
+    by z (of_text t) = record {
+      mark_same = ap (λ (x : Reading). x.pending.mark) t.is;
+      steps = λ k. subst (λ (x : Reading). MayStep x.pending.tag) (sym t.is) k;
+      apart = inr t.may.between;
+      none = λ q. absurd (eqb-false n 0 z q);
+    }
+    by z (of_tag t) = record {
+      mark_same = ap (λ (x : Reading). x.pending.mark) t.is;
+      steps = λ k. feeds_steps l new front t k;
+      apart = inl (ap (λ (x : Reading). x.text.text) t.is);
+      none = λ q. absurd (eqb-false n 0 z q);
+    }
 
 module _ (l new : Reading) (n : ℕ) (k : IsKept l n new) where
-  mark_same : new.pending.mark ≡ l.pending.mark
-  mark_same = ap (λ (p : Pending). p.mark) k.pending
-
   pub quiet_on : l.pending.mark ≡ mark.Nothing → new.pending.mark ≡ mark.Nothing
-  quiet_on m = mark_same ∙ m
-
-  pub steps_on : MayStep l.pending.tag → MayStep new.pending.tag
-  steps_on m = subst (λ (p : Pending). MayStep p.tag) (sym k.pending) m
+  quiet_on m = k.mark_same ∙ m
 
   pub apart_on : (l.text.text ≡ []) ⊎ (l.pending.mark ≡ mark.Nothing) → (new.text.text ≡ []) ⊎ (new.pending.mark ≡ mark.Nothing)
-  apart_on o = elim k.apart [ inl e ↦ elim o [ inl x ↦ inl (e ∙ x) | inr m ↦ inr (mark_same ∙ m) ] | inr m ↦ inr (mark_same ∙ m) ]
+  apart_on o = elim k.apart [ inl e ↦ elim o [ inl x ↦ inl (e ∙ x) | inr m ↦ inr (k.mark_same ∙ m) ] | inr m ↦ inr (k.mark_same ∙ m) ]
 
   pub later_on : (i : ℕ) → ((l.text.text ≡ [] → ⊥) → 0 < i) → (new.text.text ≡ [] → ⊥) → 0 < i + n
   later_on i h x = elim (cases_lt 0 n) [ inl a ↦ omega (arith, a) | inr b ↦ let p = h (λ z. x (k.none (omega (arith, b)) ∙ z)) in omega (arith, p) ]
 
 -- at the first byte of a piece
-pub front_first : (old new : Reading) (s : reader.Scanning) (piece : List ℕ) (n : ℕ) → old.text.text ≡ [] → n ≤ length piece → ReadsAs old s → MatchBool (n == 0) (new ≡ old) (TellsFront old (take n piece) new) → ReadsOn old s (take n piece) new
+pub front_first : (old new : Reading) (s : reader.Scanning) (piece : List ℕ) (n : ℕ) → old.text.text ≡ [] → n ≤ length piece → ReadsAs old s → MatchBool (n == 0) (new ≡ old) (TakesFront old (take n piece) new) → ReadsOn old s (take n piece) new
 front_first old new s piece n e k h m = subst (λ (x : ℕ). ReadsOn old s (take x piece) new) (omega arith) (front_read old new s old piece 0 n k (reads_none old s e h) m)
 
 -- and further on, where a slice is what is left
-pub front_next : (old l new : Reading) (s : reader.Scanning) (piece : List ℕ) (i n : ℕ) → n ≤ length (take (length piece - i) (drop i piece)) → ReadsOn old s (take i piece) l → MatchBool (n == 0) (new ≡ l) (TellsFront l (take n (take (length piece - i) (drop i piece))) new) → ReadsOn old s (take (i + n) piece) new
+pub front_next : (old l new : Reading) (s : reader.Scanning) (piece : List ℕ) (i n : ℕ) → n ≤ length (take (length piece - i) (drop i piece)) → ReadsOn old s (take i piece) l → MatchBool (n == 0) (new ≡ l) (TakesFront l (take n (take (length piece - i) (drop i piece))) new) → ReadsOn old s (take (i + n) piece) new
 front_next old l new s piece i n k r m =
     let rest = take_rest piece i in
-    front_read old new s l piece i n (subst (λ (x : List ℕ). n ≤ length x) rest k) r (subst (λ (x : List ℕ). MatchBool (n == 0) (new ≡ l) (TellsFront l (take n x) new)) rest m)
+    front_read old new s l piece i n (subst (λ (x : List ℕ). n ≤ length x) rest k) r (subst (λ (x : List ℕ). MatchBool (n == 0) (new ≡ l) (TakesFront l (take n x) new)) rest m)
 
 pub front_within : (piece : List ℕ) (i n : ℕ) → i ≤ length piece → n ≤ length (take (length piece - i) (drop i piece)) → i + n ≤ length piece
 front_within piece i n h k = let q = subst (λ (x : List ℕ). n ≤ length x) (take_rest piece i) k in omega (arith, q, length-drop i piece)

@@ -12,5 +12,6 @@ pub mod ByteLemmas
 pub mod StandLemmas
 pub mod RunLemmas
 pub mod QuietLemmas
+pub mod FeedLemmas
 pub mod FrontLemmas
 pub mod LoopLemmas

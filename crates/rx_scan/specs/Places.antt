@@ -20,6 +20,10 @@ ended after_return bracket p = record { at = p.at + 1; starts = p.at + 1; token 
 abbrev pub cut : Place → Place
 cut p = record { at = p.at; starts = p.starts; token = p.token; started = p.started; after_return = p.after_return; two = false; last = false }
 
+-- behind so many characters of a tag
+abbrev pub fed : ℕ → Place → Place
+fed n p = record { at = p.at + n; starts = p.at + n; token = p.token; started = true; after_return = false; two = p.two; last = p.last }
+
 -- behind so many characters of text of which none is a `]`
 abbrev pub said : ℕ → Place → Place
 said n p = record { at = p.at + n; starts = p.at + n; token = p.token; started = true; after_return = false; two = false; last = false }

@@ -1,7 +1,8 @@
-//! Plain text at the front of some bytes, which is taken at once.
+//! Plain text at the front of some bytes, and characters of a tag, which are taken at once.
 ghost use Rattle.std.specs.Prelude.{◌≡◌, ◌+◌, ◌<◌, ◌≤◌, ◌^◌, true, ◌==◌, MatchBool, length, take};
+ghost use Rattle.rx_tags.specs.TagBufs.{MayStep};
 ghost use Rattle.std.specs.List.{list_all};
-ghost use Rattle.rx_scan.specs.Fronts.{IsFront, TellsFront, has_text, is_plain};
+ghost use Rattle.rx_scan.specs.Fronts.{FeedsFront, IsFront, TakesFront, TellsFront, has_text, is_plain};
 
 use crate::readers::Reader;
 use crate::runs::ROOM;
@@ -42,7 +43,70 @@ fn plain_length(bytes: &[u8], most: usize) -> usize
     count
 }
 
+// The lesser of both.
+fn at_most(most: u64, length: usize) -> usize
+    ensures most { result ≤ most }
+    ensures fits { result ≤ length }
+{
+    if most < length as u64 {
+        most as usize
+    } else {
+        length
+    }
+}
+
 impl Reader {
+    /// Takes the characters at the front that may be taken at once, of text as far as it has room or of a tag, and tells
+    /// how many bytes they have.
+    pub(crate) fn take_front(&mut self, bytes: &[u8]) -> usize
+        requires may_step { MayStep self.old.pending.tag }
+        requires size { self.old.text.size + 4 ≤ ROOM }
+        requires room { ROOM ≤ self.old.text.room }
+        ensures fits { result ≤ length bytes.now }
+        ensures size { self.new.text.size + 4 ≤ ROOM }
+        ensures room { ROOM ≤ self.new.text.room }
+        ensures takes { MatchBool (result == 0) (self.new ≡ self.old) (TakesFront self.old (take result bytes.now) self.new) }
+    {
+        match self.pending.mark() {
+            Mark::Nothing => self.say_front(bytes),
+            Mark::Tag => self.feed_front(bytes),
+            _ => 0,
+        }
+    }
+
+    // How many bytes of a tag are past neither the page's limit nor the tag's.
+    fn tag_limit(&self, length: usize) -> usize
+        ensures fits { result ≤ length }
+        ensures page { 0 < result → self.now.place.at + result ≤ self.now.setting.limits.page }
+        ensures tag { 0 < result → self.now.place.at + result ≤ self.now.place.token + self.now.setting.limits.tag }
+        ensures room { self.now.place.at + result < 2 ^ 64 }
+    {
+        let read = self.place.at.saturating_sub(self.place.token);
+        let tag = self.setting.limits.tag.saturating_sub(read);
+        let rest = self.setting.limits.page.saturating_sub(self.place.at);
+        at_most(tag, at_most(rest, length))
+    }
+
+    // Takes the characters at the front with which the tag goes on, and tells how many.
+    fn feed_front(&mut self, bytes: &[u8]) -> usize
+        requires in_tag { self.old.pending.mark ≡ Mark.Tag }
+        requires may_step { MayStep self.old.pending.tag }
+        ensures fits { result ≤ length bytes.now }
+        ensures text { self.new.text ≡ self.old.text }
+        ensures feeds { MatchBool (result == 0) (self.new ≡ self.old) (FeedsFront self.old (take result bytes.now) self.new) }
+    {
+        if !self.utf8.is_whole() {
+            return 0;
+        }
+        let limit = self.tag_limit(bytes.len());
+        let count = self.pending.feed_front(&bytes[..limit]);
+        if count == 0 {
+            return 0;
+        }
+        self.place = self.place.fed(count as u64);
+        count
+    }
+
     // How many bytes of text have room, and aren't past the page's limit.
     fn front_limit(&self) -> usize
         requires { self.now.text.size + 4 ≤ ROOM }
@@ -77,8 +141,8 @@ impl Reader {
         plain_length(bytes, self.front_limit())
     }
 
-    /// Takes the plain text at the front, as far as it has room, and tells how many bytes it has.
-    pub(crate) fn say_front(&mut self, bytes: &[u8]) -> usize
+    // Takes the plain text at the front, as far as it has room, and tells how many bytes it has.
+    fn say_front(&mut self, bytes: &[u8]) -> usize
         requires size { self.old.text.size + 4 ≤ ROOM }
         requires room { ROOM ≤ self.old.text.room }
         ensures fits { result ≤ length bytes.now }

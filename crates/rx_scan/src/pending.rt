@@ -5,7 +5,7 @@ ghost use Rattle.rx_terms.specs.Text.{is_empty};
 ghost use Rattle.rx_reader.specs.Tables.{is_last};
 ghost use Rattle.rx_reader.specs.TagReader.{parts_of, is_closing};
 ghost use Rattle.rx_tags.specs.Seen.{tag_seen};
-ghost use Rattle.rx_tags.specs.TagBufs.{no_tag, MayStep, StepGives};
+ghost use Rattle.rx_tags.specs.TagBufs.{no_tag, MayStep, StepGives, TakesMore};
 ghost use Rattle.rx_marks.specs.Pending.{bracket_text};
 
 use crate::buffers::Buffer;
@@ -116,6 +116,16 @@ impl Unfinished {
             }
             Err(error) => Err(error),
         }
+    }
+
+    /// Characters at the front of some bytes with which the tag goes on. Tells how many.
+    pub(crate) fn feed_front(&mut self, bytes: &[u8]) -> usize
+        requires { MayStep self.old.tag }
+        ensures takes { TakesMore self.old.tag bytes.now result self.new.tag }
+        ensures none { result ≡ 0 → self.new ≡ self.old }
+        ensures kept { self.new ≡ record self.old { tag = self.new.tag } }
+    {
+        self.tag.take_front(bytes)
     }
 
     /// Whether the tag is an end tag.

@@ -109,6 +109,20 @@ impl Place {
         }
     }
 
+    /// Behind so many characters of a tag of which each has one byte, and none is a CR.
+    pub(crate) fn fed(self, count: u64) -> Place
+        requires { self.at + count < 2 ^ 64 }
+        ensures { result ≡ places.fed count self }
+    {
+        Place {
+            at: self.at + count,
+            starts: self.at + count,
+            started: true,
+            after_return: false,
+            ..self
+        }
+    }
+
     /// Behind so many characters of text of which each has one byte, and none is a `]`.
     pub(crate) fn said(self, count: u64) -> Place
         requires { self.at + count < 2 ^ 64 }

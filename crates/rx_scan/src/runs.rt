@@ -68,7 +68,7 @@ impl Reader {
         ensures quiet { self.old.pending.mark ≡ Mark.Nothing → is_quiet piece.now ≡ true → IsNoMemory result ≡ false }
         ensures quiet_tells { self.old.pending.mark ≡ Mark.Nothing → is_quiet piece.now ≡ true → IfOk result (λ answer. is_tag answer.1 ≡ false) }
     {
-        let mut taken = self.say_front(piece);
+        let mut taken = self.take_front(piece);
         while taken < piece.len() {
             match self.read(piece[taken]) {
                 Err(stop) => return self.stopped(taken, stop),
@@ -82,7 +82,7 @@ impl Reader {
             if self.must_show() {
                 return Ok((taken, What::Text));
             }
-            taken += self.say_front(&piece[taken..]);
+            taken += self.take_front(&piece[taken..]);
         }
         Ok((taken, self.rest()))
     }

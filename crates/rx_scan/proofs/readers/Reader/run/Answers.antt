@@ -6,21 +6,21 @@ use Rattle.rx_scan.specs.Steps.{Runs, is_tag}
 use Rattle.rx_scan.proofs.RunLemmas.{took_text}
 use Rattle.rx_scan.proofs.LoopLemmas.{next_read, token_read, stopped, rest_took, lends, may_step}
 use Rattle.rx_scan.proofs.QuietLemmas.{quiet_tells, quiet_at, between_tells, stopped_tells, other_tells}
-use Rattle.rx_scan.proofs.FrontLemmas.{IsKept, kept, quiet_on, steps_on, apart_on, later_on, front_first, front_next, front_within}
+use Rattle.rx_scan.proofs.FrontLemmas.{IsKept, kept, quiet_on, apart_on, later_on, front_first, front_next, front_within}
 use Rattle.rx_scan.proofs.readers.Reader.run.Goals as goal
 
 pub loop-taken-init : goal.loop-taken-init
 loop-taken-init c =
-    let n = c.say_front-taken.result in
-    let new = c.say_front-taken.new.self in
-    let k : IsKept c.args.self.now n new = kept c.args.self.now new (take n c.args.piece.now) n c.say_front-taken.ensures.says in
+    let n = c.take_front-taken.result in
+    let new = c.take_front-taken.new.self in
+    let k : IsKept c.args.self.now n new = kept c.args.self.now new (take n c.args.piece.now) n c.take_front-taken.ensures.takes in
     record {
-      within = c.say_front-taken.ensures.fits;
-      may_step = steps_on c.args.self.now new n k c.requires.may_step;
-      room = c.say_front-taken.ensures.room;
-      fits = c.say_front-taken.ensures.size;
+      within = c.take_front-taken.ensures.fits;
+      may_step = k.steps c.requires.may_step;
+      room = c.take_front-taken.ensures.room;
+      fits = c.take_front-taken.ensures.size;
       apart = apart_on c.args.self.now new n k (inl c.requires.none);
-      so_far = λ s h. front_first c.args.self.now new s c.args.piece.now n c.requires.none c.say_front-taken.ensures.fits h c.say_front-taken.ensures.says;
+      so_far = λ s h. front_first c.args.self.now new s c.args.piece.now n c.requires.none c.take_front-taken.ensures.fits h c.take_front-taken.ensures.takes;
       later = λ x. subst (λ (z : ℕ). 0 < z) (omega arith) (later_on c.args.self.now new n k 0 (λ y. absurd (y c.requires.none)) x);
       quiet = λ m q. quiet_on c.args.self.now new n k m;
     }
@@ -51,20 +51,20 @@ returns-then-is_token-clause-quiet_tells c =
 pub loop-taken-preserved : goal.loop-taken-preserved
 loop-taken-preserved c =
     let i = c.loop-taken.taken + 1 in
-    let n = c.say_front-taken-in-loop-taken.result in
+    let n = c.take_front-taken-in-loop-taken.result in
     let l = c.read.new.self in
-    let new = c.say_front-taken-in-loop-taken.new.self in
-    let told = c.say_front-taken-in-loop-taken.ensures in
-    let k : IsKept l n new = kept l new (take n (take (length c.args.piece.now - i) (drop i c.args.piece.now))) n told.says in
+    let new = c.take_front-taken-in-loop-taken.new.self in
+    let told = c.take_front-taken-in-loop-taken.ensures in
+    let k : IsKept l n new = kept l new (take n (take (length c.args.piece.now - i) (drop i c.args.piece.now))) n told.takes in
     let not_token = sym c.is_token.ensures ∙ c.if-is_token.false in
     record {
       within = front_within c.args.piece.now i n (omega (arith, c.loop-taken-test.true)) told.fits;
-      may_step = steps_on l new n k (may_step c.in-Ok.what l not_token c.in-Ok.ensures.ready.may_go_on);
+      may_step = k.steps (may_step c.in-Ok.what l not_token c.in-Ok.ensures.ready.may_go_on);
       room = told.room;
       fits = told.size;
       apart = apart_on l new n k (c.must_show.ensures.apart c.if-must_show.false);
       so_far = λ s h. front_next c.args.self.now l new s c.args.piece.now i n told.fits
-          (next_read c.args.self.now c.loop-taken.self l s c.args.piece.now c.loop-taken.taken c.loop-taken-test.true (c.loop-taken.invariant.so_far s h) c.in-Ok.what not_token c.in-Ok.ensures.reads) told.says;
+          (next_read c.args.self.now c.loop-taken.self l s c.args.piece.now c.loop-taken.taken c.loop-taken-test.true (c.loop-taken.invariant.so_far s h) c.in-Ok.what not_token c.in-Ok.ensures.reads) told.takes;
       later = later_on l new n k i (λ x. omega arith);
       quiet = λ m q. quiet_on l new n k
           (quiet_tells c.loop-taken.self l (get_or c.args.piece.now c.loop-taken.taken 0) c.in-Ok.what (c.loop-taken.invariant.quiet m q) (quiet_at c.args.piece.now c.loop-taken.taken c.loop-taken-test.true q) c.in-Ok.ensures.reads);
