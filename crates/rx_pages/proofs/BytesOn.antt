@@ -62,7 +62,7 @@ over a b h = grind (arith, nat_tests)
 below : (a b : ℕ) → nat_le a b ≡ false → b < a
 below a b h = grind (arith, nat_tests)
 
-after_only : {syntax : Syntax} {depth : ℕ} {items : List Item} {line : Line} {phase : Phase} → Stands syntax depth items line phase → phase ≡ after → (tree : Tree) × Document syntax depth items tree
+pub after_only : {syntax : Syntax} {depth : ℕ} {items : List Item} {line : Line} {phase : Phase} → Stands syntax depth items line phase → phase ≡ after → (tree : Tree) × Document syntax depth items tree
 after_only (not_begun stood lead) h = absurd (cc)
 after_only (still_open depth op levels) h = absurd (cc)
 after_only (ended tree d) h = (tree, d)

@@ -57,3 +57,10 @@ pub mod ByteFacts
 pub mod LastToken
 pub mod Leads
 pub mod Doctyped
+pub mod Befores
+pub mod Foreparts
+pub mod OpenNames
+pub mod OpenLines
+pub mod Closings
+pub mod FaultFronts
+pub mod OnePlace

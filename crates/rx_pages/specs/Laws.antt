@@ -1,5 +1,5 @@
 -- What holds of the tables.
-use Rattle.std.specs.Prelude.{◌≡◌, ◌≢◌, ◌↔◌, ℕ, ◌+◌, take, List, [], ◌∷◌, ◌++◌, Option, None, Ok, Err}
+use Rattle.std.specs.Prelude.{◌≡◌, ◌≢◌, ◌↔◌, ℕ, ◌+◌, ◌≤◌, take, List, [], ◌∷◌, ◌++◌, Option, None, Ok, Err}
 use Rattle.rx_terms.specs.Text.{Chars}
 use Rattle.rx_chars.specs.declared.syntax.Syntax.{Syntax}
 use Rattle.rx_grammar.specs.declared.contents.Content.{Content}
@@ -14,11 +14,12 @@ use Rattle.rx_grammar.specs.declared.faults.Fault.{Fault}
 use Rattle.rx_grammar.specs.declared.faults.Kind.{Kind}
 use Rattle.rx_grammar.specs.declared.faults.Kind.TheVariants.{Unended}
 use Rattle.rx_grammar.specs.PageFaults.{Unfinished, Faulty, Reached, FaultAt}
-use Rattle.rx_grammar.specs.Begun.{Line, inside_of, Phase, after, Stands}
+use Rattle.rx_grammar.specs.Begun.{Line, inside_of, Phase, after, Stands, Begun}
 use Rattle.rx_pages.specs.Nesting.{Event, Nesting, not_begun, Goes, IsAt, told_trees}
 use Rattle.rx_pages.specs.Scanner.{GoesOn, ReadAs}
 use Rattle.rx_pages.specs.Faults.{Decides}
 use Rattle.rx_pages.specs.PageReader.{Progress, page_read, end_of}
+use Rattle.rx_pages.specs.Closings.{closed, IsPage, IsFront}
 
 -- characters that spell a token are read as it
 abbrev pub ReadsEachToken : Type 0
@@ -94,3 +95,21 @@ FindsOnlyFaults = (syntax : Syntax) (limits : Limits) (bytes : List ℕ) (fault 
 -- decides otherwise.
 abbrev pub FaultsStay : Type 0
 FaultsStay = (syntax : Syntax) (limits : Limits) (bytes : List ℕ) (fault : Fault) → FaultAt syntax limits bytes fault → fault.kind ≢ Unended → (rest : List ℕ) → FaultAt syntax limits (take (fault.at + 1) bytes ++ rest) fault
+
+-- The front of a page closes: what is open is closed from the innermost element on, and then the bytes are a page, but for the limits of
+-- tag and page. An empty root needs a level.
+abbrev pub FrontsClose : Type 0
+FrontsClose = (syntax : Syntax) (limits : Limits) (bytes : List ℕ) (next : Option ℕ) (line : Line) (phase : Phase) → 1 ≤ limits.depth → Begun syntax limits bytes next line phase → IsPage syntax limits (closed bytes line phase)
+
+-- Its open elements and its phase are one, whatever comes next.
+pub record IsSamePlace (line others : Line) (phase other : Phase) : Type 0 where
+  pub line_is : line ≡ others
+  pub phase_is : phase ≡ other
+
+abbrev pub OnePlace : Type 0
+OnePlace = (syntax : Syntax) (limits : Limits) (bytes : List ℕ) (next behind : Option ℕ) (line others : Line) (phase other : Phase)
+    → Begun syntax limits bytes next line phase → Begun syntax limits bytes behind others other → IsSamePlace line others phase other
+
+-- What stands before the token of a fault is such a front.
+abbrev pub FaultsFollowFronts : Type 0
+FaultsFollowFronts = (syntax : Syntax) (limits : Limits) (bytes : List ℕ) (fault : Fault) → FaultAt syntax limits bytes fault → IsFront syntax limits (take fault.token bytes)

@@ -2,4 +2,5 @@ pub mod Nesting
 pub mod Scanner
 pub mod Faults
 pub mod PageReader
+pub mod Closings
 pub mod Laws

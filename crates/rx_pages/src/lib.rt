@@ -6,7 +6,7 @@
 #![tactic(auto)]
 
 ghost use Rattle.rx_grammar.specs.Laws.{NotBoth, OneFault, OneTree, PageOrFault};
-ghost use Rattle.rx_pages.specs.Laws.{FaultsAreDecided, FaultsStay, FindsEachFault, FindsOnlyFaults, FrontsLead, FrontsStand, PagesGoOn, ReadsEachPage, ReadsEachToken, ReadsOnlyPages, SpellsEachToken, UnfinishedGoesOn};
+ghost use Rattle.rx_pages.specs.Laws.{FaultsAreDecided, FaultsFollowFronts, FaultsStay, FindsEachFault, FindsOnlyFaults, FrontsClose, FrontsLead, FrontsStand, OnePlace, PagesGoOn, ReadsEachPage, ReadsEachToken, ReadsOnlyPages, SpellsEachToken, UnfinishedGoesOn};
 
 /// A byte list has at most one tree.
 pub fn one_tree()
@@ -88,4 +88,19 @@ pub fn finds_only_faults()
 /// A fault that a byte decides stays, whatever follows that byte: no page begins with the bytes through it.
 pub fn faults_stay()
     ensures { FaultsStay }
+{}
+
+/// The front of a page, closed from the innermost open element on, is a page, but for the limits of tag and page.
+pub fn fronts_close()
+    ensures { FrontsClose }
+{}
+
+/// The front of a page has one line of open elements and one phase, whatever follows it.
+pub fn one_place()
+    ensures { OnePlace }
+{}
+
+/// The bytes before the token of a fault are the front of a page, so that they are a page once they are closed.
+pub fn faults_follow_fronts()
+    ensures { FaultsFollowFronts }
 {}

@@ -1,0 +1,134 @@
+-- A token that something follows stands before a `<` too; outside the root, and where it is a tag, also before nothing.
+use Rattle.std.proofs.Common.{◌≡◌, ◌∙◌, ◌⊎◌, inl, inr, ℕ, Bool, true, false, List, [], ◌∷◌, ◌++◌, Option, Some, None, refl, ap, sym, eqb-true}
+use Rattle.std.specs.Prelude.{◌||◌, ◌&&◌, ◌==◌, not}
+use Rattle.std.specs.List.{list_all}
+use Rattle.rx_terms.specs.Ascii.{ampersand, solidus, semicolon, number_sign, lowered_char, is_letter, is_digit, is_letter_or_digit}
+use Rattle.rx_terms.specs.Text.{Chars, lowered, begins_with}
+use Rattle.rx_chars.specs.Characters.{Entry}
+use Rattle.rx_chars.specs.declared.syntax.Syntax.{Syntax}
+use Rattle.rx_grammar.specs.declared.contents.Content.{Content}
+use Rattle.rx_grammar.specs.declared.contents.Content.TheVariants as content
+use Rattle.rx_grammar.specs.Names.{same}
+use Rattle.rx_grammar.specs.References.{is_hexadecimal_digit, is_x, is_body, begins_number, is_begun, stops_at}
+use Rattle.rx_grammar.specs.Tokens.{Token, tag, kept}
+use Rattle.rx_grammar.specs.Shapes.{ends_name}
+use Rattle.rx_grammar.specs.Spelling.{Spells, has_less_than, keeps_runs, raw_name, begins_end, stops_end, a_tag, an_end_of_raw, a_character, a_less_than, a_raw_run, a_reference, a_kept_run, a_comment, a_bogus_comment, a_question, a_strict_comment, an_instruction, a_section, a_doctype}
+use Rattle.rx_grammar.specs.Items.{Item, last_from, Spelled, no_more, one, values, next_of}
+use Rattle.rx_reader.proofs.Bools.{both, not_both_ways}
+use Rattle.rx_reader.proofs.Classes.{unless}
+use Rattle.rx_pages.proofs.RawEnds.{IsRawName, is_raw_name}
+
+and_false : (b : Bool) → (b && false) ≡ false
+and_false true = refl
+and_false false = refl
+
+none_less : (test : ℕ → Bool) → test 60 ≡ false → (text : Chars) → list_all test (text ++ 60 ∷ []) ≡ false
+none_less test h [] = ap (λ b. b && true) h
+none_less test h (c ∷ text) = ap (λ b. test c && b) (none_less test h text) ∙ and_false (test c)
+
+neither_way : (a x b y : Bool) → x ≡ false → y ≡ false → (a && x || b && y) ≡ false
+neither_way a x b y h k = ap (λ z. a && z || b && y) h ∙ (ap (λ z. a && false || b && z) k ∙ by a b)
+  where
+    by : (a b : Bool) → (a && false || b && false) ≡ false
+    by true true = refl
+    by true false = refl
+    by false true = refl
+    by false false = refl
+
+-- no reference goes on with it
+number_stops : (text : Chars) → begins_number (text ++ 60 ∷ []) ≡ false
+number_stops [] = refl
+number_stops (c ∷ text) = neither_way (is_digit c) (list_all is_digit (text ++ 60 ∷ [])) (is_x c) (list_all is_hexadecimal_digit (text ++ 60 ∷ [])) (none_less is_digit refl text) (none_less is_hexadecimal_digit refl text)
+
+run_stops : (run : Chars) → is_begun (run ++ 60 ∷ []) ≡ false
+run_stops [] = refl
+run_stops (c ∷ text) = neither_way (is_letter c) (list_all is_letter_or_digit (text ++ 60 ∷ [])) (c == number_sign) (begins_number (text ++ 60 ∷ [])) (none_less is_letter_or_digit refl text) (number_stops text)
+
+stops : (run : Chars) → stops_at run 60 ≡ true
+stops run = ap (λ b. not b && not (60 == semicolon && is_body run)) (run_stops run)
+
+-- nor the end tag of a raw element
+no_front : (word name : Chars) → list_all is_letter name ≡ true → begins_with (lowered (word ++ 60 ∷ [])) name ≡ false
+no_front [] [] h = refl
+no_front (c ∷ word) [] h = refl
+no_front [] (d ∷ name) h = ap (λ b. b && true) (unless is_letter d (60 == d) (both (is_letter d) _ h).0 (λ e. ap is_letter (sym (eqb-true 60 d e))))
+no_front (c ∷ word) (d ∷ name) h = ap (λ b. lowered_char c == d && b) (no_front word name (both (is_letter d) _ h).1) ∙ and_false (lowered_char c == d)
+
+no_end : (name text : Chars) → list_all is_letter name ≡ true → begins_end name (text ++ 60 ∷ []) ≡ false
+no_end name [] h = refl
+no_end name (c ∷ text) h = ap (λ b. lowered_char c == solidus && b) (no_front text name h) ∙ and_false (lowered_char c == solidus)
+
+stops_raw : (name text : Chars) → IsRawName name → stops_end name text 60 ≡ true
+stops_raw name text raw = ap (λ b. not b && not (same (lowered text) (solidus ∷ name) && ends_name 60)) (no_end name text raw.letters) ∙ ap not (and_false (same (lowered text) (solidus ∷ name)))
+
+pub before_less : (s : Syntax) (i : Content) (text : Chars) (next : Option ℕ) (token : Token) → Spells s i text next token → Spells s i text (Some 60) token
+before_less s i _ next _ (a_tag text t m sp) = a_tag text t m sp
+before_less s i _ next _ (an_end_of_raw text name t r sp c n) = an_end_of_raw text name t r sp c n
+before_less s i _ next _ (a_character c h) = a_character c h
+before_less s i _ next _ (a_less_than e h b) = a_less_than e h refl
+before_less s i _ next _ (a_raw_run text name r h b) = a_raw_run text name r h (stops_raw name text (is_raw_name i name r))
+before_less s i _ next _ (a_reference body c r b m) = a_reference body c r b m
+before_less s i _ next _ (a_kept_run run k h b) = a_kept_run run k h (stops run)
+before_less s i _ next _ (a_comment text e m f) = a_comment text e m f
+before_less s i _ next _ (a_bogus_comment text e m n f) = a_bogus_comment text e m n f
+before_less s i _ next _ (a_question text e m f) = a_question text e m f
+before_less s i _ next _ (a_strict_comment text e m f) = a_strict_comment text e m f
+before_less s i _ next _ (an_instruction text e m f) = an_instruction text e m f
+before_less s i _ next _ (a_section text h f) = a_section text h f
+before_less s i _ next _ (a_doctype text m d) = a_doctype text m d
+
+abbrev pub is_tag : Token → Bool
+is_tag (tag t) = true
+is_tag _ = false
+
+-- nothing has to follow such a token
+abbrev pub IsLast : Content → Token → Type 0
+IsLast i token = (is_tag token ≡ true) ⊎ (i ≡ content.Outside)
+
+none_outside : (i : Content) (text : Chars) (test : Content → Bool) → test content.Outside ≡ false → test i ≡ true → IsLast i (kept text) → ⊥
+none_outside i text test o h (inl t) = cc
+none_outside i text test o h (inr e) = not_both_ways (test i) h (ap test e ∙ o)
+
+no_raw : (i : Content) (text name : Chars) → raw_name i ≡ Some name → IsLast i (kept text) → ⊥
+no_raw i text name r (inl t) = cc
+no_raw i text name r (inr e) = let k = sym (ap raw_name e) ∙ r in cc
+
+pub before_nothing : (s : Syntax) (i : Content) (text : Chars) (next : Option ℕ) (token : Token) → IsLast i token → Spells s i text next token → Spells s i text None token
+before_nothing s i _ next _ l (a_tag text t m sp) = a_tag text t m sp
+before_nothing s i _ next _ l (an_end_of_raw text name t r sp c n) = an_end_of_raw text name t r sp c n
+before_nothing s i _ next _ l (a_character c h) = a_character c h
+before_nothing s i _ next _ l (a_less_than e h b) = absurd (none_outside i (60 ∷ []) has_less_than refl h l)
+before_nothing s i _ next _ l (a_raw_run text name r h b) = absurd (no_raw i (60 ∷ text) name r l)
+before_nothing s i _ next _ l (a_reference body c r b m) = a_reference body c r b m
+before_nothing s i _ next _ l (a_kept_run run k h b) = absurd (none_outside i (ampersand ∷ run) keeps_runs refl k l)
+before_nothing s i _ next _ l (a_comment text e m f) = a_comment text e m f
+before_nothing s i _ next _ l (a_bogus_comment text e m n f) = a_bogus_comment text e m n f
+before_nothing s i _ next _ l (a_question text e m f) = a_question text e m f
+before_nothing s i _ next _ l (a_strict_comment text e m f) = a_strict_comment text e m f
+before_nothing s i _ next _ l (an_instruction text e m f) = an_instruction text e m f
+before_nothing s i _ next _ l (a_section text h f) = a_section text h f
+before_nothing s i _ next _ l (a_doctype text m d) = a_doctype text m d
+
+module _ (syntax : Syntax) where
+  next_less : (i : Content) (text : Chars) (rest : List Entry) (next : Option ℕ) (token : Token) → Spells syntax i text (next_of (values rest) next) token → Spells syntax i text (next_of (values rest) (Some 60)) token
+  next_less i text [] next token sp = before_less syntax i text next token sp
+  next_less i text (e ∷ rest) next token sp = sp
+
+  pub spelled_less : {entries : List Entry} {next : Option ℕ} {items : List Item} → Spelled syntax entries next items → Spelled syntax entries (Some 60) items
+  spelled_less no_more = no_more
+  spelled_less {next = next} (one c run rest item sp f l more) = one c run rest item (next_less item.content (values (c ∷ run)) rest next item.token sp) f l (spelled_less more)
+
+  -- the last of some tokens is such a one
+  abbrev pub LastIs : List Item → Type 0
+  LastIs [] = Unit {0}
+  LastIs (item ∷ []) = IsLast item.content item.token
+  LastIs (item ∷ other ∷ items) = LastIs (other ∷ items)
+
+  last_by : (c : Entry) (run : List Entry) (item : Item) → item.first ≡ c.first → item.last ≡ last_from c.last run → {rest : List Entry} {next : Option ℕ} {items : List Item} → Spelled syntax rest next items
+      → Spells syntax item.content (values (c ∷ run)) (next_of (values rest) next) item.token → LastIs (item ∷ items) → (LastIs items → Spelled syntax rest None items) → Spelled syntax ((c ∷ run) ++ rest) None (item ∷ items)
+  last_by c run item f l {next = next} no_more sp h again = one c run [] item (before_nothing syntax item.content (values (c ∷ run)) next item.token h sp) f l no_more
+  last_by c run item f l (one d other others i sp2 f2 l2 more) sp h again = one c run ((d ∷ other) ++ others) item sp f l (again h)
+
+  pub spelled_last : {entries : List Entry} {next : Option ℕ} {items : List Item} → Spelled syntax entries next items → LastIs items → Spelled syntax entries None items
+  spelled_last no_more h = no_more
+  spelled_last (one c run rest item sp f l more) h = last_by c run item f l more sp h (λ k. spelled_last more k)

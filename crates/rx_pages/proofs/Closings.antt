@@ -1,0 +1,329 @@
+-- The front of a page goes on to a page: what is open is closed, from the innermost element on.
+use Rattle.std.proofs.Common.{◌≡◌, ◌∙◌, ℕ, ◌+◌, ◌-◌, ◌≤◌, Bool, true, false, List, [], ◌∷◌, ◌++◌, Option, Some, None, refl, ap, sym, subst, length, append_assoc, append-nil, arith}
+use Rattle.std.specs.Prelude.{◌&&◌, ◌||◌, ◌==◌, not, nat_le, codes, Ok, encode_utf8_all}
+use Rattle.std.specs.List.{list_all}
+use Rattle.std.specs.Char.{len_utf8}
+use Rattle.std.specs.Str.{all_scalars}
+use lib.Utf8.{encode, encodes, scalar}
+use Rattle.std.proofs.lemmas.List.{length-append}
+use Rattle.std.proofs.lemmas.Str.{length-encode, encodes-append}
+use Rattle.std.proofs.lemmas.Bool.{and_from, cond-false}
+use Rattle.std.proofs.lemmas.Bool.Decides.{nat_tests}
+use Rattle.rx_terms.specs.Ascii.{greater_than_sign}
+use Rattle.rx_terms.specs.Text.{Chars}
+use Rattle.rx_chars.specs.Characters.{Entry, byte_order_mark, line_feed, carriage_return, placed, entered, without_mark}
+use Rattle.rx_chars.specs.declared.syntax.Syntax.{Syntax}
+use Rattle.rx_chars.specs.declared.syntax.Syntax.TheVariants.{Html, Xhtml}
+use Rattle.rx_grammar.specs.declared.limits.Limits.{Limits}
+use Rattle.rx_grammar.specs.Tokens.{Tag, Token, tag, character, reference, kept, section, comment, doctype}
+use Rattle.rx_grammar.specs.Shapes as shapes
+use Rattle.rx_grammar.specs.Tags.{SpellsTag}
+use Rattle.rx_grammar.specs.Spelling.{Spells, a_tag}
+use Rattle.rx_grammar.specs.Contents.{outside, is_alone, is_self_closed, is_plaintext, drops_line_feed}
+use Rattle.rx_grammar.specs.Trees.{StartTag}
+use Rattle.rx_grammar.specs.Items.{values, Item, last_from, Spelled, no_more, one, Fits, AllFit, is_literal, no_section_end, start_of}
+use Rattle.rx_grammar.specs.Pages.{has_no_nul, Document}
+use Rattle.rx_grammar.specs.Begun.{Line, inside_of, Phase, before, within, after, Stands, not_begun, still_open, ended, Begun}
+use Rattle.rx_pages.specs.Nesting as nesting
+use Rattle.rx_pages.specs.Nesting.{Event, Nesting, Step, content_at, over, step_by, nest_step, Goes, stands, goes, IsAt}
+use Rattle.rx_pages.specs.PageReader.{item_of}
+use Rattle.rx_pages.specs.Laws.{FrontsClose}
+use Rattle.rx_pages.specs.Closings.{end_tag, end_tags, closing, closed, IsPage}
+use Rattle.rx_pages.proofs.CharSteps.{passes}
+use Rattle.rx_pages.proofs.CharWalk.{is_started, ends_return}
+use Rattle.rx_pages.proofs.Nested.{opening}
+use Rattle.rx_pages.proofs.Nested as nested
+use Rattle.rx_pages.proofs.Front.{fronts_lead}
+use Rattle.rx_pages.proofs.FrontBack.{fronts_stand}
+use Rattle.rx_pages.proofs.Snocs.{page_snoc, started_snoc, spelled_snoc, goes_snoc, sections_snoc}
+use Rattle.rx_pages.proofs.FaultsRead.{no_literal}
+use Rattle.rx_pages.proofs.TokensWalk.{flags_behind}
+use Rattle.rx_pages.proofs.BytesOn.{after_only}
+use Rattle.rx_pages.proofs.Befores.{spelled_less, spelled_last}
+use Rattle.rx_pages.proofs.Foreparts.{Within, page_within}
+use Rattle.rx_pages.proofs.OpenNames.{is_fair, IsName, is_steady, ending, ending_text, spells_end, name_steady}
+use Rattle.rx_pages.proofs.OpenLines.{page_fair, AllNamed, arrives}
+use Rattle.rx_reader.proofs.Bools.{both, untrue}
+
+-- the characters of a page that are entered
+abbrev pub page_entries : List ℕ → List Entry
+page_entries cs = entered false (without_mark (placed 0 cs))
+
+and_false : (b : Bool) → (b && false) ≡ false
+and_false true = refl
+and_false false = refl
+
+passes_not : (started after_return : Bool) (c : ℕ) → (not started && c == byte_order_mark) ≡ false → is_steady c ≡ true → passes started after_return c ≡ false
+passes_not started after_return c h s =
+    let feed = untrue (c == line_feed) (both (not (c == carriage_return)) (not (c == line_feed)) s).1 in
+    ap (λ b. b || after_return && c == line_feed) h ∙ (ap (λ b. after_return && b) feed ∙ and_false after_return)
+
+-- a character that is entered as it is
+entered_as : (cs : List ℕ) (c : ℕ) → (not (is_started cs) && c == byte_order_mark) ≡ false → is_steady c ≡ true → page_entries (cs ++ c ∷ []) ≡ page_entries cs ++ placed (length (encodes cs)) (c ∷ [])
+entered_as cs c h s =
+    let returned = untrue (c == carriage_return) (both (not (c == carriage_return)) (not (c == line_feed)) s).0 in
+    let at : ℕ = length (encodes cs) in
+    page_snoc cs c
+    ∙ (ap (λ es. page_entries cs ++ es) (cond-false _ _ _ (passes_not (is_started cs) (ends_return false cs) c h s))
+    ∙ ap (λ v. page_entries cs ++ (record { value = v; first = at; last = at + len_utf8 c - 1 } ∷ [])) (cond-false (c == carriage_return) line_feed c returned))
+
+then_more : (cs xs : List ℕ) (x : ℕ) → page_entries (cs ++ x ∷ []) ≡ page_entries cs ++ placed (length (encodes cs)) (x ∷ []) → page_entries ((cs ++ x ∷ []) ++ xs) ≡ page_entries (cs ++ x ∷ []) ++ placed (length (encodes (cs ++ x ∷ []))) xs
+    → page_entries (cs ++ x ∷ xs) ≡ page_entries cs ++ placed (length (encodes cs)) (x ∷ xs)
+then_more cs xs x single more =
+    let at : ℕ = length (encodes cs) in
+    let size : length (encodes (cs ++ x ∷ [])) ≡ at + len_utf8 x =
+    ap length (encodes-append cs (x ∷ [])) ∙ (length-append (encodes cs) (encodes (x ∷ [])) ∙ ap (λ n. at + n) (ap length (append-nil (encode x)) ∙ length-encode x)) in
+    ap page_entries (sym (append_assoc cs (x ∷ []) xs))
+    ∙ (more
+    ∙ (ap (λ es. es ++ placed (length (encodes (cs ++ x ∷ []))) xs) single
+    ∙ (append_assoc (page_entries cs) (placed at (x ∷ [])) (placed (length (encodes (cs ++ x ∷ []))) xs)
+    ∙ ap (λ n. page_entries cs ++ (record { value = x; first = at; last = at + len_utf8 x - 1 } ∷ placed n xs)) size)))
+
+entered_more : (xs cs : List ℕ) → is_started cs ≡ true → list_all is_steady xs ≡ true → page_entries (cs ++ xs) ≡ page_entries cs ++ placed (length (encodes cs)) xs
+entered_more [] cs h s = ap page_entries (append-nil cs) ∙ sym (append-nil (page_entries cs))
+entered_more (x ∷ xs) cs h s =
+    let k = both (is_steady x) _ s in
+    then_more cs xs x (entered_as cs x (ap (λ b. not b && x == byte_order_mark) h) k.0) (entered_more xs (cs ++ x ∷ []) (started_snoc cs x) k.1)
+
+entered_tag : (cs text : List ℕ) → list_all is_steady text ≡ true → page_entries (cs ++ 60 ∷ text) ≡ page_entries cs ++ placed (length (encodes cs)) (60 ∷ text)
+entered_tag cs text s = then_more cs text 60 (entered_as cs 60 (and_false (not (is_started cs))) refl) (entered_more text (cs ++ 60 ∷ []) (started_snoc cs 60) s)
+
+values_placed : (at : ℕ) (cs : List ℕ) → values (placed at cs) ≡ cs
+values_placed at [] = refl
+values_placed at (c ∷ cs) = ap (λ x. c ∷ x) (values_placed (at + len_utf8 c) cs)
+
+all_append : {A : Type 0} (test : A → Bool) (a b : List A) → list_all test a ≡ true → list_all test b ≡ true → list_all test (a ++ b) ≡ true
+all_append test [] b h k = k
+all_append test (x ∷ a) b h k = let p = both (test x) (list_all test a) h in and_from (test x) (list_all test (a ++ b)) p.0 (all_append test a b p.1 k)
+
+some_placed : (at : ℕ) (cs : List ℕ) → list_all is_fair cs ≡ true → has_no_nul (placed at cs) ≡ true
+some_placed at [] h = refl
+some_placed at (c ∷ cs) h =
+    let k = both (is_fair c) (list_all is_fair cs) h in and_from (not (c == 0)) (has_no_nul (placed (at + len_utf8 c) cs)) (both (scalar c) (not (c == 0)) k.0).1 (some_placed (at + len_utf8 c) cs k.1)
+
+fair_scalars : (cs : List ℕ) → list_all is_fair cs ≡ true → all_scalars cs ≡ true
+fair_scalars [] h = refl
+fair_scalars (c ∷ cs) h = let k = both (is_fair c) (list_all is_fair cs) h in and_from (scalar c) (all_scalars cs) (both (scalar c) (not (c == 0)) k.0).0 (fair_scalars cs k.1)
+
+scalars_append : (a b : List ℕ) → all_scalars a ≡ true → all_scalars b ≡ true → all_scalars (a ++ b) ≡ true
+scalars_append [] b h k = k
+scalars_append (c ∷ a) b h k = let p = both (scalar c) (all_scalars a) h in and_from (scalar c) (all_scalars (a ++ b)) p.0 (scalars_append a b p.1 k)
+
+-- tags are no longer than the page
+fits_one : (limit : ℕ) (item : Item) (token : Token) → item.last + 1 ≤ limit → Fits limit item token
+fits_one limit item (tag t) h = omega arith
+fits_one limit item (character c) h = tt
+fits_one limit item (reference c) h = tt
+fits_one limit item (kept x) h = tt
+fits_one limit item (section x) h = tt
+fits_one limit item comment h = tt
+fits_one limit item doctype h = tt
+
+last_within : (end last : ℕ) (run rest : List Entry) → last + 1 ≤ end → Within end (run ++ rest) → last_from last run + 1 ≤ end
+last_within end last [] rest h w = h
+last_within end last (e ∷ run) rest h w = last_within end e.last run rest w.0 w.1
+
+rest_within : (end : ℕ) (run rest : List Entry) → Within end (run ++ rest) → Within end rest
+rest_within end [] rest w = w
+rest_within end (e ∷ run) rest w = rest_within end run rest w.1
+
+all_fit : (syntax : Syntax) (limit end : ℕ) → end ≤ limit → {entries : List Entry} {next : Option ℕ} {items : List Item} → Spelled syntax entries next items → Within end entries → AllFit limit items
+all_fit syntax limit end h no_more w = tt
+all_fit syntax limit end h (one c run rest item sp f l more) w =
+    let last = last_within end c.last run rest w.0 w.1 in
+    (fits_one limit item item.token (omega arith), all_fit syntax limit end h more (rest_within end run rest w.1))
+
+-- the empty root's start tag
+abbrev html_tag : Tag
+html_tag = record { closing = false; name = codes "html"; attributes = []; slash = false }
+
+html_spelled : (s : Syntax) → SpellsTag s (codes "html>") html_tag
+html_spelled Html =
+    record {
+      parts = html_tag;
+      reads = record { written = html_tag; shape = shapes.a_start (codes "html") (62 ∷ []) refl refl (shapes.no_more [] refl); closing = refl; name = refl; attributes = tt; slash = refl };
+      unrepeated = refl;
+      is_tag = refl;
+    }
+html_spelled Xhtml =
+    record {
+      parts = html_tag;
+      reads = record { written = html_tag; shape = shapes.a_start (codes "html") (62 ∷ []) refl refl (shapes.no_more [] refl); closing = refl; name = refl; attributes = tt; slash = refl };
+      unrepeated = refl;
+      is_tag = refl;
+    }
+
+html_name : (s : Syntax) → IsName s (codes "html")
+html_name Html = record { whole = refl; low = refl; fair = refl }
+html_name Xhtml = record { whole = refl; low = refl; fair = refl }
+
+-- it may stand, and has an inside
+record MayStand (s : Syntax) : Type 0 where
+  allowed : is_self_closed s outside html_tag ≡ false
+  known : is_plaintext s outside html_tag ≡ false
+  holds : is_alone s outside html_tag ≡ false
+
+html_stands : (s : Syntax) → MayStand s
+html_stands Html = record { allowed = refl; known = refl; holds = refl }
+html_stands Xhtml = record { allowed = refl; known = refl; holds = refl }
+
+module _ (syntax : Syntax) (depth : ℕ) where
+  -- These characters are whole tokens at the front of a page, before a `<` and, where the page is over, before nothing.
+  pub record Ahead (cs : List ℕ) (items : List Item) (place : Nesting) : Type 0 where
+    pub scalars : all_scalars cs ≡ true
+    pub no_nul : has_no_nul (page_entries cs) ≡ true
+    pub spelled : Spelled syntax (page_entries cs) (Some 60) items
+    pub last : place.phase ≡ after → Spelled syntax (page_entries cs) None items
+    pub sections : no_section_end items false false ≡ true
+    pub events : List Event
+    pub going : Goes syntax depth (λ m. m ≡ place) nesting.not_begun items events
+
+  -- one more tag
+  module _ (cs : List ℕ) (items : List Item) (place : Nesting) (a : Ahead cs items place) (text : Chars) (t : Tag) (fair : list_all is_fair text ≡ true) (steady : list_all is_steady text ≡ true)
+      (spells : (next : Option ℕ) → Spells syntax (content_at syntax place) (60 ∷ text) next (tag t)) where
+    abbrev start : ℕ
+    start = length (encodes cs)
+
+    abbrev pub added : Item
+    added = item_of (content_at syntax place) (tag t) (placed start (60 ∷ text))
+
+    spelled_more : (next : Option ℕ) → Spelled syntax (page_entries (cs ++ 60 ∷ text)) next (items ++ added ∷ [])
+    spelled_more next =
+        subst (λ es. Spelled syntax es next (items ++ added ∷ [])) (sym (entered_tag cs text steady))
+        (spelled_snoc syntax (record { value = 60; first = start; last = start + len_utf8 60 - 1 }) (placed (start + len_utf8 60) text) next added a.spelled refl
+        (subst (λ x. Spells syntax (content_at syntax place) (60 ∷ x) next (tag t)) (sym (values_placed (start + len_utf8 60) text)) (spells next)) refl refl)
+
+    no_mark : ((flags_behind items false false).0 && is_literal greater_than_sign added) ≡ false
+    no_mark = ap (λ b. (flags_behind items false false).0 && b) (no_literal greater_than_sign (content_at syntax place) (tag t) (λ c e. cc)) ∙ and_false (flags_behind items false false).0
+
+    fair_all : list_all is_fair (60 ∷ text) ≡ true
+    fair_all = and_from (is_fair 60) (list_all is_fair text) refl fair
+
+    pub adds : (step : Step) → nest_step syntax depth place added ≡ Ok step → Ahead (cs ++ 60 ∷ text) (items ++ added ∷ []) step.next
+    adds step e =
+        record {
+          scalars = scalars_append cs (60 ∷ text) a.scalars (fair_scalars (60 ∷ text) fair_all);
+          no_nul = subst (λ es. has_no_nul es ≡ true) (sym (entered_tag cs text steady)) (all_append (λ (x : Entry). not (x.value == 0)) (page_entries cs) (placed start (60 ∷ text)) a.no_nul (some_placed start (60 ∷ text) fair_all));
+          spelled = spelled_more (Some 60);
+          last = λ h. spelled_more None;
+          sections = sections_snoc items added false false a.sections no_mark;
+          events = a.events ++ step.events;
+          going = goes_snoc syntax depth place added step a.going refl e;
+        }
+
+  -- they lead to these open elements
+  pub record Reaches (cs : List ℕ) (line : Line) (phase : Phase) : Type 0 where
+    pub items : List Item
+    pub place : Nesting
+    pub at : IsAt line phase place
+    pub ahead : Ahead cs items place
+
+  -- a tag steps by the open elements alone
+  tag_steps : (line : Line) (phase : Phase) (place : Nesting) (item : Item) (t : Tag) → IsAt line phase place → step_by syntax depth place item (tag t) ≡ step_by syntax depth (record { line = line; phase = phase; drops = false }) item (tag t)
+  tag_steps line phase place item t at = λ i. step_by syntax depth (record { line = at.line_is i; phase = at.phase_is i; drops = false }) item (tag t)
+
+  over_line : (line : Line) → (over line).line ≡ line
+  over_line [] = refl
+  over_line (t ∷ above) = refl
+
+  -- the innermost element's end tag
+  closes_one : (cs : List ℕ) (t : StartTag) (above : Line) → IsName syntax t.name → Reaches cs (t ∷ above) within → Reaches (cs ++ end_tag t.name) above (over above).phase
+  closes_one cs t above n r =
+      let text : Chars = ending_text t.name in
+      let spells : (next : Option ℕ) → Spells syntax (content_at syntax r.place) (60 ∷ text) next (tag (ending t.name)) = λ next. subst (λ l. Spells syntax (inside_of syntax l).content (60 ∷ text) next (tag (ending t.name))) (sym r.at.line_is) (spells_end syntax t above n next) in
+      let fair : list_all is_fair text ≡ true = all_append is_fair (47 ∷ t.name) (62 ∷ []) (and_from (is_fair 47) (list_all is_fair t.name) refl n.fair) refl in
+      let steady : list_all is_steady text ≡ true = all_append is_steady (47 ∷ t.name) (62 ∷ []) (name_steady syntax t.name n) refl in
+      let single : Item = added cs r.items r.place r.ahead text (ending t.name) fair steady spells in
+      let step : Step = record { next = over above; events = nesting.finishes ∷ [] } in
+      record {
+        items = r.items ++ single ∷ [];
+        place = over above;
+        at = record { line_is = over_line above; phase_is = refl };
+        ahead = adds cs r.items r.place r.ahead text (ending t.name) fair steady spells step (tag_steps (t ∷ above) within r.place single (ending t.name) r.at ∙ nested.closing syntax depth above t single (ending t.name) refl refl);
+      }
+
+  closes_all : (line : Line) (cs : List ℕ) → AllNamed syntax depth line → Reaches cs line (over line).phase → Reaches (cs ++ end_tags line) [] after
+  closes_all [] cs n r = subst (λ x. Reaches x [] after) (sym (append-nil cs)) r
+  closes_all (t ∷ above) cs n r = subst (λ x. Reaches x [] after) (append_assoc cs (end_tag t.name) (end_tags above)) (closes_all above (cs ++ end_tag t.name) n.1 (closes_one cs t above n.0 r))
+
+  -- the empty root
+  room : (depth : ℕ) → 1 ≤ depth → nat_le depth 0 ≡ false
+  room depth h = grind (arith, nat_tests)
+
+  closes_root : (cs : List ℕ) (stood : Bool) → 1 ≤ depth → Reaches cs [] (before stood) → Reaches (cs ++ codes "<html></html>") [] after
+  closes_root cs stood d r =
+      let m = html_stands syntax in
+      let text : Chars = codes "html>" in
+      let spells : (next : Option ℕ) → Spells syntax (content_at syntax r.place) (60 ∷ text) next (tag html_tag) = λ next. subst (λ l. Spells syntax (inside_of syntax l).content (60 ∷ text) next (tag html_tag)) (sym r.at.line_is) (a_tag text html_tag refl (html_spelled syntax)) in
+      let single : Item = added cs r.items r.place r.ahead text html_tag refl refl spells in
+      let begun : Step = record { next = record { line = start_of single html_tag ∷ []; phase = within; drops = drops_line_feed outside html_tag }; events = nesting.begins (start_of single html_tag) false ∷ [] } in
+      let opens : nest_step syntax depth r.place single ≡ Ok begun =
+      tag_steps [] (before stood) r.place single html_tag r.at
+      ∙ (opening syntax depth [] (before stood) single html_tag refl m.allowed m.known refl (room depth d) (record { not_ended = refl; named = refl }) ∙ ap (λ (x : Step). Ok x) (cond-false _ _ _ m.holds)) in
+      let root : Reaches (cs ++ codes "<html>") (start_of single html_tag ∷ []) within =
+      record { items = r.items ++ single ∷ []; place = begun.next; at = record { line_is = refl; phase_is = refl }; ahead = adds cs r.items r.place r.ahead text html_tag refl refl spells begun opens } in
+      subst (λ x. Reaches x [] after) (append_assoc cs (codes "<html>") (codes "</html>")) (closes_one (cs ++ codes "<html>") (start_of single html_tag) [] (html_name syntax) root)
+
+  closes : (cs : List ℕ) {items : List Item} {line : Line} {phase : Phase} → 1 ≤ depth → Stands syntax depth items line phase → AllNamed syntax depth line → Reaches cs line phase → Reaches (cs ++ closing line phase) [] after
+  closes cs d (not_begun stood lead) n r = closes_root cs stood d r
+  closes cs d (still_open {t = t} {above = above} levels op e) n r = closes_all (t ∷ above) cs n r
+  closes cs d (ended tree document) n r = closes_all [] cs n r
+
+  as_meant : (meant : Nesting → Type 0) (place : Nesting) → meant place → {n : Nesting} {items : List Item} {events : List Event} → Goes syntax depth (λ m. m ≡ place) n items events → Goes syntax depth meant n items events
+  as_meant meant place h (stands n p) = stands n (subst meant (sym p) h)
+  as_meant meant place h (goes item step c e g) = goes item step c e (as_meant meant place h g)
+
+  -- at the page's end
+  is_page : (cs bytes : List ℕ) (limits : Limits) → limits.depth ≡ depth → encodes cs ≡ bytes → Reaches cs [] after → IsPage syntax limits bytes
+  is_page cs bytes limits d e r =
+      let sp = r.ahead.last r.at.phase_is in
+      let s = fronts_stand syntax depth (page_entries cs) None r.items [] after sp (record { events = r.ahead.events; going = as_meant (IsAt [] after) r.place r.at r.ahead.going }) in
+      let p = after_only s refl in
+      record {
+        tree = p.0;
+        page = λ wide w.
+            record {
+              entries = page_entries cs;
+              items = r.items;
+              size = w.page;
+              read = record { characters = cs; scalars = r.ahead.scalars; forms = e; read = refl };
+              no_nul = r.ahead.no_nul;
+              spelled = sp;
+              fit = all_fit syntax wide.tag (length bytes) w.tag sp (subst (λ x. Within (length x) (page_entries cs)) e (page_within cs));
+              sections = r.ahead.sections;
+              document = subst (λ n. Document syntax n r.items p.0) (sym (w.depth ∙ d)) p.1;
+            };
+      }
+
+-- where the front of a page stands
+pub record Fronted (syntax : Syntax) (limits : Limits) (bytes : List ℕ) (line : Line) (phase : Phase) : Type 0 where
+  pub characters : List ℕ
+  pub forms : encodes characters ≡ bytes
+  pub named : AllNamed syntax limits.depth line
+  pub reaches : Reaches syntax limits.depth characters line phase
+
+pub fronted : (syntax : Syntax) (limits : Limits) (bytes : List ℕ) (next : Option ℕ) (line : Line) (phase : Phase) → Begun syntax limits bytes next line phase → Fronted syntax limits bytes line phase
+fronted syntax limits bytes next line phase b =
+    let cs = b.read.characters in
+    let same : b.entries ≡ page_entries cs = b.read.read in
+    let no_nul : has_no_nul (page_entries cs) ≡ true = sym (ap has_no_nul same) ∙ b.no_nul in
+    let sp : Spelled syntax (page_entries cs) next b.items = subst (λ es. Spelled syntax es next b.items) same b.spelled in
+    let l = fronts_lead syntax limits.depth b.items line phase b.stands in
+    let a = arrives syntax limits.depth sp l.going (page_fair cs b.read.scalars no_nul) (record { nothing_open = λ e. refl; names = tt }) in
+    record {
+      characters = cs;
+      forms = b.read.forms;
+      named = subst (AllNamed syntax limits.depth) a.is_meant.line_is a.sound.names;
+      reaches = record {
+        items = b.items;
+        place = a.place;
+        at = a.is_meant;
+        ahead = record { scalars = b.read.scalars; no_nul = no_nul; spelled = spelled_less syntax sp; last = λ h. spelled_last syntax sp (a.last h); sections = b.sections; events = l.events; going = a.going };
+      };
+    }
+
+pub fronts_close : FrontsClose
+fronts_close syntax limits bytes next line phase d b =
+    let f = fronted syntax limits bytes next line phase b in
+    is_page syntax limits.depth (f.characters ++ closing line phase) (closed bytes line phase) limits refl (encodes-append f.characters (closing line phase) ∙ ap (λ x. x ++ encode_utf8_all (closing line phase)) f.forms)
+    (closes syntax limits.depth f.characters d b.stands f.named f.reaches)

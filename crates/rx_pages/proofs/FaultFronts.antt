@@ -1,0 +1,66 @@
+-- The bytes before the token of a fault are the front of a page.
+use Rattle.std.proofs.Common.{◌≡◌, ◌∙◌, ℕ, ◌≤◌, true, List, [], ◌∷◌, ◌++◌, None, refl, ap, sym, subst, length, arith}
+use Rattle.std.specs.Prelude.{◌==◌, not, take}
+use Rattle.std.proofs.lemmas.List.{length-append}
+use Rattle.std.proofs.lemmas.Bool.{and_parts, and_from}
+use Rattle.rx_chars.specs.Characters.{Entry}
+use Rattle.rx_chars.specs.declared.syntax.Syntax.{Syntax}
+use Rattle.rx_grammar.specs.declared.limits.Limits.{Limits}
+use Rattle.rx_grammar.specs.Items.{values, next_of, Item}
+use Rattle.rx_grammar.specs.Pages.{has_no_nul}
+use Rattle.rx_grammar.specs.Begun.{Line, Phase, Begun}
+use Rattle.rx_grammar.specs.PageFaults.{token_of, Before, Reached, page_too_long, not_utf8, nul, tag_too_long, known_too_long, decided, unended}
+use Rattle.rx_pages.specs.Laws.{FaultsFollowFronts}
+use Rattle.rx_pages.specs.Closings.{IsFront}
+use Rattle.rx_pages.proofs.Foreparts.{Forepart, forepart}
+use Rattle.rx_pages.proofs.Closings.{fronts_close}
+
+no_nul_front : (a b : List Entry) → has_no_nul (a ++ b) ≡ true → has_no_nul a ≡ true
+no_nul_front [] b h = refl
+no_nul_front (e ∷ a) b h = let p = and_parts (not (e.value == 0)) (has_no_nul (a ++ b)) h in and_from (not (e.value == 0)) (has_no_nul a) p.0 (no_nul_front a b p.1)
+
+module _ (syntax : Syntax) (limits : Limits) (bytes whole rest : List ℕ) (items : List Item) (line : Line) (phase : Phase) (run : List Entry) (are : bytes ≡ whole ++ rest) (r : Reached syntax limits whole items line phase run) where
+  part : Forepart bytes whole r.front run
+  part = forepart bytes whole rest r.front run are r.read
+
+  abbrev Answer : List ℕ → Type 0
+  Answer first = Begun syntax limits first (next_of (values run) None) line phase
+
+  -- where the page's limit is kept
+  front_begun : length part.first ≤ limits.page → Answer (take (token_of whole run) bytes)
+  front_begun h =
+      subst Answer (sym part.is) (record {
+        entries = r.front;
+        items = items;
+        size = h;
+        read = part.read;
+        no_nul = no_nul_front r.front run r.no_nul;
+        spelled = r.spelled;
+        fit = r.fit;
+        sections = r.sections;
+        stands = r.stands;
+      })
+
+  behind : Answer (take (token_of whole run) bytes) → IsFront syntax limits (take (token_of whole run) bytes)
+  behind b = record { next = next_of (values run) None; line = line; phase = phase; begun = b; closes = λ d. fronts_close syntax limits (take (token_of whole run) bytes) (next_of (values run) None) line phase d b }
+
+  pub by_whole : length whole ≤ limits.page → IsFront syntax limits (take (token_of whole run) bytes)
+  by_whole h = behind (front_begun (let w = part.within in omega arith))
+
+  pub by_last : (es : List Entry) (c : Entry) → run ≡ es ++ c ∷ [] → c.last ≤ limits.page → IsFront syntax limits (take (token_of whole run) bytes)
+  by_last es c e h = behind (front_begun (let w = part.order es c e in let s = part.size in omega arith))
+
+by_before : (syntax : Syntax) (limits : Limits) (bytes : List ℕ) (token at : ℕ) → (b : Before syntax limits bytes token at) → at ≤ limits.page → IsFront syntax limits (take token bytes)
+by_before syntax limits bytes token at b h =
+    subst (λ n. IsFront syntax limits (take n bytes)) (sym b.token_is)
+    (by_whole syntax limits bytes b.whole (b.part ++ b.byte ∷ b.rest) b.items b.line b.phase b.run b.are b.reached (let a = b.at_is in omega arith))
+
+pub faults_follow_fronts : FaultsFollowFronts
+faults_follow_fronts syntax limits bytes _ (page_too_long token at b p s) = by_before syntax limits bytes token at b (omega arith)
+faults_follow_fronts syntax limits bytes _ (not_utf8 token at b p s n) = by_before syntax limits bytes token at b (omega arith)
+faults_follow_fronts syntax limits bytes _ (nul token at b p s n z) = by_before syntax limits bytes token at b (omega arith)
+faults_follow_fronts syntax limits bytes _ (tag_too_long token at b p k e g) = by_before syntax limits bytes token at b (omega arith)
+faults_follow_fronts syntax limits bytes _ (known_too_long whole rest items line phase first more c e r u n k o p) = by_last syntax limits bytes whole rest items line phase ((first ∷ more) ++ c ∷ []) e r (first ∷ more) c refl (omega arith)
+faults_follow_fronts syntax limits bytes _ (decided whole rest items line phase run c e r i f s p) = by_last syntax limits bytes whole rest items line phase (run ++ c ∷ []) e r run c refl (omega arith)
+faults_follow_fronts syntax limits bytes _ (unended whole part items line phase run e r i is n size s) =
+    by_whole syntax limits bytes whole part items line phase run e r (let l = ap length e ∙ length-append whole part in omega arith)

@@ -1,0 +1,170 @@
+-- What holds wherever tokens lead: a page that is over has nothing open, and the open elements have the names of start tags.
+use Rattle.std.proofs.Common.{◌≡◌, ◌∙◌, ◌⊎◌, ⊎_elim, inl, inr, ℕ, ◌+◌, Bool, true, false, List, [], ◌∷◌, ◌++◌, Option, refl, ap, sym, subst}
+use Rattle.std.specs.Prelude.{◌&&◌, ◌==◌, not, Result, Ok}
+use Rattle.std.specs.List.{list_all}
+use Rattle.std.specs.Char.{len_utf8}
+use Rattle.std.specs.Str.{all_scalars}
+use lib.Utf8.{scalar}
+use Rattle.std.proofs.lemmas.Bool.{and_from, cond-true, cond-false}
+use Rattle.rx_terms.specs.Text.{Chars}
+use Rattle.rx_chars.specs.Characters.{Entry, byte_order_mark, line_feed, carriage_return, as_line_end, placed, entered, without_mark}
+use Rattle.rx_chars.specs.declared.syntax.Syntax.{Syntax}
+use Rattle.rx_grammar.specs.declared.faults.Kind.{Kind}
+use Rattle.rx_grammar.specs.Names.{same, is_among}
+use Rattle.rx_grammar.specs.Tokens.{Tag, Token, tag, character, reference, kept, section, comment, doctype}
+use Rattle.rx_grammar.specs.Contents.{is_alone, is_html}
+use Rattle.rx_grammar.specs.Spelling.{Spells}
+use Rattle.rx_grammar.specs.Omission.{enders, is_omissible, is_held}
+use Rattle.rx_grammar.specs.Items.{Item, Spelled, no_more, one, values, next_of, is_line_feed}
+use Rattle.rx_grammar.specs.Pages.{has_no_nul}
+use Rattle.rx_grammar.specs.Begun.{Line, inside_of, parent_of, Phase, before, within, after}
+use Rattle.rx_grammar.specs.PageFaults.{under_start, after_start, after_end, first_row, tag_rows}
+use Rattle.rx_pages.specs.Nesting.{Event, Nesting, Step, over, begun_under, line_above, tag_passes, going_on, text_step, doctype_step, step_by, Goes, stands, goes}
+use Rattle.rx_pages.proofs.Steps.{passes}
+use Rattle.rx_pages.proofs.Befores.{is_tag, IsLast, LastIs}
+use Rattle.rx_pages.proofs.OpenNames.{is_fair, IsName, start_name}
+use Rattle.rx_reader.proofs.Bools.{both, by_test, split}
+
+-- the characters of a page are fair
+abbrev pub is_fair_entry : Entry → Bool
+is_fair_entry e = is_fair e.value
+
+scalar_end : (c : ℕ) → scalar c ≡ true → scalar (as_line_end c) ≡ true
+scalar_end c h = by_test {G = scalar (as_line_end c) ≡ true} (c == carriage_return) (λ t. ap scalar (cond-true _ _ _ t)) (λ t. ap scalar (cond-false _ _ _ t) ∙ h)
+
+scalars_entered : (after_return : Bool) (start : ℕ) (cs : List ℕ) → all_scalars cs ≡ true → list_all (λ (e : Entry). scalar e.value) (entered after_return (placed start cs)) ≡ true
+scalars_entered after_return start [] h = refl
+scalars_entered after_return start (c ∷ cs) h =
+    let k = both (scalar c) (all_scalars cs) h in
+    let P : List Entry → Type 0 = λ es. list_all (λ (e : Entry). scalar e.value) es ≡ true in
+    by_test {G = P (entered after_return (placed start (c ∷ cs)))} (after_return && c == line_feed)
+    (λ t. subst P (sym (cond-true _ _ _ t)) (scalars_entered false (start + len_utf8 c) cs k.1))
+    (λ t. subst P (sym (cond-false _ _ _ t)) (and_from (scalar (as_line_end c)) _ (scalar_end c k.0) (scalars_entered (c == carriage_return) (start + len_utf8 c) cs k.1)))
+
+scalars_page : (cs : List ℕ) → all_scalars cs ≡ true → list_all (λ (e : Entry). scalar e.value) (entered false (without_mark (placed 0 cs))) ≡ true
+scalars_page [] h = refl
+scalars_page (c ∷ cs) h =
+    let P : List Entry → Type 0 = λ es. list_all (λ (e : Entry). scalar e.value) (entered false es) ≡ true in
+    by_test {G = P (without_mark (placed 0 (c ∷ cs)))} (c == byte_order_mark)
+    (λ t. subst P (sym (cond-true _ _ _ t)) (scalars_entered false (0 + len_utf8 c) cs (both (scalar c) (all_scalars cs) h).1))
+    (λ t. subst P (sym (cond-false _ _ _ t)) (scalars_entered false 0 (c ∷ cs) h))
+
+both_fair : (es : List Entry) → list_all (λ (e : Entry). scalar e.value) es ≡ true → has_no_nul es ≡ true → list_all is_fair_entry es ≡ true
+both_fair [] h k = refl
+both_fair (e ∷ es) h k =
+    let p = both (scalar e.value) _ h in
+    let q = both (not (e.value == 0)) _ k in
+    and_from (is_fair e.value) _ (and_from (scalar e.value) (not (e.value == 0)) p.0 q.0) (both_fair es p.1 q.1)
+
+pub page_fair : (cs : List ℕ) → all_scalars cs ≡ true → has_no_nul (entered false (without_mark (placed 0 cs))) ≡ true → list_all is_fair_entry (entered false (without_mark (placed 0 cs))) ≡ true
+page_fair cs h k = both_fair (entered false (without_mark (placed 0 cs))) (scalars_page cs h) k
+
+fair_parts : (a b : List Entry) → list_all is_fair_entry (a ++ b) ≡ true → (list_all is_fair (values a) ≡ true) × (list_all is_fair_entry b ≡ true)
+fair_parts [] b h = (refl, h)
+fair_parts (e ∷ a) b h = let k = both (is_fair e.value) _ h in let p = fair_parts a b k.1 in (and_from (is_fair e.value) _ k.0 p.0, p.1)
+
+module _ (syntax : Syntax) (depth : ℕ) where
+  abbrev pub AllNamed : Line → Type 0
+  AllNamed [] = Unit {0}
+  AllNamed (t ∷ above) = IsName syntax t.name × AllNamed above
+
+  pub record Sound (n : Nesting) : Type 0 where
+    pub nothing_open : n.phase ≡ after → n.line ≡ []
+    pub names : AllNamed n.line
+
+  start_named : (name : Chars) (line : Line) → AllNamed line → AllNamed (after_start syntax name line)
+  start_named name [] h = tt
+  start_named name (t ∷ above) h = split AllNamed (is_among (enders (inside_of syntax above) t.name) name) _ _ (λ e. start_named name above h.1) (λ e. h)
+
+  under_named : (name : Chars) (line : Line) → AllNamed line → AllNamed (under_start syntax name line)
+  under_named name line h = split AllNamed (is_html (inside_of syntax line).content) _ _ (λ e. start_named name line h) (λ e. h)
+
+  end_named : (name : Chars) (line : Line) → AllNamed line → AllNamed (after_end syntax name line)
+  end_named name [] h = tt
+  end_named name (t ∷ above) h = split AllNamed (is_omissible (inside_of syntax above) t.name && not (same t.name name) && not (is_held (parent_of above) t.name)) _ _ (λ e. end_named name above h.1) (λ e. h)
+
+  above_named : (line : Line) → AllNamed line → AllNamed (line_above line)
+  above_named [] h = tt
+  above_named (t ∷ above) h = h.1
+
+  over_sound : (line : Line) → AllNamed line → Sound (over line)
+  over_sound [] h = record { nothing_open = λ e. refl; names = tt }
+  over_sound (t ∷ above) h = record { nothing_open = λ e. absurd (apart e); names = h }
+    where
+      apart : within ≡ after → ⊥
+      apart e = cc
+
+  begun_sound : (item : Item) (t : Tag) (line : Line) (ended : List Event) → AllNamed line → IsName syntax t.name → Sound (begun_under syntax item t line ended).next
+  begun_sound item t line ended h n = split (λ (s : Step). Sound s.next) (is_alone syntax (inside_of syntax line) t) _ _ (λ e. over_sound line h) (λ e. record { nothing_open = λ e. absurd (apart e); names = (n, h) })
+    where
+      apart : within ≡ after → ⊥
+      apart e = cc
+
+  tag_sound : (n : Nesting) (item : Item) (t : Tag) → Sound n → (t.closing ≡ false → IsName syntax t.name) → Sound (tag_passes syntax n.line item t).next
+  tag_sound n item t s h =
+      split (λ (s : Step). Sound s.next) t.closing _ _ (λ e. over_sound (line_above (after_end syntax t.name n.line)) (above_named (after_end syntax t.name n.line) (end_named t.name n.line s.names)))
+      (λ e. begun_sound item t (under_start syntax t.name n.line) _ (under_named t.name n.line s.names) (h e))
+
+  by_text : (n : Nesting) (a step : Step) → Sound n → a.next ≡ going_on n → ◌≡◌ {A = Result Step Kind} (Ok a) (Ok step) → Sound step.next
+  by_text n a step s g e = let same : a ≡ step = cc in subst (λ (x : Step). Sound x.next) same (subst Sound (sym g) (record { nothing_open = s.nothing_open; names = s.names }))
+
+  by_doctype : (p : Phase) (step : Step) → doctype_step p ≡ Ok step → Sound step.next
+  by_doctype (before false) step e = let same : record { next = record { line = []; phase = before true; drops = false }; events = [] } ≡ step = cc in subst (λ (x : Step). Sound x.next) same (record { nothing_open = λ e. refl; names = tt })
+  by_doctype (before true) step e = absurd (cc)
+  by_doctype within step e = absurd (cc)
+  by_doctype after step e = absurd (cc)
+
+  step_sound : (n : Nesting) (item : Item) (token : Token) (step : Step) → Sound n → ((t : Tag) → token ≡ tag t → t.closing ≡ false → IsName syntax t.name) → step_by syntax depth n item token ≡ Ok step → Sound step.next
+  step_sound n item (tag t) step s h e =
+      let p = passes (first_row (tag_rows syntax depth n.line n.phase t)) (tag_passes syntax n.line item t) step e in subst (λ (x : Step). Sound x.next) p.is (tag_sound n item t s (h t refl))
+  step_sound n item (character c) step s h e = by_text n (text_step n (is_line_feed (character c)) (c ∷ [])) step s refl e
+  step_sound n item (reference c) step s h e = by_text n (text_step n (is_line_feed (reference c)) (c ∷ [])) step s refl e
+  step_sound n item (kept chars) step s h e = by_text n (text_step n false chars) step s refl e
+  step_sound n item (section chars) step s h e = by_text n (text_step n false chars) step s refl e
+  step_sound n item comment step s h e = by_text n (record { next = going_on n; events = [] }) step s refl e
+  step_sound n item doctype step s h e = by_doctype n.phase step e
+
+  -- the token after which a page is over
+  text_last : (n : Nesting) (a step : Step) → Sound n → a.next ≡ going_on n → ◌≡◌ {A = Result Step Kind} (Ok a) (Ok step) → step.next.phase ≡ after → n.line ≡ []
+  text_last n a step s g e h = let same : a ≡ step = cc in s.nothing_open (sym (ap (λ (x : Nesting). x.phase) g) ∙ (ap (λ (x : Step). x.next.phase) same ∙ h))
+
+  doctype_last : (p : Phase) (step : Step) → doctype_step p ≡ Ok step → step.next.phase ≡ after → ⊥
+  doctype_last (before false) step e h = let same : record { next = record { line = []; phase = before true; drops = false }; events = [] } ≡ step = cc in let k : before true ≡ after = ap (λ (x : Step). x.next.phase) same ∙ h in cc
+  doctype_last (before true) step e h = absurd (cc)
+  doctype_last within step e h = absurd (cc)
+  doctype_last after step e h = absurd (cc)
+
+  last_token : (n : Nesting) (item : Item) (token : Token) (step : Step) → Sound n → step_by syntax depth n item token ≡ Ok step → step.next.phase ≡ after → (is_tag token ≡ true) ⊎ (n.line ≡ [])
+  last_token n item (tag t) step s e h = inl refl
+  last_token n item (character c) step s e h = inr (text_last n (text_step n (is_line_feed (character c)) (c ∷ [])) step s refl e h)
+  last_token n item (reference c) step s e h = inr (text_last n (text_step n (is_line_feed (reference c)) (c ∷ [])) step s refl e h)
+  last_token n item (kept chars) step s e h = inr (text_last n (text_step n false chars) step s refl e h)
+  last_token n item (section chars) step s e h = inr (text_last n (text_step n false chars) step s refl e h)
+  last_token n item comment step s e h = inr (text_last n (record { next = going_on n; events = [] }) step s refl e h)
+  last_token n item doctype step s e h = absurd (doctype_last n.phase step e h)
+
+  -- where tokens lead
+  pub record Arrives (meant : Nesting → Type 0) (n : Nesting) (items : List Item) (events : List Event) : Type 0 where
+    pub place : Nesting
+    pub is_meant : meant place
+    pub going : Goes syntax depth (λ m. m ≡ place) n items events
+    pub sound : Sound place
+    pub last : place.phase ≡ after → LastIs syntax items
+
+  last_is : (item : Item) (place : Nesting) {n : Nesting} {items : List Item} {events : List Event} → Goes syntax depth (λ m. m ≡ place) n items events → (n.phase ≡ after → IsLast item.content item.token) → (place.phase ≡ after → LastIs syntax items) → place.phase ≡ after → LastIs syntax (item ∷ items)
+  last_is item place (stands m p) now more h = now (ap (λ (x : Nesting). x.phase) p ∙ h)
+  last_is item place (goes other step c e g) now more h = more h
+
+  pub arrives : {meant : Nesting → Type 0} {n : Nesting} {entries : List Entry} {next : Option ℕ} {items : List Item} {events : List Event} → Spelled syntax entries next items → Goes syntax depth meant n items events → list_all is_fair_entry entries ≡ true → Sound n → Arrives meant n items events
+  arrives no_more (stands n m) f s = record { place = n; is_meant = m; going = stands n refl; sound = s; last = λ h. tt }
+  arrives {n = n} {next = next} (one c run rest item sp k l more) (goes item2 step ci e g) f s =
+      let p = fair_parts (c ∷ run) rest f in
+      let s2 = step_sound n item item.token step s (λ t is closing. start_name syntax item.content (values (c ∷ run)) (next_of (values rest) next) t (subst (λ x. Spells syntax item.content (values (c ∷ run)) (next_of (values rest) next) x) is sp) closing p.0) e in
+      let r = arrives more g p.1 s2 in
+      record {
+        place = r.place;
+        is_meant = r.is_meant;
+        going = goes item step ci e r.going;
+        sound = r.sound;
+        last = last_is item r.place r.going (λ a. ⊎_elim (λ t. inl t) (λ none. inr (ci ∙ ap (λ x. (inside_of syntax x).content) none)) (last_token n item item.token step s e a)) r.last;
+      }
