@@ -518,12 +518,12 @@ run_between syntax limits bytes told v line at b =
     let same : b.now ≡ record { now = at.now; told = told } = cc in
     ap (λ (p : Progress). p.now.scan.run) (sym same) ∙ b.none
 
-pub quiet_stop : {A B : Type 0} (why : Stop) → IsNoMemory {A = A} (Err why) ≡ false → IsNoMemory {A = B} (Err why) ≡ false
-quiet_stop (stop.Fault fault) h = refl
-quiet_stop stop.NoMemory h = absurd (cc)
+pub quiet_stop : (A B : Type 0) (why : Stop) → IsNoMemory {A = A} (Err why) ≡ false → IsNoMemory {A = B} (Err why) ≡ false
+quiet_stop A B (stop.Fault fault) h = refl
+quiet_stop A B stop.NoMemory h = absurd (cc)
 
-pub quiet_heard : {B : Type 0} (old new : Lines) (t : Token) (why : Stop) → Hears old t (Err why) new → shows_tag t ≡ false → IsNoMemory {A = B} (Err why) ≡ false
-quiet_heard old new t why hears none = by t hears none
+pub quiet_heard : (B : Type 0) (old new : Lines) (t : Token) (why : Stop) → Hears old t (Err why) new → shows_tag t ≡ false → IsNoMemory {A = B} (Err why) ≡ false
+quiet_heard B old new t why hears none = by t hears none
   where
     by : (x : Token) → Hears old x (Err why) new → shows_tag x ≡ false → IsNoMemory {A = B} (Err why) ≡ false
     by token.More k e = absurd (let w : ◌≡◌ {A = Result Heard Stop} (Err why) (Ok heard.More) = k.0 in cc)

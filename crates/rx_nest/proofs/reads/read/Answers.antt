@@ -67,9 +67,9 @@ returns-in_default c =
 
 pub returns-in-Err-clause-quiet : goal.returns-in-Err-clause-quiet
 returns-in-Err-clause-quiet c syntax limits bytes told at b q =
-    quiet_stop c.in-Err.stop (c.in-Err.ensures.quiet at.now.scan at.stands (run_between syntax limits bytes told c.args.scan.now c.args.line.now at b) q)
+    quiet_stop (ℕ × Token) (ℕ × Heard) c.in-Err.stop (c.in-Err.ensures.quiet at.now.scan at.stands (run_between syntax limits bytes told c.args.scan.now c.args.line.now at b) q)
 
 pub returns-in-Err-hear-clause-quiet : goal.returns-in-Err-hear-clause-quiet
 returns-in-Err-hear-clause-quiet c syntax limits bytes told at b q =
-    quiet_heard c.args.line.now c.hear.new.self c.in-Ok.step.1 c.in-Err-hear.stop c.in-Err-hear.ensures
+    quiet_heard (ℕ × Heard) c.args.line.now c.hear.new.self c.in-Ok.step.1 c.in-Err-hear.stop c.in-Err-hear.ensures
     (c.in-Ok.ensures.quiet_tells at.now.scan at.stands (run_between syntax limits bytes told c.args.scan.now c.args.line.now at b) q)

@@ -46,3 +46,9 @@ returns-in-Err-Fault-clause-steps c syntax limits bytes signs st =
     let reads : page_read syntax limits (bytes ++ c.args.piece.now) ≡ Err c.in-Err-Fault.fault =
     subst (λ x. ReadGives syntax limits bytes was.told c.args.piece.now c.self.inside.line (Err x) c.read.new.scan c.read.new.line) c.in-Err-Fault.field-0-is (c.in-Err-Fault.ensures.reads syntax limits bytes was.told was.at) in
     (faults_so syntax limits bytes c.args.piece.now _ c.in-Err-Fault.fault was.at.read reads, record { failed = refl; unspent = was.unspent })
+
+-- src/nests.rt:108:17
+pub returns-in-Err-NoMemory-clause-quiet : goal.returns-in-Err-NoMemory-clause-quiet
+returns-in-Err-NoMemory-clause-quiet c syntax limits bytes signs st b q =
+    let was = subst (λ v. Stands syntax limits v bytes signs) (sym c.self.view_is) st in
+    absurd (let w = rw c.in-Err-NoMemory.field-0-is at c.in-Err-NoMemory.ensures.quiet syntax limits bytes was.told was.at b q in cc)
