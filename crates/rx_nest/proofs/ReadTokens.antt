@@ -48,11 +48,11 @@ use Rattle.rx_nest.specs.Levels.{Levels, place_under, kept, ends_by}
 use Rattle.rx_nest.specs.Signs.{Sign, said, is_hidden, sees, finishing}
 use Rattle.rx_nest.specs.Follows.{Follows, flags_of, phase_at, own_signs, own_tag, tag_by}
 use Rattle.rx_nest.specs.Heard.{Hears, HearsTag, heard_of}
-use Rattle.rx_nest.specs.Nests.{IsBetween, LendsStart, begins_own, IsATag, a_skipped_one, a_doctype, some_text, HeardOf, Completes, At, setting_of, start_seen, heard_signs, Lends, is_tag_heard, hears_more, Heeds, ReadGives, last_text, has_text, last_tag}
+use Rattle.rx_nest.specs.Nests.{Stops, IsBetween, LendsStart, begins_own, IsATag, a_skipped_one, a_doctype, some_text, HeardOf, Completes, At, setting_of, start_seen, heard_signs, Lends, is_tag_heard, hears_more, Heeds, ReadGives, last_text, has_text, last_tag}
 use Rattle.rx_nest.proofs.LineLemmas.{place_is}
 use Rattle.rx_nest.proofs.Takes.{Taken, TagSteps, tag_steps}
 use Rattle.rx_nest.proofs.TextSteps.{said_by, Quiet, none_quiet, texts_quiet, comment_quiet, empty_quiet, line_feed_quiet}
-use Rattle.rx_nest.proofs.Heeding.{front_rest, scan_fails, scan_is, quiet_at, quiet_shows, said_is, behind_is, doctype_at, tag_fault, tag_leads, Leads}
+use Rattle.rx_nest.proofs.Heeding.{front_rest, scan_fails, scan_is, quiet_at, quiet_shows, said_is, behind_is, doctype_at, tag_stops, tag_leads, Leads}
 
 -- the text that is shown is the one that was told
 text_is : (answer : What) (v : Scanner) → v.what ≡ answer → (text : _) → Shows answer v.reading (token.Text text) → (chars text.now ≡ last_text v) × (has_text v.what ≡ true)
@@ -255,24 +255,20 @@ module _ (syntax : Syntax) (limits : Limits) (bytes : List ℕ) (told : List Eve
       steps_as : (x : Result Step Kind) → nest_step line.syntax line.depth nest item ≡ x → nest_step syntax limits.depth nest item ≡ x
       steps_as x h = subst (λ d. nest_step syntax d nest item ≡ x) at.depth_is (subst (λ l. nest_step l line.depth nest item ≡ x) at.syntax_is h)
 
-      tag_refused : (kind : Kind) → TagGives line (tag_seen g) (Err (refused.Fault kind)) new → page_read syntax limits (bytes ++ piece) ≡ Err (record { kind = kind; token = g.token; at = g.at })
+      tag_refused : (kind : Kind) → TagGives line (tag_seen g) (Err (refused.Fault kind)) new → Stops syntax limits bytes told piece (record { kind = kind; token = g.token; at = g.at })
       tag_refused kind gives =
           let steps : nest_step line.syntax line.depth nest item ≡ Err kind = tag_steps line new nest item (tag_seen g) (Err (refused.Fault kind)) at.follows is.is gives in
-          let fault : Fault = record { kind = kind; token = g.token; at = g.at } in
-          ap (λ x. page_read syntax limits x) (ap (λ x. bytes ++ x) (sym (front_rest n piece)) ∙ sym (append_assoc bytes front (drop n piece)))
-          ∙ (page_append syntax limits spot (Ok nothing_read) (bytes ++ front) (drop n piece)
-          ∙ (ap (λ x. page_on syntax limits x (drop n piece)) (tag_fault syntax limits bytes told v line at front st.scanned.next item reads_tag g is.is is.first_is is.last_is ends kind (steps_as (Err kind) steps))
-          ∙ fault_stays syntax limits fault (drop n piece)))
+          tag_stops syntax limits bytes told v line at front st.scanned.next item reads_tag g is.is is.first_is is.last_is ends kind (steps_as (Err kind) steps) piece (drop n piece) (sym (front_rest n piece))
 
-      pub hears_refused : (fault : Fault) → HearsTag line g (Err (stop.Fault fault)) new → page_read syntax limits (bytes ++ piece) ≡ Err fault
+      pub hears_refused : (fault : Fault) → HearsTag line g (Err (stop.Fault fault)) new → Stops syntax limits bytes told piece fault
       hears_refused fault h = by h.taken h.is h.gives
         where
-          by : (taken : Result Told Refused) → Err (stop.Fault fault) ≡ heard_of g taken → TagGives line (tag_seen g) taken new → page_read syntax limits (bytes ++ piece) ≡ Err fault
+          by : (taken : Result Told Refused) → Err (stop.Fault fault) ≡ heard_of g taken → TagGives line (tag_seen g) taken new → Stops syntax limits bytes told piece fault
           by (Ok told) e gives = absurd (cc)
           by (Err refused.NoMemory) e gives = absurd (let w : Err (stop.Fault fault) ≡ Err stop.NoMemory = e in cc)
           by (Err (refused.Fault kind)) e gives =
               let same : fault ≡ record { kind = kind; token = g.token; at = g.at } = (let w : Err (stop.Fault fault) ≡ Err (stop.Fault (record { kind = kind; token = g.token; at = g.at })) = e in cc) in
-              tag_refused kind gives ∙ ap (λ f. Err f) (sym same)
+              subst (λ f. Stops syntax limits bytes told piece f) (sym same) (tag_refused kind gives)
 
       -- the elements after it
       module _ (tells : Told) (taken : Taken line nest item tells new) (b : Becomes line new) (closing : Bool) (shown : TagShown mid closing g) (no_lead : (if ends_leading t then false else may_lead nest.phase) ≡ false) (opening : begins_own tells.own ≡ true → closing ≡ false) where
@@ -441,11 +437,11 @@ module _ (syntax : Syntax) (limits : Limits) (bytes : List ℕ) (told : List Eve
         by (token.End g) e k = absurd (tag_no g k)
 
     -- a fault of the elements
-    pub heard_fails : (fault : Fault) (new : Lines) → Hears line t (Err (stop.Fault fault)) new → page_read syntax limits (bytes ++ piece) ≡ Err fault
+    pub heard_fails : (fault : Fault) (new : Lines) → Hears line t (Err (stop.Fault fault)) new → Stops syntax limits bytes told piece fault
     heard_fails fault new hears = by t refl hears
       where
         Goal : Type 0
-        Goal = page_read syntax limits (bytes ++ piece) ≡ Err fault
+        Goal = Stops syntax limits bytes told piece fault
 
         by : (x : Token) → t ≡ x → Hears line x (Err (stop.Fault fault)) new → Goal
         by token.More e k = absurd (let w : Err (stop.Fault fault) ≡ Ok heard.More = k.0 in cc)

@@ -168,9 +168,19 @@ pub record Heeds (syntax : Syntax) (limits : Limits) (bytes : List ℕ) (told : 
   pub all : hears_more h ≡ true → n ≡ length piece
   pub tokens : Completes syntax limits bytes (take n piece) (HeardOf h v)
 
+-- A byte of the piece decides the fault, and no token is complete before it.
+pub record Stops (syntax : Syntax) (limits : Limits) (bytes : List ℕ) (told : List nesting.Event) (piece : List ℕ) (fault : Fault) : Type 0 where
+  pub front : List ℕ
+  pub byte : ℕ
+  pub rest : List ℕ
+  pub are : piece ≡ front ++ byte ∷ rest
+  pub now : Reading
+  pub read : page_read syntax limits (bytes ++ front) ≡ Ok (record { now = now; told = told })
+  pub here : page_read syntax limits (bytes ++ (front ++ byte ∷ [])) ≡ Err fault
+
 abbrev pub ReadGives : Syntax → Limits → List ℕ → List nesting.Event → List ℕ → Lines → Result (ℕ × Heard) Stop → Scanner → Lines → Type 0
 ReadGives syntax limits bytes told piece old (Ok r) v new = Heeds syntax limits bytes told piece r.0 r.1 old v new
-ReadGives syntax limits bytes told piece old (Err (stop.Fault fault)) v new = page_read syntax limits (bytes ++ piece) ≡ Err fault
+ReadGives syntax limits bytes told piece old (Err (stop.Fault fault)) v new = Stops syntax limits bytes told piece fault
 ReadGives syntax limits bytes told piece old (Err stop.NoMemory) v new = Unit {0}
 
 -- how much of the piece was taken
@@ -269,8 +279,14 @@ pub record Faults (syntax : Syntax) (limits : Limits) (bytes piece : List ℕ) (
   pub from : length bytes ≤ fault.at
   pub within : fault.at < length (bytes ++ piece)
 
+-- No byte of the piece before its fault tells anything.
+pub record Still (syntax : Syntax) (limits : Limits) (bytes piece : List ℕ) : Type 0 where
+  pub told_is :
+      (front rest : List ℕ) (before now : Progress) → piece ≡ front ++ rest → page_read syntax limits bytes ≡ Ok before → page_read syntax limits (bytes ++ front) ≡ Ok now
+      → now.told ≡ before.told
+
 abbrev pub FaultGives : Syntax → Limits → List ℕ → List ℕ → Stop → Nested → Type 0
-FaultGives syntax limits bytes piece (stop.Fault fault) new = Faults syntax limits bytes piece fault × Fallen fault new
+FaultGives syntax limits bytes piece (stop.Fault fault) new = Faults syntax limits bytes piece fault × Fallen fault new × Still syntax limits bytes piece
 FaultGives syntax limits bytes piece stop.NoMemory new = new.spent ≡ true
 
 abbrev pub AdvanceGives : Syntax → Limits → List ℕ → List Sign → List ℕ → Result (ℕ × Did) Stop → Nested → Type 0
