@@ -4,6 +4,7 @@ use Rattle.std.proofs.lemmas.Bool.Decides.{nat_tests}
 use Rattle.std.specs.Prelude.{◌-◌, nat_lt, take, map, if◌then◌else◌}
 use Rattle.rx_chars.specs.declared.syntax.Syntax.{Syntax}
 use Rattle.rx_grammar.specs.declared.limits.Limits.{Limits}
+use Rattle.rx_grammar.specs.Items.{Item}
 use Rattle.rx_grammar.specs.Trees.{StartTag}
 use Rattle.rx_pages.specs.Nesting.{Event}
 use Rattle.rx_pages.specs.PageReader.{no_bytes, no_page}
@@ -22,7 +23,7 @@ use Rattle.rx_nest.specs.Lines.{Lines}
 use Rattle.rx_nest.specs.Signs.{Sign, begun, said, finished, sees, nothing_seen, finishing}
 use Rattle.rx_nest.specs.Follows.{flags_of, own_signs}
 use Rattle.rx_nest.specs.Heard.{paid, first_own, next_own, next_owed, first_of}
-use Rattle.rx_nest.specs.Nests.{Nested, At, Stands, Done, DidLends, did_signs, did_more, heard_signs, hears_more, Lends, Heeds, last_tag, owes_own, owed_signs, owes_begin, Takes, left, own_left}
+use Rattle.rx_nest.specs.Nests.{Nested, At, Stands, LendsStart, begins_own, IsATag, no_token, a_tag, read_before, read_now, HeardOf, DidOf, Done, DidLends, did_signs, did_more, heard_signs, hears_more, Lends, Heeds, last_tag, owes_own, owed_signs, owes_begin, Takes, left, own_left}
 use Rattle.rx_nest.proofs.TextSteps.{sees_append}
 
 -- before the first byte
@@ -55,18 +56,19 @@ one_first k o drops = ap (λ b. if b then (did.Finish, record { ends = suc k - 1
 -- what is done first, and what is owed then
 pub record Turn (signs : List Sign) (d : Did) (owed : Owed) (v : Scanner) : Type 0 where
   pub signs_are : signs ≡ did_signs d v ++ owed_signs owed (last_tag v)
-  pub lends : v.what ≡ what.Tag → DidLends d v
-  pub begin_left : owes_begin owed.own ≡ true → v.what ≡ what.Tag
+  pub begin_left : owes_begin owed.own ≡ true → LendsStart v
   pub quiet : did_more d ≡ false
+  pub is_due : (items : List Item) → items ≡ [] → DidOf d v items
+  pub is_read : (items : List Item) → IsATag items → DidOf d v items
 
 own_turn : (o : Own) (v : Scanner) → Turn (own_signs o (last_tag v)) (first_own o).0 (first_own o).1 v
-own_turn own.Nothing v = record { signs_are = refl; lends = λ h. tt; begin_left = λ h. absurd (cc); quiet = refl }
-own_turn own.Begin v = record { signs_are = refl; lends = λ h. h; begin_left = λ h. absurd (cc); quiet = refl }
-own_turn own.Alone v = record { signs_are = refl; lends = λ h. h; begin_left = λ h. absurd (cc); quiet = refl }
-own_turn own.Finish v = record { signs_are = refl; lends = λ h. tt; begin_left = λ h. absurd (cc); quiet = refl }
+own_turn own.Nothing v = record { signs_are = refl; begin_left = λ h. absurd (cc); quiet = refl; is_due = λ items e. no_token e; is_read = λ items t. a_tag t }
+own_turn own.Begin v = record { signs_are = refl; begin_left = λ h. absurd (cc); quiet = refl; is_due = λ items e. read_before e; is_read = λ items t. read_now t }
+own_turn own.Alone v = record { signs_are = refl; begin_left = λ h. absurd (cc); quiet = refl; is_due = λ items e. read_before e; is_read = λ items t. read_now t }
+own_turn own.Finish v = record { signs_are = refl; begin_left = λ h. absurd (cc); quiet = refl; is_due = λ items e. read_before e; is_read = λ items t. read_now t }
 
 -- an own that begins no element lends nothing
-own_lends : (o : Own) (v : Scanner) → (owes_begin (Some o) ≡ true → v.what ≡ what.Tag) → DidLends (first_own o).0 v
+own_lends : (o : Own) (v : Scanner) → (owes_begin (Some o) ≡ true → LendsStart v) → DidLends (first_own o).0 v
 own_lends own.Nothing v h = tt
 own_lends own.Begin v h = h refl
 own_lends own.Alone v h = h refl
@@ -75,14 +77,15 @@ own_lends own.Finish v h = tt
 pub record Due (owed : Owed) (d : Did) (next : Owed) (v : Scanner) : Type 0 where
   pub signs_are : owed_signs owed (last_tag v) ≡ did_signs d v ++ owed_signs next (last_tag v)
   pub lends : DidLends d v
-  pub begin_left : owes_begin next.own ≡ true → v.what ≡ what.Tag
+  pub begin_left : owes_begin next.own ≡ true → LendsStart v
   pub quiet : did_more d ≡ false
+  pub is_due : (items : List Item) → items ≡ [] → DidOf d v items
   pub fewer : left next < left owed
 
 abbrev IsNext : Owed → Did → Owed → Type 0
 IsNext owed d next = ◌≡◌ {A = Option (Did × Owed)} (next_owed owed) (Some (d, next))
 
-pub due : (owed : Owed) (d : Did) (next : Owed) (v : Scanner) → IsNext owed d next → (owes_begin owed.own ≡ true → v.what ≡ what.Tag) → Due owed d next v
+pub due : (owed : Owed) (d : Did) (next : Owed) (v : Scanner) → IsNext owed d next → (owes_begin owed.own ≡ true → LendsStart v) → Due owed d next v
 due owed d next v h lends = by owed.ends owed.own refl refl
   where
     by : (k : ℕ) (o : Option Own) → owed.ends ≡ k → owed.own ≡ o → Due owed d next v
@@ -96,7 +99,7 @@ due owed d next v h lends = by owed.ends owed.own refl refl
         subst (λ x. Due owed x next v) d_is
         (subst (λ x. Due owed did.Finish x v) next_is
         (subst (λ x. Due x did.Finish (record { ends = k; own = o }) v) (sym owed_is)
-        (record { signs_are = refl; lends = tt; begin_left = λ b. lends (ap owes_begin p ∙ b); quiet = refl; fewer = omega arith })))
+        (record { signs_are = refl; lends = tt; begin_left = λ b. lends (ap owes_begin p ∙ b); quiet = refl; is_due = λ items e. read_before e; fewer = omega arith })))
     by zero None e p = absurd (let is : next_owed owed ≡ None = rw (e, p) refl in let w : None ≡ Some (d, next) = sym is ∙ h in cc)
     by zero (Some o) e p =
         let is : next_owed owed ≡ Some (first_own o) = rw (e, p) refl in
@@ -106,8 +109,8 @@ due owed d next v h lends = by owed.ends owed.own refl refl
         subst (λ (x : Did × Owed). Due owed x.0 x.1 v) pair
         (subst (λ x. Due x (first_own o).0 (first_own o).1 v) (sym owed_is) (own_due o (λ b. lends (ap owes_begin p ∙ b))))
       where
-        own_due : (o : Own) → (owes_begin (Some o) ≡ true → v.what ≡ what.Tag) → Due (record { ends = 0; own = Some o }) (first_own o).0 (first_own o).1 v
-        own_due o l = let t = own_turn o v in record { signs_are = t.signs_are; lends = own_lends o v l; begin_left = t.begin_left; quiet = t.quiet; fewer = own_fewer o }
+        own_due : (o : Own) → (owes_begin (Some o) ≡ true → LendsStart v) → Due (record { ends = 0; own = Some o }) (first_own o).0 (first_own o).1 v
+        own_due o l = let t = own_turn o v in record { signs_are = t.signs_are; lends = own_lends o v l; begin_left = t.begin_left; quiet = t.quiet; is_due = t.is_due; fewer = own_fewer o }
           where
             own_fewer : (o : Own) → left (first_own o).1 < 0 + own_left (Some o)
             own_fewer own.Nothing = omega arith
@@ -128,20 +131,21 @@ none_due owed t h = by owed.ends owed.own refl refl
 pub record First (h : Heard) (v : Scanner) : Type 0 where
   pub signs_are : heard_signs h v ≡ did_signs (first_of h).0 v ++ owed_signs (first_of h).1 (last_tag v)
   pub lends : DidLends (first_of h).0 v
-  pub begin_left : owes_begin (first_of h).1.own ≡ true → v.what ≡ what.Tag
+  pub begin_left : owes_begin (first_of h).1.own ≡ true → LendsStart v
   pub more : did_more (first_of h).0 ≡ hears_more h
+  pub is_read : (items : List Item) → HeardOf h v items → DidOf (first_of h).0 v items
 
 pub first_turn : (h : Heard) (v : Scanner) → Lends h v → First h v
-first_turn heard.More v l = record { signs_are = refl; lends = tt; begin_left = λ b. absurd (cc); more = refl }
-first_turn heard.Skipped v l = record { signs_are = refl; lends = tt; begin_left = λ b. absurd (cc); more = refl }
-first_turn heard.Text v l = record { signs_are = sym (append-nil (did_signs did.Text v)); lends = l; begin_left = λ b. absurd (cc); more = refl }
+first_turn heard.More v l = record { signs_are = refl; lends = tt; begin_left = λ b. absurd (cc); more = refl; is_read = λ items h. h }
+first_turn heard.Skipped v l = record { signs_are = refl; lends = tt; begin_left = λ b. absurd (cc); more = refl; is_read = λ items h. h }
+first_turn heard.Text v l = record { signs_are = sym (append-nil (did_signs did.Text v)); lends = l; begin_left = λ b. absurd (cc); more = refl; is_read = λ items h. h }
 first_turn (heard.Tag told) v l = by told.ends told.own refl refl
   where
     by : (k : ℕ) (o : Own) → told.ends ≡ k → told.own ≡ o → First (heard.Tag told) v
     by zero o e p =
         let is : told ≡ record { ends = 0; own = o; drops = told.drops } = ap (λ x. record { ends = x; own = told.own; drops = told.drops }) e ∙ ap (λ x. record { ends = 0; own = x; drops = told.drops }) p in
         let t = own_turn o v in
-        subst (λ x. First (heard.Tag x) v) (sym is) (record { signs_are = t.signs_are; lends = t.lends l; begin_left = λ b. l; more = t.quiet })
+        subst (λ x. First (heard.Tag x) v) (sym is) (record { signs_are = t.signs_are; lends = own_lends o v (λ b. l (ap begins_own p ∙ b)); begin_left = t.begin_left; more = t.quiet; is_read = t.is_read })
     by (suc k) o e p =
         let is : told ≡ record { ends = suc k; own = o; drops = told.drops } = ap (λ x. record { ends = x; own = told.own; drops = told.drops }) e ∙ ap (λ x. record { ends = suc k; own = x; drops = told.drops }) p in
         let first = one_first k o told.drops in
@@ -149,8 +153,9 @@ first_turn (heard.Tag told) v l = by told.ends told.own refl refl
         (record {
           signs_are = ap (λ (x : Did × Owed). did_signs x.0 v ++ owed_signs x.1 (last_tag v)) (sym first);
           lends = subst (λ (x : Did × Owed). DidLends x.0 v) (sym first) tt;
-          begin_left = λ b. l;
+          begin_left = λ b. l (ap begins_own p ∙ (ap (λ (x : Did × Owed). owes_begin x.1.own) (sym first) ∙ b));
           more = ap (λ (x : Did × Owed). did_more x.0) first;
+          is_read = λ items t. subst (λ (x : Did × Owed). DidOf x.0 v items) (sym first) (read_now t);
         })
 
 module _ (syntax : Syntax) (limits : Limits) (old : Nested) (bytes : List ℕ) (signs : List Sign) (st : Stands syntax limits old bytes signs) (piece : List ℕ) where
@@ -171,6 +176,7 @@ module _ (syntax : Syntax) (limits : Limits) (old : Nested) (bytes : List ℕ) (
         };
         lends = u.lends;
         all = λ m. absurd (let w : true ≡ false = sym m ∙ u.quiet in cc);
+        tokens = record { before = record { now = st.at.now; told = st.told }; read = st.at.read; next = st.at.now.scan; items = []; completed = refl; are = u.is_due [] refl };
       })
 
   -- what is read is told
@@ -196,4 +202,12 @@ module _ (syntax : Syntax) (limits : Limits) (old : Nested) (bytes : List ℕ) (
         };
         lends = f.lends;
         all = λ m. heeds.all (sym f.more ∙ m);
+        tokens = record {
+          before = heeds.tokens.before;
+          read = heeds.tokens.read;
+          next = heeds.tokens.next;
+          items = heeds.tokens.items;
+          completed = heeds.tokens.completed;
+          are = f.is_read heeds.tokens.items heeds.tokens.are;
+        };
       }

@@ -8,6 +8,7 @@ use Rattle.rx_reader.proofs.Bools.{by_test}
 use Rattle.rx_grammar.specs.declared.faults.Fault.{Fault}
 use Rattle.rx_grammar.specs.declared.faults.Kind.TheVariants.{Unended}
 use Rattle.rx_grammar.specs.declared.limits.Limits.{Limits}
+use Rattle.rx_grammar.specs.Items.{Item}
 use Rattle.rx_grammar.specs.Begun.{Phase, before, within, after}
 use Rattle.rx_grammar.specs.PageFaults.{FaultAt}
 use Rattle.rx_pages.specs.Nesting.{Event}
@@ -25,7 +26,7 @@ use Rattle.rx_nest.specs.declared.heard.Did.{Did}
 use Rattle.rx_nest.specs.declared.heard.Did.TheVariants as did
 use Rattle.rx_nest.specs.declared.nests.Event as shown
 use Rattle.rx_nest.specs.declared.nests.Event.TheVariants as event
-use Rattle.rx_nest.specs.Nests.{Nested, At, Stands, Done, DidLends, did_signs, did_more, event_signs, is_more, Speaks, Shown, KeepsOn, Keeps, Stepped, EndsWith, Ended, last_tag, last_text, owed_signs}
+use Rattle.rx_nest.specs.Nests.{DidOf, TellsOf, Nested, At, Stands, Done, DidLends, did_signs, did_more, event_signs, is_more, Speaks, Shown, KeepsOn, Keeps, Stepped, EndsWith, Ended, last_tag, last_text, owed_signs}
 use Rattle.rx_nest.proofs.Sizes.{read_size}
 use Rattle.rx_nest.proofs.TreeSeen.{whole}
 
@@ -97,24 +98,26 @@ some_said : (text : Chars) → text ≢ [] → map said text ≢ []
 some_said [] n h = n refl
 some_said (c ∷ text) n h = absurd (cc)
 
-speaks_so : (e : shown.Event) → event_signs e ≢ [] → Speaks e
-speaks_so (event.Text text) n = not_said (chars text.now) n
-speaks_so event.More n = tt
-speaks_so (event.Begin t) n = tt
-speaks_so event.Finish n = tt
-speaks_so event.Skipped n = tt
+speaks_so : (e : shown.Event) (text : Chars) → event_signs e ≡ map said text → text ≢ [] → Speaks e
+speaks_so (event.Text text) told h n = not_said (chars text.now) (λ e. some_said told n (sym h ∙ e))
+speaks_so event.More told h n = tt
+speaks_so (event.Begin t) [] h n = absurd (n refl)
+speaks_so (event.Begin t) (c ∷ told) h n = absurd (cc)
+speaks_so event.Finish told h n = tt
+speaks_so event.Skipped told h n = tt
 
 record Tells (d : Did) (v : Scanner) (e : shown.Event) : Type 0 where
   signs_are : event_signs e ≡ did_signs d v
   speaks : Speaks e
   more : is_more e ≡ did_more d
+  tells : (items : List Item) → DidOf d v items → TellsOf e items
 
 tells : (d : Did) (v : Scanner) (e : shown.Event) → DidLends d v → Shown d v e → Tells d v e
-tells did.More v e l s = subst (λ x. Tells did.More v x) (sym s) (record { signs_are = refl; speaks = tt; more = refl })
-tells did.Skipped v e l s = subst (λ x. Tells did.Skipped v x) (sym s) (record { signs_are = refl; speaks = tt; more = refl })
-tells did.Finish v e l s = subst (λ x. Tells did.Finish v x) (sym s) (record { signs_are = refl; speaks = tt; more = refl })
-tells did.Begin v e l s = let is = s.1 l in record { signs_are = is; speaks = speaks_so e (λ h. let w : begun (last_tag v) ∷ [] ≡ [] = sym is ∙ h in absurd (cc)); more = s.0 }
-tells did.Text v e l s = let is = s.1 l.0 in record { signs_are = is; speaks = speaks_so e (λ h. some_said (last_text v) l.1 (sym is ∙ h)); more = s.0 }
+tells did.More v e l s = subst (λ x. Tells did.More v x) (sym s) (record { signs_are = refl; speaks = tt; more = refl; tells = λ items h. h })
+tells did.Skipped v e l s = subst (λ x. Tells did.Skipped v x) (sym s) (record { signs_are = refl; speaks = tt; more = refl; tells = λ items h. h })
+tells did.Finish v e l s = subst (λ x. Tells did.Finish v x) (sym s) (record { signs_are = refl; speaks = tt; more = refl; tells = λ items h. h })
+tells did.Begin v e l s = let is = s.1 l in record { signs_are = is.signs_are; speaks = is.speaks; more = s.0; tells = is.tells }
+tells did.Text v e l s = let is = s.1 l.0 in record { signs_are = is.signs_are; speaks = speaks_so e (last_text v) is.signs_are l.1; more = s.0; tells = is.tells }
 
 pub stepped : (syntax : Syntax) (limits : Limits) (bytes : List ℕ) (signs : List Sign) (piece : List ℕ) (n : ℕ) (d : Did) (e : shown.Event) (new : Nested) → Done syntax limits bytes signs piece n d new → Shown d new.scan e → Stepped syntax limits bytes signs piece n e new
 stepped syntax limits bytes signs piece n d e new done s =
@@ -124,6 +127,14 @@ stepped syntax limits bytes signs piece n d e new done s =
       stands = subst (λ x. Stands syntax limits new (bytes ++ take n piece) (signs ++ x)) (sym t.signs_are) done.stands;
       speaks = t.speaks;
       all = λ m. done.all (sym t.more ∙ m);
+      tokens = record {
+        before = done.tokens.before;
+        read = done.tokens.read;
+        next = done.tokens.next;
+        items = done.tokens.items;
+        completed = done.tokens.completed;
+        are = t.tells done.tokens.items done.tokens.are;
+      };
     }
 
 -- an event is nothing exactly where nothing was done

@@ -41,7 +41,7 @@ use Rattle.rx_nest.specs.Levels.{Levels, hidden_under, place_under}
 use Rattle.rx_nest.specs.Signs.{Sign, said, Flags, is_hidden, sees}
 use Rattle.rx_nest.specs.Follows.{AreLevels, Follows, flags_of, phase_at}
 use Rattle.rx_nest.specs.Heard.{Hears, HearsTag, heard_of, OnlyHears}
-use Rattle.rx_nest.specs.Nests.{At, setting_of, heard_signs, Lends, hears_more, Heeds, ReadGives, last_text, has_text, last_tag, tag_shown}
+use Rattle.rx_nest.specs.Nests.{Stops, At, setting_of, heard_signs, Lends, hears_more, Heeds, ReadGives, last_text, has_text, last_tag, tag_shown}
 use Rattle.rx_nest.proofs.LineLemmas.{place_is}
 use Rattle.rx_nest.proofs.Takes.{Taken, TagSteps, tag_steps, hidden_flags}
 use Rattle.rx_nest.proofs.TextSteps.{said_by, Quiet, none_quiet, texts_quiet, comment_quiet, empty_quiet, line_feed_quiet}
@@ -78,19 +78,33 @@ module _ (syntax : Syntax) (limits : Limits) (bytes : List ℕ) (told : List Eve
   pub scan_is : (xs : List ℕ) → scan_by v.reading.setting xs ≡ scan_from syntax limits spot s xs
   scan_is xs = ap (λ (x : Setting). scan_by x xs) at.setting
 
+  -- bytes that complete no token tell nothing
+  pub quiet_front : (front : List ℕ) (next : Scanning) → scan_from syntax limits spot s front ≡ Ok (record { next = next; items = [] })
+      → page_read syntax limits (bytes ++ front) ≡ Ok (record { now = record { scan = next; nest = nest }; told = told })
+  quiet_front front next h =
+      let p = page_scan syntax limits spot front s nest told next [] h refl in
+      let none : p.step ≡ no_step nest = (let w : Ok (no_step nest) ≡ Ok p.step = p.is_step in cc) in
+      page_from front ∙ (p.read ∙ (ap (λ (z : Step). from_there syntax limits spot next z.next (told ++ z.events)) none ∙ ap (λ z. from_there syntax limits spot next nest z) (append-nil told)))
+
   -- a fault of the scanner
-  pub scan_fails : (piece : List ℕ) (fault : Fault) → Faults v.reading s piece fault → page_read syntax limits (bytes ++ piece) ≡ Err fault
+  pub scan_fails : (piece : List ℕ) (fault : Fault) → Faults v.reading s piece fault → Stops syntax limits bytes told piece fault
   scan_fails piece fault f =
       let b = byte_at f.n piece f.byte f.here in
-      let p = page_scan syntax limits spot (take f.n piece) s nest told f.next [] (sym (scan_is (take f.n piece)) ∙ f.read) refl in
-      let none : p.step ≡ no_step nest = (let w : Ok (no_step nest) ≡ Ok p.step = p.is_step in cc) in
+      let quiet = quiet_front (take f.n piece) f.next (sym (scan_is (take f.n piece)) ∙ f.read) in
       let decides : read_byte syntax limits spot f.byte f.next ≡ Err fault.kind = subst (λ (x : Setting). read_byte x.syntax x.limits (record { inside = x.inside; leads = x.leads }) f.byte f.next ≡ Err fault.kind) at.setting f.decides in
-      page_from piece
-      ∙ (ap (λ x. page_on syntax limits (from_there syntax limits spot s nest told) x) b.1
-      ∙ (page_append syntax limits spot (from_there syntax limits spot s nest told) (take f.n piece) (f.byte ∷ b.0)
-      ∙ (ap (λ x. page_on syntax limits x (f.byte ∷ b.0)) (p.read ∙ ap (λ (z : Step). from_there syntax limits spot f.next z.next (told ++ z.events)) none)
-      ∙ (ap (λ x. page_on syntax limits x b.0) (page_byte_fault syntax limits spot f.next nest (told ++ []) f.byte fault.kind refl decides)
-      ∙ (fault_stays syntax limits (fault_in f.next fault.kind) b.0 ∙ ap (λ x. Err x) (sym f.is))))))
+      record {
+        front = take f.n piece;
+        byte = f.byte;
+        rest = b.0;
+        are = b.1;
+        now = record { scan = f.next; nest = nest };
+        read = quiet;
+        here =
+            ap (λ x. page_read syntax limits x) (sym (append_assoc bytes (take f.n piece) (f.byte ∷ [])))
+            ∙ (page_append syntax limits spot (Ok nothing_read) (bytes ++ take f.n piece) (f.byte ∷ [])
+            ∙ (ap (λ x. page_on syntax limits x (f.byte ∷ [])) quiet
+            ∙ (page_byte_fault syntax limits spot f.next nest told f.byte fault.kind refl decides ∙ ap (λ x. Err x) (sym f.is))));
+      }
 
   -- the setting where the elements stay
   abbrev setting_by : Line → Phase → Bool → Setting
@@ -235,8 +249,19 @@ module _ (syntax : Syntax) (limits : Limits) (bytes : List ℕ) (told : List Eve
           ∙ (ap (λ y. page_on syntax limits (from_there syntax limits spot s nest told) y) b.are
           ∙ page_last syntax limits spot s nest told b.front b.byte b.before (record { next = next; items = item ∷ [] }) x refl b.reads b.completes (one_step_on x h))
 
-      pub tag_fault : (kind : Kind) → nest_step syntax limits.depth nest item ≡ Err kind → page_read syntax limits (bytes ++ xs) ≡ Err (record { kind = kind; token = t.token; at = t.at })
+      tag_fault : (kind : Kind) → nest_step syntax limits.depth nest item ≡ Err kind → page_read syntax limits (bytes ++ xs) ≡ Err (record { kind = kind; token = t.token; at = t.at })
       tag_fault kind h = tag_page (Err kind) h ∙ ap (λ n. Err (record { kind = kind; token = n; at = b.before.at })) (sym b.first_is ∙ first_is) ∙ ap (λ n. Err (record { kind = kind; token = t.token; at = n })) (sym b.last_is ∙ last_is)
+
+      pub tag_stops : (kind : Kind) → nest_step syntax limits.depth nest item ≡ Err kind → (piece rest : List ℕ) → piece ≡ xs ++ rest → Stops syntax limits bytes told piece (record { kind = kind; token = t.token; at = t.at })
+      tag_stops kind h piece rest e = record {
+        front = b.front;
+        byte = b.byte;
+        rest = rest;
+        are = e ∙ (ap (λ y. y ++ rest) b.are ∙ append_assoc b.front (b.byte ∷ []) rest);
+        now = record { scan = b.before; nest = nest };
+        read = quiet_front b.front b.before b.reads;
+        here = ap (λ y. page_read syntax limits (bytes ++ y)) (sym b.are) ∙ tag_fault kind h;
+      }
 
       pub tag_leads : (step : Step) → nest_step syntax limits.depth nest item ≡ Ok step → Leads xs next step
       tag_leads step h = record { page = tag_page (Ok step) h }

@@ -11,3 +11,4 @@ pub mod TreeSeen
 pub mod Advancing
 pub mod Endings
 pub mod Sizes
+pub mod Fronts

@@ -21,7 +21,7 @@ use Rattle.rx_grammar.specs.Contents.{Place, place_in, inside_at, inside_html, i
 use Rattle.rx_grammar.specs.Items.{Item, start_of}
 use Rattle.rx_grammar.specs.Begun.{Line, inside_of, Phase}
 use Rattle.rx_pages.specs.Nesting.{Event, Nesting, Step, content_at, nest_step}
-use Rattle.rx_pages.specs.PageReader.{Spot, spot_of, Scanning, Scanned, scan_from, is_none_left, may_lead, page_on, page_read, nothing_read, Reading}
+use Rattle.rx_pages.specs.PageReader.{Spot, spot_of, Scanning, Scanned, scan_from, is_none_left, may_lead, page_on, page_read, nothing_read, Reading, Progress}
 use Rattle.rx_pages.proofs.FaultWalk.{fault_stays}
 use Rattle.rx_pages.proofs.ScanSteps.{page_append}
 use Rattle.rx_tags.specs.declared.stops.Stop.{Stop}
@@ -34,8 +34,8 @@ use Rattle.rx_scan.specs.declared.answers.Token.{Token}
 use Rattle.rx_scan.specs.declared.answers.Token.TheVariants as token
 use Rattle.rx_scan.specs.declared.places.Setting.{Setting}
 use Rattle.rx_scan.specs.Scanner.{Scanner}
-use Rattle.rx_scan.specs.Entries.{undropped}
-use Rattle.rx_scan.specs.Steps.{IsOne, IsTag, Skips, a_mark, a_comment, an_empty_section, a_line_feed, Are, Shows, ShowsTag, after_some, ends_leading, setting_behind, is_more, is_of_syntax}
+use Rattle.rx_scan.specs.Entries.{undropped, IsNoMemory}
+use Rattle.rx_scan.specs.Steps.{shows_tag, texts_of, IsOne, IsTag, Skips, a_mark, a_comment, an_empty_section, a_line_feed, Are, Shows, ShowsTag, after_some, ends_leading, setting_behind, is_more, is_of_syntax}
 use Rattle.rx_scan.specs.Steps as scan
 use Rattle.rx_nest.specs.declared.heard.Heard.{Heard}
 use Rattle.rx_nest.specs.declared.heard.Heard.TheVariants as heard
@@ -43,16 +43,16 @@ use Rattle.rx_nest.specs.declared.lines.Told.{Told}
 use Rattle.rx_nest.specs.declared.lines.Own.{Own}
 use Rattle.rx_nest.specs.declared.lines.Refused.{Refused}
 use Rattle.rx_nest.specs.declared.lines.Refused.TheVariants as refused
-use Rattle.rx_nest.specs.Lines.{Lines, TagGives, GivesBy, Begins, Ends, says_text, is_none_open}
-use Rattle.rx_nest.specs.Levels.{Levels, place_under}
+use Rattle.rx_nest.specs.Lines.{Lines, TagGives, GivesBy, Begins, Ends, own_of_end, shown_under, says_text, is_none_open}
+use Rattle.rx_nest.specs.Levels.{Levels, place_under, kept, ends_by}
 use Rattle.rx_nest.specs.Signs.{Sign, said, is_hidden, sees, finishing}
 use Rattle.rx_nest.specs.Follows.{Follows, flags_of, phase_at, own_signs, own_tag, tag_by}
 use Rattle.rx_nest.specs.Heard.{Hears, HearsTag, heard_of}
-use Rattle.rx_nest.specs.Nests.{At, setting_of, start_seen, heard_signs, Lends, is_tag_heard, hears_more, Heeds, ReadGives, last_text, has_text, last_tag}
+use Rattle.rx_nest.specs.Nests.{Stops, IsBetween, LendsStart, begins_own, IsATag, a_skipped_one, a_doctype, some_text, HeardOf, Completes, At, setting_of, start_seen, heard_signs, Lends, is_tag_heard, hears_more, Heeds, ReadGives, last_text, has_text, last_tag}
 use Rattle.rx_nest.proofs.LineLemmas.{place_is}
 use Rattle.rx_nest.proofs.Takes.{Taken, TagSteps, tag_steps}
 use Rattle.rx_nest.proofs.TextSteps.{said_by, Quiet, none_quiet, texts_quiet, comment_quiet, empty_quiet, line_feed_quiet}
-use Rattle.rx_nest.proofs.Heeding.{front_rest, scan_fails, scan_is, quiet_at, quiet_shows, said_is, behind_is, doctype_at, tag_fault, tag_leads, Leads}
+use Rattle.rx_nest.proofs.Heeding.{front_rest, scan_fails, scan_is, quiet_at, quiet_shows, said_is, behind_is, doctype_at, tag_stops, tag_leads, Leads}
 
 -- the text that is shown is the one that was told
 text_is : (answer : What) (v : Scanner) → v.what ≡ answer → (text : _) → Shows answer v.reading (token.Text text) → (chars text.now ≡ last_text v) × (has_text v.what ≡ true)
@@ -162,10 +162,13 @@ module _ (syntax : Syntax) (limits : Limits) (bytes : List ℕ) (told : List Eve
     reads : scan_from syntax limits spot s front ≡ Ok st.scanned
     reads = sym (scan_is syntax limits bytes told v line at front) ∙ st.read
 
+    tokens_of : (tells : List Item → Type 0) → tells items → Completes syntax limits bytes front tells
+    tokens_of tells h = record { before = record { now = at.now; told = told }; read = at.read; next = st.scanned.next; items = items; completed = reads; are = h }
+
     -- tokens that leave the elements as they are
-    quiet_heeds : (h : Heard) (shown : Bool → List Sign) → Quiet syntax limits spot nest items shown → ends_leading t ≡ false → shown (is_hidden (flags_of line.levels)) ≡ heard_signs h mid → Lends h mid → (hears_more h ≡ true → n ≡ length piece)
+    quiet_heeds : (h : Heard) (shown : Bool → List Sign) → Quiet syntax limits spot nest items shown → ends_leading t ≡ false → shown (is_hidden (flags_of line.levels)) ≡ heard_signs h mid → Lends h mid → (hears_more h ≡ true → n ≡ length piece) → HeardOf h mid items
         → Heeds syntax limits bytes told piece n h line mid line
-    quiet_heeds h shown q l e lends all =
+    quiet_heeds h shown q l e lends all tells =
         record {
           fits = st.fits;
           events = q.step.events;
@@ -173,6 +176,7 @@ module _ (syntax : Syntax) (limits : Limits) (bytes : List ℕ) (told : List Eve
           shows = quiet_shows syntax limits bytes told v line at front mid st.scanned.next items reads st.stands shown q h e;
           lends = lends;
           all = all;
+          tokens = tokens_of (HeardOf h mid) tells;
         }
 
     quiet_of : (shown : Bool → List Sign) (other : List Item) → items ≡ other → Quiet syntax limits spot nest other shown → Quiet syntax limits spot nest items shown
@@ -181,7 +185,7 @@ module _ (syntax : Syntax) (limits : Limits) (bytes : List ℕ) (told : List Eve
     more_heeds : t ≡ token.More → Heeds syntax limits bytes told piece n heard.More line mid line
     more_heeds e =
         let none : items ≡ [] = subst (λ x. Are v.reading.setting.drops x items) e st.are in
-        quiet_heeds heard.More (λ hidden. []) (quiet_of (λ hidden. []) [] none (none_quiet syntax limits spot nest refl)) (ap ends_leading e) refl tt (λ h. st.all (ap is_more e))
+        quiet_heeds heard.More (λ hidden. []) (quiet_of (λ hidden. []) [] none (none_quiet syntax limits spot nest refl)) (ap ends_leading e) refl tt (λ h. st.all (ap is_more e)) none
 
     abbrev silent : Bool → List Sign
     silent hidden = []
@@ -193,7 +197,9 @@ module _ (syntax : Syntax) (limits : Limits) (bytes : List ℕ) (told : List Eve
     skips_quiet (a_line_feed item d one l) = quiet_of silent (item ∷ []) one (line_feed_quiet syntax limits spot nest item refl (ap (λ (x : Setting). x.drops) (sym at.setting) ∙ d) l)
 
     skip_heeds : t ≡ token.Skipped → Heeds syntax limits bytes told piece n heard.Skipped line mid line
-    skip_heeds e = quiet_heeds heard.Skipped silent (skips_quiet (subst (λ x. Are v.reading.setting.drops x items) e st.are)) (ap ends_leading e) refl tt (λ h. absurd (cc))
+    skip_heeds e =
+        let skips = subst (λ x. Are v.reading.setting.drops x items) e st.are in
+        quiet_heeds heard.Skipped silent (skips_quiet skips) (ap ends_leading e) refl tt (λ h. absurd (cc)) (a_skipped_one v.reading.setting.drops skips)
 
     abbrev text_heard : Bool → Heard
     text_heard says = if says then heard.Text else heard.Skipped
@@ -206,6 +212,10 @@ module _ (syntax : Syntax) (limits : Limits) (bytes : List ℕ) (told : List Eve
     text_lends true h = h
     text_lends false h = tt
 
+    text_of : (says : Bool) (text : Chars) → text ≡ last_text mid → text ≢ [] → texts_of items ≡ Some text → HeardOf (text_heard says) mid items
+    text_of true text e some h = h ∙ ap (λ x. Some x) e
+    text_of false text e some h = some_text text h some
+
     never_more : (says : Bool) → hears_more (text_heard says) ≡ true → n ≡ length piece
     never_more true h = absurd (cc)
     never_more false h = absurd (cc)
@@ -217,6 +227,7 @@ module _ (syntax : Syntax) (limits : Limits) (bytes : List ℕ) (told : List Eve
         let keeps = ap (λ (x : Setting). scan.keeps_first x.drops items) (sym at.setting) ∙ are.2 in
         quiet_heeds (text_heard (says_text line)) (λ hidden. said_by nest.phase hidden (chars text.now)) (texts_quiet syntax limits spot items nest (chars text.now) refl are.0 keeps) (ap ends_leading e)
         (said_is syntax limits bytes told v line at (chars text.now) ∙ text_signs (says_text line) (chars text.now) is.0) (text_lends (says_text line) (is.1, λ h. are.1 (is.0 ∙ h))) (never_more (says_text line))
+        (text_of (says_text line) (chars text.now) is.0 are.1 are.0)
 
     doctype_heeds : t ≡ token.Doctype → Heeds syntax limits bytes told piece n heard.Skipped line mid line
     doctype_heeds e =
@@ -230,6 +241,7 @@ module _ (syntax : Syntax) (limits : Limits) (bytes : List ℕ) (told : List Eve
           shows = λ signs. ap (λ x. record { flags = flags_of line.levels; signs = x }) (sym (append-nil signs));
           lends = tt;
           all = λ h. absurd (cc);
+          tokens = tokens_of (HeardOf heard.Skipped mid) (a_doctype one);
         }
 
     -- a tag
@@ -243,27 +255,23 @@ module _ (syntax : Syntax) (limits : Limits) (bytes : List ℕ) (told : List Eve
       steps_as : (x : Result Step Kind) → nest_step line.syntax line.depth nest item ≡ x → nest_step syntax limits.depth nest item ≡ x
       steps_as x h = subst (λ d. nest_step syntax d nest item ≡ x) at.depth_is (subst (λ l. nest_step l line.depth nest item ≡ x) at.syntax_is h)
 
-      tag_refused : (kind : Kind) → TagGives line (tag_seen g) (Err (refused.Fault kind)) new → page_read syntax limits (bytes ++ piece) ≡ Err (record { kind = kind; token = g.token; at = g.at })
+      tag_refused : (kind : Kind) → TagGives line (tag_seen g) (Err (refused.Fault kind)) new → Stops syntax limits bytes told piece (record { kind = kind; token = g.token; at = g.at })
       tag_refused kind gives =
           let steps : nest_step line.syntax line.depth nest item ≡ Err kind = tag_steps line new nest item (tag_seen g) (Err (refused.Fault kind)) at.follows is.is gives in
-          let fault : Fault = record { kind = kind; token = g.token; at = g.at } in
-          ap (λ x. page_read syntax limits x) (ap (λ x. bytes ++ x) (sym (front_rest n piece)) ∙ sym (append_assoc bytes front (drop n piece)))
-          ∙ (page_append syntax limits spot (Ok nothing_read) (bytes ++ front) (drop n piece)
-          ∙ (ap (λ x. page_on syntax limits x (drop n piece)) (tag_fault syntax limits bytes told v line at front st.scanned.next item reads_tag g is.is is.first_is is.last_is ends kind (steps_as (Err kind) steps))
-          ∙ fault_stays syntax limits fault (drop n piece)))
+          tag_stops syntax limits bytes told v line at front st.scanned.next item reads_tag g is.is is.first_is is.last_is ends kind (steps_as (Err kind) steps) piece (drop n piece) (sym (front_rest n piece))
 
-      pub hears_refused : (fault : Fault) → HearsTag line g (Err (stop.Fault fault)) new → page_read syntax limits (bytes ++ piece) ≡ Err fault
+      pub hears_refused : (fault : Fault) → HearsTag line g (Err (stop.Fault fault)) new → Stops syntax limits bytes told piece fault
       hears_refused fault h = by h.taken h.is h.gives
         where
-          by : (taken : Result Told Refused) → Err (stop.Fault fault) ≡ heard_of g taken → TagGives line (tag_seen g) taken new → page_read syntax limits (bytes ++ piece) ≡ Err fault
+          by : (taken : Result Told Refused) → Err (stop.Fault fault) ≡ heard_of g taken → TagGives line (tag_seen g) taken new → Stops syntax limits bytes told piece fault
           by (Ok told) e gives = absurd (cc)
           by (Err refused.NoMemory) e gives = absurd (let w : Err (stop.Fault fault) ≡ Err stop.NoMemory = e in cc)
           by (Err (refused.Fault kind)) e gives =
               let same : fault ≡ record { kind = kind; token = g.token; at = g.at } = (let w : Err (stop.Fault fault) ≡ Err (stop.Fault (record { kind = kind; token = g.token; at = g.at })) = e in cc) in
-              tag_refused kind gives ∙ ap (λ f. Err f) (sym same)
+              subst (λ f. Stops syntax limits bytes told piece f) (sym same) (tag_refused kind gives)
 
       -- the elements after it
-      module _ (tells : Told) (taken : Taken line nest item tells new) (b : Becomes line new) (closing : Bool) (shown : TagShown mid closing g) (no_lead : (if ends_leading t then false else may_lead nest.phase) ≡ false) where
+      module _ (tells : Told) (taken : Taken line nest item tells new) (b : Becomes line new) (closing : Bool) (shown : TagShown mid closing g) (no_lead : (if ends_leading t then false else may_lead nest.phase) ≡ false) (opening : begins_own tells.own ≡ true → closing ≡ false) where
         abbrev step : Step
         step = taken.step
 
@@ -320,8 +328,9 @@ module _ (syntax : Syntax) (limits : Limits) (bytes : List ℕ) (told : List Eve
               shows = λ signs.
                   taken.seen signs
                   ∙ ap (λ x. record { flags = flags_of new.levels; signs = x }) (append_assoc signs (finishing tells.ends) (own_signs tells.own (own_tag item)) ∙ ap (λ x. signs ++ (finishing tells.ends ++ own_signs tells.own x)) tag_same);
-              lends = shown.what_is;
+              lends = λ h. record { what_is = shown.what_is; opening = ap (λ (x : tokens.Tag). x.closing) (sym shown.shows.0) ∙ (shown.shows.3 ∙ opening h) };
               all = λ h. absurd (cc);
+              tokens = tokens_of IsATag (record { the_tag = tag_seen g; is = record { item = item; one = is.one; is = is.is } });
             }
 
       open_has_begun : line.levels ≢ [] → line.begun ≡ true
@@ -364,7 +373,10 @@ module _ (syntax : Syntax) (limits : Limits) (bytes : List ℕ) (told : List Eve
         let gives : TagGives line (tag_seen g) (Ok tells) new = gives_of g new tells h in
         let begins : Begins line (tag_seen g) tells new = subst (λ c. GivesBy c line (tag_seen g) (Ok tells) new) are.1 gives in
         let taken : Taken line nest are.0.item tells new = tag_steps line new nest are.0.item (tag_seen g) (Ok tells) at.follows are.0.is gives in
-        tag_heeds g are.0 last new tells taken (begins_so g are.0 last new tells begins) false (start_is mid.what mid refl g (subst (λ x. Shows mid.what mid.reading x) e shows)) (ap (λ x. if ends_leading x then false else may_lead nest.phase) e) stands
+        tag_heeds g are.0 last new tells taken (begins_so g are.0 last new tells begins) false (start_is mid.what mid refl g (subst (λ x. Shows mid.what mid.reading x) e shows)) (ap (λ x. if ends_leading x then false else may_lead nest.phase) e) (λ h. refl) stands
+
+    end_begins : (levels : Levels) → begins_own (own_of_end levels) ≡ false
+    end_begins levels = by_test (shown_under levels) (λ e. rw e refl) (λ e. rw e refl)
 
     end_heeds : (g : Tag) → t ≡ token.End g → Shows mid.what mid.reading t → (new : Lines) (tells : Told) → HearsTag line g (Ok (heard.Tag tells)) new → scan.Stands (scan.inside_of (place_under new.levels).content tells.drops mid) st.scanned.next
         → Heeds syntax limits bytes told piece n (heard.Tag tells) line (scan.inside_of (place_under new.levels).content tells.drops mid) new
@@ -376,7 +388,8 @@ module _ (syntax : Syntax) (limits : Limits) (bytes : List ℕ) (told : List Eve
         let taken : Taken line nest are.0.item tells new = tag_steps line new nest are.0.item (tag_seen g) (Ok tells) at.follows are.0.is gives in
         let begun_is : line.begun ≡ true = open_has_begun g are.0 last new (is_open g are.0 last new line.levels finishes.there) in
         tag_heeds g are.0 last new tells taken (ends_so g are.0 last new tells finishes) true (end_is mid.what mid refl g (subst (λ x. Shows mid.what mid.reading x) e shows))
-        (ap (λ x. if ends_leading x then false else may_lead nest.phase) e ∙ open_phase g are.0 last new begun_is) stands
+        (ap (λ x. if ends_leading x then false else may_lead nest.phase) e ∙ open_phase g are.0 last new begun_is)
+        (λ h. absurd (let w : true ≡ false = sym h ∙ (ap begins_own finishes.own ∙ end_begins (kept (ends_by true (tag_seen g).name) line.levels)) in cc)) stands
 
     -- a tag that was heard
     pub heard_heeds : (new : Lines) (tells : Told) → Hears line t (Ok (heard.Tag tells)) new → Shows mid.what mid.reading t → scan.Stands (scan.inside_of (place_under new.levels).content tells.drops mid) st.scanned.next
@@ -424,11 +437,11 @@ module _ (syntax : Syntax) (limits : Limits) (bytes : List ℕ) (told : List Eve
         by (token.End g) e k = absurd (tag_no g k)
 
     -- a fault of the elements
-    pub heard_fails : (fault : Fault) (new : Lines) → Hears line t (Err (stop.Fault fault)) new → page_read syntax limits (bytes ++ piece) ≡ Err fault
+    pub heard_fails : (fault : Fault) (new : Lines) → Hears line t (Err (stop.Fault fault)) new → Stops syntax limits bytes told piece fault
     heard_fails fault new hears = by t refl hears
       where
         Goal : Type 0
-        Goal = page_read syntax limits (bytes ++ piece) ≡ Err fault
+        Goal = Stops syntax limits bytes told piece fault
 
         by : (x : Token) → t ≡ x → Hears line x (Err (stop.Fault fault)) new → Goal
         by token.More e k = absurd (let w : Err (stop.Fault fault) ≡ Ok heard.More = k.0 in cc)
@@ -493,3 +506,25 @@ module _ (syntax : Syntax) (limits : Limits) (bytes : List ℕ) (told : List Eve
   pub scan_stops : (piece : List ℕ) (stop : Stop) (other : Scanner) (new : Lines) → scan.Steps v s piece (Err stop) other → ReadGives syntax limits bytes told piece line (Err stop) other new
   scan_stops piece (stop.Fault fault) other new f = scan_fails syntax limits bytes told v line at piece fault f
   scan_stops piece stop.NoMemory other new f = tt
+
+-- where no token is unfinished, a piece without tags takes no memory
+pub run_between : (syntax : Syntax) (limits : Limits) (bytes : List ℕ) (told : List Event) (v : Scanner) (line : Lines) (at : At syntax limits bytes told v line) → IsBetween syntax limits bytes → at.now.scan.run ≡ []
+run_between syntax limits bytes told v line at b =
+    let both : ◌≡◌ {A = Result Progress Fault} (Ok b.now) (Ok (record { now = at.now; told = told })) = sym b.read ∙ at.read in
+    let same : b.now ≡ record { now = at.now; told = told } = cc in
+    ap (λ (p : Progress). p.now.scan.run) (sym same) ∙ b.none
+
+pub quiet_stop : (A B : Type 0) (why : Stop) → IsNoMemory {A = A} (Err why) ≡ false → IsNoMemory {A = B} (Err why) ≡ false
+quiet_stop A B (stop.Fault fault) h = refl
+quiet_stop A B stop.NoMemory h = absurd (cc)
+
+pub quiet_heard : (B : Type 0) (old new : Lines) (t : Token) (why : Stop) → Hears old t (Err why) new → shows_tag t ≡ false → IsNoMemory {A = B} (Err why) ≡ false
+quiet_heard B old new t why hears none = by t hears none
+  where
+    by : (x : Token) → Hears old x (Err why) new → shows_tag x ≡ false → IsNoMemory {A = B} (Err why) ≡ false
+    by token.More k e = absurd (let w : ◌≡◌ {A = Result Heard Stop} (Err why) (Ok heard.More) = k.0 in cc)
+    by token.Skipped k e = absurd (let w : ◌≡◌ {A = Result Heard Stop} (Err why) (Ok heard.Skipped) = k.0 in cc)
+    by token.Doctype k e = absurd (let w : ◌≡◌ {A = Result Heard Stop} (Err why) (Ok heard.Skipped) = k.0 in cc)
+    by (token.Text text) k e = absurd (let w : ◌≡◌ {A = Result Heard Stop} (Err why) (Ok (if says_text old then heard.Text else heard.Skipped)) = k.0 in cc)
+    by (token.Start g) k e = absurd (cc)
+    by (token.End g) k e = absurd (cc)

@@ -1,7 +1,8 @@
 -- Where a page's reading stands, and where its fault is.
-use Rattle.std.proofs.Common.{◌≡◌, ◌∙◌, ℕ, ◌+◌, ◌≤◌, ◌<◌, Bool, true, false, List, [], ◌∷◌, ◌++◌, refl, sym, ap, subst, length, length-append, append_assoc, Result, Ok, Err, arith}
+use Rattle.std.proofs.Common.{◌≡◌, ◌∙◌, ⊎_elim, inl, inr, append-nil, ℕ, ◌+◌, ◌≤◌, ◌<◌, Bool, true, false, List, [], ◌∷◌, ◌++◌, refl, sym, ap, subst, length, length-append, append_assoc, Result, Ok, Err, arith}
 use Rattle.std.proofs.lemmas.Bool.Decides.{nat_tests}
-use Rattle.std.specs.Prelude.{nat_le, if◌then◌else◌}
+use Rattle.std.proofs.lemmas.List.{append_cancel_left}
+use Rattle.std.specs.Prelude.{◌⊎◌, nat_le, if◌then◌else◌}
 use Rattle.rx_chars.specs.declared.syntax.Syntax.{Syntax}
 use Rattle.rx_chars.specs.Utf8.{answer_of}
 use Rattle.rx_reader.proofs.Bools.{by_test}
@@ -10,13 +11,13 @@ use Rattle.rx_grammar.specs.declared.faults.Kind.{Kind}
 use Rattle.rx_grammar.specs.declared.faults.Kind.TheVariants.{PageTooLong}
 use Rattle.rx_grammar.specs.declared.limits.Limits.{Limits}
 use Rattle.rx_grammar.specs.PageFaults.{FaultAt}
-use Rattle.rx_pages.specs.Nesting.{Step}
+use Rattle.rx_pages.specs.Nesting.{Event, Step}
 use Rattle.rx_pages.specs.PageReader.{Scanned, Progress, Reading, read_answer, read_byte, spot_of, steps_on, no_step, progress_of, nested_items, page_byte, page_byte_on, telling, page_on, page_read, nothing_read, end_of, fault_in}
 use Rattle.rx_pages.proofs.ByteFacts.{byte_is}
 use Rattle.rx_pages.proofs.FaultWalk.{fault_stays}
 use Rattle.rx_pages.proofs.OnlyPages.{found_fault}
 use Rattle.rx_pages.proofs.ScanSteps.{page_append}
-use Rattle.rx_nest.specs.Nests.{Faults}
+use Rattle.rx_nest.specs.Nests.{Faults, Stops, Still}
 
 module _ (syntax : Syntax) (limits : Limits) where
   -- a byte is read where the page isn't too long, and moves on by one; or it decides a fault there
@@ -75,3 +76,77 @@ module _ (syntax : Syntax) (limits : Limits) where
         from = omega (arith, at.0, s.0);
         within = omega (arith, at.0, s.1, length-append bytes piece);
       }
+
+  -- a fault that a byte of the piece decides is that of the whole piece
+  pub stops_so : (bytes piece : List ℕ) (told : List Event) (fault : Fault) → Stops syntax limits bytes told piece fault → page_read syntax limits (bytes ++ piece) ≡ Err fault
+  stops_so bytes piece told fault f =
+      ap (λ x. page_read syntax limits x) (ap (λ x. bytes ++ x) (f.are ∙ sym (append_assoc f.front (f.byte ∷ []) f.rest)) ∙ sym (append_assoc bytes (f.front ++ f.byte ∷ []) f.rest))
+      ∙ (page_append syntax limits (spot_of syntax f.now.nest) (Ok nothing_read) (bytes ++ (f.front ++ f.byte ∷ [])) f.rest
+      ∙ (ap (λ x. page_on syntax limits x f.rest) f.here ∙ fault_stays syntax limits fault f.rest))
+
+  -- what is told only grows
+  record Grows (p q : Progress) : Type 0 where
+    more : List Event
+    is : q.told ≡ p.told ++ more
+
+  byte_grows : (p q : Progress) (byte : ℕ) → page_byte_on syntax limits (Ok p) byte ≡ Ok q → Grows p q
+  byte_grows p q byte e = by (page_byte syntax limits p.now byte) e
+    where
+      by : (x : Result Progress Fault) → telling p.told x ≡ Ok q → Grows p q
+      by (Ok r) w = let same : record { now = r.now; told = p.told ++ r.told } ≡ q = cc in record { more = r.told; is = ap (λ (z : Progress). z.told) (sym same) }
+      by (Err fault) w = absurd (cc)
+
+  grows : (bytes : List ℕ) (p q : Progress) → page_on syntax limits (Ok p) bytes ≡ Ok q → Grows p q
+  grows [] p q e = let same : p ≡ q = cc in record { more = []; is = ap (λ (z : Progress). z.told) (sym same) ∙ sym (append-nil p.told) }
+  grows (byte ∷ bytes) p q e = by (λ r. grows bytes r q) (page_byte_on syntax limits (Ok p) byte) refl e
+    where
+      by : ((r : Progress) → page_on syntax limits (Ok r) bytes ≡ Ok q → Grows r q) → (x : Result Progress Fault) → page_byte_on syntax limits (Ok p) byte ≡ x → page_on syntax limits x bytes ≡ Ok q → Grows p q
+      by on (Ok r) k w =
+          let a = byte_grows p r byte k in
+          let b = on r w in
+          record { more = a.more ++ b.more; is = b.is ∙ (ap (λ z. z ++ b.more) a.is ∙ append_assoc p.told a.more b.more) }
+      by on (Err fault) k w = absurd (let z : Err fault ≡ Ok q = sym (fault_stays syntax limits fault bytes) ∙ w in cc)
+
+  -- of two fronts of a list one is a front of the other
+  fronts : (a b c d : List ℕ) (x : ℕ) → a ++ b ≡ c ++ x ∷ d → ((m : List ℕ) × (c ≡ a ++ m)) ⊎ ((m : List ℕ) × (a ≡ c ++ x ∷ m))
+  fronts [] b c d x e = inl (c, refl)
+  fronts (y ∷ a) b [] d x e = let same : y ≡ x = cc in inr (a, ap (λ z. z ∷ a) same)
+  fronts (y ∷ a) b (z ∷ c) d x e =
+      let same : y ≡ z = cc in
+      let rest : a ++ b ≡ c ++ x ∷ d = cc in
+      ⊎_elim (λ r. inl (r.0, ap (λ w. z ∷ w) r.1 ∙ ap (λ w. w ∷ (a ++ r.0)) (sym same))) (λ r. inr (r.0, ap (λ w. y ∷ w) r.1 ∙ ap (λ w. w ∷ (c ++ x ∷ r.0)) same)) (fronts a b c d x rest)
+
+  none_more : (told es fs : List Event) → told ≡ (told ++ es) ++ fs → es ≡ []
+  none_more told es fs e = by es (append_cancel_left told [] (es ++ fs) (append-nil told ∙ (e ∙ append_assoc told es fs)))
+    where
+      by : (es : List Event) → [] ≡ es ++ fs → es ≡ []
+      by [] w = refl
+      by (x ∷ es) w = absurd (cc)
+
+  pub still_so : (bytes piece : List ℕ) (now : Reading) (told : List Event) (fault : Fault) → page_read syntax limits bytes ≡ Ok (record { now = now; told = told }) → Stops syntax limits bytes told piece fault → Still syntax limits bytes piece
+  still_so bytes piece now told fault h f = record { told_is = λ front rest before after e b a.
+      let start : record { now = now; told = told } ≡ before = one (record { now = now; told = told }) before (sym h ∙ b) in
+      let was : told ≡ before.told = ap (λ (p : Progress). p.told) start in
+      ⊎_elim (λ m. short front m.0 m.1 after a ∙ was) (λ m. absurd (long front m.0 m.1 after a)) (fronts front rest f.front f.rest f.byte (sym e ∙ f.are)) }
+    where
+      one : (x y : Progress) → ◌≡◌ {A = Result Progress Fault} (Ok x) (Ok y) → x ≡ y
+      one x y e = cc
+
+      short : (front m : List ℕ) → f.front ≡ front ++ m → (after : Progress) → page_read syntax limits (bytes ++ front) ≡ Ok after → after.told ≡ told
+      short front m e after a =
+          let first : Grows (record { now = now; told = told }) after =
+          grows front (record { now = now; told = told }) after (ap (λ x. page_on syntax limits x front) (sym h) ∙ (sym (page_append syntax limits (spot_of syntax now.nest) (Ok nothing_read) bytes front) ∙ a)) in
+          let later : page_on syntax limits (Ok after) m ≡ Ok (record { now = f.now; told = told }) =
+          ap (λ x. page_on syntax limits x m) (sym a) ∙ (sym (page_append syntax limits (spot_of syntax now.nest) (Ok nothing_read) (bytes ++ front) m) ∙ (ap (λ x. page_read syntax limits x) (append_assoc bytes front m ∙ ap (λ x. bytes ++ x) (sym e)) ∙ f.read)) in
+          let second = grows m after (record { now = f.now; told = told }) later in
+          let none : first.more ≡ [] = none_more told first.more second.more (second.is ∙ ap (λ x. x ++ second.more) first.is) in
+          first.is ∙ (ap (λ x. told ++ x) none ∙ append-nil told)
+
+      long : (front m : List ℕ) → front ≡ f.front ++ f.byte ∷ m → (after : Progress) → page_read syntax limits (bytes ++ front) ≡ Ok after → ⊥
+      long front m e after a =
+          let fails : page_read syntax limits (bytes ++ front) ≡ Err fault =
+          ap (λ x. page_read syntax limits x) (ap (λ x. bytes ++ x) (e ∙ sym (append_assoc f.front (f.byte ∷ []) m)) ∙ sym (append_assoc bytes (f.front ++ f.byte ∷ []) m))
+          ∙ (page_append syntax limits (spot_of syntax f.now.nest) (Ok nothing_read) (bytes ++ (f.front ++ f.byte ∷ [])) m
+          ∙ (ap (λ x. page_on syntax limits x m) f.here ∙ fault_stays syntax limits fault m)) in
+          let w : Err fault ≡ Ok after = sym fails ∙ a in
+          cc

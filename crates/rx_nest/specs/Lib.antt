@@ -5,3 +5,4 @@ pub mod Rows
 pub mod Signs
 pub mod Heard
 pub mod Nests
+pub mod Fronts

@@ -8,12 +8,13 @@ use Rattle.rx_grammar.specs.declared.faults.Kind.TheVariants.{Unended}
 use Rattle.rx_grammar.specs.declared.limits.Limits.{Limits}
 use Rattle.rx_grammar.specs.Tokens as tokens
 use Rattle.rx_grammar.specs.Trees.{Tree, StartTag}
+use Rattle.rx_grammar.specs.Items.{Item}
 use Rattle.rx_grammar.specs.Pages.{Page}
 use Rattle.rx_grammar.specs.PageFaults.{FaultAt}
 use Rattle.rx_reader.specs.TagReader.{parts_of}
 use Rattle.rx_pages.specs.Nesting as nesting
 use Rattle.rx_pages.specs.Nesting.{Nesting, content_at}
-use Rattle.rx_pages.specs.PageReader.{Progress, Reading, page_read, end_of, may_lead}
+use Rattle.rx_pages.specs.PageReader.{Scanning, Progress, Reading, scan_from, spot_of, page_read, end_of, may_lead}
 use Rattle.rx_tags.specs.declared.stops.Stop.{Stop}
 use Rattle.rx_tags.specs.declared.stops.Stop.TheVariants as stop
 use Rattle.rx_tags.specs.declared.tags.Tag.{Tag}
@@ -23,6 +24,7 @@ use Rattle.rx_scan.specs.declared.answers.What.TheVariants as what
 use Rattle.rx_scan.specs.declared.places.Setting.{Setting}
 use Rattle.rx_scan.specs.Scanner.{Scanner}
 use Rattle.rx_scan.specs.Steps as scan
+use Rattle.rx_scan.specs.Steps.{IsOne, Skips, texts_of}
 use Rattle.rx_nest.specs.declared.lines.Own.{Own}
 use Rattle.rx_nest.specs.declared.lines.Own.TheVariants as own
 use Rattle.rx_nest.specs.declared.heard.Owed.{Owed}
@@ -95,12 +97,23 @@ heard_signs heard.Skipped v = []
 heard_signs heard.Text v = map said (last_text v)
 heard_signs (heard.Tag told) v = finishing told.ends ++ own_signs told.own (last_tag v)
 
+-- the tag that is lent begins an element
+pub record LendsStart (v : Scanner) : Type 0 where
+  pub what_is : v.what ≡ what.Tag
+  pub opening : (parts_of v.reading.pending.tag.state).closing ≡ false
+
+-- a tag's own begins an element
+abbrev pub begins_own : Own → Bool
+begins_own own.Begin = true
+begins_own own.Alone = true
+begins_own _ = false
+
 -- what is lent with it
 abbrev pub Lends : Heard → Scanner → Type 0
 Lends heard.More v = Unit {0}
 Lends heard.Skipped v = Unit {0}
 Lends heard.Text v = (has_text v.what ≡ true) × (last_text v ≢ [])
-Lends (heard.Tag told) v = v.what ≡ what.Tag
+Lends (heard.Tag told) v = begins_own told.own ≡ true → LendsStart v
 
 abbrev pub is_tag_heard : Heard → Bool
 is_tag_heard (heard.Tag told) = true
@@ -110,6 +123,41 @@ abbrev pub hears_more : Heard → Bool
 hears_more heard.More = true
 hears_more _ = false
 
+-- what is told of the tokens that some bytes complete, which come behind others of a page
+pub record Completes (syntax : Syntax) (limits : Limits) (bytes more : List ℕ) (tells : List Item → Type 0) : Type 0 where
+  pub before : Progress
+  pub read : page_read syntax limits bytes ≡ Ok before
+  pub next : Scanning
+  pub items : List Item
+  pub completed : scan_from syntax limits (spot_of syntax before.now.nest) before.now.scan more ≡ Ok (record { next = next; items = items })
+  pub are : tells items
+
+-- the one token is a tag
+pub record IsATag (items : List Item) : Type 0 where
+  pub the_tag : tokens.Tag
+  pub is : IsOne (tokens.tag the_tag) items
+
+-- Tokens of which the tree shows nothing: none, at a byte order mark, or where a tag was read before that still tells; what the scanner skips;
+-- a document type; text outside the root or that a template hides; and a tag that a template hides.
+pub data Passes (items : List Item) : Type 0 where
+  no_token : items ≡ [] → Passes items
+  a_skipped_one : (drops : Bool) → Skips drops items → Passes items
+  a_doctype : IsOne tokens.doctype items → Passes items
+  some_text : (text : Chars) → texts_of items ≡ Some text → text ≢ [] → Passes items
+  a_tag : IsATag items → Passes items
+
+-- a tag, or none where one was read before that still tells
+pub data MayBeTag (items : List Item) : Type 0 where
+  read_before : items ≡ [] → MayBeTag items
+  read_now : IsATag items → MayBeTag items
+
+-- the tokens of which this was heard
+abbrev pub HeardOf : Heard → Scanner → List Item → Type 0
+HeardOf heard.More v items = items ≡ []
+HeardOf heard.Skipped v items = Passes items
+HeardOf heard.Text v items = texts_of items ≡ Some (last_text v)
+HeardOf (heard.Tag told) v items = IsATag items
+
 -- The first n bytes of the piece were read, and this was heard.
 pub record Heeds (syntax : Syntax) (limits : Limits) (bytes : List ℕ) (told : List nesting.Event) (piece : List ℕ) (n : ℕ) (h : Heard) (old : Lines) (v : Scanner) (new : Lines) : Type 0 where
   pub fits : n ≤ length piece
@@ -118,10 +166,21 @@ pub record Heeds (syntax : Syntax) (limits : Limits) (bytes : List ℕ) (told : 
   pub shows : (signs : List Sign) → sees (record { flags = flags_of old.levels; signs = signs }) events ≡ record { flags = flags_of new.levels; signs = signs ++ heard_signs h v }
   pub lends : Lends h v
   pub all : hears_more h ≡ true → n ≡ length piece
+  pub tokens : Completes syntax limits bytes (take n piece) (HeardOf h v)
+
+-- A byte of the piece decides the fault, and no token is complete before it.
+pub record Stops (syntax : Syntax) (limits : Limits) (bytes : List ℕ) (told : List nesting.Event) (piece : List ℕ) (fault : Fault) : Type 0 where
+  pub front : List ℕ
+  pub byte : ℕ
+  pub rest : List ℕ
+  pub are : piece ≡ front ++ byte ∷ rest
+  pub now : Reading
+  pub read : page_read syntax limits (bytes ++ front) ≡ Ok (record { now = now; told = told })
+  pub here : page_read syntax limits (bytes ++ (front ++ byte ∷ [])) ≡ Err fault
 
 abbrev pub ReadGives : Syntax → Limits → List ℕ → List nesting.Event → List ℕ → Lines → Result (ℕ × Heard) Stop → Scanner → Lines → Type 0
 ReadGives syntax limits bytes told piece old (Ok r) v new = Heeds syntax limits bytes told piece r.0 r.1 old v new
-ReadGives syntax limits bytes told piece old (Err (stop.Fault fault)) v new = page_read syntax limits (bytes ++ piece) ≡ Err fault
+ReadGives syntax limits bytes told piece old (Err (stop.Fault fault)) v new = Stops syntax limits bytes told piece fault
 ReadGives syntax limits bytes told piece old (Err stop.NoMemory) v new = Unit {0}
 
 -- how much of the piece was taken
@@ -138,16 +197,15 @@ owed_signs owed t = finishing owed.ends ++ owes_own owed.own t
 
 -- an element is still to begin
 abbrev pub owes_begin : Option Own → Bool
-owes_begin (Some own.Begin) = true
-owes_begin (Some own.Alone) = true
-owes_begin _ = false
+owes_begin None = false
+owes_begin (Some o) = begins_own o
 
 -- The nest stands for these bytes, of which these signs were shown.
 pub record Stands (syntax : Syntax) (limits : Limits) (v : Nested) (bytes : List ℕ) (signs : List Sign) : Type 0 where
   pub told : List nesting.Event
   pub at : At syntax limits bytes told v.scan v.line
   pub sight : sees nothing_seen told ≡ record { flags = flags_of v.line.levels; signs = signs ++ owed_signs v.owed (last_tag v.scan) }
-  pub lends : owes_begin v.owed.own ≡ true → v.scan.what ≡ what.Tag
+  pub lends : owes_begin v.owed.own ≡ true → LendsStart v.scan
   pub unfailed : v.failed ≡ None
   pub unspent : v.spent ≡ false
 
@@ -164,9 +222,17 @@ did_signs did.Text v = map said (last_text v)
 did_signs did.Finish v = finished ∷ []
 
 abbrev pub DidLends : Did → Scanner → Type 0
-DidLends did.Begin v = v.what ≡ what.Tag
+DidLends did.Begin v = LendsStart v
 DidLends did.Text v = (has_text v.what ≡ true) × (last_text v ≢ [])
 DidLends _ v = Unit {0}
+
+-- the tokens of which this was done
+abbrev pub DidOf : Did → Scanner → List Item → Type 0
+DidOf did.More v items = items ≡ []
+DidOf did.Skipped v items = Passes items
+DidOf did.Begin v items = MayBeTag items
+DidOf did.Text v items = texts_of items ≡ Some (last_text v)
+DidOf did.Finish v items = MayBeTag items
 
 abbrev pub did_more : Did → Bool
 did_more did.More = true
@@ -205,6 +271,7 @@ pub record Done (syntax : Syntax) (limits : Limits) (bytes : List ℕ) (signs : 
   pub stands : Stands syntax limits new (bytes ++ take n piece) (signs ++ did_signs d new.scan)
   pub lends : DidLends d new.scan
   pub all : did_more d ≡ true → n ≡ length piece
+  pub tokens : Completes syntax limits bytes (take n piece) (DidOf d new.scan)
 
 -- A byte of the piece decides the page's fault, whatever follows.
 pub record Faults (syntax : Syntax) (limits : Limits) (bytes piece : List ℕ) (fault : Fault) : Type 0 where
@@ -212,8 +279,14 @@ pub record Faults (syntax : Syntax) (limits : Limits) (bytes piece : List ℕ) (
   pub from : length bytes ≤ fault.at
   pub within : fault.at < length (bytes ++ piece)
 
+-- No byte of the piece before its fault tells anything.
+pub record Still (syntax : Syntax) (limits : Limits) (bytes piece : List ℕ) : Type 0 where
+  pub told_is :
+      (front rest : List ℕ) (before now : Progress) → piece ≡ front ++ rest → page_read syntax limits bytes ≡ Ok before → page_read syntax limits (bytes ++ front) ≡ Ok now
+      → now.told ≡ before.told
+
 abbrev pub FaultGives : Syntax → Limits → List ℕ → List ℕ → Stop → Nested → Type 0
-FaultGives syntax limits bytes piece (stop.Fault fault) new = Faults syntax limits bytes piece fault × Fallen fault new
+FaultGives syntax limits bytes piece (stop.Fault fault) new = Faults syntax limits bytes piece fault × Fallen fault new × Still syntax limits bytes piece
 FaultGives syntax limits bytes piece stop.NoMemory new = new.spent ≡ true
 
 abbrev pub AdvanceGives : Syntax → Limits → List ℕ → List Sign → List ℕ → Result (ℕ × Did) Stop → Nested → Type 0
@@ -232,18 +305,38 @@ abbrev pub is_more : Event → Bool
 is_more event.More = true
 is_more _ = false
 
--- text isn't empty
+-- text isn't empty, and the tag with which an element begins is no end tag
 abbrev pub Speaks : Event → Type 0
 Speaks (event.Text text) = chars text.now ≢ []
+Speaks (event.Begin t) = (tag_seen t).closing ≡ false
 Speaks _ = Unit {0}
+
+-- the tokens of which an event tells: none yet where it tells nothing
+abbrev pub TellsOf : Event → List Item → Type 0
+TellsOf event.More items = items ≡ []
+TellsOf event.Skipped items = Passes items
+TellsOf (event.Begin t) items = MayBeTag items
+TellsOf (event.Text text) items = texts_of items ≡ Some (chars text.now)
+TellsOf event.Finish items = MayBeTag items
+
+-- the event is the last text
+pub record Says (v : Scanner) (e : Event) : Type 0 where
+  pub signs_are : event_signs e ≡ did_signs did.Text v
+  pub tells : (items : List Item) → texts_of items ≡ Some (last_text v) → TellsOf e items
+
+-- the event begins an element with the last tag
+pub record Begins (v : Scanner) (e : Event) : Type 0 where
+  pub signs_are : event_signs e ≡ did_signs did.Begin v
+  pub speaks : Speaks e
+  pub tells : (items : List Item) → MayBeTag items → TellsOf e items
 
 -- the event of what was done
 abbrev pub Shown : Did → Scanner → Event → Type 0
 Shown did.More v e = e ≡ event.More
 Shown did.Skipped v e = e ≡ event.Skipped
 Shown did.Finish v e = e ≡ event.Finish
-Shown did.Begin v e = (is_more e ≡ false) × (v.what ≡ what.Tag → event_signs e ≡ did_signs did.Begin v)
-Shown did.Text v e = (is_more e ≡ false) × (has_text v.what ≡ true → event_signs e ≡ did_signs did.Text v)
+Shown did.Begin v e = (is_more e ≡ false) × (LendsStart v → Begins v e)
+Shown did.Text v e = (is_more e ≡ false) × (has_text v.what ≡ true → Says v e)
 
 -- A step has taken the first n bytes of the piece, and shows what the page's tree has next.
 pub record Stepped (syntax : Syntax) (limits : Limits) (bytes : List ℕ) (signs : List Sign) (piece : List ℕ) (n : ℕ) (e : Event) (new : Nested) : Type 0 where
@@ -251,6 +344,7 @@ pub record Stepped (syntax : Syntax) (limits : Limits) (bytes : List ℕ) (signs
   pub stands : Stands syntax limits new (bytes ++ take n piece) (signs ++ event_signs e)
   pub speaks : Speaks e
   pub all : is_more e ≡ true → n ≡ length piece
+  pub tokens : Completes syntax limits bytes (take n piece) (TellsOf e)
 
 abbrev pub StepGives : Syntax → Limits → List ℕ → List Sign → List ℕ → Result (ℕ × Event) Stop → Nested → Type 0
 StepGives syntax limits bytes signs piece (Ok r) new = Stepped syntax limits bytes signs piece r.0 r.1 new
@@ -281,6 +375,12 @@ pub record Ended (syntax : Syntax) (limits : Limits) (bytes : List ℕ) (signs :
   pub tree : Tree
   pub page : Page syntax limits bytes tree
   pub shown : signs ++ owed ≡ signs_of tree
+
+-- no token is unfinished behind these bytes
+pub record IsBetween (syntax : Syntax) (limits : Limits) (bytes : List ℕ) : Type 0 where
+  pub now : Progress
+  pub read : page_read syntax limits bytes ≡ Ok now
+  pub none : now.now.scan.run ≡ []
 
 abbrev pub EndGives : Syntax → Limits → List ℕ → List Sign → Nested → Result (Unit {0}) Stop → Nested → Type 0
 EndGives syntax limits bytes signs old (Ok done) new = Ended syntax limits bytes signs (owed_signs old.owed (last_tag old.scan))

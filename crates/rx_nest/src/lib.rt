@@ -1,6 +1,8 @@
 //! The elements of a page in pieces.
 #![tactic(auto)]
 
+ghost use Rattle.rx_nest.specs.Fronts.{ShowsOneElement};
+
 mod heard;
 mod levels;
 mod lines;
@@ -14,6 +16,12 @@ pub use nests::{Event, Nest};
 pub use rx_grammar::{Content, Fault, Kind, Limits, RawName};
 pub use rx_scan::Syntax;
 pub use rx_tags::{Stop, Tag};
+
+/// What a nest has shown of a page at any time is the front of one element, with no more open elements than the limit on
+/// depth has.
+pub fn shows_one_element()
+    ensures { ShowsOneElement }
+{}
 
 #[cfg(test)]
 mod tests;

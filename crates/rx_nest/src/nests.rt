@@ -1,8 +1,10 @@
 //! The elements of a page, told in pieces.
-ghost use Rattle.std.specs.Prelude.{◌≡◌, ℕ, List, [], IfOk, length};
+ghost use Rattle.std.specs.Prelude.{◌≡◌, ℕ, List, [], true, false, IfOk, length};
 ghost use Rattle.rx_chars.specs.declared.syntax.Syntax as syntaxes;
 ghost use Rattle.rx_grammar.specs.declared.limits.Limits as limit;
 ghost use Rattle.rx_pages.specs.Nesting as nesting;
+ghost use Rattle.rx_scan.specs.Entries.{IsNoMemory};
+ghost use Rattle.rx_scan.specs.Steps.{is_quiet};
 ghost use Rattle.rx_nest.specs.Nests as nests;
 
 use crate::heard::{Did, Owed, first_of, next_owed};
@@ -81,6 +83,7 @@ impl Nest {
     fn advance(&mut self, piece: &[u8]) -> Result<(usize, Did), Stop>
         ensures steps { (syntax : syntaxes.Syntax) (limits : limit.Limits) (bytes : List ℕ) (signs : List Sign) → nests.Stands syntax limits self.old bytes signs → nests.AdvanceGives syntax limits bytes signs piece.now result self.new }
         ensures keeps { nests.KeepsOn self.old piece.now result self.new }
+        ensures quiet { (syntax : syntaxes.Syntax) (limits : limit.Limits) (bytes : List ℕ) (signs : List Sign) → nests.Stands syntax limits self.old bytes signs → nests.IsBetween syntax limits bytes → is_quiet piece.now ≡ true → IsNoMemory result ≡ false }
     {
         if self.spent {
             return Err(Stop::NoMemory);
@@ -141,9 +144,10 @@ impl Nest {
     /// `More` comes only where the whole piece was taken and the last tag tells no more. Each other event takes a byte, or
     /// lowers the number of those that the last tag still tells. A fault comes exactly where the page has one in the bytes
     /// so far, and then at each later call; it is the page's fault, whatever follows. After want of memory nothing else is
-    /// answered.
+    /// answered. Text takes none: a piece without `<` and `&` that comes where no token is unfinished never wants memory.
     pub fn step(&mut self, piece: &[u8]) -> Result<(usize, Event<'_>), Stop>
         ensures* after { sem 𝓛 (Rests the_row self.entry (λ new. nests.Keeps self.old piece.now result new × ((syntax : syntaxes.Syntax) (limits : limit.Limits) (bytes : List ℕ) (signs : List Sign) → nests.Stands syntax limits self.old bytes signs → nests.StepGives syntax limits bytes signs piece.now result new))) }
+        ensures quiet { (syntax : syntaxes.Syntax) (limits : limit.Limits) (bytes : List ℕ) (signs : List Sign) → nests.Stands syntax limits self.old bytes signs → nests.IsBetween syntax limits bytes → is_quiet piece.now ≡ true → IsNoMemory result ≡ false }
     {
         let (taken, did) = match self.advance(piece) {
             Ok(done) => done,

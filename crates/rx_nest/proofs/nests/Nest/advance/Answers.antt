@@ -1,14 +1,13 @@
 use Rattle.std.proofs.Common.{◌≡◌, ◌≢◌, ◌∙◌, ℕ, List, ◌++◌, refl, sym, ap, subst, Bool, true, false, Option, Some, None, Ok, Err}
 use Rattle.rx_chars.specs.declared.syntax.Syntax.{Syntax}
 use Rattle.rx_grammar.specs.declared.limits.Limits.{Limits}
-use Rattle.rx_pages.specs.PageReader.{page_read}
 use Rattle.rx_nest.specs.declared.heard.Owed.{Owed}
 use Rattle.rx_nest.specs.declared.heard.Did.{Did}
 use Rattle.rx_nest.specs.Signs.{Sign}
 use Rattle.rx_nest.specs.Heard.{next_owed, first_of}
-use Rattle.rx_nest.specs.Nests.{Nested, Stands, Done, ReadGives}
+use Rattle.rx_nest.specs.Nests.{Nested, Stands, Stops, Done, ReadGives}
 use Rattle.rx_nest.proofs.Advancing.{due_done, read_done}
-use Rattle.rx_nest.proofs.Sizes.{faults_so}
+use Rattle.rx_nest.proofs.Sizes.{faults_so, stops_so, still_so}
 use Rattle.rx_nest.proofs.nests.Nest.advance.Goals as goal
 
 none_of : (o : Option (Did × Owed)) → ((x : Did × Owed) → o ≢ Some x) → o ≡ None
@@ -43,6 +42,16 @@ returns-in-Ok-clause-steps c syntax limits bytes signs st =
 pub returns-in-Err-Fault-clause-steps : goal.returns-in-Err-Fault-clause-steps
 returns-in-Err-Fault-clause-steps c syntax limits bytes signs st =
     let was = subst (λ v. Stands syntax limits v bytes signs) (sym c.self.view_is) st in
-    let reads : page_read syntax limits (bytes ++ c.args.piece.now) ≡ Err c.in-Err-Fault.fault =
+    let stops : Stops syntax limits bytes was.told c.args.piece.now c.in-Err-Fault.fault =
     subst (λ x. ReadGives syntax limits bytes was.told c.args.piece.now c.self.inside.line (Err x) c.read.new.scan c.read.new.line) c.in-Err-Fault.field-0-is (c.in-Err-Fault.ensures.reads syntax limits bytes was.told was.at) in
-    (faults_so syntax limits bytes c.args.piece.now _ c.in-Err-Fault.fault was.at.read reads, record { failed = refl; unspent = was.unspent })
+    (
+      faults_so syntax limits bytes c.args.piece.now _ c.in-Err-Fault.fault was.at.read (stops_so syntax limits bytes c.args.piece.now was.told c.in-Err-Fault.fault stops),
+      record { failed = refl; unspent = was.unspent },
+      still_so syntax limits bytes c.args.piece.now was.at.now was.told c.in-Err-Fault.fault was.at.read stops,
+    )
+
+-- src/nests.rt:108:17
+pub returns-in-Err-NoMemory-clause-quiet : goal.returns-in-Err-NoMemory-clause-quiet
+returns-in-Err-NoMemory-clause-quiet c syntax limits bytes signs st b q =
+    let was = subst (λ v. Stands syntax limits v bytes signs) (sym c.self.view_is) st in
+    absurd (let w = rw c.in-Err-NoMemory.field-0-is at c.in-Err-NoMemory.ensures.quiet syntax limits bytes was.told was.at b q in cc)

@@ -15,5 +15,5 @@ returns c =
           (λ syntax limits bytes signs st. stepped syntax limits bytes signs c.args.piece.now c.in-Ok.done.0 c.in-Ok.done.1 c.shown.result c.advance.new.self (c.in-Ok.ensures.steps syntax limits bytes signs st) c.shown.ensures),
         ),
       ),
-      record { after = tt },
+      record { after = tt; quiet = λ syntax limits bytes signs st b q. refl },
     )
