@@ -15,6 +15,7 @@ use Rattle.rx_reader.specs.TagReader.{parts_of}
 use Rattle.rx_pages.specs.Nesting as nesting
 use Rattle.rx_pages.specs.Nesting.{Nesting, content_at}
 use Rattle.rx_pages.specs.PageReader.{Scanning, Progress, Reading, scan_from, spot_of, page_read, end_of, may_lead}
+use Rattle.rx_pages.specs.Closings.{IsFront}
 use Rattle.rx_tags.specs.declared.stops.Stop.{Stop}
 use Rattle.rx_tags.specs.declared.stops.Stop.TheVariants as stop
 use Rattle.rx_tags.specs.declared.tags.Tag.{Tag}
@@ -273,11 +274,12 @@ pub record Done (syntax : Syntax) (limits : Limits) (bytes : List ℕ) (signs : 
   pub all : did_more d ≡ true → n ≡ length piece
   pub tokens : Completes syntax limits bytes (take n piece) (DidOf d new.scan)
 
--- A byte of the piece decides the page's fault, whatever follows.
+-- A byte of the piece decides the page's fault, whatever follows; and what stands before the faulty token goes on to a page.
 pub record Faults (syntax : Syntax) (limits : Limits) (bytes piece : List ℕ) (fault : Fault) : Type 0 where
   pub stays : (rest : List ℕ) → FaultAt syntax limits ((bytes ++ piece) ++ rest) fault
   pub from : length bytes ≤ fault.at
   pub within : fault.at < length (bytes ++ piece)
+  pub front : IsFront syntax limits (take fault.token (bytes ++ piece))
 
 -- No byte of the piece before its fault tells anything.
 pub record Still (syntax : Syntax) (limits : Limits) (bytes piece : List ℕ) : Type 0 where
