@@ -1,30 +1,30 @@
 -- What is due and what is read are told in turn.
-use Rattle.std.proofs.Common.{◌≡◌, ◌∙◌, ℕ, zero, suc, ◌<◌, ◌+◌, Bool, true, false, List, [], ◌∷◌, ◌++◌, refl, sym, ap, subst, length, append_assoc, append-nil, Option, Some, None, Result, Ok, Err, arith}
+use Rattle.std.proofs.Common.{◌≡◌, ◌∙◌, ℕ, zero, suc, ◌<◌, ◌+◌, Bool, true, false, List, [], ◌++◌, refl, sym, ap, subst, append_assoc, append-nil, Option, Some, None, arith}
 use Rattle.std.proofs.lemmas.Bool.Decides.{nat_tests}
-use Rattle.std.specs.Prelude.{◌-◌, nat_lt, take, map, if◌then◌else◌}
+use Rattle.std.specs.Prelude.{◌-◌, nat_lt, take, drop, if◌then◌else◌}
 use Rattle.rx_chars.specs.declared.syntax.Syntax.{Syntax}
+use Rattle.rx_grammar.specs.declared.faults.Fault.{Fault}
 use Rattle.rx_grammar.specs.declared.limits.Limits.{Limits}
 use Rattle.rx_grammar.specs.Items.{Item}
 use Rattle.rx_grammar.specs.Trees.{StartTag}
-use Rattle.rx_pages.specs.Nesting.{Event}
 use Rattle.rx_pages.specs.PageReader.{no_bytes, no_page}
-use Rattle.rx_scan.specs.declared.answers.What.TheVariants as what
 use Rattle.rx_scan.specs.Scanner.{Scanner}
 use Rattle.rx_scan.specs.Steps as scan
 use Rattle.rx_nest.specs.declared.lines.Own.{Own}
 use Rattle.rx_nest.specs.declared.lines.Own.TheVariants as own
-use Rattle.rx_nest.specs.declared.lines.Told.{Told}
 use Rattle.rx_nest.specs.declared.heard.Owed.{Owed}
 use Rattle.rx_nest.specs.declared.heard.Heard.{Heard}
 use Rattle.rx_nest.specs.declared.heard.Heard.TheVariants as heard
 use Rattle.rx_nest.specs.declared.heard.Did.{Did}
 use Rattle.rx_nest.specs.declared.heard.Did.TheVariants as did
 use Rattle.rx_nest.specs.Lines.{Lines}
-use Rattle.rx_nest.specs.Signs.{Sign, begun, said, finished, sees, nothing_seen, finishing}
+use Rattle.rx_nest.specs.Signs.{Sign, sees, nothing_seen}
 use Rattle.rx_nest.specs.Follows.{flags_of, own_signs}
-use Rattle.rx_nest.specs.Heard.{paid, first_own, next_own, next_owed, first_of}
-use Rattle.rx_nest.specs.Nests.{Nested, At, Stands, LendsStart, begins_own, IsATag, no_token, a_tag, read_before, read_now, HeardOf, DidOf, Done, DidLends, did_signs, did_more, heard_signs, hears_more, Lends, Heeds, last_tag, owes_own, owed_signs, owes_begin, Takes, left, own_left}
+use Rattle.rx_nest.specs.Heard.{first_own, next_own, next_owed, first_of}
+use Rattle.rx_nest.specs.Nests.{Nested, At, Stands, Stops, Unshown, LendsStart, begins_own, IsATag, no_token, a_tag, read_before, read_now, HeardOf, DidOf, Done, DidLends, did_signs, did_more, heard_signs, hears_more, Lends, Heeds, last_tag, owed_signs, owes_begin, left, own_left}
 use Rattle.rx_nest.proofs.TextSteps.{sees_append}
+use Rattle.rx_nest.proofs.Heeding.{front_rest}
+use Rattle.rx_nest.proofs.Sizes.{still_so}
 
 -- before the first byte
 pub new_at : (syntax : Syntax) (limits : Limits) (v : Scanner) (line : Lines) → v.reading.setting ≡ scan.first_setting syntax limits → scan.Stands v no_bytes → line ≡ record { syntax = syntax; depth = limits.depth; begun = false; levels = [] }
@@ -211,3 +211,10 @@ module _ (syntax : Syntax) (limits : Limits) (old : Nested) (bytes : List ℕ) (
           are = f.is_read heeds.tokens.items heeds.tokens.are;
         };
       }
+
+  -- before a fault no more is shown
+  pub unshown : (fault : Fault) → next_owed old.owed ≡ None → Stops syntax limits bytes st.told piece fault → Unshown syntax limits bytes signs piece
+  unshown fault none stops k p h =
+      let same = still_so syntax limits bytes piece st.at.now st.told fault st.at.read stops (take k piece) (drop k piece) p (sym (front_rest k piece)) h in
+      let paid_up : signs ++ owed_signs old.owed (last_tag old.scan) ≡ signs = ap (λ x. signs ++ x) (none_due old.owed (last_tag old.scan) none) ∙ append-nil signs in
+      ap (λ es. (sees nothing_seen es).signs) same ∙ (ap (λ x. x.signs) st.sight ∙ paid_up)

@@ -1,18 +1,16 @@
 -- The end of a page.
-use Rattle.std.proofs.Common.{◌≡◌, ◌≢◌, ◌∙◌, ℕ, ◌+◌, Bool, true, false, List, [], ◌∷◌, ◌++◌, refl, sym, ap, subst, length, append-nil, Option, Some, None, Result, Ok, Err, arith}
-use Rattle.std.specs.Prelude.{◌-◌, ◌&&◌, not, map, take, if◌then◌else◌}
+use Rattle.std.proofs.Common.{◌≡◌, ◌≢◌, ◌∙◌, ℕ, Bool, true, false, List, [], ◌∷◌, ◌++◌, refl, sym, ap, subst, length, Some, None, Result, Ok, Err, arith}
+use Rattle.std.specs.Prelude.{◌&&◌, map, take, if◌then◌else◌}
 use Rattle.std.specs.Str.{chars}
 use Rattle.rx_terms.specs.Text.{Chars}
 use Rattle.rx_chars.specs.declared.syntax.Syntax.{Syntax}
-use Rattle.rx_reader.proofs.Bools.{by_test}
 use Rattle.rx_grammar.specs.declared.faults.Fault.{Fault}
 use Rattle.rx_grammar.specs.declared.faults.Kind.TheVariants.{Unended}
 use Rattle.rx_grammar.specs.declared.limits.Limits.{Limits}
 use Rattle.rx_grammar.specs.Items.{Item}
-use Rattle.rx_grammar.specs.Begun.{Phase, before, within, after}
 use Rattle.rx_grammar.specs.PageFaults.{FaultAt}
 use Rattle.rx_pages.specs.Nesting.{Event}
-use Rattle.rx_pages.specs.PageReader.{Scanning, Reading, Progress, page_read, end_of, may_end, is_over, is_none_left, fault_in, token_at}
+use Rattle.rx_pages.specs.PageReader.{Progress, page_read, end_of, may_end, is_over, is_none_left, fault_in, token_at}
 use Rattle.rx_pages.proofs.OnlyPages.{found_fault}
 use Rattle.rx_tags.specs.declared.stops.Stop.{Stop}
 use Rattle.rx_tags.specs.declared.stops.Stop.TheVariants as stops
@@ -20,8 +18,8 @@ use Rattle.rx_scan.specs.Scanner.{Scanner}
 use Rattle.rx_scan.specs.Steps as scan
 use Rattle.rx_nest.specs.Lines.{Lines, is_none_open}
 use Rattle.rx_nest.specs.Levels.{Levels}
-use Rattle.rx_nest.specs.Signs.{Sign, said, begun, finished, sees, nothing_seen, signs_of}
-use Rattle.rx_nest.specs.Follows.{flags_of, phase_at}
+use Rattle.rx_nest.specs.Signs.{Sign, said, sees, nothing_seen}
+use Rattle.rx_nest.specs.Follows.{phase_at}
 use Rattle.rx_nest.specs.declared.heard.Did.{Did}
 use Rattle.rx_nest.specs.declared.heard.Did.TheVariants as did
 use Rattle.rx_nest.specs.declared.nests.Event as shown

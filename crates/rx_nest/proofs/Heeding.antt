@@ -1,7 +1,6 @@
 -- What the scanner tells, and the elements take, is what the page's bytes lead to.
-use Rattle.std.proofs.Common.{◌≡◌, ◌≢◌, ◌∙◌, ⊎_elim, inl, inr, ℕ, zero, suc, ◌+◌, ◌≤◌, Bool, true, false, cond, List, [], ◌∷◌, ◌++◌, refl, sym, ap, subst, length, append_assoc, append-nil, Option, Some, None, Result, Ok, Err, arith}
+use Rattle.std.proofs.Common.{◌≡◌, ◌≢◌, ◌∙◌, ℕ, zero, suc, ◌+◌, Bool, true, false, List, [], ◌∷◌, ◌++◌, refl, sym, ap, subst, append_assoc, append-nil, Some, Result, Ok, Err}
 use Rattle.std.specs.Prelude.{◌&&◌, not, map, take, drop, slice_get, if◌then◌else◌}
-use Rattle.std.specs.Str.{chars}
 use Rattle.rx_terms.specs.Text.{Chars}
 use Rattle.rx_chars.specs.declared.syntax.Syntax.{Syntax}
 use Rattle.rx_grammar.specs.declared.faults.Fault.{Fault}
@@ -11,40 +10,29 @@ use Rattle.rx_grammar.specs.Tokens as tokens
 use Rattle.rx_grammar.specs.Tokens.{doctype, tag}
 use Rattle.rx_grammar.specs.Items.{Item}
 use Rattle.rx_grammar.specs.Begun.{Line, inside_of, Phase, before, within, after}
-use Rattle.rx_pages.specs.Nesting.{Event, Nesting, Step, content_at, going_on, doctype_step, step_by, nest_step}
-use Rattle.rx_pages.specs.PageReader.{Spot, spot_of, Scanning, Scanned, scan_from, read_byte, fault_in, is_doctype, is_none_left, may_lead, steps_on, with_events, telling, no_step, progress_of, page_on, page_read, nothing_read, Reading, Progress}
+use Rattle.rx_pages.specs.Nesting.{Event, Nesting, Step, content_at, doctype_step, step_by, nest_step}
+use Rattle.rx_pages.specs.PageReader.{Spot, spot_of, Scanning, Scanned, scan_from, read_byte, is_none_left, may_lead, steps_on, with_events, telling, no_step, progress_of, page_on, page_read, nothing_read}
 use Rattle.rx_pages.proofs.TokenWalk.{IsKept, is_kept}
-use Rattle.rx_pages.proofs.FaultWalk.{fault_stays}
-use Rattle.rx_pages.proofs.ScanSteps.{Stays, PageOn, page_scan, page_append, page_last, page_byte_fault, from_there, one_step}
+use Rattle.rx_pages.proofs.ScanSteps.{page_scan, page_append, page_last, page_byte_fault, from_there}
 use Rattle.rx_pages.proofs.LastToken.{LastByte, last_byte}
 use Rattle.rx_pages.proofs.Doctyped.{OneByte, one_byte, byte_leads}
 use Rattle.rx_pages.proofs.Leads.{scan_same}
-use Rattle.rx_tags.specs.declared.stops.Stop.{Stop}
-use Rattle.rx_tags.specs.declared.stops.Stop.TheVariants as stop
 use Rattle.rx_tags.specs.declared.tags.Tag.{Tag}
 use Rattle.rx_tags.specs.Seen.{tag_seen}
-use Rattle.rx_scan.specs.declared.answers.What.TheVariants as what
 use Rattle.rx_scan.specs.declared.answers.Token.{Token}
 use Rattle.rx_scan.specs.declared.answers.Token.TheVariants as token
 use Rattle.rx_scan.specs.declared.places.Setting.{Setting}
 use Rattle.rx_scan.specs.Scanner.{Scanner}
-use Rattle.rx_scan.specs.Entries.{undropped}
 use Rattle.rx_scan.specs.Steps.{IsOne, IsTag, Skips, a_mark, a_comment, an_empty_section, a_line_feed, texts_of, keeps_first, after_some, ends_leading, setting_behind, Faults, is_more}
 use Rattle.rx_scan.specs.Steps as scan
 use Rattle.rx_nest.specs.declared.heard.Heard.{Heard}
-use Rattle.rx_nest.specs.declared.heard.Heard.TheVariants as heard
-use Rattle.rx_nest.specs.declared.lines.Told.{Told}
-use Rattle.rx_nest.specs.declared.lines.Refused.{Refused}
-use Rattle.rx_nest.specs.declared.lines.Refused.TheVariants as refused
-use Rattle.rx_nest.specs.Lines.{Lines, TagGives, says_text, is_none_open}
-use Rattle.rx_nest.specs.Levels.{Levels, hidden_under, place_under}
-use Rattle.rx_nest.specs.Signs.{Sign, said, Flags, is_hidden, sees}
+use Rattle.rx_nest.specs.Lines.{Lines, says_text, is_none_open}
+use Rattle.rx_nest.specs.Levels.{Levels, hidden_under}
+use Rattle.rx_nest.specs.Signs.{Sign, said, is_hidden, sees}
 use Rattle.rx_nest.specs.Follows.{AreLevels, Follows, flags_of, phase_at}
-use Rattle.rx_nest.specs.Heard.{Hears, HearsTag, heard_of, OnlyHears}
-use Rattle.rx_nest.specs.Nests.{Stops, At, setting_of, heard_signs, Lends, hears_more, Heeds, ReadGives, last_text, has_text, last_tag, tag_shown}
-use Rattle.rx_nest.proofs.LineLemmas.{place_is}
-use Rattle.rx_nest.proofs.Takes.{Taken, TagSteps, tag_steps, hidden_flags}
-use Rattle.rx_nest.proofs.TextSteps.{said_by, Quiet, none_quiet, texts_quiet, comment_quiet, empty_quiet, line_feed_quiet}
+use Rattle.rx_nest.specs.Nests.{Stops, At, setting_of, heard_signs}
+use Rattle.rx_nest.proofs.Takes.{hidden_flags}
+use Rattle.rx_nest.proofs.TextSteps.{said_by, Quiet}
 
 -- the front of a list and the rest
 pub front_rest : (n : ℕ) (xs : List ℕ) → take n xs ++ drop n xs ≡ xs

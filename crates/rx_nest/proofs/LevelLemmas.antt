@@ -1,8 +1,7 @@
 -- The open elements, the innermost first, and how they change.
-use Rattle.std.proofs.Common.{◌≡◌, ◌≢◌, ◌∙◌, ℕ, zero, suc, ◌+◌, ◌-◌, ◌<◌, ◌≤◌, Bool, true, false, List, [], ◌∷◌, refl, sym, ap, length, slice_index_or, slice_set, arith}
-use Rattle.std.specs.Prelude.{take, drop}
+use Rattle.std.proofs.Common.{◌≡◌, ◌∙◌, ℕ, zero, suc, ◌+◌, ◌-◌, ◌<◌, ◌≤◌, Bool, true, false, List, [], ◌∷◌, refl, sym, ap, length, slice_index_or, slice_set, arith}
+use Rattle.std.specs.Prelude.{drop}
 use Rattle.std.proofs.lemmas.List.{get_or-set_other, get_or-set_same, get_or_default}
-use Rattle.rx_grammar.specs.Contents.{outside}
 use Rattle.rx_nest.specs.Levels.{Level, Levels, no_level, innermost_first, IsTop, place_under, name_under, hidden_under, kept, ended, one_if}
 
 pub length_inner : (n : ℕ) (kept : List Level) → length (innermost_first n kept) ≡ n

@@ -12,3 +12,4 @@ pub mod Advancing
 pub mod Endings
 pub mod Sizes
 pub mod Fronts
+pub mod TagPlaces

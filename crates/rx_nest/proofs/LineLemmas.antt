@@ -1,18 +1,18 @@
 -- What a tag does to the levels, it does to the open elements.
-use Rattle.std.proofs.Common.{◌≡◌, ◌∙◌, ℕ, zero, suc, ◌+◌, Bool, true, false, cond, List, [], ◌∷◌, ◌++◌, refl, sym, ap, subst, length, nat_le, Option, Some, None, arith}
-use Rattle.std.specs.Prelude.{◌&&◌, ◌||◌, not, map, drop}
+use Rattle.std.proofs.Common.{◌≡◌, ◌∙◌, ℕ, suc, ◌+◌, Bool, true, false, cond, List, [], ◌∷◌, ◌++◌, refl, sym, ap, length, arith}
+use Rattle.std.specs.Prelude.{◌&&◌, not}
 use Rattle.rx_terms.specs.Text.{Chars}
 use Rattle.rx_chars.specs.declared.syntax.Syntax.{Syntax}
 use Rattle.rx_reader.proofs.Bools.{by_test}
-use Rattle.rx_grammar.specs.Names.{same, is_among, row_of}
+use Rattle.rx_grammar.specs.Names.{same, is_among}
 use Rattle.rx_grammar.specs.Contents.{Place, is_html}
 use Rattle.rx_grammar.specs.Omission.{enders, names_of, has_row, is_omissible, is_held}
 use Rattle.rx_grammar.specs.Begun.{Line, inside_of, parent_of}
 use Rattle.rx_grammar.specs.PageFaults.{after_start, under_start, after_end, is_innermost, is_no_line}
-use Rattle.rx_pages.specs.Nesting.{Event, finishes, ended_by_start, ended_under, ended_by_end}
-use Rattle.rx_nest.specs.Levels.{Level, Levels, row_at, place_under, name_under, hidden_under, ends_by, kept, ended, one_if}
+use Rattle.rx_pages.specs.Nesting.{Event, ended_by_start, ended_under, ended_by_end}
+use Rattle.rx_nest.specs.Levels.{Level, Levels, row_at, place_under, name_under, ends_by, kept, ended, one_if}
 use Rattle.rx_nest.specs.Lines.{is_none_open, is_named, kept_at_start, ended_at_start}
-use Rattle.rx_nest.specs.Signs.{Sign, finished, Flags, Sight, sees, ended_sight, finishing, is_hidden}
+use Rattle.rx_nest.specs.Signs.{Sign, finished, sees, finishing}
 use Rattle.rx_nest.specs.Follows.{AreLevels, flags_of}
 
 -- a row is kept where the name's start tag stands in content Html

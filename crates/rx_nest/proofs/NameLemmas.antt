@@ -1,14 +1,12 @@
 -- Names are compared with words of ASCII as their bytes are.
-use Rattle.std.proofs.Common.{◌≡◌, ◌∙◌, ℕ, Bool, true, cond, List, [], ◌∷◌, refl, ap, Option, Some, None}
-use Rattle.std.specs.Prelude.{◌||◌, ◌&&◌, nat_eq, codes}
+use Rattle.std.proofs.Common.{◌≡◌, ℕ, Bool, true, List, [], ◌∷◌, refl}
 use Rattle.std.specs.Str.{chars, IsUtf8}
-use Rattle.std.specs.List.{list_all, list_any}
-use Rattle.std.specs.Cmp.Lexicographic.{pointwise}
+use Rattle.std.specs.List.{list_all}
 use Rattle.std.proofs.lemmas.Bool.{and_parts}
 use Rattle.rx_terms.specs.Ascii.{is_ascii}
 use Rattle.rx_terms.specs.Text.{Chars}
 use Rattle.rx_terms.proofs.CharLemmas.{same-ascii}
-use Rattle.rx_grammar.specs.Names.{same, is_among, row_among, row_of, omissible_rows}
+use Rattle.rx_grammar.specs.Names.{is_among, row_among}
 
 abbrev pub are_ascii : List Chars → Bool
 are_ascii names = list_all (list_all is_ascii) names

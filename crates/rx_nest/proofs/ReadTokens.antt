@@ -1,12 +1,11 @@
 -- What was taken of a piece, and what the elements made of it, is what the page's bytes lead to.
-use Rattle.std.proofs.Common.{◌≡◌, ◌≢◌, ◌∙◌, ⊎_elim, inl, inr, ℕ, ◌+◌, Bool, true, false, cond, List, [], ◌∷◌, ◌++◌, refl, sym, ap, subst, length, append_assoc, append-nil, Option, Some, None, Result, Ok, Err}
-use Rattle.std.specs.Prelude.{◌⊎◌, ◌&&◌, not, map, take, drop, codes, if◌then◌else◌}
+use Rattle.std.proofs.Common.{◌≡◌, ◌≢◌, ◌∙◌, ⊎_elim, inl, inr, ℕ, ◌+◌, Bool, true, false, List, [], ◌∷◌, ◌++◌, refl, sym, ap, subst, length, append_assoc, append-nil, Some, Result, Ok, Err}
+use Rattle.std.specs.Prelude.{◌⊎◌, ◌&&◌, map, take, drop, codes, if◌then◌else◌}
 use Rattle.std.specs.Str.{chars}
 use Rattle.rx_terms.specs.Text.{Chars}
 use Rattle.rx_chars.specs.declared.syntax.Syntax.{Syntax}
 use Rattle.rx_chars.specs.declared.syntax.Syntax.TheVariants.{Html, Xhtml}
 use Rattle.rx_reader.proofs.Bools.{by_test}
-use Rattle.rx_reader.specs.TagReader.{parts_of}
 use Rattle.rx_grammar.specs.declared.contents.Content.{Content}
 use Rattle.rx_grammar.specs.declared.contents.Content.TheVariants as content
 use Rattle.rx_grammar.specs.declared.contents.RawName.{RawName}
@@ -16,14 +15,11 @@ use Rattle.rx_grammar.specs.declared.limits.Limits.{Limits}
 use Rattle.rx_grammar.specs.Names.{same, is_among, name_of_raw}
 use Rattle.rx_grammar.specs.Tokens as tokens
 use Rattle.rx_grammar.specs.Tokens.{tag}
-use Rattle.rx_grammar.specs.Trees.{StartTag}
-use Rattle.rx_grammar.specs.Contents.{Place, place_in, inside_at, inside_html, inside_foreign, in_html, raw_place, raw_names, rcdata_names, html_in_svg}
-use Rattle.rx_grammar.specs.Items.{Item, start_of}
-use Rattle.rx_grammar.specs.Begun.{Line, inside_of, Phase}
+use Rattle.rx_grammar.specs.Contents.{Place, inside_at, inside_html, inside_foreign, in_html, raw_place, raw_names, rcdata_names, html_in_svg}
+use Rattle.rx_grammar.specs.Items.{Item}
+use Rattle.rx_grammar.specs.Begun.{Line, inside_of}
 use Rattle.rx_pages.specs.Nesting.{Event, Nesting, Step, content_at, nest_step}
-use Rattle.rx_pages.specs.PageReader.{Spot, spot_of, Scanning, Scanned, scan_from, is_none_left, may_lead, page_on, page_read, nothing_read, Reading, Progress}
-use Rattle.rx_pages.proofs.FaultWalk.{fault_stays}
-use Rattle.rx_pages.proofs.ScanSteps.{page_append}
+use Rattle.rx_pages.specs.PageReader.{Spot, spot_of, Scanning, scan_from, may_lead, Progress}
 use Rattle.rx_tags.specs.declared.stops.Stop.{Stop}
 use Rattle.rx_tags.specs.declared.stops.Stop.TheVariants as stop
 use Rattle.rx_tags.specs.declared.tags.Tag.{Tag}
@@ -34,25 +30,24 @@ use Rattle.rx_scan.specs.declared.answers.Token.{Token}
 use Rattle.rx_scan.specs.declared.answers.Token.TheVariants as token
 use Rattle.rx_scan.specs.declared.places.Setting.{Setting}
 use Rattle.rx_scan.specs.Scanner.{Scanner}
-use Rattle.rx_scan.specs.Entries.{undropped, IsNoMemory}
+use Rattle.rx_scan.specs.Entries.{IsNoMemory}
 use Rattle.rx_scan.specs.Steps.{shows_tag, texts_of, IsOne, IsTag, Skips, a_mark, a_comment, an_empty_section, a_line_feed, Are, Shows, ShowsTag, after_some, ends_leading, setting_behind, is_more, is_of_syntax}
 use Rattle.rx_scan.specs.Steps as scan
 use Rattle.rx_nest.specs.declared.heard.Heard.{Heard}
 use Rattle.rx_nest.specs.declared.heard.Heard.TheVariants as heard
 use Rattle.rx_nest.specs.declared.lines.Told.{Told}
-use Rattle.rx_nest.specs.declared.lines.Own.{Own}
 use Rattle.rx_nest.specs.declared.lines.Refused.{Refused}
 use Rattle.rx_nest.specs.declared.lines.Refused.TheVariants as refused
 use Rattle.rx_nest.specs.Lines.{Lines, TagGives, GivesBy, Begins, Ends, own_of_end, shown_under, says_text, is_none_open}
 use Rattle.rx_nest.specs.Levels.{Levels, place_under, kept, ends_by}
-use Rattle.rx_nest.specs.Signs.{Sign, said, is_hidden, sees, finishing}
+use Rattle.rx_nest.specs.Signs.{Sign, said, is_hidden, finishing}
 use Rattle.rx_nest.specs.Follows.{Follows, flags_of, phase_at, own_signs, own_tag, tag_by}
 use Rattle.rx_nest.specs.Heard.{Hears, HearsTag, heard_of}
-use Rattle.rx_nest.specs.Nests.{Stops, IsBetween, LendsStart, begins_own, IsATag, a_skipped_one, a_doctype, some_text, HeardOf, Completes, At, setting_of, start_seen, heard_signs, Lends, is_tag_heard, hears_more, Heeds, ReadGives, last_text, has_text, last_tag}
+use Rattle.rx_nest.specs.Nests.{Stops, IsBetween, begins_own, IsATag, a_skipped_one, a_doctype, some_text, HeardOf, Completes, At, setting_of, start_seen, heard_signs, Lends, is_tag_heard, hears_more, Heeds, ReadGives, last_text, has_text, last_tag}
 use Rattle.rx_nest.proofs.LineLemmas.{place_is}
-use Rattle.rx_nest.proofs.Takes.{Taken, TagSteps, tag_steps}
+use Rattle.rx_nest.proofs.Takes.{Taken, tag_steps}
 use Rattle.rx_nest.proofs.TextSteps.{said_by, Quiet, none_quiet, texts_quiet, comment_quiet, empty_quiet, line_feed_quiet}
-use Rattle.rx_nest.proofs.Heeding.{front_rest, scan_fails, scan_is, quiet_at, quiet_shows, said_is, behind_is, doctype_at, tag_stops, tag_leads, Leads}
+use Rattle.rx_nest.proofs.Heeding.{front_rest, scan_fails, scan_is, quiet_at, quiet_shows, said_is, behind_is, doctype_at, tag_stops, tag_leads}
 
 -- the text that is shown is the one that was told
 text_is : (answer : What) (v : Scanner) → v.what ≡ answer → (text : _) → Shows answer v.reading (token.Text text) → (chars text.now ≡ last_text v) × (has_text v.what ≡ true)

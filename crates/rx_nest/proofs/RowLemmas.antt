@@ -1,5 +1,5 @@
 -- The rows are of ASCII, and so are the names that choose a content.
-use Rattle.std.proofs.Common.{◌≡◌, ◌∙◌, ℕ, Bool, true, cond, List, [], ◌∷◌, refl, ap}
+use Rattle.std.proofs.Common.{◌≡◌, ℕ, true, List, refl}
 use Rattle.std.specs.Prelude.{codes}
 use Rattle.std.specs.Str.{chars, IsUtf8}
 use Rattle.rx_terms.proofs.CharLemmas.{same-ascii}

@@ -1,5 +1,5 @@
 -- Where a page's reading stands, and where its fault is.
-use Rattle.std.proofs.Common.{◌≡◌, ◌∙◌, ⊎_elim, inl, inr, append-nil, ℕ, ◌+◌, ◌≤◌, ◌<◌, Bool, true, false, List, [], ◌∷◌, ◌++◌, refl, sym, ap, subst, length, length-append, append_assoc, Result, Ok, Err, arith}
+use Rattle.std.proofs.Common.{◌≡◌, ◌∙◌, ⊎_elim, inl, inr, append-nil, ℕ, ◌+◌, ◌≤◌, ◌<◌, List, [], ◌∷◌, ◌++◌, refl, sym, ap, subst, length, length-append, append_assoc, Result, Ok, Err, arith}
 use Rattle.std.proofs.lemmas.Bool.Decides.{nat_tests}
 use Rattle.std.proofs.lemmas.List.{append_cancel_left}
 use Rattle.std.specs.Prelude.{◌⊎◌, nat_le, if◌then◌else◌}
@@ -10,14 +10,13 @@ use Rattle.rx_grammar.specs.declared.faults.Fault.{Fault}
 use Rattle.rx_grammar.specs.declared.faults.Kind.{Kind}
 use Rattle.rx_grammar.specs.declared.faults.Kind.TheVariants.{PageTooLong}
 use Rattle.rx_grammar.specs.declared.limits.Limits.{Limits}
-use Rattle.rx_grammar.specs.PageFaults.{FaultAt}
 use Rattle.rx_pages.specs.Nesting.{Event, Step}
-use Rattle.rx_pages.specs.PageReader.{Scanned, Progress, Reading, read_answer, read_byte, spot_of, steps_on, no_step, progress_of, nested_items, page_byte, page_byte_on, telling, page_on, page_read, nothing_read, end_of, fault_in}
+use Rattle.rx_pages.specs.PageReader.{Scanned, Progress, Reading, read_answer, read_byte, spot_of, steps_on, no_step, progress_of, nested_items, page_byte, page_byte_on, telling, page_on, page_read, nothing_read, end_of}
 use Rattle.rx_pages.proofs.ByteFacts.{byte_is}
 use Rattle.rx_pages.proofs.FaultWalk.{fault_stays}
 use Rattle.rx_pages.proofs.OnlyPages.{found_fault}
 use Rattle.rx_pages.proofs.ScanSteps.{page_append}
-use Rattle.rx_nest.specs.Nests.{Faults, Stops, Still}
+use Rattle.rx_nest.specs.Nests.{Faults, Stops}
 use Rattle.rx_pages.proofs.FaultFronts.{faults_follow_fronts}
 
 module _ (syntax : Syntax) (limits : Limits) where
@@ -125,15 +124,11 @@ module _ (syntax : Syntax) (limits : Limits) where
       by [] w = refl
       by (x ∷ es) w = absurd (cc)
 
-  pub still_so : (bytes piece : List ℕ) (now : Reading) (told : List Event) (fault : Fault) → page_read syntax limits bytes ≡ Ok (record { now = now; told = told }) → Stops syntax limits bytes told piece fault → Still syntax limits bytes piece
-  still_so bytes piece now told fault h f = record { told_is = λ front rest before after e b a.
-      let start : record { now = now; told = told } ≡ before = one (record { now = now; told = told }) before (sym h ∙ b) in
-      let was : told ≡ before.told = ap (λ (p : Progress). p.told) start in
-      ⊎_elim (λ m. short front m.0 m.1 after a ∙ was) (λ m. absurd (long front m.0 m.1 after a)) (fronts front rest f.front f.rest f.byte (sym e ∙ f.are)) }
+  pub still_so : (bytes piece : List ℕ) (now : Reading) (told : List Event) (fault : Fault) → page_read syntax limits bytes ≡ Ok (record { now = now; told = told }) → Stops syntax limits bytes told piece fault
+      → (front rest : List ℕ) (after : Progress) → piece ≡ front ++ rest → page_read syntax limits (bytes ++ front) ≡ Ok after → after.told ≡ told
+  still_so bytes piece now told fault h f front rest after e a =
+      ⊎_elim (λ m. short front m.0 m.1 after a) (λ m. absurd (long front m.0 m.1 after a)) (fronts front rest f.front f.rest f.byte (sym e ∙ f.are))
     where
-      one : (x y : Progress) → ◌≡◌ {A = Result Progress Fault} (Ok x) (Ok y) → x ≡ y
-      one x y e = cc
-
       short : (front m : List ℕ) → f.front ≡ front ++ m → (after : Progress) → page_read syntax limits (bytes ++ front) ≡ Ok after → after.told ≡ told
       short front m e after a =
           let first : Grows (record { now = now; told = told }) after =

@@ -1,29 +1,28 @@
 -- A tag is taken as the tables of nesting say.
-use Rattle.std.proofs.Common.{◌≡◌, ◌∙◌, ⊎_elim, ℕ, zero, suc, ◌+◌, Bool, true, false, cond, List, [], ◌∷◌, ◌++◌, refl, sym, ap, subst, length, nat_le, Option, Some, None, Result, Ok, Err}
-use Rattle.std.specs.Prelude.{◌&&◌, ◌||◌, not, map, drop, if◌then◌else◌}
+use Rattle.std.proofs.Common.{◌≡◌, ◌∙◌, ⊎_elim, ℕ, Bool, true, false, cond, List, [], ◌∷◌, ◌++◌, refl, sym, ap, subst, length, nat_le, Option, Some, None, Result, Ok, Err}
+use Rattle.std.specs.Prelude.{◌&&◌, ◌||◌, not, drop, if◌then◌else◌}
 use Rattle.rx_terms.specs.Text.{Chars}
 use Rattle.rx_chars.specs.declared.syntax.Syntax.{Syntax}
 use Rattle.rx_reader.proofs.Bools.{by_test}
 use Rattle.rx_grammar.specs.declared.faults.Kind.{Kind}
 use Rattle.rx_grammar.specs.declared.faults.Kind.TheVariants.{TooDeep, NothingOpen, Mismatch}
-use Rattle.rx_grammar.specs.Names.{same}
 use Rattle.rx_grammar.specs.Tokens.{Tag, tag}
 use Rattle.rx_grammar.specs.Contents.{Place, is_alone, hides, drops_line_feed, place_in}
 use Rattle.rx_grammar.specs.Trees.{StartTag}
 use Rattle.rx_grammar.specs.Items.{Item, start_of}
 use Rattle.rx_grammar.specs.Omission.{is_held}
-use Rattle.rx_grammar.specs.Begun.{Line, inside_of, parent_of, Phase, before, within, after}
-use Rattle.rx_grammar.specs.PageFaults.{Rows, first_row, tag_rows, start_rows, end_rows, after_start, under_start, after_end, is_innermost, is_no_line, has_ended, is_before}
+use Rattle.rx_grammar.specs.Begun.{Line, inside_of, within}
+use Rattle.rx_grammar.specs.PageFaults.{Rows, first_row, start_rows, end_rows, under_start, after_end, has_ended, is_before}
 use Rattle.rx_pages.specs.Nesting.{Nesting, Event, begins, finishes, Step, nest_step, step_by, unless_refused, over, line_above, ended_under, ended_by_end, begun_under, tag_passes}
 use Rattle.rx_nest.specs.declared.lines.Told.{Told}
 use Rattle.rx_nest.specs.declared.lines.Refused.{Refused}
 use Rattle.rx_nest.specs.declared.lines.Refused.TheVariants.{Fault, NoMemory}
 use Rattle.rx_nest.specs.declared.lines.Own.{Own}
-use Rattle.rx_nest.specs.declared.lines.Own.TheVariants.{Alone, Begin, Finish, Nothing}
-use Rattle.rx_nest.specs.Levels.{Level, Levels, row_at, place_under, name_under, hidden_under, ends_by, kept, ended}
-use Rattle.rx_nest.specs.Lines.{Lines, start_refusals, is_none_open, is_named, kept_at_start, ended_at_start, level_under, own_of_start, TagGives, GivesBy, is_room, Begins, own_of_end, shown_under, Ends, drops_under}
-use Rattle.rx_nest.specs.Signs.{Sign, begun, finished, Flags, Sight, sees, see, ended_sight, finishing, is_hidden}
-use Rattle.rx_nest.specs.Follows.{AreLevels, Follows, flags_of, phase_at, phase_over, own_signs, own_tag, tag_by}
+use Rattle.rx_nest.specs.declared.lines.Own.TheVariants.{Alone, Begin, Nothing}
+use Rattle.rx_nest.specs.Levels.{Levels, row_at, place_under, hidden_under, ends_by, kept, ended}
+use Rattle.rx_nest.specs.Lines.{Lines, start_refusals, is_none_open, is_named, kept_at_start, ended_at_start, level_under, TagGives, GivesBy, is_room, Begins, own_of_end, Ends}
+use Rattle.rx_nest.specs.Signs.{Sign, begun, finished, Flags, Sight, sees, finishing, is_hidden}
+use Rattle.rx_nest.specs.Follows.{AreLevels, Follows, flags_of, phase_at, own_signs, own_tag, tag_by}
 use Rattle.rx_nest.proofs.LineLemmas.{place_is, name_is, length_is, none_is, named_is, under_kept, under_seen, end_kept, end_seen}
 
 rows_none : (rows : Rows) (row : Bool × Kind) → first_row rows ≡ None → first_row (rows ++ row ∷ []) ≡ first_row (row ∷ [])

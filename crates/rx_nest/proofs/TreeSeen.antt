@@ -1,5 +1,5 @@
 -- The events of a page end each element that they begin, so what they show is the tree.
-use Rattle.std.proofs.Common.{◌≡◌, ◌∙◌, ℕ, zero, suc, Bool, true, false, List, [], ◌∷◌, ◌++◌, refl, sym, ap, subst, length, append_assoc, Option, Some, None, Result, Ok, Err}
+use Rattle.std.proofs.Common.{◌≡◌, ◌∙◌, ℕ, Bool, true, false, List, [], ◌∷◌, ◌++◌, refl, sym, ap, subst, length, append_assoc, Option, Some, None, Result, Ok}
 use Rattle.std.specs.Prelude.{◌&&◌, not, if◌then◌else◌}
 use Rattle.rx_terms.specs.Text.{Chars}
 use Rattle.rx_chars.specs.declared.syntax.Syntax.{Syntax}
@@ -16,10 +16,9 @@ use Rattle.rx_grammar.specs.Items.{Item, start_of, is_line_feed}
 use Rattle.rx_grammar.specs.Omission.{enders, is_omissible, is_held}
 use Rattle.rx_grammar.specs.Begun.{Line, inside_of, parent_of, Phase, before, within, after}
 use Rattle.rx_grammar.specs.Pages.{Page}
-use Rattle.rx_grammar.specs.PageFaults.{Rows, first_row, tag_rows, start_rows, end_rows, under_start, after_start, after_end, is_innermost, is_no_line}
-use Rattle.rx_pages.specs.Nesting.{Event, begins, says, finishes, Nesting, not_begun, Step, going_on, told, text_step, doctype_step, over, line_above, begun_under, ended_by_start, ended_under, ended_by_end, tag_passes, unless_refused, step_by, nest_step, Goes, stands, goes, IsAt}
+use Rattle.rx_grammar.specs.PageFaults.{first_row, tag_rows, start_rows, end_rows, under_start, after_start, after_end, is_innermost, is_no_line}
+use Rattle.rx_pages.specs.Nesting.{Event, begins, finishes, Nesting, Step, going_on, told, text_step, doctype_step, over, line_above, begun_under, ended_by_start, ended_under, ended_by_end, tag_passes, unless_refused, step_by, Goes, stands, goes, IsAt}
 use Rattle.rx_pages.specs.PageReader.{Progress, page_read, end_of}
-use Rattle.rx_pages.specs.Laws.{IsPageRead}
 use Rattle.rx_pages.proofs.PageRead.{page_is_told}
 use Rattle.rx_pages.proofs.OnlyPages.{read_page}
 use Rattle.rx_nest.specs.Signs.{sees, nothing_seen, signs_of}

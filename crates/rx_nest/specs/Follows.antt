@@ -1,5 +1,5 @@
 -- The open elements that are kept are those of the page's tokens.
-use Rattle.std.specs.Prelude.{◌≡◌, ℕ, Bool, true, false, List, [], ◌∷◌, map, Result, Ok, Err, if◌then◌else◌}
+use Rattle.std.specs.Prelude.{◌≡◌, Bool, false, List, [], ◌∷◌, map, if◌then◌else◌}
 use Rattle.rx_chars.specs.declared.syntax.Syntax.{Syntax}
 use Rattle.rx_grammar.specs.Trees.{StartTag}
 use Rattle.rx_grammar.specs.Tokens.{Token, tag}

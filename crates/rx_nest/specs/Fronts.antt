@@ -1,8 +1,9 @@
 -- What a page's bytes show at any time is the front of one element.
-use Rattle.std.specs.Prelude.{◌≡◌, ◌≤◌, ℕ, zero, suc, List, [], ◌∷◌, Option, Some, None}
+use Rattle.std.specs.Prelude.{◌≡◌, ◌≤◌, ◌<◌, ℕ, zero, suc, List, [], ◌∷◌, ◌++◌, length, Option, Some, None, Ok}
 use Rattle.rx_chars.specs.declared.syntax.Syntax.{Syntax}
 use Rattle.rx_grammar.specs.declared.limits.Limits.{Limits}
-use Rattle.rx_nest.specs.Signs.{Sign, begun, said, finished}
+use Rattle.rx_pages.specs.PageReader.{Progress, page_read}
+use Rattle.rx_nest.specs.Signs.{Sign, begun, said, finished, sees, nothing_seen}
 use Rattle.rx_nest.specs.Nests.{Nested, Stands}
 
 -- the root hasn't begun; it is open, and so many elements are open inside it; or it has ended
@@ -45,3 +46,21 @@ pub record IsFront (depth : ℕ) (signs : List Sign) : Type 0 where
 abbrev pub ShowsOneElement : Type 0
 ShowsOneElement = (syntax : Syntax) (limits : Limits) (nest : Nested) (bytes : List ℕ) (signs : List Sign)
     → Stands syntax limits nest bytes signs → IsFront limits.depth signs
+
+-- the start tags that are shown end at bytes from this offset on, and before that one
+abbrev pub Lie : ℕ → ℕ → List Sign → Type 0
+Lie from to [] = Unit {0}
+Lie from to (begun t ∷ signs) = (from ≤ t.at) × (t.at < to) × Lie from to signs
+Lie from to (said c ∷ signs) = Lie from to signs
+Lie from to (finished ∷ signs) = Lie from to signs
+
+-- what is shown of more bytes are more signs, whose tags lie in them
+pub record ShowsMore (syntax : Syntax) (limits : Limits) (bytes more : List ℕ) (before now : Progress) : Type 0 where
+  pub signs : List Sign
+  pub are : (sees nothing_seen now.told).signs ≡ (sees nothing_seen before.told).signs ++ signs
+  pub lie : Lie (length bytes) (length (bytes ++ more)) signs
+
+-- law: tags lie in the bytes that show them
+abbrev pub TagsLieInTheirBytes : Type 0
+TagsLieInTheirBytes = (syntax : Syntax) (limits : Limits) (bytes more : List ℕ) (before now : Progress)
+    → page_read syntax limits bytes ≡ Ok before → page_read syntax limits (bytes ++ more) ≡ Ok now → ShowsMore syntax limits bytes more before now

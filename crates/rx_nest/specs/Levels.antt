@@ -1,5 +1,5 @@
 -- The open elements, as they are kept: of each its name and what its ancestors make of it. The innermost stands first.
-use Rattle.std.specs.Prelude.{◌≡◌, ℕ, zero, suc, ◌+◌, Bool, true, false, not, ◌&&◌, List, [], ◌∷◌, Option, Some, None, slice_index_or, take, option_map, if◌then◌else◌}
+use Rattle.std.specs.Prelude.{◌≡◌, ℕ, zero, suc, ◌+◌, Bool, false, not, ◌&&◌, List, [], ◌∷◌, Option, None, slice_index_or, take, option_map, if◌then◌else◌}
 use Rattle.rx_terms.specs.Text.{Chars}
 use Rattle.rx_grammar.specs.Names.{same, is_among, row_of}
 use Rattle.rx_grammar.specs.Contents.{Place, outside, is_html}

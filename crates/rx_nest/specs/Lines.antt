@@ -1,12 +1,11 @@
 -- What a tag does to the open elements.
-use Rattle.std.specs.Prelude.{◌≡◌, ◌⊎◌, ℕ, Bool, true, false, not, ◌&&◌, ◌||◌, nat_le, List, [], ◌∷◌, length, drop, option_map, Option, Some, None, Result, Ok, Err, if◌then◌else◌}
+use Rattle.std.specs.Prelude.{◌≡◌, ◌⊎◌, ℕ, Bool, true, false, not, ◌&&◌, ◌||◌, nat_le, [], ◌∷◌, length, drop, Some, None, Result, Ok, Err, if◌then◌else◌}
 use Rattle.rx_terms.specs.Text.{Chars}
 use Rattle.rx_chars.specs.declared.syntax.Syntax.{Syntax}
-use Rattle.rx_grammar.specs.declared.faults.Kind.{Kind}
 use Rattle.rx_grammar.specs.declared.faults.Kind.TheVariants.{Mismatch, NothingOpen, Outside, Plaintext, RootNotHtml, SelfClosed, TooDeep}
-use Rattle.rx_grammar.specs.Names.{same, row_of}
+use Rattle.rx_grammar.specs.Names.{same}
 use Rattle.rx_grammar.specs.Tokens.{Tag}
-use Rattle.rx_grammar.specs.Contents.{Place, place_in, is_alone, is_html, is_plaintext, is_self_closed, hides, drops_line_feed}
+use Rattle.rx_grammar.specs.Contents.{place_in, is_alone, is_html, is_plaintext, is_self_closed, hides, drops_line_feed}
 use Rattle.rx_grammar.specs.Omission.{is_held}
 use Rattle.rx_grammar.specs.Pages.{root_name}
 use Rattle.rx_grammar.specs.PageFaults.{Rows, first_row}

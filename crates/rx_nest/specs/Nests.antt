@@ -36,7 +36,7 @@ use Rattle.rx_nest.specs.declared.heard.Did.TheVariants as did
 use Rattle.rx_nest.specs.declared.nests.Event.{Event}
 use Rattle.rx_nest.specs.declared.nests.Event.TheVariants as event
 use Rattle.rx_nest.specs.Lines.{Lines}
-use Rattle.rx_nest.specs.Signs.{Sign, begun, said, finished, Sight, sees, nothing_seen, finishing, signs_of}
+use Rattle.rx_nest.specs.Signs.{Sign, begun, said, finished, sees, nothing_seen, finishing, signs_of}
 use Rattle.rx_nest.specs.Follows.{Follows, flags_of, own_signs}
 
 -- the scanner, the open elements, what the last tag still tells, the fault that was answered, and want of memory
@@ -281,19 +281,17 @@ pub record Faults (syntax : Syntax) (limits : Limits) (bytes piece : List ℕ) (
   pub within : fault.at < length (bytes ++ piece)
   pub front : IsFront syntax limits (take fault.token (bytes ++ piece))
 
--- No byte of the piece before its fault tells anything.
-pub record Still (syntax : Syntax) (limits : Limits) (bytes piece : List ℕ) : Type 0 where
-  pub told_is :
-      (front rest : List ℕ) (before now : Progress) → piece ≡ front ++ rest → page_read syntax limits bytes ≡ Ok before → page_read syntax limits (bytes ++ front) ≡ Ok now
-      → now.told ≡ before.told
+-- Before the byte that decides the fault the page shows no more than these signs.
+abbrev pub Unshown : Syntax → Limits → List ℕ → List Sign → List ℕ → Type 0
+Unshown syntax limits bytes signs piece = (k : ℕ) (p : Progress) → page_read syntax limits (bytes ++ take k piece) ≡ Ok p → (sees nothing_seen p.told).signs ≡ signs
 
-abbrev pub FaultGives : Syntax → Limits → List ℕ → List ℕ → Stop → Nested → Type 0
-FaultGives syntax limits bytes piece (stop.Fault fault) new = Faults syntax limits bytes piece fault × Fallen fault new × Still syntax limits bytes piece
-FaultGives syntax limits bytes piece stop.NoMemory new = new.spent ≡ true
+abbrev pub FaultGives : Syntax → Limits → List ℕ → List Sign → List ℕ → Stop → Nested → Type 0
+FaultGives syntax limits bytes signs piece (stop.Fault fault) new = Faults syntax limits bytes piece fault × Fallen fault new × Unshown syntax limits bytes signs piece
+FaultGives syntax limits bytes signs piece stop.NoMemory new = new.spent ≡ true
 
 abbrev pub AdvanceGives : Syntax → Limits → List ℕ → List Sign → List ℕ → Result (ℕ × Did) Stop → Nested → Type 0
 AdvanceGives syntax limits bytes signs piece (Ok r) new = Done syntax limits bytes signs piece r.0 r.1 new
-AdvanceGives syntax limits bytes signs piece (Err stop) new = FaultGives syntax limits bytes piece stop new
+AdvanceGives syntax limits bytes signs piece (Err stop) new = FaultGives syntax limits bytes signs piece stop new
 
 -- what an event shows
 abbrev pub event_signs : Event → List Sign
@@ -350,7 +348,7 @@ pub record Stepped (syntax : Syntax) (limits : Limits) (bytes : List ℕ) (signs
 
 abbrev pub StepGives : Syntax → Limits → List ℕ → List Sign → List ℕ → Result (ℕ × Event) Stop → Nested → Type 0
 StepGives syntax limits bytes signs piece (Ok r) new = Stepped syntax limits bytes signs piece r.0 r.1 new
-StepGives syntax limits bytes signs piece (Err stop) new = FaultGives syntax limits bytes piece stop new
+StepGives syntax limits bytes signs piece (Err stop) new = FaultGives syntax limits bytes signs piece stop new
 
 -- Whatever the nest stands for: it answers only where neither a fault nor want of memory was answered; a fault comes again, and want of memory.
 abbrev pub Keeps : Nested → List ℕ → Result (ℕ × Event) Stop → Nested → Type 0

@@ -1,6 +1,5 @@
 -- What is shown of a page: each element that begins or ends, and each character of text, but for what a template hides.
 use Rattle.std.specs.Prelude.{ℕ, zero, suc, Bool, true, false, List, [], ◌∷◌, ◌++◌, map, if◌then◌else◌}
-use Rattle.rx_terms.specs.Text.{Chars}
 use Rattle.rx_grammar.specs.Trees.{StartTag, Tree, end, element, text}
 use Rattle.rx_pages.specs.Nesting.{Event, begins, says, finishes}
 

@@ -1,7 +1,7 @@
 //! The elements of a page in pieces.
 #![tactic(auto)]
 
-ghost use Rattle.rx_nest.specs.Fronts.{ShowsOneElement};
+ghost use Rattle.rx_nest.specs.Fronts.{ShowsOneElement, TagsLieInTheirBytes};
 
 mod heard;
 mod levels;
@@ -21,6 +21,11 @@ pub use rx_tags::{Stop, Tag};
 /// depth has.
 pub fn shows_one_element()
     ensures { ShowsOneElement }
+{}
+
+/// The start tags that more bytes show end in these bytes.
+pub fn tags_lie_in_their_bytes()
+    ensures { TagsLieInTheirBytes }
 {}
 
 #[cfg(test)]

@@ -1,7 +1,5 @@
-use Rattle.std.proofs.Common.{◌∙◌, refl, sym, ap, cond, true, false}
-use Rattle.std.specs.Prelude.{codes, [], ◌∷◌}
-use Rattle.rx_nest.proofs.NameLemmas.{among-chars, row-chars}
-use Rattle.rx_terms.proofs.CharLemmas.{same-chars, same-ascii}
+use Rattle.std.proofs.Common.{◌∙◌, refl}
+use Rattle.rx_nest.proofs.NameLemmas.{among-chars}
 use Rattle.rx_grammar.specs.Contents.{html_in_svg}
 use Rattle.rx_nest.proofs.names.holds_html_in_svg.Goals as goal
 

@@ -1,7 +1,4 @@
-use Rattle.std.proofs.Common.{◌∙◌, refl, sym, ap, cond, true, false}
-use Rattle.std.specs.Prelude.{codes, [], ◌∷◌}
-use Rattle.rx_nest.proofs.NameLemmas.{among-chars, row-chars}
-use Rattle.rx_terms.proofs.CharLemmas.{same-chars, same-ascii}
+use Rattle.std.proofs.Common.{◌∙◌}
 use Rattle.rx_nest.proofs.RowLemmas.{inside-chars}
 use Rattle.rx_nest.proofs.names.inside_html.Goals as goal
 

@@ -1,7 +1,6 @@
-use Rattle.std.proofs.Common.{◌∙◌, refl, sym, ap, cond, true, false}
-use Rattle.std.specs.Prelude.{codes, [], ◌∷◌}
-use Rattle.rx_nest.proofs.NameLemmas.{among-chars, row-chars}
-use Rattle.rx_terms.proofs.CharLemmas.{same-chars, same-ascii}
+use Rattle.std.proofs.Common.{◌∙◌, refl}
+use Rattle.std.specs.Prelude.{codes}
+use Rattle.rx_terms.proofs.CharLemmas.{same-ascii}
 use Rattle.rx_nest.proofs.names.is_paragraph.Goals as goal
 
 pub returns : goal.returns

@@ -1,4 +1,4 @@
-use Rattle.std.proofs.Common.{◌≡◌, ◌∙◌, sym}
+use Rattle.std.proofs.Common.{◌∙◌, sym}
 use Rattle.rx_nest.proofs.Endings.{over_ends}
 use Rattle.rx_nest.proofs.nests.ending.Goals as goal
 

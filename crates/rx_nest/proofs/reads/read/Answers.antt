@@ -1,9 +1,4 @@
-use Rattle.std.proofs.Common.{rules, List, ℕ, ◌≡◌, ◌≢◌, ◌∙◌, refl, sym, ap, subst, Bool, true, false, Ok, Err}
-use Rattle.rx_chars.specs.declared.syntax.Syntax.{Syntax}
-use Rattle.rx_grammar.specs.declared.limits.Limits.{Limits}
-use Rattle.rx_pages.specs.Nesting.{Event}
-use Rattle.rx_pages.specs.PageReader.{Scanning}
-use Rattle.rx_tags.specs.declared.stops.Stop.{Stop}
+use Rattle.std.proofs.Common.{ℕ, ◌≡◌, ◌≢◌, ◌∙◌, refl, sym, ap, subst, false, Ok}
 use Rattle.rx_scan.specs.declared.answers.Token.{Token}
 use Rattle.rx_scan.specs.Steps as scan
 use Rattle.rx_nest.specs.declared.heard.Heard.{Heard}

@@ -1,4 +1,4 @@
-use Rattle.std.proofs.Common.{◌∙◌, sym, ap, length, arith}
+use Rattle.std.proofs.Common.{◌∙◌, sym, ap, length}
 use Rattle.rx_nest.proofs.LevelLemmas.{length_inner}
 use Rattle.rx_nest.specs.Levels.{Opened}
 use Rattle.rx_nest.proofs.levels.Levels.depth.Goals as goal

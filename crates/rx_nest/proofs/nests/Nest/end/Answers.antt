@@ -1,4 +1,4 @@
-use Rattle.std.proofs.Common.{◌≡◌, sym, subst, List, ℕ, Some, None}
+use Rattle.std.proofs.Common.{sym, subst}
 use Rattle.rx_nest.specs.Nests.{Nested, Stands, Ended, owed_signs, last_tag}
 use Rattle.rx_nest.proofs.Endings.{fault_ends, page_ends}
 use Rattle.rx_nest.proofs.nests.Nest.end.Goals as goal

@@ -1,5 +1,4 @@
-use Rattle.std.proofs.Common.{◌≡◌, refl, List, [], true, false}
-use Rattle.rx_nest.specs.Nests.{Somewhere}
+use Rattle.std.proofs.Common.{refl, []}
 use Rattle.rx_nest.proofs.Advancing.{new_at}
 use Rattle.rx_nest.proofs.nests.Nest.new.Goals as goal
 
