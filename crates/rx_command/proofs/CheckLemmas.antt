@@ -8,6 +8,7 @@ use Rattle.rx_tags.specs.declared.stops.Stop.{Stop}
 use Rattle.rx_tags.specs.declared.stops.Stop.TheVariants as stop
 use Rattle.rx_grammar.specs.declared.faults.Kind.TheVariants.{Unended}
 use Rattle.rx_pages.specs.PageReader.{Progress, page_read, end_of, may_end, fault_in, no_page}
+use Rattle.rx_pages.specs.Closings.{IsFront}
 use Rattle.rx_pages.proofs.FaultsRead.{fault_is_read}
 use Rattle.std.specs.Prelude.{if◌then◌else◌}
 use Rattle.rx_nest.specs.declared.nests.Event.{Event}
@@ -88,6 +89,7 @@ part_faults syntax bytes done rest fault f =
       stays = λ more. subst (λ x. FaultAt syntax standard (x ++ more) fault) same (f.stays more);
       from = omega (arith, f.from, length-append bytes done);
       within = subst (λ x. fault.at < length x) same f.within;
+      front = subst (λ x. IsFront syntax standard (take fault.token x)) same f.front;
     }
 
 pub taken_stop : (syntax : Syntax) (v w : Nested) (bytes piece rest : List ℕ) (s : Stop) (t : Taken syntax v bytes piece rest) → TurnGives syntax (bytes ++ t.done) rest (Err s) w → FeedGives syntax bytes piece (Err s) w

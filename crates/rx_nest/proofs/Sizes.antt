@@ -16,6 +16,7 @@ use Rattle.rx_pages.proofs.ByteFacts.{byte_is}
 use Rattle.rx_pages.proofs.FaultWalk.{fault_stays}
 use Rattle.rx_pages.proofs.OnlyPages.{found_fault}
 use Rattle.rx_pages.proofs.ScanSteps.{page_append}
+use Rattle.rx_pages.proofs.FaultFronts.{faults_follow_fronts}
 use Rattle.rx_nest.specs.Nests.{Faults}
 
 module _ (syntax : Syntax) (limits : Limits) where
@@ -74,4 +75,5 @@ module _ (syntax : Syntax) (limits : Limits) where
             (ap end_of (page_append syntax limits (spot_of syntax p.now.nest) (Ok nothing_read) (bytes ++ piece) rest ∙ (ap (λ x. page_on syntax limits x rest) f ∙ fault_stays syntax limits fault rest)));
         from = omega (arith, at.0, s.0);
         within = omega (arith, at.0, s.1, length-append bytes piece);
+        front = faults_follow_fronts syntax limits (bytes ++ piece) fault (found_fault syntax limits (bytes ++ piece) fault (ap end_of f));
       }

@@ -14,6 +14,7 @@ use Rattle.rx_reader.specs.TagReader.{parts_of}
 use Rattle.rx_pages.specs.Nesting as nesting
 use Rattle.rx_pages.specs.Nesting.{Nesting, content_at}
 use Rattle.rx_pages.specs.PageReader.{Progress, Reading, page_read, end_of, may_lead}
+use Rattle.rx_pages.specs.Closings.{IsFront}
 use Rattle.rx_tags.specs.declared.stops.Stop.{Stop}
 use Rattle.rx_tags.specs.declared.stops.Stop.TheVariants as stop
 use Rattle.rx_tags.specs.declared.tags.Tag.{Tag}
@@ -206,11 +207,12 @@ pub record Done (syntax : Syntax) (limits : Limits) (bytes : List ℕ) (signs : 
   pub lends : DidLends d new.scan
   pub all : did_more d ≡ true → n ≡ length piece
 
--- A byte of the piece decides the page's fault, whatever follows.
+-- A byte of the piece decides the page's fault, whatever follows; and what stands before the faulty token goes on to a page.
 pub record Faults (syntax : Syntax) (limits : Limits) (bytes piece : List ℕ) (fault : Fault) : Type 0 where
   pub stays : (rest : List ℕ) → FaultAt syntax limits ((bytes ++ piece) ++ rest) fault
   pub from : length bytes ≤ fault.at
   pub within : fault.at < length (bytes ++ piece)
+  pub front : IsFront syntax limits (take fault.token (bytes ++ piece))
 
 abbrev pub FaultGives : Syntax → Limits → List ℕ → List ℕ → Stop → Nested → Type 0
 FaultGives syntax limits bytes piece (stop.Fault fault) new = Faults syntax limits bytes piece fault × Fallen fault new
