@@ -41,8 +41,7 @@ returns-in-Err-Fault-clause-steps c syntax limits bytes signs st =
     let stops : Stops syntax limits bytes was.told c.args.piece.now c.in-Err-Fault.fault =
     subst (λ x. ReadGives syntax limits bytes was.told c.args.piece.now c.self.inside.line (Err x) c.read.new.scan c.read.new.line) c.in-Err-Fault.field-0-is (c.in-Err-Fault.ensures.reads syntax limits bytes was.told was.at) in
     let old : Nested = record { scan = c.self.inside.scan; line = c.self.inside.line; owed = c.self.inside.owed; failed = c.self.inside.failed; spent = c.self.inside.spent } in
-    let none = sym c.next_owed.ensures ∙ none_of c.next_owed.result c.in_default-next_owed.not-Some in
-    (
+    let none = sym c.next_owed.ensures ∙ none_of c.next_owed.result c.in_default-next_owed.not-Some in (
       faults_so syntax limits bytes c.args.piece.now _ c.in-Err-Fault.fault was.at.read (stops_so syntax limits bytes c.args.piece.now was.told c.in-Err-Fault.fault stops),
       record { failed = refl; unspent = was.unspent },
       unshown syntax limits old bytes signs was c.args.piece.now c.in-Err-Fault.fault none stops,
