@@ -592,6 +592,7 @@ module _ (to : Numbering) (m : Machine Bnode Owner) (state : State) (facts : Fac
     uncelled = λ w h p i. numbering.cell w p i ∙ drawn_labels.cell w p i ∙ r.uncelled w (pending_before w h) p i;
     unbegun = unbegun_now;
     out = started_is;
+    rootless = λ e. absurd (cc e);
   }
 
   -- the state after the start tag is the machine's, under the numbering that has grown

@@ -360,8 +360,8 @@ module _ (to : Numbering) (m : Machine Bnode Owner) (state : State) (l : Layer) 
     kept_is : new.kept ≡ (if gathers_some (frames_in lower) then state.kept else [])
     kept_is = c.kept ∙ ap (λ (f : List Frame). if gathers_some f then state.kept else []) frames_are
 
-    runs_on : ending new.out new.owners new.cells ≡ end_frame l.frame l.text at_start → Runs both_end.now after_it new
-    runs_on q = record {
+    runs_on : ¬ (lower ≡ []) → ending new.out new.owners new.cells ≡ end_frame l.frame l.text at_start → Runs both_end.now after_it new
+    runs_on more q = record {
       layers = lower;
       slots = said.now;
       by = subst (λ (s : State). RunsBy both_end.now after_it s lower said.now) (state_is (end_frame l.frame l.text at_start) q) (record {
@@ -378,6 +378,7 @@ module _ (to : Numbering) (m : Machine Bnode Owner) (state : State) (l : Layer) 
         uncelled = λ o h p i. both_end.others o (not_under o h) (not_own o h) p i ∙ r.uncelled o (pending_before o h) p i;
         unbegun = still_unbegun;
         out = both_end.midway.written;
+        rootless = λ e. absurd (more e);
       });
     }
 
@@ -442,7 +443,7 @@ module _ (to : Numbering) (list : List Call) (state new : State) (c : Closes sta
   left_by (l ∷ k ∷ lower) slots f r =
       stands_on (both_end to before state l (k ∷ lower) slots r).now (after_it to before state l (k ∷ lower) slots r) false (both_end to before state l (k ∷ lower) slots r).grown
       (left_is to before state l (k ∷ lower) slots r) (c.ended ∙ ap (λ (x : List Frame). if length x == 0 then true else state.ended) frames ∙ ap (λ (b : Bool). if b then true else state.ended) (some_open k lower) ∙ f)
-      (runs_on to before state l (k ∷ lower) slots r new c (ends_as to before state l (k ∷ lower) slots r new c
+      (runs_on to before state l (k ∷ lower) slots r new c (λ e. absurd (cc e)) (ends_as to before state l (k ∷ lower) slots r new c
       ∙ ap (λ (b : Bool). end_owner (if b then Some state.page.owner else None) (end_frame l.frame l.text (ending state.out state.owners state.cells))) (some_open k lower)))
     where
       frames : new.frames ≡ frames_in (k ∷ lower)

@@ -132,6 +132,10 @@ module _ (to : Numbering) (m : Machine Bnode Owner) (state : State) (chars : Cha
   each_read true e = rw e (layers_read to state.base state.kept chars layers r.each)
   each_read false e = rw e (layers_quiet to state.base state.kept chars state.kept layers (ap gathers_some (sym r.frames) ∙ e) r.each)
 
+  unread : (ls : List Layer) → read_layers chars ls ≡ [] → ls ≡ []
+  unread [] e = refl
+  unread (l ∷ ls) e = absurd (cc e)
+
   text_runs : RunsBy to (read chars m) (read_text chars state) (read_layers chars layers) slots
   text_runs = record {
     numbers = r.numbers;
@@ -147,6 +151,7 @@ module _ (to : Numbering) (m : Machine Bnode Owner) (state : State) (chars : Cha
     uncelled = λ o p. r.uncelled o (pending_read o p);
     unbegun = λ o p e. r.unbegun o (pending_read o p) (ap (λ (x : Open). owner_place x o) (sym (same_open chars state.base layers)) ∙ e);
     out = r.out;
+    rootless = λ e. ap (read chars) (r.rootless (unread layers e));
   }
 
 pub text_read : (to : Numbering) (m : Machine Bnode Owner) (state : State) (chars : Chars) → Runs to m state → Runs to (read chars m) (read_text chars state)

@@ -1,5 +1,5 @@
 -- What the calls keep, and what they come to.
-use Rattle.std.proofs.Common.{◌≡◌, ◌∙◌, ℕ, ◌+◌, ◌≤◌, ◌^◌, ◌⊎◌, inl, inr, Bool, true, false, List, [], ◌∷◌, ◌++◌, map, length, Option, Some, None, unwrap_or, refl, sym, ap, ap₂, subst, subst₂, arith}
+use Rattle.std.proofs.Common.{◌≡◌, ◌∙◌, ℕ, suc, ◌+◌, ◌≤◌, ◌^◌, ◌⊎◌, inl, inr, Bool, true, false, List, [], ◌∷◌, ◌++◌, map, length, Option, Some, None, unwrap_or, refl, sym, ap, ap₂, subst, subst₂, arith}
 use Rattle.std.proofs.lemmas.List.{length-map}
 use Rattle.rx_terms.specs.Text.{Chars}
 use Rattle.rx_model.specs.Sets.{Among}
@@ -7,11 +7,12 @@ use Rattle.rx_model.specs.Terms.{Node, Iri, Blank, Term, Resource, Literal, Trip
 use Rattle.rx_model.specs.Numbered.{rename_node, rename_term, rename, blank_of_node, blank_of_term, blanks_of, blanks}
 use Rattle.rx_model.proofs.Sets.{Among_cases}
 use Rattle.rx_rdfa.specs.Blanks.{Bnode, Owner, model}
-use Rattle.rx_rdfa.specs.Tree.{Nodes}
+use Rattle.rx_rdfa.specs.Tree.{Nodes, end, element, text}
 use Rattle.rx_rdfa.specs.Facts.{Facts}
 use Rattle.rx_rdfa.specs.Resources.{Inherited}
 use Rattle.rx_rdfa.specs.Machine.{Machine, enter, read, inherit, begun, finished}
-use Rattle.rx_rdfa.specs.Calls.{Call, Enter, Read, calls, after, line_after, no_line}
+use Rattle.rx_rdfa.specs.Calls.{Call, Enter, Read, Leave, calls, after, Line, move, line_after, no_line}
+use Rattle.rx_rdfa.specs.Lists.{cells}
 use Rattle.rx_rdfa.specs.Made.{made}
 use Rattle.rx_rdfa.specs.Renaming.{rename_inherited, labels}
 use Rattle.rx_rdfa.proofs.Calls.{after-append, frames_at, calls_read}
@@ -22,7 +23,7 @@ use Rattle.rx_eval.specs.States.{State}
 use Rattle.rx_eval.specs.Opened.{handed_on, Opens, begun_state, read_text}
 use Rattle.rx_eval.specs.Numbering.{Numbering, Name, Number, Itself, name_by, named, Numbers}
 use Rattle.rx_eval.specs.Slots.{owner_place}
-use Rattle.rx_eval.specs.Standing.{open_in, Phase, Stands, StandsOn, page_context, no_numbers, number_in, Makes, HandsOn}
+use Rattle.rx_eval.specs.Standing.{Layer, open_in, Runs, Phase, Stands, StandsOn, page_context, no_numbers, number_in, Makes, HandsOn}
 use Rattle.rx_eval.proofs.LayerLemmas.{frames_length, handed_now}
 use Rattle.rx_eval.proofs.LeavesLemmas.{text_read}
 use Rattle.rx_eval.proofs.BeginLemmas.{entered_runs}
@@ -52,6 +53,7 @@ begun_stands base levels = record {
       uncelled = λ o h p i. refl;
       unbegun = λ o h e. refl;
       out = refl;
+      rootless = λ e. refl;
     };
   };
 }
@@ -121,6 +123,19 @@ module _ (to : Numbering) (list : List Call) (state : State) where
   depth_stands s = depth_in state.ended s.phase
 
 -- ---- the end
+
+line_then : (xs ys : List Call) (line : Line) → line_after (xs ++ ys) line ≡ line_after ys (line_after xs line)
+line_then [] ys line = refl
+line_then (x ∷ xs) ys line = line_then xs ys (move x line)
+
+-- a tree's calls leave no element open
+balanced : (nodes : Nodes Facts) (line : Line) → (k : ℕ) × (line_after (calls nodes) line ≡ record { facts = line.facts; path = line.path; next = k })
+balanced end line = (line.next, refl)
+balanced (text chars rest) line = balanced rest line
+balanced (element facts inside rest) line =
+    let a = balanced inside (record { facts = facts ∷ line.facts; path = line.next ∷ line.path; next = 0 }) in
+    let b = balanced rest (record { facts = line.facts; path = line.path; next = suc line.next }) in
+    (b.0, line_then (calls inside) (Leave ∷ calls rest) (move (Enter facts) line) ∙ ap (λ (l : Line). line_after (calls rest) (move Leave l)) a.1 ∙ b.1)
 
 abbrev number_only : Name Bnode → ℕ
 number_only (Number n) = n
@@ -193,15 +208,29 @@ module _ (to : Numbering) where
         one_to_one = λ a b h k q. n.one_to_one a b (number_in to a) (has a h) (has b k ∙ ap Some (sym q));
       }
 
-  finish_in : (state : State) (tree : Nodes Facts) (b : Bool) → b ≡ true → Phase b to (after model state.base (calls tree) begun) state → Makes to state.base tree state.out
-  finish_in state tree false e p = absurd (cc e)
-  finish_in state tree true e p =
-      makes state.base tree state.out state.labels state.drawn state.cells p.numbers
-      (p.out ∙ ap (λ (m : Machine Bnode Owner). map (rename (named to)) (finished model state.base m)) (calls_read state.base tree begun) ∙ ap (map (rename (named to))) (reading_makes state.base tree))
+  -- with no root there are no triples
+  rootless_made : (state : State) (tree : Nodes Facts) → Runs to (after model state.base (calls tree) begun) state → finished model state.base (after model state.base (calls tree) begun) ≡ (after model state.base (calls tree) begun).out
+  unfolding cells
+  rootless_made state tree p = ap (finished model state.base) e ∙ ap (λ (m : Machine Bnode Owner). m.out) (sym e)
+    where
+      none : (ls : List Layer) → length ls ≡ 0 → ls ≡ []
+      none [] q = refl
+      none (l ∷ ls) q = absurd (omega (arith, q))
 
-  -- after the calls for a tree whose root has ended, the triples are the tree's
-  pub finish_makes : (state : State) (tree : Nodes Facts) → Stands to (calls tree) state → state.ended ≡ true → Makes to state.base tree state.out
-  finish_makes state tree s e = finish_in state tree state.ended e s.phase
+      e : after model state.base (calls tree) begun ≡ begun
+      e = p.by.rootless (none p.layers (sym (length-map p.layers (λ l. l.at)) ∙ ap length (sym p.by.standings) ∙ (frames_at model state.base (calls tree)).open_elements ∙ ap (λ (l : Line). length l.facts) (balanced tree no_line).1))
+
+  list_is : (base : Chars) (tree : Nodes Facts) → finished model base (after model base (calls tree) begun) ≡ made model base tree
+  list_is base tree = ap (finished model base) (calls_read base tree begun) ∙ reading_makes base tree
+
+  finish_in : (state : State) (tree : Nodes Facts) (b : Bool) → Phase b to (after model state.base (calls tree) begun) state → Makes to state.base tree state.out
+  finish_in state tree false p =
+      makes state.base tree state.out state.labels state.drawn state.cells p.by.numbers (p.by.out ∙ ap (map (rename (named to))) (sym (rootless_made state tree p) ∙ list_is state.base tree))
+  finish_in state tree true p = makes state.base tree state.out state.labels state.drawn state.cells p.numbers (p.out ∙ ap (map (rename (named to))) (list_is state.base tree))
+
+  -- after the calls for a tree the triples are the tree's
+  pub finish_makes : (state : State) (tree : Nodes Facts) → Stands to (calls tree) state → Makes to state.base tree state.out
+  finish_makes state tree s = finish_in state tree state.ended s.phase
 
 -- ---- as the calls say it
 

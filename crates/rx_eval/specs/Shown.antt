@@ -1,5 +1,5 @@
 -- What an evaluator shows, by the rules, and what it gives at the end.
-use Rattle.std.specs.Prelude.{◌≡◌, ℕ, true, List, map}
+use Rattle.std.specs.Prelude.{◌≡◌, ℕ, List, map}
 use Rattle.rx_terms.specs.Text.{Chars}
 use Rattle.rx_model.specs.Terms.{Triple}
 use Rattle.rx_model.specs.Numbered.{rename_node}
@@ -20,6 +20,6 @@ pub record ShowsAfter (to : Numbering) (base : Chars) (list : List Call) (shown 
   pub object : rename_node Number (node_seen shown.object.now) ≡ rename_node (named to) (context_after base list).object
   pub hanging : waits shown ≡ map wait_by (context_after base list).hanging
 
--- of every tree for whose calls the state stands, once its root has ended, the triples are the list
+-- of every tree for whose calls the state stands the triples are the list
 abbrev pub IsMade : State → List (Triple ℕ) → Type 0
-IsMade state triples = (to : Numbering) (tree : Nodes Facts) → Stands to (calls tree) state → state.ended ≡ true → Makes to state.base tree triples
+IsMade state triples = (to : Numbering) (tree : Nodes Facts) → Stands to (calls tree) state → Makes to state.base tree triples

@@ -133,7 +133,7 @@ AllWaitFor paths (e ∷ slots) = WaitsFor paths e.owner e.item × AllWaitFor pat
 -- ---- the whole
 
 -- the state of an evaluator, before the root's end, is a machine's under the numbering: frames, texts, the lists of open
--- owners, and the triples; what is still to come has no number and no slot
+-- owners, and the triples; what is still to come has no number and no slot; where no element is open, none was
 pub record RunsBy (to : Numbering) (m : Machine Bnode Owner) (state : State) (layers : List Layer) (slots : Slots) : Type 0 where
   pub numbers : Numbers to state.labels state.drawn state.cells
   pub frames : state.frames ≡ frames_in layers
@@ -148,6 +148,7 @@ pub record RunsBy (to : Numbering) (m : Machine Bnode Owner) (state : State) (la
   pub uncelled : (o : Owner) → Pending layers m.path m.next o → (p : Chars) (i : ℕ) → to (Cell o p i) ≡ None
   pub unbegun : (o : Owner) → Pending layers m.path m.next o → owner_place (open_in state.base layers) o ≡ None → of_owner same_owner o slots ≡ []
   pub out : map (rename Number) state.out ≡ map (rename (named to)) m.out
+  pub rootless : layers ≡ [] → m ≡ begun
 
 pub record Runs (to : Numbering) (m : Machine Bnode Owner) (state : State) : Type 0 where
   pub layers : List Layer

@@ -32,6 +32,9 @@ const CELLS: u64 = 1 << 61;
 
 /// The elements of a page that are open, as their start tags, texts and ends come, and the triples so far. After want of
 /// memory the value is spent: every call that takes memory answers it again, and so does [`Eval::finish`].
+///
+/// The value stands for the calls that it has taken, read as the front of a tree, under a numbering of blank nodes that is
+/// one to one and only grows.
 #[derive(Drop)]
 pub struct Eval {
     alloc: Global,
@@ -76,7 +79,8 @@ impl Eval {
         self.frames.as_slice().len() as u32
     }
 
-    /// The context in which a child of the innermost open element would stand.
+    /// The context in which a child of the innermost open element would stand: the rules' own, with the numbers of the
+    /// triples' blank nodes.
     pub fn inherited(&self) -> Inherited<'_>
         ensures frames { Shows result (handed_on self.now.page self.now.frames) }
         ensures stands { (to : Numbering) (list : List Call) → Stands to list self.now → ShowsAfter to self.now.base list result }
@@ -181,7 +185,8 @@ impl Eval {
         Ok(())
     }
 
-    /// The triples of the page, whose root has ended. Takes no memory; want of memory comes exactly from a spent value.
+    /// The triples of the page, whose root has ended: the list that the rules give for the tree of the calls, with its blank
+    /// nodes replaced by their numbers. Takes no memory; want of memory comes exactly from a spent value.
     pub fn finish(self) -> Result<TripleList, NoMemory>
         ensures ok { IfOk result (λ triples. triples_seen triples ≡ self.out) }
         ensures made { IfOk result (λ triples. IsMade self (triples_seen triples)) }

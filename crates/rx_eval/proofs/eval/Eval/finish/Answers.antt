@@ -6,5 +6,5 @@ use Rattle.rx_eval.proofs.StandLemmas.{finish_makes}
 use Rattle.rx_eval.proofs.eval.Eval.finish.Goals as goal
 
 pub returns-clause-made : goal.returns-clause-made
-returns-clause-made c to tree s e =
-    subst (λ (triples : List (Triple ℕ)). Makes to c.args.self.base tree triples) (ap (λ (x : State). x.out) (sym c.self.view_is)) (finish_makes to c.args.self tree s e)
+returns-clause-made c to tree s =
+    subst (λ (triples : List (Triple ℕ)). Makes to c.args.self.base tree triples) (ap (λ (x : State). x.out) (sym c.self.view_is)) (finish_makes to c.args.self tree s)
