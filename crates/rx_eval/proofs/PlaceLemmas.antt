@@ -9,17 +9,12 @@ use Rattle.rx_element.proofs.LabelLemmas.{by_test}
 use Rattle.rx_eval.specs.Listing.{Entries}
 use Rattle.rx_eval.specs.OwnersSeen.{Owning, owning, lists_in, open_seen, list_place, item_count, next_place, places_for, put_at, put_entries, with_item, fill_seen, fill_all}
 use Rattle.rx_eval.specs.Reserving.{ReservedAreFilled}
+use Rattle.rx_eval.specs.Slots.{HasItem, HasPlace}
 
 abbrev Items : Type 0
 Items = Table (Option (Term ℕ))
 
 -- ---- in one table
-
--- there is an item at the place
-abbrev pub Has : ℕ → ℕ → Items → Type 0
-Has l i [] = ⊥
-Has zero i (row ∷ t) = i < length row.1
-Has (suc l) i (row ∷ t) = Has l i t
 
 set_end : {A : Type 0} (xs : List A) (x y : A) → slice_set (xs ++ x ∷ []) (length xs) y ≡ xs ++ y ∷ []
 set_end [] x y = refl
@@ -30,7 +25,7 @@ set_front [] ys i x h = absurd (omega arith)
 set_front (z ∷ xs) ys zero x h = refl
 set_front (z ∷ xs) ys (suc i) x h = ap (λ (l : List _). z ∷ l) (set_front xs ys i x (omega arith))
 
-set_length : {A : Type 0} (xs : List A) (i : ℕ) (x : A) → length (slice_set xs i x) ≡ length xs
+pub set_length : {A : Type 0} (xs : List A) (i : ℕ) (x : A) → length (slice_set xs i x) ≡ length xs
 set_length [] i x = refl
 set_length (z ∷ xs) zero x = refl
 set_length (z ∷ xs) (suc i) x = ap suc (set_length xs i x)
@@ -43,19 +38,19 @@ put_filled p v (row ∷ t) =
     (λ e. rw e (ap (λ (l : Items). row ∷ l) (put_filled p v t)))
 
 -- what was put is there
-has_put : (p : Chars) (x : Option (Term ℕ)) (t : Items) → Has (list_place p t) (item_count p t) (put p (Some x) t)
+has_put : (p : Chars) (x : Option (Term ℕ)) (t : Items) → HasItem (list_place p t) (item_count p t) (put p (Some x) t)
 has_put p x [] = omega arith
 has_put p x (row ∷ t) =
     by_test (bytes_eq row.0 p) (λ e. rw e (let n = length-append row.1 (x ∷ []) in omega (arith, n))) (λ e. rw e (has_put p x t))
 
 -- what is there stays
-has_still : (p : Chars) (item : Option (Option (Term ℕ))) (l i : ℕ) (t : Items) → Has l i t → Has l i (put p item t)
+has_still : (p : Chars) (item : Option (Option (Term ℕ))) (l i : ℕ) (t : Items) → HasItem l i t → HasItem l i (put p item t)
 has_still p item l i [] h = absurd h
 has_still p item zero i (row ∷ t) h =
     by_test (bytes_eq row.0 p) (λ e. rw e (let n = length-append row.1 (option_to_list item) in omega (arith, n, h))) (λ e. rw e h)
 has_still p item (suc l) i (row ∷ t) h = by_test (bytes_eq row.0 p) (λ e. rw e h) (λ e. rw e (has_still p item l i t h))
 
-fill_put : (p : Chars) (item : Option (Option (Term ℕ))) (v : Term ℕ) (l i : ℕ) (t : Items) → Has l i t → with_item l i v (put p item t) ≡ put p item (with_item l i v t)
+fill_put : (p : Chars) (item : Option (Option (Term ℕ))) (v : Term ℕ) (l i : ℕ) (t : Items) → HasItem l i t → with_item l i v (put p item t) ≡ put p item (with_item l i v t)
 fill_put p item v l i [] h = absurd h
 fill_put p item v zero i (row ∷ t) h =
     by_test (bytes_eq row.0 p) (λ e. rw e (ap (λ (s : List (Option (Term ℕ))). (row.0, s) ∷ t) (set_front row.1 (option_to_list item) i (Some v) h))) (λ e. rw e refl)
@@ -76,13 +71,6 @@ same_count p v (suc l) i (row ∷ t) = by_test (bytes_eq row.0 p) (λ e. rw e re
 abbrev Many : Type 0
 Many = List (Option Owning)
 
--- the owner, where it is there, has an item at the place
-abbrev pub HasIn : ℕ → ℕ → ℕ → Many → Type 0
-HasIn n l i [] = Unit {0}
-HasIn zero l i (None ∷ os) = Unit {0}
-HasIn zero l i (Some o ∷ os) = Has l i o.lists
-HasIn (suc n) l i (o ∷ os) = HasIn n l i os
-
 abbrev fill_in : ℕ → ℕ → ℕ → Term ℕ → Many → Many
 fill_in n l i v os = fill_seen l i v os n
 
@@ -99,13 +87,13 @@ filled_at zero p v (None ∷ os) = refl
 filled_at zero p v (Some o ∷ os) = ap (λ (t : Items). Some (owning o.subject t) ∷ os) (put_filled p v o.lists)
 filled_at (suc n) p v (o ∷ os) = ap (λ (l : Many). o ∷ l) (filled_at n p v os)
 
-has_at : (n : ℕ) (p : Chars) (x : Option (Term ℕ)) (os : Many) → HasIn n (list_at n p os) (count_at n p os) (put_at n p (Some x) os)
+pub has_at : (n : ℕ) (p : Chars) (x : Option (Term ℕ)) (os : Many) → HasPlace n (list_at n p os) (count_at n p os) (put_at n p (Some x) os)
 has_at n p x [] = tt
 has_at zero p x (None ∷ os) = tt
 has_at zero p x (Some o ∷ os) = has_put p x o.lists
 has_at (suc n) p x (o ∷ os) = has_at n p x os
 
-still_at : (m : ℕ) (p : Chars) (item : Option (Option (Term ℕ))) (n l i : ℕ) (os : Many) → HasIn n l i os → HasIn n l i (put_at m p item os)
+pub still_at : (m : ℕ) (p : Chars) (item : Option (Option (Term ℕ))) (n l i : ℕ) (os : Many) → HasPlace n l i os → HasPlace n l i (put_at m p item os)
 still_at m p item n l i [] h = tt
 still_at zero p item zero l i (None ∷ os) h = tt
 still_at zero p item zero l i (Some o ∷ os) h = has_still p item l i o.lists h
@@ -114,7 +102,7 @@ still_at (suc m) p item zero l i (None ∷ os) h = tt
 still_at (suc m) p item zero l i (Some o ∷ os) h = h
 still_at (suc m) p item (suc n) l i (o ∷ os) h = still_at m p item n l i os h
 
-fill_past : (m : ℕ) (p : Chars) (item : Option (Option (Term ℕ))) (n l i : ℕ) (v : Term ℕ) (os : Many) → HasIn n l i os → fill_in n l i v (put_at m p item os) ≡ put_at m p item (fill_in n l i v os)
+fill_past : (m : ℕ) (p : Chars) (item : Option (Option (Term ℕ))) (n l i : ℕ) (v : Term ℕ) (os : Many) → HasPlace n l i os → fill_in n l i v (put_at m p item os) ≡ put_at m p item (fill_in n l i v os)
 fill_past m p item n l i v [] h = refl
 fill_past zero p item zero l i v (None ∷ os) h = refl
 fill_past zero p item zero l i v (Some o ∷ os) h = ap (λ (t : Items). Some (owning o.subject t) ∷ os) (fill_put p item v l i o.lists h)
@@ -140,14 +128,14 @@ count_same (suc m) p zero l i v (Some o ∷ os) = refl
 count_same zero p (suc n) l i v (o ∷ os) = refl
 count_same (suc m) p (suc n) l i v (o ∷ os) = count_same m p n l i v os
 
-pub places_same : (m : ℕ) (ps : List Chars) (n l i : ℕ) (v : Term ℕ) (os : Many) → HasIn n l i os → places_for m ps (fill_in n l i v os) ≡ places_for m ps os
+pub places_same : (m : ℕ) (ps : List Chars) (n l i : ℕ) (v : Term ℕ) (os : Many) → HasPlace n l i os → places_for m ps (fill_in n l i v os) ≡ places_for m ps os
 places_same m [] n l i v os h = refl
 places_same m (p ∷ ps) n l i v os h =
     ap₂ (λ (a b : ℕ). record { owner = record { 0 = m }; list = a; place = b } ∷ places_for m ps (put_at m p (Some None) (fill_in n l i v os))) (list_same m p n l i v os) (count_same m p n l i v os)
     ∙ ap (λ (x : List SlotId). next_place m p os ∷ x)
     (ap (places_for m ps) (sym (fill_past m p (Some None) n l i v os h)) ∙ places_same m ps n l i v (put_at m p (Some None) os) (still_at m p (Some None) n l i os h))
 
-pub fill_past_all : (entries : Entries) (n l i : ℕ) (v : Term ℕ) (os : Many) → HasIn n l i os → fill_in n l i v (put_entries entries os) ≡ put_entries entries (fill_in n l i v os)
+pub fill_past_all : (entries : Entries) (n l i : ℕ) (v : Term ℕ) (os : Many) → HasPlace n l i os → fill_in n l i v (put_entries entries os) ≡ put_entries entries (fill_in n l i v os)
 fill_past_all [] n l i v os h = refl
 fill_past_all (e ∷ entries) n l i v os h =
     fill_past_all entries n l i v (put_at e.owner e.predicate e.item os) (still_at e.owner e.predicate e.item n l i os h)

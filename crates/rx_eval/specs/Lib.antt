@@ -14,3 +14,7 @@ pub mod Opened
 pub mod Ending
 pub mod Waits
 pub mod Reserving
+pub mod Numbering
+pub mod Slots
+pub mod Standing
+pub mod Shown

@@ -1,12 +1,16 @@
 //! The stack of contexts.
-ghost use Rattle.std.specs.Prelude.{◌≡◌, ◌<◌, ◌≤◌, ◌^◌, ◌+◌, ◌↔◌, ◌==◌, true, false, [], None, Some, option_map, if◌then◌else◌, length, IfOk, OnOk, OnErr, IsOk, IsErr};
+ghost use Rattle.std.specs.Prelude.{◌≡◌, ◌<◌, ◌≤◌, ◌^◌, ◌+◌, ◌↔◌, ◌==◌, true, false, List, [], ◌∷◌, ◌++◌, None, Some, option_map, if◌then◌else◌, length, IfOk, OnOk, OnErr, IsOk, IsErr};
 ghost use Rattle.std.specs.Str.{chars};
 ghost use Rattle.rx_model.specs.Seen.{triples_seen};
+ghost use Rattle.rx_rdfa.specs.Calls.{Call, Enter, Read, Leave, line_after, no_line};
 ghost use Rattle.rx_rdfa.specs.Renaming.{labels as labels_of};
 ghost use Rattle.rx_curie.specs.Seen.{facts_seen};
 ghost use Rattle.rx_eval.specs.Keeping.{gathers_some, first_of, is_place};
 ghost use Rattle.rx_eval.specs.Opened.{handed_on, Opens, MayOpen, begun_state, read_text};
 ghost use Rattle.rx_eval.specs.Waits.{Shows};
+ghost use Rattle.rx_eval.specs.Numbering.{Numbering};
+ghost use Rattle.rx_eval.specs.Standing.{Stands, StandsOn, no_numbers};
+ghost use Rattle.rx_eval.specs.Shown.{ShowsAfter, IsMade};
 ghost use Rattle.rx_eval.specs.Ending.{Closes};
 ghost use Rattle.rx_eval.specs.States.{owner_seen};
 
@@ -28,6 +32,9 @@ const CELLS: u64 = 1 << 61;
 
 /// The elements of a page that are open, as their start tags, texts and ends come, and the triples so far. After want of
 /// memory the value is spent: every call that takes memory answers it again, and so does [`Eval::finish`].
+///
+/// The value stands for the calls that it has taken, read as the front of a tree, under a numbering of blank nodes that is
+/// one to one and only grows.
 #[derive(Drop)]
 pub struct Eval {
     alloc: Global,
@@ -65,15 +72,18 @@ impl Model for Eval {
 impl Eval {
     /// How many elements are open.
     pub fn depth(&self) -> u32
-        ensures { result ≡ length self.now.frames }
+        ensures frames { result ≡ length self.now.frames }
+        ensures stands { (to : Numbering) (list : List Call) → Stands to list self.now → result ≡ length (line_after list no_line).facts }
     {
         let _levels = self.levels;
         self.frames.as_slice().len() as u32
     }
 
-    /// The context in which a child of the innermost open element would stand.
+    /// The context in which a child of the innermost open element would stand: the rules' own, with the numbers of the
+    /// triples' blank nodes.
     pub fn inherited(&self) -> Inherited<'_>
-        ensures { Shows result (handed_on self.now.page self.now.frames) }
+        ensures frames { Shows result (handed_on self.now.page self.now.frames) }
+        ensures stands { (to : Numbering) (list : List Call) → Stands to list self.now → ShowsAfter to self.now.base list result }
     {
         let context = around(&self.page, self.frames.as_slice());
         Inherited {
@@ -85,7 +95,8 @@ impl Eval {
 
     /// No element, before the root, with the memory for so many levels of frames.
     pub fn new(alloc: Global, base: Iri, levels: u32) -> Result<Eval, NoMemory>
-        ensures { IfOk result (λ eval. eval ≡ begun_state base levels) }
+        ensures ok { IfOk result (λ eval. eval ≡ begun_state base levels) }
+        ensures stands { IfOk result (λ eval. Stands no_numbers [] eval) }
     {
         let page = Shared::new(alloc, Node::Iri(base.try_clone()?))?;
         let mut lists = Lists::new(alloc)?;
@@ -119,6 +130,7 @@ impl Eval {
     pub fn enter(&mut self, facts: &Facts) -> Result<(), NoMemory>
         requires { self.old.spent ≡ false → MayOpen self.old (facts_seen facts.now) }
         ensures ok { OnOk result (Opens self.old (facts_seen facts.now) self.new) }
+        ensures stands { OnOk result ((to : Numbering) (list : List Call) → Stands to list self.old → StandsOn to (list ++ Enter (facts_seen facts.now) ∷ []) self.new) }
         ensures unspent { OnOk result (self.old.spent ≡ false) }
         ensures spent { OnErr result (self.new.spent ≡ true) }
     {
@@ -135,6 +147,7 @@ impl Eval {
     /// Text inside the innermost element. It is kept only while some open element gathers it; else it takes no memory.
     pub fn text(&mut self, text: &str) -> Result<(), NoMemory>
         ensures ok { OnOk result (self.new ≡ read_text (chars text.now) self.old) }
+        ensures stands { OnOk result ((to : Numbering) (list : List Call) → Stands to list self.old → Stands to (list ++ Read (chars text.now) ∷ []) self.new) }
         ensures unspent { OnOk result (self.old.spent ≡ false) }
         ensures spent { OnErr result (self.new.spent ≡ true) }
         ensures quiet { self.old.spent ≡ false → gathers_some self.old.frames ≡ false → IsOk result }
@@ -158,6 +171,7 @@ impl Eval {
     pub fn leave(&mut self) -> Result<(), NoMemory>
         requires { self.old.spent ≡ false → 0 < length self.old.frames }
         ensures ok { OnOk result (Closes self.old self.new) }
+        ensures stands { OnOk result ((to : Numbering) (list : List Call) → Stands to list self.old → StandsOn to (list ++ Leave ∷ []) self.new) }
         ensures unspent { OnOk result (self.old.spent ≡ false) }
         ensures spent { OnErr result (self.new.spent ≡ true) }
     {
@@ -171,9 +185,11 @@ impl Eval {
         Ok(())
     }
 
-    /// The triples of the page, whose root has ended. Takes no memory; want of memory comes exactly from a spent value.
+    /// The triples of the page, whose root has ended: the list that the rules give for the tree of the calls, with its blank
+    /// nodes replaced by their numbers. Takes no memory; want of memory comes exactly from a spent value.
     pub fn finish(self) -> Result<TripleList, NoMemory>
         ensures ok { IfOk result (λ triples. triples_seen triples ≡ self.out) }
+        ensures made { IfOk result (λ triples. IsMade self (triples_seen triples)) }
         ensures spent { IsErr result ↔ (self.spent ≡ true) }
     {
         if self.spent {

@@ -1,0 +1,457 @@
+-- The end of an element.
+use Rattle.std.proofs.Common.{◌≡◌, ◌∙◌, ℕ, suc, ◌<◌, ◌≤◌, ◌⊎◌, inl, inr, Bool, true, false, ◌||◌, ◌==◌, List, [], ◌∷◌, ◌++◌, map, length, Option, Some, None, option_map, bytes_eq, refl, sym, ap, ap₂, subst, subst₂, arith, append-nil, append_assoc, length-append}
+use Rattle.std.specs.Prelude.{IfSome, if◌then◌else◌}
+use Rattle.std.proofs.lemmas.List.{map-append}
+use Rattle.std.proofs.lemmas.Bool.Decides.{Decides-eqb}
+use Rattle.rx_terms.specs.Text.{Chars}
+use Rattle.rx_model.specs.Sets.{Among}
+use Rattle.rx_model.specs.Terms.{Iri, Term, Triple}
+use Rattle.rx_model.specs.Numbered.{rename_term, rename}
+use Rattle.rx_model.proofs.Sets.{false_unless}
+use Rattle.rx_model.proofs.Exact.{exact_texts}
+use Rattle.rx_rdfa.specs.Naming.{Path}
+use Rattle.rx_rdfa.specs.Blanks.{Bnode, Made, Cell, Owner, First, Of, Below, same_owner, model}
+use Rattle.rx_rdfa.specs.Resources.{Inherited, resources}
+use Rattle.rx_rdfa.specs.Inherited.{below, up}
+use Rattle.rx_rdfa.specs.Element.{end_of}
+use Rattle.rx_rdfa.specs.Lists.{Entry, map_entry, of_owner, cells}
+use Rattle.rx_rdfa.specs.Calls.{Call, Leave, after}
+use Rattle.rx_rdfa.specs.Machine.{Slot, Full, Waiting, fill, fill_slot, settle, number, Machine, value_at, left, leave_with, leave, begun}
+use Rattle.rx_rdfa.specs.Renaming.{rename_slot}
+use Rattle.rx_rdfa.proofs.Calls.{after-append}
+use Rattle.rx_rdfa.proofs.Exact.{exact_owners}
+use Rattle.rx_rdfa.proofs.RenamedMachine.{fill_rename}
+use Rattle.rx_element.specs.TextRules.{text_literal}
+use Rattle.rx_element.proofs.LabelLemmas.{by_test}
+use Rattle.rx_eval.specs.States.{Text, Frame, State}
+use Rattle.rx_eval.specs.Keeping.{gathers_some}
+use Rattle.rx_eval.specs.Ending.{Ending, ending, end_owner, say_text, end_frame, TextAt, Closes}
+use Rattle.rx_eval.specs.Numbering.{Numbering, Name, Number, named, Grown}
+use Rattle.rx_eval.specs.Slots.{Slots, owner_place, slot_waits, waits, Fills, FillUp, Within}
+use Rattle.rx_eval.specs.Standing.{Layer, frames_in, paths_in, begun_by, own_in, under_in, open_in, places_of, waiter_of, said_of, KeptAt, LayerStands, LayersStand, Coming, Pending, owner_depth, WaitsFor, AllWaitFor, RunsBy, Runs, IsOver, page_context, Phase, Stands, StandsOn}
+use Rattle.rx_eval.proofs.NameLemmas.{grown_then, node_later}
+use Rattle.rx_eval.proofs.FillLemmas.{within_more, or_false, fill_quiet, of_filled, snoc_last, snoc_front}
+use Rattle.rx_eval.proofs.CellLemmas.{IsFull, AllFull}
+use Rattle.rx_eval.proofs.ComingLemmas.{coming_not}
+use Rattle.rx_eval.proofs.LayerLemmas.{place_none, begun_none, deeper_none, all_within, frames_length, layers_later}
+use Rattle.rx_eval.proofs.OwnersLemmas.{Midway, Ended, owner_ends}
+use Rattle.rx_eval.proofs.LeavesLemmas.{unmarked}
+
+-- ---- slots that wait
+
+waits_renamed : {B C O : Type 0} (f : B → C) (r : Path) (xs : List (Entry O (Slot B))) → waits r (map (map_entry (rename_slot f)) xs) ≡ waits r xs
+waits_renamed f r [] = refl
+waits_renamed f r (x ∷ xs) = ap₂ (λ (a b : Bool). a || b) (item x.item) (waits_renamed f r xs)
+  where
+    item : (i : Option (Slot _)) → slot_waits r (option_map (rename_slot f) i) ≡ slot_waits r i
+    item None = refl
+    item (Some (Full v)) = refl
+    item (Some (Waiting q)) = refl
+
+item_filled : (r : Path) (v : Term ℕ) (i : Option (Slot ℕ)) → slot_waits r (option_map (fill_slot r v) i) ≡ false
+item_filled r v None = refl
+item_filled r v (Some (Full u)) = refl
+item_filled r v (Some (Waiting q)) = by_test (bytes_eq q r) (λ t. rw t refl) (λ f. rw (f, f) refl)
+
+pub filled_quiet : (r : Path) (v : Term ℕ) (xs : Slots) → waits r (fill r v xs) ≡ false
+filled_quiet r v [] = refl
+filled_quiet r v (x ∷ xs) = ap₂ (λ (a b : Bool). a || b) (item_filled r v x.item) (filled_quiet r v xs)
+
+item_waiting : (r : Path) (v : Term ℕ) (paths : List Path) (o : Owner) (i : Option (Slot ℕ)) → WaitsFor paths o i → WaitsFor paths o (option_map (fill_slot r v) i)
+item_waiting r v paths o None h = tt
+item_waiting r v paths o (Some (Full u)) h = tt
+item_waiting r v paths o (Some (Waiting q)) h = by_test (bytes_eq q r) (λ t. rw t tt) (λ f. rw f h)
+
+fill_waiting : (r : Path) (v : Term ℕ) (paths : List Path) (xs : Slots) → AllWaitFor paths xs → AllWaitFor paths (fill r v xs)
+fill_waiting r v paths [] h = tt
+fill_waiting r v paths (x ∷ xs) h = (item_waiting r v paths x.owner x.item h.0, fill_waiting r v paths xs h.1)
+
+-- where none waits for the innermost element, they do for others
+item_lower : (r : Path) (paths : List Path) (o : Owner) (i : Option (Slot ℕ)) → slot_waits r i ≡ false → WaitsFor (r ∷ paths) o i → WaitsFor paths o i
+item_lower r paths o None q h = tt
+item_lower r paths o (Some (Full v)) q h = tt
+item_lower r paths o (Some (Waiting s)) q h = (among h.0, h.1)
+  where
+    among : (r ≡ s) ⊎ Among paths s → Among paths s
+    among (inl e) = absurd (cc (q, (exact_texts s r).1 (sym e)))
+    among (inr a) = a
+
+wait_lower : (r : Path) (paths : List Path) (xs : Slots) → waits r xs ≡ false → AllWaitFor (r ∷ paths) xs → AllWaitFor paths xs
+wait_lower r paths [] q h = tt
+wait_lower r paths (x ∷ xs) q h =
+    let k = or_false (slot_waits r x.item) (waits r xs) q in
+    (item_lower r paths x.owner x.item k.0 h.0, wait_lower r paths xs k.1 h.1)
+
+-- an owner deeper than all elements for which slots wait has none that waits
+all_full : (paths : List Path) (o : Owner) → ((r : Path) → Among paths r → length r < owner_depth o) → (xs : Slots) → AllWaitFor paths xs → AllFull (of_owner same_owner o xs)
+all_full paths o d [] h = tt
+all_full paths o d (x ∷ xs) h =
+    by_test (same_owner x.owner o) (λ t. rw t (item x.item (subst (λ (w : Owner). WaitsFor paths w x.item) ((exact_owners x.owner o).0 t) h.0), all_full paths o d xs h.1))
+    (λ f. rw f (all_full paths o d xs h.1))
+  where
+    item : (i : Option (Slot ℕ)) → WaitsFor paths o i → IsFull i
+    item None k = tt
+    item (Some (Full v)) k = tt
+    item (Some (Waiting r)) k = let a = d r k.0 in let b = k.1 in absurd (omega (arith, a, b))
+
+pub shorter : (to : Numbering) (base kept : Chars) (layers : List Layer) → LayersStand to base kept layers → (r : Path) → Among (paths_in layers) r → length r ≤ length layers
+shorter to base kept [] h r a = absurd a
+shorter to base kept (l ∷ lower) h r (inl e) = let k = h.0.deep in let n = ap length e in omega (arith, k, n)
+shorter to base kept (l ∷ lower) h r (inr a) = let k = shorter to base kept lower h.1 r a in omega (arith, k)
+
+if_given : {A P : Type 0} (o : Option A) → P → IfSome o (λ a. P)
+if_given None p = tt
+if_given (Some a) p = p
+
+pub some_as : {A : Type 0} (P Q : A → Type 0) (o : Option A) → ((a : A) → P a → Q a) → IfSome o P → IfSome o Q
+some_as P Q None f h = tt
+some_as P Q (Some a) f h = f a h
+
+-- ---- the text
+
+record TextEnds (to : Numbering) (base : Chars) (l : Layer) (lower : List Layer) (state : State) (slots : Slots) (names : List (Entry Owner (Slot Bnode))) (out : List (Triple Bnode)) : Type 0 where
+  now : Slots
+  midway : Midway to (open_in base (l ∷ lower)) (map waiter_of lower) state.labels state.drawn (say_text l.frame.text l.text (ending state.out state.owners state.cells)) now
+      (fill l.at.path (value_at model base l.at l.text) names) (out ++ end_of model base l.at l.text)
+  waiting : AllWaitFor (paths_in lower) now
+  still : (o : Owner) → of_owner same_owner o slots ≡ [] → of_owner same_owner o now ≡ []
+
+module _ (to : Numbering) (m : Machine Bnode Owner) (state : State) (l : Layer) (lower : List Layer) (slots : Slots) (r : RunsBy to m state (l ∷ lower) slots) where
+  abbrev v : Term Bnode
+  v = value_at model state.base l.at l.text
+
+  out_said : (t : Option Text) → map (rename Number) (said_of t l.text) ≡ map (rename (named to)) (end_of model state.base l.at l.text)
+      → map (rename Number) (state.out ++ said_of t l.text) ≡ map (rename (named to)) (m.out ++ end_of model state.base l.at l.text)
+  out_said t e = map-append (rename Number) state.out (said_of t l.text) ∙ ap₂ ◌++◌ r.out e ∙ sym (map-append (rename (named to)) m.out (end_of model state.base l.at l.text))
+
+  text_by : (t : Option Text) → l.frame.text ≡ t → map (rename Number) (said_of t l.text) ≡ map (rename (named to)) (end_of model state.base l.at l.text)
+      → IfSome t (λ t. (chars : Chars) → rename_term Number (text_literal t.by chars) ≡ rename_term (named to) (value_at model state.base l.at chars))
+      → Fills l.at.path (places_of t) (λ o s. FillUp (open_in state.base (l ∷ lower)) (map waiter_of lower) o s) state.owners slots
+      → TextEnds to state.base l lower state slots m.slots m.out
+  text_by None e s w f = record {
+    now = slots;
+    midway = subst (λ (t : Option Text). Midway to (open_in state.base (l ∷ lower)) (map waiter_of lower) state.labels state.drawn (say_text t l.text (ending state.out state.owners state.cells)) slots (fill l.at.path v m.slots) (m.out ++ end_of model state.base l.at l.text)) (sym e)
+        (record {
+          numbers = r.numbers;
+          by_names = r.by_names ∙ ap (map (map_entry (rename_slot (named to)))) (sym (fill_quiet l.at.path v m.slots
+              (sym (waits_renamed (named to) l.at.path m.slots) ∙ ap (waits l.at.path) (sym r.by_names) ∙ waits_renamed Number l.at.path slots ∙ f.0)));
+          tables = f.1;
+          written = ap (map (rename Number)) (sym (append-nil state.out)) ∙ out_said None s;
+        });
+    waiting = wait_lower l.at.path (paths_in lower) slots f.0 r.waiting;
+    still = λ o k. k;
+  }
+  text_by (Some t) e s w f =
+      let u : Term ℕ = text_literal t.by l.text in
+      record {
+        now = fill l.at.path u slots;
+        midway = subst (λ (x : Option Text). Midway to (open_in state.base (l ∷ lower)) (map waiter_of lower) state.labels state.drawn (say_text x l.text (ending state.out state.owners state.cells)) (fill l.at.path u slots) (fill l.at.path v m.slots) (m.out ++ end_of model state.base l.at l.text)) (sym e)
+            (record {
+              numbers = r.numbers;
+              by_names = fill_rename Number (λ o. o) l.at.path u slots ∙ ap₂ (λ (x : Term (Name Bnode)) (y : List (Entry Owner (Slot (Name Bnode)))). fill l.at.path x y) (w l.text) r.by_names ∙ sym (fill_rename (named to) (λ o. o) l.at.path v m.slots);
+              tables = f.1 u;
+              written = out_said (Some t) s;
+            });
+        waiting = wait_lower l.at.path (paths_in lower) (fill l.at.path u slots) (filled_quiet l.at.path u slots) (fill_waiting l.at.path u (l.at.path ∷ paths_in lower) slots r.waiting);
+        still = λ o k. of_filled o l.at.path u slots ∙ ap (fill l.at.path u) k;
+      }
+
+  text_ends : TextEnds to state.base l lower state slots m.slots m.out
+  text_ends = text_by l.frame.text refl (r.each.0.said l.text) r.each.0.value r.tables.1
+
+  -- ---- the owners
+
+  abbrev given : LayerStands to state.base state.kept l lower
+  given = r.each.0
+
+  own_pending : Pending (l ∷ lower) m.path m.next (Of l.at.path)
+  own_pending = inr (inl refl)
+
+  under_pending : Pending (l ∷ lower) m.path m.next (Below l.at.path)
+  under_pending = inr (inl refl)
+
+  deeper : (o : Owner) → owner_depth o ≡ length l.at.path → length lower < owner_depth o
+  deeper o e = let k = given.deep in omega (arith, e, k)
+
+  own_none : l.frame.own ≡ None → owner_place (open_in state.base (l ∷ lower)) (Of l.at.path) ≡ None
+  own_none e = place_none (open_in state.base lower ++ own_in l) (under_in l) (Of l.at.path)
+      (place_none (open_in state.base lower) (own_in l) (Of l.at.path) (deeper_none state.base to state.kept lower r.each.1 (Of l.at.path) (deeper (Of l.at.path) refl))
+      (ap (λ (x : Option ℕ). owner_place (begun_by x (Of l.at.path) l.frame.context.subject) (Of l.at.path)) e))
+      (begun_none l.frame.below (Below l.at.path) (Of l.at.path) l.frame.context.object (λ q. absurd (cc q)))
+
+  under_none : l.frame.below ≡ None → owner_place (open_in state.base (l ∷ lower)) (Below l.at.path) ≡ None
+  under_none e = place_none (open_in state.base lower ++ own_in l) (under_in l) (Below l.at.path)
+      (place_none (open_in state.base lower) (own_in l) (Below l.at.path) (deeper_none state.base to state.kept lower r.each.1 (Below l.at.path) (deeper (Below l.at.path) refl))
+      (begun_none l.frame.own (Of l.at.path) (Below l.at.path) l.frame.context.subject (λ q. absurd (cc q))))
+      (ap (λ (x : Option ℕ). owner_place (begun_by x (Below l.at.path) l.frame.context.object) (Below l.at.path)) e)
+
+  lower_shorter : (o : Owner) → owner_depth o ≡ length l.at.path → (q : Path) → Among (paths_in lower) q → length q < owner_depth o
+  lower_shorter o e q a = let k = shorter to state.base state.kept lower r.each.1 q a in let d = given.deep in omega (arith, k, d, e)
+
+  within_lower : Within (length (open_in state.base lower)) (map waiter_of lower)
+  within_lower = all_within state.base to state.kept lower r.each.1
+
+  -- what the text leaves
+  abbrev said : TextEnds to state.base l lower state slots m.slots m.out
+  said = text_ends
+
+  abbrev names : List (Entry Owner (Slot Bnode))
+  names = fill l.at.path v m.slots
+
+  abbrev at_start : Ending
+  at_start = ending state.out state.owners state.cells
+
+  full_at : (o : Owner) → owner_depth o ≡ length l.at.path → AllFull (of_owner same_owner o said.now)
+  full_at o e = all_full (paths_in lower) o (lower_shorter o e) said.now said.waiting
+
+  more_owners : length (open_in state.base lower) ≤ length (open_in state.base lower ++ own_in l)
+  more_owners = let a = length-append (open_in state.base lower) (own_in l) in omega (arith, a)
+
+  under_ends : Ended to (Below l.at.path) (open_in state.base lower ++ own_in l) (map waiter_of lower) state.labels state.drawn (end_owner l.frame.below (say_text l.frame.text l.text at_start)) said.now names
+      ((m.out ++ end_of model state.base l.at l.text) ++ cells model (settle names) (Below l.at.path) (below model state.base l.at).object)
+  under_ends =
+      owner_ends to (Below l.at.path) l.frame.context.object (below model state.base l.at).object (open_in state.base lower ++ own_in l) (map waiter_of lower) state.labels state.drawn
+      (say_text l.frame.text l.text at_start) said.now names (m.out ++ end_of model state.base l.at l.text) l.frame.below given.under (r.uncelled (Below l.at.path) under_pending)
+      (λ e. said.still (Below l.at.path) (r.unbegun (Below l.at.path) under_pending (under_none e))) (full_at (Below l.at.path) refl)
+      (if_given l.frame.below (ap (λ (x : Inherited (Name Bnode) (Name Owner)). x.object) given.context))
+      (within_more (length (open_in state.base lower)) (length (open_in state.base lower ++ own_in l)) (map waiter_of lower) more_owners within_lower) said.midway
+
+  own_ends : Ended under_ends.now (Of l.at.path) (open_in state.base lower) (map waiter_of lower) state.labels state.drawn (end_frame l.frame l.text at_start) said.now names
+      (((m.out ++ end_of model state.base l.at l.text) ++ cells model (settle names) (Below l.at.path) (below model state.base l.at).object) ++ cells model (settle names) (Of l.at.path) (resources model state.base l.at).subject)
+  own_ends =
+      owner_ends under_ends.now (Of l.at.path) l.frame.context.subject (resources model state.base l.at).subject (open_in state.base lower) (map waiter_of lower) state.labels state.drawn
+      (end_owner l.frame.below (say_text l.frame.text l.text at_start)) said.now names
+      ((m.out ++ end_of model state.base l.at l.text) ++ cells model (settle names) (Below l.at.path) (below model state.base l.at).object) l.frame.own given.own
+      (λ p i. under_ends.others (Of l.at.path) (λ e. absurd (cc e)) p i ∙ r.uncelled (Of l.at.path) own_pending p i)
+      (λ e. said.still (Of l.at.path) (r.unbegun (Of l.at.path) own_pending (own_none e))) (full_at (Of l.at.path) refl)
+      (some_as _ _ l.frame.own (λ n e. node_later to under_ends.now under_ends.grown l.frame.context.subject (resources model state.base l.at).subject e) given.subject)
+      within_lower under_ends.midway
+
+  -- the machine when the element is left
+  abbrev after_it : Machine Bnode Owner
+  after_it = left model state.base l.at (map (λ x. x.at) lower) l.text (map (λ x. x.text) lower) m.slots m.out
+
+  left_is : leave model state.base m ≡ after_it
+  left_is = ap₂ (leave_with model state.base m) r.standings r.texts
+
+  record BothEnd : Type 0 where
+    now : Numbering
+    grown : Grown to now
+    made : (q : Path) → now (Made q) ≡ to (Made q)
+    others : (w : Owner) → ¬ (w ≡ Below l.at.path) → ¬ (w ≡ Of l.at.path) → (p : Chars) (i : ℕ) → now (Cell w p i) ≡ to (Cell w p i)
+    midway : Midway now (open_in state.base lower) (map waiter_of lower) state.labels state.drawn (end_frame l.frame l.text at_start) said.now names after_it.out
+
+  in_row : (a b c d : List (Triple Bnode)) → ((a ++ b) ++ c) ++ d ≡ a ++ (b ++ (c ++ d))
+  in_row a b c d = simp append_assoc
+
+  both_end : BothEnd
+  both_end = record {
+    now = own_ends.now;
+    grown = grown_then to under_ends.now own_ends.now under_ends.grown own_ends.grown;
+    made = λ q. own_ends.made q ∙ under_ends.made q;
+    others = λ w b o p i. own_ends.others w o p i ∙ under_ends.others w b p i;
+    midway = subst (λ (x : List (Triple Bnode)). Midway own_ends.now (open_in state.base lower) (map waiter_of lower) state.labels state.drawn (end_frame l.frame l.text at_start) said.now names x)
+        (in_row m.out (end_of model state.base l.at l.text) (cells model (settle names) (Below l.at.path) (below model state.base l.at).object) (cells model (settle names) (Of l.at.path) (resources model state.base l.at).subject))
+        own_ends.midway;
+  }
+
+  -- ---- what is still to come
+
+  path_parts : (p : Path) (k : ℕ) → length p ≡ suc k → p ≡ number p ∷ up p
+  path_parts [] k e = absurd (omega (arith, e))
+  path_parts (i ∷ p) k e = refl
+
+  path_is : l.at.path ≡ number l.at.path ∷ up l.at.path
+  path_is = path_parts l.at.path (length lower) given.deep
+
+  abbrev Next : Path → Type 0
+  Next q = Coming (up l.at.path) (suc (number l.at.path)) q
+
+  coming_before : (q : Path) → Next q → Coming m.path m.next q
+  coming_before q c = subst (λ (z : Path). Coming z m.next q) (sym (r.path ∙ path_is)) (inr c)
+
+  not_itself : (q : Path) → Next q ⊎ Among (paths_in lower) q → ¬ (q ≡ l.at.path)
+  not_itself q (inl c) e = coming_not (up l.at.path) (number l.at.path) q c [] (e ∙ path_is)
+  not_itself q (inr a) e = let k = shorter to state.base state.kept lower r.each.1 q a in let d = given.deep in let n = ap length e in omega (arith, k, d, n)
+
+  abbrev Left : Owner → Type 0
+  Left o = Pending lower (up l.at.path) (suc (number l.at.path)) o
+
+  pending_before : (o : Owner) → Left o → Pending (l ∷ lower) m.path m.next o
+  pending_before First h = tt
+  pending_before (Of q) (inl c) = inl (coming_before q c)
+  pending_before (Of q) (inr a) = inr (inr a)
+  pending_before (Below q) (inl c) = inl (coming_before q c)
+  pending_before (Below q) (inr a) = inr (inr a)
+
+  not_own : (o : Owner) → Left o → ¬ (o ≡ Of l.at.path)
+  not_own First h e = absurd (cc e)
+  not_own (Of q) h e = not_itself q h (cc e)
+  not_own (Below q) h e = absurd (cc e)
+
+  not_under : (o : Owner) → Left o → ¬ (o ≡ Below l.at.path)
+  not_under First h e = absurd (cc e)
+  not_under (Of q) h e = absurd (cc e)
+  not_under (Below q) h e = not_itself q h (cc e)
+
+  still_unbegun : (o : Owner) → Left o → owner_place (open_in state.base lower) o ≡ None → of_owner same_owner o said.now ≡ []
+  still_unbegun o h e =
+      said.still o (r.unbegun o (pending_before o h)
+      (place_none (open_in state.base lower ++ own_in l) (under_in l) o
+      (place_none (open_in state.base lower) (own_in l) o e (begun_none l.frame.own (Of l.at.path) o l.frame.context.subject (λ q. not_own o h (sym q))))
+      (begun_none l.frame.below (Below l.at.path) o l.frame.context.object (λ q. not_under o h (sym q)))))
+
+  -- ---- the state after it
+
+  each_kept : (kept : Chars) (b : Bool) → gathers_some (frames_in lower) ≡ b → kept ≡ (if gathers_some (frames_in lower) then state.kept else []) → LayersStand both_end.now state.base kept lower
+  each_kept kept true e k =
+      subst (λ (x : Chars). LayersStand both_end.now state.base x lower) (sym (k ∙ ap (λ (b : Bool). if b then state.kept else []) e)) (layers_later to both_end.now both_end.grown state.base state.kept lower r.each.1)
+  each_kept kept false e k = unmarked both_end.now state.base state.kept kept lower e (layers_later to both_end.now both_end.grown state.base state.kept lower r.each.1)
+
+  module _ (new : State) (c : Closes state new) where
+    frames_are : new.frames ≡ frames_in lower
+    frames_are = snoc_front new.frames (frames_in lower) c.frame l.frame (sym c.popped ∙ r.frames)
+
+    frame_is : c.frame ≡ l.frame
+    frame_is = snoc_last new.frames (frames_in lower) c.frame l.frame (sym c.popped ∙ r.frames)
+
+    text_at : (t : Option Text) → IfSome t (λ t. KeptAt state.kept t.mark l.text) → (front : Chars) × TextAt t state.kept front l.text
+    text_at None k = ([], tt)
+    text_at (Some t) k = (k.front, k.cut)
+
+    ends_as : ending new.out new.owners new.cells ≡ end_owner (if length (frames_in lower) == 0 then Some state.page.owner else None) (end_frame l.frame l.text at_start)
+    ends_as =
+        let t = text_at l.frame.text given.marked in
+        c.endings t.0 l.text (subst (λ (f : Frame). TextAt f.text state.kept t.0 l.text) (sym frame_is) t.1)
+        ∙ ap₂ (λ (n : List Frame) (f : Frame). end_owner (if length n == 0 then Some state.page.owner else None) (end_frame f l.text at_start)) frames_are frame_is
+
+    abbrev state_with : Ending → State
+    state_with e = record {
+      base = state.base;
+      levels = new.levels;
+      page = new.page;
+      frames = frames_in lower;
+      labels = state.labels;
+      drawn = state.drawn;
+      cells = e.cells;
+      owners = e.owners;
+      kept = new.kept;
+      out = e.out;
+      ended = new.ended;
+      spent = new.spent;
+    }
+
+    state_is : (e : Ending) → ending new.out new.owners new.cells ≡ e → state_with e ≡ new
+    state_is e q = λ i. record {
+      base = sym c.rest.0 i;
+      levels = new.levels;
+      page = new.page;
+      frames = sym frames_are i;
+      labels = sym c.rest.3 i;
+      drawn = sym c.rest.4 i;
+      cells = sym (ap (λ (x : Ending). x.cells) q) i;
+      owners = sym (ap (λ (x : Ending). x.owners) q) i;
+      kept = new.kept;
+      out = sym (ap (λ (x : Ending). x.out) q) i;
+      ended = new.ended;
+      spent = new.spent;
+    }
+
+    kept_is : new.kept ≡ (if gathers_some (frames_in lower) then state.kept else [])
+    kept_is = c.kept ∙ ap (λ (f : List Frame). if gathers_some f then state.kept else []) frames_are
+
+    runs_on : ¬ (lower ≡ []) → ending new.out new.owners new.cells ≡ end_frame l.frame l.text at_start → Runs both_end.now after_it new
+    runs_on more q = record {
+      layers = lower;
+      slots = said.now;
+      by = subst (λ (s : State). RunsBy both_end.now after_it s lower said.now) (state_is (end_frame l.frame l.text at_start) q) (record {
+        numbers = both_end.midway.numbers;
+        frames = refl;
+        standings = refl;
+        texts = refl;
+        path = given.inside;
+        each = each_kept new.kept (gathers_some (frames_in lower)) refl kept_is;
+        by_names = both_end.midway.by_names;
+        tables = both_end.midway.tables;
+        waiting = said.waiting;
+        unmade = λ q c. both_end.made q ∙ r.unmade q (coming_before q c);
+        uncelled = λ o h p i. both_end.others o (not_under o h) (not_own o h) p i ∙ r.uncelled o (pending_before o h) p i;
+        unbegun = still_unbegun;
+        out = both_end.midway.written;
+        rootless = λ e. absurd (more e);
+      });
+    }
+
+    -- at the root's end the page's own owner ends too
+    module _ (root : lower ≡ []) (page : state.page ≡ page_context state.base) where
+      root_ends : Midway both_end.now ([] ++ begun_by (Some 0) First (Iri state.base)) [] state.labels state.drawn (end_frame l.frame l.text at_start) said.now names after_it.out
+      root_ends = subst (λ (x : List Layer). Midway both_end.now (open_in state.base x) (map waiter_of x) state.labels state.drawn (end_frame l.frame l.text at_start) said.now names after_it.out) root both_end.midway
+
+      page_ends : Ended both_end.now First [] [] state.labels state.drawn (end_owner (Some 0) (end_frame l.frame l.text at_start)) said.now names (after_it.out ++ cells model (settle names) First (Iri state.base))
+      page_ends =
+          owner_ends both_end.now First (Iri state.base) (Iri state.base) [] [] state.labels state.drawn (end_frame l.frame l.text at_start) said.now names after_it.out (Some 0) refl
+          (λ p i. both_end.others First (λ e. absurd (cc e)) (λ e. absurd (cc e)) p i ∙ r.uncelled First tt p i) (λ e. absurd (cc e))
+          (all_full (paths_in lower) First (λ q a. absurd (subst (λ (x : List Layer). Among (paths_in x) q) root a)) said.now said.waiting) refl tt root_ends
+
+      root_as : ending new.out new.owners new.cells ≡ end_owner (Some 0) (end_frame l.frame l.text at_start)
+      root_as = ends_as ∙ ap₂ (λ (x : List Layer) (p : Inherited ℕ ℕ). end_owner (if length (frames_in x) == 0 then Some p.owner else None) (end_frame l.frame l.text at_start)) root page
+
+      over_now : IsOver page_ends.now after_it new
+      over_now = subst (λ (s : State). IsOver page_ends.now after_it s) (state_is (end_owner (Some 0) (end_frame l.frame l.text at_start)) root_as) (record {
+        numbers = page_ends.midway.numbers;
+        frames = ap frames_in root;
+        standings = ap (map (λ x. x.at)) root;
+        texts = ap (map (λ x. x.text)) root;
+        out = page_ends.midway.written;
+      })
+
+-- ---- the call
+
+module _ (to : Numbering) (list : List Call) (state new : State) (c : Closes state new) (page : state.page ≡ page_context state.base) where
+  abbrev before : Machine Bnode Owner
+  before = after model state.base list begun
+
+  calls_more : after model new.base (list ++ Leave ∷ []) begun ≡ leave model state.base before
+  calls_more = ap (λ (b : Chars). after model b (list ++ Leave ∷ []) begun) c.rest.0 ∙ after-append model state.base list (Leave ∷ []) begun
+
+  page_kept : new.page ≡ page_context new.base
+  page_kept = c.rest.2 ∙ page ∙ ap page_context (sym c.rest.0)
+
+  stands_on : (now : Numbering) (m : Machine Bnode Owner) (b : Bool) → Grown to now → leave model state.base before ≡ m → new.ended ≡ b → Phase b now m new → StandsOn to (list ++ Leave ∷ []) new
+  stands_on now m b g e q p = record {
+    now = now;
+    grown = g;
+    stands = record {
+      page = page_kept;
+      phase = subst₂ (λ (x : Bool) (y : Machine Bnode Owner). Phase x now y new) (sym q) (sym (calls_more ∙ e)) p;
+    };
+  }
+
+  not_empty : (xs : List Frame) (x : Frame) → ¬ (xs ++ x ∷ [] ≡ [])
+  not_empty [] x e = absurd (cc e)
+  not_empty (y ∷ xs) x e = absurd (cc e)
+
+  some_open : (k : Layer) (lower : List Layer) → (length (frames_in (k ∷ lower)) == 0) ≡ false
+  some_open k lower = false_unless (length (frames_in (k ∷ lower)) == 0) (λ t. let e = (Decides-eqb (length (frames_in (k ∷ lower))) 0).0 t in let n = frames_length (k ∷ lower) in omega (arith, e, n))
+
+  left_by : (layers : List Layer) (slots : Slots) → state.ended ≡ false → RunsBy to before state layers slots → StandsOn to (list ++ Leave ∷ []) new
+  left_by [] slots f r = absurd (not_empty new.frames c.frame (sym c.popped ∙ r.frames))
+  left_by (l ∷ []) slots f r =
+      let o = page_ends to before state l [] slots r new c refl page in
+      stands_on o.now (after_it to before state l [] slots r) true (grown_then to (both_end to before state l [] slots r).now o.now (both_end to before state l [] slots r).grown o.grown)
+      (left_is to before state l [] slots r) (c.ended ∙ ap (λ (x : List Frame). if length x == 0 then true else state.ended) (frames_are to before state l [] slots r new c)) (over_now to before state l [] slots r new c refl page)
+  left_by (l ∷ k ∷ lower) slots f r =
+      stands_on (both_end to before state l (k ∷ lower) slots r).now (after_it to before state l (k ∷ lower) slots r) false (both_end to before state l (k ∷ lower) slots r).grown
+      (left_is to before state l (k ∷ lower) slots r) (c.ended ∙ ap (λ (x : List Frame). if length x == 0 then true else state.ended) frames ∙ ap (λ (b : Bool). if b then true else state.ended) (some_open k lower) ∙ f)
+      (runs_on to before state l (k ∷ lower) slots r new c (λ e. absurd (cc e)) (ends_as to before state l (k ∷ lower) slots r new c
+      ∙ ap (λ (b : Bool). end_owner (if b then Some state.page.owner else None) (end_frame l.frame l.text (ending state.out state.owners state.cells))) (some_open k lower)))
+    where
+      frames : new.frames ≡ frames_in (k ∷ lower)
+      frames = frames_are to before state l (k ∷ lower) slots r new c
+
+  left_in : (b : Bool) → state.ended ≡ b → Phase b to before state → StandsOn to (list ++ Leave ∷ []) new
+  left_in true e p = absurd (not_empty new.frames c.frame (sym c.popped ∙ p.frames))
+  left_in false e p = left_by p.layers p.slots e p.by
+
+pub left_stands : (to : Numbering) (list : List Call) (state new : State) → Closes state new → Stands to list state → StandsOn to (list ++ Leave ∷ []) new
+left_stands to list state new c s = left_in to list state new c s.page state.ended refl s.phase

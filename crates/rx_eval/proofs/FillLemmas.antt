@@ -1,0 +1,232 @@
+-- Places are filled at the ends of elements: what becomes of that when slots are put, and owners begin and end.
+use Rattle.std.proofs.Common.{◌≡◌, ◌∙◌, ℕ, zero, suc, ◌<◌, ◌≤◌, Bool, true, false, ◌||◌, List, [], ◌∷◌, ◌++◌, map, length, Option, Some, None, option_map, refl, sym, ap, ap₂, subst, subst₂, arith}
+use Rattle.std.proofs.lemmas.List.{map-append}
+use Rattle.rx_model.specs.Terms.{Node, Term}
+use Rattle.rx_rdfa.specs.Naming.{Path}
+use Rattle.rx_rdfa.specs.Blanks.{Owner, same_owner}
+use Rattle.rx_rdfa.specs.Lists.{Entry, map_entry, of_owner}
+use Rattle.rx_rdfa.specs.Machine.{Slot, Full, Waiting, fill, fill_slot}
+use Rattle.rx_rdfa.specs.Tables.{Table, table_from}
+use Rattle.rx_lists.specs.declared.lists.SlotId.{SlotId}
+use Rattle.rx_element.proofs.LabelLemmas.{by_test}
+use Rattle.rx_eval.specs.OwnersSeen.{Owning, owning, put_entries, with_item, fill_seen, fill_all}
+use Rattle.rx_eval.specs.Slots.{Slots, Open, owner_place, item_of, table_in, owners_of, slot_waits, waits, HasItem, HasPlace, HasPlaces, Waiter, Fills, FillUp, Apart, WithinPlaces, WithinOption, Within}
+use Rattle.rx_eval.proofs.PlaceLemmas.{set_length, still_at, fill_past_all}
+use Rattle.rx_eval.proofs.ListLemmas.{Puts, Match, put_all}
+
+abbrev Many : Type 0
+Many = List (Option Owning)
+
+-- ---- slots that are filled
+
+pub or_false : (a b : Bool) → (a || b) ≡ false → (a ≡ false) × (b ≡ false)
+or_false true b h = absurd (cc)
+or_false false b h = (refl, h)
+
+pub waits_both : {B O : Type 0} (r : Path) (xs ys : List (Entry O (Slot B))) → waits r xs ≡ false → waits r ys ≡ false → waits r (xs ++ ys) ≡ false
+waits_both r [] ys h k = k
+waits_both r (x ∷ xs) ys h k =
+    let q = or_false (slot_waits r x.item) (waits r xs) h in
+    ap₂ (λ (a b : Bool). a || b) q.0 (waits_both r xs ys q.1 k)
+
+item_quiet : {B : Type 0} (r : Path) (v : Term B) (item : Option (Slot B)) → slot_waits r item ≡ false → option_map (fill_slot r v) item ≡ item
+item_quiet r v None h = refl
+item_quiet r v (Some (Full u)) h = refl
+item_quiet r v (Some (Waiting q)) h = rw h refl
+
+pub fill_quiet : {B O : Type 0} (r : Path) (v : Term B) (xs : List (Entry O (Slot B))) → waits r xs ≡ false → fill r v xs ≡ xs
+fill_quiet r v [] h = refl
+fill_quiet r v (x ∷ xs) h =
+    let q = or_false (slot_waits r x.item) (waits r xs) h in
+    λ i. record { owner = x.owner; predicate = x.predicate; item = item_quiet r v x.item q.0 i } ∷ fill_quiet r v xs q.1 i
+
+pub of_filled : {B : Type 0} (o : Owner) (r : Path) (v : Term B) (xs : List (Entry Owner (Slot B))) → of_owner same_owner o (fill r v xs) ≡ fill r v (of_owner same_owner o xs)
+of_filled o r v [] = refl
+of_filled o r v (x ∷ xs) =
+    by_test (same_owner x.owner o)
+    (λ t. rw t (ap (λ (l : List (Entry Owner (Slot _))). map_entry (fill_slot r v) x ∷ l) (of_filled o r v xs)))
+    (λ f. rw f (of_filled o r v xs))
+
+none_filled : (o : Owner) (r : Path) (v : Term ℕ) (xs : Slots) → of_owner same_owner o xs ≡ [] → of_owner same_owner o (fill r v xs) ≡ []
+none_filled o r v xs h = of_filled o r v xs ∙ ap (fill r v) h
+
+-- ---- places
+
+item_filled : (m j : ℕ) (v : Term ℕ) (l i : ℕ) (t : Table (Option (Term ℕ))) → HasItem l i t → HasItem l i (with_item m j v t)
+item_filled m j v l i [] h = absurd h
+item_filled zero j v zero i (row ∷ t) h = let n = set_length row.1 j (Some v) in omega (arith, n, h)
+item_filled zero j v (suc l) i (row ∷ t) h = h
+item_filled (suc m) j v zero i (row ∷ t) h = h
+item_filled (suc m) j v (suc l) i (row ∷ t) h = item_filled m j v l i t h
+
+place_filled : (w m j : ℕ) (v : Term ℕ) (n l i : ℕ) (os : Many) → HasPlace n l i os → HasPlace n l i (fill_seen m j v os w)
+place_filled w m j v n l i [] h = tt
+place_filled zero m j v zero l i (None ∷ os) h = tt
+place_filled zero m j v zero l i (Some o ∷ os) h = item_filled m j v l i o.lists h
+place_filled zero m j v (suc n) l i (o ∷ os) h = h
+place_filled (suc w) m j v zero l i (None ∷ os) h = tt
+place_filled (suc w) m j v zero l i (Some o ∷ os) h = h
+place_filled (suc w) m j v (suc n) l i (o ∷ os) h = place_filled w m j v n l i os h
+
+places_filled : (w m j : ℕ) (v : Term ℕ) (slots : List SlotId) (os : Many) → HasPlaces slots os → HasPlaces slots (fill_seen m j v os w)
+places_filled w m j v [] os h = tt
+places_filled w m j v (s ∷ slots) os h = (place_filled w m j v s.owner.0 s.list s.place os h.0, places_filled w m j v slots os h.1)
+
+place_put : (xs : Puts) (n l i : ℕ) (os : Many) → HasPlace n l i os → HasPlace n l i (put_entries xs os)
+place_put [] n l i os h = h
+place_put (x ∷ xs) n l i os h = place_put xs n l i _ (still_at x.owner x.predicate x.item n l i os h)
+
+pub places_put : (xs : Puts) (slots : List SlotId) (os : Many) → HasPlaces slots os → HasPlaces slots (put_entries xs os)
+places_put xs [] os h = tt
+places_put xs (s ∷ slots) os h = (place_put xs s.owner.0 s.list s.place os h.0, places_put xs slots os h.1)
+
+pub fill_put : (slots : List SlotId) (v : Term ℕ) (xs : Puts) (os : Many) → HasPlaces slots os → fill_all slots v (put_entries xs os) ≡ put_entries xs (fill_all slots v os)
+fill_put [] v xs os h = refl
+fill_put (s ∷ slots) v xs os h =
+    ap (fill_all slots v) (fill_past_all xs s.owner.0 s.list s.place v os h.0)
+    ∙ fill_put slots v xs (fill_seen s.list s.place v os s.owner.0) (places_filled s.owner.0 s.list s.place v slots os h.1)
+
+-- ---- slots are put
+
+abbrev pub NoneWaits : List Waiter → Slots → Type 0
+NoneWaits [] ys = Unit {0}
+NoneWaits (w ∷ waiters) ys = (waits w.path ys ≡ false) × NoneWaits waiters ys
+
+pub put_fill_up : (open_owners : Open) → Apart open_owners → (xs : Puts) (ys : Slots) → Match (owner_place open_owners) xs ys → (waiters : List Waiter) → NoneWaits waiters ys
+    → (owners : Many) (slots : Slots) → FillUp open_owners waiters owners slots → FillUp open_owners waiters (put_entries xs owners) (slots ++ ys)
+put_fill_up open_owners a xs ys m [] n owners slots h = ap (put_entries xs) h ∙ put_all open_owners a xs ys slots m
+put_fill_up open_owners a xs ys m (w ∷ waiters) n owners slots h =
+    (ap (put_entries xs) h.0 ∙ put_all open_owners a xs ys slots m, fills w.places h.1 (λ os ss k. put_fill_up open_owners a xs ys m waiters n.1 os ss k))
+  where
+    fills : (places : Option (List SlotId)) → Fills w.path places (λ o s. FillUp open_owners waiters o s) owners slots
+        → ((os : Many) (ss : Slots) → FillUp open_owners waiters os ss → FillUp open_owners waiters (put_entries xs os) (ss ++ ys))
+        → Fills w.path places (λ o s. FillUp open_owners waiters o s) (put_entries xs owners) (slots ++ ys)
+    fills None k more = (waits_both w.path slots ys k.0 n.0, more owners slots k.1)
+    fills (Some places) k more = (
+      places_put xs places owners k.0,
+      λ v. subst₂ (λ (o : Many) (s : Slots). FillUp open_owners waiters o s) (sym (fill_put places v xs owners k.0))
+          (sym (map-append (map_entry (fill_slot w.path v)) slots ys ∙ ap (λ (l : Slots). fill w.path v slots ++ l) (fill_quiet w.path v ys n.0)))
+          (more (fill_all places v owners) (fill w.path v slots) (k.1 v)),
+    )
+
+-- ---- an owner begins, or the last one ends
+
+pub owners_more : (slots : Slots) (open_owners : Open) (o : Owner) (s : Node ℕ) → owners_of slots (open_owners ++ (o, s) ∷ []) ≡ owners_of slots open_owners ++ Some (owning s (table_in slots o)) ∷ []
+owners_more slots [] o s = refl
+owners_more slots (one ∷ more) o s = ap (λ (l : Many). Some (owning one.1 (table_in slots one.0)) ∷ l) (owners_more slots more o s)
+
+pub empty_table : (slots : Slots) (o : Owner) → of_owner same_owner o slots ≡ [] → table_in slots o ≡ []
+empty_table slots o h = ap (λ (l : Slots). table_from [] (map (map_entry item_of) l)) h
+
+fill_length : (l i : ℕ) (v : Term ℕ) (os : Many) (n : ℕ) → length (fill_seen l i v os n) ≡ length os
+fill_length l i v os n = set_length os n _
+
+pub fill_all_length : (slots : List SlotId) (v : Term ℕ) (os : Many) → length (fill_all slots v os) ≡ length os
+fill_all_length [] v os = refl
+fill_all_length (s ∷ slots) v os = fill_all_length slots v (fill_seen s.list s.place v os s.owner.0) ∙ fill_length s.list s.place v os s.owner.0
+
+fill_front : (n l i : ℕ) (v : Term ℕ) (os : Many) (x : Option Owning) → n < length os → fill_seen l i v (os ++ x ∷ []) n ≡ fill_seen l i v os n ++ x ∷ []
+fill_front n l i v [] x h = absurd (omega arith)
+fill_front zero l i v (o ∷ os) x h = refl
+fill_front (suc n) l i v (o ∷ os) x h = ap (λ (m : Many). o ∷ m) (fill_front n l i v os x (omega arith))
+
+within_length : (k m : ℕ) (slots : List SlotId) → k ≤ m → WithinPlaces k slots → WithinPlaces m slots
+within_length k m [] e h = tt
+within_length k m (s ∷ slots) e h = (omega (arith, e, h.0), within_length k m slots e h.1)
+
+pub within_more : (k m : ℕ) (waiters : List Waiter) → k ≤ m → Within k waiters → Within m waiters
+within_more k m [] e h = tt
+within_more k m (w ∷ waiters) e h = (option w.places h.0, within_more k m waiters e h.1)
+  where
+    option : (places : Option (List SlotId)) → WithinOption k places → WithinOption m places
+    option None g = tt
+    option (Some places) g = within_length k m places e g
+
+same_count : (n m : ℕ) → n ≡ m → n ≤ m
+same_count n m e = omega (arith, e)
+
+fills_front : (slots : List SlotId) (v : Term ℕ) (os : Many) (x : Option Owning) → WithinPlaces (length os) slots → fill_all slots v (os ++ x ∷ []) ≡ fill_all slots v os ++ x ∷ []
+fills_front [] v os x h = refl
+fills_front (s ∷ slots) v os x h =
+    ap (fill_all slots v) (fill_front s.owner.0 s.list s.place v os x h.0)
+    ∙ fills_front slots v (fill_seen s.list s.place v os s.owner.0) x
+    (within_length (length os) (length (fill_seen s.list s.place v os s.owner.0)) slots (same_count _ _ (sym (fill_length s.list s.place v os s.owner.0))) h.1)
+
+place_front : (n l i : ℕ) (os : Many) (x : Option Owning) → n < length os → HasPlace n l i os → HasPlace n l i (os ++ x ∷ [])
+place_front n l i [] x b h = absurd (omega arith)
+place_front zero l i (None ∷ os) x b h = tt
+place_front zero l i (Some o ∷ os) x b h = h
+place_front (suc n) l i (o ∷ os) x b h = place_front n l i os x (omega arith) h
+
+place_back : (n l i : ℕ) (os : Many) (x : Option Owning) → n < length os → HasPlace n l i (os ++ x ∷ []) → HasPlace n l i os
+place_back n l i [] x b h = tt
+place_back zero l i (None ∷ os) x b h = tt
+place_back zero l i (Some o ∷ os) x b h = h
+place_back (suc n) l i (o ∷ os) x b h = place_back n l i os x (omega arith) h
+
+places_front : (slots : List SlotId) (os : Many) (x : Option Owning) → WithinPlaces (length os) slots → HasPlaces slots os → HasPlaces slots (os ++ x ∷ [])
+places_front [] os x b h = tt
+places_front (s ∷ slots) os x b h = (place_front s.owner.0 s.list s.place os x b.0 h.0, places_front slots os x b.1 h.1)
+
+places_back : (slots : List SlotId) (os : Many) (x : Option Owning) → WithinPlaces (length os) slots → HasPlaces slots (os ++ x ∷ []) → HasPlaces slots os
+places_back [] os x b h = tt
+places_back (s ∷ slots) os x b h = (place_back s.owner.0 s.list s.place os x b.0 h.0, places_back slots os x b.1 h.1)
+
+pub snoc_front : {A : Type 0} (xs ys : List A) (x y : A) → xs ++ x ∷ [] ≡ ys ++ y ∷ [] → xs ≡ ys
+snoc_front [] [] x y e = refl
+snoc_front [] (z ∷ []) x y e = absurd (cc)
+snoc_front [] (z ∷ w ∷ ys) x y e = absurd (cc)
+snoc_front (z ∷ []) [] x y e = absurd (cc)
+snoc_front (z ∷ w ∷ xs) [] x y e = absurd (cc)
+snoc_front (z ∷ xs) (w ∷ ys) x y e = let h : z ≡ w = cc in let t : xs ++ x ∷ [] ≡ ys ++ y ∷ [] = cc in ap₂ ◌∷◌ h (snoc_front xs ys x y t)
+
+pub snoc_last : {A : Type 0} (xs ys : List A) (x y : A) → xs ++ x ∷ [] ≡ ys ++ y ∷ [] → x ≡ y
+snoc_last [] [] x y e = cc
+snoc_last [] (z ∷ []) x y e = absurd (cc)
+snoc_last [] (z ∷ w ∷ ys) x y e = absurd (cc)
+snoc_last (z ∷ []) [] x y e = absurd (cc)
+snoc_last (z ∷ w ∷ xs) [] x y e = absurd (cc)
+snoc_last (z ∷ xs) (w ∷ ys) x y e = let t : xs ++ x ∷ [] ≡ ys ++ y ∷ [] = cc in snoc_last xs ys x y t
+
+module _ (open_owners : Open) (o : Owner) (s : Node ℕ) where
+  begin_owners : (owners : Many) (slots : Slots) → of_owner same_owner o slots ≡ [] → owners ≡ owners_of slots open_owners → owners ++ Some (owning s []) ∷ [] ≡ owners_of slots (open_owners ++ (o, s) ∷ [])
+  begin_owners owners slots e h =
+      ap₂ (λ (l : Many) (t : Table (Option (Term ℕ))). l ++ Some (owning s t) ∷ []) h (sym (empty_table slots o e)) ∙ sym (owners_more slots open_owners o s)
+
+  pub begin_fill_up : (waiters : List Waiter) (owners : Many) (slots : Slots) → of_owner same_owner o slots ≡ [] → Within (length owners) waiters → FillUp open_owners waiters owners slots
+      → FillUp (open_owners ++ (o, s) ∷ []) waiters (owners ++ Some (owning s []) ∷ []) slots
+  begin_fill_up [] owners slots e b h = begin_owners owners slots e h
+  begin_fill_up (w ∷ waiters) owners slots e b h =
+      (begin_owners owners slots e h.0, fills w.places b.0 h.1 (λ os ss q k g. begin_fill_up waiters os ss q (within_more (length owners) (length os) waiters (same_count _ _ k) b.1) g))
+    where
+      fills : (places : Option (List SlotId)) → WithinOption (length owners) places → Fills w.path places (λ o s. FillUp open_owners waiters o s) owners slots
+          → ((os : Many) (ss : Slots) → of_owner same_owner o ss ≡ [] → length owners ≡ length os → FillUp open_owners waiters os ss → FillUp (open_owners ++ (o, s) ∷ []) waiters (os ++ Some (owning s []) ∷ []) ss)
+          → Fills w.path places (λ o' s'. FillUp (open_owners ++ (o, s) ∷ []) waiters o' s') (owners ++ Some (owning s []) ∷ []) slots
+      fills None c k more = (k.0, more owners slots e refl k.1)
+      fills (Some places) c k more = (
+        places_front places owners (Some (owning s [])) c k.0,
+        λ v. subst (λ (l : Many). FillUp (open_owners ++ (o, s) ∷ []) waiters l (fill w.path v slots)) (sym (fills_front places v owners (Some (owning s [])) c))
+            (more (fill_all places v owners) (fill w.path v slots) (none_filled o w.path v slots e) (sym (fill_all_length places v owners)) (k.1 v)),
+      )
+
+  end_owners : (owners : Many) (slots : Slots) (x : Option Owning) → owners ++ x ∷ [] ≡ owners_of slots (open_owners ++ (o, s) ∷ []) → owners ≡ owners_of slots open_owners
+  end_owners owners slots x h = snoc_front owners (owners_of slots open_owners) x _ (h ∙ owners_more slots open_owners o s)
+
+  pub last_owner : (owners : Many) (slots : Slots) (x : Option Owning) → owners ++ x ∷ [] ≡ owners_of slots (open_owners ++ (o, s) ∷ []) → x ≡ Some (owning s (table_in slots o))
+  last_owner owners slots x h = snoc_last owners (owners_of slots open_owners) x _ (h ∙ owners_more slots open_owners o s)
+
+  pub end_fill_up : (waiters : List Waiter) (owners : Many) (slots : Slots) (x : Option Owning) → Within (length owners) waiters → FillUp (open_owners ++ (o, s) ∷ []) waiters (owners ++ x ∷ []) slots
+      → FillUp open_owners waiters owners slots
+  end_fill_up [] owners slots x b h = end_owners owners slots x h
+  end_fill_up (w ∷ waiters) owners slots x b h =
+      (end_owners owners slots x h.0, fills w.places b.0 h.1 (λ os ss k g. end_fill_up waiters os ss x (within_more (length owners) (length os) waiters (same_count _ _ k) b.1) g))
+    where
+      fills : (places : Option (List SlotId)) → WithinOption (length owners) places → Fills w.path places (λ o' s'. FillUp (open_owners ++ (o, s) ∷ []) waiters o' s') (owners ++ x ∷ []) slots
+          → ((os : Many) (ss : Slots) → length owners ≡ length os → FillUp (open_owners ++ (o, s) ∷ []) waiters (os ++ x ∷ []) ss → FillUp open_owners waiters os ss)
+          → Fills w.path places (λ o s. FillUp open_owners waiters o s) owners slots
+      fills None c k more = (k.0, more owners slots refl k.1)
+      fills (Some places) c k more = (
+        places_back places owners x c k.0,
+        λ v. more (fill_all places v owners) (fill w.path v slots) (sym (fill_all_length places v owners))
+            (subst (λ (l : Many). FillUp (open_owners ++ (o, s) ∷ []) waiters l (fill w.path v slots)) (fills_front places v owners x c) (k.1 v)),
+      )

@@ -1,0 +1,265 @@
+-- The entries of an element that is opened: which of them are empty, and how they are filled at its end.
+use Rattle.std.proofs.Common.{◌≡◌, ◌∙◌, ℕ, suc, ◌<◌, ◌≤◌, ◌⊎◌, inl, inr, Bool, true, false, ◌||◌, List, [], ◌∷◌, ◌++◌, map, filter_map, length, Option, Some, None, option_map, bytes_eq, refl, sym, ap, ap₂, subst, arith, append_assoc}
+use Rattle.std.specs.Prelude.{if◌then◌else◌}
+use Rattle.std.proofs.lemmas.List.{map-append}
+use Rattle.rx_terms.specs.Text.{Chars}
+use Rattle.rx_model.specs.Sets.{Among}
+use Rattle.rx_model.specs.Terms.{Node, Term, Resource}
+use Rattle.rx_model.proofs.Sets.{false_unless}
+use Rattle.rx_model.proofs.Exact.{exact_texts}
+use Rattle.rx_rdfa.specs.Naming.{Path, Naming}
+use Rattle.rx_rdfa.specs.Blanks.{Bnode, Owner, same_owner}
+use Rattle.rx_rdfa.specs.Resources.{Hanging, Forward, Reverse, InList, Standing, Resources}
+use Rattle.rx_rdfa.specs.Inherited.{listed, hangs, own_owner}
+use Rattle.rx_rdfa.specs.Lists.{Entry, map_entry, entry, linked, touched, valued, awaited, entries_by}
+use Rattle.rx_rdfa.specs.Machine.{Slot, Full, Waiting, fill, fill_slot, slot_of}
+use Rattle.rx_rdfa.specs.Renaming.{rename_slot}
+use Rattle.rx_rdfa.proofs.Exact.{exact_owners}
+use Rattle.rx_element.proofs.LabelLemmas.{by_test}
+use Rattle.rx_eval.specs.OwnersSeen.{Owning, put_at, put_entries, places_for, fill_all}
+use Rattle.rx_eval.specs.Numbering.{Name, Number, name_by}
+use Rattle.rx_eval.specs.Slots.{Slots, Open, owner_place, item_of, slot_waits, waits, HasPlace, HasPlaces, WithinPlaces}
+use Rattle.rx_eval.specs.Standing.{owner_depth, WaitsFor, AllWaitFor}
+use Rattle.rx_eval.proofs.PlaceLemmas.{still_at, has_at, reserved_are_filled}
+use Rattle.rx_eval.proofs.ListLemmas.{Puts, Match, by_number, by_name}
+
+-- ---- what holds of each item
+
+abbrev pub AllItems : {O T : Type 0} → (Option T → Type 0) → List (Entry O T) → Type 0
+AllItems P [] = Unit {0}
+AllItems P (e ∷ list) = P e.item × AllItems P list
+
+module _ {O T : Type 0} (P : Option T → Type 0) where
+  pub all_append : (xs ys : List (Entry O T)) → AllItems P xs → AllItems P ys → AllItems P (xs ++ ys)
+  all_append [] ys h k = k
+  all_append (x ∷ xs) ys h k = (h.0, all_append xs ys h.1 k)
+
+  all_map : (o : O) (item : Option T) (ps : List Chars) → ((p : Chars) → Among ps p → P item) → AllItems P (map (entry o item) ps)
+  all_map o item [] h = tt
+  all_map o item (p ∷ ps) h = (h p (inl refl), all_map o item ps (λ q a. h q (inr a)))
+
+module _ {B O T : Type 0} (n : Naming B O) (full : Term B → T) (v : T) (at : Standing B O) (here : Resources B) (P : Option T → Type 0) (none : P None) (filled : (t : Term B) → P (Some (full t))) where
+  linked_all : (object : Option (Node B)) → AllItems P (linked n full v at here object)
+  linked_all None = tt
+  linked_all (Some object) = all_map P (own_owner n at here) (Some (full (Resource object))) (listed at.facts.rel) (λ p a. filled (Resource object))
+
+  touched_all : (b : Bool) → AllItems P (if b then map (entry (own_owner n at here) None) (listed at.facts.rel) else [])
+  touched_all true = all_map P (own_owner n at here) None (listed at.facts.rel) (λ p a. none)
+  touched_all false = tt
+
+  pub front_all : AllItems P (linked n full v at here here.object ++ touched n full v at here)
+  front_all = all_append P (linked n full v at here here.object) (touched n full v at here) (linked_all here.object) (touched_all (hangs at.facts here))
+
+  pub awaited_all : (hanging : List (Hanging O)) → AllItems P (filter_map (awaited n full v at here) hanging)
+  awaited_all [] = tt
+  awaited_all (Forward p ∷ hanging) = awaited_all hanging
+  awaited_all (Reverse p ∷ hanging) = awaited_all hanging
+  awaited_all (InList owner p ∷ hanging) = (filled (Resource here.subject), awaited_all hanging)
+
+  pub entries_all : (here.skipped ≡ false → at.facts.inlist ≡ true → (p : Chars) → Among (listed at.facts.property) p → P (Some v)) → AllItems P (entries_by n full v at here)
+  entries_all k = go here.skipped at.facts.inlist k
+    where
+      go : (s b : Bool) → (s ≡ false → b ≡ true → (p : Chars) → Among (listed at.facts.property) p → P (Some v))
+          → AllItems P (if s then [] else (if b then linked n full v at here here.object ++ touched n full v at here ++ valued n full v at here else []) ++ filter_map (awaited n full v at here) at.around.hanging)
+      go true b k = tt
+      go false true k =
+          all_append P (linked n full v at here here.object ++ touched n full v at here ++ valued n full v at here) (filter_map (awaited n full v at here) at.around.hanging)
+          (all_append P (linked n full v at here here.object ++ touched n full v at here) (valued n full v at here) front_all (all_map P (own_owner n at here) (Some v) (listed at.facts.property) (k refl refl)))
+          (awaited_all at.around.hanging)
+      go false false k = awaited_all at.around.hanging
+
+-- ---- items that wait, and empty ones
+
+-- a slot that waits does so for the element at the path
+abbrev pub Only : {B : Type 0} → Path → Option (Slot B) → Type 0
+Only path None = Unit {0}
+Only path (Some (Full v)) = Unit {0}
+Only path (Some (Waiting r)) = r ≡ path
+
+pub only_of : {B : Type 0} (path : Path) (w : Option (Term B)) → Only path (Some (slot_of path w))
+only_of path None = refl
+only_of path (Some v) = tt
+
+pub only_renamed : {O : Type 0} (f : Bnode → Name Bnode) (path : Path) (ys : List (Entry O (Slot ℕ))) (zs : List (Entry O (Slot Bnode))) → map (map_entry (rename_slot Number)) ys ≡ map (map_entry (rename_slot f)) zs → AllItems (Only path) zs → AllItems (Only path) ys
+only_renamed f path [] zs e h = tt
+only_renamed f path (y ∷ ys) [] e h = absurd (cc)
+only_renamed f path (y ∷ ys) (z ∷ zs) e h =
+    let first : map_entry (rename_slot Number) y ≡ map_entry (rename_slot f) z = cc in
+    let rest : map (map_entry (rename_slot Number)) ys ≡ map (map_entry (rename_slot f)) zs = cc in
+    (item y.item z.item (ap (λ (x : Entry _ (Slot (Name Bnode))). x.item) first) h.0, only_renamed f path ys zs rest h.1)
+  where
+    item : (i : Option (Slot ℕ)) (j : Option (Slot Bnode)) → option_map (rename_slot Number) i ≡ option_map (rename_slot f) j → Only path j → Only path i
+    item None j e h = tt
+    item (Some (Full v)) j e h = tt
+    item (Some (Waiting r)) None e h = absurd (cc)
+    item (Some (Waiting r)) (Some (Full v)) e h = absurd (cc)
+    item (Some (Waiting r)) (Some (Waiting q)) e h = let k : r ≡ q = cc in k ∙ h
+
+pub only_quiet : (path r : Path) (ys : Slots) → ¬ (r ≡ path) → AllItems (Only path) ys → waits r ys ≡ false
+only_quiet path r [] n h = refl
+only_quiet path r (y ∷ ys) n h = ap₂ (λ (a b : Bool). a || b) (item y.item h.0) (only_quiet path r ys n h.1)
+  where
+    item : (i : Option (Slot ℕ)) → Only path i → slot_waits r i ≡ false
+    item None k = refl
+    item (Some (Full v)) k = refl
+    item (Some (Waiting q)) k = false_unless (bytes_eq q r) (λ t. n (sym ((exact_texts q r).0 t) ∙ k))
+
+-- the item isn't an empty one
+abbrev pub Filled : Option (Option (Term ℕ)) → Type 0
+Filled None = Unit {0}
+Filled (Some None) = ⊥
+Filled (Some (Some v)) = Unit {0}
+
+pub match_quiet : (own : Owner → Option ℕ) (r : Path) (xs : Puts) (ys : Slots) → Match own xs ys → AllItems Filled xs → waits r ys ≡ false
+match_quiet own r xs [] m h = refl
+match_quiet own r [] (y ∷ ys) m h = let q = m.path in absurd (cc q)
+match_quiet own r (x ∷ xs) (y ∷ ys) m h =
+    let q = m.path in
+    let first : by_number x ≡ by_name own y = cc q in
+    let rest : map by_number xs ≡ map (by_name own) ys = cc q in
+    ap₂ (λ (a b : Bool). a || b) (item x.item y.item (ap (λ (e : Entry (Name Owner) (Option (Term ℕ))). e.item) first) h.0) (match_quiet own r xs ys (record { path = rest }) h.1)
+  where
+    item : (i : Option (Option (Term ℕ))) (j : Option (Slot ℕ)) → i ≡ option_map item_of j → Filled i → slot_waits r j ≡ false
+    item i None e k = refl
+    item i (Some (Full v)) e k = refl
+    item i (Some (Waiting q)) e k = absurd (subst Filled e k)
+
+-- the owners of entries by numbers are open
+pub place_bound : (xs : Open) (o : Owner) (n : ℕ) → owner_place xs o ≡ Some n → n < length xs
+place_bound [] o n h = absurd (cc)
+place_bound (x ∷ xs) o n h =
+    by_test (same_owner x.0 o) (λ t. let e : Some 0 ≡ Some n = rw t at h in let q : 0 ≡ n = cc e in omega (arith, q)) (λ f. go (owner_place xs o) refl (rw f at h) (place_bound xs o))
+  where
+    go : (p : Option ℕ) → owner_place xs o ≡ p → option_map suc p ≡ Some n → ((k : ℕ) → owner_place xs o ≡ Some k → k < length xs) → n < suc (length xs)
+    go None e k more = absurd (cc)
+    go (Some i) e k more = let q : suc i ≡ n = cc k in let b = more i e in omega (arith, q, b)
+
+number_of_name : (o : Owner) (p : Option ℕ) (n : ℕ) → Number n ≡ name_by o p → p ≡ Some n
+number_of_name o None n e = absurd (cc)
+number_of_name o (Some m) n e = let q : n ≡ m = cc in ap Some (sym q)
+
+pub match_bound : (open_owners : Open) (xs : Puts) (ys : Slots) → Match (owner_place open_owners) xs ys → (x : Entry ℕ (Option (Term ℕ))) → Among xs x → x.owner < length open_owners
+match_bound open_owners [] ys m x a = absurd a
+match_bound open_owners (z ∷ xs) [] m x a = let q = m.path in absurd (cc q)
+match_bound open_owners (z ∷ xs) (y ∷ ys) m x a = go a (λ b. match_bound open_owners xs ys (record { path = (let q = m.path in cc q) }) x b)
+  where
+    go : (z ≡ x) ⊎ Among xs x → (Among xs x → x.owner < length open_owners) → x.owner < length open_owners
+    go (inl e) more =
+        let q = m.path in
+        let first : by_number z ≡ by_name (owner_place open_owners) y = cc q in
+        let o = number_of_name y.owner (owner_place open_owners y.owner) z.owner (ap (λ (e : Entry (Name Owner) (Option (Term ℕ))). e.owner) first) in
+        subst (λ (w : Entry ℕ (Option (Term ℕ))). w.owner < length open_owners) e (place_bound open_owners y.owner z.owner o)
+    go (inr b) more = more b
+
+-- each slot's owner is open, and waits are for the path
+pub match_waits : (open_owners : Open) (path : Path) (paths : List Path) → ((o : Owner) (n : ℕ) → owner_place open_owners o ≡ Some n → owner_depth o ≤ length path)
+    → (xs : Puts) (ys : Slots) → Match (owner_place open_owners) xs ys → AllItems (Only path) ys → AllWaitFor (path ∷ paths) ys
+match_waits open_owners path paths d xs [] m h = tt
+match_waits open_owners path paths d [] (y ∷ ys) m h = let q = m.path in absurd (cc q)
+match_waits open_owners path paths d (x ∷ xs) (y ∷ ys) m h =
+    let q = m.path in
+    let first : by_number x ≡ by_name (owner_place open_owners) y = cc q in
+    let rest : map by_number xs ≡ map (by_name (owner_place open_owners)) ys = cc q in
+    let o = number_of_name y.owner (owner_place open_owners y.owner) x.owner (ap (λ (e : Entry (Name Owner) (Option (Term ℕ))). e.owner) first) in
+    (item y.item h.0 (d y.owner x.owner o), match_waits open_owners path paths d xs ys (record { path = rest }) h.1)
+  where
+    item : (i : Option (Slot ℕ)) → Only path i → owner_depth y.owner ≤ length path → WaitsFor (path ∷ paths) y.owner i
+    item None k b = tt
+    item (Some (Full v)) k b = tt
+    item (Some (Waiting r)) k b = (inl (sym k), subst (λ (z : Path). owner_depth y.owner ≤ length z) (sym k) b)
+
+-- an owner that isn't open has none of the slots
+pub match_none : (open_owners : Open) (o : Owner) → owner_place open_owners o ≡ None → (xs : Puts) (ys : Slots) → Match (owner_place open_owners) xs ys → ((y : Entry Owner (Slot ℕ)) → Among ys y → same_owner y.owner o ≡ false)
+match_none open_owners o n xs [] m y a = absurd a
+match_none open_owners o n [] (z ∷ ys) m y a = let q = m.path in absurd (cc q)
+match_none open_owners o n (x ∷ xs) (z ∷ ys) m y a = go a (λ b. match_none open_owners o n xs ys (record { path = (let q = m.path in cc q) }) y b)
+  where
+    go : (z ≡ y) ⊎ Among ys y → (Among ys y → same_owner y.owner o ≡ false) → same_owner y.owner o ≡ false
+    go (inl e) more =
+        let q = m.path in
+        let first : by_number x ≡ by_name (owner_place open_owners) z = cc q in
+        let p = number_of_name z.owner (owner_place open_owners z.owner) x.owner (ap (λ (e : Entry (Name Owner) (Option (Term ℕ))). e.owner) first) in
+        subst (λ (w : Entry Owner (Slot ℕ)). same_owner w.owner o ≡ false) e
+        (false_unless (same_owner z.owner o) (λ t. absurd (cc (ap (owner_place open_owners) ((exact_owners z.owner o).0 t), n, p))))
+    go (inr b) more = more b
+
+-- ---- a value for the empty ones
+
+abbrev pub value_item : Term ℕ → Option (Option (Term ℕ)) → Option (Option (Term ℕ))
+value_item u None = None
+value_item u (Some None) = Some (Some u)
+value_item u (Some (Some v)) = Some (Some v)
+
+abbrev pub valued_entry : {O : Type 0} → Term ℕ → Entry O (Option (Term ℕ)) → Entry O (Option (Term ℕ))
+valued_entry u x = record { owner = x.owner; predicate = x.predicate; item = value_item u x.item }
+
+pub valued_same : {O : Type 0} (u : Term ℕ) (xs : List (Entry O (Option (Term ℕ)))) → AllItems Filled xs → map (valued_entry u) xs ≡ xs
+valued_same u [] h = refl
+valued_same u (x ∷ xs) h = λ i. record { owner = x.owner; predicate = x.predicate; item = item x.item h.0 i } ∷ valued_same u xs h.1 i
+  where
+    item : (i : Option (Option (Term ℕ))) → Filled i → value_item u i ≡ i
+    item None k = refl
+    item (Some None) k = absurd k
+    item (Some (Some v)) k = refl
+
+valued_reserved : (u : Term ℕ) (o : ℕ) (ps : List Chars) → map (valued_entry u) (map (entry o (Some None)) ps) ≡ map (entry o (Some (Some u))) ps
+valued_reserved u o [] = refl
+valued_reserved u o (p ∷ ps) = ap (λ (l : Puts). entry o (Some (Some u)) p ∷ l) (valued_reserved u o ps)
+
+pub valued_parts : (u : Term ℕ) (o : ℕ) (ps : List Chars) (front back : Puts) → AllItems Filled front → AllItems Filled back
+    → map (valued_entry u) ((front ++ map (entry o (Some None)) ps) ++ back) ≡ (front ++ map (entry o (Some (Some u))) ps) ++ back
+valued_parts u o ps front back h k =
+    map-append (valued_entry u) (front ++ map (entry o (Some None)) ps) back
+    ∙ ap₂ ◌++◌ (map-append (valued_entry u) front (map (entry o (Some None)) ps) ∙ ap₂ ◌++◌ (valued_same u front h) (valued_reserved u o ps)) (valued_same u back k)
+
+pub match_valued : (own : Owner → Option ℕ) (path : Path) (u : Term ℕ) (xs : Puts) (ys : Slots) → Match own xs ys → AllItems (Only path) ys → Match own (map (valued_entry u) xs) (fill path u ys)
+match_valued own path u [] [] m h = record { path = refl }
+match_valued own path u [] (y ∷ ys) m h = let q = m.path in absurd (cc q)
+match_valued own path u (x ∷ xs) [] m h = let q = m.path in absurd (cc q)
+match_valued own path u (x ∷ xs) (y ∷ ys) m h =
+    let q = m.path in
+    let first : by_number x ≡ by_name own y = cc q in
+    let rest : map by_number xs ≡ map (by_name own) ys = cc q in
+    let more = match_valued own path u xs ys (record { path = rest }) h.1 in
+    let i = item x.item y.item (ap (λ (e : Entry (Name Owner) (Option (Term ℕ))). e.item) first) h.0 in
+    record { path = λ j. record { owner = (first j).owner; predicate = (first j).predicate; item = i j } ∷ more.path j }
+  where
+    item : (i : Option (Option (Term ℕ))) (s : Option (Slot ℕ)) → i ≡ option_map item_of s → Only path s → value_item u i ≡ option_map item_of (option_map (fill_slot path u) s)
+    item i None e k = ap (value_item u) e
+    item i (Some (Full v)) e k = ap (value_item u) e
+    item i (Some (Waiting r)) e k = ap (value_item u) e ∙ (let t : bytes_eq r path ≡ true = (exact_texts r path).1 k in rw t refl)
+
+-- ---- places that are reserved
+
+entries_then : (xs ys : Puts) (owners : List (Option Owning)) → put_entries (xs ++ ys) owners ≡ put_entries ys (put_entries xs owners)
+entries_then [] ys owners = refl
+entries_then (e ∷ xs) ys owners = entries_then xs ys (put_at e.owner e.predicate e.item owners)
+
+still_all : (xs : Puts) (n l i : ℕ) (os : List (Option Owning)) → HasPlace n l i os → HasPlace n l i (put_entries xs os)
+still_all [] n l i os h = h
+still_all (x ∷ xs) n l i os h = still_all xs n l i _ (still_at x.owner x.predicate x.item n l i os h)
+
+has_places : (o : ℕ) (ps : List Chars) (back : Puts) (os : List (Option Owning)) → HasPlaces (places_for o ps os) (put_entries (map (entry o (Some None)) ps ++ back) os)
+has_places o [] back os = tt
+has_places o (p ∷ ps) back os =
+    (still_all (map (entry o (Some None)) ps ++ back) o _ _ (put_at o p (Some None) os) (has_at o p None os), has_places o ps back (put_at o p (Some None) os))
+
+module _ (o : ℕ) (ps : List Chars) (front back : Puts) (owners : List (Option Owning)) where
+  abbrev reserved_all : Puts
+  reserved_all = (front ++ map (entry o (Some None)) ps) ++ back
+
+  all_then : (middle : Puts) → put_entries ((front ++ middle) ++ back) owners ≡ put_entries (middle ++ back) (put_entries front owners)
+  all_then middle = ap (λ (l : Puts). put_entries l owners) (append_assoc front middle back) ∙ entries_then front (middle ++ back) owners
+
+  pub places_had : HasPlaces (places_for o ps (put_entries front owners)) (put_entries reserved_all owners)
+  places_had = subst (HasPlaces (places_for o ps (put_entries front owners))) (sym (all_then (map (entry o (Some None)) ps))) (has_places o ps back (put_entries front owners))
+
+  pub places_filled_in : (u : Term ℕ) → fill_all (places_for o ps (put_entries front owners)) u (put_entries reserved_all owners) ≡ put_entries ((front ++ map (entry o (Some (Some u))) ps) ++ back) owners
+  places_filled_in u =
+      ap (fill_all (places_for o ps (put_entries front owners)) u) (all_then (map (entry o (Some None)) ps))
+      ∙ reserved_are_filled o ps back (put_entries front owners) u
+      ∙ sym (all_then (map (entry o (Some (Some u))) ps))
+
+pub places_within : (k o : ℕ) (ps : List Chars) (os : List (Option Owning)) → ((p : Chars) → Among ps p → o < k) → WithinPlaces k (places_for o ps os)
+places_within k o [] os h = tt
+places_within k o (p ∷ ps) os h = (h p (inl refl), places_within k o ps (put_at o p (Some None) os) (λ q a. h q (inr a)))

@@ -1,0 +1,176 @@
+-- The frames of the open elements, and the owners that are open.
+use Rattle.std.proofs.Common.{◌≡◌, ◌∙◌, ℕ, suc, ◌+◌, ◌<◌, ◌≤◌, ⊎_elim, false, List, [], ◌∷◌, ◌++◌, map, length, Option, Some, None, option_map, refl, sym, ap, subst, arith, append-nil, length-append}
+use Rattle.std.specs.Prelude.{IfSome}
+use Rattle.std.proofs.lemmas.Bool.{cases_lt}
+use Rattle.rx_terms.specs.Text.{Chars}
+use Rattle.rx_model.specs.Terms.{Node}
+use Rattle.rx_model.proofs.Sets.{false_unless}
+use Rattle.rx_rdfa.specs.Blanks.{Owner, First, Of, Below, same_owner, model}
+use Rattle.rx_rdfa.specs.Resources.{Inherited, resources}
+use Rattle.rx_rdfa.specs.Inherited.{below}
+use Rattle.rx_rdfa.specs.Element.{end_of}
+use Rattle.rx_rdfa.specs.Machine.{value_at, inherit}
+use Rattle.rx_rdfa.specs.Renaming.{rename_inherited}
+use Rattle.rx_rdfa.proofs.Exact.{exact_owners}
+use Rattle.rx_element.specs.TextRules.{text_literal}
+use Rattle.rx_element.proofs.LabelLemmas.{by_test}
+use Rattle.rx_eval.specs.States.{Frame}
+use Rattle.rx_eval.specs.Opened.{handed_on}
+use Rattle.rx_eval.specs.Numbering.{Numbering, Number, named, Grown}
+use Rattle.rx_eval.specs.Slots.{Open, owner_place, Apart, Within}
+use Rattle.rx_eval.specs.Standing.{Layer, frames_in, begun_by, own_in, under_in, open_in, waiter_of, said_of, LayerStands, LayersStand, owner_depth, page_context}
+use Rattle.rx_eval.proofs.NameLemmas.{grown_same, node_later, term_later, triples_later, inherited_later}
+use Rattle.rx_eval.proofs.FillLemmas.{within_more}
+
+-- ---- owners and their numbers
+
+pub place_front : (xs ys : Open) (o : Owner) (n : ℕ) → owner_place xs o ≡ Some n → owner_place (xs ++ ys) o ≡ Some n
+place_front [] ys o n h = absurd (cc)
+place_front (x ∷ xs) ys o n h =
+    by_test (same_owner x.0 o) (λ t. rw t (rw t at h))
+    (λ f. rw f (go (owner_place xs o) refl (rw f at h) (place_front xs ys o)))
+  where
+    go : (p : Option ℕ) → owner_place xs o ≡ p → option_map suc p ≡ Some n → ((m : ℕ) → owner_place xs o ≡ Some m → owner_place (xs ++ ys) o ≡ Some m) → option_map suc (owner_place (xs ++ ys) o) ≡ Some n
+    go None e k more = absurd (cc)
+    go (Some m) e k more = ap (option_map suc) (more m e) ∙ k
+
+pub grown_open : (xs ys : Open) → Grown (owner_place xs) (owner_place (xs ++ ys))
+grown_open xs ys = record { keeps = place_front xs ys }
+
+pub place_back : (xs ys : Open) (o : Owner) → owner_place xs o ≡ None → owner_place (xs ++ ys) o ≡ option_map (λ n. length xs + n) (owner_place ys o)
+place_back [] ys o h = shifted (owner_place ys o)
+  where
+    shifted : (p : Option ℕ) → p ≡ option_map (λ n. 0 + n) p
+    shifted None = refl
+    shifted (Some n) = let e : n ≡ 0 + n = omega arith in ap Some e
+place_back (x ∷ xs) ys o h =
+    by_test (same_owner x.0 o) (λ t. absurd (cc (rw t at h)))
+    (λ f. rw f (ap (option_map suc) (place_back xs ys o (go (owner_place xs o) (rw f at h))) ∙ shifted (owner_place ys o)))
+  where
+    go : (p : Option ℕ) → option_map suc p ≡ None → p ≡ None
+    go None k = refl
+    go (Some m) k = absurd (cc)
+
+    shifted : (p : Option ℕ) → option_map suc (option_map (λ n. length xs + n) p) ≡ option_map (λ n. suc (length xs) + n) p
+    shifted None = refl
+    shifted (Some n) = let e : suc (length xs + n) ≡ suc (length xs) + n = omega arith in ap Some e
+
+pub place_none : (xs ys : Open) (o : Owner) → owner_place xs o ≡ None → owner_place ys o ≡ None → owner_place (xs ++ ys) o ≡ None
+place_none xs ys o h k = place_back xs ys o h ∙ ap (option_map (λ n. length xs + n)) k
+
+pub none_before : (xs ys : Open) (o : Owner) → owner_place (xs ++ ys) o ≡ None → owner_place xs o ≡ None
+none_before xs ys o h = go (owner_place xs o) refl
+  where
+    go : (p : Option ℕ) → owner_place xs o ≡ p → owner_place xs o ≡ None
+    go None e = e
+    go (Some n) e = absurd (cc (place_front xs ys o n e, h))
+
+apart_more : (xs : Open) (o : Owner) (s : Node ℕ) → Apart xs → owner_place xs o ≡ None → Apart (xs ++ (o, s) ∷ [])
+apart_more [] o s a h = (refl, tt)
+apart_more (x ∷ xs) o s a h =
+    by_test (same_owner x.0 o) (λ t. absurd (cc (rw t at h)))
+    (λ f. (place_none xs ((o, s) ∷ []) x.0 a.0 (rw (turned f) refl), apart_more xs o s a.1 (go (owner_place xs o) (rw f at h))))
+  where
+    turned : same_owner x.0 o ≡ false → same_owner o x.0 ≡ false
+    turned f = false_unless (same_owner o x.0) (λ t. absurd (cc (f, (exact_owners x.0 o).1 (sym ((exact_owners o x.0).0 t)))))
+
+    go : (p : Option ℕ) → option_map suc p ≡ None → p ≡ None
+    go None k = refl
+    go (Some m) k = absurd (cc)
+
+pub apart_begun : (xs : Open) (own : Option ℕ) (o : Owner) (s : Node ℕ) → Apart xs → owner_place xs o ≡ None → Apart (xs ++ begun_by own o s)
+apart_begun xs None o s a h = subst Apart (sym (append-nil xs)) a
+apart_begun xs (Some n) o s a h = apart_more xs o s a h
+
+-- an owner of an element has no place among those of elements around it
+not_same : (a b : Owner) → ¬ (a ≡ b) → same_owner a b ≡ false
+not_same a b h = false_unless (same_owner a b) (λ t. h ((exact_owners a b).0 t))
+
+pub begun_none : (own : Option ℕ) (w o : Owner) (s : Node ℕ) → ¬ (w ≡ o) → owner_place (begun_by own w s) o ≡ None
+begun_none None w o s h = refl
+begun_none (Some n) w o s h = rw (not_same w o h) refl
+
+pub begun_place : (own : Option ℕ) (o : Owner) (s : Node ℕ) (k : ℕ) → IfSome own (λ n. n ≡ k) → option_map (λ n. k + n) (owner_place (begun_by own o s) o) ≡ own
+begun_place None o s k h = refl
+begun_place (Some n) o s k h = rw ((exact_owners o o).1 refl) (let e : k + 0 ≡ n = omega (arith, h) in ap Some e)
+
+depth_at : (a b : Owner) → a ≡ b → owner_depth a ≡ owner_depth b
+depth_at a b e = ap owner_depth e
+
+module _ (base : Chars) where
+  -- owners that are deeper than all layers have no place
+  pub deeper_none : (to : Numbering) (kept : Chars) (layers : List Layer) → LayersStand to base kept layers → (o : Owner) → length layers < owner_depth o → owner_place (open_in base layers) o ≡ None
+  deeper_none to kept [] h o d = rw (not_same First o (λ e. let q = depth_at First o e in omega (arith, q, d))) refl
+  deeper_none to kept (l ∷ lower) h o d =
+      let k = h.0.deep in
+      place_none (open_in base lower ++ own_in l) (under_in l) o
+      (place_none (open_in base lower) (own_in l) o (deeper_none to kept lower h.1 o (omega (arith, d)))
+      (begun_none l.frame.own (Of l.at.path) o l.frame.context.subject (λ e. let q = depth_at (Of l.at.path) o e in omega (arith, q, d, k))))
+      (begun_none l.frame.below (Below l.at.path) o l.frame.context.object (λ e. let q = depth_at (Below l.at.path) o e in omega (arith, q, d, k)))
+
+  pub placed_depth : (to : Numbering) (kept : Chars) (layers : List Layer) → LayersStand to base kept layers → (o : Owner) (n : ℕ) → owner_place (open_in base layers) o ≡ Some n → owner_depth o ≤ length layers
+  placed_depth to kept layers h o n e = decide (owner_depth o) (length layers) (λ d. absurd (cc (e, deeper_none to kept layers h o d)))
+    where
+      decide : (a b : ℕ) → (b < a → a ≤ b) → a ≤ b
+      decide a b k = ⊎_elim (λ low. k low) (λ from. omega (arith, from)) (cases_lt b a)
+
+  pub apart_open : (to : Numbering) (kept : Chars) (layers : List Layer) → LayersStand to base kept layers → Apart (open_in base layers)
+  apart_open to kept [] h = (refl, tt)
+  apart_open to kept (l ∷ lower) h =
+      let k = h.0.deep in
+      let none = deeper_none to kept lower h.1 in
+      apart_begun (open_in base lower ++ own_in l) l.frame.below (Below l.at.path) l.frame.context.object
+      (apart_begun (open_in base lower) l.frame.own (Of l.at.path) l.frame.context.subject (apart_open to kept lower h.1) (none (Of l.at.path) (omega (arith, k))))
+      (place_none (open_in base lower) (own_in l) (Below l.at.path) (none (Below l.at.path) (omega (arith, k))) (begun_none l.frame.own (Of l.at.path) (Below l.at.path) l.frame.context.subject (λ e. absurd (cc e))))
+
+  -- the places of all layers are within the open owners
+  pub all_within : (to : Numbering) (kept : Chars) (layers : List Layer) → LayersStand to base kept layers → Within (length (open_in base layers)) (map waiter_of layers)
+  all_within to kept [] h = tt
+  all_within to kept (l ∷ lower) h = (
+    h.0.places,
+    within_more (length (open_in base lower)) (length (open_in base (l ∷ lower))) (map waiter_of lower)
+        (let a = length-append (open_in base lower) (own_in l) in let b = length-append (open_in base lower ++ own_in l) (under_in l) in omega (arith, a, b))
+        (all_within to kept lower h.1),
+  )
+
+-- ---- frames
+
+pub handed_last : (page : Inherited ℕ ℕ) (frames : List Frame) (frame : Frame) → handed_on page (frames ++ frame ∷ []) ≡ frame.context
+handed_last page [] frame = refl
+handed_last page (f ∷ frames) frame = handed_last f.context frames frame
+
+pub frames_length : (layers : List Layer) → length (frames_in layers) ≡ length layers
+frames_length [] = refl
+frames_length (l ∷ lower) = let a = length-append (frames_in lower) (l.frame ∷ []) in let b = frames_length lower in omega (arith, a, b)
+
+-- what a child of the innermost element inherits
+pub handed_now : (to : Numbering) (base kept : Chars) (layers : List Layer) → LayersStand to base kept layers
+    → rename_inherited Number Number (handed_on (page_context base) (frames_in layers))
+    ≡ rename_inherited (named to) (named (owner_place (open_in base layers))) (inherit model base (map (λ l. l.at) layers))
+handed_now to base kept [] h = refl
+handed_now to base kept (l ∷ lower) h = ap (rename_inherited Number Number) (handed_last (page_context base) (frames_in lower) l.frame) ∙ h.0.context
+
+-- ---- layers when more have numbers, and when more text is kept
+
+module _ (old new : Numbering) (grown : Grown old new) (base kept : Chars) where
+  some_later : {A : Type 0} (P Q : A → Type 0) (o : Option A) → ((a : A) → P a → Q a) → IfSome o P → IfSome o Q
+  some_later P Q None f h = tt
+  some_later P Q (Some a) f h = f a h
+
+  layer_later : (l : Layer) (lower : List Layer) → LayerStands old base kept l lower → LayerStands new base kept l lower
+  layer_later l lower h = record {
+    deep = h.deep;
+    inside = h.inside;
+    context = inherited_later old new grown (owner_place (open_in base (l ∷ lower))) (owner_place (open_in base (l ∷ lower))) (grown_same (owner_place (open_in base (l ∷ lower)))) l.frame.context (below model base l.at) h.context;
+    own = h.own;
+    subject = some_later _ _ l.frame.own (λ n e. node_later old new grown l.frame.context.subject (resources model base l.at).subject e) h.subject;
+    under = h.under;
+    said = λ chars. triples_later old new grown (said_of l.frame.text chars) (end_of model base l.at chars) (h.said chars);
+    value = some_later _ _ l.frame.text (λ t e chars. term_later old new grown (text_literal t.by chars) (value_at model base l.at chars) (e chars)) h.value;
+    marked = h.marked;
+    places = h.places;
+  }
+
+  pub layers_later : (layers : List Layer) → LayersStand old base kept layers → LayersStand new base kept layers
+  layers_later [] h = tt
+  layers_later (l ∷ lower) h = (layer_later l lower h.0, layers_later lower h.1)

@@ -1,0 +1,148 @@
+-- The owners' tables while slots are put into lists, owners begin and end, and places are filled.
+use Rattle.std.proofs.Common.{◌≡◌, ◌∙◌, ℕ, suc, Bool, true, false, List, [], ◌∷◌, ◌++◌, map, Option, Some, None, option_map, refl, sym, ap, ap₂, append-nil, append_assoc}
+use Rattle.std.specs.Prelude.{if◌then◌else◌}
+use Rattle.std.proofs.lemmas.List.{map-append}
+use Rattle.std.proofs.lemmas.List.Elements.{filter-append}
+use Rattle.rx_model.specs.Terms.{Term}
+use Rattle.rx_model.specs.Numbered.{rename_term}
+use Rattle.rx_rdfa.specs.Blanks.{Bnode, Owner, same_owner}
+use Rattle.rx_rdfa.specs.Lists.{Entry, map_entry, of_owner}
+use Rattle.rx_rdfa.specs.Machine.{Slot, Full, Waiting}
+use Rattle.rx_rdfa.specs.Renaming.{rename_slot, rename_entry}
+use Rattle.rx_rdfa.specs.Tables.{Table, put, table_from}
+use Rattle.rx_rdfa.proofs.Exact.{exact_owners}
+use Rattle.rx_element.proofs.LabelLemmas.{by_test}
+use Rattle.rx_eval.specs.OwnersSeen.{Owning, owning, put_at, put_entries}
+use Rattle.rx_eval.specs.Numbering.{Name, Number, name_by, named}
+use Rattle.rx_eval.specs.Slots.{Slots, Open, owner_place, item_of, table_in, owners_of, Apart}
+use Rattle.rx_eval.proofs.ElementLemmas.{slot_value}
+
+pub owner_turned : (a b : Owner) → same_owner a b ≡ same_owner b a
+owner_turned a b =
+    by_test (same_owner a b) (λ t. t ∙ sym ((exact_owners b a).1 (sym ((exact_owners a b).0 t))))
+    (λ f. by_test (same_owner b a) (λ t. absurd (cc (f, (exact_owners a b).1 (sym ((exact_owners b a).0 t))))) (λ g. f ∙ sym g))
+
+-- ---- one more slot
+
+table_more : {O T : Type 0} (t : Table T) (xs : List (Entry O T)) (e : Entry O T) → table_from t (xs ++ e ∷ []) ≡ put e.predicate e.item (table_from t xs)
+table_more t [] e = refl
+table_more t (x ∷ xs) e = table_more (put x.predicate x.item t) xs e
+
+of_more : (slots : Slots) (y : Entry Owner (Slot ℕ)) (o : Owner) → of_owner same_owner o (slots ++ y ∷ []) ≡ of_owner same_owner o slots ++ of_owner same_owner o (y ∷ [])
+of_more slots y o = filter-append (λ (e : Entry Owner (Slot ℕ)). same_owner e.owner o) slots (y ∷ [])
+
+in_table : (slots : Slots) (y : Entry Owner (Slot ℕ)) (o : Owner) → same_owner y.owner o ≡ true → table_in (slots ++ y ∷ []) o ≡ put y.predicate (option_map item_of y.item) (table_in slots o)
+in_table slots y o t =
+    ap (λ (l : Slots). table_from [] (map (map_entry item_of) l)) (of_more slots y o ∙ ap (λ (b : Bool). of_owner same_owner o slots ++ (if b then y ∷ [] else [])) t)
+    ∙ ap (table_from []) (map-append (map_entry item_of) (of_owner same_owner o slots) (y ∷ []))
+    ∙ table_more [] (map (map_entry item_of) (of_owner same_owner o slots)) (map_entry item_of y)
+
+out_table : (slots : Slots) (y : Entry Owner (Slot ℕ)) (o : Owner) → same_owner y.owner o ≡ false → table_in (slots ++ y ∷ []) o ≡ table_in slots o
+out_table slots y o t =
+    ap (λ (l : Slots). table_from [] (map (map_entry item_of) l)) (of_more slots y o ∙ ap (λ (b : Bool). of_owner same_owner o slots ++ (if b then y ∷ [] else [])) t ∙ append-nil (of_owner same_owner o slots))
+
+no_suc : (o : Option ℕ) → option_map suc o ≡ None → o ≡ None
+no_suc None h = refl
+no_suc (Some n) h = absurd (cc)
+
+suc_is : (o : Option ℕ) (n : ℕ) → option_map suc o ≡ Some n → (m : ℕ) × (o ≡ Some m) × (n ≡ suc m)
+suc_is None n h = absurd (cc)
+suc_is (Some m) n h = (m, refl, let e : suc m ≡ n = cc in sym e)
+
+others_same : (slots : Slots) (y : Entry Owner (Slot ℕ)) (open_owners : Open) → owner_place open_owners y.owner ≡ None → owners_of (slots ++ y ∷ []) open_owners ≡ owners_of slots open_owners
+others_same slots y [] h = refl
+others_same slots y (one ∷ more) h =
+    by_test (same_owner one.0 y.owner) (λ t. absurd (cc (rw t at h)))
+    (λ f.
+    ap₂ (λ (t : Table (Option (Term ℕ))) (l : List (Option Owning)). Some (owning one.1 t) ∷ l) (out_table slots y one.0 (owner_turned y.owner one.0 ∙ f))
+    (others_same slots y more (no_suc (owner_place more y.owner) (rw f at h))))
+
+put_one : (open_owners : Open) (slots : Slots) (y : Entry Owner (Slot ℕ)) (n : ℕ) → Apart open_owners → owner_place open_owners y.owner ≡ Some n
+    → put_at n y.predicate (option_map item_of y.item) (owners_of slots open_owners) ≡ owners_of (slots ++ y ∷ []) open_owners
+put_one [] slots y n a h = absurd (cc)
+put_one (one ∷ more) slots y n a h =
+    by_test (same_owner one.0 y.owner) (λ t. here t (let e : Some 0 ≡ Some n = rw t at h in cc e)) (λ f. there f (suc_is (owner_place more y.owner) n (rw f at h)) (λ m e. put_one more slots y m a.1 e))
+  where
+    here : same_owner one.0 y.owner ≡ true → 0 ≡ n → put_at n y.predicate (option_map item_of y.item) (owners_of slots (one ∷ more)) ≡ owners_of (slots ++ y ∷ []) (one ∷ more)
+    here t e =
+        ap (λ (m : ℕ). put_at m y.predicate (option_map item_of y.item) (owners_of slots (one ∷ more))) (sym e)
+        ∙ ap₂ (λ (t : Table (Option (Term ℕ))) (l : List (Option Owning)). Some (owning one.1 t) ∷ l) (sym (in_table slots y one.0 (owner_turned y.owner one.0 ∙ t)))
+        (sym (others_same slots y more (ap (owner_place more) (sym ((exact_owners one.0 y.owner).0 t)) ∙ a.0)))
+
+    there : same_owner one.0 y.owner ≡ false → (m : ℕ) × (owner_place more y.owner ≡ Some m) × (n ≡ suc m)
+        → ((m : ℕ) → owner_place more y.owner ≡ Some m → put_at m y.predicate (option_map item_of y.item) (owners_of slots more) ≡ owners_of (slots ++ y ∷ []) more)
+        → put_at n y.predicate (option_map item_of y.item) (owners_of slots (one ∷ more)) ≡ owners_of (slots ++ y ∷ []) (one ∷ more)
+    there f (m, e, q) more_put =
+        ap (λ (k : ℕ). put_at k y.predicate (option_map item_of y.item) (owners_of slots (one ∷ more))) q
+        ∙ ap₂ (λ (t : Table (Option (Term ℕ))) (l : List (Option Owning)). Some (owning one.1 t) ∷ l) (sym (out_table slots y one.0 (owner_turned y.owner one.0 ∙ f)))
+        (more_put m e)
+
+-- ---- entries by the owners' numbers are the slots by their names
+
+abbrev pub Puts : Type 0
+Puts = List (Entry ℕ (Option (Term ℕ)))
+
+abbrev pub by_number : Entry ℕ (Option (Term ℕ)) → Entry (Name Owner) (Option (Term ℕ))
+by_number x = record { owner = Number x.owner; predicate = x.predicate; item = x.item }
+
+abbrev pub by_name : (Owner → Option ℕ) → Entry Owner (Slot ℕ) → Entry (Name Owner) (Option (Term ℕ))
+by_name own y = record { owner = named own y.owner; predicate = y.predicate; item = option_map item_of y.item }
+
+pub record Match (own : Owner → Option ℕ) (xs : Puts) (ys : Slots) : Type 0 where
+  pub path : map by_number xs ≡ map (by_name own) ys
+
+number_is : {A : Type 0} (a : A) (o : Option ℕ) (n : ℕ) → Number n ≡ name_by a o → o ≡ Some n
+number_is a None n e = absurd (cc)
+number_is a (Some m) n e = let q : n ≡ m = cc in ap Some (sym q)
+
+pub put_all : (open_owners : Open) → Apart open_owners → (xs : Puts) (ys slots : Slots) → Match (owner_place open_owners) xs ys → put_entries xs (owners_of slots open_owners) ≡ owners_of (slots ++ ys) open_owners
+put_all open_owners a [] [] slots e = ap (λ (s : Slots). owners_of s open_owners) (sym (append-nil slots))
+put_all open_owners a [] (y ∷ ys) slots e = let q = e.path in absurd (cc q)
+put_all open_owners a (x ∷ xs) [] slots e = let q = e.path in absurd (cc q)
+put_all open_owners a (x ∷ xs) (y ∷ ys) slots e =
+    let q = e.path in
+    let first : by_number x ≡ by_name (owner_place open_owners) y = cc q in
+    let rest : map by_number xs ≡ map (by_name (owner_place open_owners)) ys = cc q in
+    let o = number_is y.owner (owner_place open_owners y.owner) x.owner (ap (λ (e : Entry (Name Owner) (Option (Term ℕ))). e.owner) first) in
+    ap (put_entries xs) ((λ i. put_at x.owner (first i).predicate (first i).item (owners_of slots open_owners)) ∙ put_one open_owners slots y x.owner a o)
+    ∙ put_all open_owners a xs ys (slots ++ y ∷ []) (record { path = rest })
+    ∙ ap (λ (s : Slots). owners_of s open_owners) (append_assoc slots (y ∷ []) ys)
+
+-- slots by numbers, from entries by numbers and slots by the rules' names
+pub record Merged (own : Owner → Option ℕ) (f : Bnode → Name Bnode) (xs : Puts) (zs : List (Entry Owner (Slot Bnode))) : Type 0 where
+  pub slots : Slots
+  pub match : Match own xs slots
+  pub renamed : map (map_entry (rename_slot Number)) slots ≡ map (map_entry (rename_slot f)) zs
+
+record OneItem (f : Bnode → Name Bnode) (x : Option (Option (Term ℕ))) (z : Option (Slot Bnode)) : Type 0 where
+  slot : Option (Slot ℕ)
+  is_item : x ≡ option_map item_of slot
+  is_slot : option_map (rename_slot Number) slot ≡ option_map (rename_slot f) z
+
+one_item : (f : Bnode → Name Bnode) (x : Option (Option (Term ℕ))) (z : Option (Slot Bnode)) → option_map (option_map (rename_term Number)) x ≡ option_map (slot_value f) z → OneItem f x z
+one_item f None None e = record { slot = None; is_item = refl; is_slot = refl }
+one_item f None (Some z) e = absurd (cc)
+one_item f (Some x) None e = absurd (cc)
+one_item f (Some None) (Some (Waiting r)) e = record { slot = Some (Waiting r); is_item = refl; is_slot = refl }
+one_item f (Some None) (Some (Full v)) e = absurd (cc)
+one_item f (Some (Some u)) (Some (Waiting r)) e = absurd (cc)
+one_item f (Some (Some u)) (Some (Full v)) e =
+    let q : rename_term Number u ≡ rename_term f v = cc in
+    record { slot = Some (Full u); is_item = refl; is_slot = ap (λ (t : Term (Name Bnode)). Some (Full t)) q }
+
+pub merged : (own : Owner → Option ℕ) (f : Bnode → Name Bnode) (xs : Puts) (zs : List (Entry Owner (Slot Bnode)))
+    → map (rename_entry Number (option_map (rename_term Number))) xs ≡ map (rename_entry (named own) (slot_value f)) zs → Merged own f xs zs
+merged own f [] [] e = record { slots = []; match = record { path = refl }; renamed = refl }
+merged own f [] (z ∷ zs) e = absurd (cc)
+merged own f (x ∷ xs) [] e = absurd (cc)
+merged own f (x ∷ xs) (z ∷ zs) e =
+    let first : rename_entry Number (option_map (rename_term Number)) x ≡ rename_entry (named own) (slot_value f) z = cc in
+    let rest : map (rename_entry Number (option_map (rename_term Number))) xs ≡ map (rename_entry (named own) (slot_value f)) zs = cc in
+    let m = merged own f xs zs rest in
+    let i = one_item f x.item z.item (ap (λ (e : Entry (Name Owner) (Option (Term (Name Bnode)))). e.item) first) in
+    let y : Entry Owner (Slot ℕ) = record { owner = z.owner; predicate = z.predicate; item = i.slot } in
+    record {
+      slots = y ∷ m.slots;
+      match = record { path = λ j. record { owner = (first j).owner; predicate = (first j).predicate; item = i.is_item j } ∷ m.match.path j };
+      renamed = λ j. record { owner = z.owner; predicate = z.predicate; item = i.is_slot j } ∷ m.renamed j;
+    }

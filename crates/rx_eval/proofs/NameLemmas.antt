@@ -1,0 +1,107 @@
+-- What is renamed by numbers stays so when more have numbers.
+use Rattle.std.proofs.Common.{◌≡◌, ◌∙◌, ℕ, Bool, true, false, List, [], ◌∷◌, map, Option, Some, None, option_map, nat_eq, refl, sym, ap, ap₂}
+use Rattle.rx_model.specs.Sets.{IsExact}
+use Rattle.rx_model.specs.Terms.{Node, Term, Triple}
+use Rattle.rx_model.specs.Numbered.{rename_node, rename_term, rename}
+use Rattle.rx_model.proofs.Sets.{false_unless}
+use Rattle.rx_model.proofs.Exact.{exact_numbers}
+use Rattle.rx_rdfa.specs.Resources.{Inherited}
+use Rattle.rx_rdfa.specs.Lists.{Entry, map_entry}
+use Rattle.rx_rdfa.specs.Machine.{Slot, Full, Waiting}
+use Rattle.rx_rdfa.specs.Renaming.{rename_slot, rename_inherited}
+use Rattle.rx_rdfa.proofs.Growing.{node_then, term_then, triple_then, inherited_then}
+use Rattle.rx_eval.specs.Numbering.{Name, Number, Itself, name_by, named, same_name, Grown}
+
+pub grown_same : {A : Type 0} (to : A → Option ℕ) → Grown to to
+grown_same to = record { keeps = λ a n e. e }
+
+pub grown_then : {A : Type 0} (x y z : A → Option ℕ) → Grown x y → Grown y z → Grown x z
+grown_then x y z g h = record { keeps = λ a n e. h.keeps a n (g.keeps a n e) }
+
+-- ---- from the old names to the new ones
+
+module _ {A : Type 0} (old new : A → Option ℕ) (grown : Grown old new) where
+  abbrev pub later : Name A → Name A
+  later (Number n) = Number n
+  later (Itself a) = named new a
+
+  later_by : (a : A) (o : Option ℕ) → old a ≡ o → named new a ≡ later (name_by a o)
+  later_by a None e = refl
+  later_by a (Some n) e = ap (name_by a) (grown.keeps a n e)
+
+  pub later_is : named new ≡ (λ a. later (named old a))
+  later_is = λ i a. later_by a (old a) refl i
+
+module _ {A : Type 0} (old new : A → Option ℕ) (grown : Grown old new) where
+  abbrev later_name : Name A → Name A
+  later_name = later old new grown
+
+  pub node_later : (x : Node ℕ) (y : Node A) → rename_node Number x ≡ rename_node (named old) y → rename_node Number x ≡ rename_node (named new) y
+  node_later x y e =
+      node_then later_name Number x ∙ ap (rename_node later_name) e ∙ sym (node_then later_name (named old) y)
+      ∙ ap (λ (f : A → Name A). rename_node f y) (sym (later_is old new grown))
+
+  pub term_later : (x : Term ℕ) (y : Term A) → rename_term Number x ≡ rename_term (named old) y → rename_term Number x ≡ rename_term (named new) y
+  term_later x y e =
+      term_then later_name Number x ∙ ap (rename_term later_name) e ∙ sym (term_then later_name (named old) y)
+      ∙ ap (λ (f : A → Name A). rename_term f y) (sym (later_is old new grown))
+
+  many_then : {X Y Z : Type 0} (k : X → Z) (h : Y → Z) (f : X → Y) → ((x : X) → k x ≡ h (f x)) → (xs : List X) → map k xs ≡ map h (map f xs)
+  many_then k h f e [] = refl
+  many_then k h f e (x ∷ xs) = ap₂ ◌∷◌ (e x) (many_then k h f e xs)
+
+  pub triples_later : (xs : List (Triple ℕ)) (ys : List (Triple A)) → map (rename Number) xs ≡ map (rename (named old)) ys → map (rename Number) xs ≡ map (rename (named new)) ys
+  triples_later xs ys e =
+      many_then (rename Number) (rename later_name) (rename Number) (triple_then later_name Number) xs ∙ ap (map (rename later_name)) e
+      ∙ sym (many_then (rename (λ a. later_name (named old a))) (rename later_name) (rename (named old)) (triple_then later_name (named old)) ys)
+      ∙ ap (λ (f : A → Name A). map (rename f) ys) (sym (later_is old new grown))
+
+  slot_then : {X Y Z : Type 0} (h : Y → Z) (f : X → Y) (s : Slot X) → rename_slot (λ a. h (f a)) s ≡ rename_slot h (rename_slot f s)
+  slot_then h f (Full t) = ap Full (term_then h f t)
+  slot_then h f (Waiting r) = refl
+
+  item_then : {X Y Z : Type 0} (h : Y → Z) (f : X → Y) (item : Option (Slot X)) → option_map (rename_slot (λ a. h (f a))) item ≡ option_map (rename_slot h) (option_map (rename_slot f) item)
+  item_then h f None = refl
+  item_then h f (Some s) = ap Some (slot_then h f s)
+
+  pub slots_later : {O : Type 0} (xs : List (Entry O (Slot ℕ))) (ys : List (Entry O (Slot A))) → map (map_entry (rename_slot Number)) xs ≡ map (map_entry (rename_slot (named old))) ys
+      → map (map_entry (rename_slot Number)) xs ≡ map (map_entry (rename_slot (named new))) ys
+  slots_later xs ys e =
+      many_then (map_entry (rename_slot Number)) (map_entry (rename_slot later_name)) (map_entry (rename_slot Number)) (λ x i. record { owner = x.owner; predicate = x.predicate; item = item_then later_name Number x.item i }) xs
+      ∙ ap (map (map_entry (rename_slot later_name))) e
+      ∙ sym (many_then (map_entry (rename_slot (λ a. later_name (named old a)))) (map_entry (rename_slot later_name)) (map_entry (rename_slot (named old))) (λ y i. record { owner = y.owner; predicate = y.predicate; item = item_then later_name (named old) y.item i }) ys)
+      ∙ ap (λ (f : A → Name A). map (map_entry (rename_slot f)) ys) (sym (later_is old new grown))
+
+-- ---- the same for what has two kinds of names
+
+module _ {A O : Type 0} (old new : A → Option ℕ) (grown : Grown old new) (old' new' : O → Option ℕ) (grown' : Grown old' new') where
+  pub inherited_later : (x : Inherited ℕ ℕ) (y : Inherited A O) → rename_inherited Number Number x ≡ rename_inherited (named old) (named old') y
+      → rename_inherited Number Number x ≡ rename_inherited (named new) (named new') y
+  inherited_later x y e =
+      let h : Name A → Name A = later old new grown in
+      let h' : Name O → Name O = later old' new' grown' in
+      inherited_then h Number h' Number x ∙ ap (rename_inherited h h') e ∙ sym (inherited_then h (named old) h' (named old') y)
+      ∙ ap₂ (λ (f : A → Name A) (g : O → Name O). rename_inherited f g y) (sym (later_is old new grown)) (sym (later_is old' new' grown'))
+
+-- ---- names are one where what they name is one
+
+module _ {A : Type 0} (same : A → A → Bool) (exact : IsExact same) (to : A → Option ℕ) (one_to_one : (a b : A) (n : ℕ) → to a ≡ Some n → to b ≡ Some n → a ≡ b) where
+  same_by : (a b : A) (o p : Option ℕ) → to a ≡ o → to b ≡ p → same a b ≡ same_name same (name_by a o) (name_by b p)
+  same_by a b None None e f = refl
+  same_by a b None (Some m) e f = false_unless (same a b) (λ h. absurd (cc (ap to ((exact a b).0 h), e, f)))
+  same_by a b (Some n) None e f = false_unless (same a b) (λ h. absurd (cc (ap to ((exact a b).0 h), e, f)))
+  same_by a b (Some n) (Some m) e f = both_tests (same a b) (nat_eq n m)
+      (λ h. (exact_numbers n m).1 (numbers (ap to ((exact a b).0 h))))
+      (λ h. (exact a b).1 (one_to_one a b n e (f ∙ ap Some (sym ((exact_numbers n m).0 h)))))
+    where
+      numbers : to a ≡ to b → n ≡ m
+      numbers h = cc (h, e, f)
+
+      both_tests : (s t : Bool) → (s ≡ true → t ≡ true) → (t ≡ true → s ≡ true) → s ≡ t
+      both_tests true true h k = refl
+      both_tests false false h k = refl
+      both_tests true false h k = sym (h refl)
+      both_tests false true h k = k refl
+
+  pub same_names : (a b : A) → same a b ≡ same_name same (named to a) (named to b)
+  same_names a b = same_by a b (to a) (to b) refl refl

@@ -1,0 +1,35 @@
+-- What is shown of the frames is what the rules hand on.
+use Rattle.std.proofs.Common.{◌≡◌, ◌∙◌, List, [], ◌∷◌, map, refl, sym, ap, ap₂}
+use Rattle.rx_model.specs.Numbered.{rename_node}
+use Rattle.rx_rdfa.specs.Blanks.{Bnode, Owner}
+use Rattle.rx_rdfa.specs.Resources as rules
+use Rattle.rx_rdfa.specs.Calls.{Call}
+use Rattle.rx_rdfa.specs.Renaming.{rename_hanging}
+use Rattle.rx_eval.specs.declared.inherited.Inherited.{Inherited}
+use Rattle.rx_eval.specs.States.{State}
+use Rattle.rx_eval.specs.Opened.{handed_on}
+use Rattle.rx_eval.specs.Waits.{wait_by, Shows}
+use Rattle.rx_eval.specs.Numbering.{Numbering, Name, Number, named}
+use Rattle.rx_eval.specs.Standing.{Stands, context_after}
+use Rattle.rx_eval.specs.Shown.{ShowsAfter}
+use Rattle.rx_eval.proofs.StandLemmas.{hands_on}
+
+wait_same : {O P : Type 0} (g : O → P) (h : rules.Hanging O) → wait_by (rename_hanging g h) ≡ wait_by h
+wait_same g (rules.Forward p) = refl
+wait_same g (rules.Reverse p) = refl
+wait_same g (rules.InList owner p) = refl
+
+waits_same : {O P : Type 0} (g : O → P) (hs : List (rules.Hanging O)) → map wait_by (map (rename_hanging g) hs) ≡ map wait_by hs
+waits_same g [] = refl
+waits_same g (h ∷ hs) = ap₂ ◌∷◌ (wait_same g h) (waits_same g hs)
+
+pub shows_after : (to : Numbering) (list : List Call) (state : State) (shown : Inherited) → Shows shown (handed_on state.page state.frames) → Stands to list state → ShowsAfter to state.base list shown
+shows_after to list state shown s h =
+    let k = hands_on to list state h in
+    record {
+      subject = ap (rename_node Number) s.subject ∙ ap (λ (x : rules.Inherited (Name Bnode) (Name Owner)). x.subject) k.path;
+      object = ap (rename_node Number) s.object ∙ ap (λ (x : rules.Inherited (Name Bnode) (Name Owner)). x.object) k.path;
+      hanging =
+          s.hanging ∙ sym (waits_same Number (handed_on state.page state.frames).hanging)
+          ∙ ap (λ (x : rules.Inherited (Name Bnode) (Name Owner)). map wait_by x.hanging) k.path ∙ waits_same (named k.own) (context_after state.base list).hanging;
+    }

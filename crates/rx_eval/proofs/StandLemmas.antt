@@ -1,0 +1,241 @@
+-- What the calls keep, and what they come to.
+use Rattle.std.proofs.Common.{◌≡◌, ◌∙◌, ℕ, suc, ◌+◌, ◌≤◌, ◌^◌, ◌⊎◌, inl, inr, Bool, true, false, List, [], ◌∷◌, ◌++◌, map, length, Option, Some, None, unwrap_or, refl, sym, ap, ap₂, subst, subst₂, arith}
+use Rattle.std.proofs.lemmas.List.{length-map}
+use Rattle.rx_terms.specs.Text.{Chars}
+use Rattle.rx_model.specs.Sets.{Among}
+use Rattle.rx_model.specs.Terms.{Node, Iri, Blank, Term, Resource, Literal, Triple}
+use Rattle.rx_model.specs.Numbered.{rename_node, rename_term, rename, blank_of_node, blank_of_term, blanks_of, blanks}
+use Rattle.rx_model.proofs.Sets.{Among_cases}
+use Rattle.rx_rdfa.specs.Blanks.{Bnode, Owner, model}
+use Rattle.rx_rdfa.specs.Tree.{Nodes, end, element, text}
+use Rattle.rx_rdfa.specs.Facts.{Facts}
+use Rattle.rx_rdfa.specs.Resources.{Inherited}
+use Rattle.rx_rdfa.specs.Machine.{Machine, enter, read, inherit, begun, finished}
+use Rattle.rx_rdfa.specs.Calls.{Call, Enter, Read, Leave, calls, after, Line, move, line_after, no_line}
+use Rattle.rx_rdfa.specs.Lists.{cells}
+use Rattle.rx_rdfa.specs.Made.{made}
+use Rattle.rx_rdfa.specs.Renaming.{rename_inherited, labels}
+use Rattle.rx_rdfa.proofs.Calls.{after-append, frames_at, calls_read}
+use Rattle.rx_rdfa.proofs.Machine.{reading_makes}
+use Rattle.rx_rdfa.proofs.Growing.{node_then, term_then}
+use Rattle.rx_element.specs.Labels.{Numbered}
+use Rattle.rx_eval.specs.States.{State}
+use Rattle.rx_eval.specs.Opened.{handed_on, Opens, begun_state, read_text}
+use Rattle.rx_eval.specs.Numbering.{Numbering, Name, Number, Itself, name_by, named, Numbers}
+use Rattle.rx_eval.specs.Slots.{owner_place}
+use Rattle.rx_eval.specs.Standing.{Layer, open_in, Runs, Phase, Stands, StandsOn, page_context, no_numbers, number_in, Makes, HandsOn}
+use Rattle.rx_eval.proofs.LayerLemmas.{frames_length, handed_now}
+use Rattle.rx_eval.proofs.LeavesLemmas.{text_read}
+use Rattle.rx_eval.proofs.BeginLemmas.{entered_runs}
+
+-- ---- before the root
+
+no_label : Numbers no_numbers [] 0 (2 ^ 61)
+no_label = record { label = λ l. refl; bounded = λ b n e. absurd (cc e); one_to_one = λ a b n e f. absurd (cc e); low = omega arith; high = omega arith }
+
+pub begun_stands : (base : Chars) (levels : ℕ) → Stands no_numbers [] (begun_state base levels)
+begun_stands base levels = record {
+  page = refl;
+  phase = record {
+    layers = [];
+    slots = [];
+    by = record {
+      numbers = no_label;
+      frames = refl;
+      standings = refl;
+      texts = refl;
+      path = refl;
+      each = tt;
+      by_names = refl;
+      tables = refl;
+      waiting = tt;
+      unmade = λ r c. refl;
+      uncelled = λ o h p i. refl;
+      unbegun = λ o h e. refl;
+      out = refl;
+      rootless = λ e. refl;
+    };
+  };
+}
+
+-- ---- a start tag, and text
+
+module _ (to : Numbering) (list : List Call) (state : State) where
+  abbrev machine : Machine Bnode Owner
+  machine = after model state.base list begun
+
+  enter_in : (facts : Facts) (new : State) (b : Bool) → state.ended ≡ b → b ≡ false → Phase b to machine state → Opens state facts new → state.page ≡ page_context state.base → state.drawn + 1 + length (labels facts) ≤ 2 ^ 61
+      → StandsOn to (list ++ Enter facts ∷ []) new
+  enter_in facts new true e f p o page room = absurd (cc f)
+  enter_in facts new false e f p o page room =
+      let x = entered_runs to machine state facts new p.layers p.slots p.by o page room in
+      let more : after model new.base (list ++ Enter facts ∷ []) begun ≡ enter model state.base facts machine =
+      ap (λ (b : Chars). after model b (list ++ Enter facts ∷ []) begun) o.rest.0 ∙ after-append model state.base list (Enter facts ∷ []) begun in
+      record {
+        now = x.numbers;
+        grown = x.grown;
+        stands = record {
+          page = o.rest.2 ∙ page ∙ ap page_context (sym o.rest.0);
+          phase = subst₂ (λ (b : Bool) (m : Machine Bnode Owner). Phase b x.numbers m new) (sym (o.rest.5 ∙ e)) (sym more) (record { layers = x.layers_after; slots = x.slots_after; by = x.runs });
+        };
+      }
+
+  pub enter_stands : (facts : Facts) (new : State) → Opens state facts new → state.ended ≡ false → state.drawn + 1 + length (labels facts) ≤ 2 ^ 61 → Stands to list state → StandsOn to (list ++ Enter facts ∷ []) new
+  enter_stands facts new o e room s = enter_in facts new state.ended refl e s.phase o s.page room
+
+  text_in : (chars : Chars) (b : Bool) → Phase b to machine state → Phase b to (read chars machine) (read_text chars state)
+  text_in chars true p = record { numbers = p.numbers; frames = p.frames; standings = p.standings; texts = ap (map (λ t. t ++ chars)) p.texts; out = p.out }
+  text_in chars false p = text_read to machine state chars p
+
+  pub text_stands : (chars : Chars) → Stands to list state → Stands to (list ++ Read chars ∷ []) (read_text chars state)
+  text_stands chars s = record {
+    page = s.page;
+    phase = subst (λ (m : Machine Bnode Owner). Phase state.ended to m (read_text chars state)) (sym (after-append model state.base list (Read chars ∷ []) begun)) (text_in chars state.ended s.phase);
+  }
+
+  -- ---- the frames
+
+  hands_in : (b : Bool) → Phase b to machine state → state.page ≡ page_context state.base → HandsOn to list state
+  hands_in true p page = record {
+    own = owner_place (open_in state.base []);
+    path =
+        ap₂ (λ (c : Inherited ℕ ℕ) (f : List _). rename_inherited Number Number (handed_on c f)) page p.frames
+        ∙ handed_now to state.base [] [] tt
+        ∙ ap (rename_inherited (named to) (named (owner_place (open_in state.base [])))) (ap (inherit model state.base) (sym p.standings) ∙ (frames_at model state.base list).context);
+  }
+  hands_in false p page = record {
+    own = owner_place (open_in state.base p.layers);
+    path =
+        ap₂ (λ (c : Inherited ℕ ℕ) (f : List _). rename_inherited Number Number (handed_on c f)) page p.by.frames
+        ∙ handed_now to state.base state.kept p.layers p.by.each
+        ∙ ap (rename_inherited (named to) (named (owner_place (open_in state.base p.layers)))) (ap (inherit model state.base) (sym p.by.standings) ∙ (frames_at model state.base list).context);
+  }
+
+  pub hands_on : Stands to list state → HandsOn to list state
+  hands_on s = hands_in state.ended s.phase s.page
+
+  depth_in : (b : Bool) → Phase b to machine state → length state.frames ≡ length (line_after list no_line).facts
+  depth_in true p = ap length p.frames ∙ ap length (sym p.standings) ∙ (frames_at model state.base list).open_elements
+  depth_in false p =
+      ap length p.by.frames ∙ frames_length p.layers ∙ sym (length-map p.layers (λ l. l.at)) ∙ ap length (sym p.by.standings) ∙ (frames_at model state.base list).open_elements
+
+  pub depth_stands : Stands to list state → length state.frames ≡ length (line_after list no_line).facts
+  depth_stands s = depth_in state.ended s.phase
+
+-- ---- the end
+
+line_then : (xs ys : List Call) (line : Line) → line_after (xs ++ ys) line ≡ line_after ys (line_after xs line)
+line_then [] ys line = refl
+line_then (x ∷ xs) ys line = line_then xs ys (move x line)
+
+-- a tree's calls leave no element open
+balanced : (nodes : Nodes Facts) (line : Line) → (k : ℕ) × (line_after (calls nodes) line ≡ record { facts = line.facts; path = line.path; next = k })
+balanced end line = (line.next, refl)
+balanced (text chars rest) line = balanced rest line
+balanced (element facts inside rest) line =
+    let a = balanced inside (record { facts = facts ∷ line.facts; path = line.next ∷ line.path; next = 0 }) in
+    let b = balanced rest (record { facts = line.facts; path = line.path; next = suc line.next }) in
+    (b.0, line_then (calls inside) (Leave ∷ calls rest) (move (Enter facts) line) ∙ ap (λ (l : Line). line_after (calls rest) (move Leave l)) a.1 ∙ b.1)
+
+abbrev number_only : Name Bnode → ℕ
+number_only (Number n) = n
+number_only (Itself b) = 0
+
+node_back : (x : Node ℕ) → rename_node number_only (rename_node Number x) ≡ x
+node_back (Iri iri) = refl
+node_back (Blank n) = refl
+
+term_back : (x : Term ℕ) → rename_term number_only (rename_term Number x) ≡ x
+term_back (Resource node) = ap Resource (node_back node)
+term_back (Literal lexical kind) = refl
+
+back : (xs : List (Triple ℕ)) → map (rename number_only) (map (rename Number) xs) ≡ xs
+back [] = refl
+back (t ∷ xs) = λ i. record { subject = node_back t.subject i; predicate = t.predicate; object = term_back t.object i } ∷ back xs i
+
+module _ (to : Numbering) where
+  number_is : (b : Bnode) (o : Option ℕ) → number_only (name_by b o) ≡ unwrap_or o 0
+  number_is b None = refl
+  number_is b (Some n) = refl
+
+  numbers_are : (λ b. number_only (named to b)) ≡ number_in to
+  numbers_are = λ i b. number_is b (to b) i
+
+  numbered_by : (ys : List (Triple Bnode)) → map (rename number_only) (map (rename (named to)) ys) ≡ map (rename (λ b. number_only (named to b))) ys
+  numbered_by [] = refl
+  numbered_by (t ∷ ys) = λ i. record { subject = sym (node_then number_only (named to) t.subject) i; predicate = t.predicate; object = sym (term_then number_only (named to) t.object) i } ∷ numbered_by ys i
+
+  list_numbered : (xs : List (Triple ℕ)) (ys : List (Triple Bnode)) → map (rename Number) xs ≡ map (rename (named to)) ys → xs ≡ map (rename (number_in to)) ys
+  list_numbered xs ys e = sym (back xs) ∙ ap (map (rename number_only)) e ∙ numbered_by ys ∙ ap (λ (f : Bnode → ℕ). map (rename f) ys) numbers_are
+
+  has_number : (b : Bnode) (o : Option ℕ) (n : ℕ) → Number n ≡ name_by b o → o ≡ Some (unwrap_or o 0)
+  has_number b None n e = absurd (cc)
+  has_number b (Some m) n e = refl
+
+  node_numbered : (x : Node ℕ) (y : Node Bnode) → rename_node Number x ≡ rename_node (named to) y → (b : Bnode) → Among (blank_of_node y) b → to b ≡ Some (number_in to b)
+  node_numbered x (Iri iri) e b a = absurd a
+  node_numbered (Iri iri) (Blank c) e b a = absurd (cc)
+  node_numbered (Blank n) (Blank c) e b (inl q) = subst (λ (z : Bnode). to z ≡ Some (number_in to z)) q (has_number c (to c) n (cc))
+  node_numbered (Blank n) (Blank c) e b (inr q) = absurd q
+
+  term_numbered : (x : Term ℕ) (y : Term Bnode) → rename_term Number x ≡ rename_term (named to) y → (b : Bnode) → Among (blank_of_term y) b → to b ≡ Some (number_in to b)
+  term_numbered x (Literal lexical kind) e b a = absurd a
+  term_numbered (Literal lexical kind) (Resource y) e b a = absurd (cc)
+  term_numbered (Resource x) (Resource y) e b a = let q : rename_node Number x ≡ rename_node (named to) y = cc in node_numbered x y q b a
+
+  all_numbered : (xs : List (Triple ℕ)) (ys : List (Triple Bnode)) → map (rename Number) xs ≡ map (rename (named to)) ys → (b : Bnode) → Among (blanks ys) b → to b ≡ Some (number_in to b)
+  all_numbered xs [] e b a = absurd a
+  all_numbered [] (u ∷ ys) e b a = absurd (cc)
+  all_numbered (t ∷ xs) (u ∷ ys) e b a =
+      let first : rename Number t ≡ rename (named to) u = cc in
+      let rest : map (rename Number) xs ≡ map (rename (named to)) ys = cc in
+      go first (λ c. all_numbered xs ys rest b c) (Among_cases (blanks_of u) (blanks ys) b a)
+    where
+      here : rename Number t ≡ rename (named to) u → Among (blank_of_node u.subject) b ⊎ Among (blank_of_term u.object) b → to b ≡ Some (number_in to b)
+      here e (inl c) = node_numbered t.subject u.subject (ap (λ (x : Triple (Name Bnode)). x.subject) e) b c
+      here e (inr c) = term_numbered t.object u.object (ap (λ (x : Triple (Name Bnode)). x.object) e) b c
+
+      go : rename Number t ≡ rename (named to) u → (Among (blanks ys) b → to b ≡ Some (number_in to b)) → Among (blanks_of u) b ⊎ Among (blanks ys) b → to b ≡ Some (number_in to b)
+      go e more (inl c) = here e (Among_cases (blank_of_node u.subject) (blank_of_term u.object) b c)
+      go e more (inr c) = more c
+
+  makes : (base : Chars) (tree : Nodes Facts) (xs : List (Triple ℕ)) (labels : Numbered) (drawn cells : ℕ) → Numbers to labels drawn cells → map (rename Number) xs ≡ map (rename (named to)) (made model base tree) → Makes to base tree xs
+  makes base tree xs labels drawn cells n e =
+      let has = all_numbered xs (made model base tree) e in
+      record {
+        list = list_numbered xs (made model base tree) e;
+        numbered = has;
+        one_to_one = λ a b h k q. n.one_to_one a b (number_in to a) (has a h) (has b k ∙ ap Some (sym q));
+      }
+
+  -- with no root there are no triples
+  rootless_made : (state : State) (tree : Nodes Facts) → Runs to (after model state.base (calls tree) begun) state → finished model state.base (after model state.base (calls tree) begun) ≡ (after model state.base (calls tree) begun).out
+  unfolding cells
+  rootless_made state tree p = ap (finished model state.base) e ∙ ap (λ (m : Machine Bnode Owner). m.out) (sym e)
+    where
+      none : (ls : List Layer) → length ls ≡ 0 → ls ≡ []
+      none [] q = refl
+      none (l ∷ ls) q = absurd (omega (arith, q))
+
+      e : after model state.base (calls tree) begun ≡ begun
+      e = p.by.rootless (none p.layers (sym (length-map p.layers (λ l. l.at)) ∙ ap length (sym p.by.standings) ∙ (frames_at model state.base (calls tree)).open_elements ∙ ap (λ (l : Line). length l.facts) (balanced tree no_line).1))
+
+  list_is : (base : Chars) (tree : Nodes Facts) → finished model base (after model base (calls tree) begun) ≡ made model base tree
+  list_is base tree = ap (finished model base) (calls_read base tree begun) ∙ reading_makes base tree
+
+  finish_in : (state : State) (tree : Nodes Facts) (b : Bool) → Phase b to (after model state.base (calls tree) begun) state → Makes to state.base tree state.out
+  finish_in state tree false p =
+      makes state.base tree state.out state.labels state.drawn state.cells p.by.numbers (p.by.out ∙ ap (map (rename (named to))) (sym (rootless_made state tree p) ∙ list_is state.base tree))
+  finish_in state tree true p = makes state.base tree state.out state.labels state.drawn state.cells p.numbers (p.out ∙ ap (map (rename (named to))) (list_is state.base tree))
+
+  -- after the calls for a tree the triples are the tree's
+  pub finish_makes : (state : State) (tree : Nodes Facts) → Stands to (calls tree) state → Makes to state.base tree state.out
+  finish_makes state tree s = finish_in state tree state.ended s.phase
+
+-- ---- as the calls say it
+
+pub begun_as : (base : Chars) (levels : ℕ) (new : State) → new ≡ begun_state base levels → Stands no_numbers [] new
+begun_as base levels new e = subst (Stands no_numbers []) (sym e) (begun_stands base levels)
+
+pub text_as : (to : Numbering) (list : List Call) (state : State) (chars : Chars) (new : State) → new ≡ read_text chars state → Stands to list state → Stands to (list ++ Read chars ∷ []) new
+text_as to list state chars new e s = subst (Stands to (list ++ Read chars ∷ [])) (sym e) (text_stands to list state chars s)

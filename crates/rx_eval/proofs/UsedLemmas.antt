@@ -1,0 +1,185 @@
+-- The number of a new node, and the owners that an element begins.
+use Rattle.std.proofs.Common.{◌≡◌, ◌∙◌, ℕ, zero, suc, ◌+◌, ◌≤◌, ◌⊎◌, inl, inr, Bool, true, false, not, ◌&&◌, ◌||◌, ◌==◌, List, [], ◌∷◌, ◌++◌, length, Option, Some, None, is_none, unwrap_or, nat_eq, refl, sym, ap, subst, arith, append-nil, length-append}
+use Rattle.std.specs.Prelude.{IfSome, if◌then◌else◌}
+use Rattle.std.specs.Option.{option_or}
+use Rattle.std.specs.Bool.{then_some}
+use Rattle.std.proofs.lemmas.Bool.Decides.{Decides-eqb}
+use Rattle.rx_terms.specs.Text.{Chars}
+use Rattle.rx_model.specs.Terms.{Node, Blank, Term, same_node}
+use Rattle.rx_model.proofs.Sets.{or_cases, and_left, and_right, or_left, or_right}
+use Rattle.rx_rdfa.specs.Naming.{Path, Naming}
+use Rattle.rx_rdfa.specs.Blanks.{Owner, same_owner}
+use Rattle.rx_rdfa.specs.Facts.{Facts}
+use Rattle.rx_rdfa.specs.Resources.{Inherited, Standing, Resources, new_blank, resources}
+use Rattle.rx_rdfa.specs.Inherited.{hangs, object_below, handed, below}
+use Rattle.rx_rdfa.specs.Lists.{of_owner, entries_by}
+use Rattle.rx_element.specs.Blanks.{is_blank}
+use Rattle.rx_element.specs.Labels.{Numbered}
+use Rattle.rx_element.specs.Moment.{moment}
+use Rattle.rx_element.specs.Places.{level_at, path_at, standing_by}
+use Rattle.rx_eval.specs.OwnersSeen.{Owning, owning, put_entries}
+use Rattle.rx_eval.specs.Opening.{drawn_after}
+use Rattle.rx_eval.specs.Entering.{next_number, owner_begun, owner_for, begun_for, owners_begun}
+use Rattle.rx_eval.specs.Slots.{Slots, Open, Waiter, FillUp, Within}
+use Rattle.rx_eval.specs.Standing.{begun_by}
+use Rattle.rx_eval.proofs.OtherLemmas.{MadeIn, made_in, makes_resource, makes_new}
+use Rattle.rx_eval.proofs.FillLemmas.{begin_fill_up}
+
+-- ---- the number of a new node
+
+makes_level : (facts : Facts) (d : ℕ) (path : Path) → length path ≡ suc d → makes_resource facts path ≡ makes_resource facts (path_at (level_at d))
+makes_level facts d [] e = absurd (omega arith)
+makes_level facts zero (i ∷ []) e = refl
+makes_level facts zero (i ∷ j ∷ r) e = absurd (omega arith)
+makes_level facts (suc zero) (i ∷ []) e = absurd (omega arith)
+makes_level facts (suc zero) (i ∷ j ∷ []) e = refl
+makes_level facts (suc zero) (i ∷ j ∷ k ∷ r) e = absurd (omega arith)
+makes_level facts (suc (suc d)) (i ∷ []) e = absurd (omega arith)
+makes_level facts (suc (suc d)) (i ∷ j ∷ []) e = absurd (omega arith)
+makes_level facts (suc (suc d)) (i ∷ j ∷ k ∷ r) e = refl
+
+module _ (M : Naming ℕ ℕ) (base : Chars) (at : Standing ℕ ℕ) (here : Resources ℕ) where
+  -- what an element that isn't skipped hands on
+  pub handed_new : here.skipped ≡ false → ((handed M at here).subject ≡ here.subject) × ((handed M at here).object ≡ unwrap_or (object_below M at here) here.subject)
+  handed_new e = (rw e refl, rw e refl)
+
+  object_made : here.object ≡ Some (new_blank M at) → unwrap_or (object_below M at here) here.subject ≡ new_blank M at
+  object_made e = ap (λ (o : Option (Node ℕ)). unwrap_or (option_or o (then_some (hangs at.facts here) (new_blank M at))) here.subject) e
+
+  object_hangs : hangs at.facts here ≡ true → unwrap_or (object_below M at here) here.subject ≡ new_blank M at
+  object_hangs h = go here.object (and_left (is_none here.object) _ h) ∙ ap (λ (b : Bool). unwrap_or (then_some b (new_blank M at)) here.subject) h
+    where
+      go : (o : Option (Node ℕ)) → is_none o ≡ true → unwrap_or (option_or o (then_some (hangs at.facts here) (new_blank M at))) here.subject ≡ unwrap_or (then_some (hangs at.facts here) (new_blank M at)) here.subject
+      go None e = refl
+      go (Some x) e = absurd (cc)
+
+  not_true : (b : Bool) → not b ≡ true → b ≡ false
+  not_true true h = absurd (cc)
+  not_true false h = refl
+
+  pub used : (makes_resource at.facts at.path ≡ true → MadeIn M base at here) → makes_new at.facts at.path here ≡ true
+      → ((handed M at here).subject ≡ new_blank M at) ⊎ ((handed M at here).object ≡ new_blank M at)
+  used k h = go (or_cases (makes_resource at.facts at.path) (not here.skipped && hangs at.facts here) h)
+    where
+      made : (m : MadeIn M base at here) → (here.subject ≡ new_blank M at) ⊎ (here.object ≡ Some (new_blank M at)) → ((handed M at here).subject ≡ new_blank M at) ⊎ ((handed M at here).object ≡ new_blank M at)
+      made m (inl e) = inl ((handed_new m.speaks).0 ∙ e)
+      made m (inr e) = inr ((handed_new m.speaks).1 ∙ object_made e)
+
+      go : (makes_resource at.facts at.path ≡ true) ⊎ ((not here.skipped && hangs at.facts here) ≡ true) → ((handed M at here).subject ≡ new_blank M at) ⊎ ((handed M at here).object ≡ new_blank M at)
+      go (inl e) = let m = k e in made m m.is
+      go (inr e) = inr ((handed_new (not_true here.skipped (and_left (not here.skipped) (hangs at.facts here) e))).1 ∙ object_hangs (and_right (not here.skipped) (hangs at.facts here) e))
+
+same_number : (n : ℕ) → (n == n) ≡ true
+same_number n = (Decides-eqb n n).1 refl
+
+blank_is : (node : Node ℕ) (n : ℕ) → node ≡ Blank n → is_blank node n ≡ true
+blank_is node n e = ap (λ (x : Node ℕ). is_blank x n) e ∙ same_number n
+
+pub drawn_used : (context : Inherited ℕ ℕ) (fresh : ℕ) → (context.subject ≡ Blank fresh) ⊎ (context.object ≡ Blank fresh) → drawn_after context fresh ≡ fresh + 1
+drawn_used context fresh (inl e) = ap (λ (b : Bool). if b then fresh + 1 else fresh) (or_left (is_blank context.subject fresh) (is_blank context.object fresh) (blank_is context.subject fresh e))
+drawn_used context fresh (inr e) = ap (λ (b : Bool). if b then fresh + 1 else fresh) (or_right (is_blank context.subject fresh) (is_blank context.object fresh) (blank_is context.object fresh e))
+
+pub drawn_least : (context : Inherited ℕ ℕ) (fresh : ℕ) → (fresh ≤ drawn_after context fresh) × (drawn_after context fresh ≤ fresh + 1)
+drawn_least context fresh = go (is_blank context.subject fresh || is_blank context.object fresh)
+  where
+    go : (b : Bool) → (fresh ≤ (if b then fresh + 1 else fresh)) × ((if b then fresh + 1 else fresh) ≤ fresh + 1)
+    go true = (omega arith, omega arith)
+    go false = (omega arith, omega arith)
+
+-- ---- the owners that begin
+
+abbrev Many : Type 0
+Many = List (Option Owning)
+
+abbrev pub with_owner : Option ℕ → Node ℕ → Many → Many
+with_owner None subject owners = owners
+with_owner (Some n) subject owners = owners ++ Some (owning subject []) ∷ []
+
+seen_as : (t : Bool) (n : ℕ) (s : Node ℕ) (os : Many) → (if t then os else os ++ Some (owning s []) ∷ []) ≡ with_owner (if t then None else Some n) s os
+seen_as true n s os = refl
+seen_as false n s os = refl
+
+begun_as : (M : Naming ℕ ℕ) (at : Standing ℕ ℕ) (here : Resources ℕ) (n m : ℕ) (owners : Many)
+    → owners_begun M at here owners ≡ with_owner (owner_for (object_below M at here) here.subject m) (unwrap_or (object_below M at here) here.subject) (with_owner (owner_begun here.subject at.around.object n) here.subject owners)
+begun_as M at here n m owners = ap (begun_for (object_below M at here) here.subject) (seen_as (same_node nat_eq here.subject at.around.object) n here.subject owners) ∙ under (object_below M at here) (with_owner (owner_begun here.subject at.around.object n) here.subject owners)
+  where
+    under : (o : Option (Node ℕ)) (os : Many) → begun_for o here.subject os ≡ with_owner (owner_for o here.subject m) (unwrap_or o here.subject) os
+    under None os = refl
+    under (Some object) os = seen_as (same_node nat_eq object here.subject) m object os
+
+module _ (M : Naming ℕ ℕ) (at : Standing ℕ ℕ) (here : Resources ℕ) (n m : ℕ) (owners : Many) (own under : Option ℕ) (context : Inherited ℕ ℕ)
+    (o : own ≡ (if here.skipped then None else owner_begun here.subject at.around.object n)) (u : under ≡ (if here.skipped then None else owner_for (object_below M at here) here.subject m)) (c : context ≡ handed M at here) where
+  pub begun_now : here.skipped ≡ false → owners_begun M at here owners ≡ with_owner under context.object (with_owner own context.subject owners)
+  begun_now e =
+      begun_as M at here n m owners
+      ∙ (λ i. with_owner (sym (u ∙ ap (λ (b : Bool). if b then None else owner_for (object_below M at here) here.subject m) e) i) (sym (ap (λ (x : Inherited ℕ ℕ). x.object) c ∙ (handed_new M [] at here e).1) i)
+      (with_owner (sym (o ∙ ap (λ (b : Bool). if b then None else owner_begun here.subject at.around.object n) e) i) (sym (ap (λ (x : Inherited ℕ ℕ). x.subject) c ∙ (handed_new M [] at here e).0) i) owners))
+
+  -- what an element puts, with the owners that it begins; one that is skipped puts nothing
+  pub lists_as : (v : Option (Term ℕ)) → (if here.skipped then owners else put_entries (entries_by M Some v at here) (owners_begun M at here owners))
+      ≡ put_entries (entries_by M Some v at here) (with_owner under context.object (with_owner own context.subject owners))
+  lists_as v = go here.skipped refl
+    where
+      go : (b : Bool) → here.skipped ≡ b → (if here.skipped then owners else put_entries (entries_by M Some v at here) (owners_begun M at here owners)) ≡ put_entries (entries_by M Some v at here) (with_owner under context.object (with_owner own context.subject owners))
+      go true e = rw (o, u) (rw e refl)
+      go false e =
+          ap (λ (b : Bool). if b then owners else put_entries (entries_by M Some v at here) (owners_begun M at here owners)) e
+          ∙ ap (put_entries (entries_by M Some v at here)) (begun_now e)
+
+pub with_fill_up : (open_owners : Open) (own : Option ℕ) (o : Owner) (s : Node ℕ) (waiters : List Waiter) (owners : Many) (slots : Slots) → of_owner same_owner o slots ≡ [] → Within (length owners) waiters → FillUp open_owners waiters owners slots
+    → FillUp (open_owners ++ begun_by own o s) waiters (with_owner own s owners) slots
+with_fill_up open_owners None o s waiters owners slots e b h = subst (λ (x : Open). FillUp x waiters owners slots) (sym (append-nil open_owners)) h
+with_fill_up open_owners (Some n) o s waiters owners slots e b h = begin_fill_up open_owners o s waiters owners slots e b h
+
+pub with_length : (open_owners : Open) (own : Option ℕ) (o : Owner) (s t : Node ℕ) (owners : Many) → length owners ≡ length open_owners → length (with_owner own s owners) ≡ length (open_owners ++ begun_by own o t)
+with_length open_owners None o s t owners e = e ∙ ap length (sym (append-nil open_owners))
+with_length open_owners (Some n) o s t owners e =
+    let a = length-append owners (Some (owning s []) ∷ []) in let b = length-append open_owners ((o, t) ∷ []) in omega (arith, a, b, e)
+
+-- ---- the numbers of these owners
+
+pub own_number_is : (s t : Bool) (n : ℕ) (own : Option ℕ) → own ≡ (if s then None else (if t then None else Some n)) → IfSome own (λ k. k ≡ n)
+own_number_is true t n own e = subst (λ (o : Option ℕ). IfSome o (λ k. k ≡ n)) (sym e) tt
+own_number_is false true n own e = subst (λ (o : Option ℕ). IfSome o (λ k. k ≡ n)) (sym e) tt
+own_number_is false false n own e = subst (λ (o : Option ℕ). IfSome o (λ k. k ≡ n)) (sym e) refl
+
+pub under_number_is : (s t : Bool) (n : ℕ) (open_owners : Open) (o : Owner) (x subject : Node ℕ) (own under : Option ℕ) (object : Option (Node ℕ)) → n ≡ length open_owners
+    → own ≡ (if s then None else (if t then None else Some n)) → under ≡ (if s then None else owner_for object subject (if t then n else suc n)) → IfSome under (λ k. k ≡ length (open_owners ++ begun_by own o x))
+under_number_is true t n open_owners o x subject own under object q e u = subst (λ (p : Option ℕ). IfSome p (λ k. k ≡ length (open_owners ++ begun_by own o x))) (sym u) tt
+under_number_is false t n open_owners o x subject own under None q e u = subst (λ (p : Option ℕ). IfSome p (λ k. k ≡ length (open_owners ++ begun_by own o x))) (sym u) tt
+under_number_is false t n open_owners o x subject own under (Some y) q e u = subst (λ (p : Option ℕ). IfSome p (λ k. k ≡ length (open_owners ++ begun_by own o x))) (sym u) (go (same_node nat_eq y subject))
+  where
+    count : (t : Bool) → own ≡ (if t then None else Some n) → (if t then n else suc n) ≡ length (open_owners ++ begun_by own o x)
+    count true e = q ∙ ap length (sym (append-nil open_owners)) ∙ ap (λ (p : Option ℕ). length (open_owners ++ begun_by p o x)) (sym e)
+    count false e = let a = length-append open_owners ((o, x) ∷ []) in let b : suc n ≡ length (open_owners ++ (o, x) ∷ []) = omega (arith, a, q) in b ∙ ap (λ (p : Option ℕ). length (open_owners ++ begun_by p o x)) (sym e)
+
+    go : (b : Bool) → IfSome (if b then None else Some (if t then n else suc n)) (λ k. k ≡ length (open_owners ++ begun_by own o x))
+    go true = tt
+    go false = count t e
+
+-- what the number of a new node comes to
+module _ (facts : Facts) (base : Chars) (depth : ℕ) (path : Path) (list : Numbered) (fresh n : ℕ) (seen : Inherited ℕ ℕ) where
+  abbrev at_now : Standing ℕ ℕ
+  at_now = standing_by (level_at depth) seen facts
+
+  abbrev here_now : Resources ℕ
+  here_now = resources (moment list fresh 0 0) base at_now
+
+  abbrev moment_now : Naming ℕ ℕ
+  moment_now = moment list fresh n (next_number at_now here_now n)
+
+  made_now : makes_resource facts (path_at (level_at depth)) ≡ true → MadeIn moment_now base at_now here_now
+  unfolding resources
+  made_now k = made_in moment_now base at_now k
+
+  handed_below : below moment_now base at_now ≡ handed moment_now at_now here_now
+  unfolding below resources
+  handed_below = refl
+
+  pub new_drawn : length path ≡ suc depth → makes_new facts path here_now ≡ true → drawn_after (below moment_now base at_now) fresh ≡ fresh + 1
+  new_drawn d k = ap (λ (x : Inherited ℕ ℕ). drawn_after x fresh) handed_below
+      ∙ drawn_used (handed moment_now at_now here_now) fresh
+      (used moment_now base at_now here_now made_now (ap (λ (b : Bool). b || (not here_now.skipped && hangs facts here_now)) (sym (makes_level facts depth path d)) ∙ k))
+
+  pub handed_is : below moment_now base at_now ≡ handed moment_now at_now here_now
+  handed_is = handed_below

@@ -1,0 +1,25 @@
+-- What an evaluator shows, by the rules, and what it gives at the end.
+use Rattle.std.specs.Prelude.{◌≡◌, ℕ, List, map}
+use Rattle.rx_terms.specs.Text.{Chars}
+use Rattle.rx_model.specs.Terms.{Triple}
+use Rattle.rx_model.specs.Numbered.{rename_node}
+use Rattle.rx_model.specs.Seen.{node_seen}
+use Rattle.rx_rdfa.specs.Tree.{Nodes}
+use Rattle.rx_rdfa.specs.Facts.{Facts}
+use Rattle.rx_rdfa.specs.Calls.{Call, calls}
+use Rattle.rx_eval.specs.declared.inherited.Inherited.{Inherited}
+use Rattle.rx_eval.specs.States.{State}
+use Rattle.rx_eval.specs.Waits.{waits, wait_by}
+use Rattle.rx_eval.specs.Numbering.{Numbering, Number, named}
+use Rattle.rx_eval.specs.Standing.{Stands, Makes, context_after}
+
+-- what is shown is what a child of the innermost open element inherits by the rules after these calls, each blank node
+-- with its number
+pub record ShowsAfter (to : Numbering) (base : Chars) (list : List Call) (shown : Inherited) : Type 0 where
+  pub subject : rename_node Number (node_seen shown.subject.now) ≡ rename_node (named to) (context_after base list).subject
+  pub object : rename_node Number (node_seen shown.object.now) ≡ rename_node (named to) (context_after base list).object
+  pub hanging : waits shown ≡ map wait_by (context_after base list).hanging
+
+-- of every tree for whose calls the state stands the triples are the list
+abbrev pub IsMade : State → List (Triple ℕ) → Type 0
+IsMade state triples = (to : Numbering) (tree : Nodes Facts) → Stands to (calls tree) state → Makes to state.base tree triples

@@ -1,0 +1,205 @@
+-- What an evaluator stands for: the calls that it has taken, under a numbering of blank nodes.
+use Rattle.std.specs.Prelude.{◌≡◌, ◌≤◌, ◌⊎◌, ℕ, suc, Bool, true, false, List, [], ◌∷◌, ◌++◌, map, length, Option, Some, None, option_map, unwrap_or, IfSome}
+use Rattle.rx_terms.specs.Text.{Chars}
+use Rattle.rx_model.specs.Sets.{Among}
+use Rattle.rx_model.specs.Terms.{Node, Iri, Triple}
+use Rattle.rx_model.specs.Numbered.{rename_node, rename_term, rename, blanks}
+use Rattle.rx_rdfa.specs.Naming.{Path}
+use Rattle.rx_rdfa.specs.Tree.{Nodes}
+use Rattle.rx_rdfa.specs.Facts.{Facts}
+use Rattle.rx_rdfa.specs.Made.{made}
+use Rattle.rx_rdfa.specs.Blanks.{Bnode, Made, Cell, Owner, First, Of, Below, same_owner, model}
+use Rattle.rx_rdfa.specs.Resources.{Inherited, Standing, resources}
+use Rattle.rx_rdfa.specs.Inherited.{below, up, inherited}
+use Rattle.rx_rdfa.specs.Element.{end_of}
+use Rattle.rx_rdfa.specs.Lists.{map_entry, of_owner}
+use Rattle.rx_rdfa.specs.Machine.{Slot, Full, Waiting, Machine, value_at, finished, begun}
+use Rattle.rx_rdfa.specs.Renaming.{rename_slot, rename_inherited}
+use Rattle.rx_rdfa.specs.Calls.{Call, after, line_after, no_line}
+use Rattle.rx_values.specs.Marks.{CutAt}
+use Rattle.rx_lists.specs.declared.lists.SlotId.{SlotId}
+use Rattle.rx_element.specs.TextRules.{text_literal}
+use Rattle.rx_eval.specs.States.{Text, Frame, State}
+use Rattle.rx_eval.specs.Ending.{said_triples}
+use Rattle.rx_eval.specs.Opened.{handed_on}
+use Rattle.rx_eval.specs.Numbering.{Numbering, Number, named, Grown, Numbers}
+use Rattle.rx_eval.specs.Slots.{Slots, Open, owner_place, Waiter, FillUp, WithinOption}
+
+-- an open element: as the rules see it, its text so far, and its frame
+pub record Layer : Type 0 where
+  pub at : Standing Bnode Owner
+  pub text : Chars
+  pub frame : Frame
+
+abbrev pub frames_in : List Layer → List Frame
+frames_in [] = []
+frames_in (l ∷ lower) = frames_in lower ++ l.frame ∷ []
+
+abbrev pub path_in : List Layer → Path
+path_in [] = []
+path_in (l ∷ lower) = l.at.path
+
+abbrev pub paths_in : List Layer → List Path
+paths_in layers = map (λ l. l.at.path) layers
+
+abbrev pub begun_by : Option ℕ → Owner → Node ℕ → Open
+begun_by None owner subject = []
+begun_by (Some n) owner subject = (owner, subject) ∷ []
+
+-- an element's own owner, and the one for its children
+abbrev pub own_in : Layer → Open
+own_in l = begun_by l.frame.own (Of l.at.path) l.frame.context.subject
+
+abbrev pub under_in : Layer → Open
+under_in l = begun_by l.frame.below (Below l.at.path) l.frame.context.object
+
+-- the owners that are open, the page's first
+abbrev pub open_in : Chars → List Layer → Open
+open_in base [] = (First, Iri base) ∷ []
+open_in base (l ∷ lower) = (open_in base lower ++ own_in l) ++ under_in l
+
+abbrev pub places_of : Option Text → Option (List SlotId)
+places_of text = option_map (λ t. t.slots) text
+
+abbrev pub waiter_of : Layer → Waiter
+waiter_of l = record { path = l.at.path; places = places_of l.frame.text }
+
+-- the triples that an element's text is
+abbrev pub said_of : Option Text → Chars → List (Triple ℕ)
+said_of None chars = []
+said_of (Some text) chars = said_triples text.said text.subject (text_literal text.by chars)
+
+-- the text was kept behind the mark
+pub record KeptAt (kept : Chars) (mark : ℕ) (chars : Chars) : Type 0 where
+  pub front : Chars
+  pub cut : CutAt kept mark front chars
+
+-- an open element's frame hands on the rules' context; its owners have the next numbers; its text will give the triples
+-- and the value that the rules give it
+pub record LayerStands (to : Numbering) (base kept : Chars) (l : Layer) (lower : List Layer) : Type 0 where
+  pub deep : length l.at.path ≡ suc (length lower)
+  pub inside : up l.at.path ≡ path_in lower
+  pub context :
+      rename_inherited Number Number l.frame.context
+      ≡ rename_inherited (named to) (named (owner_place (open_in base (l ∷ lower)))) (below model base l.at)
+  pub own : IfSome l.frame.own (λ n. n ≡ length (open_in base lower))
+  pub subject : IfSome l.frame.own (λ n. rename_node Number l.frame.context.subject ≡ rename_node (named to) (resources model base l.at).subject)
+  pub under : IfSome l.frame.below (λ n. n ≡ length (open_in base lower ++ own_in l))
+  pub said : (chars : Chars) → map (rename Number) (said_of l.frame.text chars) ≡ map (rename (named to)) (end_of model base l.at chars)
+  pub value :
+      IfSome l.frame.text (λ t. (chars : Chars) → rename_term Number (text_literal t.by chars) ≡ rename_term (named to) (value_at model base l.at chars))
+  pub marked : IfSome l.frame.text (λ t. KeptAt kept t.mark l.text)
+  pub places : WithinOption (length (open_in base (l ∷ lower))) (places_of l.frame.text)
+
+abbrev pub LayersStand : Numbering → Chars → Chars → List Layer → Type 0
+LayersStand to base kept [] = Unit {0}
+LayersStand to base kept (l ∷ lower) = LayerStands to base kept l lower × LayersStand to base kept lower
+
+-- ---- what is to come
+
+-- at the path of an element with number i or a later one inside the path, or inside such a one
+pub record Ahead (path : Path) (i : ℕ) (r : Path) : Type 0 where
+  pub front : Path
+  pub number : ℕ
+  pub from : i ≤ number
+  pub is : r ≡ front ++ number ∷ path
+
+-- after the innermost open element's path, where its next child has number i, an element at r is still to come
+abbrev pub Coming : Path → ℕ → Path → Type 0
+Coming [] i r = Ahead [] i r
+Coming (n ∷ path) i r = Ahead (n ∷ path) i r ⊎ Coming path (suc n) r
+
+-- an owner is the page, or stands at an element that is open or to come
+abbrev pub Pending : List Layer → Path → ℕ → Owner → Type 0
+Pending layers path i First = Unit {0}
+Pending layers path i (Of r) = Coming path i r ⊎ Among (paths_in layers) r
+Pending layers path i (Below r) = Coming path i r ⊎ Among (paths_in layers) r
+
+abbrev pub owner_depth : Owner → ℕ
+owner_depth First = 0
+owner_depth (Of path) = length path
+owner_depth (Below path) = length path
+
+-- a slot that waits does so for an open element, at which its owner stands or around it
+abbrev pub WaitsFor : List Path → Owner → Option (Slot ℕ) → Type 0
+WaitsFor paths owner None = Unit {0}
+WaitsFor paths owner (Some (Full v)) = Unit {0}
+WaitsFor paths owner (Some (Waiting r)) = Among paths r × (owner_depth owner ≤ length r)
+
+abbrev pub AllWaitFor : List Path → Slots → Type 0
+AllWaitFor paths [] = Unit {0}
+AllWaitFor paths (e ∷ slots) = WaitsFor paths e.owner e.item × AllWaitFor paths slots
+
+-- ---- the whole
+
+-- the state of an evaluator, before the root's end, is a machine's under the numbering: frames, texts, the lists of open
+-- owners, and the triples; what is still to come has no number and no slot; where no element is open, none was
+pub record RunsBy (to : Numbering) (m : Machine Bnode Owner) (state : State) (layers : List Layer) (slots : Slots) : Type 0 where
+  pub numbers : Numbers to state.labels state.drawn state.cells
+  pub frames : state.frames ≡ frames_in layers
+  pub standings : m.standings ≡ map (λ l. l.at) layers
+  pub texts : m.texts ≡ map (λ l. l.text) layers
+  pub path : m.path ≡ path_in layers
+  pub each : LayersStand to state.base state.kept layers
+  pub by_names : map (map_entry (rename_slot Number)) slots ≡ map (map_entry (rename_slot (named to))) m.slots
+  pub tables : FillUp (open_in state.base layers) (map waiter_of layers) state.owners slots
+  pub waiting : AllWaitFor (paths_in layers) slots
+  pub unmade : (r : Path) → Coming m.path m.next r → to (Made r) ≡ None
+  pub uncelled : (o : Owner) → Pending layers m.path m.next o → (p : Chars) (i : ℕ) → to (Cell o p i) ≡ None
+  pub unbegun : (o : Owner) → Pending layers m.path m.next o → owner_place (open_in state.base layers) o ≡ None → of_owner same_owner o slots ≡ []
+  pub out : map (rename Number) state.out ≡ map (rename (named to)) m.out
+  pub rootless : layers ≡ [] → m ≡ begun
+
+pub record Runs (to : Numbering) (m : Machine Bnode Owner) (state : State) : Type 0 where
+  pub layers : List Layer
+  pub slots : Slots
+  pub by : RunsBy to m state layers slots
+
+-- after the root's end no element is open, and the triples are all that there are
+pub record IsOver (to : Numbering) (m : Machine Bnode Owner) (state : State) : Type 0 where
+  pub numbers : Numbers to state.labels state.drawn state.cells
+  pub frames : state.frames ≡ []
+  pub standings : m.standings ≡ []
+  pub texts : m.texts ≡ []
+  pub out : map (rename Number) state.out ≡ map (rename (named to)) (finished model state.base m)
+
+-- the page's own context
+abbrev pub page_context : Chars → Inherited ℕ ℕ
+page_context base = record { subject = Iri base; object = Iri base; hanging = []; owner = 0 }
+
+abbrev pub Phase : Bool → Numbering → Machine Bnode Owner → State → Type 0
+Phase false to m state = Runs to m state
+Phase true to m state = IsOver to m state
+
+-- the evaluator stands for the calls, under the numbering
+pub record Stands (to : Numbering) (list : List Call) (state : State) : Type 0 where
+  pub page : state.page ≡ page_context state.base
+  pub phase : Phase state.ended to (after model state.base list begun) state
+
+-- it stands for the calls under a numbering that has grown
+pub record StandsOn (old : Numbering) (list : List Call) (state : State) : Type 0 where
+  pub now : Numbering
+  pub grown : Grown old now
+  pub stands : Stands now list state
+
+-- none has a number yet
+abbrev pub no_numbers : Numbering
+no_numbers b = None
+
+abbrev pub number_in : Numbering → Bnode → ℕ
+number_in to b = unwrap_or (to b) 0
+
+-- the triples are the list of the tree, its blank nodes replaced by their numbers, one to one
+pub record Makes (to : Numbering) (base : Chars) (tree : Nodes Facts) (triples : List (Triple ℕ)) : Type 0 where
+  pub list : triples ≡ map (rename (number_in to)) (made model base tree)
+  pub numbered : (b : Bnode) → Among (blanks (made model base tree)) b → to b ≡ Some (number_in to b)
+  pub one_to_one : (a b : Bnode) → Among (blanks (made model base tree)) a → Among (blanks (made model base tree)) b → number_in to a ≡ number_in to b → a ≡ b
+
+-- what a child of the innermost open element inherits by the rules, after some calls
+abbrev pub context_after : Chars → List Call → Inherited Bnode Owner
+context_after base list = inherited model base (line_after list no_line).facts (line_after list no_line).path
+
+-- that is what the frames hand on, under the numbering; its owners of lists have some numbers
+pub record HandsOn (to : Numbering) (list : List Call) (state : State) : Type 0 where
+  pub own : Owner → Option ℕ
+  pub path : rename_inherited Number Number (handed_on state.page state.frames) ≡ rename_inherited (named to) (named own) (context_after state.base list)
