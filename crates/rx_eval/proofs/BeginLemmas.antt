@@ -43,9 +43,9 @@ use Rattle.rx_eval.proofs.ElementLemmas.{Meets, ends_are, resources_meet, below_
 use Rattle.rx_eval.proofs.ListLemmas.{Puts, Match, Merged, merged}
 use Rattle.rx_eval.proofs.FillLemmas.{waits_both, fill_quiet, NoneWaits, put_fill_up, within_more}
 use Rattle.rx_eval.proofs.ComingLemmas.{next_coming, inside_coming, inside_not}
-use Rattle.rx_eval.proofs.LayerLemmas.{place_front, grown_open, place_back, place_none, none_before, apart_begun, begun_none, begun_place, deeper_none, placed_depth, apart_open, all_within, frames_length, handed_now, layers_later}
+use Rattle.rx_eval.proofs.LayerLemmas.{some_as, place_front, grown_open, place_back, place_none, none_before, apart_begun, begun_none, begun_place, deeper_none, placed_depth, apart_open, all_within, frames_length, handed_now, layers_later}
 use Rattle.rx_eval.proofs.OwnersLemmas.{tables_now, owners_length}
-use Rattle.rx_eval.proofs.EndLemmas.{shorter, some_as}
+use Rattle.rx_eval.proofs.EndLemmas.{shorter}
 use Rattle.rx_eval.proofs.ItemLemmas.{AllItems, Only, Filled, only_of, only_renamed, only_quiet, match_quiet, match_bound, match_waits, match_none, match_valued, valued_entry, valued_parts, front_all, awaited_all, entries_all, places_had, places_filled_in, places_within}
 use Rattle.rx_eval.proofs.UsedLemmas.{new_drawn, drawn_least, handed_is, handed_new, with_owner, begun_now, lists_as, with_fill_up, with_length, own_number_is, under_number_is}
 

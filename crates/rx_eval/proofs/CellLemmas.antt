@@ -28,7 +28,7 @@ use Rattle.rx_element.specs.Labels.{Numbered}
 use Rattle.rx_element.proofs.LabelLemmas.{by_test}
 use Rattle.rx_eval.specs.Numbering.{Numbering, Name, Number, name_by, named, Grown, Numbers}
 use Rattle.rx_eval.specs.Slots.{Slots, item_of, table_in}
-use Rattle.rx_eval.proofs.NameLemmas.{later, later_is, node_later}
+use Rattle.rx_eval.proofs.NameLemmas.{many_then, later, later_is, node_later}
 
 -- ---- slots of which none waits
 
@@ -266,10 +266,6 @@ module _ (own : List (Entry Owner (Term ℕ))) where
   size_is (p ∷ ps) = ap (λ (n : ℕ). length (items p own) + n) (size_is ps)
 
 -- ---- the end of an owner
-
-many_then : {X Y Z : Type 0} (k : X → Z) (h : Y → Z) (f : X → Y) → ((x : X) → k x ≡ h (f x)) → (xs : List X) → map k xs ≡ map h (map f xs)
-many_then k h f e [] = refl
-many_then k h f e (x ∷ xs) = ap₂ ◌∷◌ (e x) (many_then k h f e xs)
 
 module _ {A : Type 0} (old new : A → Option ℕ) (grown : Grown old new) where
   abbrev later_name : Name A → Name A

@@ -33,7 +33,7 @@ use Rattle.rx_eval.proofs.NameLemmas.{grown_then, node_later}
 use Rattle.rx_eval.proofs.FillLemmas.{within_more, or_false, fill_quiet, of_filled, snoc_last, snoc_front}
 use Rattle.rx_eval.proofs.CellLemmas.{IsFull, AllFull}
 use Rattle.rx_eval.proofs.ComingLemmas.{coming_not}
-use Rattle.rx_eval.proofs.LayerLemmas.{place_none, begun_none, deeper_none, all_within, frames_length, layers_later}
+use Rattle.rx_eval.proofs.LayerLemmas.{some_as, place_none, begun_none, deeper_none, all_within, frames_length, layers_later}
 use Rattle.rx_eval.proofs.OwnersLemmas.{Midway, Ended, owner_ends}
 use Rattle.rx_eval.proofs.LeavesLemmas.{unmarked}
 
@@ -102,10 +102,6 @@ shorter to base kept (l ∷ lower) h r (inr a) = let k = shorter to base kept lo
 if_given : {A P : Type 0} (o : Option A) → P → IfSome o (λ a. P)
 if_given None p = tt
 if_given (Some a) p = p
-
-pub some_as : {A : Type 0} (P Q : A → Type 0) (o : Option A) → ((a : A) → P a → Q a) → IfSome o P → IfSome o Q
-some_as P Q None f h = tt
-some_as P Q (Some a) f h = f a h
 
 -- ---- the text
 

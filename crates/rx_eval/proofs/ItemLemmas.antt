@@ -17,11 +17,11 @@ use Rattle.rx_rdfa.specs.Renaming.{rename_slot}
 use Rattle.rx_rdfa.proofs.Exact.{exact_owners}
 use Rattle.rx_element.proofs.LabelLemmas.{by_test}
 use Rattle.rx_eval.specs.OwnersSeen.{Owning, put_at, put_entries, places_for, fill_all}
-use Rattle.rx_eval.specs.Numbering.{Name, Number, name_by}
+use Rattle.rx_eval.specs.Numbering.{Name, Number}
 use Rattle.rx_eval.specs.Slots.{Slots, Open, owner_place, item_of, slot_waits, waits, HasPlace, HasPlaces, WithinPlaces}
 use Rattle.rx_eval.specs.Standing.{owner_depth, WaitsFor, AllWaitFor}
 use Rattle.rx_eval.proofs.PlaceLemmas.{still_at, has_at, reserved_are_filled}
-use Rattle.rx_eval.proofs.ListLemmas.{Puts, Match, by_number, by_name}
+use Rattle.rx_eval.proofs.ListLemmas.{number_is, Puts, Match, by_number, by_name}
 
 -- ---- what holds of each item
 
@@ -134,10 +134,6 @@ place_bound (x ∷ xs) o n h =
     go None e k more = absurd (cc)
     go (Some i) e k more = let q : suc i ≡ n = cc k in let b = more i e in omega (arith, q, b)
 
-number_of_name : (o : Owner) (p : Option ℕ) (n : ℕ) → Number n ≡ name_by o p → p ≡ Some n
-number_of_name o None n e = absurd (cc)
-number_of_name o (Some m) n e = let q : n ≡ m = cc in ap Some (sym q)
-
 pub match_bound : (open_owners : Open) (xs : Puts) (ys : Slots) → Match (owner_place open_owners) xs ys → (x : Entry ℕ (Option (Term ℕ))) → Among xs x → x.owner < length open_owners
 match_bound open_owners [] ys m x a = absurd a
 match_bound open_owners (z ∷ xs) [] m x a = let q = m.path in absurd (cc q)
@@ -147,7 +143,7 @@ match_bound open_owners (z ∷ xs) (y ∷ ys) m x a = go a (λ b. match_bound op
     go (inl e) more =
         let q = m.path in
         let first : by_number z ≡ by_name (owner_place open_owners) y = cc q in
-        let o = number_of_name y.owner (owner_place open_owners y.owner) z.owner (ap (λ (e : Entry (Name Owner) (Option (Term ℕ))). e.owner) first) in
+        let o = number_is y.owner (owner_place open_owners y.owner) z.owner (ap (λ (e : Entry (Name Owner) (Option (Term ℕ))). e.owner) first) in
         subst (λ (w : Entry ℕ (Option (Term ℕ))). w.owner < length open_owners) e (place_bound open_owners y.owner z.owner o)
     go (inr b) more = more b
 
@@ -160,7 +156,7 @@ match_waits open_owners path paths d (x ∷ xs) (y ∷ ys) m h =
     let q = m.path in
     let first : by_number x ≡ by_name (owner_place open_owners) y = cc q in
     let rest : map by_number xs ≡ map (by_name (owner_place open_owners)) ys = cc q in
-    let o = number_of_name y.owner (owner_place open_owners y.owner) x.owner (ap (λ (e : Entry (Name Owner) (Option (Term ℕ))). e.owner) first) in
+    let o = number_is y.owner (owner_place open_owners y.owner) x.owner (ap (λ (e : Entry (Name Owner) (Option (Term ℕ))). e.owner) first) in
     (item y.item h.0 (d y.owner x.owner o), match_waits open_owners path paths d xs ys (record { path = rest }) h.1)
   where
     item : (i : Option (Slot ℕ)) → Only path i → owner_depth y.owner ≤ length path → WaitsFor (path ∷ paths) y.owner i
@@ -178,7 +174,7 @@ match_none open_owners o n (x ∷ xs) (z ∷ ys) m y a = go a (λ b. match_none 
     go (inl e) more =
         let q = m.path in
         let first : by_number x ≡ by_name (owner_place open_owners) z = cc q in
-        let p = number_of_name z.owner (owner_place open_owners z.owner) x.owner (ap (λ (e : Entry (Name Owner) (Option (Term ℕ))). e.owner) first) in
+        let p = number_is z.owner (owner_place open_owners z.owner) x.owner (ap (λ (e : Entry (Name Owner) (Option (Term ℕ))). e.owner) first) in
         subst (λ (w : Entry Owner (Slot ℕ)). same_owner w.owner o ≡ false) e
         (false_unless (same_owner z.owner o) (λ t. absurd (cc (ap (owner_place open_owners) ((exact_owners z.owner o).0 t), n, p))))
     go (inr b) more = more b

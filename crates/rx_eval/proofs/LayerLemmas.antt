@@ -150,23 +150,23 @@ pub handed_now : (to : Numbering) (base kept : Chars) (layers : List Layer) → 
 handed_now to base kept [] h = refl
 handed_now to base kept (l ∷ lower) h = ap (rename_inherited Number Number) (handed_last (page_context base) (frames_in lower) l.frame) ∙ h.0.context
 
+pub some_as : {A : Type 0} (P Q : A → Type 0) (o : Option A) → ((a : A) → P a → Q a) → IfSome o P → IfSome o Q
+some_as P Q None f h = tt
+some_as P Q (Some a) f h = f a h
+
 -- ---- layers when more have numbers, and when more text is kept
 
 module _ (old new : Numbering) (grown : Grown old new) (base kept : Chars) where
-  some_later : {A : Type 0} (P Q : A → Type 0) (o : Option A) → ((a : A) → P a → Q a) → IfSome o P → IfSome o Q
-  some_later P Q None f h = tt
-  some_later P Q (Some a) f h = f a h
-
   layer_later : (l : Layer) (lower : List Layer) → LayerStands old base kept l lower → LayerStands new base kept l lower
   layer_later l lower h = record {
     deep = h.deep;
     inside = h.inside;
     context = inherited_later old new grown (owner_place (open_in base (l ∷ lower))) (owner_place (open_in base (l ∷ lower))) (grown_same (owner_place (open_in base (l ∷ lower)))) l.frame.context (below model base l.at) h.context;
     own = h.own;
-    subject = some_later _ _ l.frame.own (λ n e. node_later old new grown l.frame.context.subject (resources model base l.at).subject e) h.subject;
+    subject = some_as _ _ l.frame.own (λ n e. node_later old new grown l.frame.context.subject (resources model base l.at).subject e) h.subject;
     under = h.under;
     said = λ chars. triples_later old new grown (said_of l.frame.text chars) (end_of model base l.at chars) (h.said chars);
-    value = some_later _ _ l.frame.text (λ t e chars. term_later old new grown (text_literal t.by chars) (value_at model base l.at chars) (e chars)) h.value;
+    value = some_as _ _ l.frame.text (λ t e chars. term_later old new grown (text_literal t.by chars) (value_at model base l.at chars) (e chars)) h.value;
     marked = h.marked;
     places = h.places;
   }

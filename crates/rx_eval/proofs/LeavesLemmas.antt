@@ -9,6 +9,7 @@ use Rattle.rx_rdfa.specs.Resources.{Standing}
 use Rattle.rx_rdfa.specs.Inherited.{below}
 use Rattle.rx_rdfa.specs.Machine.{Machine, read}
 use Rattle.rx_rdfa.specs.Renaming.{rename_inherited}
+use Rattle.rx_eval.proofs.LayerLemmas.{some_as}
 use Rattle.rx_eval.specs.States.{Frame, State}
 use Rattle.rx_eval.specs.Keeping.{gathers_some}
 use Rattle.rx_eval.specs.Opened.{read_text}
@@ -58,10 +59,6 @@ module _ (chars : Chars) where
   same_open base [] = refl
   same_open base (l ∷ lower) = ap (λ (x : Open). (x ++ own_in l) ++ under_in l) (same_open base lower)
 
-some_of : {A : Type 0} (P Q : A → Type 0) (o : Option A) → ((a : A) → P a → Q a) → IfSome o P → IfSome o Q
-some_of P Q None f h = tt
-some_of P Q (Some a) f h = f a h
-
 some_quiet : {A : Type 0} (Q : A → Type 0) (o : Option A) → is_some o ≡ false → IfSome o Q
 some_quiet Q None e = tt
 some_quiet Q (Some a) e = absurd (cc)
@@ -90,7 +87,7 @@ module _ (to : Numbering) (base kept : Chars) where
   layers_read : (chars : Chars) (layers : List Layer) → LayersStand to base kept layers → LayersStand to base (kept ++ chars) (read_layers chars layers)
   layers_read chars [] h = tt
   layers_read chars (l ∷ lower) h =
-      (read_stands chars (kept ++ chars) l lower h.0 (some_of _ _ l.frame.text (λ t k. kept_more chars t.mark l.text k) h.0.marked), layers_read chars lower h.1)
+      (read_stands chars (kept ++ chars) l lower h.0 (some_as _ _ l.frame.text (λ t k. kept_more chars t.mark l.text k) h.0.marked), layers_read chars lower h.1)
 
   any_front : (frames : List Frame) (frame : Frame) → gathers_some (frames ++ frame ∷ []) ≡ false → (gathers_some frames ≡ false) × (is_some frame.text ≡ false)
   any_front [] frame h = (refl, first_false (is_some frame.text) false h)

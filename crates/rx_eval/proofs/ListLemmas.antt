@@ -91,7 +91,7 @@ by_name own y = record { owner = named own y.owner; predicate = y.predicate; ite
 pub record Match (own : Owner → Option ℕ) (xs : Puts) (ys : Slots) : Type 0 where
   pub path : map by_number xs ≡ map (by_name own) ys
 
-number_is : {A : Type 0} (a : A) (o : Option ℕ) (n : ℕ) → Number n ≡ name_by a o → o ≡ Some n
+pub number_is : {A : Type 0} (a : A) (o : Option ℕ) (n : ℕ) → Number n ≡ name_by a o → o ≡ Some n
 number_is a None n e = absurd (cc)
 number_is a (Some m) n e = let q : n ≡ m = cc in ap Some (sym q)
 

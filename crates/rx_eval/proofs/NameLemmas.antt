@@ -18,6 +18,10 @@ grown_same to = record { keeps = λ a n e. e }
 pub grown_then : {A : Type 0} (x y z : A → Option ℕ) → Grown x y → Grown y z → Grown x z
 grown_then x y z g h = record { keeps = λ a n e. h.keeps a n (g.keeps a n e) }
 
+pub many_then : {X Y Z : Type 0} (k : X → Z) (h : Y → Z) (f : X → Y) → ((x : X) → k x ≡ h (f x)) → (xs : List X) → map k xs ≡ map h (map f xs)
+many_then k h f e [] = refl
+many_then k h f e (x ∷ xs) = ap₂ ◌∷◌ (e x) (many_then k h f e xs)
+
 -- ---- from the old names to the new ones
 
 module _ {A : Type 0} (old new : A → Option ℕ) (grown : Grown old new) where
@@ -45,10 +49,6 @@ module _ {A : Type 0} (old new : A → Option ℕ) (grown : Grown old new) where
   term_later x y e =
       term_then later_name Number x ∙ ap (rename_term later_name) e ∙ sym (term_then later_name (named old) y)
       ∙ ap (λ (f : A → Name A). rename_term f y) (sym (later_is old new grown))
-
-  many_then : {X Y Z : Type 0} (k : X → Z) (h : Y → Z) (f : X → Y) → ((x : X) → k x ≡ h (f x)) → (xs : List X) → map k xs ≡ map h (map f xs)
-  many_then k h f e [] = refl
-  many_then k h f e (x ∷ xs) = ap₂ ◌∷◌ (e x) (many_then k h f e xs)
 
   pub triples_later : (xs : List (Triple ℕ)) (ys : List (Triple A)) → map (rename Number) xs ≡ map (rename (named old)) ys → map (rename Number) xs ≡ map (rename (named new)) ys
   triples_later xs ys e =
