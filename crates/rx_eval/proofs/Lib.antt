@@ -8,6 +8,7 @@ pub mod OpenLemmas
 pub mod GatherLemmas
 pub mod PlaceLemmas
 pub mod KeepLemmas
+pub mod CountLemmas
 pub mod NameLemmas
 pub mod NumberLemmas
 pub mod OtherLemmas

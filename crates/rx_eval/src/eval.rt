@@ -1,5 +1,5 @@
 //! The stack of contexts.
-ghost use Rattle.std.specs.Prelude.{◌≡◌, ◌<◌, ◌≤◌, ◌^◌, ◌+◌, ◌↔◌, ◌==◌, true, false, List, [], ◌∷◌, ◌++◌, None, Some, option_map, if◌then◌else◌, length, IfOk, OnOk, OnErr, IsOk, IsErr};
+ghost use Rattle.std.specs.Prelude.{◌≡◌, ◌<◌, ◌≤◌, ◌^◌, ◌+◌, ◌↔◌, ◌==◌, nat_le, true, false, List, [], ◌∷◌, ◌++◌, None, Some, option_map, if◌then◌else◌, length, IfOk, OnOk, OnErr, IsOk, IsErr};
 ghost use Rattle.std.specs.Str.{chars};
 ghost use Rattle.rx_model.specs.Seen.{triples_seen};
 ghost use Rattle.rx_rdfa.specs.Calls.{Call, Enter, Read, Leave, line_after, no_line};
@@ -18,6 +18,7 @@ use crate::closing::{end_frame, end_owner};
 use crate::elements::enter;
 use crate::frames::Frame;
 use crate::inherited::Inherited;
+use crate::numbers::label_count;
 use crate::opening::{around, next_number};
 use rx_curie::Facts;
 use rx_element::{Context, Hangings, Labels, Place, Shared, draw_labels, level_at};
@@ -123,6 +124,13 @@ impl Eval {
             ended: false,
             spent: false,
         })
+    }
+
+    /// Whether there are numbers for the blank nodes of one more element, whatever labels it has.
+    pub fn has_numbers(&self, facts: &Facts) -> bool
+        ensures { result ≡ nat_le (self.now.drawn + 1 + length (labels_of (facts_seen facts.now))) (2 ^ 61) }
+    {
+        u128::from(self.drawn) + 1 + label_count(facts) <= u128::from(CELLS)
     }
 
     /// A start tag: opens an element inside the innermost one. The triples of its start are there then, its owners of

@@ -14,6 +14,7 @@ mod frames;
 mod handing;
 mod inherited;
 mod listing;
+mod numbers;
 mod opening;
 
 pub use eval::Eval;
