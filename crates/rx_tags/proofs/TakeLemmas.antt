@@ -1,14 +1,13 @@
 -- Characters that a tag takes at once are read like one after another.
-use Rattle.std.proofs.Common.{◌≡◌, ◌∙◌, ◌⊎◌, ℕ, ◌+◌, ◌-◌, ◌≤◌, ◌<◌, Bool, true, false, List, [], ◌∷◌, ◌++◌, length, take, drop, refl, ap, sym, subst, Result, Ok, Err, append_assoc, arith, eqb-true, take-add, length-take-le, length-drop, get_or, inl, inr}
+use Rattle.std.proofs.Common.{◌≡◌, ◌∙◌, ℕ, ◌+◌, ◌-◌, ◌≤◌, ◌<◌, Bool, true, false, List, [], ◌∷◌, ◌++◌, length, take, drop, refl, ap, sym, subst, Result, Ok, append_assoc, arith, eqb-true, take-add, length-take-le, length-drop, get_or, inl, inr}
 use Rattle.std.specs.Prelude.{◌==◌, ◌&&◌, nat_le, MatchBool}
 use Rattle.std.specs.List.{list_all}
-use Rattle.std.specs.Str.{chars}
-use Rattle.std.proofs.lemmas.Bool.{cond-true, cond-false, lt-ltb, lt-leb, le-leb, leb-true, eqb-false, and_parts, and_from, both_ways, cases_lt}
+use Rattle.std.proofs.lemmas.Bool.{cond-false, lt-ltb, lt-leb, le-leb, leb-true, eqb-false, and_parts, and_from, both_ways, cases_lt}
 use Rattle.std.proofs.lemmas.List.{take_more, take_rest}
 use Rattle.std.proofs.lemmas.List.Folds.{list_all-append}
 use Rattle.rx_terms.specs.Ascii.{is_ascii}
 use Rattle.rx_terms.specs.Text.{Chars}
-use Rattle.rx_chars.specs.NcName.{is_nc}
+use Rattle.rx_chars.specs.NcName.{is_nc, is_nc_start}
 use Rattle.rx_chars.specs.declared.syntax.Syntax.{Syntax}
 use Rattle.rx_chars.specs.declared.syntax.Syntax.TheVariants.{Html, Xhtml}
 use Rattle.rx_grammar.specs.declared.faults.Kind.{Kind}
@@ -18,17 +17,16 @@ use Rattle.rx_reader.specs.declared.phases.RunPhase.{RunPhase}
 use Rattle.rx_reader.specs.declared.phases.RunPhase.TheVariants as run
 use Rattle.rx_reader.specs.declared.phases.TagPhase.{TagPhase}
 use Rattle.rx_reader.specs.declared.phases.TagPhase.TheVariants as phase
-use Rattle.rx_reader.specs.declared.phases.TagAction.{TagAction}
 use Rattle.rx_reader.specs.declared.phases.TagAction.TheVariants as action
 use Rattle.rx_reader.specs.Tables.{Move, go, move_of, is_last}
-use Rattle.rx_reader.specs.Values.{Value, no_value_yet, known_as, plain_step, value_step, is_run}
-use Rattle.rx_reader.specs.TagReader.{TagState, with_value, moved, checked, tag_on, tag_step}
+use Rattle.rx_reader.specs.Values.{Value, known_as, plain_step, value_step, is_run}
+use Rattle.rx_reader.specs.TagReader.{TagState, with_value, moved, checked, tag_on}
 use Rattle.rx_reader.proofs.Bools.{by_test}
-use Rattle.rx_tags.specs.Fronts.{is_printed, is_plain, is_small, is_quoted, GoesTo, GoesBy, TakesFront, GainsValue, GainsKey}
+use Rattle.rx_tags.specs.Fronts.{is_printed, is_plain, is_small, is_quoted, is_naming, opens_key, GoesTo, GoesBy, TakesFront, GainsValue, GainsKey, GainsName}
 use Rattle.rx_tags.specs.Pairs.{Pairs, pairs_read, IsPending}
 use Rattle.rx_tags.specs.Reading.{Reading}
 use Rattle.rx_tags.specs.TagBufs.{TagSoFar, MayStep, TakesMore}
-use Rattle.rx_tags.specs.TagReads.{state_of, is_value_phase, IsSettled}
+use Rattle.rx_tags.specs.TagReads.{state_of, IsSettled}
 
 -- a character of a class is none outside it
 pub is_none : (p : ℕ → Bool) (c d : ℕ) → p c ≡ true → p d ≡ false → (c == d) ≡ false
@@ -89,6 +87,46 @@ on_quoted P phase.Opened q d s = absurd (cc)
 on_quoted P phase.Emptied q d s = absurd (cc)
 on_quoted P phase.Closed q d s = absurd (cc)
 
+-- of both names of a tag
+on_naming : (P : TagPhase → Type 0) (p : TagPhase) → is_naming p ≡ true → P phase.Name → P phase.EndName → P p
+on_naming P phase.Name q x y = x
+on_naming P phase.EndName q x y = y
+on_naming P phase.Start q x y = absurd (cc)
+on_naming P phase.Gap q x y = absurd (cc)
+on_naming P phase.Solidus q x y = absurd (cc)
+on_naming P phase.Key q x y = absurd (cc)
+on_naming P phase.AfterKey q x y = absurd (cc)
+on_naming P phase.BeforeValue q x y = absurd (cc)
+on_naming P phase.DoubleQuoted q x y = absurd (cc)
+on_naming P phase.SingleQuoted q x y = absurd (cc)
+on_naming P phase.Unquoted q x y = absurd (cc)
+on_naming P phase.AfterValue q x y = absurd (cc)
+on_naming P phase.EndStart q x y = absurd (cc)
+on_naming P phase.EndGap q x y = absurd (cc)
+on_naming P phase.Opened q x y = absurd (cc)
+on_naming P phase.Emptied q x y = absurd (cc)
+on_naming P phase.Closed q x y = absurd (cc)
+
+-- of where an attribute's name is read
+on_key : (P : TagPhase → Type 0) (p : TagPhase) → opens_key p ≡ true → P phase.Gap → P phase.Key → P p
+on_key P phase.Gap q x y = x
+on_key P phase.Key q x y = y
+on_key P phase.Start q x y = absurd (cc)
+on_key P phase.Name q x y = absurd (cc)
+on_key P phase.Solidus q x y = absurd (cc)
+on_key P phase.AfterKey q x y = absurd (cc)
+on_key P phase.BeforeValue q x y = absurd (cc)
+on_key P phase.DoubleQuoted q x y = absurd (cc)
+on_key P phase.SingleQuoted q x y = absurd (cc)
+on_key P phase.Unquoted q x y = absurd (cc)
+on_key P phase.AfterValue q x y = absurd (cc)
+on_key P phase.EndStart q x y = absurd (cc)
+on_key P phase.EndName q x y = absurd (cc)
+on_key P phase.EndGap q x y = absurd (cc)
+on_key P phase.Opened q x y = absurd (cc)
+on_key P phase.Emptied q x y = absurd (cc)
+on_key P phase.Closed q x y = absurd (cc)
+
 pub quoted_settled : (p : TagPhase) (value : Value) → is_quoted p ≡ true → IsSettled p value
 quoted_settled p value q = on_quoted (λ x. IsSettled x value) p q (λ n. absurd (cc)) (λ n. absurd (cc))
 
@@ -147,11 +185,36 @@ module _ (c : ℕ) (h : is_small c ≡ true) where
       let parts = and_parts (nat_le 97 c) (nat_le c 122) h in
       rw (le-leb 65 c (omega arith), lt-leb c 90 (omega arith), is_none is_small c 95 h refl, parts.0, parts.1) refl
 
+  small_start : is_nc_start c ≡ true
+  small_start =
+      let low = small_from c h in
+      let parts = and_parts (nat_le 97 c) (nat_le c 122) h in
+      rw (le-leb 65 c (omega arith), lt-leb c 90 (omega arith), is_none is_small c 95 h refl, parts.0, parts.1) refl
+
   small_move : (s : Syntax) → move_of s phase.Key c ≡ go phase.Key action.Key
   small_move Html =
       rw (is_none is_small c 9 h refl, is_none is_small c 10 h refl, is_none is_small c 12 h refl, is_none is_small c 13 h refl, is_none is_small c 32 h refl, is_none is_small c 61 h refl, is_none is_small c 47 h refl, is_none is_small c 62 h refl, is_none is_small c 34 h refl, is_none is_small c 39 h refl, is_none is_small c 60 h refl) refl
   small_move Xhtml =
       rw (is_none is_small c 9 h refl, is_none is_small c 10 h refl, is_none is_small c 12 h refl, is_none is_small c 13 h refl, is_none is_small c 32 h refl, is_none is_small c 61 h refl, is_none is_small c 47 h refl, is_none is_small c 62 h refl, small_nc) refl
+
+  gap_move : (s : Syntax) → move_of s phase.Gap c ≡ go phase.Key action.Key
+  gap_move Html =
+      rw (is_none is_small c 9 h refl, is_none is_small c 10 h refl, is_none is_small c 12 h refl, is_none is_small c 13 h refl, is_none is_small c 32 h refl, is_none is_small c 61 h refl, is_none is_small c 47 h refl, is_none is_small c 62 h refl, is_none is_small c 34 h refl, is_none is_small c 39 h refl, is_none is_small c 60 h refl) refl
+  gap_move Xhtml = rw (is_none is_small c 9 h refl, is_none is_small c 10 h refl, is_none is_small c 12 h refl, is_none is_small c 13 h refl, is_none is_small c 32 h refl, is_none is_small c 47 h refl, is_none is_small c 62 h refl, small_start) refl
+
+  key_move : (s : Syntax) (p : TagPhase) → opens_key p ≡ true → move_of s p c ≡ go phase.Key action.Key
+  key_move s p q = on_key (λ x. move_of s x c ≡ go phase.Key action.Key) p q (gap_move s) (small_move s)
+
+  start_move : (s : Syntax) → move_of s phase.Name c ≡ go phase.Name action.Name
+  start_move Html = rw (is_none is_small c 9 h refl, is_none is_small c 10 h refl, is_none is_small c 12 h refl, is_none is_small c 13 h refl, is_none is_small c 32 h refl, is_none is_small c 47 h refl, is_none is_small c 62 h refl) refl
+  start_move Xhtml = rw (is_none is_small c 9 h refl, is_none is_small c 10 h refl, is_none is_small c 12 h refl, is_none is_small c 13 h refl, is_none is_small c 32 h refl, is_none is_small c 47 h refl, is_none is_small c 62 h refl, small_nc) refl
+
+  end_move : (s : Syntax) → move_of s phase.EndName c ≡ go phase.EndName action.Name
+  end_move Html = rw (is_none is_small c 9 h refl, is_none is_small c 10 h refl, is_none is_small c 12 h refl, is_none is_small c 13 h refl, is_none is_small c 32 h refl, is_none is_small c 47 h refl, is_none is_small c 62 h refl) refl
+  end_move Xhtml = rw (is_none is_small c 9 h refl, is_none is_small c 10 h refl, is_none is_small c 12 h refl, is_none is_small c 13 h refl, is_none is_small c 32 h refl, is_none is_small c 62 h refl, small_nc) refl
+
+  name_move : (s : Syntax) (p : TagPhase) → is_naming p ≡ true → move_of s p c ≡ go p action.Name
+  name_move s p q = on_naming (λ x. move_of s x c ≡ go x action.Name) p q (start_move s) (end_move s)
 
   small_cased : (s : Syntax) → cased_char s c ≡ c
   small_cased Html =
@@ -167,25 +230,51 @@ module _ (s : Syntax) (name : Chars) where
   abbrev ok_state : TagState → Result TagState Kind
   ok_state st = Ok st
 
-  one_key : (old : Pairs) (c : ℕ) → is_small c ≡ true → GoesTo s (in_key old) c (in_key (keyed old (old.key ++ c ∷ [])))
-  one_key old c h = (
-    ap (λ (m : Move). checked s (moved s (meaning s) (in_key old) c m)) (small_move c h s) ∙ ap (λ (d : ℕ). ok_state (in_key (keyed old (old.key ++ d ∷ [])))) (small_cased c h s),
+  one_key : (p : TagPhase) (old : Pairs) (c : ℕ) → opens_key p ≡ true → is_small c ≡ true → GoesTo s (state_of p name old) c (in_key (keyed old (old.key ++ c ∷ [])))
+  one_key p old c q h = (
+    ap (λ (m : Move). checked s (moved s (meaning s) (state_of p name old) c m)) (key_move c h s p q) ∙ ap (λ (d : ℕ). ok_state (in_key (keyed old (old.key ++ d ∷ [])))) (small_cased c h s),
     refl,
   )
 
-  more_key : (old : Pairs) (c : ℕ) (front : Chars) → list_all is_small (c ∷ front) ≡ true → GoesBy s (in_key old) (c ∷ front) (in_key (keyed old (old.key ++ c ∷ front)))
-  more_key old c [] h = (in_key (keyed old (old.key ++ c ∷ [])), one_key old c (and_parts (is_small c) _ h).0, refl)
-  more_key old c (d ∷ front) h =
+  more_key : (p : TagPhase) (old : Pairs) (c : ℕ) (front : Chars) → opens_key p ≡ true → list_all is_small (c ∷ front) ≡ true → GoesBy s (state_of p name old) (c ∷ front) (in_key (keyed old (old.key ++ c ∷ front)))
+  more_key p old c [] q h = (in_key (keyed old (old.key ++ c ∷ [])), one_key p old c q (and_parts (is_small c) _ h).0, refl)
+  more_key p old c (d ∷ front) q h =
       let k = and_parts (is_small c) _ h in
       let next : Pairs = keyed old (old.key ++ c ∷ []) in (
         in_key next,
-        one_key old c k.0,
-        subst (λ (x : Chars). GoesBy s (in_key next) (d ∷ front) (in_key (keyed old x))) (append_assoc old.key (c ∷ []) (d ∷ front)) (more_key next d front k.1),
+        one_key p old c q k.0,
+        subst (λ (x : Chars). GoesBy s (in_key next) (d ∷ front) (in_key (keyed old x))) (append_assoc old.key (c ∷ []) (d ∷ front)) (more_key phase.Key next d front refl k.1),
       )
 
-  some_key : (old new : Pairs) (front : Chars) → 0 < length front → GainsKey old front new → GoesBy s (in_key old) front (in_key new)
-  some_key old new [] n g = absurd (omega arith)
-  some_key old new (c ∷ front) n g = subst (λ (x : Pairs). GoesBy s (in_key old) (c ∷ front) (in_key x)) (sym g.is) (more_key old c front g.small)
+  some_key : (p : TagPhase) (old new : Pairs) (front : Chars) → opens_key p ≡ true → 0 < length front → GainsKey old front new → GoesBy s (state_of p name old) front (in_key new)
+  some_key p old new [] q n g = absurd (omega arith)
+  some_key p old new (c ∷ front) q n g = subst (λ (x : Pairs). GoesBy s (state_of p name old) (c ∷ front) (in_key x)) (sym g.is) (more_key p old c front q g.small)
+
+-- a small letter of a tag's name
+module _ (s : Syntax) (p : TagPhase) (pairs : Pairs) (q : is_naming p ≡ true) where
+  abbrev named : Chars → TagState
+  named name = state_of p name pairs
+
+  one_name : (name : Chars) (c : ℕ) → is_small c ≡ true → GoesTo s (named name) c (named (name ++ c ∷ []))
+  one_name name c h =
+      let unfinished = on_naming (λ x. is_last x ≡ false) p q refl refl in (
+        ap (λ (m : Move). checked s (moved s (meaning s) (named name) c m)) (name_move c h s p q)
+            ∙ (ap (λ (d : ℕ). checked s (ok_state s name (named (name ++ d ∷ [])))) (small_cased c h s) ∙ checked_open s (named (name ++ c ∷ [])) unfinished),
+        unfinished,
+      )
+
+  more_name : (name : Chars) (c : ℕ) (front : Chars) → list_all is_small (c ∷ front) ≡ true → GoesBy s (named name) (c ∷ front) (named (name ++ c ∷ front))
+  more_name name c [] h = (named (name ++ c ∷ []), one_name name c (and_parts (is_small c) _ h).0, refl)
+  more_name name c (d ∷ front) h =
+      let k = and_parts (is_small c) _ h in (
+        named (name ++ c ∷ []),
+        one_name name c k.0,
+        subst (λ (x : Chars). GoesBy s (named (name ++ c ∷ [])) (d ∷ front) (named x)) (append_assoc name (c ∷ []) (d ∷ front)) (more_name (name ++ c ∷ []) d front k.1),
+      )
+
+  some_name : (name new front : Chars) → 0 < length front → GainsName name front new → GoesBy s (named name) front (named new)
+  some_name name new [] n g = absurd (omega arith)
+  some_name name new (c ∷ front) n g = subst (λ (x : Chars). GoesBy s (named name) (c ∷ front) (named x)) (sym g.is) (more_name name c front g.small)
 
 -- nothing is taken, or some characters are
 some_count : (n : ℕ) → (n ≡ 0 → ⊥) → 0 < n
@@ -208,18 +297,19 @@ value_front s p name old new bytes n q f m =
     (λ z e. none_taken s (state_of p name old) (state_of p name new) bytes n (eqb-true n 0 z) (ap (state_of p name) e))
     (λ z g. record { fits = f; printed = plain_printed (take n bytes) g.plain; goes = some_value s p name q old new (take n bytes) (some_taken n bytes f z) g })
 
-pub key_front : (s : Syntax) (p : TagPhase) (name : Chars) (old new : Pairs) (bytes : List ℕ) (n : ℕ) → p ≡ phase.Key → n ≤ length bytes → MatchBool (n == 0) (new ≡ old) (GainsKey old (take n bytes) new)
-    → TakesFront s (state_of p name old) bytes n (state_of p name new)
-key_front s p name old new bytes n q f m =
-    subst (λ (x : TagPhase). TakesFront s (state_of x name old) bytes n (state_of x name new)) (sym q)
-    (match_by (n == 0) _ _ m
-    (λ z e. none_taken s (in_key s name old) (in_key s name new) bytes n (eqb-true n 0 z) (ap (in_key s name) e))
-    (λ z g. record { fits = f; printed = small_printed (take n bytes) g.small; goes = some_key s name old new (take n bytes) (some_taken n bytes f z) g }))
+pub key_front : (s : Syntax) (p : TagPhase) (name : Chars) (old new : Pairs) (bytes : List ℕ) (n : ℕ) → opens_key p ≡ true → (n ≡ 0 → ⊥) → n ≤ length bytes → MatchBool (n == 0) (new ≡ old) (GainsKey old (take n bytes) new)
+    → TakesFront s (state_of p name old) bytes n (state_of phase.Key name new)
+key_front s p name old new bytes n q some f m =
+    match_by (n == 0) _ _ m
+    (λ z e. absurd (some (eqb-true n 0 z)))
+    (λ z g. record { fits = f; printed = small_printed (take n bytes) g.small; goes = some_key s name p old new (take n bytes) q (some_taken n bytes f z) g })
 
--- a name that goes on leaves the value as it is
-pub key_settled : (p : TagPhase) (old new : Pairs) (front : Chars) (n : ℕ) → IsSettled p old.value → MatchBool (n == 0) (new ≡ old) (GainsKey old front new) → IsSettled p new.value
-key_settled p old new front n k m =
-    subst (λ (v : Value). IsSettled p v) (sym (match_by (n == 0) _ _ m (λ z e. ap (λ (x : Pairs). x.value) e) (λ z g. ap (λ (x : Pairs). x.value) g.is))) k
+pub name_front : (s : Syntax) (p : TagPhase) (name new : Chars) (pairs : Pairs) (bytes : List ℕ) (n : ℕ) → is_naming p ≡ true → n ≤ length bytes → MatchBool (n == 0) (new ≡ name) (GainsName name (take n bytes) new)
+    → TakesFront s (state_of p name pairs) bytes n (state_of p new pairs)
+name_front s p name new pairs bytes n q f m =
+    match_by (n == 0) _ _ m
+    (λ z e. none_taken s (state_of p name pairs) (state_of p new pairs) bytes n (eqb-true n 0 z) (ap (λ (x : Chars). state_of p x pairs) e))
+    (λ z g. record { fits = f; printed = small_printed (take n bytes) g.small; goes = some_name s p pairs q name new (take n bytes) (some_taken n bytes f z) g })
 
 -- no front is taken
 pub nothing_taken : (s : Syntax) (old : TagState) (bytes : List ℕ) → TakesFront s old bytes 0 old
@@ -274,7 +364,7 @@ none_same old new bytes n t z =
     t.is ∙ (λ i. record { syntax = old.syntax; state = e i; refused = old.refused })
 
 -- the value, or the name, by what the buffer has
-chosen : (n : ℕ) (P Q : Type 0) → (n ≡ 0 → ⊥) → Q → MatchBool (n == 0) P Q
+pub chosen : (n : ℕ) (P Q : Type 0) → (n ≡ 0 → ⊥) → Q → MatchBool (n == 0) P Q
 chosen n P Q z q = subst (λ (b : Bool). MatchBool b P Q) (by_test {G = false ≡ (n == 0)} (n == 0) (λ t. absurd (z (eqb-true n 0 t))) (λ t. sym t)) q
 
 gains : (p : RunPhase) (old new : Reading) (front : Chars) → is_run p ≡ false → IsPending p old.pending → list_all is_plain front ≡ true

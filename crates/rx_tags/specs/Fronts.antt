@@ -1,5 +1,5 @@
 -- Characters at the front of some bytes that a tag takes at once.
-use Rattle.std.specs.Prelude.{◌≡◌, ◌≤◌, ℕ, Bool, true, false, not, ◌&&◌, ◌||◌, ◌==◌, List, [], ◌∷◌, ◌++◌, length, take, Ok}
+use Rattle.std.specs.Prelude.{◌≡◌, ◌≤◌, ℕ, Bool, true, false, not, ◌&&◌, ◌||◌, ◌==◌, List, [], ◌∷◌, ◌++◌, length, take, Option, Some, None, Ok}
 use Rattle.std.specs.List.{list_all}
 use Rattle.rx_terms.specs.Ascii.{quotation_mark, ampersand, apostrophe, less_than_sign, between}
 use Rattle.rx_terms.specs.Text.{Chars}
@@ -8,10 +8,12 @@ use Rattle.rx_grammar.specs.References.{meaning}
 use Rattle.rx_reader.specs.declared.phases.RunPhase.TheVariants as run
 use Rattle.rx_reader.specs.declared.phases.TagPhase.{TagPhase}
 use Rattle.rx_reader.specs.declared.phases.TagPhase.TheVariants as phase
-use Rattle.rx_reader.specs.Tables.{is_last}
+use Rattle.rx_reader.specs.declared.phases.TagAction.TheVariants as action
+use Rattle.rx_reader.specs.Tables.{go, move_of, is_last}
 use Rattle.rx_reader.specs.TagReader.{TagState, tag_step}
 use Rattle.rx_reader.specs.Values.{known_as}
 use Rattle.rx_tags.specs.Pairs.{Pairs}
+use Rattle.rx_tags.specs.TagReads.{is_value_phase}
 
 -- a space, or a character of ASCII that is printed
 abbrev pub is_printed : ℕ → Bool
@@ -29,6 +31,29 @@ abbrev pub is_quoted : TagPhase → Bool
 is_quoted phase.DoubleQuoted = true
 is_quoted phase.SingleQuoted = true
 is_quoted _ = false
+
+-- a small letter goes on with a tag's name
+abbrev pub is_naming : TagPhase → Bool
+is_naming phase.Name = true
+is_naming phase.EndName = true
+is_naming _ = false
+
+-- a small letter belongs to an attribute's name
+abbrev pub opens_key : TagPhase → Bool
+opens_key phase.Gap = true
+opens_key phase.Key = true
+opens_key _ = false
+
+-- Nothing but the phase changes by the character, in which no value is read.
+pub record Skips (old : TagPhase) (c : ℕ) (next : TagPhase) : Type 0 where
+  pub move : (syntax : Syntax) → move_of syntax old c ≡ go next action.Skip
+  pub unfinished : is_last next ≡ false
+  pub printed : is_printed c ≡ true
+  pub outside : is_value_phase old ≡ false
+
+abbrev pub SkipGives : TagPhase → ℕ → Option TagPhase → Type 0
+SkipGives old c (Some next) = Skips old c next
+SkipGives old c None = Unit {0}
 
 -- the tag goes on with a character
 abbrev pub GoesTo : Syntax → TagState → ℕ → TagState → Type 0
@@ -55,3 +80,8 @@ pub record GainsValue (old : Pairs) (front : Chars) (new : Pairs) : Type 0 where
 pub record GainsKey (old : Pairs) (front : Chars) (new : Pairs) : Type 0 where
   pub small : list_all is_small front ≡ true
   pub is : new ≡ record { whole = old.whole; key = old.key ++ front; value = old.value }
+
+-- The tag's name has these characters more.
+pub record GainsName (old front new : Chars) : Type 0 where
+  pub small : list_all is_small front ≡ true
+  pub is : new ≡ old ++ front

@@ -33,6 +33,34 @@ pub(crate) fn is_quoted(phase: TagPhase) -> bool
     matches!(phase, TagPhase::DoubleQuoted | TagPhase::SingleQuoted)
 }
 
+/// Whether a tag's name is read.
+pub(crate) fn is_naming(phase: TagPhase) -> bool
+    ensures { result ≡ fronts.is_naming phase }
+{
+    matches!(phase, TagPhase::Name | TagPhase::EndName)
+}
+
+/// Whether a small letter goes on with an attribute's name, or begins one.
+pub(crate) fn opens_key(phase: TagPhase) -> bool
+    ensures { result ≡ fronts.opens_key phase }
+{
+    matches!(phase, TagPhase::Gap | TagPhase::Key)
+}
+
+/// The phase behind a byte by which nothing but the phase changes, where that is seen at once.
+pub(crate) fn skip(phase: TagPhase, byte: u8) -> Option<TagPhase>
+    ensures { fronts.SkipGives phase byte result }
+{
+    match (phase, byte) {
+        (TagPhase::Name, b' ') => Some(TagPhase::Gap),
+        (TagPhase::Key, b'=') => Some(TagPhase::BeforeValue),
+        (TagPhase::BeforeValue, b'"') => Some(TagPhase::DoubleQuoted),
+        (TagPhase::BeforeValue, b'\'') => Some(TagPhase::SingleQuoted),
+        (TagPhase::AfterValue, b' ') => Some(TagPhase::Gap),
+        _ => None,
+    }
+}
+
 /// How many bytes at the front are themselves in a value in quotes.
 pub(crate) fn plain_length(bytes: &[u8]) -> usize
     ensures fits { result ≤ length bytes.now }

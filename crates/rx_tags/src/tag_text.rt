@@ -1,11 +1,12 @@
 //! The text of one tag, read a character at a time.
-ghost use Rattle.std.specs.Prelude.{◌≡◌, [], ◌∷◌, ◌++◌, ◌&&◌, not, IfErr, OnErr, OnOk, string_bytes};
+ghost use Rattle.std.specs.Prelude.{◌≡◌, ◌≤◌, [], ◌∷◌, ◌++◌, ◌&&◌, ◌==◌, not, length, take, IfErr, MatchBool, OnErr, OnOk, string_bytes};
 ghost use Rattle.std.specs.Str.{chars};
 ghost use Rattle.rx_reader.specs.Tables.{is_html};
 ghost use Rattle.rx_reader.specs.Values.{no_value_yet};
+ghost use Rattle.rx_tags.specs.Fronts.{GainsName};
 ghost use Rattle.rx_tags.specs.TagReads.{ActGives, CanEnd, EndGives};
 
-use crate::fronts::{is_printed, is_quoted};
+use crate::fronts::{is_naming, is_printed, is_quoted, opens_key, skip, small_length};
 use crate::moves::{is_last, move_at};
 use crate::pairs::{Pairs, TagError};
 use crate::values::cased;
@@ -156,7 +157,7 @@ impl TagText {
         taken
     }
 
-    // What stands at the front of the rest of an attribute's name or of a value in quotes.
+    // What stands at the front of a value in quotes, of an attribute's name, or of the rest of the tag's.
     fn take_run(&mut self, bytes: &[u8]) -> usize
         ensures takes { TakesFront self.old.syntax self.old.state bytes.now result self.new.state }
         ensures syntax { self.new.syntax ≡ self.old.syntax }
@@ -164,10 +165,27 @@ impl TagText {
         if is_quoted(self.phase) {
             return self.pairs.take_plain(bytes);
         }
-        match self.phase {
-            TagPhase::Key => self.pairs.take_small(bytes),
-            _ => 0,
+        if opens_key(self.phase) {
+            return self.take_key(bytes);
         }
+        if is_naming(self.phase) {
+            return take_name(&mut self.name, bytes);
+        }
+        0
+    }
+
+    // The small letters at the front, which go on with an attribute's name or begin one.
+    fn take_key(&mut self, bytes: &[u8]) -> usize
+        requires { fronts.opens_key self.old.state.phase ≡ true }
+        ensures takes { TakesFront self.old.syntax self.old.state bytes.now result self.new.state }
+        ensures syntax { self.new.syntax ≡ self.old.syntax }
+    {
+        let count = self.pairs.take_small(bytes);
+        if count == 0 {
+            return 0;
+        }
+        self.phase = TagPhase::Key;
+        count
     }
 
     // One character, if it is printed and the tag goes on with it; else nothing is changed.
@@ -177,6 +195,10 @@ impl TagText {
         ensures same { result ≡ false → self.new ≡ self.old }
         ensures syntax { self.new.syntax ≡ self.old.syntax }
     {
+        if let Some(next) = skip(self.phase, byte) {
+            self.phase = next;
+            return true;
+        }
         if !is_printed(byte) {
             return false;
         }
@@ -195,7 +217,7 @@ impl TagText {
 }
 
 impl TagText {
-    ghost use Rattle.std.specs.Prelude.{◌<◌, length, slice_get, Some};
+    ghost use Rattle.std.specs.Prelude.{◌<◌, slice_get, Some};
 
     pub(crate) fn phase(&self) -> TagPhase
         ensures { result ≡ self.now.state.phase }
@@ -273,6 +295,24 @@ fn end_pairs(
         Ok(repeated) => Ok(repeated),
         Err(NoMemory) => Err(TagError::NoMemory),
     }
+}
+
+// Takes the small letters at the front for the name, where there is memory, and tells how many.
+fn take_name(name: &mut String, bytes: &[u8]) -> usize
+    ensures fits { result ≤ length bytes.now }
+    ensures gains { MatchBool (result == 0) (chars (string_bytes name.new) ≡ chars (string_bytes name.old)) (GainsName (chars (string_bytes name.old)) (take result bytes.now) (chars (string_bytes name.new))) }
+{
+    let count = small_length(bytes);
+    if count == 0 {
+        return 0;
+    }
+    let Ok(letters) = str::from_utf8(&bytes[..count]) else {
+        return 0;
+    };
+    if name.push_str(letters).is_err() {
+        return 0;
+    }
+    count
 }
 
 fn push_name(name: &mut String, c: char) -> Result<(), TagError>

@@ -1,5 +1,4 @@
 use Rattle.std.proofs.Common.{◌∙◌, sym, take}
-use Rattle.std.specs.Result.{is_err}
 use Rattle.rx_tags.proofs.TakeLemmas.{plain_ascii, gains_value, stays_pending}
 use Rattle.rx_tags.proofs.PairLemmas.{on_ok}
 use Rattle.rx_tags.proofs.pairs.Pairs.take_plain.Goals as goal
