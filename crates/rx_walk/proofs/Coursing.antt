@@ -1,0 +1,172 @@
+-- What becomes of the course.
+use Rattle.std.proofs.Common.{◌≡◌, ◌∙◌, ℕ, suc, ◌+◌, ◌≤◌, ◌<◌, Bool, true, false, List, [], ◌∷◌, ◌++◌, map, length, refl, sym, ap, subst, Option, Some, None, Ok, Err, arith, length-append, append-nil}
+use Rattle.std.specs.Option.{option_or}
+use Rattle.std.specs.Prelude.{is_some, option_map, if◌then◌else◌}
+use Rattle.rx_terms.specs.Text.{Chars}
+use Rattle.rx_grammar.specs.declared.faults.Fault.{Fault}
+use Rattle.rx_grammar.specs.Trees.{StartTag}
+use Rattle.rx_rdfa.specs.Calls.{Call, Enter, Leave}
+use Rattle.rx_rdfa.specs.Names.{Context, vocab}
+use Rattle.rx_rdfa.specs.Refusals.{is_relative}
+use Rattle.rx_rdfa.specs.Tree.{Tag}
+use Rattle.rx_names.specs.Lines as names
+use Rattle.rx_names.specs.Lines.{Kept, kept_of, vocabulary_of}
+use Rattle.rx_names.proofs.LineLemmas.{vocabulary-line}
+use Rattle.rx_curie.specs.Given.{vocabulary_from, RefusesFor}
+use Rattle.rx_curie.specs.declared.facts.FactsError.TheVariants as error
+use Rattle.rx_grammar.specs.declared.faults.Kind.{Kind}
+use Rattle.rx_rdfa.specs.Refusals.{Refusal}
+use Rattle.rx_nest.specs.Signs.{Sign, begun, said, finished}
+use Rattle.rx_nest.specs.Fronts.{IsFront}
+use Rattle.rx_walk.specs.declared.courses.Course.{Course}
+use Rattle.rx_walk.specs.declared.origins.Origin.{Origin}
+use Rattle.rx_walk.specs.declared.stages.Stage.{Stage}
+use Rattle.rx_walk.specs.Lines.{read_tag, around, line_on, line_of}
+use Rattle.rx_walk.specs.CallsOf.{call_of, calls_of, singles}
+use Rattle.rx_walk.specs.Seekings.{Seeking, seek, seeks, sought}
+use Rattle.rx_walk.specs.Refused.{fault_of, refused_at, refused_in}
+use Rattle.rx_walk.specs.Stages.{Staged, MayTake, MayBe, Tells}
+use Rattle.rx_rdfa.specs.Facts.{facts}
+use Rattle.rx_curie.specs.declared.facts.Facts.{Facts as CodeFacts}
+use Rattle.rx_curie.specs.Seen.{facts_seen}
+use Rattle.rx_tags.specs.declared.stops.Stop.{Stop}
+use Rattle.rx_tags.specs.declared.stops.Stop.TheVariants as stop
+use Rattle.rx_walk.specs.Courses.{AllAbsolute, Runs, MayHear, FactsGive, Hears}
+use Rattle.rx_walk.proofs.Signed.{line_append, calls_append, seeks_append, refused_append, said_line, said_calls, said_seeks, said_refused}
+use Rattle.rx_walk.proofs.Fronting.{may_more, may_say, front_counts}
+
+or_none : (o : Option Fault) → option_or o None ≡ o
+or_none None = refl
+or_none (Some x) = refl
+
+-- the line that a tag's own vocabulary doesn't change
+pub from_absolute : (tag : Tag) (line : List Tag) → AllAbsolute line → is_relative (vocabulary_from line tag) ≡ false
+from_absolute tag line a = by (is_some _) line a
+  where
+    by : (b : Bool) (line : List Tag) → AllAbsolute line → is_relative (if b then None else vocab line) ≡ false
+    by true line a = refl
+    by false [] a = refl
+    by false (t ∷ line) a = a.0
+
+pub absolute_more : (kept : Kept) (line : List Tag) (tag : Tag) → AllAbsolute line → names.Stands kept (tag ∷ line) → is_relative (vocabulary_of kept) ≡ false → AllAbsolute (tag ∷ line)
+absolute_more kept line tag a s r = (ap is_relative (sym (vocabulary-line kept (tag ∷ line) s)) ∙ r, a)
+
+absolute_around : (line : List Tag) → AllAbsolute line → AllAbsolute (around line)
+absolute_around [] a = tt
+absolute_around (t ∷ line) a = a.1
+
+-- what a course has to be told may be told
+pub takes_one : (course : Course) (context : Context) (address : Chars) (levels : ℕ) (signs : List Sign) (sign : Sign) → Runs context address levels course signs → IsFront levels (signs ++ sign ∷ [])
+    → MayTake course.origin.levels (call_of context (line_of [] signs) sign ∷ []) course.stage
+takes_one course context address levels signs sign r f =
+    record {
+      address = address;
+      seeking = sought signs;
+      list = calls_of context [] signs;
+      staged = subst (λ n. Staged address n (sought signs) (calls_of context [] signs) course.stage) (sym r.levels_are) r.staged;
+      may =
+          subst (λ n. MayBe n (calls_of context [] signs ++ call_of context (line_of [] signs) sign ∷ [])) (sym r.levels_are)
+          (subst (λ l. MayBe levels l) (calls_append context [] signs (sign ∷ [])) (may_more context levels signs r.may sign f));
+    }
+
+module _ (context : Context) (address : Chars) (levels : ℕ) (old new : Course) (signs : List Sign) (r : Runs context address levels old signs) where
+  -- one more sign
+  pub runs_more : (sign : Sign) → IsFront levels (signs ++ sign ∷ []) → names.Stands new.names (line_on (line_of [] signs) sign) → new.names.context ≡ old.names.context → new.origin ≡ old.origin
+      → new.count ≡ length (line_on (line_of [] signs) sign) → AllAbsolute (line_on (line_of [] signs) sign) → refused_at context (line_of [] signs) sign ≡ None
+      → Tells old.origin (λ s. seek old.count s sign) (call_of context (line_of [] signs) sign ∷ []) old.stage new.stage → Runs context address levels new (signs ++ sign ∷ [])
+  runs_more sign f n c o k a e t =
+      let line : line_of [] (signs ++ sign ∷ []) ≡ line_on (line_of [] signs) sign = line_append [] signs (sign ∷ []) in
+      let here : Staged old.origin.address old.origin.levels (sought signs) (calls_of context [] signs) old.stage =
+          subst (λ x. Staged x old.origin.levels (sought signs) (calls_of context [] signs) old.stage) (sym r.address_is)
+          (subst (λ x. Staged address x (sought signs) (calls_of context [] signs) old.stage) (sym r.levels_are) r.staged) in
+      let next = t.staged (sought signs) (calls_of context [] signs) here in
+      let turned : seek old.count (sought signs) sign ≡ sought (signs ++ sign ∷ []) = ap (λ x. seek x (sought signs) sign) r.count_is ∙ sym (seeks_append [] (sought []) signs (sign ∷ [])) in
+      let told : calls_of context [] signs ++ call_of context (line_of [] signs) sign ∷ [] ≡ calls_of context [] (signs ++ sign ∷ []) = sym (calls_append context [] signs (sign ∷ [])) in
+      record {
+        names_are = subst (λ l. names.Stands new.names l) (sym line) n;
+        context_is = c ∙ r.context_is;
+        address_is = ap (λ (x : Origin). x.address) o ∙ r.address_is;
+        levels_are = ap (λ (x : Origin). x.levels) o ∙ r.levels_are;
+        count_is = k ∙ ap length (sym line);
+        absolute = subst AllAbsolute (sym line) a;
+        may = may_more context levels signs r.may sign f;
+        accepted = refused_append context [] signs (sign ∷ []) ∙ ap (λ x. option_or x (refused_in context (line_of [] signs) (sign ∷ []))) r.accepted ∙ (or_none (refused_at context (line_of [] signs) sign) ∙ e);
+        staged =
+            subst (λ x. Staged address levels x (calls_of context [] (signs ++ sign ∷ [])) new.stage) turned
+            (subst (λ l. Staged address levels (seek old.count (sought signs) sign) l new.stage) told
+            (subst (λ x. Staged address x (seek old.count (sought signs) sign) (calls_of context [] signs ++ call_of context (line_of [] signs) sign ∷ []) new.stage) r.levels_are
+            (subst (λ x. Staged x old.origin.levels (seek old.count (sought signs) sign) (calls_of context [] signs ++ call_of context (line_of [] signs) sign ∷ []) new.stage) r.address_is next)));
+      }
+
+  -- text
+  pub runs_said : (chars : Chars) → IsFront levels (signs ++ map said chars) → new.names ≡ old.names → new.origin ≡ old.origin → new.count ≡ old.count
+      → Tells old.origin (λ s. s) (singles chars) old.stage new.stage → Runs context address levels new (signs ++ map said chars)
+  runs_said chars f n o k t =
+      let line : line_of [] (signs ++ map said chars) ≡ line_of [] signs = line_append [] signs (map said chars) ∙ said_line (line_of [] signs) chars in
+      let here : Staged old.origin.address old.origin.levels (sought signs) (calls_of context [] signs) old.stage =
+          subst (λ x. Staged x old.origin.levels (sought signs) (calls_of context [] signs) old.stage) (sym r.address_is)
+          (subst (λ x. Staged address x (sought signs) (calls_of context [] signs) old.stage) (sym r.levels_are) r.staged) in
+      let next = t.staged (sought signs) (calls_of context [] signs) here in
+      let turned : sought signs ≡ sought (signs ++ map said chars) = sym (seeks_append [] (sought []) signs (map said chars) ∙ said_seeks (line_of [] signs) (sought signs) chars) in
+      let told : calls_of context [] signs ++ singles chars ≡ calls_of context [] (signs ++ map said chars) =
+          sym (calls_append context [] signs (map said chars) ∙ ap (λ l. calls_of context [] signs ++ l) (said_calls context (line_of [] signs) chars)) in
+      record {
+        names_are = subst (λ l. names.Stands new.names l) (sym line) (subst (λ x. names.Stands x (line_of [] signs)) (sym n) r.names_are);
+        context_is = ap (λ (x : Kept). x.context) n ∙ r.context_is;
+        address_is = ap (λ (x : Origin). x.address) o ∙ r.address_is;
+        levels_are = ap (λ (x : Origin). x.levels) o ∙ r.levels_are;
+        count_is = k ∙ (r.count_is ∙ ap length (sym line));
+        absolute = subst AllAbsolute (sym line) r.absolute;
+        may = may_say context levels signs r.may chars f;
+        accepted = refused_append context [] signs (map said chars) ∙ ap (λ x. option_or x (refused_in context (line_of [] signs) (map said chars))) r.accepted ∙ said_refused context (line_of [] signs) chars;
+        staged =
+            subst (λ x. Staged address levels x (calls_of context [] (signs ++ map said chars)) new.stage) turned
+            (subst (λ l. Staged address levels (sought signs) l new.stage) told
+            (subst (λ x. Staged address x (sought signs) (calls_of context [] signs ++ singles chars) new.stage) r.levels_are
+            (subst (λ x. Staged x old.origin.levels (sought signs) (calls_of context [] signs ++ singles chars) new.stage) r.address_is next)));
+      }
+
+  -- a start tag that is refused
+  pub refused_next : (t : StartTag) (fault : Fault) → refused_at context (line_of [] signs) (begun t) ≡ Some fault → refused_in context [] (signs ++ begun t ∷ []) ≡ Some fault
+  refused_next t fault e =
+      refused_append context [] signs (begun t ∷ []) ∙ ap (λ x. option_or x (refused_in context (line_of [] signs) (begun t ∷ []))) r.accepted
+      ∙ (or_none (refused_at context (line_of [] signs) (begun t)) ∙ e)
+
+  begin_context : (kept : Kept) → kept.context ≡ old.names.context → kept.context ≡ context
+  begin_context kept c = c ∙ r.context_is
+
+  pub begin_refused : (kept : Kept) (t : StartTag) (why : Stop) → kept.context ≡ old.names.context → FactsGive kept.context (line_of [] signs) t (Err why) → Hears context address levels signs (begun t ∷ []) (Err why) new
+  begin_refused kept t (stop.Fault fault) c g = refused_next t fault (subst (λ x. refused_at x (line_of [] signs) (begun t) ≡ Some fault) (begin_context kept c) g)
+  begin_refused kept t stop.NoMemory c g = tt
+
+  pub begin_facts : (kept : Kept) (t : StartTag) (made : CodeFacts) → kept.context ≡ old.names.context → FactsGive kept.context (line_of [] signs) t (Ok made)
+      → (facts_seen made ≡ facts context (line_of [] signs) (read_tag t)) × (refused_at context (line_of [] signs) (begun t) ≡ None)
+  begin_facts kept t made c g = subst (λ x. FactsGive x (line_of [] signs) t (Ok made)) (begin_context kept c) g
+
+  pub absolute_left : AllAbsolute (around (line_of [] signs))
+  absolute_left = absolute_around (line_of [] signs) r.absolute
+
+  pub count_room : (t : StartTag) → IsFront levels (signs ++ begun t ∷ []) → old.count + 1 ≤ old.origin.levels
+  count_room t f =
+      let size : length (line_of [] (signs ++ begun t ∷ [])) ≡ suc (length (line_of [] signs)) = ap length (line_append [] signs (begun t ∷ [])) in
+      omega (arith, size, front_counts levels (signs ++ begun t ∷ []) f, r.count_is, r.levels_are)
+
+pub popped_around : (old new : Kept) → ((tag : Tag) (line : List Tag) → names.Stands old (tag ∷ line) → names.Stands new line) → (line : List Tag) → 0 < length line → names.Stands old line → names.Stands new (around line)
+popped_around old new p [] l s = absurd (omega arith)
+popped_around old new p (tag ∷ line) l s = p tag line s
+
+pub around_length : (line : List Tag) → 0 < length line → length (around line) + 1 ≡ length line
+around_length [] l = absurd (omega arith)
+around_length (tag ∷ line) l = omega arith
+
+marks_are : (context : Context) (line : List Tag) → length (kept_of context line).marks ≡ length line
+marks_are context [] = refl
+marks_are context (tag ∷ line) = omega (arith, marks_are context line, length-append (kept_of context line).marks (length (kept_of context line).rows ∷ []))
+
+pub marks_of : (kept : Kept) (line : List Tag) → names.Stands kept line → length kept.marks ≡ length line
+marks_of kept line s = ap (λ (k : Kept). length k.marks) s.is ∙ marks_are kept.context line
+
+-- why a tag is refused
+pub refused_is : (k : Kind) (r : Option Refusal) (t : StartTag) → RefusesFor (error.Meaning k) r → option_map (fault_of t) r ≡ Some (record { kind = k; token = t.token; at = t.at })
+refused_is k None t h = absurd h
+refused_is k (Some refused) t h = ap (λ z. Some (record { kind = z; token = t.token; at = t.at })) (sym h)

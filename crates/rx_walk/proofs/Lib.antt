@@ -1,0 +1,12 @@
+pub mod Signed
+pub mod Alike
+pub mod Found
+pub mod Moving
+pub mod Fronting
+pub mod Staging
+pub mod Coursing
+pub mod Placing
+pub mod Firsts
+pub mod Walking
+pub mod Wholes
+pub mod Making

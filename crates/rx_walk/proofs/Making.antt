@@ -1,0 +1,63 @@
+-- What the calls for a page's tree make: the list of the tree.
+use Rattle.std.proofs.Common.{◌≡◌, ◌∙◌, ℕ, List, [], ◌∷◌, ◌++◌, refl, sym, ap, subst, append_assoc, append-nil}
+use Rattle.rx_terms.specs.Text.{Chars}
+use Rattle.rx_terms.specs.declared.triples.Triple.{Triple as CodeTriple}
+use Rattle.rx_model.specs.Seen.{triples_seen}
+use Rattle.rx_grammar.specs.Trees.{Tree}
+use Rattle.rx_rdfa.specs.Base.{base_of}
+use Rattle.rx_rdfa.specs.Calls.{Call, Enter, Read, Leave, calls}
+use Rattle.rx_rdfa.specs.Facts.{Facts, with_facts}
+use Rattle.rx_rdfa.specs.Names.{Context}
+use Rattle.rx_rdfa.specs.Tree.{Nodes}
+use Rattle.rx_eval.specs.Numbering.{Numbering}
+use Rattle.rx_eval.specs.Opened.{begun_state, read_text}
+use Rattle.rx_eval.specs.Standing.{Stands, Makes, no_numbers}
+use Rattle.rx_eval.specs.States.{State}
+use Rattle.rx_eval.proofs.EndLemmas.{left_stands}
+use Rattle.rx_eval.proofs.StandLemmas.{begun_stands, enter_stands, text_stands, finish_makes}
+use Rattle.rx_walk.specs.CallsOf.{singly}
+use Rattle.rx_walk.specs.Leading.{Steps, Leads}
+use Rattle.rx_walk.specs.Lines.{tags_of}
+use Rattle.rx_walk.specs.Walks.{Lists, IsMade}
+use Rattle.rx_walk.proofs.Alike.{pieces_lead}
+use Rattle.rx_walk.proofs.Signed.{calls_tree}
+
+-- the state stands for the calls under some numbering
+record StandsSome (list : List Call) (state : State) : Type 0 where
+  to : Numbering
+  stands : Stands to list state
+
+one_on : (call : Call) (to : Numbering) (list : List Call) (old new : State) → Steps call old new → Stands to list old → StandsSome (list ++ call ∷ []) new
+one_on (Enter facts) to list old new s st = let x = enter_stands to list old facts new s.1 s.0.root s.0.drawn st in record { to = x.now; stands = x.stands }
+one_on (Read chars) to list old new s st = record { to = to; stands = subst (λ z. Stands to (list ++ Read chars ∷ []) z) (sym s) (text_stands to list old chars st) }
+one_on Leave to list old new s st = let x = left_stands to list old new s st in record { to = x.now; stands = x.stands }
+
+all_on : (list before : List Call) (to : Numbering) (old new : State) → Leads list old new → Stands to before old → StandsSome (before ++ list) new
+all_on [] before to old new h st = record { to = to; stands = subst (λ l. Stands to l new) (sym (append-nil before)) (subst (λ z. Stands to before z) (sym h) st) }
+all_on (call ∷ list) before to old new h st =
+    let one = one_on call to before old h.0 h.1 st in
+    let all = all_on list (before ++ call ∷ []) one.to h.0 new h.2 one.stands in
+    record { to = all.to; stands = subst (λ l. Stands all.to l new) (append_assoc before (call ∷ []) list) all.stands }
+
+-- the base stays
+one_base : (call : Call) (old new : State) → Steps call old new → new.base ≡ old.base
+one_base (Enter facts) old new s = s.1.rest.0
+one_base (Read chars) old new s = ap (λ (z : State). z.base) s
+one_base Leave old new s = s.rest.0
+
+all_base : (list : List Call) (old new : State) → Leads list old new → new.base ≡ old.base
+all_base [] old new h = ap (λ (z : State). z.base) h
+all_base (call ∷ list) old new h = all_base list h.0 new h.2 ∙ one_base call old h.0 h.1
+
+made_by : (base : Chars) (levels : ℕ) (tree : Nodes Facts) (state : State) → Leads (calls tree) (begun_state base levels) state → (to : Numbering) × Makes to base tree state.out
+made_by base levels tree state h =
+    let s = all_on (calls tree) [] no_numbers (begun_state base levels) state h (begun_stands base levels) in
+    (s.to, subst (λ b. Makes s.to b tree state.out) (all_base (calls tree) (begun_state base levels) state h) (finish_makes s.to state tree s.stands))
+
+pub list_made : (context : Context) (address : Chars) (levels : ℕ) (tree : Tree) (list : List CodeTriple) → Lists context address levels tree list → IsMade context address tree list
+list_made context address levels tree list l =
+    let nodes = with_facts context [] (tags_of tree) in
+    let base = base_of (tags_of tree) address in
+    let led : Leads (singly (calls nodes)) (begun_state base levels) l.state = subst (λ cs. Leads cs (begun_state base levels) l.state) (calls_tree context [] tree) l.led.leads in
+    let made = made_by base levels nodes l.state ((pieces_lead (calls nodes) (begun_state base levels) l.state).0 led) in
+    record { to = made.0; makes = subst (λ ts. Makes made.0 base nodes ts) (sym l.list_is) made.1 }

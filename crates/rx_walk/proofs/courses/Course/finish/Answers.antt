@@ -1,0 +1,29 @@
+use Rattle.std.proofs.Common.{◌≡◌, ◌<◌, ◌≤◌, ◌+◌, ◌-◌, [], length, refl, ap, arith}
+use Rattle.rx_names.specs.Lines.{Kept}
+use Rattle.rx_nest.specs.Signs.{finished}
+use Rattle.rx_walk.specs.Lines.{line_of}
+use Rattle.rx_walk.proofs.Fronting.{front_left}
+use Rattle.rx_walk.proofs.Coursing.{takes_one, runs_more, absolute_left, popped_around, around_length, marks_of}
+use Rattle.rx_walk.proofs.courses.Course.finish.Goals as goal
+
+pub finish-requires : goal.finish-requires
+finish-requires c = takes_one c.args.self.now c.requires.context c.requires.address c.requires.levels c.requires.signs finished c.requires.runs c.requires.front
+
+pub pop-requires : goal.pop-requires
+pop-requires c =
+    let some = front_left c.requires.levels c.requires.signs c.requires.front in
+    let marks = marks_of c.args.self.now.names (line_of [] c.requires.signs) c.requires.runs.names_are in
+    omega (arith, some, marks)
+
+pub overflow_sub-self : goal.overflow_sub-self
+overflow_sub-self c =
+    let some = front_left c.requires.levels c.requires.signs c.requires.front in
+    omega (arith, some, c.requires.runs.count_is)
+
+pub returns : goal.returns
+returns c context address levels signs r f =
+    let some = front_left levels signs f in
+    let size = around_length (line_of [] signs) some in
+    runs_more context address levels c.args.self.now (record { origin = c.args.self.now.origin; names = c.pop.new.self; count = c.args.self.now.count - 1; stage = c.finish.new.self }) signs r finished f
+    (popped_around c.args.self.now.names c.pop.new.self c.pop.ensures.line (line_of [] signs) some r.names_are) (ap (λ (k : Kept). k.context) c.pop.ensures.popped) refl
+    (omega (arith, size, r.count_is)) (absolute_left context address levels c.args.self.now c.args.self.now signs r) refl c.in-Ok.ensures

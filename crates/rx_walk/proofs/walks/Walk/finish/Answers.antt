@@ -1,0 +1,22 @@
+use Rattle.std.proofs.Common.{◌≡◌, sym, subst}
+use Rattle.rx_walk.specs.Walks.{Stands}
+use Rattle.rx_walk.proofs.Wholes.{ends_whole, whole_of, end_gives, end_stops, no_fault}
+use Rattle.rx_walk.proofs.walks.Walk.finish.Goals as goal
+
+pub list_of-requires : goal.list_of-requires
+list_of-requires c =
+    let kept = c.self.invariant (no_fault c.self.inside.failed c.in_default.not-Some) c.if-spent.false in
+    let s = kept.0 in
+    whole_of s.syntax s.limits s.context s.address c.self.inside.course s.bytes
+    (ends_whole s.syntax s.limits s.context s.address c.self.inside.nest c.self.inside.course s.bytes s.goes kept.1 (c.in-Ok.ensures.ends s.syntax s.limits s.bytes s.goes.signs s.goes.shown))
+
+pub returns-in-Ok-clause-gives : goal.returns-in-Ok-clause-gives
+returns-in-Ok-clause-gives c syntax limits context address bytes s =
+    let was = subst (λ v. Stands syntax limits context address v bytes) (sym c.self.view_is) s in
+    let w = ends_whole syntax limits context address c.self.inside.nest c.self.inside.course bytes was.goes was.paid (c.in-Ok.ensures.ends syntax limits bytes was.goes.signs was.goes.shown) in
+    end_gives syntax limits context address c.self.inside.course bytes c.list_of.result w (c.list_of.ensures.gives context address limits.depth w.root w.inside w.runs) c.list_of.ensures.no_fault
+
+pub returns-clause-gives : goal.returns-clause-gives
+returns-clause-gives c syntax limits context address bytes s =
+    let was = subst (λ v. Stands syntax limits context address v bytes) (sym c.self.view_is) s in
+    end_stops syntax limits context address bytes was.goes.signs c.self.inside.nest c.end.new.self c.in-Err.stop (c.in-Err.ensures.ends syntax limits bytes was.goes.signs was.goes.shown)

@@ -1,0 +1,61 @@
+-- What is known of a page's elements after some signs of it.
+use Rattle.std.specs.Prelude.{◌≡◌, ℕ, false, List, [], ◌∷◌, ◌++◌, length, Option, Some, None, Result, Ok, Err}
+use Rattle.rx_terms.specs.Text.{Chars}
+use Rattle.rx_grammar.specs.declared.faults.Fault.{Fault}
+use Rattle.rx_grammar.specs.Trees.{StartTag}
+use Rattle.rx_rdfa.specs.Facts.{facts}
+use Rattle.rx_rdfa.specs.Names.{Context, vocab}
+use Rattle.rx_rdfa.specs.Refusals.{is_relative}
+use Rattle.rx_rdfa.specs.Tree.{Tag}
+use Rattle.rx_names.specs.Lines as names
+use Rattle.rx_curie.specs.declared.facts.Facts.{Facts as CodeFacts}
+use Rattle.rx_curie.specs.Seen.{facts_seen}
+use Rattle.rx_tags.specs.declared.stops.Stop.{Stop}
+use Rattle.rx_tags.specs.declared.stops.Stop.TheVariants as stop
+use Rattle.rx_nest.specs.Signs.{Sign, begun}
+use Rattle.rx_nest.specs.Fronts.{IsFront}
+use Rattle.rx_walk.specs.declared.courses.Course.{Course}
+use Rattle.rx_walk.specs.Lines.{read_tag, line_of}
+use Rattle.rx_walk.specs.CallsOf.{calls_of}
+use Rattle.rx_walk.specs.Seekings.{sought}
+use Rattle.rx_walk.specs.Refused.{refused_at, refused_in}
+use Rattle.rx_walk.specs.Stages.{Staged, MayBe}
+
+-- the vocabulary in force at each element of the line has a scheme, where there is one
+abbrev pub AllAbsolute : List Tag → Type 0
+AllAbsolute [] = Unit {0}
+AllAbsolute (tag ∷ line) = (is_relative (vocab (tag ∷ line)) ≡ false) × AllAbsolute line
+
+-- The course stands for these signs, in which nothing is refused: the names in force are those of the open elements, which
+-- are counted; and the calls for the signs were told, or are kept while the base is sought.
+pub record Runs (context : Context) (address : Chars) (levels : ℕ) (course : Course) (signs : List Sign) : Type 0 where
+  pub names_are : names.Stands course.names (line_of [] signs)
+  pub context_is : course.names.context ≡ context
+  pub address_is : course.origin.address ≡ address
+  pub levels_are : course.origin.levels ≡ levels
+  pub count_is : course.count ≡ length (line_of [] signs)
+  pub absolute : AllAbsolute (line_of [] signs)
+  pub may : MayBe levels (calls_of context [] signs)
+  pub accepted : refused_in context [] signs ≡ None
+  pub staged : Staged address levels (sought signs) (calls_of context [] signs) course.stage
+
+-- the course stands for some signs, and these may come next
+pub record MayHear (course : Course) (more : List Sign) : Type 0 where
+  pub context : Context
+  pub address : Chars
+  pub levels : ℕ
+  pub signs : List Sign
+  pub runs : Runs context address levels course signs
+  pub front : IsFront levels (signs ++ more)
+
+-- what the facts of a start tag below a line are, or why it is refused
+abbrev pub FactsGive : Context → List Tag → StartTag → Result CodeFacts Stop → Type 0
+FactsGive context above t (Ok made) = (facts_seen made ≡ facts context above (read_tag t)) × (refused_at context above (begun t) ≡ None)
+FactsGive context above t (Err (stop.Fault fault)) = refused_at context above (begun t) ≡ Some fault
+FactsGive context above t (Err stop.NoMemory) = Unit {0}
+
+-- what becomes of the course with these signs, or which of them is refused
+abbrev pub Hears : Context → Chars → ℕ → List Sign → List Sign → Result (Unit {0}) Stop → Course → Type 0
+Hears context address levels signs more (Ok done) new = Runs context address levels new (signs ++ more)
+Hears context address levels signs more (Err (stop.Fault fault)) new = refused_in context [] (signs ++ more) ≡ Some fault
+Hears context address levels signs more (Err stop.NoMemory) new = Unit {0}

@@ -1,0 +1,10 @@
+pub mod Lines
+pub mod CallsOf
+pub mod Seekings
+pub mod Refused
+pub mod Leading
+pub mod Stages
+pub mod Faults
+pub mod Courses
+pub mod Walks
+pub mod TagPlaces

@@ -1,0 +1,137 @@
+//! The elements of a page as they are told: the names in force, and what the evaluator is told of them.
+ghost use Rattle.std.specs.Prelude.{◌≡◌, ◌<◌, ◌+◌, ◌∷◌, ◌++◌, [], List, ℕ, false, map, OnOk, IfOk};
+ghost use Rattle.std.specs.Str.{chars};
+ghost use Rattle.rx_terms.specs.Text.{Chars};
+ghost use Rattle.rx_rdfa.specs.Names.{Context as RulesContext};
+ghost use Rattle.rx_rdfa.specs.Refusals.{is_relative};
+ghost use Rattle.rx_rdfa.specs.Tree.{Tag as StartTag};
+ghost use Rattle.rx_names.specs.Lines as lines;
+ghost use Rattle.rx_names.specs.Tags.{tag_of};
+ghost use Rattle.rx_curie.specs.Given.{vocabulary_from};
+ghost use Rattle.rx_nest.specs.Nests.{tag_shown, event_signs};
+ghost use Rattle.rx_nest.specs.Signs.{Sign, begun, said, finished};
+ghost use Rattle.rx_nest.specs.Fronts.{IsFront};
+ghost use Rattle.rx_walk.specs.Courses.{Runs, MayHear, FactsGive, Hears};
+
+use crate::origins::Origin;
+use crate::seeking::Sought;
+use crate::stages::{Head, Stage};
+use rx_curie::{Facts, FactsError};
+use rx_names::{Context, Names};
+use rx_nest::{Event, Fault, Stop, Tag};
+use rx_terms::{Iri, NoMemory};
+use std::alloc::Global;
+
+/// What is known of a page's elements.
+#[derive(Drop)]
+pub(crate) struct Course {
+    pub(crate) origin: Origin,
+    pub(crate) names: Names,
+    /// How many elements are open.
+    pub(crate) count: u32,
+    pub(crate) stage: Stage,
+}
+
+/// What the start tag says, or the fault for which it is refused.
+fn facts_of(alloc: Global, tag: &Tag<'_>, names: &Names) -> Result<Facts, Stop>
+    ensures line { (above : List StartTag) → lines.Stands names.now (tag_of tag.now ∷ above) → is_relative (vocabulary_from above (tag_of tag.now)) ≡ false → FactsGive names.now.context above (tag_shown tag.now) result }
+    ensures absolute { OnOk result (is_relative (lines.vocabulary_of names.now) ≡ false) }
+{
+    match Facts::of(alloc, tag, &names.view()) {
+        Ok(facts) => Ok(facts),
+        Err(FactsError::Meaning(kind)) => Err(Stop::Fault(Fault {
+            kind,
+            token: tag.token,
+            at: tag.at,
+        })),
+        Err(FactsError::NoMemory) => Err(Stop::NoMemory),
+    }
+}
+
+/// One element more, where a level is left for it.
+fn one_more(count: u32, levels: u32) -> u32
+    requires { count < levels }
+    ensures { result ≡ count + 1 }
+{
+    count + 1
+}
+
+impl Course {
+    /// Before the first element.
+    pub(crate) fn new(
+        alloc: Global,
+        context: Context,
+        address: Iri,
+        levels: u32,
+    ) -> Result<Course, NoMemory>
+        ensures { IfOk result (λ course. Runs context address levels course []) }
+    {
+        let names = Names::new(alloc, context, levels)?;
+        Ok(Course {
+            origin: Origin {
+                alloc,
+                address,
+                levels,
+            },
+            names,
+            count: 0,
+            stage: Stage::Seeking(Head {
+                sought: Sought::FirstChild,
+                queue: Vec::new(alloc),
+            }),
+        })
+    }
+
+    /// Takes what comes next in the page's tree. A fault is that of a start tag that is refused for what it means.
+    pub(crate) fn hear(&mut self, event: Event<'_>) -> Result<(), Stop>
+        requires { MayHear self.old (event_signs event) }
+        ensures { (context : RulesContext) (address : Chars) (levels : ℕ) (signs : List Sign) → Runs context address levels self.old signs → IsFront levels (signs ++ event_signs event.entry) → Hears context address levels signs (event_signs event.entry) result self.new }
+    {
+        match event {
+            Event::More | Event::Skipped => Ok(()),
+            Event::Begin(tag) => self.begin(&tag),
+            Event::Text(text) => self.text(text),
+            Event::Finish => self.finish(),
+        }
+    }
+
+    fn begin(&mut self, tag: &Tag<'_>) -> Result<(), Stop>
+        requires { MayHear self.old (begun (tag_shown tag.now) ∷ []) }
+        ensures { (context : RulesContext) (address : Chars) (levels : ℕ) (signs : List Sign) → Runs context address levels self.old signs → IsFront levels (signs ++ begun (tag_shown tag.now) ∷ []) → Hears context address levels signs (begun (tag_shown tag.now) ∷ []) result self.new }
+    {
+        let Ok(()) = self.names.push(tag) else {
+            return Err(Stop::NoMemory);
+        };
+        let facts = match facts_of(self.origin.alloc, tag, &self.names) {
+            Ok(facts) => facts,
+            Err(stop) => return Err(stop),
+        };
+        let Ok(()) = self.stage.begin(&self.origin, self.count, tag, facts) else {
+            return Err(Stop::NoMemory);
+        };
+        self.count = one_more(self.count, self.origin.levels);
+        Ok(())
+    }
+
+    fn text(&mut self, text: &str) -> Result<(), Stop>
+        requires { MayHear self.old (map said (chars text.now)) }
+        ensures { (context : RulesContext) (address : Chars) (levels : ℕ) (signs : List Sign) → Runs context address levels self.old signs → IsFront levels (signs ++ map said (chars text.now)) → Hears context address levels signs (map said (chars text.now)) result self.new }
+    {
+        let Ok(()) = self.stage.text(&self.origin, text) else {
+            return Err(Stop::NoMemory);
+        };
+        Ok(())
+    }
+
+    fn finish(&mut self) -> Result<(), Stop>
+        requires { MayHear self.old (finished ∷ []) }
+        ensures { (context : RulesContext) (address : Chars) (levels : ℕ) (signs : List Sign) → Runs context address levels self.old signs → IsFront levels (signs ++ finished ∷ []) → Hears context address levels signs (finished ∷ []) result self.new }
+    {
+        let Ok(()) = self.stage.finish(&self.origin, self.count) else {
+            return Err(Stop::NoMemory);
+        };
+        self.names.pop();
+        self.count -= 1;
+        Ok(())
+    }
+}

@@ -1,0 +1,80 @@
+//! What is told an evaluator.
+ghost use Rattle.std.specs.Prelude.{◌≡◌, ◌<◌, false, [], ◌∷◌, length, IfOk, OnOk};
+ghost use Rattle.std.specs.Str.{chars};
+ghost use Rattle.rx_rdfa.specs.Base.{base_by};
+ghost use Rattle.rx_refs.specs.Views.{seen_slice};
+ghost use Rattle.rx_curie.specs.Seen.{facts_seen};
+ghost use Rattle.rx_eval.specs.Opened.{Opens, MayOpen};
+ghost use Rattle.rx_eval.specs.Ending.{Closes};
+ghost use Rattle.rx_walk.specs.Leading.{Led, Leads};
+ghost use Rattle.rx_walk.specs.Stages.{MayBe, MayFollow, call_seen, queue_seen};
+
+use crate::calls::Call;
+use crate::origins::Origin;
+use rx_curie::Facts;
+use rx_eval::Eval;
+use rx_refs::{resolve, without_fragment};
+use rx_terms::{Iri, NoMemory};
+
+/// Opens an element. Where no numbers are left for its blank nodes there is no memory for them either.
+pub(crate) fn enter(eval: &mut Eval, facts: &Facts) -> Result<(), NoMemory>
+    requires level { length eval.old.frames < eval.old.levels }
+    requires root { eval.old.ended ≡ false }
+    ensures { OnOk result (MayOpen eval.old (facts_seen facts.now) × Opens eval.old (facts_seen facts.now) eval.new) }
+{
+    if !eval.has_numbers(facts) {
+        return Err(NoMemory);
+    }
+    eval.enter(facts)
+}
+
+/// The page's base, by the href that was found or without one.
+fn base(origin: &Origin, href: Option<&str>) -> Result<Iri, NoMemory>
+    ensures { IfOk result (λ base. base ≡ base_by (seen_slice href.entry) origin.now.address) }
+{
+    match href {
+        Some(href) => {
+            let whole = resolve(origin.alloc, &origin.address, href)?;
+            without_fragment(origin.alloc, &whole)
+        }
+        None => without_fragment(origin.alloc, &origin.address),
+    }
+}
+
+/// Tells one call.
+fn tell(eval: &mut Eval, call: &Call) -> Result<(), NoMemory>
+    requires { MayFollow (call_seen call.now) eval.old }
+    ensures { OnOk result (Leads (call_seen call.now) eval.old eval.new) }
+{
+    match call {
+        Call::Enter(facts) => enter(eval, facts),
+        Call::Text(text) => eval.text(text.as_str()),
+        Call::Leave => eval.leave(),
+    }
+}
+
+/// Tells these calls.
+fn replay(eval: &mut Eval, queue: &[Call]) -> Result<(), NoMemory>
+    requires { MayFollow (queue_seen queue.now) eval.old }
+    ensures { OnOk result (Leads (queue_seen queue.now) eval.old eval.new) }
+{
+    for call in queue {
+        tell(eval, call)?;
+    }
+    Ok(())
+}
+
+/// An evaluator with the page's base, which has been told these calls.
+pub(crate) fn evaluated(
+    origin: &Origin,
+    href: Option<&str>,
+    queue: &[Call],
+) -> Result<Eval, NoMemory>
+    requires { MayBe origin.now.levels (queue_seen queue.now) }
+    ensures { IfOk result (λ eval. Led (base_by (seen_slice href.entry) origin.now.address) origin.now.levels (queue_seen queue.now) eval) }
+{
+    let base = base(origin, href)?;
+    let mut eval = Eval::new(origin.alloc, base, origin.levels)?;
+    replay(&mut eval, queue)?;
+    Ok(eval)
+}

@@ -1,0 +1,40 @@
+//! From a page's bytes, in pieces, to the list of its triples.
+#![tactic(auto)]
+
+ghost use Rattle.rx_walk.specs.CallsOf.{CallsOfTree, PiecesAreAlike};
+ghost use Rattle.rx_walk.specs.Seekings.{BaseIsFound};
+ghost use Rattle.rx_walk.specs.Leading.{PiecesLeadAlike};
+
+mod calls;
+mod courses;
+mod evaluation;
+mod origins;
+mod seeking;
+mod stages;
+mod turns;
+mod walks;
+
+pub use rx_eval::Inherited;
+pub use rx_nest::{Fault, Kind, Limits, Stop, Syntax};
+pub use walks::Walk;
+
+/// What is told of a page, start tag by start tag, character by character and end by end, are the calls for its tree, which
+/// carries the facts of each element.
+pub fn calls_are_of_the_tree()
+    ensures { CallsOfTree }
+{}
+
+/// It makes no difference to the list of triples in which pieces text is told.
+pub fn pieces_are_alike()
+    ensures { PiecesAreAlike }
+{}
+
+/// It makes no difference to an evaluator's state either.
+pub fn pieces_lead_alike()
+    ensures { PiecesLeadAlike }
+{}
+
+/// Of a whole page the base that the rules take is found.
+pub fn base_is_found()
+    ensures { BaseIsFound }
+{}

@@ -1,0 +1,130 @@
+//! How far the seeking of the base has come.
+ghost use Rattle.std.specs.Prelude.{◌≡◌, [], ◌∷◌, ◌++◌, IfOk, OnOk};
+ghost use Rattle.std.specs.Str.{chars};
+ghost use Rattle.rx_rdfa.specs.Calls.{Enter, Leave};
+ghost use Rattle.rx_curie.specs.Seen.{facts_seen};
+ghost use Rattle.rx_names.specs.Tags.{tag_of};
+ghost use Rattle.rx_walk.specs.CallsOf.{singles};
+ghost use Rattle.rx_walk.specs.Seekings.{seek_begun, seek_finished};
+ghost use Rattle.rx_walk.specs.Stages.{sought_seen, queue_seen, MayBe, MayTake, Tells, HeadGives};
+
+use crate::calls::Call;
+use crate::evaluation::{enter, evaluated};
+use crate::origins::Origin;
+use crate::seeking::{Clue, Sought};
+use rx_curie::Facts;
+use rx_eval::Eval;
+use rx_nest::Tag;
+use rx_terms::{NoMemory, Text};
+
+/// What is looked for, and what was told so far.
+#[derive(Debug, Drop)]
+pub(crate) struct Head {
+    pub(crate) sought: Sought,
+    pub(crate) queue: Vec<Call>,
+}
+
+/// The base is looked for, or it is known and an evaluator is at work.
+#[derive(Drop)]
+pub(crate) enum Stage {
+    Seeking(Head),
+    Found(Eval),
+}
+
+impl Head {
+    fn push(&mut self, call: Call) -> Result<(), NoMemory>
+        ensures queue { OnOk result (self.new.queue.items ≡ self.old.queue.items ++ call ∷ []) }
+        ensures sought { self.new.sought ≡ self.old.sought }
+    {
+        match self.queue.push(call) {
+            Ok(()) => Ok(()),
+            Err(_refused) => Err(NoMemory),
+        }
+    }
+
+    fn begin(
+        &mut self,
+        origin: &Origin,
+        count: u32,
+        tag: &Tag<'_>,
+        facts: Facts,
+    ) -> Result<Option<Eval>, NoMemory>
+        requires { MayBe origin.now.levels (queue_seen self.old.queue.items ++ Enter (facts_seen facts) ∷ []) }
+        ensures { IfOk result (λ eval. HeadGives origin.now (seek_begun count (sought_seen self.old.sought) (tag_of tag.now)) (queue_seen self.old.queue.items ++ Enter (facts_seen facts) ∷ []) eval self.new) }
+    {
+        self.push(Call::Enter(facts))?;
+        match self.sought.begun(count, tag) {
+            Clue::Seeks(sought) => {
+                self.sought = sought;
+                Ok(None)
+            }
+            Clue::Known(href) => {
+                let eval = evaluated(origin, href, self.queue.as_slice())?;
+                Ok(Some(eval))
+            }
+        }
+    }
+
+    fn finish(&mut self, origin: &Origin, count: u32) -> Result<Option<Eval>, NoMemory>
+        requires { MayBe origin.now.levels (queue_seen self.old.queue.items ++ Leave ∷ []) }
+        ensures { IfOk result (λ eval. HeadGives origin.now (seek_finished count (sought_seen self.old.sought)) (queue_seen self.old.queue.items ++ Leave ∷ []) eval self.new) }
+    {
+        self.push(Call::Leave)?;
+        if !self.sought.ends(count) {
+            return Ok(None);
+        }
+        let eval = evaluated(origin, None, self.queue.as_slice())?;
+        Ok(Some(eval))
+    }
+}
+
+impl Stage {
+    /// An element begins inside so many that are open.
+    pub(crate) fn begin(
+        &mut self,
+        origin: &Origin,
+        count: u32,
+        tag: &Tag<'_>,
+        facts: Facts,
+    ) -> Result<(), NoMemory>
+        requires { MayTake origin.now.levels (Enter (facts_seen facts) ∷ []) self.old }
+        ensures { OnOk result (Tells origin.now (λ seeking. seek_begun count seeking (tag_of tag.now)) (Enter (facts_seen facts) ∷ []) self.old self.new) }
+    {
+        let known = match self {
+            Stage::Found(eval) => return enter(eval, &facts),
+            Stage::Seeking(head) => head.begin(origin, count, tag, facts)?,
+        };
+        if let Some(eval) = known {
+            *self = Stage::Found(eval);
+        }
+        Ok(())
+    }
+
+    /// Text of the innermost element.
+    pub(crate) fn text(&mut self, origin: &Origin, text: &str) -> Result<(), NoMemory>
+        ensures { OnOk result (Tells origin.now (λ seeking. seeking) (singles (chars text.now)) self.old self.new) }
+    {
+        match self {
+            Stage::Found(eval) => eval.text(text),
+            Stage::Seeking(head) => {
+                let text = Text::of(origin.alloc, text)?;
+                head.push(Call::Text(text))
+            }
+        }
+    }
+
+    /// The innermost of so many elements ends.
+    pub(crate) fn finish(&mut self, origin: &Origin, count: u32) -> Result<(), NoMemory>
+        requires { MayTake origin.now.levels (Leave ∷ []) self.old }
+        ensures { OnOk result (Tells origin.now (seek_finished count) (Leave ∷ []) self.old self.new) }
+    {
+        let known = match self {
+            Stage::Found(eval) => return eval.leave(),
+            Stage::Seeking(head) => head.finish(origin, count)?,
+        };
+        if let Some(eval) = known {
+            *self = Stage::Found(eval);
+        }
+        Ok(())
+    }
+}
