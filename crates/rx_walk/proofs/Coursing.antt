@@ -77,8 +77,8 @@ module _ (context : Context) (address : Chars) (levels : ℕ) (old new : Course)
   runs_more sign f n c o k a e t =
       let line : line_of [] (signs ++ sign ∷ []) ≡ line_on (line_of [] signs) sign = line_append [] signs (sign ∷ []) in
       let here : Staged old.origin.address old.origin.levels (sought signs) (calls_of context [] signs) old.stage =
-          subst (λ x. Staged x old.origin.levels (sought signs) (calls_of context [] signs) old.stage) (sym r.address_is)
-          (subst (λ x. Staged address x (sought signs) (calls_of context [] signs) old.stage) (sym r.levels_are) r.staged) in
+      subst (λ x. Staged x old.origin.levels (sought signs) (calls_of context [] signs) old.stage) (sym r.address_is)
+      (subst (λ x. Staged address x (sought signs) (calls_of context [] signs) old.stage) (sym r.levels_are) r.staged) in
       let next = t.staged (sought signs) (calls_of context [] signs) here in
       let turned : seek old.count (sought signs) sign ≡ sought (signs ++ sign ∷ []) = ap (λ x. seek x (sought signs) sign) r.count_is ∙ sym (seeks_append [] (sought []) signs (sign ∷ [])) in
       let told : calls_of context [] signs ++ call_of context (line_of [] signs) sign ∷ [] ≡ calls_of context [] (signs ++ sign ∷ []) = sym (calls_append context [] signs (sign ∷ [])) in
@@ -104,12 +104,12 @@ module _ (context : Context) (address : Chars) (levels : ℕ) (old new : Course)
   runs_said chars f n o k t =
       let line : line_of [] (signs ++ map said chars) ≡ line_of [] signs = line_append [] signs (map said chars) ∙ said_line (line_of [] signs) chars in
       let here : Staged old.origin.address old.origin.levels (sought signs) (calls_of context [] signs) old.stage =
-          subst (λ x. Staged x old.origin.levels (sought signs) (calls_of context [] signs) old.stage) (sym r.address_is)
-          (subst (λ x. Staged address x (sought signs) (calls_of context [] signs) old.stage) (sym r.levels_are) r.staged) in
+      subst (λ x. Staged x old.origin.levels (sought signs) (calls_of context [] signs) old.stage) (sym r.address_is)
+      (subst (λ x. Staged address x (sought signs) (calls_of context [] signs) old.stage) (sym r.levels_are) r.staged) in
       let next = t.staged (sought signs) (calls_of context [] signs) here in
       let turned : sought signs ≡ sought (signs ++ map said chars) = sym (seeks_append [] (sought []) signs (map said chars) ∙ said_seeks (line_of [] signs) (sought signs) chars) in
       let told : calls_of context [] signs ++ singles chars ≡ calls_of context [] (signs ++ map said chars) =
-          sym (calls_append context [] signs (map said chars) ∙ ap (λ l. calls_of context [] signs ++ l) (said_calls context (line_of [] signs) chars)) in
+      sym (calls_append context [] signs (map said chars) ∙ ap (λ l. calls_of context [] signs ++ l) (said_calls context (line_of [] signs) chars)) in
       record {
         names_are = subst (λ l. names.Stands new.names l) (sym line) (subst (λ x. names.Stands x (line_of [] signs)) (sym n) r.names_are);
         context_is = ap (λ (x : Kept). x.context) n ∙ r.context_is;

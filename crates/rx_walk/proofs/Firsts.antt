@@ -232,9 +232,9 @@ module _ (syntax : Syntax) (limits : Limits) (context : Context) (bytes piece : 
           past : Begins piece b.more → ⊥
           past q =
               let w : Err fault ≡ Ok m.now =
-                  sym (fault_stays syntax limits fault q.more) ∙ (ap (λ x. page_on syntax limits x q.more) (sym (read_fails syntax limits bytes piece fault f))
-                  ∙ (sym (page_append syntax limits (spot_of syntax p.now.nest) (Ok nothing_read) (bytes ++ piece) q.more)
-                  ∙ (ap (λ x. page_read syntax limits x) (append_assoc bytes piece q.more ∙ ap (λ x. bytes ++ x) (sym q.is)) ∙ read_there b.more b.is))) in
+              sym (fault_stays syntax limits fault q.more) ∙ (ap (λ x. page_on syntax limits x q.more) (sym (read_fails syntax limits bytes piece fault f))
+              ∙ (sym (page_append syntax limits (spot_of syntax p.now.nest) (Ok nothing_read) (bytes ++ piece) q.more)
+              ∙ (ap (λ x. page_read syntax limits x) (append_assoc bytes piece q.more ∙ ap (λ x. bytes ++ x) (sym q.is)) ∙ read_there b.more b.is))) in
               cc
 
           before : Begins b.more piece → ⊥

@@ -21,7 +21,7 @@ begin-requires c =
     let q = c.requires in
     let line = line_of [] q.signs in
     let g = begin_facts q.context q.address q.levels c.args.self.now c.args.self.now q.signs q.runs c.push.new.self (tag_shown c.args.tag.now) c.in-Ok-facts_of.facts (ap (λ (k : Kept). k.context) c.in-Ok.ensures.ok)
-        (c.in-Ok-facts_of.ensures.line line (c.in-Ok.ensures.line line q.runs.names_are) (from_absolute (tag_of c.args.tag.now) line q.runs.absolute)) in
+    (c.in-Ok-facts_of.ensures.line line (c.in-Ok.ensures.line line q.runs.names_are) (from_absolute (tag_of c.args.tag.now) line q.runs.absolute)) in
     subst (λ x. MayTake c.args.self.now.origin.levels (Enter x ∷ []) c.args.self.now.stage) (sym g.0)
     (takes_one c.args.self.now q.context q.address q.levels q.signs (begun (tag_shown c.args.tag.now)) q.runs q.front)
 
@@ -36,7 +36,7 @@ returns c context address levels signs r f =
     let line = line_of [] signs in
     let stands = c.in-Ok.ensures.line line r.names_are in
     let g = begin_facts context address levels c.args.self.now c.args.self.now signs r c.push.new.self (tag_shown c.args.tag.now) c.in-Ok-facts_of.facts (ap (λ (k : Kept). k.context) c.in-Ok.ensures.ok)
-        (c.in-Ok-facts_of.ensures.line line stands (from_absolute (tag_of c.args.tag.now) line r.absolute)) in
+    (c.in-Ok-facts_of.ensures.line line stands (from_absolute (tag_of c.args.tag.now) line r.absolute)) in
     let size : c.one_more-self.result ≡ length line + 1 = omega (arith, c.one_more-self.ensures, r.count_is) in
     runs_more context address levels c.args.self.now (record { origin = c.args.self.now.origin; names = c.push.new.self; count = c.one_more-self.result; stage = c.begin.new.self }) signs r (begun (tag_shown c.args.tag.now)) f
     stands (ap (λ (k : Kept). k.context) c.in-Ok.ensures.ok) refl (omega (arith, size))

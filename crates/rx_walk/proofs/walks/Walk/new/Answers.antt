@@ -4,16 +4,16 @@ use Rattle.rx_walk.proofs.walks.Walk.new.Goals as goal
 
 pub invariant_of-result : goal.invariant_of-result
 invariant_of-result c unfailed unspent = (
-      record {
-        syntax = c.args.syntax;
-        limits = c.args.limits;
-        context = c.args.context;
-        address = c.args.address;
-        bytes = [];
-        goes = record { signs = []; shown = c.in_ok-nest.ensures; runs = c.in_ok-course.ensures };
-      },
-      new_paid c.args.syntax c.args.limits c.in_ok-nest.nest c.in_ok-nest.ensures,
-    )
+  record {
+    syntax = c.args.syntax;
+    limits = c.args.limits;
+    context = c.args.context;
+    address = c.args.address;
+    bytes = [];
+    goes = record { signs = []; shown = c.in_ok-nest.ensures; runs = c.in_ok-course.ensures };
+  },
+  new_paid c.args.syntax c.args.limits c.in_ok-nest.nest c.in_ok-nest.ensures,
+)
 
 pub returns : goal.returns
 returns c = record {
