@@ -1,5 +1,7 @@
 -- From what was read of the files that a job names to what they are.
-use Rattle.std.proofs.Common.{◌≡◌, ◌∙◌, ◌+◌, ◌≤◌, ◌<◌, ◌⊎◌, inl, inr, ℕ, nat_le, Bool, true, false, ◌&&◌, List, [], ◌++◌, length, sym, ap, subst, refl, arith, Option, Some, None, Result, Ok, Err, IfOk, is_some, encode_utf8_all, length-append, append-nil}
+use Rattle.std.specs.Str.{chars}
+use Rattle.std.specs.Prelude.{option_map}
+use Rattle.std.proofs.Common.{nat_eq, ◌≡◌, ◌∙◌, ◌+◌, ◌≤◌, ◌<◌, ◌⊎◌, inl, inr, ℕ, nat_le, Bool, true, false, ◌&&◌, List, [], ◌++◌, length, sym, ap, subst, refl, arith, Option, Some, None, Result, Ok, Err, IfOk, is_some, encode_utf8_all, length-append, append-nil}
 use Rattle.std.proofs.lemmas.Bool.Decides.{nat_tests}
 use Rattle.rx_ports.specs.Counts.{Rose}
 use Rattle.rx_ports.specs.Files.{file_of}
@@ -7,17 +9,33 @@ use Rattle.rx_ports.specs.Told.{Told, Moves, Lacks}
 use Rattle.rx_ports.proofs.MoveLemmas.{moves_at, moves_weaker, moves_then}
 use Rattle.rx_names.specs.ContextFiles.{context_of}
 use Rattle.rx_chars.specs.declared.syntax.Syntax.{Syntax}
-use Rattle.rx_grammar.specs.declared.faults.Fault.{Fault as Found}
-use Rattle.rx_command.specs.declared.statuses.Fault.{Fault}
-use Rattle.rx_command.specs.Words.{Asked, Task, extracts, checks}
-use Rattle.rx_command.specs.Page.{IsPage}
-use Rattle.rx_command.specs.Checks.{Checks, Finds, ReadsClean}
-use Rattle.rx_command.proofs.CheckLemmas.{unread_clean}
+use Rattle.rx_grammar.specs.declared.faults.Fault.{Fault}
+use Rattle.rx_terms.specs.Text.{Chars}
+use Rattle.rx_terms.specs.declared.triples.Triple.{Triple as CodeTriple}
+use Rattle.rx_model.specs.Copied.{copied}
+use Rattle.rx_model.specs.Numbered.{numbered}
+use Rattle.rx_model.specs.Seen.{triples_seen}
+use Rattle.rx_nquads.specs.Document.{Nquads}
+use Rattle.rx_nquads.specs.Quads.{quads}
+use Rattle.rx_nquads.specs.Writing.{nquads}
+use Rattle.rx_rdfa.specs.Whole.{written}
+use Rattle.rx_rdfa.proofs.Whole.{written_denotes}
+use Rattle.rx_rdfa.specs.Names.{Context}
+use Rattle.rx_command.specs.Words.{Asked, Task, Extraction, extracts, checks}
+use Rattle.rx_walk.specs.Faults.{Refuses}
+use Rattle.rx_command.specs.declared.errors.InputError.{InputError}
+use Rattle.rx_command.specs.declared.errors.InputError.TheVariants as error
+use Rattle.rx_command.specs.Reading.{standard, Way, ReadsPage, Finds, ReadsClean, IsClean, PageGives}
+use Rattle.rx_command.proofs.ReadLemmas.{unread_clean}
 use Rattle.rx_command.specs.Files.{ReadsFile, TakesOf, size_of}
-use Rattle.rx_command.specs.Contexts.{IsContextFile, HasContext, TakesContext, ReadsContext, context_size, is_context}
-use Rattle.rx_command.specs.Inputs.{PageText, PageRefused, ReadsToFault, StopsClean, JobText, JobRefused, TellsThat, WhereTold}
-use Rattle.rx_command.specs.Outcome.{IsLacking, IsNotBuilt, HasText, Denotes, IsRight, ok_line, page_fault, not_built}
+use Rattle.rx_command.specs.Contexts.{IsContextFile, IsFileOf, IsContext, HasContext, TakesContext, ReadsContext, context_size, is_context}
+use Rattle.rx_command.specs.Inputs.{PageText, PageRefused, StopsClean, JobText, JobRefused, TellsThat, WhereTold}
+use Rattle.rx_command.specs.Outcome.{IsAccepted, IsLacking, HasText, Denotes, IsRight, base_in, facts_in, way_in, ok_line}
 use Rattle.rx_command.specs.Runs.{TakesFiles, StopsCleanly, page_limit}
+use Rattle.rx_command.specs.Ways.{way_of, extraction_of}
+use Rattle.rx_command.specs.declared.pages.Approach.{Approach}
+use Rattle.rx_command.proofs.MadeLemmas.{list_written}
+use denote.Ref.{Bor}
 
 -- ---- the context file
 
@@ -59,16 +77,38 @@ takes_context file name named x y t =
     let size : size_of (file_of x.files name) ≡ size_of (file_of x.files (encode_utf8_all file)) = ap (λ n. size_of (file_of x.files n)) named in
     record { files = t.files; size = omega (arith, t.file, size); most = t.most }
 
-reads_context : (told now : Option Told) (file : List ℕ) → WhereTold (IsContextFile file true) told → Moves (TakesContext (Some file)) told now → Moves (ReadsContext (Some file)) told now
-reads_context told now file w m = record {
+pub was_context : (told now : Option Told) (file name bytes : List ℕ) (context : Context) → name ≡ encode_utf8_all file → Moves (ReadsFile name 65536 bytes) told now
+    → length bytes ≤ 65536 → context_of bytes ≡ Some context → WhereTold (λ t. IsFileOf file t context) told
+was_context None now file name bytes context named m small e = tt
+was_context (Some t) now file name bytes context named m small e =
+    let r = moves_at t m refl in
+    record { bytes = bytes; file = ap (file_of t.files) (sym named) ∙ ((r.1).read.file ∙ ap Some (ap (λ l. bytes ++ l) ((r.1).whole small) ∙ append-nil bytes)); small = small; reads = e }
+
+reads_context : (told now : Option Told) (file : List ℕ) (context : Context) → WhereTold (λ t. IsFileOf file t context) told → Moves (TakesContext (Some file)) told now → Moves (ReadsContext (Some file) context) told now
+reads_context told now file context w m = record {
   same = m.same;
-  taken = λ x y p q. record { valid = subst (WhereTold (IsContextFile file true)) p w; takes = m.taken x y p q };
+  taken = λ x y p q. record { is = subst (WhereTold (λ t. IsFileOf file t context)) p w; takes = m.taken x y p q };
 }
 
-pub if_context : {E : Type 0} (r : Result (Unit {0}) E) (told now : Option Told) (lent : Option (List ℕ)) (file : List ℕ) → lent ≡ Some file → IfOk r (λ _. WhereTold (IsContextFile file true) told) → Moves (TakesContext (Some file)) told now
-    → IfOk r (λ _. Moves (ReadsContext lent) told now)
-if_context (Ok done) told now lent file e w m = subst (λ f. Moves (ReadsContext f) told now) (sym e) (reads_context told now file w m)
+pub if_context : {E : Type 0} (r : Result Context E) (told now : Option Told) (lent : Option (List ℕ)) (file : List ℕ) → lent ≡ Some file → IfOk r (λ context. WhereTold (λ t. IsFileOf file t context) told) → Moves (TakesContext (Some file)) told now
+    → IfOk r (λ context. Moves (ReadsContext lent context) told now)
+if_context (Ok context) told now lent file e w m = subst (λ f. Moves (ReadsContext f context) told now) (sym e) (reads_context told now file context w m)
 if_context (Err error) told now lent file e w m = tt
+
+-- one context holds
+pub one_context : (file : Option (List ℕ)) (shelf : Told) (a b : Context) → IsContext file shelf a → IsContext file shelf b → a ≡ b
+one_context None shelf a b p q = p ∙ sym q
+one_context (Some name) shelf a b p q =
+    let both : Some p.bytes ≡ Some q.bytes = sym p.file ∙ q.file in
+    let same : p.bytes ≡ q.bytes = (cc) in
+    let reads : Some a ≡ Some b = sym p.reads ∙ (ap context_of same ∙ q.reads) in
+    (cc)
+
+-- a context that holds is there
+pub has_context : (file : Option (List ℕ)) (shelf : Told) (context : Context) → IsContext file shelf context → HasContext file shelf
+has_context None shelf context h = tt
+has_context (Some name) shelf context h =
+    record { bytes = h.bytes; file = h.file; tested = ap (λ b. b && is_some (context_of h.bytes)) (short (length h.bytes) h.small) ∙ ap is_some h.reads }
 
 -- ---- the page after it
 
@@ -77,120 +117,154 @@ takes_before asked file e x y t =
     let m : TakesContext asked.context x y = subst (λ f. TakesContext f x y) e t in
     record { files = m.files; size = omega (arith, m.size); most = omega (arith, m.most) }
 
-pub takes_both : (asked : Asked) (file : Option (List ℕ)) (limit : ℕ) → file ≡ asked.context → page_limit asked.task ≡ limit + 1 → (x y z : Told) → TakesContext file x y → TakesOf (encode_utf8_all asked.page) limit y z → TakesFiles (Some asked) x z
+pub takes_both : (asked : Asked) (file : Option (List ℕ)) (limit : ℕ) → file ≡ asked.context → page_limit ≡ limit + 1 → (x y z : Told) → TakesContext file x y → TakesOf (encode_utf8_all asked.page) limit y z → TakesFiles (Some asked) x z
 takes_both asked file limit e l x y z t p =
     let m : TakesContext asked.context x y = subst (λ f. TakesContext f x y) e t in
     let size : size_of (file_of y.files (encode_utf8_all asked.page)) ≡ size_of (file_of x.files (encode_utf8_all asked.page)) = ap (λ f. size_of (file_of f (encode_utf8_all asked.page))) m.files in
     record { files = p.files ∙ m.files; size = omega (arith, m.size, p.file, size); most = omega (arith, m.most, p.most, l) }
 
-there_before : (asked : Asked) (file : Option (List ℕ)) (bytes : List ℕ) (x y : Told) → ReadsContext file x y → file_of y.files (encode_utf8_all asked.page) ≡ Some bytes → file_of x.files (encode_utf8_all asked.page) ≡ Some bytes
-there_before asked file bytes x y c h = sym (ap (λ f. file_of f (encode_utf8_all asked.page)) c.takes.files) ∙ h
+there_before : (asked : Asked) (file : Option (List ℕ)) (context : Context) (bytes : List ℕ) (x y : Told) → ReadsContext file context x y → file_of y.files (encode_utf8_all asked.page) ≡ Some bytes → file_of x.files (encode_utf8_all asked.page) ≡ Some bytes
+there_before asked file context bytes x y c h = sym (ap (λ f. file_of f (encode_utf8_all asked.page)) c.takes.files) ∙ h
 
-pub job_text : (asked : Asked) (file : Option (List ℕ)) (text : List ℕ) → file ≡ asked.context → (x y z : Told) → ReadsContext file x y → PageText asked.task (encode_utf8_all asked.page) text y z → JobText asked text x z
-job_text asked file text e x y z c p =
+pub job_text : (asked : Asked) (file : Option (List ℕ)) (context : Context) (text : List ℕ) → file ≡ asked.context → (x y z : Told) → ReadsContext file context x y → PageText asked.task context (encode_utf8_all asked.page) text y z → JobText asked text x z
+job_text asked file context text e x y z c p =
     record {
-      context = subst (λ f. HasContext f x) e c.valid;
-      page = record { bytes = p.bytes; file = there_before asked file p.bytes x y c p.file; gives = p.gives; graph = p.graph; left = p.left };
+      context = context;
+      holds = subst (λ f. IsContext f x context) e c.is;
+      page = record { bytes = p.bytes; file = there_before asked file context p.bytes x y c p.file; gives = p.gives; graph = p.graph; left = p.left };
     }
 
-read_to : (task : Task) (fault : Fault) (a b c size : ℕ) → b ≤ a + size → ReadsToFault task fault b c → ReadsToFault task fault (a + size) c
-read_to (extracts address) fault a b c size l r = tt
-read_to (checks syntax) fault a b c size l r = omega (arith, l, r)
-
-pub job_refused : (asked : Asked) (file : Option (List ℕ)) (fault : Fault) → file ≡ asked.context → (x y z : Told) → ReadsContext file x y → PageRefused asked.task (encode_utf8_all asked.page) fault y z → JobRefused asked fault x z
-job_refused asked file fault e x y z c p =
+pub job_refused : (asked : Asked) (file : Option (List ℕ)) (context : Context) (fault : Fault) → file ≡ asked.context → (x y z : Told) → ReadsContext file context x y → PageRefused asked.task context (encode_utf8_all asked.page) fault y z → JobRefused asked fault x z
+job_refused asked file context fault e x y z c p =
     let size : y.taken ≤ x.taken + context_size asked.context x = subst (λ f. y.taken ≤ x.taken + context_size f x) e c.takes.size in
     record {
-      context = subst (λ f. HasContext f x) e c.valid;
+      context = context;
+      holds = subst (λ f. IsContext f x context) e c.is;
       bytes = p.bytes;
-      file = there_before asked file p.bytes x y c p.file;
+      file = there_before asked file context p.bytes x y c p.file;
       refused = p.refused;
-      reads = read_to asked.task fault x.taken y.taken z.taken (context_size asked.context x) size p.reads;
+      reads = omega (arith, size, p.reads);
     }
 
 -- ---- what a page is
 
-other : (bytes left : List ℕ) → IsNotBuilt bytes → (length bytes ≤ 1048576 → left ≡ []) → IsNotBuilt (bytes ++ left)
-other bytes left n w = λ a q r p.
-    let small : length bytes ≤ 1048576 = omega (arith, p.size, length-append bytes left) in
-    let e : bytes ++ left ≡ bytes = ap (λ l. bytes ++ l) (w small) ∙ append-nil bytes in
-    n a q r (subst (λ b. IsPage b a q r) e p)
-
-pub page_text : (address name named bytes text : List ℕ) → named ≡ name → HasText bytes text → Denotes bytes text → (x y : Told) → ReadsFile named 1048576 bytes x y → PageText (extracts address) name text x y
-page_text address name named bytes text e h d x y r =
-    let left : y.left ≡ [] = r.whole h.page.size in
-    record {
-      bytes = bytes;
-      file = sym (ap (λ n. file_of x.files n) e) ∙ (r.read.file ∙ ap Some (ap (λ l. bytes ++ l) left ∙ append-nil bytes));
-      gives = h;
-      graph = d;
-      left = left;
-    }
-
-pub page_other : (address name named bytes : List ℕ) → named ≡ name → IsNotBuilt bytes → (x y : Told) → ReadsFile named 1048576 bytes x y → PageRefused (extracts address) name not_built x y
-page_other address name named bytes e n x y r =
-    record {
-      bytes = bytes ++ y.left;
-      file = sym (ap (λ n. file_of x.files n) e) ∙ r.read.file;
-      refused = record { other = other bytes y.left n r.whole; is_fault = refl };
-      reads = tt;
-    }
-
-pub page_right : (syntax : Syntax) (name named text : List ℕ) → named ≡ name → text ≡ ok_line → (x y : Told) → Checks syntax named x y → PageText (checks syntax) name text x y
-page_right syntax name named text e t x y c =
-    let right : IsRight syntax c.bytes text = record { tree = c.tree; page = c.page; spelled = t } in
+pub page_right : (way : Way) (name named text : List ℕ) (list : List CodeTriple) → named ≡ name → text ≡ ok_line → (x y : Told) → ReadsPage way named list x y → PageText (checks way.syntax) way.context name text x y
+page_right way name named text list e t x y c =
+    let right : IsRight way.syntax way.context c.bytes text = record { tree = c.ended.tree; is = record { page = c.ended.page; accepted = c.ended.accepted }; spelled = t } in
     record { bytes = c.bytes; file = sym (ap (λ n. file_of x.files n) e) ∙ c.file; gives = right; graph = right; left = c.left }
 
-pub page_found : (syntax : Syntax) (name named : List ℕ) (found : Found) → named ≡ name → (x y : Told) → Finds syntax named found x y → PageRefused (checks syntax) name (page_fault found) x y
-page_found syntax name named found e x y f = record { bytes = f.bytes; file = sym (ap (λ n. file_of x.files n) e) ∙ f.file; refused = record { found = found; is = f.is; same = refl }; reads = f.read }
+pub page_text : (e : Extraction) (context : Context) (name named text : List ℕ) (list : List CodeTriple) → named ≡ name
+    → text ≡ encode_utf8_all (nquads (numbered nat_eq (copied nat_eq (triples_seen list))) e.graph) → Nquads (chars text) (quads (numbered nat_eq (copied nat_eq (triples_seen list))) e.graph)
+    → (x y : Told) → ReadsPage (way_in (extracts e) context) named list x y → PageText (extracts e) context name text x y
+page_text e context name named text list n spelled denotes x y c =
+    let made = list_written e.address context c.ended.tree list c.ended.made in
+    let is : IsAccepted e.syntax context c.bytes c.ended.tree = record { page = c.ended.page; accepted = c.ended.accepted } in
+    record {
+      bytes = c.bytes;
+      file = sym (ap (λ n. file_of x.files n) n) ∙ c.file;
+      gives = record { tree = c.ended.tree; is = is; spelled = spelled ∙ ap (λ ts. encode_utf8_all (nquads ts e.graph)) made };
+      graph = record {
+        tree = c.ended.tree;
+        is = is;
+        triples = written (base_in e.address c.ended.tree) (facts_in context c.ended.tree);
+        denotes = subst (λ ts. Nquads (chars text) (quads ts e.graph)) made denotes;
+        renamed = written_denotes (base_in e.address c.ended.tree) (facts_in context c.ended.tree);
+      };
+      left = c.left;
+    }
+
+pub if_text : {V E : Type 0} (items : V → List ℕ) (r : Result V E) (approach : Approach) (graph : Option (Bor Chars)) (name named : List ℕ) (list : List CodeTriple) (told now : Option Told) → named ≡ name
+    → IfOk r (λ text. items text ≡ encode_utf8_all (nquads (numbered nat_eq (copied nat_eq (triples_seen list))) (option_map (λ iri. iri.now) graph)))
+    → IfOk r (λ text. Nquads (chars (items text)) (quads (numbered nat_eq (copied nat_eq (triples_seen list))) (option_map (λ iri. iri.now) graph)))
+    → Moves (ReadsPage (way_of approach) named list) told now → IfOk r (λ text. Moves (PageText (extracts (extraction_of approach graph)) approach.context name (items text)) told now)
+if_text items (Ok text) approach graph name named list told now e s d m =
+    moves_weaker (PageText (extracts (extraction_of approach graph)) approach.context name (items text)) (λ x y c. page_text (extraction_of approach graph) approach.context name named (items text) list e s d x y c) m
+if_text items (Err error) approach graph name named list told now e s d m = tt
+
+-- the extraction that the code is given is the one that is asked for
+same_extraction : (approach : Approach) (graph : Option (Bor Chars)) (e : Extraction) (context : Context) → way_of approach ≡ way_in (extracts e) context → option_map (λ iri. iri.now) graph ≡ e.graph → extraction_of approach graph ≡ e
+same_extraction approach graph e context w g =
+    ap (λ (way : Way). record { syntax = way.syntax; graph = option_map (λ iri. iri.now) graph; address = way.address }) w ∙ ap (λ name. record { syntax = e.syntax; graph = name; address = e.address }) g
+
+as_asked : (holds : Task → Context → Type 0) (approach : Approach) (graph : Option (Bor Chars)) (e : Extraction) (context : Context) → way_of approach ≡ way_in (extracts e) context → option_map (λ iri. iri.now) graph ≡ e.graph
+    → holds (extracts (extraction_of approach graph)) approach.context → holds (extracts e) context
+as_asked holds approach graph e context w g h =
+    subst (λ c. holds (extracts e) c) (ap (λ (way : Way). way.context) w) (subst (λ x. holds (extracts x) approach.context) (same_extraction approach graph e context w g) h)
+
+as_checked : (holds : Task → Context → Type 0) (approach : Approach) (syntax : Syntax) (context : Context) → way_of approach ≡ way_in (checks syntax) context → holds (checks approach.syntax) approach.context → holds (checks syntax) context
+as_checked holds approach syntax context w h =
+    subst (λ c. holds (checks syntax) c) (ap (λ (way : Way). way.context) w) (subst (λ x. holds (checks x) approach.context) (ap (λ (way : Way). way.syntax) w) h)
+
+-- the same of a job that is known to be an extraction, or a check
+pub for_extraction : (holds : Task → Context → List ℕ → Type 0) (asked : Asked) (approach : Approach) (graph : Option (Bor Chars)) (e : Extraction) (file : Option Chars) (page : Chars) (context : Context)
+    → asked ≡ record { task = extracts e; context = file; page = page } → way_of approach ≡ way_in asked.task context → option_map (λ iri. iri.now) graph ≡ e.graph
+    → holds (extracts (extraction_of approach graph)) approach.context (encode_utf8_all page) → holds asked.task context (encode_utf8_all asked.page)
+for_extraction holds asked approach graph e file page context is w g h =
+    let way : way_of approach ≡ way_in (extracts e) context = w ∙ ap (λ (k : Asked). way_in k.task context) is in
+    subst (λ (k : Asked). holds k.task context (encode_utf8_all k.page)) (sym is) (as_asked (λ task known. holds task known (encode_utf8_all page)) approach graph e context way g h)
+
+pub for_check : (holds : Task → Context → List ℕ → Type 0) (asked : Asked) (approach : Approach) (syntax : Syntax) (file : Option Chars) (page : Chars) (context : Context)
+    → asked ≡ record { task = checks syntax; context = file; page = page } → way_of approach ≡ way_in asked.task context
+    → holds (checks approach.syntax) approach.context (encode_utf8_all page) → holds asked.task context (encode_utf8_all asked.page)
+for_check holds asked approach syntax file page context is w h =
+    let way : way_of approach ≡ way_in (checks syntax) context = w ∙ ap (λ (k : Asked). way_in k.task context) is in
+    subst (λ (k : Asked). holds k.task context (encode_utf8_all k.page)) (sym is) (as_checked (λ task known. holds task known (encode_utf8_all page)) approach syntax context way h)
+
+pub page_found : (task : Task) (way : Way) (context : Context) (name named : List ℕ) (fault : Fault) → named ≡ name → way.syntax ≡ (way_in task context).syntax → way.context ≡ (way_in task context).context → (x y : Told) → Finds way named fault x y → PageRefused task context name fault x y
+page_found task way context name named fault e s k x y f =
+    record { bytes = f.bytes; file = sym (ap (λ n. file_of x.files n) e) ∙ f.file; refused = subst (λ z. Refuses z standard (way_in task context).context f.bytes fault) s (subst (λ z. Refuses way.syntax standard z f.bytes fault) k f.is); reads = f.read }
+
+-- why a page was not read
+pub gives_refused : (way : Way) (name named : List ℕ) (e : InputError) (fault : Fault) (told now : Option Told) → named ≡ name → PageGives way named (Err e) told now → e ≡ error.Refused fault → Moves (Finds way name fault) told now
+gives_refused way name named e fault told now n g is = subst (λ x. Moves (Finds way x fault) told now) n (subst (λ x. PageGives way named (Err x) told now) is g)
+
+pub gives_clean : (way : Way) (name named : List ℕ) (e : InputError) (told now : Option Told) → named ≡ name → PageGives way named (Err e) told now → e ≡ error.Failed → Moves (ReadsClean way name) told now
+gives_clean way name named e told now n g is = subst (λ x. Moves (ReadsClean way x) told now) n (subst (λ x. PageGives way named (Err x) told now) is g)
+
+pub gives_no_context : (way : Way) (name : List ℕ) (e : InputError) (told now : Option Told) → PageGives way name (Err e) told now → e ≡ error.BadContext → ⊥
+gives_no_context way name e told now g is = subst (λ x. PageGives way name (Err x) told now) is g
+
+-- what a call gives
+
+pub if_right : {V E : Type 0} (items : V → List ℕ) (r : Result V E) (way : Way) (name named : List ℕ) (list : List CodeTriple) (told now : Option Told) → named ≡ name → IfOk r (λ text. items text ≡ ok_line) → Moves (ReadsPage way named list) told now
+    → IfOk r (λ text. Moves (PageText (checks way.syntax) way.context name (items text)) told now)
+if_right items (Ok text) way name named list told now e t m = moves_weaker (PageText (checks way.syntax) way.context name (items text)) (λ x y c. page_right way name named (items text) list e t x y c) m
+if_right items (Err error) way name named list told now e t m = tt
+
+pub if_job : {V E : Type 0} (items : V → List ℕ) (r : Result V E) (asked : Asked) (file : Option (List ℕ)) (context : Context) (told mid now : Option Told) → file ≡ asked.context → Moves (ReadsContext file context) told mid
+    → IfOk r (λ text. Moves (PageText asked.task context (encode_utf8_all asked.page) (items text)) mid now) → IfOk r (λ text. Moves (JobText asked (items text)) told now)
+if_job items (Ok text) asked file context told mid now e m p = moves_then (JobText asked (items text)) (λ x y z c t. job_text asked file context (items text) e x y z c t) m p
+if_job items (Err error) asked file context told mid now e m p = tt
 
 rose_before : (a b c : ℕ) → a ≤ b → Rose b c → Rose a c
 rose_before a b c low rose = omega (arith, low, rose)
 
-lacks_page : (told mid : Option Told) (asked : Asked) (file : Option (List ℕ)) (name : List ℕ) → file ≡ asked.context → name ≡ encode_utf8_all asked.page → Moves (ReadsContext file) told mid → Lacks mid name → TellsThat (IsLacking asked) told
-lacks_page told None asked file name e named m l = absurd l
-lacks_page None (Some y) asked file name e named m l = let e = m.same in absurd (cc)
-lacks_page (Some x) (Some y) asked file name e named m l =
+lacks_page : (told mid : Option Told) (asked : Asked) (file : Option (List ℕ)) (context : Context) (name : List ℕ) → file ≡ asked.context → name ≡ encode_utf8_all asked.page → Moves (ReadsContext file context) told mid → Lacks mid name → TellsThat (IsLacking asked) told
+lacks_page told None asked file context name e named m l = absurd l
+lacks_page None (Some y) asked file context name e named m l = let e = m.same in absurd (cc)
+lacks_page (Some x) (Some y) asked file context name e named m l =
     let c = m.taken x y refl refl in
-    inr (subst (λ f. HasContext f x) e c.valid, sym (ap (λ n. file_of y.files n) named ∙ ap (λ f. file_of f (encode_utf8_all asked.page)) c.takes.files) ∙ l)
+    inr (has_context asked.context x context (subst (λ f. IsContext f x context) e c.is), sym (ap (λ n. file_of y.files n) named ∙ ap (λ f. file_of f (encode_utf8_all asked.page)) c.takes.files) ∙ l)
 
-pub page_failed : (told mid : Option Told) (asked : Asked) (file : Option (List ℕ)) (name : List ℕ) (a b c : ℕ) → file ≡ asked.context → name ≡ encode_utf8_all asked.page → Moves (ReadsContext file) told mid → a ≤ b
+pub page_failed : (told mid : Option Told) (asked : Asked) (file : Option (List ℕ)) (context : Context) (name : List ℕ) (a b c : ℕ) → file ≡ asked.context → name ≡ encode_utf8_all asked.page → Moves (ReadsContext file context) told mid → a ≤ b
     → Rose b c ⊎ Lacks mid name → Rose a c ⊎ TellsThat (IsLacking asked) told
-page_failed told mid asked file name a b c e named m low (inl rose) = inl (rose_before a b c low rose)
-page_failed told mid asked file name a b c e named m low (inr lacks) = inr (lacks_page told mid asked file name e named m lacks)
-
--- ---- what a call gives
-
-pub if_right : {V E : Type 0} (items : V → List ℕ) (r : Result V E) (syntax : Syntax) (name named : List ℕ) (told now : Option Told) → named ≡ name → IfOk r (λ text. items text ≡ ok_line) → Moves (Checks syntax named) told now
-    → IfOk r (λ text. Moves (PageText (checks syntax) name (items text)) told now)
-if_right items (Ok text) syntax name named told now e t m = moves_weaker (PageText (checks syntax) name (items text)) (λ x y c. page_right syntax name named (items text) e t x y c) m
-if_right items (Err error) syntax name named told now e t m = tt
-
-pub if_job : {V E : Type 0} (items : V → List ℕ) (r : Result V E) (asked : Asked) (file : Option (List ℕ)) (told mid now : Option Told) → file ≡ asked.context → Moves (ReadsContext file) told mid
-    → IfOk r (λ text. Moves (PageText asked.task (encode_utf8_all asked.page) (items text)) mid now) → IfOk r (λ text. Moves (JobText asked (items text)) told now)
-if_job items (Ok text) asked file told mid now e m p = moves_then (JobText asked (items text)) (λ x y z c t. job_text asked file (items text) e x y z c t) m p
-if_job items (Err error) asked file told mid now e m p = tt
+page_failed told mid asked file context name a b c e named m low (inl rose) = inl (rose_before a b c low rose)
+page_failed told mid asked file context name a b c e named m low (inr lacks) = inr (lacks_page told mid asked file context name e named m lacks)
 
 -- ---- where a read failed
 
-stops_at : (task : Task) (name : List ℕ) (x y : Told) (before : ℕ) → y.taken ≤ before → StopsClean task name before x y
-stops_at (extracts address) name x y before t = tt
-stops_at (checks syntax) name x y before t = λ file f.
-    let c = unread_clean syntax name (record { files = x.files; left = x.left; taken = before }) y t file f in
-    record { bytes = c.bytes; rest = c.rest; are = c.are; taken = c.taken; clean = c.clean }
-
 -- the context file
 pub context_stops : (asked : Asked) (file : Option (List ℕ)) → file ≡ asked.context → (x y : Told) → TakesContext file x y → StopsCleanly (Some asked) x y
-context_stops asked file e x y t = let m : TakesContext asked.context x y = subst (λ f. TakesContext f x y) e t in stops_at asked.task (encode_utf8_all asked.page) x y (x.taken + context_size asked.context x) m.size
+context_stops asked file e x y t context holds bytes f =
+    let m : TakesContext asked.context x y = subst (λ f. TakesContext f x y) e t in
+    let c = unread_clean (way_in asked.task context) (encode_utf8_all asked.page) (record { files = x.files; left = x.left; taken = x.taken + context_size asked.context x }) y m.size bytes f in
+    record { bytes = c.bytes; rest = c.rest; are = c.are; taken = c.taken; clean = c.clean }
 
 -- the page
-pub page_stops : (asked : Asked) (file : Option (List ℕ)) (syntax : Syntax) → file ≡ asked.context → asked.task ≡ checks syntax → (x y z : Told) → ReadsContext file x y → ReadsClean syntax (encode_utf8_all asked.page) y z → StopsCleanly (Some asked) x z
-page_stops asked file syntax e is x y z c r =
+pub page_stops : (asked : Asked) (file : Option (List ℕ)) (context : Context) (way : Way) → file ≡ asked.context → way ≡ way_in asked.task context → (x y z : Told) → ReadsContext file context x y → ReadsClean way (encode_utf8_all asked.page) y z → StopsCleanly (Some asked) x z
+page_stops asked file context way e is x y z c r other holds bytes f =
     let size : y.taken ≤ x.taken + context_size asked.context x = subst (λ f. y.taken ≤ x.taken + context_size f x) e c.takes.size in
-    subst (λ task. StopsClean task (encode_utf8_all asked.page) (x.taken + context_size asked.context x) x z) (sym is)
-    (λ file_bytes f.
-    let k = r file_bytes (ap (λ g. file_of g (encode_utf8_all asked.page)) c.takes.files ∙ f) in
-    record { bytes = k.bytes; rest = k.rest; are = k.are; taken = omega (arith, k.taken, size); clean = k.clean })
-
-pub extract_stops : (asked : Asked) (address : List ℕ) → asked.task ≡ extracts address → (x z : Told) → StopsCleanly (Some asked) x z
-extract_stops asked address is x z = subst (λ task. StopsClean task (encode_utf8_all asked.page) (x.taken + context_size asked.context x) x z) (sym is) tt
+    let same : context ≡ other = one_context asked.context x context other (subst (λ f. IsContext f x context) e c.is) holds in
+    let k = r bytes (ap (λ g. file_of g (encode_utf8_all asked.page)) c.takes.files ∙ f) in
+    subst (λ w. IsClean w bytes (x.taken + context_size asked.context x) z.taken) (is ∙ ap (λ q. way_in asked.task q) same)
+    (record { bytes = k.bytes; rest = k.rest; are = k.are; taken = omega (arith, k.taken, size); clean = k.clean })

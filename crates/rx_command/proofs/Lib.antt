@@ -1,7 +1,7 @@
-pub mod PageLemmas
-pub mod TextLemmas
 pub mod FileLemmas
 pub mod WordLemmas
 pub mod InputLemmas
 pub mod RunLemmas
-pub mod CheckLemmas
+pub mod FaultLemmas
+pub mod ReadLemmas
+pub mod MadeLemmas

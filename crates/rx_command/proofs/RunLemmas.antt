@@ -4,29 +4,31 @@ use Rattle.rx_ports.specs.Counts.{Rose}
 use Rattle.rx_ports.specs.Told.{Told, Moves}
 use Rattle.rx_ports.specs.Files.{file_of}
 use Rattle.rx_ports.proofs.MoveLemmas.{moves_at, moves_weaker}
-use Rattle.rx_command.specs.declared.statuses.Fault.{Fault}
+use Rattle.rx_grammar.specs.declared.faults.Fault.{Fault}
+use Rattle.rx_rdfa.specs.Names.{Context}
 use Rattle.rx_command.specs.Words.{Asked, Task, extracts, checks, job}
-use Rattle.rx_pages.proofs.OneOf.{not_both as not_both_at, one_fault}
-use Rattle.rx_command.specs.Checks.{standard}
-use Rattle.rx_command.specs.Contexts.{HasContext, HasOther, LacksContext, is_context}
-use Rattle.rx_command.specs.Outcome.{TaskGives, TaskDenotes, TaskRefuses, NamesPage, Yields, YieldsGraph, Refuses, Meets, IsLacking, LacksFile, HasBadContext, page_fault}
+use Rattle.rx_command.specs.Reading.{standard}
+use Rattle.rx_command.proofs.FaultLemmas.{one_first, page_has_none}
+use Rattle.rx_command.specs.Contexts.{IsContext, HasContext, HasOther, LacksContext, is_context}
+use Rattle.rx_command.proofs.InputLemmas.{has_context, one_context}
+use Rattle.rx_command.specs.Outcome.{TaskGives, TaskDenotes, TaskRefuses, IsAccepted, way_in, NamesPage, Yields, YieldsGraph, Refuses, Meets, IsLacking, LacksFile, HasBadContext}
 use Rattle.rx_command.specs.Inputs.{JobText, JobRefused, TellsThat}
 use Rattle.rx_command.specs.Runs.{ReadCause, TakesFiles, TakesToFault, StopsCleanly, IsAtEnd}
 
 pub yields : (words : List (List ℕ)) (told now : Option Told) (asked : Asked) (text : List ℕ) (t : Told) → job words ≡ Some asked → Moves (JobText asked text) told now → told ≡ Some t → Yields words told text
 yields words told now asked text t a m e =
     let r = moves_at t m e in
-    record { bytes = (r.1).page.bytes; page = record { asked = asked; shelf = t; asks = a; tells = e; context = (r.1).context; file = (r.1).page.file }; has_text = (r.1).page.gives }
+    record { bytes = (r.1).page.bytes; page = record { asked = asked; shelf = t; context = (r.1).context; asks = a; tells = e; holds = (r.1).holds; file = (r.1).page.file }; has_text = (r.1).page.gives }
 
 pub yields_graph : (words : List (List ℕ)) (told now : Option Told) (asked : Asked) (text : List ℕ) (t : Told) → job words ≡ Some asked → Moves (JobText asked text) told now → told ≡ Some t → YieldsGraph words told text
 yields_graph words told now asked text t a m e =
     let r = moves_at t m e in
-    record { bytes = (r.1).page.bytes; page = record { asked = asked; shelf = t; asks = a; tells = e; context = (r.1).context; file = (r.1).page.file }; graph = (r.1).page.graph }
+    record { bytes = (r.1).page.bytes; page = record { asked = asked; shelf = t; context = (r.1).context; asks = a; tells = e; holds = (r.1).holds; file = (r.1).page.file }; graph = (r.1).page.graph }
 
 pub refuses : (words : List (List ℕ)) (told now : Option Told) (asked : Asked) (fault : Fault) (t : Told) → job words ≡ Some asked → Moves (JobRefused asked fault) told now → told ≡ Some t → Refuses words told fault
 refuses words told now asked fault t a m e =
     let r = moves_at t m e in
-    record { bytes = (r.1).bytes; page = record { asked = asked; shelf = t; asks = a; tells = e; context = (r.1).context; file = (r.1).file }; refused = (r.1).refused }
+    record { bytes = (r.1).bytes; page = record { asked = asked; shelf = t; context = (r.1).context; asks = a; tells = e; holds = (r.1).holds; file = (r.1).file }; refused = (r.1).refused }
 
 -- both name one page
 one_page : (words : List (List ℕ)) (told : Option Told) (bytes others : List ℕ) → NamesPage words told bytes → NamesPage words told others → bytes ≡ others
@@ -46,27 +48,31 @@ one_asked words a b e f = let both : Some a ≡ Some b = sym e ∙ f in (cc)
 one_shelf : (told : Option Told) (x y : Told) → told ≡ Some x → told ≡ Some y → x ≡ y
 one_shelf told x y e f = let both : Some x ≡ Some y = sym e ∙ f in (cc)
 
-no_both : (task : Task) (bytes text : List ℕ) (fault : Fault) → TaskGives task bytes text → TaskRefuses task bytes fault → ⊥
-no_both (extracts address) bytes text fault h n = n.other h.about h.property h.run h.page
-no_both (checks syntax) bytes text fault h n = not_both_at syntax standard bytes h.tree n.found h.page n.is
+same_context : (words : List (List ℕ)) (told : Option Told) (bytes others : List ℕ) (p : NamesPage words told bytes) (q : NamesPage words told others) → p.context ≡ q.context
+same_context words told bytes others p q =
+    one_context q.asked.context q.shelf p.context q.context
+    (subst (λ s. IsContext q.asked.context s p.context) (one_shelf told p.shelf q.shelf p.tells q.tells) (subst (λ k. IsContext k.context p.shelf p.context) (one_asked words p.asked q.asked p.asks q.asks) p.holds)) q.holds
 
-same_page : (words : List (List ℕ)) (told : Option Told) (bytes others : List ℕ) (a b : Fault) (p : NamesPage words told bytes) (q : NamesPage words told others) → TaskRefuses p.asked.task bytes a → TaskRefuses q.asked.task others a
-same_page words told bytes others a b p q r =
+no_both : (task : Task) (context : Context) (bytes text : List ℕ) (fault : Fault) → TaskGives task context bytes text → TaskRefuses task context bytes fault → ⊥
+no_both (extracts e) context bytes text fault h n = page_has_none e.syntax standard context bytes h.tree h.is.page h.is.accepted fault n
+no_both (checks syntax) context bytes text fault h n = page_has_none syntax standard context bytes h.tree h.is.page h.is.accepted fault n
+
+same_page : (words : List (List ℕ)) (told : Option Told) (bytes others : List ℕ) (a : Fault) (p : NamesPage words told bytes) (q : NamesPage words told others) → TaskRefuses p.asked.task p.context bytes a → TaskRefuses q.asked.task q.context others a
+same_page words told bytes others a p q r =
     let same : bytes ≡ others = one_page words told bytes others p q in
     let asked : p.asked ≡ q.asked = one_asked words p.asked q.asked p.asks q.asks in
-    subst (λ k. TaskRefuses k.task others a) asked (subst (λ x. TaskRefuses p.asked.task x a) same r)
+    let context = same_context words told bytes others p q in
+    subst (λ k. TaskRefuses k.task q.context others a) asked (subst (λ k. TaskRefuses p.asked.task k others a) context (subst (λ x. TaskRefuses p.asked.task p.context x a) same r))
 
 -- a page has no text and a refusal
 pub not_both : (words : List (List ℕ)) (told : Option Told) (text : List ℕ) (fault : Fault) → Yields words told text → Refuses words told fault → ⊥
-not_both words told text fault y r = no_both y.page.asked.task y.bytes text fault y.has_text (same_page words told r.bytes y.bytes fault fault r.page y.page r.refused)
-
-one_task_fault : (task : Task) (bytes : List ℕ) (a b : Fault) → TaskRefuses task bytes a → TaskRefuses task bytes b → a ≡ b
-one_task_fault (extracts address) bytes a b p q = p.is_fault ∙ sym q.is_fault
-one_task_fault (checks syntax) bytes a b p q = p.same ∙ (ap page_fault (one_fault syntax standard bytes p.found q.found p.is q.is) ∙ sym q.same)
+not_both words told text fault y r = no_both y.page.asked.task y.page.context y.bytes text fault y.has_text (same_page words told r.bytes y.bytes fault r.page y.page r.refused)
 
 -- a page has one refusal
 pub one_refusal : (words : List (List ℕ)) (told : Option Told) (a b : Fault) → Refuses words told a → Refuses words told b → a ≡ b
-one_refusal words told a b p q = one_task_fault q.page.asked.task q.bytes a b (same_page words told p.bytes q.bytes a b p.page q.page p.refused) q.refused
+one_refusal words told a b p q =
+    let way = way_in q.page.asked.task q.page.context in
+    one_first way.syntax standard way.context q.bytes a b (same_page words told p.bytes q.bytes a p.page q.page p.refused) q.refused
 
 -- a file isn't there and missing
 there : (file : Option (List ℕ)) (bytes : List ℕ) → file ≡ Some bytes → file ≡ None → ⊥
@@ -102,11 +108,11 @@ meets words (Some t) asked fact a h = record { asked = asked; shelf = t; asks = 
 -- files that were read are there
 pub not_lacking : (words : List (List ℕ)) (told now : Option Told) (asked : Asked) (text : List ℕ) → job words ≡ Some asked → Moves (JobText asked text) told now → LacksFile words told → ⊥
 not_lacking words None now asked text a m l = let e = l.tells in absurd (cc)
-not_lacking words (Some t) now asked text a m l = let r = moves_at t m refl in not_lack asked (r.1).page.bytes t (r.1).context (r.1).page.file (met words (Some t) asked IsLacking a l)
+not_lacking words (Some t) now asked text a m l = let r = moves_at t m refl in not_lack asked (r.1).page.bytes t (has_context asked.context t (r.1).context (r.1).holds) (r.1).page.file (met words (Some t) asked IsLacking a l)
 
 pub refused_not_lacking : (words : List (List ℕ)) (told now : Option Told) (asked : Asked) (fault : Fault) → job words ≡ Some asked → Moves (JobRefused asked fault) told now → LacksFile words told → ⊥
 refused_not_lacking words None now asked fault a m l = let e = l.tells in absurd (cc)
-refused_not_lacking words (Some t) now asked fault a m l = let r = moves_at t m refl in not_lack asked (r.1).bytes t (r.1).context (r.1).file (met words (Some t) asked IsLacking a l)
+refused_not_lacking words (Some t) now asked fault a m l = let r = moves_at t m refl in not_lack asked (r.1).bytes t (has_context asked.context t (r.1).context (r.1).holds) (r.1).file (met words (Some t) asked IsLacking a l)
 
 -- a context that was read is one
 not_bad_one : (asked : Asked) (t : Told) → HasContext asked.context t → HasOther asked.context t → ⊥
@@ -114,11 +120,11 @@ not_bad_one asked t c o = not_other asked.context t c o
 
 pub not_bad : (words : List (List ℕ)) (told now : Option Told) (asked : Asked) (text : List ℕ) → job words ≡ Some asked → Moves (JobText asked text) told now → HasBadContext words told → ⊥
 not_bad words None now asked text a m l = let e = l.tells in absurd (cc)
-not_bad words (Some t) now asked text a m l = let r = moves_at t m refl in not_bad_one asked t (r.1).context (met words (Some t) asked (λ asked shelf. HasOther asked.context shelf) a l)
+not_bad words (Some t) now asked text a m l = let r = moves_at t m refl in not_bad_one asked t (has_context asked.context t (r.1).context (r.1).holds) (met words (Some t) asked (λ asked shelf. HasOther asked.context shelf) a l)
 
 pub refused_not_bad : (words : List (List ℕ)) (told now : Option Told) (asked : Asked) (fault : Fault) → job words ≡ Some asked → Moves (JobRefused asked fault) told now → HasBadContext words told → ⊥
 refused_not_bad words None now asked fault a m l = let e = l.tells in absurd (cc)
-refused_not_bad words (Some t) now asked fault a m l = let r = moves_at t m refl in not_bad_one asked t (r.1).context (met words (Some t) asked (λ asked shelf. HasOther asked.context shelf) a l)
+refused_not_bad words (Some t) now asked fault a m l = let r = moves_at t m refl in not_bad_one asked t (has_context asked.context t (r.1).context (r.1).holds) (met words (Some t) asked (λ asked shelf. HasOther asked.context shelf) a l)
 
 pub read_cause : (words : List (List ℕ)) (told : Option Told) (asked : Asked) (before now : ℕ) → job words ≡ Some asked → Rose before now ⊎ TellsThat (IsLacking asked) told → ReadCause words told before now
 read_cause words told asked before now a (inl rose) = record { asked = asked; asks = a; cause = inl rose }

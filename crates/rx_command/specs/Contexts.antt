@@ -3,6 +3,8 @@ use Rattle.std.specs.Prelude.{◌≡◌, ℕ, ◌+◌, ◌≤◌, nat_le, Bool, 
 use Rattle.rx_ports.specs.Files.{file_of}
 use Rattle.rx_ports.specs.Told.{Told}
 use Rattle.rx_terms.specs.Text.{Chars}
+use Rattle.rx_rdfa.specs.Names.{Context}
+use Rattle.rx_rdfa.specs.Standard.{standard}
 use Rattle.rx_names.specs.ContextFiles.{context_of}
 use Rattle.rx_command.specs.Files.{size_of}
 
@@ -34,6 +36,18 @@ abbrev pub LacksContext : Option Chars → Told → Type 0
 LacksContext None shelf = ⊥
 LacksContext (Some name) shelf = file_of shelf.files (encode_utf8_all name) ≡ None
 
+-- the file is there, and is this context
+pub record IsFileOf (name : Chars) (shelf : Told) (context : Context) : Type 0 where
+  pub bytes : List ℕ
+  pub file : file_of shelf.files (encode_utf8_all name) ≡ Some bytes
+  pub small : length bytes ≤ largest_context
+  pub reads : context_of bytes ≡ Some context
+
+-- the context that holds: the standard one, or that of the file that is named
+abbrev pub IsContext : Option Chars → Told → Context → Type 0
+IsContext None shelf context = context ≡ standard
+IsContext (Some name) shelf context = IsFileOf name shelf context
+
 abbrev pub context_size : Option Chars → Told → ℕ
 context_size None shelf = 0
 context_size (Some name) shelf = size_of (file_of shelf.files (encode_utf8_all name))
@@ -49,7 +63,7 @@ pub record TakesContext (file : Option Chars) (old new : Told) : Type 0 where
   pub size : new.taken ≤ old.taken + context_size file old
   pub most : new.taken ≤ old.taken + context_limit file
 
--- the context file was read, where one is named, and it is a context
-pub record ReadsContext (file : Option Chars) (old new : Told) : Type 0 where
-  pub valid : HasContext file old
+-- the context file was read, where one is named, and this is the context that holds
+pub record ReadsContext (file : Option Chars) (context : Context) (old new : Told) : Type 0 where
+  pub is : IsContext file old context
   pub takes : TakesContext file old new

@@ -2,49 +2,47 @@
 use Rattle.std.specs.Prelude.{◌≡◌, ℕ, ◌+◌, ◌≤◌, List, [], Option, Some, None, encode_utf8_all}
 use Rattle.rx_ports.specs.Files.{file_of}
 use Rattle.rx_ports.specs.Told.{Told}
-use Rattle.rx_command.specs.Words.{Asked, Task, extracts, checks}
-use Rattle.rx_command.specs.declared.statuses.Fault.{Fault}
-use Rattle.rx_command.specs.Checks.{largest_piece, IsClean}
-use Rattle.rx_command.specs.Contexts.{HasContext, context_size}
-use Rattle.rx_command.specs.Outcome.{TaskGives, TaskDenotes, TaskRefuses}
+use Rattle.rx_rdfa.specs.Names.{Context}
+use Rattle.rx_grammar.specs.declared.faults.Fault.{Fault}
+use Rattle.rx_command.specs.Words.{Asked, Task}
+use Rattle.rx_command.specs.Reading.{largest_piece, IsClean}
+use Rattle.rx_command.specs.Contexts.{IsContext, context_size}
+use Rattle.rx_command.specs.Outcome.{TaskGives, TaskDenotes, TaskRefuses, way_in}
 
 -- the page of this name is there, and the task makes this text of it; it was read to its end
-pub record PageText (task : Task) (name text : List ℕ) (old new : Told) : Type 0 where
+pub record PageText (task : Task) (context : Context) (name text : List ℕ) (old new : Told) : Type 0 where
   pub bytes : List ℕ
   pub file : file_of old.files name ≡ Some bytes
-  pub gives : TaskGives task bytes text
-  pub graph : TaskDenotes task bytes text
+  pub gives : TaskGives task context bytes text
+  pub graph : TaskDenotes task context bytes text
   pub left : new.left ≡ []
 
--- how much is read of a page that is refused: no more than a piece past the byte that decides the fault
-abbrev pub ReadsToFault : Task → Fault → ℕ → ℕ → Type 0
-ReadsToFault (extracts address) fault before now = Unit {0}
-ReadsToFault (checks syntax) fault before now = now ≤ before + (fault.at + largest_piece)
-
--- it is there, and the task refuses it with this fault
-pub record PageRefused (task : Task) (name : List ℕ) (fault : Fault) (old new : Told) : Type 0 where
+-- it is there, and the task refuses it with this fault, past which no more than a piece was read
+pub record PageRefused (task : Task) (context : Context) (name : List ℕ) (fault : Fault) (old new : Told) : Type 0 where
   pub bytes : List ℕ
   pub file : file_of old.files name ≡ Some bytes
-  pub refused : TaskRefuses task bytes fault
-  pub reads : ReadsToFault task fault old.taken new.taken
+  pub refused : TaskRefuses task context bytes fault
+  pub reads : new.taken ≤ old.taken + (fault.at + largest_piece)
 
--- the context file is a context, where one is named, and the page has this text
+-- a context holds, and under it the page has this text
 pub record JobText (asked : Asked) (text : List ℕ) (old new : Told) : Type 0 where
-  pub context : HasContext asked.context old
-  pub page : PageText asked.task (encode_utf8_all asked.page) text old new
+  pub context : Context
+  pub holds : IsContext asked.context old context
+  pub page : PageText asked.task context (encode_utf8_all asked.page) text old new
 
 -- or this fault
 pub record JobRefused (asked : Asked) (fault : Fault) (old new : Told) : Type 0 where
-  pub context : HasContext asked.context old
+  pub context : Context
+  pub holds : IsContext asked.context old context
   pub bytes : List ℕ
   pub file : file_of old.files (encode_utf8_all asked.page) ≡ Some bytes
-  pub refused : TaskRefuses asked.task bytes fault
-  pub reads : ReadsToFault asked.task fault (old.taken + context_size asked.context old) new.taken
+  pub refused : TaskRefuses asked.task context bytes fault
+  pub reads : new.taken ≤ old.taken + context_size asked.context old + (fault.at + largest_piece)
 
--- A read that failed: the bytes that were read of a page that is checked hold no fault but that they end.
-abbrev pub StopsClean : Task → List ℕ → ℕ → Told → Told → Type 0
-StopsClean (extracts address) name before old new = Unit {0}
-StopsClean (checks syntax) name before old new = (file : List ℕ) → file_of old.files name ≡ Some file → IsClean syntax file before new.taken
+-- A read that failed: whatever context holds, the bytes that were read of the page hold no fault but that they end.
+abbrev pub StopsClean : Asked → List ℕ → ℕ → Told → Told → Type 0
+StopsClean asked name before old new =
+    (context : Context) → IsContext asked.context old context → (file : List ℕ) → file_of old.files name ≡ Some file → IsClean (way_in asked.task context) file before new.taken
 
 -- the shelf tells its files, and this holds of them
 abbrev pub TellsThat : (Told → Type 0) → Option Told → Type 0

@@ -1,9 +1,10 @@
 pub mod Words
-pub mod Checks
+pub mod Reading
+pub mod Ways
 pub mod Jobs
-pub mod Page
 pub mod Files
 pub mod Contexts
 pub mod Outcome
 pub mod Inputs
 pub mod Runs
+pub mod Options

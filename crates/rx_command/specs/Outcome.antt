@@ -1,114 +1,114 @@
 -- What comes of a page: a text, or a refusal.
-use Rattle.std.specs.Prelude.{◌≡◌, ◌⊎◌, ℕ, true, is_some, List, [], ◌∷◌, encode_utf8_all, codes, Option, Some, None}
+use Rattle.std.specs.Prelude.{◌≡◌, ◌⊎◌, ℕ, true, is_some, List, [], encode_utf8_all, codes, Option, Some, None}
 use Rattle.std.specs.Str.{chars}
 use Rattle.rx_ports.specs.Told.{Told}
 use Rattle.rx_ports.specs.Files.{file_of}
 use Rattle.rx_terms.specs.Text.{Chars}
-use Rattle.rx_model.specs.Terms.{Plain, Iri, Literal, Triple}
+use Rattle.rx_model.specs.Terms.{Triple, set_of}
+use Rattle.rx_model.specs.Numbered.{Renamed}
+use Rattle.rx_rdfa.specs.Base.{base_of}
+use Rattle.rx_rdfa.specs.Facts.{Facts, with_facts}
+use Rattle.rx_rdfa.specs.Names.{Context}
+use Rattle.rx_rdfa.specs.Tree.{Nodes}
+use Rattle.rx_rdfa.specs.Whole.{written, graph_of}
+use Rattle.rx_chars.specs.declared.syntax.Syntax.{Syntax}
+use Rattle.rx_grammar.specs.declared.faults.Fault.{Fault}
+use Rattle.rx_grammar.specs.Trees.{Tree}
+use Rattle.rx_grammar.specs.Pages.{Page}
+use Rattle.rx_nest.specs.Signs.{signs_of}
+use Rattle.rx_walk.specs.Lines.{tags_of}
+use Rattle.rx_walk.specs.Refused.{refused_in}
 use Rattle.rx_nquads.specs.Quads.{quads}
 use Rattle.rx_nquads.specs.Document.{Nquads}
 use Rattle.rx_nquads.specs.Writing.{nquads}
-use Rattle.rx_command.specs.Words.{Asked, Task, extracts, checks, job}
-use Rattle.rx_command.specs.Contexts.{HasContext, HasOther, LacksContext}
-use Rattle.rx_command.specs.Page.{IsPage}
-use Rattle.rx_command.specs.declared.statuses.Fault.{Fault}
-use Rattle.rx_command.specs.declared.statuses.Kind.TheVariants.{NotBuilt, OfPage}
-use Rattle.rx_command.specs.Checks.{standard}
-use Rattle.rx_grammar.specs.declared.faults.Fault.{Fault as Found}
-use Rattle.rx_grammar.specs.Trees.{Tree}
-use Rattle.rx_grammar.specs.Pages.{Page}
-use Rattle.rx_grammar.specs.PageFaults.{FaultAt}
-use Rattle.rx_chars.specs.declared.syntax.Syntax.{Syntax}
+use Rattle.rx_command.specs.Words.{Asked, Task, Extraction, extracts, checks, job}
+use Rattle.rx_command.specs.Contexts.{IsContext, HasContext, HasOther, LacksContext}
+use Rattle.rx_command.specs.Reading.{standard, Way, HasFirst}
 
--- the triple of a paragraph: what it is about has, by the property, its text
-abbrev pub page_triple : Chars → Chars → Chars → Triple ℕ
-page_triple about property run = record { subject = Iri about; predicate = property; object = Literal run Plain }
+-- the bytes are a page with this tree, and none of its start tags is refused
+pub record IsAccepted (syntax : Syntax) (context : Context) (bytes : List ℕ) (tree : Tree) : Type 0 where
+  pub page : Page syntax standard bytes tree
+  pub accepted : refused_in context [] (signs_of tree) ≡ None
 
--- the page is of the form, and this is the text of its triple
-pub record HasText (bytes text : List ℕ) : Type 0 where
-  pub about : List ℕ
-  pub property : List ℕ
-  pub run : List ℕ
-  pub page : IsPage bytes about property run
-  pub spelled : text ≡ encode_utf8_all (nquads (page_triple about property run ∷ []) None)
+-- the tree with what its start tags say to RDFa
+abbrev pub facts_in : Context → Tree → Nodes Facts
+facts_in context tree = with_facts context [] (tags_of tree)
 
--- the page is of the form, and this text denotes exactly its triple
-pub record Denotes (bytes text : List ℕ) : Type 0 where
-  pub about : List ℕ
-  pub property : List ℕ
-  pub run : List ℕ
-  pub page : IsPage bytes about property run
-  pub denotes : Nquads (chars text) (quads (page_triple about property run ∷ []) None)
+abbrev pub base_in : Chars → Tree → Chars
+base_in address tree = base_of (tags_of tree) address
 
--- the page isn't of the form
-abbrev pub IsNotBuilt : List ℕ → Type 0
-IsNotBuilt bytes = (about property run : List ℕ) → IsPage bytes about property run → ⊥
+-- the text is that of the triples that RDFa's rules give the page's tree
+pub record HasText (e : Extraction) (context : Context) (bytes text : List ℕ) : Type 0 where
+  pub tree : Tree
+  pub is : IsAccepted e.syntax context bytes tree
+  pub spelled : text ≡ encode_utf8_all (nquads (written (base_in e.address tree) (facts_in context tree)) e.graph)
+
+-- the text denotes exactly the graph that RDFa's rules give the page's tree, its blank nodes renamed one to one
+pub record Denotes (e : Extraction) (context : Context) (bytes text : List ℕ) : Type 0 where
+  pub tree : Tree
+  pub is : IsAccepted e.syntax context bytes tree
+  pub triples : List (Triple ℕ)
+  pub denotes : Nquads (chars text) (quads triples e.graph)
+  pub renamed : Renamed (graph_of (base_in e.address tree) (facts_in context tree)) (set_of triples)
 
 abbrev pub ok_line : List ℕ
 ok_line = codes "ok\n"
 
--- the page is one of the grammar, and the text says so
-pub record IsRight (syntax : Syntax) (bytes text : List ℕ) : Type 0 where
+-- the page is one of the grammar, no start tag of it is refused, and the text says so
+pub record IsRight (syntax : Syntax) (context : Context) (bytes text : List ℕ) : Type 0 where
   pub tree : Tree
-  pub page : Page syntax standard bytes tree
+  pub is : IsAccepted syntax context bytes tree
   pub spelled : text ≡ ok_line
 
--- what a task makes of a page: an extraction gives the text of its triples, where it is of the form; a check says that the page is one
-abbrev pub TaskGives : Task → List ℕ → List ℕ → Type 0
-TaskGives (extracts address) bytes text = HasText bytes text
-TaskGives (checks syntax) bytes text = IsRight syntax bytes text
+-- the address at which a page is checked
+abbrev pub check_address : Chars
+check_address = codes "http://localhost/"
 
-abbrev pub TaskDenotes : Task → List ℕ → List ℕ → Type 0
-TaskDenotes (extracts address) bytes text = Denotes bytes text
-TaskDenotes (checks syntax) bytes text = IsRight syntax bytes text
+-- how the task reads a page
+abbrev pub way_in : Task → Context → Way
+way_in (extracts e) context = record { syntax = e.syntax; context = context; address = e.address }
+way_in (checks syntax) context = record { syntax = syntax; context = context; address = check_address }
 
-abbrev pub not_built : Fault
-not_built = record { kind = NotBuilt; token = 0; at = 0 }
+-- what a task makes of a page: an extraction gives the text of its triples; a check says that the page is one
+abbrev pub TaskGives : Task → Context → List ℕ → List ℕ → Type 0
+TaskGives (extracts e) context bytes text = HasText e context bytes text
+TaskGives (checks syntax) context bytes text = IsRight syntax context bytes text
 
--- the fault of a page
-abbrev pub page_fault : Found → Fault
-page_fault found = record { kind = OfPage found.kind; token = found.token; at = found.at }
+abbrev pub TaskDenotes : Task → Context → List ℕ → List ℕ → Type 0
+TaskDenotes (extracts e) context bytes text = Denotes e context bytes text
+TaskDenotes (checks syntax) context bytes text = IsRight syntax context bytes text
 
-pub record IsOther (bytes : List ℕ) (fault : Fault) : Type 0 where
-  pub other : IsNotBuilt bytes
-  pub is_fault : fault ≡ not_built
+-- it refuses the page with its first fault
+abbrev pub TaskRefuses : Task → Context → List ℕ → Fault → Type 0
+TaskRefuses task context bytes fault = HasFirst (way_in task context) bytes fault
 
--- the page has this fault of the grammar
-pub record HasFault (syntax : Syntax) (bytes : List ℕ) (fault : Fault) : Type 0 where
-  pub found : Found
-  pub is : FaultAt syntax standard bytes found
-  pub same : fault ≡ page_fault found
-
-abbrev pub TaskRefuses : Task → List ℕ → Fault → Type 0
-TaskRefuses (extracts address) bytes fault = IsOther bytes fault
-TaskRefuses (checks syntax) bytes fault = HasFault syntax bytes fault
-
--- the words name a page, the shelf tells its files, the context file that is named is a context, and the page has these bytes
+-- the words name a page, the shelf tells its files, this context holds, and the page has these bytes
 pub record NamesPage (words : List Chars) (told : Option Told) (bytes : List ℕ) : Type 0 where
   pub asked : Asked
   pub shelf : Told
+  pub context : Context
   pub asks : job words ≡ Some asked
   pub tells : told ≡ Some shelf
-  pub context : HasContext asked.context shelf
+  pub holds : IsContext asked.context shelf context
   pub file : file_of shelf.files (encode_utf8_all asked.page) ≡ Some bytes
 
 -- the outcome is this text
 pub record Yields (words : List Chars) (told : Option Told) (text : List ℕ) : Type 0 where
   pub bytes : List ℕ
   pub page : NamesPage words told bytes
-  pub has_text : TaskGives page.asked.task bytes text
+  pub has_text : TaskGives page.asked.task page.context bytes text
 
 -- the words name a page, and this text denotes exactly its graph
 pub record YieldsGraph (words : List Chars) (told : Option Told) (text : List ℕ) : Type 0 where
   pub bytes : List ℕ
   pub page : NamesPage words told bytes
-  pub graph : TaskDenotes page.asked.task bytes text
+  pub graph : TaskDenotes page.asked.task page.context bytes text
 
 -- the outcome is this refusal
 pub record Refuses (words : List Chars) (told : Option Told) (fault : Fault) : Type 0 where
   pub bytes : List ℕ
   pub page : NamesPage words told bytes
-  pub refused : TaskRefuses page.asked.task bytes fault
+  pub refused : TaskRefuses page.asked.task page.context bytes fault
 
 -- the words name a page, the shelf tells its files, and this holds of both
 pub record Meets (fact : Asked → Told → Type 0) (words : List Chars) (told : Option Told) : Type 0 where

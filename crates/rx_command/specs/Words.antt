@@ -8,9 +8,15 @@ use Rattle.rx_terms.specs.Ascii.{hyphen}
 use Rattle.rx_terms.specs.Text.{Chars}
 use Rattle.rx_terms.specs.Iri.{is_iri}
 
--- what is done with the page: its triples are written, which needs its address; or its faults are looked for
+-- an extraction: the syntax of the page, the name of the graph in which the triples stand, if any, and the page's address
+pub record Extraction : Type 0 where
+  pub syntax : Syntax
+  pub graph : Option Chars
+  pub address : Chars
+
+-- what is done with the page: its triples are written; or its faults are looked for
 pub data Task : Type 0 where
-  extracts : Chars → Task
+  extracts : Extraction → Task
   checks : Syntax → Task
 
 -- the task, the name of its context file and that of its page
@@ -50,8 +56,23 @@ abbrev pub values : Chars → List (Chars × Chars) → List Chars
 values name [] = []
 values name (option ∷ options) = if is_word option.0 name then option.1 ∷ values name options else values name options
 
+abbrev pub syntax_word : Chars
+syntax_word = codes "--syntax"
+
+abbrev pub format_word : Chars
+format_word = codes "--format"
+
+abbrev pub graph_word : Chars
+graph_word = codes "--graph"
+
+abbrev pub context_word : Chars
+context_word = codes "--context"
+
+abbrev pub base_word : Chars
+base_word = codes "--base"
+
 abbrev pub is_option : Chars → Bool
-is_option name = is_word name (codes "--syntax") || is_word name (codes "--context") || is_word name (codes "--base")
+is_option name = is_word name syntax_word || is_word name format_word || is_word name graph_word || is_word name context_word || is_word name base_word
 
 abbrev pub are_options : List (Chars × Chars) → Bool
 are_options options = list_all (λ option. is_option option.0) options
@@ -59,6 +80,8 @@ are_options options = list_all (λ option. is_option option.0) options
 -- the options, each given once or not at all, and the last word
 pub record Given : Type 0 where
   pub syntax : Option Chars
+  pub format : Option Chars
+  pub graph : Option Chars
   pub context : Option Chars
   pub base : Option Chars
   pub last : Chars
@@ -69,13 +92,19 @@ at_most_one [] = Some None
 at_most_one (value ∷ []) = Some (Some value)
 at_most_one (value ∷ second ∷ values) = None
 
-abbrev pub given_with : List Chars → List Chars → List Chars → Chars → Option Given
-given_with syntaxes files bases last =
-    option_and_then (λ syntax. option_and_then (λ context. option_map (λ base. record { syntax = syntax; context = context; base = base; last = last }) (at_most_one bases)) (at_most_one files)) (at_most_one syntaxes)
+-- all of these, where each has an answer
+abbrev pub all_given : Chars → Option (Option Chars) → Option (Option Chars) → Option (Option Chars) → Option (Option Chars) → Option (Option Chars) → Option Given
+all_given last (Some syntax) (Some format) (Some graph) (Some context) (Some base) =
+    Some (record { syntax = syntax; format = format; graph = graph; context = context; base = base; last = last })
+all_given last syntax format graph context base = None
+
+abbrev pub given_with : List (Chars × Chars) → Chars → Option Given
+given_with options last =
+    all_given last (at_most_one (values syntax_word options)) (at_most_one (values format_word options)) (at_most_one (values graph_word options)) (at_most_one (values context_word options))
+    (at_most_one (values base_word options))
 
 abbrev pub given_of : Arguments → Option Given
-given_of words =
-    if are_options words.options then given_with (values (codes "--syntax") words.options) (values (codes "--context") words.options) (values (codes "--base") words.options) words.last else None
+given_of words = if are_options words.options then given_with words.options words.last else None
 
 -- what the words behind the task give
 abbrev pub given : List Chars → Option Given
@@ -86,27 +115,40 @@ abbrev pub are_names : Option Chars → Chars → Bool
 are_names None page = is_page_name page
 are_names (Some file) page = is_file_name file && is_page_name page
 
--- `[--context FILE] --base IRI PAGE`
-abbrev pub extraction_with : Option Chars → Option Chars → Option Chars → Chars → Option Asked
-extraction_with None (Some address) context page =
-    if is_iri address && are_names context page then Some (record { task = extracts address; context = context; page = page }) else None
-extraction_with syntax base context page = None
-
-abbrev pub extraction : Given → Option Asked
-extraction words = extraction_with words.syntax words.base words.context words.last
-
 -- the syntax of this name, which is HTML where none is given
 abbrev pub syntax_of : Option Chars → Option Syntax
 syntax_of None = Some Html
 syntax_of (Some name) = if is_word name (codes "html") then Some Html else (if is_word name (codes "xhtml") then Some Xhtml else None)
 
+-- N-Quads are written, which is so where no format is given
+abbrev pub is_nquads : Option Chars → Bool
+is_nquads None = true
+is_nquads (Some name) = is_word name (codes "nquads")
+
+-- the graph has a name, which is an IRI, or it has none
+abbrev pub is_graph : Option Chars → Bool
+is_graph None = true
+is_graph (Some name) = is_iri name
+
+-- `[--syntax html|xhtml] [--format nquads] [--graph IRI] [--context FILE] --base IRI PAGE`
+abbrev pub extraction_with : Option Syntax → Option Chars → Given → Option Asked
+extraction_with (Some syntax) (Some address) words =
+    if is_nquads words.format && (is_graph words.graph && (is_iri address && are_names words.context words.last))
+    then Some (record { task = extracts (record { syntax = syntax; graph = words.graph; address = address }); context = words.context; page = words.last })
+    else None
+extraction_with syntax base words = None
+
+abbrev pub extraction : Given → Option Asked
+extraction words = extraction_with (syntax_of words.syntax) words.base words
+
 -- `[--syntax html|xhtml] [--context FILE] PAGE`
-abbrev pub checking_with : Option Syntax → Option Chars → Option Chars → Chars → Option Asked
-checking_with (Some syntax) None context page = if are_names context page then Some (record { task = checks syntax; context = context; page = page }) else None
-checking_with syntax base context page = None
+abbrev pub checking_with : Option Syntax → Option Chars → Option Chars → Option Chars → Given → Option Asked
+checking_with (Some syntax) None None None words =
+    if are_names words.context words.last then Some (record { task = checks syntax; context = words.context; page = words.last }) else None
+checking_with syntax format graph base words = None
 
 abbrev pub checking : Given → Option Asked
-checking words = checking_with (syntax_of words.syntax) words.base words.context words.last
+checking words = checking_with (syntax_of words.syntax) words.format words.graph words.base words
 
 -- `extract` or `check` with its options, in any order, and the page; any other list asks for nothing
 abbrev pub job : List Chars → Option Asked

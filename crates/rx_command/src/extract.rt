@@ -1,85 +1,35 @@
-//! From the bytes of a page to the text of its triples.
-ghost use Rattle.std.specs.Prelude.{◌≡◌, ◌∷◌, [], IfOk, MatchOption};
-ghost use Rattle.rx_model.specs.Seen.{triple_seen, triples_seen};
-ghost use Rattle.rx_command.specs.Outcome.{HasText, Denotes, IsNotBuilt, page_triple};
-ghost use Rattle.rx_command.specs.Page.{IsPlainIri, IsPage, AllAscii};
+//! From the list of a page's triples to the text that is written.
+ghost use Rattle.std.specs.Prelude.{◌≡◌, nat_eq, option_map, IfOk, encode_utf8_all};
+ghost use Rattle.std.specs.Str.{chars};
+ghost use Rattle.rx_model.specs.Copied.{copied};
+ghost use Rattle.rx_model.specs.Numbered.{numbered};
+ghost use Rattle.rx_model.specs.Seen.{triples_seen};
+ghost use Rattle.rx_nquads.specs.Document.{Nquads};
+ghost use Rattle.rx_nquads.specs.Quads.{quads};
+ghost use Rattle.rx_nquads.specs.Writing.{nquads};
 
-use crate::pages::{Parts, read_page};
-use rx_graph::Graph;
+use rx_graph::{Graph, copy_patterns, relabel};
 use rx_nquads::text;
-use rx_terms::{
-    Iri, IriError, Literal, LiteralKind, NoMemory, Node, Term, Text, Triple, TripleList,
-};
+use rx_terms::{Iri, NoMemory, TripleList};
 use std::alloc::Global;
-use std::str;
 
-/// The IRI that a plain IRI is.
-fn plain_iri(alloc: Global, text: &str) -> Result<Iri, NoMemory>
-    requires { IsPlainIri text.now }
-    ensures { IfOk result (λ iri. iri ≡ text.now) }
+/// The text of the triples' graph, which has this name, or none: property copying is done, and blank nodes are numbered
+/// in order of first occurrence.
+pub(crate) fn text_of(
+    alloc: Global,
+    list: &TripleList,
+    name: Option<&Iri>,
+) -> Result<Vec<u8>, NoMemory>
+    ensures spelled { IfOk result (λ text. text.items ≡ encode_utf8_all (nquads (numbered nat_eq (copied nat_eq (triples_seen list.now))) (option_map (λ iri. iri.now) name.entry))) }
+    ensures denotes { IfOk result (λ text. Nquads (chars text.items) (quads (numbered nat_eq (copied nat_eq (triples_seen list.now))) (option_map (λ iri. iri.now) name.entry))) }
 {
-    match Iri::of(alloc, text) {
-        Ok(iri) => Ok(iri),
-        Err(IriError::NoMemory) => Err(NoMemory),
-        Err(IriError::NoScheme) => unreachable!(),
-        Err(IriError::Forbidden) => unreachable!(),
-    }
+    let graph = graph_of(alloc, list)?;
+    text(alloc, &graph, name)
 }
 
-/// A text of ASCII, whose characters are its bytes.
-fn plain_text(alloc: Global, text: &str) -> Result<Text, NoMemory>
-    requires { AllAscii text.now }
-    ensures { IfOk result (λ t. t ≡ text.now) }
+fn graph_of(alloc: Global, list: &TripleList) -> Result<Graph, NoMemory>
+    ensures { IfOk result (λ graph. triples_seen graph ≡ numbered nat_eq (copied nat_eq (triples_seen list.now))) }
 {
-    Text::of(alloc, text)
-}
-
-fn triple_of(alloc: Global, parts: Parts<'_>) -> Result<Triple, NoMemory>
-    requires about { IsPlainIri parts.about.now }
-    requires property { IsPlainIri parts.property.now }
-    requires run { AllAscii parts.run.now }
-    ensures { IfOk result (λ triple. triple_seen triple ≡ page_triple parts.entry.about.now parts.entry.property.now parts.entry.run.now) }
-{
-    let subject = Node::Iri(plain_iri(alloc, parts.about)?);
-    let predicate = plain_iri(alloc, parts.property)?;
-    let lexical = plain_text(alloc, parts.run)?;
-    let kind = LiteralKind::Plain;
-    Ok(Triple {
-        subject,
-        predicate,
-        object: Term::Literal(Literal { lexical, kind }),
-    })
-}
-
-fn read_text(page: &[u8]) -> Option<Parts<'_>>
-    ensures { MatchOption result (IsNotBuilt page.now) (λ parts. IsPage page.now parts.about.now parts.property.now parts.run.now) }
-{
-    match str::from_utf8(page) {
-        Ok(text) => read_page(text),
-        Err(_error) => None,
-    }
-}
-
-/// The graph of the page's one triple.
-fn graph_of(alloc: Global, parts: Parts<'_>) -> Result<Graph, NoMemory>
-    requires about { IsPlainIri parts.about.now }
-    requires property { IsPlainIri parts.property.now }
-    requires run { AllAscii parts.run.now }
-    ensures { IfOk result (λ graph. triples_seen graph ≡ page_triple parts.entry.about.now parts.entry.property.now parts.entry.run.now ∷ []) }
-{
-    let mut triples = TripleList::new(alloc);
-    triples.push(triple_of(alloc, parts)?)?;
-    Graph::of(alloc, &triples)
-}
-
-/// The text of a page's triples, or `None` where the page isn't of the form.
-pub(crate) fn text_of(alloc: Global, page: &[u8]) -> Result<Option<Vec<u8>>, NoMemory>
-    ensures text { IfOk result (λ text. MatchOption text (IsNotBuilt page.now) (λ bytes. HasText page.now bytes.items)) }
-    ensures denotes { IfOk result (λ text. MatchOption text (IsNotBuilt page.now) (λ bytes. Denotes page.now bytes.items)) }
-{
-    let Some(parts) = read_text(page) else {
-        return Ok(None);
-    };
-    let graph = graph_of(alloc, parts)?;
-    Ok(Some(text(alloc, &graph, None)?))
+    let copied = copy_patterns(alloc, list)?;
+    relabel(alloc, &copied)
 }

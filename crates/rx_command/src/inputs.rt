@@ -1,48 +1,37 @@
 //! Doing a job: its context file is read, and then its page.
-ghost use Rattle.std.specs.Prelude.{◌≡◌, ◌⊎◌, ◌≤◌, IfOk, IsErrOf, OnErr, Err, Some, encode_utf8_all, is_some, true, false};
-ghost use Rattle.rx_terms.specs.Text.{Chars};
+ghost use Rattle.std.specs.Prelude.{◌≡◌, ◌⊎◌, ◌≤◌, IfOk, IsErrOf, OnErr, Err, Some, codes, encode_utf8_all, is_some, true, false};
 ghost use Rattle.rx_ports.specs.Counts.{Rose};
 ghost use Rattle.rx_ports.specs.Told.{Moves, Lacks};
 ghost use Rattle.rx_command.specs.Words.{extracts, checks};
 ghost use Rattle.rx_command.specs.Jobs.{asked_by, text_in};
 ghost use Rattle.rx_command.specs.Files.{TakesOf};
-ghost use Rattle.rx_command.specs.Checks.{ReadsClean};
-ghost use Rattle.rx_command.specs.Contexts.{IsContextFile, ReadsContext, TakesContext, LacksContext, HasOther, is_context};
-ghost use Rattle.rx_command.specs.Outcome.{IsLacking, ok_line};
+ghost use Rattle.rx_command.specs.Reading.{ReadsClean};
+ghost use Rattle.rx_command.specs.Ways.{way_of, extraction_of};
+ghost use Rattle.rx_command.specs.Contexts.{IsContextFile, IsFileOf, ReadsContext, TakesContext, LacksContext, HasOther};
+ghost use Rattle.rx_command.specs.Outcome.{IsLacking, check_address, ok_line, way_in};
 ghost use Rattle.rx_command.specs.Inputs.{PageText, PageRefused, JobText, JobRefused, TellsThat, WhereTold};
 ghost use Rattle.rx_command.specs.Runs.{TakesFiles, StopsCleanly};
 
-use crate::checks::{CheckError, check_page};
+use crate::errors::InputError;
 use crate::extract::text_of;
 use crate::files::{ReadError, read_file};
 use crate::jobs::Job;
-use crate::statuses::{Fault, Kind};
-use rx_chars::Syntax;
+use crate::pages::{Approach, read_page};
 use rx_names::{Context, ContextError};
 use rx_ports::Shelf;
-use rx_terms::{NoMemory, Text};
+use rx_terms::{Iri, IriError, NoMemory, Text};
+use rx_walk::{Fault, Syntax};
 use std::alloc::Global;
-
-/// The most bytes that a page of the built form has.
-const LARGEST_PAGE: usize = 1_048_576;
 
 /// The most bytes that a context file has.
 const LARGEST_CONTEXT: usize = 65_536;
 
-/// Why there is no text.
-#[derive(Clone, Copy, Debug, PartialEq, Eq)]
-pub enum InputError {
-    /// A file is missing or couldn't be read.
-    Failed,
-    /// The context file has another shape, or it is too long.
-    BadContext,
-    /// The page has this fault.
-    Refused(Fault),
-    NoMemory,
-}
-
 /// The text that the job makes of its page, which is read after the context file, where one is named.
-pub fn text_of_job<F: Shelf>(alloc: Global, shelf: &mut F, job: &Job) -> Result<Vec<u8>, InputError>
+pub(crate) fn text_of_job<F: Shelf>(
+    alloc: Global,
+    shelf: &mut F,
+    job: &Job,
+) -> Result<Vec<u8>, InputError>
     ensures ok { IfOk result (λ text. Moves (JobText (asked_by job.now) text.items) (F.told shelf.old) (F.told shelf.new)) }
     ensures refused { (fault : Fault) → result ≡ Err (InputError.Refused fault) → Moves (JobRefused (asked_by job.now) fault) (F.told shelf.old) (F.told shelf.new) }
     ensures takes { Moves (TakesFiles (Some (asked_by job.now))) (F.told shelf.old) (F.told shelf.new) }
@@ -53,37 +42,81 @@ pub fn text_of_job<F: Shelf>(alloc: Global, shelf: &mut F, job: &Job) -> Result<
     ensures cleanly { IsErrOf result InputError.Failed → Moves (StopsCleanly (Some (asked_by job.now))) (F.told shelf.old) (F.told shelf.new) }
     ensures later { F.faults shelf.old ≤ F.faults shelf.new }
 {
-    match read_context(alloc, shelf, job.context()) {
-        Ok(()) => {}
+    let context = match read_context(alloc, shelf, job.context()) {
+        Ok(context) => context,
         Err(error) => return Err(error),
-    }
+    };
+    let approach = match approach_of(alloc, job, context) {
+        Ok(approach) => approach,
+        Err(NoMemory) => return Err(InputError::NoMemory),
+    };
     match job {
-        Job::Extract { page, .. } => extract(alloc, shelf, page),
-        Job::Check { syntax, page, .. } => check(alloc, shelf, page, *syntax),
+        Job::Extract { graph, page, .. } => extract(alloc, shelf, page, approach, graph.as_ref()),
+        Job::Check { page, .. } => check(alloc, shelf, page, approach),
     }
 }
 
-/// The text of a page's triples. The page is read to its end, or to one byte past the largest.
-fn extract<F: Shelf>(alloc: Global, shelf: &mut F, page: &Text) -> Result<Vec<u8>, InputError>
-    ensures ok { (address : Chars) → IfOk result (λ text. Moves (PageText (extracts address) (encode_utf8_all page.now) text.items) (F.told shelf.old) (F.told shelf.new)) }
-    ensures refused { (address : Chars) (fault : Fault) → result ≡ Err (InputError.Refused fault) → Moves (PageRefused (extracts address) (encode_utf8_all page.now) fault) (F.told shelf.old) (F.told shelf.new) }
-    ensures takes { Moves (TakesOf (encode_utf8_all page.now) 1048576) (F.told shelf.old) (F.told shelf.new) }
+/// How the job's page is read: at its own address, or, where it is only checked, at that of the machine itself.
+fn approach_of(alloc: Global, job: &Job, context: Context) -> Result<Approach, NoMemory>
+    ensures { IfOk result (λ approach. way_of approach ≡ way_in (asked_by job.now).task context) }
+{
+    match job {
+        Job::Extract {
+            syntax,
+            address,
+            ..
+        } => {
+            let address = address.try_clone()?;
+            Ok(Approach {
+                syntax: *syntax,
+                context,
+                address,
+            })
+        }
+        Job::Check { syntax, .. } => {
+            let address = localhost(alloc)?;
+            Ok(Approach {
+                syntax: *syntax,
+                context,
+                address,
+            })
+        }
+    }
+}
+
+fn localhost(alloc: Global) -> Result<Iri, NoMemory>
+    ensures { IfOk result (λ iri. iri ≡ check_address) }
+{
+    match Iri::of(alloc, "http://localhost/") {
+        Ok(iri) => Ok(iri),
+        Err(IriError::NoMemory) => Err(NoMemory),
+        Err(IriError::NoScheme) => unreachable!(),
+        Err(IriError::Forbidden) => unreachable!(),
+    }
+}
+
+/// The text of a page's triples, in the graph of this name, or in none.
+fn extract<F: Shelf>(
+    alloc: Global,
+    shelf: &mut F,
+    page: &Text,
+    approach: Approach,
+    graph: Option<&Iri>,
+) -> Result<Vec<u8>, InputError>
+    ensures ok { IfOk result (λ text. Moves (PageText (extracts (extraction_of approach graph.entry)) approach.context (encode_utf8_all page.now) text.items) (F.told shelf.old) (F.told shelf.new)) }
+    ensures refused { (fault : Fault) → result ≡ Err (InputError.Refused fault) → Moves (PageRefused (extracts (extraction_of approach graph.entry)) approach.context (encode_utf8_all page.now) fault) (F.told shelf.old) (F.told shelf.new) }
+    ensures takes { Moves (TakesOf (encode_utf8_all page.now) 1073807359) (F.told shelf.old) (F.told shelf.new) }
     ensures context { IsErrOf result InputError.BadContext → ⊥ }
     ensures failed { IsErrOf result InputError.Failed → Rose (F.faults shelf.old) (F.faults shelf.new) ⊎ Lacks (F.told shelf.old) (encode_utf8_all page.now) }
+    ensures cleanly { IsErrOf result InputError.Failed → Moves (ReadsClean (way_of approach) (encode_utf8_all page.now)) (F.told shelf.old) (F.told shelf.new) }
     ensures later { F.faults shelf.old ≤ F.faults shelf.new }
 {
-    let bytes = match read_file(alloc, shelf, page.as_str(), LARGEST_PAGE) {
-        Ok(bytes) => bytes,
-        Err(ReadError::Failed) => return Err(InputError::Failed),
-        Err(ReadError::NoMemory) => return Err(InputError::NoMemory),
+    let list = match read_page(alloc, shelf, page.as_str(), approach) {
+        Ok(list) => list,
+        Err(error) => return Err(error),
     };
-    match text_of(alloc, bytes.as_slice()) {
-        Ok(Some(text)) => Ok(text),
-        Ok(None) => Err(InputError::Refused(Fault {
-            kind: Kind::NotBuilt,
-            token: 0,
-            at: 0,
-        })),
+    match text_of(alloc, &list, graph) {
+        Ok(text) => Ok(text),
         Err(NoMemory) => Err(InputError::NoMemory),
     }
 }
@@ -93,21 +126,19 @@ fn check<F: Shelf>(
     alloc: Global,
     shelf: &mut F,
     page: &Text,
-    syntax: Syntax,
+    approach: Approach,
 ) -> Result<Vec<u8>, InputError>
-    ensures ok { IfOk result (λ text. Moves (PageText (checks syntax) (encode_utf8_all page.now) text.items) (F.told shelf.old) (F.told shelf.new)) }
-    ensures refused { (fault : Fault) → result ≡ Err (InputError.Refused fault) → Moves (PageRefused (checks syntax) (encode_utf8_all page.now) fault) (F.told shelf.old) (F.told shelf.new) }
+    ensures ok { IfOk result (λ text. Moves (PageText (checks approach.syntax) approach.context (encode_utf8_all page.now) text.items) (F.told shelf.old) (F.told shelf.new)) }
+    ensures refused { (fault : Fault) → result ≡ Err (InputError.Refused fault) → Moves (PageRefused (checks approach.syntax) approach.context (encode_utf8_all page.now) fault) (F.told shelf.old) (F.told shelf.new) }
     ensures takes { Moves (TakesOf (encode_utf8_all page.now) 1073807359) (F.told shelf.old) (F.told shelf.new) }
     ensures context { IsErrOf result InputError.BadContext → ⊥ }
     ensures failed { IsErrOf result InputError.Failed → Rose (F.faults shelf.old) (F.faults shelf.new) ⊎ Lacks (F.told shelf.old) (encode_utf8_all page.now) }
-    ensures cleanly { IsErrOf result InputError.Failed → Moves (ReadsClean syntax (encode_utf8_all page.now)) (F.told shelf.old) (F.told shelf.new) }
+    ensures cleanly { IsErrOf result InputError.Failed → Moves (ReadsClean (way_of approach) (encode_utf8_all page.now)) (F.told shelf.old) (F.told shelf.new) }
     ensures later { F.faults shelf.old ≤ F.faults shelf.new }
 {
-    match check_page(alloc, shelf, page.as_str(), syntax) {
-        Ok(()) => ok_text(alloc),
-        Err(CheckError::Failed) => Err(InputError::Failed),
-        Err(CheckError::Refused(fault)) => Err(InputError::Refused(Fault::of_page(fault))),
-        Err(CheckError::NoMemory) => Err(InputError::NoMemory),
+    match read_page(alloc, shelf, page.as_str(), approach) {
+        Ok(_list) => ok_text(alloc),
+        Err(error) => Err(error),
     }
 }
 
@@ -122,13 +153,13 @@ fn ok_text(alloc: Global) -> Result<Vec<u8>, InputError>
     }
 }
 
-/// Reads the context file, where one is named.
+/// The context that holds: that of the file, where one is named, else the standard one.
 fn read_context<F: Shelf>(
     alloc: Global,
     shelf: &mut F,
     file: Option<&Text>,
-) -> Result<(), InputError>
-    ensures ok { IfOk result (λ _. Moves (ReadsContext (text_in file.entry)) (F.told shelf.old) (F.told shelf.new)) }
+) -> Result<Context, InputError>
+    ensures ok { IfOk result (λ context. Moves (ReadsContext (text_in file.entry) context) (F.told shelf.old) (F.told shelf.new)) }
     ensures takes { Moves (TakesContext (text_in file.entry)) (F.told shelf.old) (F.told shelf.new) }
     ensures bad { IsErrOf result InputError.BadContext → WhereTold (HasOther (text_in file.entry)) (F.told shelf.old) }
     ensures named { IsErrOf result InputError.BadContext → is_some (text_in file.entry) ≡ true }
@@ -137,13 +168,20 @@ fn read_context<F: Shelf>(
     ensures later { F.faults shelf.old ≤ F.faults shelf.new }
 {
     match file {
-        None => Ok(()),
+        None => match Context::standard(alloc) {
+            Ok(context) => Ok(context),
+            Err(NoMemory) => Err(InputError::NoMemory),
+        },
         Some(file) => read_named_context(alloc, shelf, file),
     }
 }
 
-fn read_named_context<F: Shelf>(alloc: Global, shelf: &mut F, file: &Text) -> Result<(), InputError>
-    ensures ok { IfOk result (λ _. WhereTold (IsContextFile file.now true) (F.told shelf.old)) }
+fn read_named_context<F: Shelf>(
+    alloc: Global,
+    shelf: &mut F,
+    file: &Text,
+) -> Result<Context, InputError>
+    ensures ok { IfOk result (λ context. WhereTold (λ told. IsFileOf file.now told context) (F.told shelf.old)) }
     ensures takes { Moves (TakesContext (Some file.now)) (F.told shelf.old) (F.told shelf.new) }
     ensures bad { IsErrOf result InputError.BadContext → WhereTold (IsContextFile file.now false) (F.told shelf.old) }
     ensures not_refused { (fault : Fault) → result ≡ Err (InputError.Refused fault) → ⊥ }
@@ -159,7 +197,7 @@ fn read_named_context<F: Shelf>(alloc: Global, shelf: &mut F, file: &Text) -> Re
         return Err(InputError::BadContext);
     }
     match Context::of_json(alloc, bytes.as_slice()) {
-        Ok(_context) => Ok(()),
+        Ok(context) => Ok(context),
         Err(ContextError::BadContext) => Err(InputError::BadContext),
         Err(ContextError::NoMemory) => Err(InputError::NoMemory),
     }

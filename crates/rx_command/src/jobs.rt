@@ -1,9 +1,10 @@
 //! What the words of the command line ask for.
-ghost use Rattle.std.specs.Prelude.{◌≡◌, MatchResult, IfOk, Some};
-ghost use Rattle.rx_command.specs.Words.{job, extraction, checking, syntax_of};
-ghost use Rattle.rx_command.specs.Jobs.{asked_by, given_seen, text_in, FailsJob};
+ghost use Rattle.std.specs.Prelude.{◌≡◌, MatchResult, IfOk, Some, true};
+ghost use Rattle.rx_command.specs.Words.{job, extraction, checking, syntax_of, is_nquads, is_graph};
+ghost use Rattle.rx_command.specs.Jobs.{asked_by, given_seen, text_in, FailsJob, FailsGraph};
 
-use crate::arguments::{Arguments, are_names, arguments_of, is_word};
+use crate::arguments::{Arguments, arguments_of};
+use crate::words::{are_names, is_word};
 use rx_chars::Syntax;
 use rx_terms::{Iri, IriError, NoMemory, Text};
 use std::alloc::Global;
@@ -13,8 +14,10 @@ use thiserror::Error;
 #[derive(Debug, Drop)]
 pub enum Job {
     /// The triples of the page of this name, whose address is given, with the names of a context file or the standard
-    /// ones.
+    /// ones; they stand in the graph of this name, if any.
     Extract {
+        syntax: Syntax,
+        graph: Option<Iri>,
         context: Option<Text>,
         address: Iri,
         page: Text,
@@ -62,25 +65,35 @@ impl Job {
     fn extraction(alloc: Global, given: Arguments<'_>) -> Result<Job, JobError>
         ensures { MatchResult result (λ found. extraction (given_seen given.entry) ≡ Some (asked_by found)) (FailsJob (extraction (given_seen given.entry))) }
     {
-        let None = given.syntax else {
+        let options = given.options;
+        let Some(syntax) = syntax_of(options.syntax) else {
             return Err(JobError::Usage);
         };
-        let Some(address) = given.base else {
+        let Some(address) = options.base else {
             return Err(JobError::Usage);
         };
-        if !are_names(given.context, given.last) {
+        if !is_nquads(options.format) {
             return Err(JobError::Usage);
         }
+        let graph = match graph_of(alloc, options.graph) {
+            Ok(graph) => graph,
+            Err(error) => return Err(error),
+        };
         let address = match Iri::of(alloc, address.as_str()) {
             Ok(address) => address,
             Err(IriError::NoMemory) => return Err(JobError::NoMemory),
             Err(_) => return Err(JobError::Usage),
         };
-        let Ok(context) = copied(given.context) else {
+        if !are_names(options.context, given.last) {
+            return Err(JobError::Usage);
+        }
+        let Ok(context) = copied(options.context) else {
             return Err(JobError::NoMemory);
         };
         match given.last.try_clone() {
             Ok(page) => Ok(Job::Extract {
+                syntax,
+                graph,
                 context,
                 address,
                 page,
@@ -92,16 +105,23 @@ impl Job {
     fn checking(alloc: Global, given: Arguments<'_>) -> Result<Job, JobError>
         ensures { MatchResult result (λ found. checking (given_seen given.entry) ≡ Some (asked_by found)) (FailsJob (checking (given_seen given.entry))) }
     {
-        let Some(syntax) = syntax_of(given.syntax) else {
+        let options = given.options;
+        let Some(syntax) = syntax_of(options.syntax) else {
             return Err(JobError::Usage);
         };
-        let None = given.base else {
+        let None = options.format else {
             return Err(JobError::Usage);
         };
-        if !are_names(given.context, given.last) {
+        let None = options.graph else {
+            return Err(JobError::Usage);
+        };
+        let None = options.base else {
+            return Err(JobError::Usage);
+        };
+        if !are_names(options.context, given.last) {
             return Err(JobError::Usage);
         }
-        let Ok(context) = copied(given.context) else {
+        let Ok(context) = copied(options.context) else {
             return Err(JobError::NoMemory);
         };
         match given.last.try_clone() {
@@ -152,4 +172,28 @@ fn syntax_of(name: Option<&Text>) -> Option<Syntax>
         return Some(Syntax::Xhtml);
     }
     None
+}
+
+/// Whether the format of this name is N-Quads, which it is where none is given.
+fn is_nquads(name: Option<&Text>) -> bool
+    ensures { result ≡ is_nquads (text_in name.entry) }
+{
+    match name {
+        None => true,
+        Some(name) => is_word(name, "nquads"),
+    }
+}
+
+/// The name of the graph, where one is given. Usage comes exactly where it is no IRI.
+fn graph_of(alloc: Global, name: Option<&Text>) -> Result<Option<Iri>, JobError>
+    ensures { MatchResult result (λ graph. (is_graph (text_in name.entry) ≡ true) × (graph ≡ text_in name.entry)) (FailsGraph (text_in name.entry)) }
+{
+    let Some(name) = name else {
+        return Ok(None);
+    };
+    match Iri::of(alloc, name.as_str()) {
+        Ok(graph) => Ok(Some(graph)),
+        Err(IriError::NoMemory) => Err(JobError::NoMemory),
+        Err(_) => Err(JobError::Usage),
+    }
 }

@@ -1,29 +1,25 @@
 //! The command: from the words of a command line to a status, a text on one sink and a line on another.
 //!
-//! [`run`] carries the promise of the whole program as its contract: what is written is the text of the page's
-//! triples, any other page is refused, and each status comes exactly where its clause says. Today one form of page is
-//! read, that of one paragraph; every other page is refused as not built.
+//! [`run`] carries the promise of the whole program as its contract: what is written of a page is the text of the graph
+//! that RDFa's rules give its tree, any other page is refused with its first fault, and each status comes exactly where
+//! its clause says.
 #![tactic(auto)]
 
-ghost use Rattle.rx_command.specs.Page.{OneReading};
-
 mod arguments;
-mod checks;
+mod errors;
 mod extract;
 mod files;
 mod inputs;
 mod jobs;
+mod options;
 mod pages;
 mod statuses;
 #[cfg(test)]
 mod tests;
 mod top;
+mod words;
 
 pub use jobs::{Job, JobError};
-pub use statuses::{Fault, Kind, Status};
+pub use rx_walk::{Fault, Kind};
+pub use statuses::Status;
 pub use top::run;
-
-/// A page has one reading at the most, so its text is determined by its bytes.
-pub fn one_reading()
-    ensures { OneReading }
-{}

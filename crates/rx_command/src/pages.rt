@@ -1,135 +1,120 @@
-//! The one form of page that is read today.
-ghost use Rattle.std.specs.Prelude.{◌≡◌, ◌≢◌, ◌<◌, ◌++◌, ◌∷◌, ◌==◌, not, true, List, ℕ, MatchOption, MatchBool};
-ghost use Rattle.std.specs.List.{list_all};
-ghost use Rattle.rx_command.specs.Page.{IsPage, IsPlainIri, IsCut, IsUncut, host_char, path_char, run_char};
-ghost use Rattle.rx_command.specs.Outcome.{IsNotBuilt};
+//! Reading a page as its bytes come.
+ghost use Rattle.std.specs.Prelude.{◌≡◌, ◌<◌, ◌≤◌, ◌⊎◌, ℕ, List, [], IfOk, IsErrOf, length};
+ghost use Rattle.rx_ports.specs.Counts.{Rose};
+ghost use Rattle.rx_ports.specs.Told.{Moves, Lacks};
+ghost use Rattle.rx_command.specs.Reading.{Way, Reached, Starts, NextGives, EndGives, FileGives, PageGives};
+ghost use Rattle.rx_command.specs.Files.{TakesSome, TakesOf};
+ghost use Rattle.rx_command.specs.Ways.{way_of};
 
-const MAX_PAGE: usize = 1_048_576;
+use crate::errors::InputError;
+use rx_names::Context;
+use rx_ports::Shelf;
+use rx_terms::{Iri, TripleList};
+use rx_walk::{Limits, Stop, Syntax, Walk};
+use std::alloc::Global;
 
-/// What a page is about, the property and the text.
-#[derive(Clone, Copy, Debug)]
-pub struct Parts<'a> {
-    pub about: &'a str,
-    pub property: &'a str,
-    pub run: &'a str,
+/// How a page is read: its syntax, the names that hold in it, and its address.
+#[derive(Drop)]
+pub(crate) struct Approach {
+    pub(crate) syntax: Syntax,
+    pub(crate) context: Context,
+    pub(crate) address: Iri,
 }
 
-fn strip_front<'a>(text: &'a str, front: &str) -> Option<&'a str>
-    ensures { MatchOption result ((rest : List ℕ) → text.now ≢ front.now ++ rest) (λ rest. text.now ≡ front.now ++ rest.now) }
-{
-    text.strip_prefix(front)
-}
+/// The most bytes that a read asks for.
+const PIECE: usize = 65_536;
 
-fn strip_end<'a>(text: &'a str, end: &str) -> Option<&'a str>
-    ensures { MatchOption result ((rest : List ℕ) → text.now ≢ rest ++ end.now) (λ rest. text.now ≡ rest.now ++ end.now) }
-{
-    text.strip_suffix(end)
-}
+/// The most bytes that a page has.
+const LARGEST_PAGE: usize = 1_073_741_824;
 
-/// The text up to the first such character, and the text behind it.
-fn split_at(text: &str, c: char) -> Option<(&str, &str)>
-    requires { c < 128 }
-    ensures { MatchOption result ((front rest : List ℕ) → text.now ≢ front ++ c ∷ rest)
-        (λ parts. (text.now ≡ parts.0.now ++ c ∷ parts.1.now) × (list_all (λ b. not (b == c)) parts.0.now ≡ true)) }
+/// Reads a page once, in order and in pieces, into the list of its triples. Nothing is read past the piece in which its
+/// first fault stands.
+pub(crate) fn read_page<F: Shelf>(
+    alloc: Global,
+    shelf: &mut F,
+    name: &str,
+    approach: Approach,
+) -> Result<TripleList, InputError>
+    ensures gives { PageGives (way_of approach) name.now result (F.told shelf.old) (F.told shelf.new) }
+    ensures takes { Moves (TakesOf name.now 1073807359) (F.told shelf.old) (F.told shelf.new) }
+    ensures later { F.faults shelf.old ≤ F.faults shelf.new }
+    ensures failed { IsErrOf result InputError.Failed → Rose (F.faults shelf.old) (F.faults shelf.new) ⊎ Lacks (F.told shelf.old) name.now }
 {
-    text.split_once(c)
-}
-
-fn is_host(b: u8) -> bool
-    ensures { result ≡ host_char b }
-{
-    b.is_ascii_alphanumeric() || b == b'.' || b == b'-'
-}
-
-fn is_path(b: u8) -> bool
-    ensures { result ≡ path_char b }
-{
-    b.is_ascii_alphanumeric() || matches!(b, b'-' | b'_' | b'/' | b'#')
-}
-
-fn is_run(b: u8) -> bool
-    ensures { result ≡ run_char b }
-{
-    b == b'\n' || (b' ' <= b && b <= b'~' && b != b'<' && b != b'&')
-}
-
-fn all_host(text: &str) -> bool
-    ensures { result ≡ list_all host_char text.now }
-{
-    text.bytes().all(is_host)
-}
-
-fn all_path(text: &str) -> bool
-    ensures { result ≡ list_all path_char text.now }
-{
-    text.bytes().all(is_path)
-}
-
-fn all_run(text: &str) -> bool
-    ensures { result ≡ list_all run_char text.now }
-{
-    text.bytes().all(is_run)
-}
-
-fn is_plain_iri(text: &str) -> bool
-    ensures { MatchBool result (IsPlainIri text.now) (IsPlainIri text.now → ⊥) }
-{
-    let Some(rest) = strip_front(text, "http://") else {
-        return false;
+    let Approach {
+        syntax,
+        context,
+        address,
+    } = approach;
+    let Ok(mut walk) = Walk::new(alloc, syntax, context, address, Limits::standard()) else {
+        return Err(InputError::NoMemory);
     };
-    let Some((host, path)) = split_at(rest, '/') else {
-        return false;
-    };
-    if host.is_empty() || !all_host(host) || !all_path(path) {
-        return false;
+    match feed_file(alloc, shelf, name, &mut walk) {
+        Ok(()) => list_of(walk),
+        Err(error) => Err(error),
     }
-    true
 }
 
-/// Cuts a text at what stands before, between and behind the parts.
-fn cut(text: &str) -> Option<Parts<'_>>
-    ensures { MatchOption result (IsUncut text.now) (λ parts. IsCut text.now parts.about.now parts.property.now parts.run.now) }
+// Feeds the walk the whole file.
+fn feed_file<F: Shelf>(
+    alloc: Global,
+    shelf: &mut F,
+    name: &str,
+    walk: &mut Walk,
+) -> Result<(), InputError>
+    requires { Starts walk.old }
+    ensures gives { (way : Way) → Reached way walk.old [] → FileGives way name.now result walk.new (F.told shelf.old) (F.told shelf.new) }
+    ensures takes { Moves (TakesOf name.now 1073807359) (F.told shelf.old) (F.told shelf.new) }
+    ensures later { F.faults shelf.old ≤ F.faults shelf.new }
+    ensures failed { IsErrOf result InputError.Failed → Rose (F.faults shelf.old) (F.faults shelf.new) ⊎ Lacks (F.told shelf.old) name.now }
 {
-    let Some(rest) = strip_front(text, "<html><body><p about=\"") else {
-        return None;
+    let Ok(mut piece) = vec![in alloc; 0u8; PIECE] else {
+        return Err(InputError::NoMemory);
     };
-    let Some((about, rest)) = split_at(rest, '"') else {
-        return None;
+    let Ok(()) = shelf.start_file(name) else {
+        return Err(InputError::Failed);
     };
-    let Some(rest) = strip_front(rest, " property=\"") else {
-        return None;
-    };
-    let Some((property, rest)) = split_at(rest, '"') else {
-        return None;
-    };
-    let Some(rest) = strip_front(rest, ">") else {
-        return None;
-    };
-    let Some(run) = strip_end(rest, "</p></body></html>") else {
-        return None;
-    };
-    Some(Parts {
-        about,
-        property,
-        run,
-    })
+    let mut taken = 0;
+    while taken <= LARGEST_PAGE {
+        match feed_next(shelf, walk, &mut piece[..]) {
+            Ok(0) => return Ok(()),
+            Ok(count) => taken += count,
+            Err(error) => return Err(error),
+        }
+    }
+    unreachable!()
 }
 
-/// The parts of a page, where it has the form.
-pub fn read_page(text: &str) -> Option<Parts<'_>>
-    ensures { MatchOption result (IsNotBuilt text.now) (λ parts. IsPage text.now parts.about.now parts.property.now parts.run.now) }
+// Reads on once, and takes what was read.
+fn feed_next<F: Shelf>(
+    shelf: &mut F,
+    walk: &mut Walk,
+    piece: &mut [u8],
+) -> Result<usize, InputError>
+    requires { 0 < length piece.old }
+    ensures bound { IfOk result (λ n. n ≤ length piece.new) }
+    ensures gives { (way : Way) (bytes : List ℕ) → Reached way walk.old bytes → length piece.old ≤ 65536 → NextGives way bytes result walk.new (F.told shelf.old) (F.told shelf.new) }
+    ensures takes { Moves (TakesSome (length piece.old)) (F.told shelf.old) (F.told shelf.new) }
+    ensures later { F.faults shelf.old ≤ F.faults shelf.new }
+    ensures failed { IsErrOf result InputError.Failed → Rose (F.faults shelf.old) (F.faults shelf.new) }
 {
-    if text.len() > MAX_PAGE {
-        return None;
-    }
-    let Some(parts) = cut(text) else {
-        return None;
+    let Ok(count) = shelf.read(piece) else {
+        return Err(InputError::Failed);
     };
-    if parts.run.is_empty() || !all_run(parts.run) {
-        return None;
+    match walk.feed(&piece[..count]) {
+        Ok(()) => Ok(count),
+        Err(Stop::Fault(fault)) => Err(InputError::Refused(fault)),
+        Err(Stop::NoMemory) => Err(InputError::NoMemory),
     }
-    if !is_plain_iri(parts.about) || !is_plain_iri(parts.property) {
-        return None;
+}
+
+// The page's end.
+fn list_of(walk: Walk) -> Result<TripleList, InputError>
+    ensures gives { (way : Way) (bytes : List ℕ) → Reached way walk bytes → EndGives way bytes result }
+    ensures reads_none { IsErrOf result InputError.Failed → ⊥ }
+{
+    match walk.finish() {
+        Ok(list) => Ok(list),
+        Err(Stop::Fault(fault)) => Err(InputError::Refused(fault)),
+        Err(Stop::NoMemory) => Err(InputError::NoMemory),
     }
-    Some(parts)
 }

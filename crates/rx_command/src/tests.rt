@@ -23,14 +23,18 @@ struct Row {
     said: &'static [u8],
 }
 
-const NOT_BUILT: Status = Status::Refused(Fault {
-    kind: Kind::NotBuilt,
+/// The same triple, in a graph with a name.
+const QUAD: &[u8] = b"<http://h.example/s> <http://v.example/p> \"Hi\" <http://h.example/g> .\n";
+
+/// A vocabulary without a scheme is refused at the end of its tag.
+const RELATIVE: Status = Status::Refused(Fault {
+    kind: Kind::RelativeVocab,
     token: 0,
-    at: 0,
+    at: 15,
 });
 
 const MISMATCH: Status = Status::Refused(Fault {
-    kind: Kind::OfPage(rx_nest::Kind::Mismatch),
+    kind: Kind::Mismatch,
     token: 10,
     at: 16,
 });
@@ -59,6 +63,7 @@ fn shelf_of(alloc: Global, behaviour: (usize, u64)) -> Result<MemShelf, Fail> {
     let mut files = FileList::new(alloc);
     files.push("page.html", PAGE)?;
     files.push("other.html", b"<html><br></html>")?;
+    files.push("relative.html", b"<html vocab='v'></html>")?;
     files.push(
         "names.json",
         b"{\"prefixes\":{\"e\":\"http://v.example/\"}}",
@@ -118,9 +123,40 @@ fn worked_rows(rt: HostRuntime) -> Result<(), Fail> {
             words: &["extract", "--base", "http://h.example/d", "other.html"],
             shelf: (10, 0),
             out: (10, 0),
-            status: NOT_BUILT,
+            status: Status::Done,
             written: b"",
-            said: b"refused: NotBuilt at byte 0 in token 0\n",
+            said: b"",
+        },
+        Row {
+            words: &[
+                "extract",
+                "--graph",
+                "http://h.example/g",
+                "--base",
+                "http://h.example/d",
+                "page.html",
+            ],
+            shelf: (10, 0),
+            out: (7, 0),
+            status: Status::Done,
+            written: QUAD,
+            said: b"",
+        },
+        Row {
+            words: &["extract", "--base", "http://h.example/d", "relative.html"],
+            shelf: (10, 0),
+            out: (10, 0),
+            status: RELATIVE,
+            written: b"",
+            said: b"refused: RelativeVocab at byte 15 in token 0\n",
+        },
+        Row {
+            words: &["check", "relative.html"],
+            shelf: (3, 0),
+            out: (10, 0),
+            status: RELATIVE,
+            written: b"",
+            said: b"refused: RelativeVocab at byte 15 in token 0\n",
         },
         Row {
             words: &[],

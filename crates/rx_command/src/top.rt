@@ -8,11 +8,13 @@ ghost use Rattle.rx_command.specs.Contexts.{TakesContext};
 ghost use Rattle.rx_command.specs.Outcome.{Yields, YieldsGraph, Refuses, LacksFile, HasBadContext, NamesContext};
 ghost use Rattle.rx_command.specs.Runs.{ReadCause, TakesFiles, TakesToFault, StopsCleanly, IsAtEnd, Says, usage_line, refused_line, context_line, context_named};
 
-use crate::inputs::{InputError, text_of_job};
+use crate::errors::InputError;
+use crate::inputs::text_of_job;
 use crate::jobs::{Job, JobError};
-use crate::statuses::{Fault, Status};
+use crate::statuses::{Status, name_of};
 use rx_ports::{Shelf, Sink, put_all};
 use rx_terms::Text;
+use rx_walk::Fault;
 use std::alloc::{AllocError, Global};
 
 const USAGE: &[u8] = b"usage: rdfax extract|items|check|sample\n";
@@ -41,7 +43,7 @@ pub fn run<F: Shelf, O: Sink, E: Sink>(
     // Done comes only where the page has a text: out has then grown by exactly that, and the page was read to its end.
     ensures done { result ≡ Status.Done → (told : Told) → F.told shelf.old ≡ Some told →
         (text : List ℕ) × Yields words.now (F.told shelf.old) text × Moves (GrowsBy text) (O.held out.old) (O.held out.new) }
-    // That text denotes exactly the graph of the page.
+    // That text denotes exactly the graph that RDFa's rules give the page's tree, its blank nodes renamed one to one.
     ensures denotes { result ≡ Status.Done → (told : Told) → F.told shelf.old ≡ Some told →
         (text : List ℕ) × YieldsGraph words.now (F.told shelf.old) text × Moves (GrowsBy text) (O.held out.old) (O.held out.new) }
     ensures to_end { result ≡ Status.Done → IsAtEnd (F.told shelf.new) }
@@ -49,13 +51,13 @@ pub fn run<F: Shelf, O: Sink, E: Sink>(
     // Refused comes only where the page has this fault.
     ensures refused { (fault : Fault) → result ≡ Status.Refused fault → (told : Told) → F.told shelf.old ≡ Some told →
         Refuses words.now (F.told shelf.old) fault }
-    // A page that is checked is then read no further than 65,536 bytes past the byte that decides the fault.
+    // The page is then read no further than 65,536 bytes past the byte that decides the fault.
     ensures refused_takes { (fault : Fault) → result ≡ Status.Refused fault → Moves (TakesToFault (job words.now) fault) (F.told shelf.old) (F.told shelf.new) }
 
     // ReadFault comes only where the shelf failed, or lacks the context file, or lacks the page where the context file is
     // a context; and where it lacks one of them there is no other answer.
     ensures read_fault { result ≡ Status.ReadFault → ReadCause words.now (F.told shelf.old) (F.faults shelf.old) (F.faults shelf.new) }
-    // What was read of a page that is checked, where the page is there, holds no fault then but that it ends.
+    // What was read of the page, where it is there, holds no fault then but that it ends.
     ensures cleanly { result ≡ Status.ReadFault → Moves (StopsCleanly (job words.now)) (F.told shelf.old) (F.told shelf.new) }
     ensures lacking { LacksFile words.now (F.told shelf.old) → (result ≡ Status.ReadFault) ⊎ (result ≡ Status.Memory) }
 
@@ -125,7 +127,7 @@ pub fn run<F: Shelf, O: Sink, E: Sink>(
 fn line_of(alloc: Global, fault: Fault) -> Result<String, AllocError>
     ensures { IfOk result (λ line. string_bytes line ≡ refused_line fault) }
 {
-    refusal(alloc, fault.kind.name(), fault.at, fault.token)
+    refusal(alloc, name_of(fault.kind), fault.at, fault.token)
 }
 
 fn refusal(alloc: Global, kind: &str, at: u64, token: u64) -> Result<String, AllocError>

@@ -1,34 +1,24 @@
-use Rattle.std.proofs.Common.{sym}
-use Rattle.rx_command.specs.Jobs.{one_or_none, text_in}
-use Rattle.rx_command.proofs.WordLemmas.{later_start, takes_syntax, takes_context, takes_base, again_syntax, again_context, again_base, unknown, no_word, one_word}
+use Rattle.std.proofs.Common.{[], ◌∙◌, sym, ap}
+use Rattle.std.specs.Prelude.{option_map}
+use Rattle.rx_command.specs.Jobs.{options_seen}
+use Rattle.rx_command.proofs.WordLemmas.{reads_all, puts, puts_none, no_word, one_word}
 use Rattle.rx_command.proofs.arguments.arguments_of.Goals as goal
 
-pub loop-name-init : goal.loop-name-init
-loop-name-init c = later_start c.args.words.now
+pub loop-word-init : goal.loop-word-init
+loop-word-init c = reads_all c.args.words.now []
 
-pub returns-then-is_some : goal.returns-then-is_some
-returns-then-is_some c = again_syntax c.args.words.now _ _ (one_or_none (text_in c.loop-name.context)) (one_or_none (text_in c.loop-name.base)) c.loop-name.syntax _ _ c.loop-name.invariant c.in-Some.ensures (sym c.if-is_word.ensures) (sym c.if-is_some.ensures)
+pub returns-in_default-put : goal.returns-in_default-put
+returns-in_default-put c =
+    puts_none c.args.words.now c.loop-word.left.now c.in-Some.rest.now _ c.in-Some.word.now c.in-Some.value.now c.loop-word.invariant c.in-Some.ensures
+    (sym (c.put.ensures []) ∙ ap (λ o. option_map (λ options. options_seen options []) o) c.in_default-put.is)
 
-pub returns-then-is_some-2 : goal.returns-then-is_some-2
-returns-then-is_some-2 c = again_context c.args.words.now _ _ (one_or_none (text_in c.loop-name.syntax)) (one_or_none (text_in c.loop-name.base)) c.loop-name.context _ _ c.loop-name.invariant c.in-Some.ensures (sym c.if-is_word-2.ensures) (sym c.if-is_some-2.ensures)
-
-pub returns-then-not-is_word : goal.returns-then-not-is_word
-returns-then-not-is_word c = unknown c.args.words.now _ _ (one_or_none (text_in c.loop-name.syntax)) (one_or_none (text_in c.loop-name.context)) (one_or_none (text_in c.loop-name.base)) _ _ c.loop-name.invariant c.in-Some.ensures (sym c.if-is_word.ensures) (sym c.if-is_word-2.ensures) (sym c.if-not-is_word.ensures)
-
-pub returns-then-is_some-3 : goal.returns-then-is_some-3
-returns-then-is_some-3 c = again_base c.args.words.now _ _ (one_or_none (text_in c.loop-name.syntax)) (one_or_none (text_in c.loop-name.context)) c.loop-name.base _ _ c.loop-name.invariant c.in-Some.ensures (sym c.if-not-is_word.ensures) (sym c.if-is_some-3.ensures)
-
-pub loop-name-preserved-else-is_some : goal.loop-name-preserved-else-is_some
-loop-name-preserved-else-is_some c = takes_syntax c.args.words.now _ _ (one_or_none (text_in c.loop-name.context)) (one_or_none (text_in c.loop-name.base)) c.loop-name.syntax _ _ c.loop-name.invariant c.in-Some.ensures (sym c.if-is_word.ensures) (sym c.if-is_some.ensures)
-
-pub loop-name-preserved-else-is_some-2 : goal.loop-name-preserved-else-is_some-2
-loop-name-preserved-else-is_some-2 c = takes_context c.args.words.now _ _ (one_or_none (text_in c.loop-name.syntax)) (one_or_none (text_in c.loop-name.base)) c.loop-name.context _ _ c.loop-name.invariant c.in-Some.ensures (sym c.if-is_word-2.ensures) (sym c.if-is_some-2.ensures)
-
-pub loop-name-preserved : goal.loop-name-preserved
-loop-name-preserved c = takes_base c.args.words.now _ _ (one_or_none (text_in c.loop-name.syntax)) (one_or_none (text_in c.loop-name.context)) c.loop-name.base _ _ c.loop-name.invariant c.in-Some.ensures (sym c.if-not-is_word.ensures) (sym c.if-is_some-3.ensures)
+pub loop-word-preserved : goal.loop-word-preserved
+loop-word-preserved c =
+    puts c.args.words.now c.loop-word.left.now c.in-Some.rest.now _ _ c.in-Some.word.now c.in-Some.value.now c.loop-word.invariant c.in-Some.ensures
+    (sym (c.put.ensures []) ∙ ap (λ o. option_map (λ options. options_seen options []) o) c.in-Some-put.is)
 
 pub returns-in_default-split_first : goal.returns-in_default-split_first
-returns-in_default-split_first c = no_word c.args.words.now _ (one_or_none (text_in c.loop-name.syntax)) (one_or_none (text_in c.loop-name.context)) (one_or_none (text_in c.loop-name.base)) c.loop-name.invariant c.in_default-split_first.ensures.cases
+returns-in_default-split_first c = no_word c.args.words.now c.loop-word.left.now _ c.loop-word.invariant c.in_default-split_first.ensures.cases
 
 pub returns : goal.returns
-returns c = one_word c.args.words.now _ _ (text_in c.loop-name.syntax) (text_in c.loop-name.context) (text_in c.loop-name.base) _ c.loop-name.invariant c.in-Some-split_first.ensures.cases.0 c.in_default.ensures
+returns c = one_word c.args.words.now c.loop-word.left.now _ _ _ c.loop-word.invariant c.in-Some-split_first.ensures.cases.0 c.in_default.ensures

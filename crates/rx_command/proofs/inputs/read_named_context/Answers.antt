@@ -1,7 +1,7 @@
 use Rattle.std.proofs.Common.{arith, ◌≡◌, ◌∙◌, ◌≤◌, ◌<◌, ap, sym, length, is_some, true, false}
 use Rattle.rx_ports.proofs.MoveLemmas.{moves_weaker}
 use Rattle.rx_names.specs.ContextFiles.{context_of}
-use Rattle.rx_command.proofs.InputLemmas.{was_tested, was_long, takes_context}
+use Rattle.rx_command.proofs.InputLemmas.{was_tested, was_long, was_context, takes_context}
 use Rattle.rx_command.proofs.inputs.read_named_context.Goals as goal
 
 pub returns-in-Err-Failed-clause-takes : goal.returns-in-Err-Failed-clause-takes
@@ -21,8 +21,7 @@ returns-then-len-gt-LARGEST_CONTEXT-clause-bad g c =
 pub returns-in-Ok-of_json-clause-ok : goal.returns-in-Ok-of_json-clause-ok
 returns-in-Ok-of_json-clause-ok g c =
     let small : length c.in-Ok.bytes.items ≤ 65536 = omega (arith, c.in-Ok.bytes.ok.0, c.len.ensures, c.if-len-gt-LARGEST_CONTEXT.false) in
-    let found : is_some (context_of c.in-Ok.bytes.items) ≡ true = ap (λ b. is_some (context_of b)) (sym c.as_slice.ensures.value) ∙ ap is_some c.in-Ok-of_json.ensures in
-    was_tested _ _ c.args.file.now _ _ true c.as_str.ensures.bytes c.in-Ok.ensures.ok small found
+    was_context _ _ c.args.file.now _ c.in-Ok.bytes.items c.in-Ok-of_json.context c.as_str.ensures.bytes c.in-Ok.ensures.ok small (ap (λ b. context_of b) (sym c.as_slice.ensures.value) ∙ c.in-Ok-of_json.ensures)
 
 pub returns-in-Ok-of_json-clause-takes : goal.returns-in-Ok-of_json-clause-takes
 returns-in-Ok-of_json-clause-takes g c = moves_weaker _ (λ x y t. takes_context _ _ c.as_str.ensures.bytes x y t) c.read_file.ensures.takes

@@ -4,7 +4,7 @@ use Rattle.rx_command.specs.Outcome.{Refuses}
 use Rattle.rx_command.specs.Jobs.{asked_by}
 use Rattle.rx_command.specs.Runs.{TakesToFault}
 use Rattle.rx_command.specs.Words.{job}
-use Rattle.rx_command.specs.declared.statuses.Fault.{Fault}
+use Rattle.rx_grammar.specs.declared.faults.Fault.{Fault}
 use Rattle.rx_command.specs.declared.statuses.Status.TheVariants.{Refused}
 use Rattle.rx_command.proofs.RunLemmas.{yields, yields_graph, refuses, not_both, one_refusal, not_lacking, refused_not_lacking, not_bad, refused_not_bad, read_cause, at_end, to_fault, stops_cleanly}
 use Rattle.rx_command.proofs.top.run.Goals as goal

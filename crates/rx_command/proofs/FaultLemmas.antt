@@ -1,0 +1,149 @@
+-- The first fault of a page, of its form or of what its start tags mean.
+use Rattle.std.proofs.Common.{◌≡◌, ◌∙◌, ⊎_elim, inl, inr, ℕ, zero, suc, ◌+◌, ◌≤◌, ◌<◌, Bool, true, false, List, [], ◌∷◌, ◌++◌, length, refl, sym, ap, subst, arith, Option, Some, None, Result, Ok, Err, append_assoc, append-nil, length-append}
+use Rattle.std.specs.Prelude.{◌⊎◌, option_map, if◌then◌else◌}
+use Rattle.std.specs.Option.{option_or}
+use Rattle.rx_chars.specs.declared.syntax.Syntax.{Syntax}
+use Rattle.rx_grammar.specs.declared.faults.Fault.{Fault}
+use Rattle.rx_grammar.specs.declared.faults.Kind.TheVariants.{Unended}
+use Rattle.rx_grammar.specs.declared.limits.Limits.{Limits}
+use Rattle.rx_grammar.specs.PageFaults.{FaultAt}
+use Rattle.rx_grammar.specs.Pages.{Page}
+use Rattle.rx_grammar.specs.Trees.{Tree, StartTag}
+use Rattle.rx_pages.specs.PageReader.{Progress, spot_of, page_on, page_read, nothing_read, end_of, may_end, fault_in}
+use Rattle.rx_pages.proofs.FaultsRead.{fault_is_read}
+use Rattle.rx_pages.proofs.OneOf.{not_both as not_both_at, one_fault}
+use Rattle.rx_pages.proofs.PageRead.{page_is_told}
+use Rattle.rx_pages.proofs.ScanSteps.{page_append}
+use Rattle.rx_pages.proofs.Trees.{one_tree}
+use Rattle.rx_rdfa.specs.Facts.{facts}
+use Rattle.rx_rdfa.specs.Names.{Context}
+use Rattle.rx_rdfa.specs.Refusals.{Refusal, refusal}
+use Rattle.rx_rdfa.specs.Tree.{Tag}
+use Rattle.rx_nest.specs.Fronts.{Lie, ShowsMore}
+use Rattle.rx_nest.specs.Signs.{Sign, begun, said, finished, sees, nothing_seen, signs_of}
+use Rattle.rx_nest.proofs.Sizes.{read_size, faults_so}
+use Rattle.rx_nest.proofs.TagPlaces.{shows_more}
+use Rattle.rx_nest.proofs.TreeSeen.{whole}
+use Rattle.rx_walk.specs.Faults.{MeaningAt, Refuses, for_form, for_meaning}
+use Rattle.rx_walk.specs.Lines.{read_tag, line_on, line_of}
+use Rattle.rx_walk.specs.Refused.{fault_of, refused_at, refused_in}
+use Rattle.rx_walk.proofs.Signed.{refused_append}
+
+-- of two fronts of a list one is a front of the other
+fronts : (a b c d : List ℕ) → a ++ b ≡ c ++ d → ((m : List ℕ) × (c ≡ a ++ m)) ⊎ ((m : List ℕ) × (a ≡ c ++ m))
+fronts [] b c d e = inl (c, refl)
+fronts (x ∷ a) b [] d e = inr (x ∷ a, refl)
+fronts (x ∷ a) b (y ∷ c) d e =
+    let same : x ≡ y = cc in
+    let rest : a ++ b ≡ c ++ d = cc in
+    ⊎_elim (λ r. inl (r.0, ap (λ w. y ∷ w) r.1 ∙ ap (λ w. w ∷ (a ++ r.0)) (sym same))) (λ r. inr (r.0, ap (λ w. x ∷ w) r.1 ∙ ap (λ w. w ∷ (c ++ r.0)) same)) (fronts a b c d rest)
+
+some_same : (a b : Fault) → ◌≡◌ {A = Option Fault} (Some a) (Some b) → a ≡ b
+some_same a b e = cc
+
+-- a start tag that is refused lies where the signs do
+refused_lies : (context : Context) (from to : ℕ) (line : List Tag) (signs : List Sign) (fault : Fault) → Lie from to signs → refused_in context line signs ≡ Some fault → (from ≤ fault.at) × (fault.at < to)
+refused_lies context from to line [] fault l e = absurd (cc)
+refused_lies context from to line (said c ∷ signs) fault l e = refused_lies context from to (line_on line (said c)) signs fault l e
+refused_lies context from to line (finished ∷ signs) fault l e = refused_lies context from to (line_on line finished) signs fault l e
+refused_lies context from to line (begun t ∷ signs) fault l e = by (λ k. refused_lies context from to (line_on line (begun t)) signs fault l.2 k) (refusal (facts context line (read_tag t))) refl
+  where
+    by : (refused_in context (line_on line (begun t)) signs ≡ Some fault → (from ≤ fault.at) × (fault.at < to)) → (x : Option Refusal) → refusal (facts context line (read_tag t)) ≡ x → (from ≤ fault.at) × (fault.at < to)
+    by on None k = on (ap (λ o. option_or (option_map (fault_of t) o) (refused_in context (line_on line (begun t)) signs)) (sym k) ∙ e)
+    by on (Some r) k =
+        let found : Some (fault_of t r) ≡ Some fault = ap (λ o. option_or (option_map (fault_of t) o) (refused_in context (line_on line (begun t)) signs)) (sym k) ∙ e in
+        let same = some_same (fault_of t r) fault found in
+        let at : fault.at ≡ t.at = ap (λ (f : Fault). f.at) (sym same) in
+        (omega (arith, at, l.0), omega (arith, at, l.1))
+
+module _ (syntax : Syntax) (limits : Limits) (context : Context) where
+  abbrev SignsOf : Progress → List Sign
+  SignsOf p = (sees nothing_seen p.told).signs
+
+  -- what a front shows that is refused is refused behind it
+  refused_on : (bytes more : List ℕ) (p q : Progress) (fault : Fault) → page_read syntax limits bytes ≡ Ok p → page_read syntax limits (bytes ++ more) ≡ Ok q → refused_in context [] (SignsOf p) ≡ Some fault → refused_in context [] (SignsOf q) ≡ Some fault
+  refused_on bytes more p q fault h k r =
+      let s = shows_more syntax limits bytes more p q h k in
+      ap (λ x. refused_in context [] x) s.are ∙ (refused_append context [] (SignsOf p) s.signs ∙ ap (λ o. option_or o (refused_in context (line_of [] (SignsOf p)) s.signs)) r)
+
+  -- bytes that show no refused tag have no fault of meaning
+  pub no_meaning_in : (bytes : List ℕ) (p : Progress) → page_read syntax limits bytes ≡ Ok p → refused_in context [] (SignsOf p) ≡ None → (fault : Fault) → MeaningAt syntax limits context bytes fault → ⊥
+  no_meaning_in bytes p h none fault m =
+      let w : Some fault ≡ None = sym (refused_on m.front m.rest m.now p fault m.read (ap (λ x. page_read syntax limits x) (sym m.are) ∙ h) m.refused) ∙ none in
+      absurd (cc)
+
+  one_meaning : (bytes : List ℕ) (a b : Fault) → MeaningAt syntax limits context bytes a → MeaningAt syntax limits context bytes b → a ≡ b
+  one_meaning bytes a b m n =
+      ⊎_elim
+      (λ r. some_same a b (sym (refused_on m.front r.0 m.now n.now a m.read (ap (λ x. page_read syntax limits x) (sym r.1) ∙ n.read) m.refused) ∙ n.refused))
+      (λ r. some_same a b (sym m.refused ∙ refused_on n.front r.0 n.now m.now b n.read (ap (λ x. page_read syntax limits x) (sym r.1) ∙ m.read) n.refused))
+      (fronts m.front m.rest n.front n.rest (sym m.are ∙ n.are))
+
+  -- there is one first fault
+  pub one_first : (bytes : List ℕ) (a b : Fault) → Refuses syntax limits context bytes a → Refuses syntax limits context bytes b → a ≡ b
+  one_first bytes a b (for_form f n) (for_form g m) = one_fault syntax limits bytes a b f g
+  one_first bytes a b (for_form f n) (for_meaning g m) = absurd (n b g)
+  one_first bytes a b (for_meaning f n) (for_form g m) = absurd (m a f)
+  one_first bytes a b (for_meaning f n) (for_meaning g m) = one_meaning bytes a b f g
+
+  -- an accepted page has none
+  pub page_has_none : (bytes : List ℕ) (tree : Tree) → Page syntax limits bytes tree → refused_in context [] (signs_of tree) ≡ None → (fault : Fault) → Refuses syntax limits context bytes fault → ⊥
+  page_has_none bytes tree page none fault (for_form f n) = not_both_at syntax limits bytes tree fault page f
+  page_has_none bytes tree page none fault (for_meaning m n) =
+      let t = page_is_told syntax limits bytes tree page in
+      let w = whole syntax limits bytes t.final t.is_read in
+      let same : w.tree ≡ tree = one_tree syntax limits bytes w.tree tree w.page page in
+      by (page_read syntax limits bytes) refl t.final t.is_read (ap (λ x. x.signs) w.shows ∙ ap signs_of same)
+    where
+      on : (p final : Progress) (b : Bool) → ◌≡◌ {A = Result Progress Fault} (if b then Ok p else Err (fault_in p.now.scan Unended)) (Ok final) → p ≡ final
+      on p final true e = cc
+      on p final false e = absurd (cc)
+
+      by : (x : Result Progress Fault) → page_read syntax limits bytes ≡ x → (final : Progress) → end_of x ≡ Ok final → (sees nothing_seen final.told).signs ≡ signs_of tree → ⊥
+      by (Ok p) h final e s =
+          let same = on p final (may_end p.now) e in
+          no_meaning_in bytes p h (ap (λ (q : Progress). refused_in context [] (SignsOf q)) same ∙ (ap (λ x. refused_in context [] x) s ∙ none)) fault m
+      by (Err f) h final e s = absurd (cc)
+
+  -- bytes that were read without a fault hold none but that they end
+  end_kind : (p : Progress) (b : Bool) (fault : Fault) → ◌≡◌ {A = Result Progress Fault} (if b then Ok p else Err (fault_in p.now.scan Unended)) (Err fault) → fault.kind ≡ Unended
+  end_kind p true fault e = absurd (cc)
+  end_kind p false fault e = let same : fault_in p.now.scan Unended ≡ fault = cc in sym (ap (λ (f : Fault). f.kind) same)
+
+  pub only_unended : (bytes : List ℕ) (p : Progress) → page_read syntax limits bytes ≡ Ok p → refused_in context [] (SignsOf p) ≡ None → (fault : Fault) → Refuses syntax limits context bytes fault → fault.kind ≡ Unended
+  only_unended bytes p h none fault (for_form f n) = end_kind p (may_end p.now) fault (sym (ap end_of h) ∙ fault_is_read syntax limits bytes fault f)
+  only_unended bytes p h none fault (for_meaning m n) = absurd (no_meaning_in bytes p h none fault m)
+
+  -- a fault of more bytes stands in them
+  at_least : (bytes more : List ℕ) (p : Progress) → page_read syntax limits bytes ≡ Ok p → (fault : Fault) → FaultAt syntax limits (bytes ++ more) fault → length bytes ≤ fault.at
+  at_least bytes more p h fault f = by (page_read syntax limits (bytes ++ more)) refl (fault_is_read syntax limits (bytes ++ more) fault f)
+    where
+      err_same : (a b : Fault) → ◌≡◌ {A = Result Progress Fault} (Err a) (Err b) → a ≡ b
+      err_same a b e = cc
+
+      on : (q : Progress) (b : Bool) → q.now.scan.at ≡ length (bytes ++ more) → ◌≡◌ {A = Result Progress Fault} (if b then Ok q else Err (fault_in q.now.scan Unended)) (Err fault) → length bytes ≤ fault.at
+      on q true s e = absurd (cc)
+      on q false s e =
+          let same = err_same (fault_in q.now.scan Unended) fault e in
+          let at : fault.at ≡ q.now.scan.at = ap (λ (x : Fault). x.at) (sym same) in
+          omega (arith, at, s, length-append bytes more)
+
+      by : (x : Result Progress Fault) → page_read syntax limits (bytes ++ more) ≡ x → end_of x ≡ Err fault → length bytes ≤ fault.at
+      by (Ok q) k e = on q (may_end q.now) (read_size syntax limits (bytes ++ more) q k).0 e
+      by (Err g) k e = (faults_so syntax limits bytes more p fault h (k ∙ e)).from
+
+  pub refused_from : (bytes more : List ℕ) (p : Progress) → page_read syntax limits bytes ≡ Ok p → refused_in context [] (SignsOf p) ≡ None → (fault : Fault) → Refuses syntax limits context (bytes ++ more) fault → length bytes ≤ fault.at
+  refused_from bytes more p h none fault (for_form f n) = at_least bytes more p h fault f
+  refused_from bytes more p h none fault (for_meaning m n) =
+      ⊎_elim (λ r. absurd (none_before r.0 r.1)) (λ r. behind r.0 r.1) (fronts m.front m.rest bytes more (sym m.are))
+    where
+      none_before : (mid : List ℕ) → bytes ≡ m.front ++ mid → ⊥
+      none_before mid e = no_meaning_in bytes p h none fault (record { front = m.front; rest = mid; are = e; now = m.now; read = m.read; refused = m.refused })
+
+      behind : (mid : List ℕ) → m.front ≡ bytes ++ mid → length bytes ≤ fault.at
+      behind mid e =
+          let s = shows_more syntax limits bytes mid p m.now h (ap (λ x. page_read syntax limits x) (sym e) ∙ m.read) in
+          let r : option_or (refused_in context [] (SignsOf p)) (refused_in context (line_of [] (SignsOf p)) s.signs) ≡ Some fault =
+          sym (refused_append context [] (SignsOf p) s.signs) ∙ (ap (λ x. refused_in context [] x) (sym s.are) ∙ m.refused) in
+          let later : refused_in context (line_of [] (SignsOf p)) s.signs ≡ Some fault = ap (λ o. option_or o (refused_in context (line_of [] (SignsOf p)) s.signs)) (sym none) ∙ r in
+          (refused_lies context (length bytes) (length (bytes ++ mid)) (line_of [] (SignsOf p)) s.signs fault s.lie later).0

@@ -1,0 +1,18 @@
+use Rattle.std.proofs.Common.{◌≡◌, ◌∙◌, sym, ap, refl, Err, true, false, codes}
+use Rattle.std.specs.Str.{chars}
+use Rattle.rx_terms.specs.Iri.{has_scheme, has_forbidden}
+use Rattle.rx_terms.proofs.CharLemmas.{ascii-chars}
+use Rattle.rx_command.specs.Outcome.{check_address}
+use Rattle.rx_command.proofs.inputs.localhost.Goals as goal
+
+same : chars (codes "http://localhost/") ≡ check_address
+same = ascii-chars (codes "http://localhost/") refl
+
+pub unreachable-requires : goal.unreachable-requires
+unreachable-requires c = let none : true ≡ false = sym (ap has_scheme same) ∙ (c.in-Err-NoScheme.ensures.no_scheme).0 (ap Err c.in-Err-NoScheme.field-0-is) in absurd (cc)
+
+pub unreachable-requires-in-Err-Forbidden : goal.unreachable-requires-in-Err-Forbidden
+unreachable-requires-in-Err-Forbidden c = let none : false ≡ true = sym (ap has_forbidden same) ∙ ((c.in-Err-Forbidden.ensures.forbidden).0 (ap Err c.in-Err-Forbidden.field-0-is)).1 in absurd (cc)
+
+pub returns-in-Ok : goal.returns-in-Ok
+returns-in-Ok c = (c.in-Ok.ensures.ok).0 ∙ same

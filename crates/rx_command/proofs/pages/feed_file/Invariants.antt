@@ -1,0 +1,15 @@
+use Rattle.std.proofs.Common.{◌≤◌, ◌≡◌, ◌+◌, ◌-◌, [], vec_len}
+use Rattle.rx_command.specs.Reading.{Way, Reached}
+use Rattle.rx_command.proofs.ReadLemmas.{SoFar}
+use Rattle.rx_command.proofs.pages.feed_file.Given as goal
+
+abbrev pub invariant-loop-taken : goal.invariant-loop-taken
+invariant-loop-taken g l = record {
+  piece : vec_len l.piece ≡ 65536;
+  most : l.taken ≤ 1073741824 + 65536;
+  so_far : (way : Way) → Reached way l.fn.walk [] → SoFar way l.name l.walk l.taken (g.F.Shelf.told l.fn.shelf) (g.F.Shelf.told l.shelf);
+  later : g.F.Shelf.faults l.fn.shelf ≤ g.F.Shelf.faults l.shelf;
+}
+
+abbrev pub decreases-loop-taken : goal.decreases-loop-taken
+decreases-loop-taken g l = 1073741824 + 1 - l.taken

@@ -1,0 +1,126 @@
+-- Reading a page as its bytes come.
+use Rattle.std.specs.Prelude.{◌≡◌, ℕ, ◌+◌, ◌≤◌, List, [], ◌++◌, length, Option, Some, Result, Ok, Err}
+use Rattle.rx_terms.specs.Text.{Chars}
+use Rattle.rx_terms.specs.declared.triples.Triple.{Triple as CodeTriple}
+use Rattle.rx_chars.specs.declared.syntax.Syntax.{Syntax}
+use Rattle.rx_grammar.specs.declared.faults.Fault.{Fault}
+use Rattle.rx_grammar.specs.declared.faults.Kind.TheVariants.{Unended}
+use Rattle.rx_grammar.specs.declared.limits.Limits.{Limits}
+use Rattle.rx_rdfa.specs.Names.{Context}
+use Rattle.rx_walk.specs.Faults.{Refuses}
+use Rattle.rx_walk.specs.Walks.{Walked, Stands, Ended}
+use Rattle.rx_ports.specs.Files.{file_of}
+use Rattle.rx_ports.specs.Told.{Told, Moves}
+use Rattle.rx_command.specs.declared.errors.InputError.{InputError}
+use Rattle.rx_command.specs.declared.errors.InputError.TheVariants as error
+
+-- 512 levels, tags of 1 MiB, pages of 1 GiB
+abbrev pub standard : Limits
+standard = record { depth = 512; tag = 1048576; page = 1073741824 }
+
+-- the most bytes that a read asks for
+abbrev pub largest_piece : ℕ
+largest_piece = 65536
+
+-- how a page is read: its syntax, the names that hold in it, and its address
+pub record Way : Type 0 where
+  pub syntax : Syntax
+  pub context : Context
+  pub address : Chars
+
+-- the walk stands where these bytes of a page lead
+abbrev pub Reached : Way → Walked → List ℕ → Type 0
+Reached way v bytes = Stands way.syntax standard way.context way.address v bytes
+
+-- the bytes have this fault, the first of their form and of what their tags mean
+abbrev pub HasFirst : Way → List ℕ → Fault → Type 0
+HasFirst way bytes fault = Refuses way.syntax standard way.context bytes fault
+
+-- A byte of the piece decides the fault, whatever follows.
+pub record Decides (way : Way) (bytes piece : List ℕ) (fault : Fault) : Type 0 where
+  pub stays : (rest : List ℕ) → HasFirst way ((bytes ++ piece) ++ rest) fault
+  pub from : length bytes ≤ fault.at
+
+-- these bytes of the file were read next; none only at its end
+pub record Adds (more : List ℕ) (old new : Told) : Type 0 where
+  pub files : new.files ≡ old.files
+  pub left : old.left ≡ more ++ new.left
+  pub taken : new.taken ≡ old.taken + length more
+  pub at_end : more ≡ [] → old.left ≡ []
+
+-- nothing was read
+pub record AddsNone (old new : Told) : Type 0 where
+  pub files : new.files ≡ old.files
+  pub taken : new.taken ≡ old.taken
+
+-- a read gave some bytes, which were taken
+abbrev pub NextGives : Way → List ℕ → Result ℕ InputError → Walked → Option Told → Option Told → Type 0
+NextGives way bytes (Ok n) new before now = (more : List ℕ) × (length more ≡ n) × Reached way new (bytes ++ more) × Moves (Adds more) before now
+NextGives way bytes (Err (error.Refused fault)) new before now = (more : List ℕ) × (length more ≤ largest_piece) × Decides way bytes more fault × Moves (Adds more) before now
+NextGives way bytes (Err error.Failed) new before now = Moves AddsNone before now
+NextGives way bytes (Err error.BadContext) new before now = ⊥
+NextGives way bytes (Err error.NoMemory) new before now = Unit {0}
+
+-- the page ends
+abbrev pub EndGives : Way → List ℕ → Result (List CodeTriple) InputError → Type 0
+EndGives way bytes (Ok list) = Ended way.syntax standard way.context way.address bytes list
+EndGives way bytes (Err (error.Refused fault)) = HasFirst way bytes fault × (fault.at ≡ length bytes)
+EndGives way bytes (Err error.Failed) = ⊥
+EndGives way bytes (Err error.BadContext) = ⊥
+EndGives way bytes (Err error.NoMemory) = Unit {0}
+
+-- The file was read to its end, and is a page with this list of triples.
+pub record ReadsPage (way : Way) (name : List ℕ) (list : List CodeTriple) (old new : Told) : Type 0 where
+  pub bytes : List ℕ
+  pub file : file_of old.files name ≡ Some bytes
+  pub left : new.left ≡ []
+  pub ended : Ended way.syntax standard way.context way.address bytes list
+
+-- The file has this fault, and was read no further than a piece past it.
+pub record Finds (way : Way) (name : List ℕ) (fault : Fault) (old new : Told) : Type 0 where
+  pub bytes : List ℕ
+  pub file : file_of old.files name ≡ Some bytes
+  pub is : HasFirst way bytes fault
+  pub read : new.taken ≤ old.taken + (fault.at + largest_piece)
+
+-- The bytes that were read of the file hold no fault but that they end.
+pub record IsClean (way : Way) (file : List ℕ) (before now : ℕ) : Type 0 where
+  pub bytes : List ℕ
+  pub rest : List ℕ
+  pub are : file ≡ bytes ++ rest
+  pub taken : now ≤ before + length bytes
+  pub clean : (fault : Fault) → HasFirst way bytes fault → fault.kind ≡ Unended
+
+abbrev pub ReadsClean : Way → List ℕ → Told → Told → Type 0
+ReadsClean way name old new = (file : List ℕ) → file_of old.files name ≡ Some file → IsClean way file old.taken new.taken
+
+-- these bytes are the file's, which was read to its end
+pub record IsFile (name bytes : List ℕ) (old new : Told) : Type 0 where
+  pub file : file_of old.files name ≡ Some bytes
+  pub left : new.left ≡ []
+  pub taken : new.taken ≡ old.taken + length bytes
+
+-- the walk is before the first byte of a page
+pub record Starts (v : Walked) : Type 0 where
+  pub way : Way
+  pub reached : Reached way v []
+
+-- the walk stands where the whole file leads
+pub record Fed (way : Way) (name : List ℕ) (v : Walked) (before now : Option Told) : Type 0 where
+  pub bytes : List ℕ
+  pub reached : Reached way v bytes
+  pub read : Moves (IsFile name bytes) before now
+
+abbrev pub FileGives : Way → List ℕ → Result (Unit {0}) InputError → Walked → Option Told → Option Told → Type 0
+FileGives way name (Ok done) v before now = Fed way name v before now
+FileGives way name (Err (error.Refused fault)) v before now = Moves (Finds way name fault) before now
+FileGives way name (Err error.Failed) v before now = Moves (ReadsClean way name) before now
+FileGives way name (Err error.BadContext) v before now = ⊥
+FileGives way name (Err error.NoMemory) v before now = Unit {0}
+
+abbrev pub PageGives : Way → List ℕ → Result (List CodeTriple) InputError → Option Told → Option Told → Type 0
+PageGives way name (Ok list) before now = Moves (ReadsPage way name list) before now
+PageGives way name (Err (error.Refused fault)) before now = Moves (Finds way name fault) before now
+PageGives way name (Err error.Failed) before now = Moves (ReadsClean way name) before now
+PageGives way name (Err error.BadContext) before now = ⊥
+PageGives way name (Err error.NoMemory) before now = Unit {0}

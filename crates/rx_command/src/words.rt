@@ -1,0 +1,46 @@
+//! Words of the command line.
+ghost use Rattle.std.specs.Prelude.{◌≡◌, IsTrue, nat_eq};
+ghost use Rattle.std.specs.Cmp.Lexicographic.{pointwise};
+ghost use Rattle.std.specs.List.{list_all};
+ghost use Rattle.std.specs.Str.{chars};
+ghost use Rattle.rx_terms.specs.Ascii.{is_ascii};
+ghost use Rattle.rx_command.specs.Words.{are_names, is_file_name, is_page_name};
+ghost use Rattle.rx_command.specs.Jobs.{text_in};
+
+use rx_terms::Text;
+
+/// Whether the text is this word of ASCII.
+pub(crate) fn is_word(text: &Text, word: &str) -> bool
+    requires { IsTrue (list_all is_ascii word.now) }
+    ensures { result ≡ pointwise nat_eq text.now word.now }
+{
+    text.as_str() == word
+}
+
+fn is_page_name(page: &str) -> bool
+    ensures { result ≡ is_page_name (chars page.now) }
+{
+    match page.chars().next() {
+        None => false,
+        Some(first) => first != '-',
+    }
+}
+
+/// Whether the page has a name, and the context file too, where there is one.
+pub(crate) fn are_names(file: Option<&Text>, page: &Text) -> bool
+    ensures { result ≡ are_names (text_in file.entry) page.now }
+{
+    match file {
+        None => is_page_name(page.as_str()),
+        Some(file) => is_file_name(file.as_str()) && is_page_name(page.as_str()),
+    }
+}
+
+fn is_file_name(name: &str) -> bool
+    ensures { result ≡ is_file_name (chars name.now) }
+{
+    match name.chars().next() {
+        None => false,
+        Some(_first) => true,
+    }
+}
