@@ -1,5 +1,5 @@
 -- The first fault of a page, of its form or of what its start tags mean.
-use Rattle.std.proofs.Common.{◌≡◌, ◌∙◌, ⊎_elim, inl, inr, ℕ, zero, suc, ◌+◌, ◌≤◌, ◌<◌, Bool, true, false, List, [], ◌∷◌, ◌++◌, length, refl, sym, ap, subst, arith, Option, Some, None, Result, Ok, Err, append_assoc, append-nil, length-append}
+use Rattle.std.proofs.Common.{◌≡◌, ◌∙◌, ⊎_elim, inl, inr, ℕ, ◌≤◌, ◌<◌, Bool, true, false, List, [], ◌∷◌, ◌++◌, length, refl, sym, ap, arith, Option, Some, None, Result, Ok, Err, length-append}
 use Rattle.std.specs.Prelude.{◌⊎◌, option_map, if◌then◌else◌}
 use Rattle.std.specs.Option.{option_or}
 use Rattle.rx_chars.specs.declared.syntax.Syntax.{Syntax}
@@ -8,25 +8,24 @@ use Rattle.rx_grammar.specs.declared.faults.Kind.TheVariants.{Unended}
 use Rattle.rx_grammar.specs.declared.limits.Limits.{Limits}
 use Rattle.rx_grammar.specs.PageFaults.{FaultAt}
 use Rattle.rx_grammar.specs.Pages.{Page}
-use Rattle.rx_grammar.specs.Trees.{Tree, StartTag}
-use Rattle.rx_pages.specs.PageReader.{Progress, spot_of, page_on, page_read, nothing_read, end_of, may_end, fault_in}
+use Rattle.rx_grammar.specs.Trees.{Tree}
+use Rattle.rx_pages.specs.PageReader.{Progress, page_read, end_of, may_end, fault_in}
 use Rattle.rx_pages.proofs.FaultsRead.{fault_is_read}
 use Rattle.rx_pages.proofs.OneOf.{not_both as not_both_at, one_fault}
 use Rattle.rx_pages.proofs.PageRead.{page_is_told}
-use Rattle.rx_pages.proofs.ScanSteps.{page_append}
 use Rattle.rx_pages.proofs.Trees.{one_tree}
 use Rattle.rx_rdfa.specs.Facts.{facts}
 use Rattle.rx_rdfa.specs.Names.{Context}
 use Rattle.rx_rdfa.specs.Refusals.{Refusal, refusal}
 use Rattle.rx_rdfa.specs.Tree.{Tag}
-use Rattle.rx_nest.specs.Fronts.{Lie, ShowsMore}
+use Rattle.rx_nest.specs.Fronts.{Lie}
 use Rattle.rx_nest.specs.Signs.{Sign, begun, said, finished, sees, nothing_seen, signs_of}
 use Rattle.rx_nest.proofs.Sizes.{read_size, faults_so}
 use Rattle.rx_nest.proofs.TagPlaces.{shows_more}
 use Rattle.rx_nest.proofs.TreeSeen.{whole}
 use Rattle.rx_walk.specs.Faults.{MeaningAt, Refuses, for_form, for_meaning}
 use Rattle.rx_walk.specs.Lines.{read_tag, line_on, line_of}
-use Rattle.rx_walk.specs.Refused.{fault_of, refused_at, refused_in}
+use Rattle.rx_walk.specs.Refused.{fault_of, refused_in}
 use Rattle.rx_walk.proofs.Signed.{refused_append}
 
 -- of two fronts of a list one is a front of the other

@@ -29,8 +29,8 @@ use Rattle.rx_command.specs.Reading.{standard, Way, ReadsPage, Finds, ReadsClean
 use Rattle.rx_command.proofs.ReadLemmas.{unread_clean}
 use Rattle.rx_command.specs.Files.{ReadsFile, TakesOf, size_of}
 use Rattle.rx_command.specs.Contexts.{IsContextFile, IsFileOf, IsContext, HasContext, TakesContext, ReadsContext, context_size, is_context}
-use Rattle.rx_command.specs.Inputs.{PageText, PageRefused, StopsClean, JobText, JobRefused, TellsThat, WhereTold}
-use Rattle.rx_command.specs.Outcome.{IsAccepted, IsLacking, HasText, Denotes, IsRight, base_in, facts_in, way_in, ok_line}
+use Rattle.rx_command.specs.Inputs.{PageText, PageRefused, JobText, JobRefused, TellsThat, WhereTold}
+use Rattle.rx_command.specs.Outcome.{IsAccepted, IsLacking, IsRight, base_in, facts_in, way_in, ok_line}
 use Rattle.rx_command.specs.Runs.{TakesFiles, StopsCleanly, page_limit}
 use Rattle.rx_command.specs.Ways.{way_of, extraction_of}
 use Rattle.rx_command.specs.declared.pages.Approach.{Approach}

@@ -5,3 +5,5 @@ pub mod RunLemmas
 pub mod FaultLemmas
 pub mod ReadLemmas
 pub mod MadeLemmas
+pub mod SampleLemmas
+pub mod NumberLemmas

@@ -1,9 +1,9 @@
 -- The list that a walk gives is written as the rules have it.
-use Rattle.std.proofs.Common.{◌≡◌, ◌∙◌, ℕ, nat_eq, List, map, ap}
+use Rattle.std.proofs.Common.{◌≡◌, ◌∙◌, ℕ, nat_eq, List, ap}
 use Rattle.rx_terms.specs.Text.{Chars}
 use Rattle.rx_terms.specs.declared.triples.Triple.{Triple as CodeTriple}
 use Rattle.rx_model.specs.Copied.{copied}
-use Rattle.rx_model.specs.Numbered.{rename, numbered}
+use Rattle.rx_model.specs.Numbered.{numbered}
 use Rattle.rx_model.specs.Seen.{triples_seen}
 use Rattle.rx_model.specs.Terms.{Triple}
 use Rattle.rx_model.proofs.Names.{names_do_not_matter}

@@ -1,16 +1,14 @@
 -- A page that is read as its bytes come.
-use Rattle.std.proofs.Common.{◌≡◌, ◌∙◌, ℕ, zero, suc, Bool, true, false, ◌+◌, ◌≤◌, ◌<◌, List, [], ◌∷◌, ◌++◌, length, take, sym, ap, subst, refl, arith, Option, Some, None, Result, Ok, Err, append_assoc, append-nil, length-append, length-take}
+use Rattle.std.proofs.Common.{◌≡◌, ◌∙◌, ℕ, ◌+◌, ◌≤◌, ◌<◌, List, [], ◌∷◌, ◌++◌, length, take, sym, ap, subst, refl, arith, Option, Some, None, Result, Ok, Err, append_assoc, append-nil, length-append, length-take}
 use Rattle.rx_terms.specs.declared.triples.Triple.{Triple as CodeTriple}
 use Rattle.rx_grammar.specs.declared.faults.Fault.{Fault}
 use Rattle.rx_grammar.specs.declared.faults.Kind.TheVariants.{Unended}
 use Rattle.rx_grammar.specs.declared.limits.Limits.{Limits}
 use Rattle.rx_grammar.specs.PageFaults.{FaultAt}
 use Rattle.rx_pages.specs.PageReader.{Progress, page_read, no_page}
-use Rattle.rx_tags.specs.declared.stops.Stop.{Stop}
-use Rattle.rx_tags.specs.declared.stops.Stop.TheVariants as stop
-use Rattle.rx_nest.specs.Signs.{Sign, sees, nothing_seen}
+use Rattle.rx_nest.specs.Signs.{sees, nothing_seen}
 use Rattle.rx_nest.proofs.Sizes.{read_size}
-use Rattle.rx_walk.specs.Faults.{MeaningAt, Refuses, for_form, Stops}
+use Rattle.rx_walk.specs.Faults.{for_form, Stops}
 use Rattle.rx_walk.specs.Refused.{refused_in}
 use Rattle.rx_walk.specs.Walks as walks
 use Rattle.rx_walk.specs.Walks.{Walked}
@@ -20,7 +18,7 @@ use Rattle.rx_ports.proofs.MoveLemmas.{moves_then, moves_weaker}
 use Rattle.rx_command.specs.declared.errors.InputError.{InputError}
 use Rattle.rx_command.specs.declared.errors.InputError.TheVariants as error
 use Rattle.rx_command.specs.Files.{HasRead}
-use Rattle.rx_command.specs.Reading.{standard, Way, Reached, HasFirst, Decides, Adds, AddsNone, NextGives, EndGives, ReadsPage, Finds, IsClean, ReadsClean, IsFile, Fed, FileGives, PageGives}
+use Rattle.rx_command.specs.Reading.{standard, Way, Reached, HasFirst, Decides, Adds, AddsNone, NextGives, EndGives, ReadsPage, Finds, ReadsClean, IsFile, Fed, FileGives, PageGives}
 use Rattle.rx_command.proofs.FaultLemmas.{no_meaning_in, only_unended, refused_from}
 
 pub limits_are : (l : Limits) → l.depth ≡ 512 → l.tag ≡ 1048576 → l.page ≡ 1073741824 → l ≡ standard

@@ -1,34 +1,41 @@
 -- From what was read of the files to what comes of the page.
-use Rattle.std.proofs.Common.{◌≡◌, ◌∙◌, ℕ, ◌≤◌, ◌⊎◌, inl, inr, List, [], ◌++◌, length, sym, ap, subst, refl, arith, Option, Some, None, true, false, encode_utf8_all, length-append, append-nil}
+use Rattle.std.proofs.Common.{◌≡◌, ◌≢◌, ◌∙◌, ℕ, ◌≤◌, ◌⊎◌, inl, inr, List, [], ◌++◌, length, sym, ap, subst, refl, arith, Option, Some, None, true, false, encode_utf8_all, length-append, append-nil}
 use Rattle.rx_ports.specs.Counts.{Rose}
-use Rattle.rx_ports.specs.Told.{Told, Moves}
+use Rattle.rx_ports.specs.Told.{Told, Moves, Stays}
 use Rattle.rx_ports.specs.Files.{file_of}
 use Rattle.rx_ports.proofs.MoveLemmas.{moves_at, moves_weaker}
 use Rattle.rx_grammar.specs.declared.faults.Fault.{Fault}
 use Rattle.rx_rdfa.specs.Names.{Context}
-use Rattle.rx_command.specs.Words.{Asked, Task, extracts, checks, job}
+use Rattle.rx_chars.specs.declared.syntax.Syntax.TheVariants.{Html}
+use Rattle.rx_rdfa.specs.Standard as names
+use Rattle.rx_command.specs.declared.jobs.Job.{Job as CodeJob}
+use Rattle.rx_command.specs.Jobs.{asked_by, page_by, ReadsPage}
+use Rattle.rx_command.specs.Words.{Asked, Job, Task, extracts, checks, reads, samples, job, page_in, page_asked}
 use Rattle.rx_command.specs.Reading.{standard}
 use Rattle.rx_command.proofs.FaultLemmas.{one_first, page_has_none}
 use Rattle.rx_command.specs.Contexts.{IsContext, HasContext, HasOther, LacksContext, is_context}
 use Rattle.rx_command.proofs.InputLemmas.{has_context, one_context}
-use Rattle.rx_command.specs.Outcome.{TaskGives, TaskDenotes, TaskRefuses, IsAccepted, way_in, NamesPage, Yields, YieldsGraph, Refuses, Meets, IsLacking, LacksFile, HasBadContext}
+use Rattle.rx_command.specs.Outcome.{TaskGives, TaskDenotes, TaskRefuses, IsAccepted, way_in, NamesPage, HasPageText, HasPageGraph, HasPageFault, Meets, IsLacking, LacksFile, HasBadContext}
+use Rattle.rx_command.specs.Samples.{IsSample, SampleRefuses, sample_page, SaysOfSample, HasSampleFault, Yields, YieldsGraph, Refuses}
 use Rattle.rx_command.specs.Inputs.{JobText, JobRefused, TellsThat}
-use Rattle.rx_command.specs.Runs.{ReadCause, TakesFiles, TakesToFault, StopsCleanly, IsAtEnd}
+use Rattle.rx_command.specs.declared.statuses.Status.{Status}
+use Rattle.rx_command.specs.declared.statuses.Status.TheVariants as status
+use Rattle.rx_command.specs.Runs.{SampleEnds, ReadCause, TakesFiles, TakesToFault, StopsCleanly, IsAtEnd}
 
-pub yields : (words : List (List ℕ)) (told now : Option Told) (asked : Asked) (text : List ℕ) (t : Told) → job words ≡ Some asked → Moves (JobText asked text) told now → told ≡ Some t → Yields words told text
+pub yields : (words : List (List ℕ)) (told now : Option Told) (asked : Asked) (text : List ℕ) (t : Told) → page_asked words ≡ Some asked → Moves (JobText asked text) told now → told ≡ Some t → Yields words told text
 yields words told now asked text t a m e =
     let r = moves_at t m e in
-    record { bytes = (r.1).page.bytes; page = record { asked = asked; shelf = t; context = (r.1).context; asks = a; tells = e; holds = (r.1).holds; file = (r.1).page.file }; has_text = (r.1).page.gives }
+    inl (record { bytes = (r.1).page.bytes; page = record { asked = asked; shelf = t; context = (r.1).context; asks = a; tells = e; holds = (r.1).holds; file = (r.1).page.file }; has_text = (r.1).page.gives })
 
-pub yields_graph : (words : List (List ℕ)) (told now : Option Told) (asked : Asked) (text : List ℕ) (t : Told) → job words ≡ Some asked → Moves (JobText asked text) told now → told ≡ Some t → YieldsGraph words told text
+pub yields_graph : (words : List (List ℕ)) (told now : Option Told) (asked : Asked) (text : List ℕ) (t : Told) → page_asked words ≡ Some asked → Moves (JobText asked text) told now → told ≡ Some t → YieldsGraph words told text
 yields_graph words told now asked text t a m e =
     let r = moves_at t m e in
-    record { bytes = (r.1).page.bytes; page = record { asked = asked; shelf = t; context = (r.1).context; asks = a; tells = e; holds = (r.1).holds; file = (r.1).page.file }; graph = (r.1).page.graph }
+    inl (record { bytes = (r.1).page.bytes; page = record { asked = asked; shelf = t; context = (r.1).context; asks = a; tells = e; holds = (r.1).holds; file = (r.1).page.file }; graph = (r.1).page.graph })
 
-pub refuses : (words : List (List ℕ)) (told now : Option Told) (asked : Asked) (fault : Fault) (t : Told) → job words ≡ Some asked → Moves (JobRefused asked fault) told now → told ≡ Some t → Refuses words told fault
+pub refuses : (words : List (List ℕ)) (told now : Option Told) (asked : Asked) (fault : Fault) (t : Told) → page_asked words ≡ Some asked → Moves (JobRefused asked fault) told now → told ≡ Some t → Refuses words told fault
 refuses words told now asked fault t a m e =
     let r = moves_at t m e in
-    record { bytes = (r.1).bytes; page = record { asked = asked; shelf = t; context = (r.1).context; asks = a; tells = e; holds = (r.1).holds; file = (r.1).file }; refused = (r.1).refused }
+    inl (record { bytes = (r.1).bytes; page = record { asked = asked; shelf = t; context = (r.1).context; asks = a; tells = e; holds = (r.1).holds; file = (r.1).file }; refused = (r.1).refused })
 
 -- both name one page
 one_page : (words : List (List ℕ)) (told : Option Told) (bytes others : List ℕ) → NamesPage words told bytes → NamesPage words told others → bytes ≡ others
@@ -42,7 +49,7 @@ one_page words told bytes others p q =
     ∙ ap (λ k. file_of q.shelf.files (encode_utf8_all k.page)) asked ∙ q.file in
     (cc)
 
-one_asked : (words : List (List ℕ)) (a b : Asked) → job words ≡ Some a → job words ≡ Some b → a ≡ b
+one_asked : (words : List (List ℕ)) (a b : Asked) → page_asked words ≡ Some a → page_asked words ≡ Some b → a ≡ b
 one_asked words a b e f = let both : Some a ≡ Some b = sym e ∙ f in (cc)
 
 one_shelf : (told : Option Told) (x y : Told) → told ≡ Some x → told ≡ Some y → x ≡ y
@@ -64,15 +71,79 @@ same_page words told bytes others a p q r =
     let context = same_context words told bytes others p q in
     subst (λ k. TaskRefuses k.task q.context others a) asked (subst (λ k. TaskRefuses p.asked.task k others a) context (subst (λ x. TaskRefuses p.asked.task p.context x a) same r))
 
--- a page has no text and a refusal
-pub not_both : (words : List (List ℕ)) (told : Option Told) (text : List ℕ) (fault : Fault) → Yields words told text → Refuses words told fault → ⊥
-not_both words told text fault y r = no_both y.page.asked.task y.page.context y.bytes text fault y.has_text (same_page words told r.bytes y.bytes fault r.page y.page r.refused)
+-- words that ask for a page don't ask for a sample
+pub not_sample : (words : List (List ℕ)) (asked : Asked) (count : ℕ) → page_asked words ≡ Some asked → job words ≡ Some (samples count) → ⊥
+not_sample words asked count p s = let both : None ≡ Some asked = sym (ap page_in s) ∙ p in absurd (cc)
 
--- a page has one refusal
+one_count : (words : List (List ℕ)) (m n : ℕ) → job words ≡ Some (samples m) → job words ≡ Some (samples n) → m ≡ n
+one_count words m n e f = let both : ◌≡◌ {A = Option Job} (Some (samples m)) (Some (samples n)) = sym e ∙ f in (cc)
+
+no_sample_both : (count : ℕ) (text : List ℕ) (fault : Fault) → IsSample count text → SampleRefuses count fault → ⊥
+no_sample_both count text fault h n = page_has_none Html standard names.standard (sample_page count) h.tree h.is.page h.is.accepted fault n
+
+-- no outcome is a text and a refusal
+pub not_both : (words : List (List ℕ)) (told : Option Told) (text : List ℕ) (fault : Fault) → Yields words told text → Refuses words told fault → ⊥
+not_both words told text fault (inl y) (inl r) = no_both y.page.asked.task y.page.context y.bytes text fault y.has_text (same_page words told r.bytes y.bytes fault r.page y.page r.refused)
+not_both words told text fault (inl y) (inr r) = not_sample words y.page.asked r.count y.page.asks r.asks
+not_both words told text fault (inr y) (inl r) = not_sample words r.page.asked y.count r.page.asks y.asks
+not_both words told text fault (inr y) (inr r) = no_sample_both y.count text fault y.is (subst (λ n. SampleRefuses n fault) (one_count words r.count y.count r.asks y.asks) r.refused)
+
+-- there is one refusal
 pub one_refusal : (words : List (List ℕ)) (told : Option Told) (a b : Fault) → Refuses words told a → Refuses words told b → a ≡ b
-one_refusal words told a b p q =
+one_refusal words told a b (inl p) (inl q) =
     let way = way_in q.page.asked.task q.page.context in
     one_first way.syntax standard way.context q.bytes a b (same_page words told p.bytes q.bytes a p.page q.page p.refused) q.refused
+one_refusal words told a b (inl p) (inr q) = absurd (not_sample words p.page.asked q.count p.page.asks q.asks)
+one_refusal words told a b (inr p) (inl q) = absurd (not_sample words q.page.asked p.count q.page.asks p.asks)
+one_refusal words told a b (inr p) (inr q) = one_first Html standard names.standard (sample_page q.count) a b (subst (λ n. SampleRefuses n a) (one_count words p.count q.count p.asks q.asks) p.refused) q.refused
+
+-- a job that reads a page is that of the words
+pub asks_page : (words : List (List ℕ)) (j : CodeJob) → job words ≡ Some (asked_by j) → ReadsPage j → page_asked words ≡ Some (page_by j)
+asks_page words j e r = ap page_in (e ∙ ap Some r.asks)
+
+-- a page that was read has one outcome
+pub text_not_refused : (words : List (List ℕ)) (told now : Option Told) (asked : Asked) (text : List ℕ) (fault : Fault) → page_asked words ≡ Some asked → Moves (JobText asked text) told now → Refuses words told fault → ⊥
+text_not_refused words told now asked text fault a m (inl r) = not_both words told text fault (yields words told now asked text r.page.shelf a m r.page.tells) (inl r)
+text_not_refused words told now asked text fault a m (inr r) = not_sample words asked r.count a r.asks
+
+pub refused_no_text : (words : List (List ℕ)) (told now : Option Told) (asked : Asked) (text : List ℕ) (fault : Fault) → page_asked words ≡ Some asked → Moves (JobRefused asked fault) told now → Yields words told text → ⊥
+refused_no_text words told now asked text fault a m (inl y) = not_both words told text fault (inl y) (refuses words told now asked fault y.page.shelf a m y.page.tells)
+refused_no_text words told now asked text fault a m (inr y) = not_sample words asked y.count a y.asks
+
+pub refused_so : (words : List (List ℕ)) (told now : Option Told) (asked : Asked) (found fault : Fault) → page_asked words ≡ Some asked → Moves (JobRefused asked found) told now → Refuses words told fault → found ≡ fault
+refused_so words told now asked found fault a m (inl r) = one_refusal words told found fault (refuses words told now asked found r.page.shelf a m r.page.tells) (inl r)
+refused_so words told now asked found fault a m (inr r) = absurd (not_sample words asked r.count a r.asks)
+
+-- ---- a sample
+
+pub sample_nothing : (count : ℕ) (s : Status) (old new : Option (List ℕ)) (before now : ℕ) → SampleEnds count s old new before now → s ≢ status.Done → s ≢ status.WriteFault → Moves Stays old new
+sample_nothing count status.Done old new before now e d w = absurd (d refl)
+sample_nothing count status.WriteFault old new before now e d w = absurd (w refl)
+sample_nothing count (status.Refused fault) old new before now e d w = e.1
+sample_nothing count status.Memory old new before now e d w = e
+sample_nothing count status.Usage old new before now e d w = absurd e
+sample_nothing count status.ReadFault old new before now e d w = absurd e
+sample_nothing count status.BadContext old new before now e d w = absurd e
+
+pub sample_completes : (words : List (List ℕ)) (told : Option Told) (text : List ℕ) (count : ℕ) (s : Status) (old new : Option (List ℕ)) (before now : ℕ) → job words ≡ Some (samples count) → Yields words told text → ¬ Rose before now
+    → SampleEnds count s old new before now → (s ≡ status.Done) ⊎ (s ≡ status.Memory)
+sample_completes words told text count status.Done old new before now j y n e = inl refl
+sample_completes words told text count status.WriteFault old new before now j y n e = absurd (n e.3)
+sample_completes words told text count (status.Refused fault) old new before now j y n e = absurd (not_both words told text fault y (inr (record { count = count; asks = j; refused = e.0 })))
+sample_completes words told text count status.Memory old new before now j y n e = inr refl
+sample_completes words told text count status.Usage old new before now j y n e = absurd e
+sample_completes words told text count status.ReadFault old new before now j y n e = absurd e
+sample_completes words told text count status.BadContext old new before now j y n e = absurd e
+
+pub sample_refuses : (words : List (List ℕ)) (told : Option Told) (fault : Fault) (count : ℕ) (s : Status) (old new : Option (List ℕ)) (before now : ℕ) → job words ≡ Some (samples count) → Refuses words told fault
+    → SampleEnds count s old new before now → (s ≡ status.Refused fault) ⊎ (s ≡ status.Memory)
+sample_refuses words told fault count status.Done old new before now j r e = absurd (not_both words told e.0 fault (inr (record { count = count; asks = j; is = e.1 })) r)
+sample_refuses words told fault count status.WriteFault old new before now j r e = absurd (not_both words told e.0 fault (inr (record { count = count; asks = j; is = e.1 })) r)
+sample_refuses words told fault count (status.Refused found) old new before now j r e = inl (ap (λ (f : Fault). status.Refused f) (one_refusal words told found fault (inr (record { count = count; asks = j; refused = e.0 })) r))
+sample_refuses words told fault count status.Memory old new before now j r e = inr refl
+sample_refuses words told fault count status.Usage old new before now j r e = absurd e
+sample_refuses words told fault count status.ReadFault old new before now j r e = absurd e
+sample_refuses words told fault count status.BadContext old new before now j r e = absurd e
 
 -- a file isn't there and missing
 there : (file : Option (List ℕ)) (bytes : List ℕ) → file ≡ Some bytes → file ≡ None → ⊥
@@ -96,21 +167,21 @@ not_lack asked bytes x c f (inl l) = not_missing asked.context x c l
 not_lack asked bytes x c f (inr l) = there _ bytes f l.1
 
 -- what was asked for and what was read belong to one fact on the words and the shelf
-met : (words : List (List ℕ)) (told : Option Told) (asked : Asked) (fact : Asked → Told → Type 0) → job words ≡ Some asked → Meets fact words told → TellsThat (fact asked) told
+met : (words : List (List ℕ)) (told : Option Told) (asked : Asked) (fact : Asked → Told → Type 0) → page_asked words ≡ Some asked → Meets fact words told → TellsThat (fact asked) told
 met words None asked fact a m = let e = m.tells in absurd (cc)
 met words (Some t) asked fact a m =
     subst (λ k. fact k t) (one_asked words m.asked asked m.asks a) (subst (fact m.asked) (one_shelf (Some t) m.shelf t m.tells refl) m.holds)
 
-meets : (words : List (List ℕ)) (told : Option Told) (asked : Asked) (fact : Asked → Told → Type 0) → job words ≡ Some asked → TellsThat (fact asked) told → Meets fact words told
+meets : (words : List (List ℕ)) (told : Option Told) (asked : Asked) (fact : Asked → Told → Type 0) → page_asked words ≡ Some asked → TellsThat (fact asked) told → Meets fact words told
 meets words None asked fact a h = absurd h
 meets words (Some t) asked fact a h = record { asked = asked; shelf = t; asks = a; tells = refl; holds = h }
 
 -- files that were read are there
-pub not_lacking : (words : List (List ℕ)) (told now : Option Told) (asked : Asked) (text : List ℕ) → job words ≡ Some asked → Moves (JobText asked text) told now → LacksFile words told → ⊥
+pub not_lacking : (words : List (List ℕ)) (told now : Option Told) (asked : Asked) (text : List ℕ) → page_asked words ≡ Some asked → Moves (JobText asked text) told now → LacksFile words told → ⊥
 not_lacking words None now asked text a m l = let e = l.tells in absurd (cc)
 not_lacking words (Some t) now asked text a m l = let r = moves_at t m refl in not_lack asked (r.1).page.bytes t (has_context asked.context t (r.1).context (r.1).holds) (r.1).page.file (met words (Some t) asked IsLacking a l)
 
-pub refused_not_lacking : (words : List (List ℕ)) (told now : Option Told) (asked : Asked) (fault : Fault) → job words ≡ Some asked → Moves (JobRefused asked fault) told now → LacksFile words told → ⊥
+pub refused_not_lacking : (words : List (List ℕ)) (told now : Option Told) (asked : Asked) (fault : Fault) → page_asked words ≡ Some asked → Moves (JobRefused asked fault) told now → LacksFile words told → ⊥
 refused_not_lacking words None now asked fault a m l = let e = l.tells in absurd (cc)
 refused_not_lacking words (Some t) now asked fault a m l = let r = moves_at t m refl in not_lack asked (r.1).bytes t (has_context asked.context t (r.1).context (r.1).holds) (r.1).file (met words (Some t) asked IsLacking a l)
 
@@ -118,30 +189,33 @@ refused_not_lacking words (Some t) now asked fault a m l = let r = moves_at t m 
 not_bad_one : (asked : Asked) (t : Told) → HasContext asked.context t → HasOther asked.context t → ⊥
 not_bad_one asked t c o = not_other asked.context t c o
 
-pub not_bad : (words : List (List ℕ)) (told now : Option Told) (asked : Asked) (text : List ℕ) → job words ≡ Some asked → Moves (JobText asked text) told now → HasBadContext words told → ⊥
+pub not_bad : (words : List (List ℕ)) (told now : Option Told) (asked : Asked) (text : List ℕ) → page_asked words ≡ Some asked → Moves (JobText asked text) told now → HasBadContext words told → ⊥
 not_bad words None now asked text a m l = let e = l.tells in absurd (cc)
 not_bad words (Some t) now asked text a m l = let r = moves_at t m refl in not_bad_one asked t (has_context asked.context t (r.1).context (r.1).holds) (met words (Some t) asked (λ asked shelf. HasOther asked.context shelf) a l)
 
-pub refused_not_bad : (words : List (List ℕ)) (told now : Option Told) (asked : Asked) (fault : Fault) → job words ≡ Some asked → Moves (JobRefused asked fault) told now → HasBadContext words told → ⊥
+pub refused_not_bad : (words : List (List ℕ)) (told now : Option Told) (asked : Asked) (fault : Fault) → page_asked words ≡ Some asked → Moves (JobRefused asked fault) told now → HasBadContext words told → ⊥
 refused_not_bad words None now asked fault a m l = let e = l.tells in absurd (cc)
 refused_not_bad words (Some t) now asked fault a m l = let r = moves_at t m refl in not_bad_one asked t (has_context asked.context t (r.1).context (r.1).holds) (met words (Some t) asked (λ asked shelf. HasOther asked.context shelf) a l)
 
-pub read_cause : (words : List (List ℕ)) (told : Option Told) (asked : Asked) (before now : ℕ) → job words ≡ Some asked → Rose before now ⊎ TellsThat (IsLacking asked) told → ReadCause words told before now
+pub read_cause : (words : List (List ℕ)) (told : Option Told) (asked : Asked) (before now : ℕ) → page_asked words ≡ Some asked → Rose before now ⊎ TellsThat (IsLacking asked) told → ReadCause words told before now
 read_cause words told asked before now a (inl rose) = record { asked = asked; asks = a; cause = inl rose }
 read_cause words told asked before now a (inr lacks) = record { asked = asked; asks = a; cause = inr (meets words told asked IsLacking a lacks) }
 
 -- ---- how much was taken
 
-pub at_end : (asked : Asked) (text : List ℕ) (told now : Option Told) → Moves (JobText asked text) told now → IsAtEnd now
-at_end asked text told None m = tt
-at_end asked text None (Some now) m = let e = m.same in absurd (cc)
-at_end asked text (Some told) (Some now) m = (m.taken told now refl refl).page.left
+at_end_of : (asked : Asked) (text : List ℕ) (told now : Option Told) → Moves (JobText asked text) told now → IsAtEnd (Some asked) now
+at_end_of asked text told None m = tt
+at_end_of asked text None (Some now) m = let e = m.same in absurd (cc)
+at_end_of asked text (Some told) (Some now) m = (m.taken told now refl refl).page.left
 
-pub to_fault : (words : List (List ℕ)) (asked : Asked) (fault : Fault) (old new : Option Told) → job words ≡ Some asked → Moves (JobRefused asked fault) old new → Moves (TakesToFault (job words) fault) old new
+pub at_end : (words : List (List ℕ)) (asked : Asked) (text : List ℕ) (told now : Option Told) → page_asked words ≡ Some asked → Moves (JobText asked text) told now → IsAtEnd (page_asked words) now
+at_end words asked text told now a m = subst (λ k. IsAtEnd k now) (sym a) (at_end_of asked text told now m)
+
+pub to_fault : (words : List (List ℕ)) (asked : Asked) (fault : Fault) (old new : Option Told) → page_asked words ≡ Some asked → Moves (JobRefused asked fault) old new → Moves (TakesToFault (page_asked words) fault) old new
 to_fault words asked fault old new a m = subst (λ k. Moves (TakesToFault k fault) old new) (sym a) (moves_weaker (TakesToFault (Some asked) fault) (λ x y j. j.reads) m)
 
-pub takes_files : (words : List (List ℕ)) (asked : Asked) (old new : Option Told) → job words ≡ Some asked → Moves (TakesFiles (Some asked)) old new → Moves (TakesFiles (job words)) old new
+pub takes_files : (words : List (List ℕ)) (asked : Asked) (old new : Option Told) → page_asked words ≡ Some asked → Moves (TakesFiles (Some asked)) old new → Moves (TakesFiles (page_asked words)) old new
 takes_files words asked old new a m = subst (λ k. Moves (TakesFiles k) old new) (sym a) m
 
-pub stops_cleanly : (words : List (List ℕ)) (asked : Asked) (old new : Option Told) → job words ≡ Some asked → Moves (StopsCleanly (Some asked)) old new → Moves (StopsCleanly (job words)) old new
+pub stops_cleanly : (words : List (List ℕ)) (asked : Asked) (old new : Option Told) → page_asked words ≡ Some asked → Moves (StopsCleanly (Some asked)) old new → Moves (StopsCleanly (page_asked words)) old new
 stops_cleanly words asked old new a m = subst (λ k. Moves (StopsCleanly k) old new) (sym a) m

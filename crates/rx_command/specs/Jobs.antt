@@ -1,22 +1,40 @@
 -- Jobs, as contracts see them.
-use Rattle.std.specs.Prelude.{◌≡◌, false, Option, Some, None, option_map}
+use Rattle.std.specs.Prelude.{◌≡◌, Bool, true, false, [], Option, None, option_map}
 use Rattle.rx_terms.specs.Text.{Chars}
-use Rattle.rx_command.specs.Words.{Asked, Given, extracts, checks, is_graph}
+use Rattle.rx_chars.specs.declared.syntax.Syntax.TheVariants.{Html}
+use Rattle.rx_command.specs.Words.{Asked, Given, Job, reads, samples, extracts, checks, is_graph}
 use Rattle.rx_command.specs.declared.arguments.Arguments.{Arguments as Lent}
 use Rattle.rx_command.specs.declared.options.Options.{Options}
-use Rattle.rx_command.specs.declared.jobs.Job.{Job}
-use Rattle.rx_command.specs.declared.jobs.Job.TheVariants.{Extract, Check}
+use Rattle.rx_command.specs.declared.jobs.Job.{Job as CodeJob}
+use Rattle.rx_command.specs.declared.jobs.Job.TheVariants.{Extract, Check, Sample}
 use Rattle.rx_command.specs.declared.jobs.JobError.{JobError}
 use Rattle.rx_command.specs.declared.jobs.JobError.TheVariants as error
 use denote.Ref.{Bor}
 
-abbrev pub asked_by : Job → Asked
+abbrev pub asked_by : CodeJob → Job
 asked_by (Extract syntax graph context address page) =
+    reads (record { task = extracts (record { syntax = syntax; graph = graph; address = address }); context = context; page = page })
+asked_by (Check syntax context page) = reads (record { task = checks syntax; context = context; page = page })
+asked_by (Sample count) = samples count
+
+abbrev pub reads_page : CodeJob → Bool
+reads_page (Sample count) = false
+reads_page _ = true
+
+-- how a page is asked for; of a sample, which reads none, this says nothing
+abbrev pub page_by : CodeJob → Asked
+page_by (Extract syntax graph context address page) =
     record { task = extracts (record { syntax = syntax; graph = graph; address = address }); context = context; page = page }
-asked_by (Check syntax context page) = record { task = checks syntax; context = context; page = page }
+page_by (Check syntax context page) = record { task = checks syntax; context = context; page = page }
+page_by (Sample count) = record { task = checks Html; context = None; page = [] }
+
+-- a job that reads a page asks for this one
+pub record ReadsPage (job : CodeJob) : Type 0 where
+  pub asks : asked_by job ≡ reads (page_by job)
+  pub is : reads_page job ≡ true
 
 -- why there is no job: the words ask for nothing, or want of memory, which is free
-abbrev pub FailsJob : Option Asked → JobError → Type 0
+abbrev pub FailsJob : Option Job → JobError → Type 0
 FailsJob asked error.Usage = asked ≡ None
 FailsJob asked error.NoMemory = Unit {0}
 

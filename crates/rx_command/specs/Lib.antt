@@ -8,3 +8,5 @@ pub mod Outcome
 pub mod Inputs
 pub mod Runs
 pub mod Options
+pub mod Samples
+pub mod Feeding

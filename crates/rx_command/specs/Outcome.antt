@@ -21,7 +21,7 @@ use Rattle.rx_walk.specs.Refused.{refused_in}
 use Rattle.rx_nquads.specs.Quads.{quads}
 use Rattle.rx_nquads.specs.Document.{Nquads}
 use Rattle.rx_nquads.specs.Writing.{nquads}
-use Rattle.rx_command.specs.Words.{Asked, Task, Extraction, extracts, checks, job}
+use Rattle.rx_command.specs.Words.{Asked, Task, Extraction, extracts, checks, page_asked}
 use Rattle.rx_command.specs.Contexts.{IsContext, HasContext, HasOther, LacksContext}
 use Rattle.rx_command.specs.Reading.{standard, Way, HasFirst}
 
@@ -87,25 +87,25 @@ pub record NamesPage (words : List Chars) (told : Option Told) (bytes : List ℕ
   pub asked : Asked
   pub shelf : Told
   pub context : Context
-  pub asks : job words ≡ Some asked
+  pub asks : page_asked words ≡ Some asked
   pub tells : told ≡ Some shelf
   pub holds : IsContext asked.context shelf context
   pub file : file_of shelf.files (encode_utf8_all asked.page) ≡ Some bytes
 
--- the outcome is this text
-pub record Yields (words : List Chars) (told : Option Told) (text : List ℕ) : Type 0 where
+-- the page has this text
+pub record HasPageText (words : List Chars) (told : Option Told) (text : List ℕ) : Type 0 where
   pub bytes : List ℕ
   pub page : NamesPage words told bytes
   pub has_text : TaskGives page.asked.task page.context bytes text
 
--- the words name a page, and this text denotes exactly its graph
-pub record YieldsGraph (words : List Chars) (told : Option Told) (text : List ℕ) : Type 0 where
+-- this text denotes exactly the page's graph
+pub record HasPageGraph (words : List Chars) (told : Option Told) (text : List ℕ) : Type 0 where
   pub bytes : List ℕ
   pub page : NamesPage words told bytes
   pub graph : TaskDenotes page.asked.task page.context bytes text
 
--- the outcome is this refusal
-pub record Refuses (words : List Chars) (told : Option Told) (fault : Fault) : Type 0 where
+-- the page has this fault
+pub record HasPageFault (words : List Chars) (told : Option Told) (fault : Fault) : Type 0 where
   pub bytes : List ℕ
   pub page : NamesPage words told bytes
   pub refused : TaskRefuses page.asked.task page.context bytes fault
@@ -114,7 +114,7 @@ pub record Refuses (words : List Chars) (told : Option Told) (fault : Fault) : T
 pub record Meets (fact : Asked → Told → Type 0) (words : List Chars) (told : Option Told) : Type 0 where
   pub asked : Asked
   pub shelf : Told
-  pub asks : job words ≡ Some asked
+  pub asks : page_asked words ≡ Some asked
   pub tells : told ≡ Some shelf
   pub holds : fact asked shelf
 
@@ -133,5 +133,5 @@ HasBadContext words told = Meets (λ asked shelf. HasOther asked.context shelf) 
 -- the words name a context file
 pub record NamesContext (words : List Chars) : Type 0 where
   pub asked : Asked
-  pub asks : job words ≡ Some asked
+  pub asks : page_asked words ≡ Some asked
   pub named : is_some asked.context ≡ true

@@ -3,13 +3,14 @@ use Rattle.std.specs.Prelude.{◌≡◌, ◌⊎◌, ℕ, ◌+◌, ◌≤◌, Lis
 use Rattle.std.specs.Fmt.{decimal}
 use Rattle.rx_ports.specs.Counts.{Rose}
 use Rattle.rx_ports.specs.Files.{file_of}
-use Rattle.rx_ports.specs.Told.{Told, Moves, GrowsBy, GrowsByPart}
+use Rattle.rx_ports.specs.Told.{Told, Moves, GrowsBy, GrowsByPart, Stays}
 use Rattle.rx_terms.specs.Text.{Chars}
-use Rattle.rx_command.specs.Words.{Asked, job}
+use Rattle.rx_command.specs.Words.{Asked, page_asked}
 use Rattle.rx_command.specs.Files.{size_of}
 use Rattle.rx_command.specs.Contexts.{context_size, context_limit}
 use Rattle.rx_command.specs.Outcome.{LacksFile}
 use Rattle.rx_command.specs.Inputs.{StopsClean}
+use Rattle.rx_command.specs.Samples.{IsSample, SampleRefuses}
 use Rattle.rx_grammar.specs.declared.faults.Fault.{Fault}
 use Rattle.rx_grammar.specs.declared.faults.Kind.{Kind}
 use Rattle.rx_grammar.specs.declared.faults.Kind.TheVariants as kind
@@ -30,7 +31,7 @@ code_of status.BadContext = 6
 -- a page was asked for, and the shelf's count of faults rose, or it tells its files and lacks one that is named
 pub record ReadCause (words : List Chars) (told : Option Told) (before now : ℕ) : Type 0 where
   pub asked : Asked
-  pub asks : job words ≡ Some asked
+  pub asks : page_asked words ≡ Some asked
   pub cause : Rose before now ⊎ LacksFile words told
 
 -- how much the files have that are named, and how much of them is read at most
@@ -57,9 +58,11 @@ abbrev pub context_named : Option Asked → Option Chars
 context_named None = None
 context_named (Some asked) = asked.context
 
-abbrev pub IsAtEnd : Option Told → Type 0
-IsAtEnd None = Unit {0}
-IsAtEnd (Some told) = told.left ≡ []
+-- the page that is asked for was read to its end
+abbrev pub IsAtEnd : Option Asked → Option Told → Type 0
+IsAtEnd None told = Unit {0}
+IsAtEnd (Some asked) None = Unit {0}
+IsAtEnd (Some asked) (Some told) = told.left ≡ []
 
 abbrev pub usage_line : List ℕ
 usage_line = codes "usage: rdfax extract|items|check|sample\n"
@@ -99,6 +102,16 @@ refused_line fault = codes "refused: " ++ kind_name fault.kind ++ codes " at byt
 -- the line was written, or a front of it, where the sink failed
 abbrev pub Says : List ℕ → Option (List ℕ) → Option (List ℕ) → ℕ → ℕ → Type 0
 Says line old new before now = Moves (GrowsBy line) old new ⊎ (Rose before now × Moves (GrowsByPart line) old new)
+
+-- how a sample of so many items ends: its line was written, or a front of it, where out failed; or its page is refused
+abbrev pub SampleEnds : ℕ → Status → Option (List ℕ) → Option (List ℕ) → ℕ → ℕ → Type 0
+SampleEnds count status.Done old new before now = (line : List ℕ) × IsSample count line × Moves (GrowsBy line) old new
+SampleEnds count status.WriteFault old new before now = (line : List ℕ) × IsSample count line × Moves (GrowsByPart line) old new × Rose before now
+SampleEnds count (status.Refused fault) old new before now = SampleRefuses count fault × Moves Stays old new
+SampleEnds count status.Memory old new before now = Moves Stays old new
+SampleEnds count status.Usage old new before now = ⊥
+SampleEnds count status.ReadFault old new before now = ⊥
+SampleEnds count status.BadContext old new before now = ⊥
 
 -- a page that is refused was read no further than a piece past the byte that decides the fault
 abbrev pub TakesToFault : Option Asked → Fault → Told → Told → Type 0

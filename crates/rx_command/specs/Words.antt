@@ -1,7 +1,9 @@
 -- What a list of words asks for.
-use Rattle.std.specs.Prelude.{Bool, true, false, ◌&&◌, ◌||◌, ◌==◌, not, List, [], ◌∷◌, codes, nat_eq, if◌then◌else◌, Option, Some, None, option_map, option_and_then}
+use Rattle.std.specs.Prelude.{ℕ, Bool, true, false, ◌&&◌, ◌||◌, ◌==◌, not, List, [], ◌∷◌, codes, nat_eq, nat_le, if◌then◌else◌, Option, Some, None, option_map, option_and_then}
 use Rattle.std.specs.Cmp.Lexicographic.{pointwise}
+use Rattle.std.specs.Char.{is_ascii_digit}
 use Rattle.std.specs.List.{list_all}
+use Rattle.std.specs.Str.Parse.{digits_value}
 use Rattle.rx_chars.specs.declared.syntax.Syntax.{Syntax}
 use Rattle.rx_chars.specs.declared.syntax.Syntax.TheVariants.{Html, Xhtml}
 use Rattle.rx_terms.specs.Ascii.{hyphen}
@@ -24,6 +26,11 @@ pub record Asked : Type 0 where
   pub task : Task
   pub context : Option Chars
   pub page : Chars
+
+-- what is asked for: that a page be read, or a sample page of so many items
+pub data Job : Type 0 where
+  reads : Asked → Job
+  samples : ℕ → Job
 
 abbrev pub is_word : Chars → Chars → Bool
 is_word word text = pointwise nat_eq word text
@@ -150,9 +157,41 @@ checking_with syntax format graph base words = None
 abbrev pub checking : Given → Option Asked
 checking words = checking_with (syntax_of words.syntax) words.format words.graph words.base words
 
--- `extract` or `check` with its options, in any order, and the page; any other list asks for nothing
-abbrev pub job : List Chars → Option Asked
+abbrev pub digit_zero : ℕ
+digit_zero = 48
+
+-- digits, of which the first isn't 0
+abbrev pub is_number : Chars → Bool
+is_number [] = false
+is_number (c ∷ word) = not (c == digit_zero) && list_all is_ascii_digit (c ∷ word)
+
+abbrev pub most_items : ℕ
+most_items = 100000
+
+-- the number of items, from 1 to 100,000, that a word is in decimal digits without a leading zero
+abbrev pub count_of : Chars → Option ℕ
+count_of word = if is_number word && nat_le (digits_value 10 word) most_items then Some (digits_value 10 word) else None
+
+-- `N`
+abbrev pub sampling : List Chars → Option Job
+sampling [] = None
+sampling (word ∷ []) = option_map samples (count_of word)
+sampling (word ∷ second ∷ words) = None
+
+-- `sample` and a number, or `extract` or `check` with its options, in any order, and the page; any other list asks for
+-- nothing
+abbrev pub job : List Chars → Option Job
 job [] = None
 job (task ∷ words) =
-    if is_word task (codes "extract") then option_and_then extraction (given words)
-    else (if is_word task (codes "check") then option_and_then checking (given words) else None)
+    if is_word task (codes "sample") then sampling words
+    else (if is_word task (codes "extract") then option_map reads (option_and_then extraction (given words))
+    else (if is_word task (codes "check") then option_map reads (option_and_then checking (given words)) else None))
+
+-- the page that is asked for
+abbrev pub page_in : Option Job → Option Asked
+page_in None = None
+page_in (Some (reads asked)) = Some asked
+page_in (Some (samples count)) = None
+
+abbrev pub page_asked : List Chars → Option Asked
+page_asked words = page_in (job words)

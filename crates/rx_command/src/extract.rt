@@ -27,7 +27,7 @@ pub(crate) fn text_of(
     text(alloc, &graph, name)
 }
 
-fn graph_of(alloc: Global, list: &TripleList) -> Result<Graph, NoMemory>
+pub(crate) fn graph_of(alloc: Global, list: &TripleList) -> Result<Graph, NoMemory>
     ensures { IfOk result (λ graph. triples_seen graph ≡ numbered nat_eq (copied nat_eq (triples_seen list.now))) }
 {
     let copied = copy_patterns(alloc, list)?;

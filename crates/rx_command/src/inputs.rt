@@ -3,7 +3,7 @@ ghost use Rattle.std.specs.Prelude.{◌≡◌, ◌⊎◌, ◌≤◌, IfOk, IsErr
 ghost use Rattle.rx_ports.specs.Counts.{Rose};
 ghost use Rattle.rx_ports.specs.Told.{Moves, Lacks};
 ghost use Rattle.rx_command.specs.Words.{extracts, checks};
-ghost use Rattle.rx_command.specs.Jobs.{asked_by, text_in};
+ghost use Rattle.rx_command.specs.Jobs.{page_by, reads_page, text_in};
 ghost use Rattle.rx_command.specs.Files.{TakesOf};
 ghost use Rattle.rx_command.specs.Reading.{ReadsClean};
 ghost use Rattle.rx_command.specs.Ways.{way_of, extraction_of};
@@ -32,14 +32,15 @@ pub(crate) fn text_of_job<F: Shelf>(
     shelf: &mut F,
     job: &Job,
 ) -> Result<Vec<u8>, InputError>
-    ensures ok { IfOk result (λ text. Moves (JobText (asked_by job.now) text.items) (F.told shelf.old) (F.told shelf.new)) }
-    ensures refused { (fault : Fault) → result ≡ Err (InputError.Refused fault) → Moves (JobRefused (asked_by job.now) fault) (F.told shelf.old) (F.told shelf.new) }
-    ensures takes { Moves (TakesFiles (Some (asked_by job.now))) (F.told shelf.old) (F.told shelf.new) }
-    ensures bad { IsErrOf result InputError.BadContext → WhereTold (HasOther (asked_by job.now).context) (F.told shelf.old) }
-    ensures bad_takes { IsErrOf result InputError.BadContext → Moves (TakesContext (asked_by job.now).context) (F.told shelf.old) (F.told shelf.new) }
-    ensures named { IsErrOf result InputError.BadContext → is_some (asked_by job.now).context ≡ true }
-    ensures failed { IsErrOf result InputError.Failed → Rose (F.faults shelf.old) (F.faults shelf.new) ⊎ TellsThat (IsLacking (asked_by job.now)) (F.told shelf.old) }
-    ensures cleanly { IsErrOf result InputError.Failed → Moves (StopsCleanly (Some (asked_by job.now))) (F.told shelf.old) (F.told shelf.new) }
+    requires { reads_page job.now ≡ true }
+    ensures ok { IfOk result (λ text. Moves (JobText (page_by job.now) text.items) (F.told shelf.old) (F.told shelf.new)) }
+    ensures refused { (fault : Fault) → result ≡ Err (InputError.Refused fault) → Moves (JobRefused (page_by job.now) fault) (F.told shelf.old) (F.told shelf.new) }
+    ensures takes { Moves (TakesFiles (Some (page_by job.now))) (F.told shelf.old) (F.told shelf.new) }
+    ensures bad { IsErrOf result InputError.BadContext → WhereTold (HasOther (page_by job.now).context) (F.told shelf.old) }
+    ensures bad_takes { IsErrOf result InputError.BadContext → Moves (TakesContext (page_by job.now).context) (F.told shelf.old) (F.told shelf.new) }
+    ensures named { IsErrOf result InputError.BadContext → is_some (page_by job.now).context ≡ true }
+    ensures failed { IsErrOf result InputError.Failed → Rose (F.faults shelf.old) (F.faults shelf.new) ⊎ TellsThat (IsLacking (page_by job.now)) (F.told shelf.old) }
+    ensures cleanly { IsErrOf result InputError.Failed → Moves (StopsCleanly (Some (page_by job.now))) (F.told shelf.old) (F.told shelf.new) }
     ensures later { F.faults shelf.old ≤ F.faults shelf.new }
 {
     let context = match read_context(alloc, shelf, job.context()) {
@@ -53,12 +54,14 @@ pub(crate) fn text_of_job<F: Shelf>(
     match job {
         Job::Extract { graph, page, .. } => extract(alloc, shelf, page, approach, graph.as_ref()),
         Job::Check { page, .. } => check(alloc, shelf, page, approach),
+        Job::Sample { .. } => unreachable!(),
     }
 }
 
 /// How the job's page is read: at its own address, or, where it is only checked, at that of the machine itself.
 fn approach_of(alloc: Global, job: &Job, context: Context) -> Result<Approach, NoMemory>
-    ensures { IfOk result (λ approach. way_of approach ≡ way_in (asked_by job.now).task context) }
+    requires { reads_page job.now ≡ true }
+    ensures { IfOk result (λ approach. way_of approach ≡ way_in (page_by job.now).task context) }
 {
     match job {
         Job::Extract {
@@ -81,10 +84,11 @@ fn approach_of(alloc: Global, job: &Job, context: Context) -> Result<Approach, N
                 address,
             })
         }
+        Job::Sample { .. } => unreachable!(),
     }
 }
 
-fn localhost(alloc: Global) -> Result<Iri, NoMemory>
+pub(crate) fn localhost(alloc: Global) -> Result<Iri, NoMemory>
     ensures { IfOk result (λ iri. iri ≡ check_address) }
 {
     match Iri::of(alloc, "http://localhost/") {

@@ -1,10 +1,10 @@
 //! What the words of the command line ask for.
-ghost use Rattle.std.specs.Prelude.{◌≡◌, MatchResult, IfOk, Some, true};
-ghost use Rattle.rx_command.specs.Words.{job, extraction, checking, syntax_of, is_nquads, is_graph};
-ghost use Rattle.rx_command.specs.Jobs.{asked_by, given_seen, text_in, FailsJob, FailsGraph};
+ghost use Rattle.std.specs.Prelude.{◌≡◌, MatchResult, MatchOption, IfOk, Some, true, option_map};
+ghost use Rattle.rx_command.specs.Words.{job, reads, samples, extraction, checking, sampling, syntax_of, is_nquads, is_graph};
+ghost use Rattle.rx_command.specs.Jobs.{asked_by, page_by, given_seen, text_in, FailsJob, FailsGraph, ReadsPage};
 
 use crate::arguments::{Arguments, arguments_of};
-use crate::words::{are_names, is_word};
+use crate::words::{are_names, count_of, is_word};
 use rx_chars::Syntax;
 use rx_terms::{Iri, IriError, NoMemory, Text};
 use std::alloc::Global;
@@ -28,6 +28,10 @@ pub enum Job {
         context: Option<Text>,
         page: Text,
     },
+    /// The sample page of so many items, from 1 to 100,000.
+    Sample {
+        count: u32,
+    },
 }
 
 /// Why the words are no job.
@@ -50,6 +54,9 @@ impl Job {
         let Some((task, behind)) = words.split_first() else {
             return Err(JobError::Usage);
         };
+        if is_word(task, "sample") {
+            return Job::sampling(behind);
+        }
         let Some(arguments) = arguments_of(behind) else {
             return Err(JobError::Usage);
         };
@@ -63,7 +70,7 @@ impl Job {
     }
 
     fn extraction(alloc: Global, given: Arguments<'_>) -> Result<Job, JobError>
-        ensures { MatchResult result (λ found. extraction (given_seen given.entry) ≡ Some (asked_by found)) (FailsJob (extraction (given_seen given.entry))) }
+        ensures { MatchResult result (λ found. option_map reads (extraction (given_seen given.entry)) ≡ Some (asked_by found)) (FailsJob (option_map reads (extraction (given_seen given.entry)))) }
     {
         let options = given.options;
         let Some(syntax) = syntax_of(options.syntax) else {
@@ -103,7 +110,7 @@ impl Job {
     }
 
     fn checking(alloc: Global, given: Arguments<'_>) -> Result<Job, JobError>
-        ensures { MatchResult result (λ found. checking (given_seen given.entry) ≡ Some (asked_by found)) (FailsJob (checking (given_seen given.entry))) }
+        ensures { MatchResult result (λ found. option_map reads (checking (given_seen given.entry)) ≡ Some (asked_by found)) (FailsJob (option_map reads (checking (given_seen given.entry)))) }
     {
         let options = given.options;
         let Some(syntax) = syntax_of(options.syntax) else {
@@ -134,13 +141,36 @@ impl Job {
         }
     }
 
+    fn sampling(words: &[Text]) -> Result<Job, JobError>
+        ensures { MatchResult result (λ found. sampling words.now ≡ Some (asked_by found)) (FailsJob (sampling words.now)) }
+    {
+        let [word] = words else {
+            return Err(JobError::Usage);
+        };
+        match count_of(word) {
+            Some(count) => Ok(Job::Sample { count }),
+            None => Err(JobError::Usage),
+        }
+    }
+
+    /// How many items the sample page has; none where a page is to be read.
+    pub(crate) fn sample_count(&self) -> Option<u32>
+        ensures { MatchOption result (ReadsPage self.now) (λ count. asked_by self.now ≡ samples count) }
+    {
+        match self {
+            Job::Sample { count } => Some(*count),
+            _ => None,
+        }
+    }
+
     /// The name of the context file.
     pub(crate) fn context(&self) -> Option<&Text>
-        ensures { text_in result ≡ (asked_by self.now).context }
+        ensures { text_in result ≡ (page_by self.now).context }
     {
         match self {
             Job::Extract { context, .. } => context.as_ref(),
             Job::Check { context, .. } => context.as_ref(),
+            Job::Sample { .. } => None,
         }
     }
 }

@@ -108,7 +108,7 @@ fn feed_next<F: Shelf>(
 }
 
 // The page's end.
-fn list_of(walk: Walk) -> Result<TripleList, InputError>
+pub(crate) fn list_of(walk: Walk) -> Result<TripleList, InputError>
     ensures gives { (way : Way) (bytes : List ℕ) → Reached way walk bytes → EndGives way bytes result }
     ensures reads_none { IsErrOf result InputError.Failed → ⊥ }
 {

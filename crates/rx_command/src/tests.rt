@@ -372,3 +372,63 @@ fn context_files(rt: HostRuntime) -> Result<(), Fail> {
     }
     Ok(())
 }
+
+/// Words that ask for a sample, or for nothing, and what comes of them.
+#[derive(Clone, Copy)]
+struct SampleRow {
+    words: &'static [&'static str],
+    status: Status,
+    written: &'static [u8],
+    said: &'static [u8],
+}
+
+const fn sampled(words: &'static [&'static str], line: &'static [u8]) -> SampleRow {
+    SampleRow {
+        words,
+        status: Status::Done,
+        written: line,
+        said: b"",
+    }
+}
+
+const fn no_sample(words: &'static [&'static str]) -> SampleRow {
+    SampleRow {
+        words,
+        status: Status::Usage,
+        written: b"",
+        said: USAGE,
+    }
+}
+
+#[test]
+fn sample_pages(rt: HostRuntime) -> Result<(), Fail> {
+    let rows = [
+        sampled(
+            &["sample", "1"],
+            b"sample 1: 182 bytes, 5 triples, 376 output bytes, depth 4\n",
+        ),
+        sampled(
+            &["sample", "2"],
+            b"sample 2: 273 bytes, 8 triples, 565 output bytes, depth 4\n",
+        ),
+        no_sample(&["sample"]),
+        no_sample(&["sample", "0"]),
+        no_sample(&["sample", "01"]),
+        no_sample(&["sample", "+1"]),
+        no_sample(&["sample", "100001"]),
+        no_sample(&["sample", "4294967297"]),
+        no_sample(&["sample", "1", "2"]),
+    ];
+    let alloc = rt.alloc();
+    for row in rows.iter() {
+        let mut shelf = shelf_of(alloc, (10, 1))?;
+        let mut out = MemSink::with_room(alloc, 1000, 7, Vec::new(alloc))?;
+        let mut err = MemSink::with_room(alloc, 1000, 7, Vec::new(alloc))?;
+        let words = words_of(alloc, row.words)?;
+        let status = run(alloc, words.as_slice(), &mut shelf, &mut out, &mut err);
+        assert_eq!(rt; status, row.status);
+        assert_eq!(rt; out.held(), row.written);
+        assert_eq!(rt; err.held(), row.said);
+    }
+    Ok(())
+}

@@ -3,14 +3,16 @@ ghost use Rattle.std.specs.Prelude.{◌≡◌, ◌≢◌, ◌⊎◌, ℕ, List, 
 ghost use Rattle.std.specs.Fmt.{decimal};
 ghost use Rattle.rx_ports.specs.Counts.{Rose};
 ghost use Rattle.rx_ports.specs.Told.{Told, Moves, GrowsBy, GrowsByPart, Stays};
-ghost use Rattle.rx_command.specs.Words.{job};
+ghost use Rattle.rx_command.specs.Words.{job, samples, page_asked};
 ghost use Rattle.rx_command.specs.Contexts.{TakesContext};
-ghost use Rattle.rx_command.specs.Outcome.{Yields, YieldsGraph, Refuses, LacksFile, HasBadContext, NamesContext};
-ghost use Rattle.rx_command.specs.Runs.{ReadCause, TakesFiles, TakesToFault, StopsCleanly, IsAtEnd, Says, usage_line, refused_line, context_line, context_named};
+ghost use Rattle.rx_command.specs.Outcome.{LacksFile, HasBadContext, NamesContext};
+ghost use Rattle.rx_command.specs.Samples.{Yields, YieldsGraph, Refuses};
+ghost use Rattle.rx_command.specs.Runs.{ReadCause, TakesFiles, TakesToFault, StopsCleanly, IsAtEnd, SampleEnds, Says, usage_line, refused_line, context_line, context_named};
 
 use crate::errors::InputError;
 use crate::inputs::text_of_job;
 use crate::jobs::{Job, JobError};
+use crate::samples::sample;
 use crate::statuses::{Status, name_of};
 use rx_ports::{Shelf, Sink, put_all};
 use rx_terms::Text;
@@ -46,19 +48,19 @@ pub fn run<F: Shelf, O: Sink, E: Sink>(
     // That text denotes exactly the graph that RDFa's rules give the page's tree, its blank nodes renamed one to one.
     ensures denotes { result ≡ Status.Done → (told : Told) → F.told shelf.old ≡ Some told →
         (text : List ℕ) × YieldsGraph words.now (F.told shelf.old) text × Moves (GrowsBy text) (O.held out.old) (O.held out.new) }
-    ensures to_end { result ≡ Status.Done → IsAtEnd (F.told shelf.new) }
+    ensures to_end { result ≡ Status.Done → IsAtEnd (page_asked words.now) (F.told shelf.new) }
 
     // Refused comes only where the page has this fault.
     ensures refused { (fault : Fault) → result ≡ Status.Refused fault → (told : Told) → F.told shelf.old ≡ Some told →
         Refuses words.now (F.told shelf.old) fault }
     // The page is then read no further than 65,536 bytes past the byte that decides the fault.
-    ensures refused_takes { (fault : Fault) → result ≡ Status.Refused fault → Moves (TakesToFault (job words.now) fault) (F.told shelf.old) (F.told shelf.new) }
+    ensures refused_takes { (fault : Fault) → result ≡ Status.Refused fault → Moves (TakesToFault (page_asked words.now) fault) (F.told shelf.old) (F.told shelf.new) }
 
     // ReadFault comes only where the shelf failed, or lacks the context file, or lacks the page where the context file is
     // a context; and where it lacks one of them there is no other answer.
     ensures read_fault { result ≡ Status.ReadFault → ReadCause words.now (F.told shelf.old) (F.faults shelf.old) (F.faults shelf.new) }
     // What was read of the page, where it is there, holds no fault then but that it ends.
-    ensures cleanly { result ≡ Status.ReadFault → Moves (StopsCleanly (job words.now)) (F.told shelf.old) (F.told shelf.new) }
+    ensures cleanly { result ≡ Status.ReadFault → Moves (StopsCleanly (page_asked words.now)) (F.told shelf.old) (F.told shelf.new) }
     ensures lacking { LacksFile words.now (F.told shelf.old) → (result ≡ Status.ReadFault) ⊎ (result ≡ Status.Memory) }
 
     // WriteFault comes only where out failed, which then holds a proper front of the page's text more than before.
@@ -75,7 +77,7 @@ pub fn run<F: Shelf, O: Sink, E: Sink>(
     ensures bad_context { result ≡ Status.BadContext → (told : Told) → F.told shelf.old ≡ Some told → HasBadContext words.now (F.told shelf.old) }
     ensures refuses_context { HasBadContext words.now (F.told shelf.old) → ¬ Rose (F.faults shelf.old) (F.faults shelf.new)
         → (result ≡ Status.BadContext) ⊎ (result ≡ Status.Memory) }
-    ensures takes_context { result ≡ Status.BadContext → Moves (TakesContext (context_named (job words.now))) (F.told shelf.old) (F.told shelf.new) }
+    ensures takes_context { result ≡ Status.BadContext → Moves (TakesContext (context_named (page_asked words.now))) (F.told shelf.old) (F.told shelf.new) }
 
     // What err is told: one line on Usage, on Refused and on BadContext, or a front of it where err failed; on other statuses nothing.
     ensures says_usage { result ≡ Status.Usage → Says usage_line (E.held err.old) (E.held err.new) (E.faults err.old) (E.faults err.new) }
@@ -86,7 +88,12 @@ pub fn run<F: Shelf, O: Sink, E: Sink>(
 
     // How much is read: no more than the named files have, nor more than the limit of the page and, where a context file
     // is named, one byte past the largest of these.
-    ensures takes { Moves (TakesFiles (job words.now)) (F.told shelf.old) (F.told shelf.new) }
+    ensures takes { Moves (TakesFiles (page_asked words.now)) (F.told shelf.old) (F.told shelf.new) }
+
+    // A sample reads nothing, and answers its line, whatever the shelf and the sinks tell.
+    ensures sample { (count : ℕ) → job words.now ≡ Some (samples count) →
+        SampleEnds count result (O.held out.old) (O.held out.new) (O.faults out.old) (O.faults out.new) }
+    ensures sample_reads { (count : ℕ) → job words.now ≡ Some (samples count) → Moves Stays (F.told shelf.old) (F.told shelf.new) }
 
     // Where nothing failed, a page that has a text is done, and one that has a fault is refused.
     ensures completes { (text : List ℕ) → Yields words.now (F.told shelf.old) text → ¬ Rose (F.faults shelf.old) (F.faults shelf.new)
@@ -102,6 +109,10 @@ pub fn run<F: Shelf, O: Sink, E: Sink>(
         }
         Err(JobError::NoMemory) => return Status::Memory,
     };
+    match job.sample_count() {
+        Some(count) => return run_sample(alloc, count, out, err),
+        None => {}
+    }
     match text_of_job(alloc, shelf, &job) {
         Ok(text) => match put_all(out, text.as_slice()) {
             Ok(()) => Status::Done,
@@ -120,6 +131,38 @@ pub fn run<F: Shelf, O: Sink, E: Sink>(
             Err(_no_memory) => Status::Memory,
         },
         Err(InputError::NoMemory) => Status::Memory,
+    }
+}
+
+/// Writes the line that is said of the sample page.
+fn run_sample<O: Sink, E: Sink>(alloc: Global, count: u32, out: &mut O, err: &mut E) -> Status
+    ensures ends { SampleEnds count result (O.held out.old) (O.held out.new) (O.faults out.old) (O.faults out.new) }
+    ensures says_refused { (fault : Fault) → result ≡ Status.Refused fault →
+        Says (refused_line fault) (E.held err.old) (E.held err.new) (E.faults err.old) (E.faults err.new) }
+    ensures says_nothing { ((fault : Fault) → result ≢ Status.Refused fault) → Moves Stays (E.held err.old) (E.held err.new) }
+{
+    match sample(alloc, count) {
+        Ok(line) => match put_all(out, line.as_slice()) {
+            Ok(()) => Status::Done,
+            Err(_failed) => Status::WriteFault,
+        },
+        Err(InputError::Refused(fault)) => refuse(alloc, fault, err),
+        Err(_no_memory) => Status::Memory,
+    }
+}
+
+/// Says why the page is refused.
+fn refuse<E: Sink>(alloc: Global, fault: Fault, err: &mut E) -> Status
+    ensures is { (result ≡ Status.Refused fault) ⊎ (result ≡ Status.Memory) }
+    ensures says { result ≡ Status.Refused fault → Says (refused_line fault) (E.held err.old) (E.held err.new) (E.faults err.old) (E.faults err.new) }
+    ensures says_nothing { result ≡ Status.Memory → Moves Stays (E.held err.old) (E.held err.new) }
+{
+    match line_of(alloc, fault) {
+        Ok(line) => {
+            say(err, line.as_bytes());
+            Status::Refused(fault)
+        }
+        Err(_no_memory) => Status::Memory,
     }
 }
 

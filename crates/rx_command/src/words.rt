@@ -2,9 +2,10 @@
 ghost use Rattle.std.specs.Prelude.{◌≡◌, IsTrue, nat_eq};
 ghost use Rattle.std.specs.Cmp.Lexicographic.{pointwise};
 ghost use Rattle.std.specs.List.{list_all};
+ghost use Rattle.std.specs.Char.{is_ascii_digit};
 ghost use Rattle.std.specs.Str.{chars};
 ghost use Rattle.rx_terms.specs.Ascii.{is_ascii};
-ghost use Rattle.rx_command.specs.Words.{are_names, is_file_name, is_page_name};
+ghost use Rattle.rx_command.specs.Words.{are_names, count_of, is_file_name, is_number, is_page_name};
 ghost use Rattle.rx_command.specs.Jobs.{text_in};
 
 use rx_terms::Text;
@@ -43,4 +44,37 @@ fn is_file_name(name: &str) -> bool
         None => false,
         Some(_first) => true,
     }
+}
+
+/// The most items that a sample page has.
+const MOST_ITEMS: u32 = 100_000;
+
+/// The number of items that the word is, from 1 to 100,000 in decimal digits without a leading zero.
+pub(crate) fn count_of(word: &Text) -> Option<u32>
+    ensures { result ≡ count_of word.now }
+{
+    let digits = word.as_str();
+    if !is_number(digits) {
+        return None;
+    }
+    match digits.parse::<u32>() {
+        Ok(count) if count <= MOST_ITEMS => Some(count),
+        _ => None,
+    }
+}
+
+fn is_number(word: &str) -> bool
+    ensures { result ≡ is_number (chars word.now) }
+{
+    match word.chars().next() {
+        None => false,
+        Some('0') => false,
+        Some(_first) => are_digits(word),
+    }
+}
+
+fn are_digits(word: &str) -> bool
+    ensures { result ≡ list_all is_ascii_digit (chars word.now) }
+{
+    word.chars().all(|c| c.is_ascii_digit())
 }

@@ -1,5 +1,4 @@
-use Rattle.std.proofs.Common.{◌≡◌, sym, subst, encode_utf8_all, Err}
-use Rattle.rx_ports.specs.Told.{Moves}
+use Rattle.std.proofs.Common.{◌≡◌, encode_utf8_all}
 use Rattle.rx_ports.proofs.MoveLemmas.{moves_weaker}
 use Rattle.rx_command.specs.declared.errors.InputError.TheVariants as error
 use Rattle.rx_command.specs.Words.{checks}

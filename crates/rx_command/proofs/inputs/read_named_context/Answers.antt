@@ -1,4 +1,4 @@
-use Rattle.std.proofs.Common.{arith, ◌≡◌, ◌∙◌, ◌≤◌, ◌<◌, ap, sym, length, is_some, true, false}
+use Rattle.std.proofs.Common.{arith, ◌≡◌, ◌∙◌, ◌≤◌, ◌<◌, ap, sym, length, is_some, false}
 use Rattle.rx_ports.proofs.MoveLemmas.{moves_weaker}
 use Rattle.rx_names.specs.ContextFiles.{context_of}
 use Rattle.rx_command.proofs.InputLemmas.{was_tested, was_long, was_context, takes_context}

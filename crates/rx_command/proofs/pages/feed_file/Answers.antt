@@ -1,4 +1,4 @@
-use Rattle.std.proofs.Common.{arith, rules, ◌≡◌, ◌≤◌, ◌+◌, List, [], ℕ, length, refl, Ok, Err}
+use Rattle.std.proofs.Common.{arith, rules, ◌≤◌, ◌+◌, [], length, refl}
 use Rattle.rx_ports.proofs.MoveLemmas.{moves_weaker, moves_then}
 use Rattle.rx_command.specs.Files.{HasRead, TakesOf}
 use Rattle.rx_command.specs.Reading.{ReadsClean}

@@ -1,4 +1,3 @@
-use Rattle.std.proofs.Common.{◌≡◌, refl}
 use Rattle.rx_command.specs.Ways.{way_of}
 use Rattle.rx_command.proofs.ReadLemmas.{limits_are, start_reached, fed_ends, file_page}
 use Rattle.rx_command.proofs.pages.read_page.Goals as goal

@@ -1,82 +1,91 @@
-use Rattle.std.proofs.Common.{◌≡◌, inl, subst, List, ℕ, ap, Err}
+use Rattle.std.proofs.Common.{◌≡◌, ◌∙◌, inl, subst, List, ℕ, ap, Some, Err}
 use Rattle.rx_ports.specs.Told.{Moves, GrowsBy, GrowsByPart}
-use Rattle.rx_command.specs.Outcome.{Refuses}
-use Rattle.rx_command.specs.Jobs.{asked_by}
+use Rattle.rx_command.specs.Samples.{Refuses}
+use Rattle.rx_command.specs.Jobs.{page_by}
 use Rattle.rx_command.specs.Runs.{TakesToFault}
-use Rattle.rx_command.specs.Words.{job}
+use Rattle.rx_command.specs.Words.{page_asked}
 use Rattle.rx_grammar.specs.declared.faults.Fault.{Fault}
 use Rattle.rx_command.specs.declared.statuses.Status.TheVariants.{Refused}
-use Rattle.rx_command.proofs.RunLemmas.{yields, yields_graph, refuses, not_both, one_refusal, not_lacking, refused_not_lacking, not_bad, refused_not_bad, read_cause, at_end, to_fault, stops_cleanly}
+use Rattle.rx_command.proofs.RunLemmas.{asks_page, yields, yields_graph, refuses, text_not_refused, refused_no_text, refused_so, sample_nothing, sample_completes, sample_refuses, not_lacking, refused_not_lacking, not_bad, refused_not_bad, read_cause, at_end, to_fault, stops_cleanly}
 use Rattle.rx_command.proofs.top.run.Goals as goal
 
 pub returns-in-Ok-put_all-clause-done : goal.returns-in-Ok-put_all-clause-done
 returns-in-Ok-put_all-clause-done g c =
     let Grown : List ℕ → Type 0 = λ text. Moves (GrowsBy text) (g.O.Sink.held c.args.out.now) (g.O.Sink.held c.put_all.new.sink) in
-    λ is told e. (c.in-Ok-text_of_job.text.items, yields c.args.words.now _ _ _ _ told c.in-Ok.ensures c.in-Ok-text_of_job.ensures.ok e, subst Grown c.as_slice.ensures.value c.in-Ok-put_all.ensures.ok)
+    λ is told e. (c.in-Ok-text_of_job.text.items, yields c.args.words.now _ _ _ _ told (asks_page c.args.words.now c.in-Ok.job c.in-Ok.ensures c.in-None.ensures) c.in-Ok-text_of_job.ensures.ok e, subst Grown c.as_slice.ensures.value c.in-Ok-put_all.ensures.ok)
 
 pub returns-in-Ok-put_all-clause-denotes : goal.returns-in-Ok-put_all-clause-denotes
 returns-in-Ok-put_all-clause-denotes g c =
     let Grown : List ℕ → Type 0 = λ text. Moves (GrowsBy text) (g.O.Sink.held c.args.out.now) (g.O.Sink.held c.put_all.new.sink) in
-    λ is told e. (c.in-Ok-text_of_job.text.items, yields_graph c.args.words.now _ _ _ _ told c.in-Ok.ensures c.in-Ok-text_of_job.ensures.ok e, subst Grown c.as_slice.ensures.value c.in-Ok-put_all.ensures.ok)
+    λ is told e. (c.in-Ok-text_of_job.text.items, yields_graph c.args.words.now _ _ _ _ told (asks_page c.args.words.now c.in-Ok.job c.in-Ok.ensures c.in-None.ensures) c.in-Ok-text_of_job.ensures.ok e, subst Grown c.as_slice.ensures.value c.in-Ok-put_all.ensures.ok)
 
 pub returns-in-Ok-put_all-clause-to_end : goal.returns-in-Ok-put_all-clause-to_end
-returns-in-Ok-put_all-clause-to_end g c = λ is. at_end (asked_by c.in-Ok.job) _ _ _ c.in-Ok-text_of_job.ensures.ok
+returns-in-Ok-put_all-clause-to_end g c = λ is. at_end c.args.words.now (page_by c.in-Ok.job) _ _ _ (asks_page c.args.words.now c.in-Ok.job c.in-Ok.ensures c.in-None.ensures) c.in-Ok-text_of_job.ensures.ok
 
 pub returns-in-Ok-put_all-clause-lacking : goal.returns-in-Ok-put_all-clause-lacking
-returns-in-Ok-put_all-clause-lacking g c = λ lacks. absurd (not_lacking c.args.words.now _ _ _ _ c.in-Ok.ensures c.in-Ok-text_of_job.ensures.ok lacks)
+returns-in-Ok-put_all-clause-lacking g c = λ lacks. absurd (not_lacking c.args.words.now _ _ _ _ (asks_page c.args.words.now c.in-Ok.job c.in-Ok.ensures c.in-None.ensures) c.in-Ok-text_of_job.ensures.ok lacks)
 
 pub returns-in-Ok-put_all-clause-refuses_context : goal.returns-in-Ok-put_all-clause-refuses_context
-returns-in-Ok-put_all-clause-refuses_context g c = λ bad quiet. absurd (not_bad c.args.words.now _ _ _ _ c.in-Ok.ensures c.in-Ok-text_of_job.ensures.ok bad)
+returns-in-Ok-put_all-clause-refuses_context g c = λ bad quiet. absurd (not_bad c.args.words.now _ _ _ _ (asks_page c.args.words.now c.in-Ok.job c.in-Ok.ensures c.in-None.ensures) c.in-Ok-text_of_job.ensures.ok bad)
 
 pub returns-in-Ok-put_all-clause-refuses : goal.returns-in-Ok-put_all-clause-refuses
-returns-in-Ok-put_all-clause-refuses g c = λ fault r quiet. absurd (not_both _ _ _ _ (yields c.args.words.now _ _ _ _ r.page.shelf c.in-Ok.ensures c.in-Ok-text_of_job.ensures.ok r.page.tells) r)
+returns-in-Ok-put_all-clause-refuses g c = λ fault r quiet. absurd (text_not_refused c.args.words.now _ _ _ _ fault (asks_page c.args.words.now c.in-Ok.job c.in-Ok.ensures c.in-None.ensures) c.in-Ok-text_of_job.ensures.ok r)
 
 pub returns-in-Ok-text_of_job-clause-lacking : goal.returns-in-Ok-text_of_job-clause-lacking
-returns-in-Ok-text_of_job-clause-lacking g c = λ lacks. absurd (not_lacking c.args.words.now _ _ _ _ c.in-Ok.ensures c.in-Ok-text_of_job.ensures.ok lacks)
+returns-in-Ok-text_of_job-clause-lacking g c = λ lacks. absurd (not_lacking c.args.words.now _ _ _ _ (asks_page c.args.words.now c.in-Ok.job c.in-Ok.ensures c.in-None.ensures) c.in-Ok-text_of_job.ensures.ok lacks)
 
 pub returns-in-Ok-text_of_job-clause-partly : goal.returns-in-Ok-text_of_job-clause-partly
 returns-in-Ok-text_of_job-clause-partly g c =
     let Grown : List ℕ → Type 0 = λ text. Moves (GrowsByPart text) (g.O.Sink.held c.args.out.now) (g.O.Sink.held c.put_all.new.sink) in
-    λ is told e. (c.in-Ok-text_of_job.text.items, yields c.args.words.now _ _ _ _ told c.in-Ok.ensures c.in-Ok-text_of_job.ensures.ok e, subst Grown c.as_slice.ensures.value c.in-Err.ensures.err)
+    λ is told e. (c.in-Ok-text_of_job.text.items, yields c.args.words.now _ _ _ _ told (asks_page c.args.words.now c.in-Ok.job c.in-Ok.ensures c.in-None.ensures) c.in-Ok-text_of_job.ensures.ok e, subst Grown c.as_slice.ensures.value c.in-Err.ensures.err)
 
 pub returns-in-Ok-text_of_job-clause-refuses_context : goal.returns-in-Ok-text_of_job-clause-refuses_context
-returns-in-Ok-text_of_job-clause-refuses_context g c = λ bad quiet. absurd (not_bad c.args.words.now _ _ _ _ c.in-Ok.ensures c.in-Ok-text_of_job.ensures.ok bad)
+returns-in-Ok-text_of_job-clause-refuses_context g c = λ bad quiet. absurd (not_bad c.args.words.now _ _ _ _ (asks_page c.args.words.now c.in-Ok.job c.in-Ok.ensures c.in-None.ensures) c.in-Ok-text_of_job.ensures.ok bad)
 
 pub returns-in-Ok-text_of_job-clause-refuses : goal.returns-in-Ok-text_of_job-clause-refuses
-returns-in-Ok-text_of_job-clause-refuses g c = λ fault r quiet. absurd (not_both _ _ _ _ (yields c.args.words.now _ _ _ _ r.page.shelf c.in-Ok.ensures c.in-Ok-text_of_job.ensures.ok r.page.tells) r)
+returns-in-Ok-text_of_job-clause-refuses g c = λ fault r quiet. absurd (text_not_refused c.args.words.now _ _ _ _ fault (asks_page c.args.words.now c.in-Ok.job c.in-Ok.ensures c.in-None.ensures) c.in-Ok-text_of_job.ensures.ok r)
 
 pub returns-in-Err-Failed-clause-read_fault : goal.returns-in-Err-Failed-clause-read_fault
-returns-in-Err-Failed-clause-read_fault g c = λ is. read_cause c.args.words.now _ (asked_by c.in-Ok.job) _ _ c.in-Ok.ensures (c.in-Err-Failed.ensures.failed (ap Err c.in-Err-Failed.field-0-is))
+returns-in-Err-Failed-clause-read_fault g c = λ is. read_cause c.args.words.now _ (page_by c.in-Ok.job) _ _ (asks_page c.args.words.now c.in-Ok.job c.in-Ok.ensures c.in-None.ensures) (c.in-Err-Failed.ensures.failed (ap Err c.in-Err-Failed.field-0-is))
 
 pub returns-in-Ok-line_of-clause-refused : goal.returns-in-Ok-line_of-clause-refused
 returns-in-Ok-line_of-clause-refused g c =
     let m = c.in-Err-Refused.ensures.refused c.in-Err-Refused.fault (ap Err c.in-Err-Refused.field-0-is) in
-    λ fault is told e. let same : c.in-Err-Refused.fault ≡ fault = (cc) in subst (λ (f : Fault). Refuses c.args.words.now (g.F.Shelf.told c.args.shelf.now) f) same (refuses c.args.words.now _ _ _ c.in-Err-Refused.fault told c.in-Ok.ensures m e)
+    λ fault is told e. let same : c.in-Err-Refused.fault ≡ fault = (cc) in subst (λ (f : Fault). Refuses c.args.words.now (g.F.Shelf.told c.args.shelf.now) f) same (refuses c.args.words.now _ _ _ c.in-Err-Refused.fault told (asks_page c.args.words.now c.in-Ok.job c.in-Ok.ensures c.in-None.ensures) m e)
 
 pub returns-in-Ok-line_of-clause-refused_takes : goal.returns-in-Ok-line_of-clause-refused_takes
 returns-in-Ok-line_of-clause-refused_takes g c =
     let m = c.in-Err-Refused.ensures.refused c.in-Err-Refused.fault (ap Err c.in-Err-Refused.field-0-is) in
-    λ fault is. let same : c.in-Err-Refused.fault ≡ fault = (cc) in subst (λ (f : Fault). Moves (TakesToFault (job c.args.words.now) f) (g.F.Shelf.told c.args.shelf.now) (g.F.Shelf.told c.text_of_job.new.shelf)) same (to_fault c.args.words.now _ c.in-Err-Refused.fault _ _ c.in-Ok.ensures m)
+    λ fault is. let same : c.in-Err-Refused.fault ≡ fault = (cc) in subst (λ (f : Fault). Moves (TakesToFault (page_asked c.args.words.now) f) (g.F.Shelf.told c.args.shelf.now) (g.F.Shelf.told c.text_of_job.new.shelf)) same (to_fault c.args.words.now _ c.in-Err-Refused.fault _ _ (asks_page c.args.words.now c.in-Ok.job c.in-Ok.ensures c.in-None.ensures) m)
 
 pub returns-in-Ok-line_of-clause-lacking : goal.returns-in-Ok-line_of-clause-lacking
 returns-in-Ok-line_of-clause-lacking g c =
     let m = c.in-Err-Refused.ensures.refused c.in-Err-Refused.fault (ap Err c.in-Err-Refused.field-0-is) in
-    λ lacks. absurd (refused_not_lacking c.args.words.now _ _ _ c.in-Err-Refused.fault c.in-Ok.ensures m lacks)
+    λ lacks. absurd (refused_not_lacking c.args.words.now _ _ _ c.in-Err-Refused.fault (asks_page c.args.words.now c.in-Ok.job c.in-Ok.ensures c.in-None.ensures) m lacks)
 
 pub returns-in-Ok-line_of-clause-refuses_context : goal.returns-in-Ok-line_of-clause-refuses_context
 returns-in-Ok-line_of-clause-refuses_context g c =
     let m = c.in-Err-Refused.ensures.refused c.in-Err-Refused.fault (ap Err c.in-Err-Refused.field-0-is) in
-    λ bad quiet. absurd (refused_not_bad c.args.words.now _ _ _ c.in-Err-Refused.fault c.in-Ok.ensures m bad)
+    λ bad quiet. absurd (refused_not_bad c.args.words.now _ _ _ c.in-Err-Refused.fault (asks_page c.args.words.now c.in-Ok.job c.in-Ok.ensures c.in-None.ensures) m bad)
 
 pub returns-in-Ok-line_of-clause-completes : goal.returns-in-Ok-line_of-clause-completes
 returns-in-Ok-line_of-clause-completes g c =
     let m = c.in-Err-Refused.ensures.refused c.in-Err-Refused.fault (ap Err c.in-Err-Refused.field-0-is) in
-    λ text y quiet calm. absurd (not_both _ _ _ _ y (refuses c.args.words.now _ _ _ c.in-Err-Refused.fault y.page.shelf c.in-Ok.ensures m y.page.tells))
+    λ text y quiet calm. absurd (refused_no_text c.args.words.now _ _ _ text c.in-Err-Refused.fault (asks_page c.args.words.now c.in-Ok.job c.in-Ok.ensures c.in-None.ensures) m y)
 
 pub returns-in-Ok-line_of-clause-refuses : goal.returns-in-Ok-line_of-clause-refuses
 returns-in-Ok-line_of-clause-refuses g c =
     let m = c.in-Err-Refused.ensures.refused c.in-Err-Refused.fault (ap Err c.in-Err-Refused.field-0-is) in
-    λ fault r quiet. inl (ap (λ (f : Fault). Refused f) (one_refusal _ _ c.in-Err-Refused.fault fault (refuses c.args.words.now _ _ _ c.in-Err-Refused.fault r.page.shelf c.in-Ok.ensures m r.page.tells) r))
+    λ fault r quiet. inl (ap (λ (f : Fault). Refused f) (refused_so c.args.words.now _ _ _ c.in-Err-Refused.fault fault (asks_page c.args.words.now c.in-Ok.job c.in-Ok.ensures c.in-None.ensures) m r))
 
 pub returns-in-Err-Failed-clause-cleanly : goal.returns-in-Err-Failed-clause-cleanly
-returns-in-Err-Failed-clause-cleanly g c = λ is. stops_cleanly c.args.words.now (asked_by c.in-Ok.job) _ _ c.in-Ok.ensures (c.in-Err-Failed.ensures.cleanly (ap Err c.in-Err-Failed.field-0-is))
+returns-in-Err-Failed-clause-cleanly g c = λ is. stops_cleanly c.args.words.now (page_by c.in-Ok.job) _ _ (asks_page c.args.words.now c.in-Ok.job c.in-Ok.ensures c.in-None.ensures) (c.in-Err-Failed.ensures.cleanly (ap Err c.in-Err-Failed.field-0-is))
+
+pub returns-in-Some-clause-nothing_written : goal.returns-in-Some-clause-nothing_written
+returns-in-Some-clause-nothing_written g c = λ d w. sample_nothing c.in-Some.count c.run_sample.result _ _ _ _ c.run_sample.ensures.ends d w
+
+pub returns-in-Some-clause-completes : goal.returns-in-Some-clause-completes
+returns-in-Some-clause-completes g c = λ text y quiet calm. sample_completes c.args.words.now _ text c.in-Some.count c.run_sample.result _ _ _ _ (c.in-Ok.ensures ∙ ap Some c.in-Some.ensures) y calm c.run_sample.ensures.ends
+
+pub returns-in-Some-clause-refuses : goal.returns-in-Some-clause-refuses
+returns-in-Some-clause-refuses g c = λ fault r quiet. sample_refuses c.args.words.now _ fault c.in-Some.count c.run_sample.result _ _ _ _ (c.in-Ok.ensures ∙ ap Some c.in-Some.ensures) r c.run_sample.ensures.ends

@@ -1,0 +1,116 @@
+-- The sample page, and the line that is said of it. Own.
+use Rattle.std.specs.Prelude.{◌≡◌, ◌⊎◌, ℕ, zero, suc, List, [], ◌++◌, length, Result, Ok, Err, Option, Some, None, encode_utf8_all, codes, nat_lt, if◌then◌else◌}
+use Rattle.std.specs.Fmt.{decimal}
+use Rattle.rx_terms.specs.Text.{Chars}
+use Rattle.rx_model.specs.Terms.{Triple}
+use Rattle.rx_rdfa.specs.Standard as names
+use Rattle.rx_rdfa.specs.Whole.{written}
+use Rattle.rx_chars.specs.declared.syntax.Syntax.TheVariants.{Html}
+use Rattle.rx_grammar.specs.declared.faults.Fault.{Fault}
+use Rattle.rx_grammar.specs.Trees.{Tree}
+use Rattle.rx_pages.specs.PageReader.{Progress, page_read}
+use Rattle.rx_nest.specs.Signs.{sees, nothing_seen}
+use Rattle.rx_nquads.specs.Writing.{nquads}
+use Rattle.rx_walk.specs.Faults as faults
+use Rattle.rx_walk.specs.Lines.{line_of}
+use Rattle.rx_command.specs.Reading.{standard}
+use Rattle.rx_ports.specs.Told.{Told}
+use Rattle.rx_command.specs.Words.{job, samples}
+use Rattle.rx_command.specs.Outcome.{IsAccepted, check_address, base_in, facts_in, HasPageText, HasPageGraph, HasPageFault}
+
+-- what stands before the items
+abbrev pub head : List ℕ
+head = codes "<!DOCTYPE html>\n<html vocab=\"http://schema.org/\">\n<body typeof=\"ItemList\">\n"
+
+-- an item before the end tag of its name, and from there on
+abbrev pub item_before : ℕ → List ℕ
+item_before i = codes "<div property=\"itemListElement\" typeof=\"Product\"><span property=\"name\">Item " ++ decimal i
+
+abbrev pub item_behind : List ℕ
+item_behind = codes "</span></div>\n"
+
+-- what stands behind the items
+abbrev pub tail : List ℕ
+tail = codes "</body>\n</html>\n"
+
+-- the page up to the end of so many items
+abbrev pub items_to : ℕ → List ℕ
+items_to zero = head
+items_to (suc i) = items_to i ++ (item_before i ++ item_behind)
+
+-- the page of so many items
+abbrev pub sample_page : ℕ → List ℕ
+sample_page count = items_to count ++ tail
+
+-- the page up to the end tag of the name of item i, where a piece ends
+abbrev pub cut_in : ℕ → List ℕ
+cut_in i = items_to i ++ item_before i
+
+-- how many elements are open behind these bytes of a page
+abbrev pub open_after : Result Progress Fault → ℕ
+open_after (Ok now) = length (line_of [] (sees nothing_seen now.told).signs)
+open_after (Err fault) = 0
+
+abbrev pub depth_at : List ℕ → ℕ
+depth_at bytes = open_after (page_read Html standard bytes)
+
+abbrev pub larger : ℕ → ℕ → ℕ
+larger m n = if nat_lt m n then n else m
+
+-- the most elements that are open where the pieces of the first items end
+abbrev pub deepest_in : ℕ → ℕ
+deepest_in zero = 0
+deepest_in (suc i) = larger (deepest_in i) (depth_at (cut_in i))
+
+-- where the pieces of the page end, of which the last ends with the page
+abbrev pub deepest : ℕ → ℕ
+deepest count = larger (deepest_in count) (depth_at (sample_page count))
+
+-- the triples that RDFa's rules give the tree, as they are written
+abbrev pub triples_in : Tree → List (Triple ℕ)
+triples_in tree = written (base_in check_address tree) (facts_in names.standard tree)
+
+-- a line with these numbers: how many items, how many bytes the page has, how many triples it gives, how many bytes their
+-- text has, and how deep the page is
+abbrev pub line_with : ℕ → ℕ → ℕ → ℕ → ℕ → List ℕ
+line_with count size triples output depth =
+    codes "sample " ++ (decimal count ++ (codes ": " ++ (decimal size ++ (codes " bytes, " ++ (decimal triples ++ (codes " triples, " ++ (decimal output ++ (codes " output bytes, depth " ++ (decimal depth ++ codes "\n")))))))))
+
+-- the line that is said of a page of so many items with these triples
+abbrev pub line_for : ℕ → List (Triple ℕ) → List ℕ
+line_for count triples = line_with count (length (sample_page count)) (length triples) (length (encode_utf8_all (nquads triples None))) (deepest count)
+
+-- the line says how large the page is, how many triples RDFa's rules give it, how large their text is, and how deep the
+-- page is
+pub record IsSample (count : ℕ) (line : List ℕ) : Type 0 where
+  pub tree : Tree
+  pub is : IsAccepted Html names.standard (sample_page count) tree
+  pub spelled : line ≡ line_for count (triples_in tree)
+
+-- the page of so many items has this fault
+abbrev pub SampleRefuses : ℕ → Fault → Type 0
+SampleRefuses count fault = faults.Refuses Html standard names.standard (sample_page count) fault
+
+-- the words ask for a sample, of which this line is said
+pub record SaysOfSample (words : List Chars) (line : List ℕ) : Type 0 where
+  pub count : ℕ
+  pub asks : job words ≡ Some (samples count)
+  pub is : IsSample count line
+
+-- or of which the page has this fault
+pub record HasSampleFault (words : List Chars) (fault : Fault) : Type 0 where
+  pub count : ℕ
+  pub asks : job words ≡ Some (samples count)
+  pub refused : SampleRefuses count fault
+
+-- the outcome is this text
+abbrev pub Yields : List Chars → Option Told → List ℕ → Type 0
+Yields words told text = HasPageText words told text ⊎ SaysOfSample words text
+
+-- the outcome is this text, which, where a page is read, denotes exactly its graph
+abbrev pub YieldsGraph : List Chars → Option Told → List ℕ → Type 0
+YieldsGraph words told text = HasPageGraph words told text ⊎ SaysOfSample words text
+
+-- the outcome is this refusal
+abbrev pub Refuses : List Chars → Option Told → Fault → Type 0
+Refuses words told fault = HasPageFault words told fault ⊎ HasSampleFault words fault

@@ -1,0 +1,189 @@
+//! The sample: a page of many items, made and read piece by piece, and the line that is said of it.
+ghost use Rattle.std.specs.Prelude.{◌≡◌, List, ℕ, length, nat_eq, IfOk, IsErrOf, Err, string_bytes, None, encode_utf8_all};
+ghost use Rattle.rx_grammar.specs.declared.faults.Fault.{Fault};
+ghost use Rattle.rx_model.specs.Copied.{copied};
+ghost use Rattle.rx_model.specs.Numbered.{numbered};
+ghost use Rattle.rx_model.specs.Seen.{triples_seen};
+ghost use Rattle.rx_nquads.specs.Writing.{nquads};
+ghost use Rattle.rx_command.specs.Samples.{IsSample, SampleRefuses, item_before, larger, line_with};
+ghost use Rattle.rx_command.specs.Feeding.{Fed, IsFed, FedTo, FedWhole, TakeGives, ItemGives, WholeGives};
+
+use crate::errors::InputError;
+use crate::extract::graph_of;
+use crate::inputs::localhost;
+use crate::pages::list_of;
+use rx_names::Context;
+use rx_nquads::text;
+use rx_terms::{NoMemory, TripleList};
+use rx_walk::{Limits, Stop, Syntax, Walk};
+use std::alloc::{AllocError, Global};
+
+const HEAD: &[u8] =
+    b"<!DOCTYPE html>\n<html vocab=\"http://schema.org/\">\n<body typeof=\"ItemList\">\n";
+
+const ITEM_BEHIND: &[u8] = b"</span></div>\n";
+
+const TAIL: &[u8] = b"</body>\n</html>\n";
+
+/// A sample page that is fed to a walk: what isn't fed yet, how many bytes were, and the most elements that were open
+/// where a piece ended.
+#[derive(Drop)]
+pub(crate) struct Feeding {
+    walk: Walk,
+    piece: Vec<u8>,
+    size: u64,
+    depth: u32,
+}
+
+/// The line that is said of the page of so many items, which is read as any other page is.
+pub(crate) fn sample(alloc: Global, count: u32) -> Result<Vec<u8>, InputError>
+    ensures ok { IfOk result (λ line. IsSample count line.items) }
+    ensures refused { (fault : Fault) → result ≡ Err (InputError.Refused fault) → SampleRefuses count fault }
+    ensures reads_none { IsErrOf result InputError.Failed → ⊥ }
+    ensures no_context { IsErrOf result InputError.BadContext → ⊥ }
+{
+    let Ok(mut feeding) = Feeding::new(alloc) else {
+        return Err(InputError::NoMemory);
+    };
+    match feeding.feed(alloc, count) {
+        Ok(()) => {}
+        Err(error) => return Err(error),
+    }
+    let Feeding {
+        walk,
+        size,
+        depth,
+        ..
+    } = feeding;
+    let list = match list_of(walk) {
+        Ok(list) => list,
+        Err(error) => return Err(error),
+    };
+    match line_of(alloc, count, size, depth, &list) {
+        Ok(line) => Ok(line),
+        Err(NoMemory) => Err(InputError::NoMemory),
+    }
+}
+
+impl Feeding {
+    /// Before the first item.
+    fn new(alloc: Global) -> Result<Feeding, NoMemory>
+        ensures { IfOk result (λ feeding. FedTo 0 feeding) }
+    {
+        let context = Context::standard(alloc)?;
+        let address = localhost(alloc)?;
+        let walk = Walk::new(alloc, Syntax::Html, context, address, Limits::standard())?;
+        let mut piece = Vec::new(alloc);
+        let Ok(()) = piece.extend_from_slice(HEAD) else {
+            return Err(NoMemory);
+        };
+        Ok(Feeding {
+            walk,
+            piece,
+            size: 0,
+            depth: 0,
+        })
+    }
+
+    /// Feeds the page of so many items.
+    fn feed(&mut self, alloc: Global, count: u32) -> Result<(), InputError>
+        requires { FedTo 0 self.old }
+        ensures { WholeGives count result self.new }
+    {
+        for number in 0..count {
+            match self.item(alloc, number) {
+                Ok(()) => {}
+                Err(error) => return Err(error),
+            }
+        }
+        let Ok(()) = self.piece.extend_from_slice(TAIL) else {
+            return Err(InputError::NoMemory);
+        };
+        self.take()
+    }
+
+    /// Feeds the page up to the end tag of the item's name, and keeps what is behind in the item.
+    fn item(&mut self, alloc: Global, number: u32) -> Result<(), InputError>
+        requires { FedTo number self.old }
+        ensures { ItemGives number result self.new }
+    {
+        let Ok(before) = item_before(alloc, number) else {
+            return Err(InputError::NoMemory);
+        };
+        let Ok(()) = self.piece.extend_from_slice(before.as_bytes()) else {
+            return Err(InputError::NoMemory);
+        };
+        match self.take() {
+            Ok(()) => {}
+            Err(error) => return Err(error),
+        }
+        let Ok(()) = self.piece.extend_from_slice(ITEM_BEHIND) else {
+            return Err(InputError::NoMemory);
+        };
+        Ok(())
+    }
+
+    /// Feeds the piece, and counts its bytes and the elements that are open behind it.
+    fn take(&mut self) -> Result<(), InputError>
+        requires { IsFed self.old }
+        ensures { (bytes : List ℕ) → Fed bytes self.old → TakeGives bytes self.old result self.new }
+    {
+        match self.walk.feed(self.piece.as_slice()) {
+            Ok(()) => {}
+            Err(Stop::Fault(fault)) => return Err(InputError::Refused(fault)),
+            Err(Stop::NoMemory) => return Err(InputError::NoMemory),
+        }
+        self.size += self.piece.len() as u64;
+        self.piece.clear();
+        self.depth = larger(self.depth, self.walk.depth());
+        Ok(())
+    }
+}
+
+fn larger(left: u32, right: u32) -> u32
+    ensures { result ≡ larger left right }
+{
+    if left < right { right } else { left }
+}
+
+/// An item before the end tag of its name.
+fn item_before(alloc: Global, number: u32) -> Result<String, AllocError>
+    ensures { IfOk result (λ text. string_bytes text ≡ item_before number) }
+{
+    format!(in alloc;
+        "<div property=\"itemListElement\" typeof=\"Product\"><span property=\"name\">Item {number}"
+    )
+}
+
+/// What is said of the page of so many items, of this size and depth, with this list of triples.
+fn line_of(
+    alloc: Global,
+    count: u32,
+    size: u64,
+    depth: u32,
+    list: &TripleList,
+) -> Result<Vec<u8>, NoMemory>
+    ensures { IfOk result (λ line. line.items ≡ line_with count size (length (numbered nat_eq (copied nat_eq (triples_seen list.now)))) (length (encode_utf8_all (nquads (numbered nat_eq (copied nat_eq (triples_seen list.now))) None))) depth) }
+{
+    let graph = graph_of(alloc, list)?;
+    let text = text(alloc, &graph, None)?;
+    match line_with(alloc, count, size, graph.len(), text.len(), depth) {
+        Ok(line) => Ok(line.into_bytes()),
+        Err(_no_memory) => Err(NoMemory),
+    }
+}
+
+fn line_with(
+    alloc: Global,
+    count: u32,
+    size: u64,
+    triples: usize,
+    output: usize,
+    depth: u32,
+) -> Result<String, AllocError>
+    ensures { IfOk result (λ line. string_bytes line ≡ line_with count size triples output depth) }
+{
+    format!(in alloc;
+        "sample {count}: {size} bytes, {triples} triples, {output} output bytes, depth {depth}\n"
+    )
+}
