@@ -5,3 +5,4 @@ pub mod NodeLemmas
 pub mod PatternLemmas
 pub mod ReachLemmas
 pub mod PlaceLemmas
+pub mod NumberedLemmas

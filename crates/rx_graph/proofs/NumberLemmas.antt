@@ -31,7 +31,7 @@ known_seen list b = insert_seen number_of blank_eq nat_eq blanks_agree list b
 
 -- ---- what is known grows at its end
 
-contains_append : (xs ys : List ℕ) (b : ℕ) → contains nat_eq xs b ≡ true → contains nat_eq (xs ++ ys) b ≡ true
+pub contains_append : (xs ys : List ℕ) (b : ℕ) → contains nat_eq xs b ≡ true → contains nat_eq (xs ++ ys) b ≡ true
 contains_append [] ys b h = absurd (true≢false (sym h))
 contains_append (x ∷ xs) ys b h = go (nat_eq x b) refl h (contains_append xs ys b)
   where
@@ -39,7 +39,7 @@ contains_append (x ∷ xs) ys b h = go (nat_eq x b) refl h (contains_append xs y
     go true e k ih = refl
     go false e k ih = ih k
 
-place_append : (xs ys : List ℕ) (b : ℕ) → contains nat_eq xs b ≡ true → place_in nat_eq (xs ++ ys) b ≡ place_in nat_eq xs b
+pub place_append : (xs ys : List ℕ) (b : ℕ) → contains nat_eq xs b ≡ true → place_in nat_eq (xs ++ ys) b ≡ place_in nat_eq xs b
 place_append [] ys b h = absurd (true≢false (sym h))
 place_append (x ∷ xs) ys b h = go (nat_eq x b) refl h (place_append xs ys b)
   where
@@ -72,7 +72,7 @@ pub kept_known : (seen more : List ℕ) → Kept seen (known seen more)
 kept_known seen [] = kept_self seen
 kept_known seen (b ∷ more) = kept_then seen (known_one seen b) (known (known_one seen b) more) (kept_one seen b) (kept_known (known_one seen b) more)
 
-contains_last : (xs : List ℕ) (b : ℕ) → contains nat_eq (xs ++ b ∷ []) b ≡ true
+pub contains_last : (xs : List ℕ) (b : ℕ) → contains nat_eq (xs ++ b ∷ []) b ≡ true
 contains_last xs b = Among-contains nat_eq exact_numbers (xs ++ b ∷ []) b (Among_right xs (b ∷ []) b (inl refl))
 
 one_known : (seen : List ℕ) (b : ℕ) → contains nat_eq (known_one seen b) b ≡ true
@@ -96,6 +96,9 @@ known_append seen (x ∷ xs) ys = known_append (known_one seen x) xs ys
 pub known_distinct : (list more : List ℕ) → known (distinct nat_eq list) more ≡ distinct nat_eq (list ++ more)
 known_distinct list [] = ap (distinct nat_eq) (sym (append-nil list))
 known_distinct list (b ∷ more) = ap (λ z. known z more) (sym (distinct_grows nat_eq exact_numbers list b)) ∙ known_distinct (list ++ b ∷ []) more ∙ ap (distinct nat_eq) (append_assoc list (b ∷ []) more)
+
+pub all_in_distinct : (list : List ℕ) (b : ℕ) → Among list b → contains nat_eq (distinct nat_eq list) b ≡ true
+all_in_distinct list b m = ap (λ xs. contains nat_eq xs b) (sym (known_distinct [] list)) ∙ all_known [] list b m
 
 -- ---- renaming by two functions that agree
 

@@ -14,7 +14,7 @@ mod vocabulary;
 
 pub use copying::copy_patterns;
 pub use graphs::Graph;
-pub use numbering::relabel;
+pub use numbering::{relabel, relabelled};
 
 #[cfg(test)]
 mod tests;

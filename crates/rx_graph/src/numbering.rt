@@ -1,9 +1,9 @@
 //! The numbering of blank nodes.
-ghost use Rattle.std.specs.Prelude.{◌≡◌, [], IfOk, OnOk, nat_eq};
+ghost use Rattle.std.specs.Prelude.{◌≡◌, [], true, IfOk, IfSome, OnOk, nat_eq};
 ghost use Rattle.rx_model.specs.Terms.{set_of};
 ghost use Rattle.rx_model.specs.Numbered.{blank_of_node, blank_of_term, blanks_of, place_in, rename_node, rename_term, rename, numbered, Renamed};
 ghost use Rattle.rx_model.specs.Seen.{node_seen, term_seen, triple_seen, triples_seen};
-ghost use Rattle.rx_graph.specs.Numbering.{known_one, known};
+ghost use Rattle.rx_graph.specs.Numbering.{known_one, known, numbers_to};
 
 use crate::graphs::Graph;
 use indexmap::IndexSet;
@@ -23,6 +23,73 @@ pub fn relabel(alloc: Global, graph: &Graph) -> Result<Graph, NoMemory>
         relabelled.add(numbers.triple(graph.at(i))?)?;
     }
     Ok(relabelled)
+}
+
+/// The same of a graph that is handed over, which is given back as it is where its blank nodes have these numbers already:
+/// no triple is copied then.
+pub fn relabelled(alloc: Global, graph: Graph) -> Result<Graph, NoMemory>
+    ensures numbered { IfOk result (λ relabelled. triples_seen relabelled ≡ numbered nat_eq (triples_seen graph)) }
+{
+    if is_numbered(&graph) {
+        return Ok(graph);
+    }
+    relabel(alloc, &graph)
+}
+
+/// Whether the blank nodes are 0, 1, 2 in order of first occurrence.
+fn is_numbered(graph: &Graph) -> bool
+    ensures { result ≡ true → numbered nat_eq (triples_seen graph.now) ≡ triples_seen graph.now }
+{
+    let mut next = 0;
+    for i in 0..graph.len() {
+        match next_after(graph.at(i), next) {
+            Some(after) => next = after,
+            None => return false,
+        }
+    }
+    true
+}
+
+/// The number that a new blank node has behind the triple, where `next` is that before it; none where one of its blank nodes
+/// is new and has another number.
+fn next_after(triple: &Triple, next: u64) -> Option<u64>
+    ensures { IfSome result (λ after. known (numbers_to next) (blanks_of (triple_seen triple.now)) ≡ numbers_to after) }
+{
+    match next_after_node(&triple.subject, next) {
+        Some(after) => next_after_term(&triple.object, after),
+        None => None,
+    }
+}
+
+fn next_after_node(node: &Node, next: u64) -> Option<u64>
+    ensures { IfSome result (λ after. known (numbers_to next) (blank_of_node (node_seen node.now)) ≡ numbers_to after) }
+{
+    match node {
+        Node::Iri(_iri) => Some(next),
+        Node::Blank(blank) => next_after_blank(*blank, next),
+    }
+}
+
+fn next_after_term(term: &Term, next: u64) -> Option<u64>
+    ensures { IfSome result (λ after. known (numbers_to next) (blank_of_term (term_seen term.now)) ≡ numbers_to after) }
+{
+    match term {
+        Term::Iri(_iri) => Some(next),
+        Term::Blank(blank) => next_after_blank(*blank, next),
+        Term::Literal(_literal) => Some(next),
+    }
+}
+
+fn next_after_blank(blank: Blank, next: u64) -> Option<u64>
+    ensures { IfSome result (λ after. known_one (numbers_to next) blank.0 ≡ numbers_to after) }
+{
+    if blank.0 < next {
+        return Some(next);
+    }
+    if blank.0 > next || next == u64::MAX {
+        return None;
+    }
+    Some(next + 1)
 }
 
 /// Blank nodes in order of first occurrence. The number of each is its place.

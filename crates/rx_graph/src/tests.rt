@@ -33,13 +33,15 @@ fn repeats_vanish(rt: HostRuntime) -> Result<(), Fail> {
     assert_eq!(rt; graph.len(), 1_000);
     let copied = copy_patterns(alloc, &triples)?;
     assert_eq!(rt; copied.len(), 1_000);
-    let relabelled = relabel(alloc, &graph)?;
-    assert_eq!(rt; relabelled.len(), 1_000);
-    assert_eq!(rt;
-        relabelled.at(999).subject == Node::Blank(Blank(1_000)),
-        true
-    );
-    assert_eq!(rt; relabelled.at(999).object == Term::Blank(Blank(1)), true);
+    let numbered = relabel(alloc, &graph)?;
+    assert_eq!(rt; numbered.len(), 1_000);
+    assert_eq!(rt; numbered.at(999).subject == Node::Blank(Blank(1_000)), true);
+    assert_eq!(rt; numbered.at(999).object == Term::Blank(Blank(1)), true);
+    let again = relabelled(alloc, numbered)?;
+    assert_eq!(rt; again.len(), 1_000);
+    let handed_over = relabelled(alloc, graph)?;
+    assert_eq!(rt; handed_over.len(), 1_000);
+    assert_eq!(rt; handed_over.at(999).object == Term::Blank(Blank(1)), true);
     Ok(())
 }
 
