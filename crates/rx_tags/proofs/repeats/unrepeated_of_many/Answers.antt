@@ -1,6 +1,6 @@
 use Rattle.std.proofs.Common.{arith}
 use Rattle.rx_tags.proofs.RepeatLemmas.{kept_all, kept_some}
-use Rattle.rx_tags.proofs.repeats.unrepeated.Goals as goal
+use Rattle.rx_tags.proofs.repeats.unrepeated_of_many.Goals as goal
 
 pub returns-then-len-rows : goal.returns-then-len-rows
 returns-then-len-rows c =
