@@ -12,10 +12,13 @@ pub(crate) fn is_printed(byte: u8) -> bool
     matches!(byte, b' '..=b'~')
 }
 
-// One that is itself in each value in quotes.
+// One that is itself in each value in quotes. Most are letters, which are told first.
 fn is_plain(byte: u8) -> bool
     ensures { result ≡ fronts.is_plain byte }
 {
+    if byte > b'<' {
+        return byte <= b'~';
+    }
     is_printed(byte) && !matches!(byte, b'"' | b'&' | b'\'' | b'<')
 }
 

@@ -203,6 +203,9 @@ impl TagText {
     {
         let count = self.pairs.take_plain(bytes);
         let taken = self.end_value(bytes, count);
+        if taken == count {
+            return taken;
+        }
         self.skip_on(bytes, taken)
     }
 
@@ -218,6 +221,9 @@ impl TagText {
         }
         self.phase = TagPhase::Key;
         let taken = self.skip_on(bytes, count);
+        if taken == count {
+            return taken;
+        }
         self.skip_on(bytes, taken)
     }
 
