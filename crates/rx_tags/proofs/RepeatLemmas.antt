@@ -252,3 +252,9 @@ pair_passed text limit rows i f h e = pair_turn text limit rows i f h ∙ ap (λ
 
 pub all_behind : (rows : List Row) (n : ℕ) → take (length rows - n) (drop n rows) ≡ drop n rows
 all_behind rows n = let l = length-drop n rows in grind (arith, common_steps)
+
+-- A row alone repeats no name.
+pub alone : (text : List ℕ) (rows : List Row) → length rows < 2 → has_repeat (rows_read text rows) ≡ false
+alone text [] h = refl
+alone text (x ∷ []) h = refl
+alone text (x ∷ y ∷ rows) h = absurd (omega arith)

@@ -2,7 +2,7 @@
 use Rattle.std.proofs.Common.{◌≡◌, ◌∙◌, ℕ, ◌+◌, ◌-◌, ◌≤◌, ◌<◌, Bool, true, false, List, [], ◌∷◌, ◌++◌, length, take, drop, refl, ap, sym, subst, Result, Ok, append_assoc, arith, eqb-true, take-add, length-take-le, length-drop, get_or, inl, inr}
 use Rattle.std.specs.Prelude.{◌==◌, ◌&&◌, nat_le, MatchBool}
 use Rattle.std.specs.List.{list_all}
-use Rattle.std.proofs.lemmas.Bool.{cond-false, lt-ltb, lt-leb, le-leb, leb-true, eqb-false, and_parts, and_from, both_ways, cases_lt}
+use Rattle.std.proofs.lemmas.Bool.{cond-true, cond-false, or_left, or_right, lt-ltb, lt-leb, le-leb, leb-true, eqb-false, and_parts, and_from, both_ways, cases_lt}
 use Rattle.std.proofs.lemmas.List.{take_more, take_rest}
 use Rattle.std.proofs.lemmas.List.Folds.{list_all-append}
 use Rattle.rx_terms.specs.Ascii.{is_ascii}
@@ -22,7 +22,7 @@ use Rattle.rx_reader.specs.Tables.{Move, go, move_of, is_last}
 use Rattle.rx_reader.specs.Values.{Value, known_as, plain_step, value_step, is_run}
 use Rattle.rx_reader.specs.TagReader.{TagState, with_value, moved, checked, tag_on}
 use Rattle.rx_reader.proofs.Bools.{by_test}
-use Rattle.rx_tags.specs.Fronts.{is_printed, is_plain, is_small, is_quoted, is_naming, opens_key, GoesTo, GoesBy, TakesFront, GainsValue, GainsKey, GainsName}
+use Rattle.rx_tags.specs.Fronts.{is_printed, is_plain, is_small, is_quoted, is_naming, named, opens_key, GoesTo, GoesBy, TakesFront, GainsValue, GainsKey, GainsName}
 use Rattle.rx_tags.specs.Pairs.{Pairs, pairs_read, IsPending}
 use Rattle.rx_tags.specs.Reading.{Reading}
 use Rattle.rx_tags.specs.TagBufs.{TagSoFar, MayStep, TakesMore}
@@ -87,25 +87,25 @@ on_quoted P phase.Opened q d s = absurd (cc)
 on_quoted P phase.Emptied q d s = absurd (cc)
 on_quoted P phase.Closed q d s = absurd (cc)
 
--- of both names of a tag
-on_naming : (P : TagPhase → Type 0) (p : TagPhase) → is_naming p ≡ true → P phase.Name → P phase.EndName → P p
-on_naming P phase.Name q x y = x
-on_naming P phase.EndName q x y = y
-on_naming P phase.Start q x y = absurd (cc)
-on_naming P phase.Gap q x y = absurd (cc)
-on_naming P phase.Solidus q x y = absurd (cc)
-on_naming P phase.Key q x y = absurd (cc)
-on_naming P phase.AfterKey q x y = absurd (cc)
-on_naming P phase.BeforeValue q x y = absurd (cc)
-on_naming P phase.DoubleQuoted q x y = absurd (cc)
-on_naming P phase.SingleQuoted q x y = absurd (cc)
-on_naming P phase.Unquoted q x y = absurd (cc)
-on_naming P phase.AfterValue q x y = absurd (cc)
-on_naming P phase.EndStart q x y = absurd (cc)
-on_naming P phase.EndGap q x y = absurd (cc)
-on_naming P phase.Opened q x y = absurd (cc)
-on_naming P phase.Emptied q x y = absurd (cc)
-on_naming P phase.Closed q x y = absurd (cc)
+-- of where a tag's name is read
+on_naming : (P : TagPhase → Type 0) (p : TagPhase) → is_naming p ≡ true → P phase.Name → P phase.EndName → P phase.EndStart → P p
+on_naming P phase.Name q x y z = x
+on_naming P phase.EndName q x y z = y
+on_naming P phase.EndStart q x y z = z
+on_naming P phase.Start q x y z = absurd (cc)
+on_naming P phase.Gap q x y z = absurd (cc)
+on_naming P phase.Solidus q x y z = absurd (cc)
+on_naming P phase.Key q x y z = absurd (cc)
+on_naming P phase.AfterKey q x y z = absurd (cc)
+on_naming P phase.BeforeValue q x y z = absurd (cc)
+on_naming P phase.DoubleQuoted q x y z = absurd (cc)
+on_naming P phase.SingleQuoted q x y z = absurd (cc)
+on_naming P phase.Unquoted q x y z = absurd (cc)
+on_naming P phase.AfterValue q x y z = absurd (cc)
+on_naming P phase.EndGap q x y z = absurd (cc)
+on_naming P phase.Opened q x y z = absurd (cc)
+on_naming P phase.Emptied q x y z = absurd (cc)
+on_naming P phase.Closed q x y z = absurd (cc)
 
 -- of where an attribute's name is read
 on_key : (P : TagPhase → Type 0) (p : TagPhase) → opens_key p ≡ true → P phase.Gap → P phase.Key → P p
@@ -131,7 +131,7 @@ pub quoted_settled : (p : TagPhase) (value : Value) → is_quoted p ≡ true →
 quoted_settled p value q = on_quoted (λ x. IsSettled x value) p q (λ n. absurd (cc)) (λ n. absurd (cc))
 
 -- the state itself, where the tag isn't whole
-checked_open : (s : Syntax) (st : TagState) → is_last st.phase ≡ false → checked s (Ok st) ≡ Ok st
+pub checked_open : (s : Syntax) (st : TagState) → is_last st.phase ≡ false → checked s (Ok st) ≡ Ok st
 checked_open s st e = rw e refl
 
 -- a plain character of a value in quotes
@@ -213,8 +213,14 @@ module _ (c : ℕ) (h : is_small c ≡ true) where
   end_move Html = rw (is_none is_small c 9 h refl, is_none is_small c 10 h refl, is_none is_small c 12 h refl, is_none is_small c 13 h refl, is_none is_small c 32 h refl, is_none is_small c 47 h refl, is_none is_small c 62 h refl) refl
   end_move Xhtml = rw (is_none is_small c 9 h refl, is_none is_small c 10 h refl, is_none is_small c 12 h refl, is_none is_small c 13 h refl, is_none is_small c 32 h refl, is_none is_small c 62 h refl, small_nc) refl
 
-  name_move : (s : Syntax) (p : TagPhase) → is_naming p ≡ true → move_of s p c ≡ go p action.Name
-  name_move s p q = on_naming (λ x. move_of s x c ≡ go x action.Name) p q (start_move s) (end_move s)
+  first_move : (s : Syntax) → move_of s phase.EndStart c ≡ go phase.EndName action.Name
+  first_move Html =
+      let parts = and_parts (nat_le 97 c) (nat_le c 122) h in
+      cond-true _ _ _ (or_right (nat_le 65 c && nat_le c 90) _ h)
+  first_move Xhtml = cond-true _ _ _ (or_left (is_nc_start c) _ small_start)
+
+  name_move : (s : Syntax) (p : TagPhase) → is_naming p ≡ true → move_of s p c ≡ go (named p) action.Name
+  name_move s p q = on_naming (λ x. move_of s x c ≡ go (named x) action.Name) p q (start_move s) (end_move s) (first_move s)
 
   small_cased : (s : Syntax) → cased_char s c ≡ c
   small_cased Html =
@@ -251,30 +257,37 @@ module _ (s : Syntax) (name : Chars) where
   some_key p old new (c ∷ front) q n g = subst (λ (x : Pairs). GoesBy s (state_of p name old) (c ∷ front) (in_key x)) (sym g.is) (more_key p old c front q g.small)
 
 -- a small letter of a tag's name
-module _ (s : Syntax) (p : TagPhase) (pairs : Pairs) (q : is_naming p ≡ true) where
-  abbrev named : Chars → TagState
-  named name = state_of p name pairs
+named_naming : (p : TagPhase) → is_naming p ≡ true → is_naming (named p) ≡ true
+named_naming p q = on_naming (λ x. is_naming (named x) ≡ true) p q refl refl refl
 
-  one_name : (name : Chars) (c : ℕ) → is_small c ≡ true → GoesTo s (named name) c (named (name ++ c ∷ []))
-  one_name name c h =
-      let unfinished = on_naming (λ x. is_last x ≡ false) p q refl refl in (
-        ap (λ (m : Move). checked s (moved s (meaning s) (named name) c m)) (name_move c h s p q)
-            ∙ (ap (λ (d : ℕ). checked s (ok_state s name (named (name ++ d ∷ [])))) (small_cased c h s) ∙ checked_open s (named (name ++ c ∷ [])) unfinished),
+named_twice : (p : TagPhase) → is_naming p ≡ true → named (named p) ≡ named p
+named_twice p q = on_naming (λ x. named (named x) ≡ named x) p q refl refl refl
+
+module _ (s : Syntax) (pairs : Pairs) where
+  abbrev with_name : TagPhase → Chars → TagState
+  with_name p name = state_of p name pairs
+
+  one_name : (p : TagPhase) (name : Chars) (c : ℕ) → is_naming p ≡ true → is_small c ≡ true → GoesTo s (with_name p name) c (with_name (named p) (name ++ c ∷ []))
+  one_name p name c q h =
+      let unfinished = on_naming (λ x. is_last (named x) ≡ false) p q refl refl refl in (
+        ap (λ (m : Move). checked s (moved s (meaning s) (with_name p name) c m)) (name_move c h s p q)
+            ∙ (ap (λ (d : ℕ). checked s (ok_state s name (with_name (named p) (name ++ d ∷ [])))) (small_cased c h s) ∙ checked_open s (with_name (named p) (name ++ c ∷ [])) unfinished),
         unfinished,
       )
 
-  more_name : (name : Chars) (c : ℕ) (front : Chars) → list_all is_small (c ∷ front) ≡ true → GoesBy s (named name) (c ∷ front) (named (name ++ c ∷ front))
-  more_name name c [] h = (named (name ++ c ∷ []), one_name name c (and_parts (is_small c) _ h).0, refl)
-  more_name name c (d ∷ front) h =
-      let k = and_parts (is_small c) _ h in (
-        named (name ++ c ∷ []),
-        one_name name c k.0,
-        subst (λ (x : Chars). GoesBy s (named (name ++ c ∷ [])) (d ∷ front) (named x)) (append_assoc name (c ∷ []) (d ∷ front)) (more_name (name ++ c ∷ []) d front k.1),
+  more_name : (p : TagPhase) (name : Chars) (c : ℕ) (front : Chars) → is_naming p ≡ true → list_all is_small (c ∷ front) ≡ true → GoesBy s (with_name p name) (c ∷ front) (with_name (named p) (name ++ c ∷ front))
+  more_name p name c [] q h = (with_name (named p) (name ++ c ∷ []), one_name p name c q (and_parts (is_small c) _ h).0, refl)
+  more_name p name c (d ∷ front) q h =
+      let k = and_parts (is_small c) _ h in
+      let more = subst (λ (x : TagPhase). GoesBy s (with_name (named p) (name ++ c ∷ [])) (d ∷ front) (with_name x ((name ++ c ∷ []) ++ d ∷ front))) (named_twice p q) (more_name (named p) (name ++ c ∷ []) d front (named_naming p q) k.1) in (
+        with_name (named p) (name ++ c ∷ []),
+        one_name p name c q k.0,
+        subst (λ (x : Chars). GoesBy s (with_name (named p) (name ++ c ∷ [])) (d ∷ front) (with_name (named p) x)) (append_assoc name (c ∷ []) (d ∷ front)) more,
       )
 
-  some_name : (name new front : Chars) → 0 < length front → GainsName name front new → GoesBy s (named name) front (named new)
-  some_name name new [] n g = absurd (omega arith)
-  some_name name new (c ∷ front) n g = subst (λ (x : Chars). GoesBy s (named name) (c ∷ front) (named x)) (sym g.is) (more_name name c front g.small)
+  some_name : (p : TagPhase) (name new front : Chars) → is_naming p ≡ true → 0 < length front → GainsName name front new → GoesBy s (with_name p name) front (with_name (named p) new)
+  some_name p name new [] q n g = absurd (omega arith)
+  some_name p name new (c ∷ front) q n g = subst (λ (x : Chars). GoesBy s (with_name p name) (c ∷ front) (with_name (named p) x)) (sym g.is) (more_name p name c front q g.small)
 
 -- nothing is taken, or some characters are
 some_count : (n : ℕ) → (n ≡ 0 → ⊥) → 0 < n
@@ -304,12 +317,16 @@ key_front s p name old new bytes n q some f m =
     (λ z e. absurd (some (eqb-true n 0 z)))
     (λ z g. record { fits = f; printed = small_printed (take n bytes) g.small; goes = some_key s name p old new (take n bytes) q (some_taken n bytes f z) g })
 
-pub name_front : (s : Syntax) (p : TagPhase) (name new : Chars) (pairs : Pairs) (bytes : List ℕ) (n : ℕ) → is_naming p ≡ true → n ≤ length bytes → MatchBool (n == 0) (new ≡ name) (GainsName name (take n bytes) new)
-    → TakesFront s (state_of p name pairs) bytes n (state_of p new pairs)
-name_front s p name new pairs bytes n q f m =
+pub name_front : (s : Syntax) (p : TagPhase) (name new : Chars) (pairs : Pairs) (bytes : List ℕ) (n : ℕ) → is_naming p ≡ true → (n ≡ 0 → ⊥) → n ≤ length bytes → MatchBool (n == 0) (new ≡ name) (GainsName name (take n bytes) new)
+    → TakesFront s (state_of p name pairs) bytes n (state_of (named p) new pairs)
+name_front s p name new pairs bytes n q some f m =
     match_by (n == 0) _ _ m
-    (λ z e. none_taken s (state_of p name pairs) (state_of p new pairs) bytes n (eqb-true n 0 z) (ap (λ (x : Chars). state_of p x pairs) e))
-    (λ z g. record { fits = f; printed = small_printed (take n bytes) g.small; goes = some_name s p pairs q name new (take n bytes) (some_taken n bytes f z) g })
+    (λ z e. absurd (some (eqb-true n 0 z)))
+    (λ z g. record { fits = f; printed = small_printed (take n bytes) g.small; goes = some_name s pairs p name new (take n bytes) q (some_taken n bytes f z) g })
+
+pub no_name : (s : Syntax) (p : TagPhase) (name new : Chars) (pairs : Pairs) (bytes : List ℕ) (n : ℕ) → n ≡ 0 → MatchBool (n == 0) (new ≡ name) (GainsName name (take n bytes) new) → TakesFront s (state_of p name pairs) bytes 0 (state_of p new pairs)
+no_name s p name new pairs bytes n z m =
+    none_taken s (state_of p name pairs) (state_of p new pairs) bytes 0 refl (ap (λ (x : Chars). state_of p x pairs) (subst (λ (b : Bool). MatchBool b (new ≡ name) (GainsName name (take n bytes) new)) (ap (λ (x : ℕ). x == 0) z) m))
 
 -- no front is taken
 pub nothing_taken : (s : Syntax) (old : TagState) (bytes : List ℕ) → TakesFront s old bytes 0 old
@@ -320,7 +337,7 @@ goes_then : (s : Syntax) (a b c : TagState) (xs ys : Chars) → GoesBy s a xs b 
 goes_then s a b c [] ys g h = subst (λ (x : TagState). GoesBy s x ys c) g h
 goes_then s a b c (x ∷ xs) ys g h = (g.0, g.1, goes_then s g.0 b c xs ys g.2 h)
 
-takes_then : (s : Syntax) (a b c : TagState) (bytes : List ℕ) (i n : ℕ) → i ≤ length bytes → TakesFront s a bytes i b → TakesFront s b (take (length bytes - i) (drop i bytes)) n c → TakesFront s a bytes (i + n) c
+pub takes_then : (s : Syntax) (a b c : TagState) (bytes : List ℕ) (i n : ℕ) → i ≤ length bytes → TakesFront s a bytes i b → TakesFront s b (take (length bytes - i) (drop i bytes)) n c → TakesFront s a bytes (i + n) c
 takes_then s a b c bytes i n k f g =
     let more = subst (λ (x : List ℕ). TakesFront s b x n c) (take_rest bytes i) g in
     record {
@@ -329,7 +346,7 @@ takes_then s a b c bytes i n k f g =
       goes = subst (λ (x : List ℕ). GoesBy s a x c) (sym (take-add i n bytes)) (goes_then s a b c (take i bytes) (take n (drop i bytes)) f.goes more.goes);
     }
 
-takes_one : (s : Syntax) (a b c : TagState) (bytes : List ℕ) (i : ℕ) → i < length bytes → TakesFront s a bytes i b → is_printed (get_or bytes i 0) ≡ true → GoesTo s b (get_or bytes i 0) c → TakesFront s a bytes (i + 1) c
+pub takes_one : (s : Syntax) (a b c : TagState) (bytes : List ℕ) (i : ℕ) → i < length bytes → TakesFront s a bytes i b → is_printed (get_or bytes i 0) ≡ true → GoesTo s b (get_or bytes i 0) c → TakesFront s a bytes (i + 1) c
 takes_one s a b c bytes i k f p g =
     let e = take_more bytes i 0 k in
     record {
@@ -337,13 +354,6 @@ takes_one s a b c bytes i k f p g =
       printed = subst (λ (x : List ℕ). list_all is_printed x ≡ true) (sym e) (list_all-append is_printed (take i bytes) (get_or bytes i 0 ∷ []) ∙ and_from _ _ f.printed (and_from (is_printed (get_or bytes i 0)) true p refl));
       goes = subst (λ (x : List ℕ). GoesBy s a x c) (sym e) (goes_then s a b c (take i bytes) (get_or bytes i 0 ∷ []) f.goes (c, g, refl));
     }
-
--- a turn of the loop: one character, and what stands behind it
-pub turn : (s t u : Syntax) (a b c d : TagState) (bytes : List ℕ) (i n : ℕ) → i < length bytes → TakesFront s a bytes i b → t ≡ s → is_printed (get_or bytes i 0) ≡ true → GoesTo t b (get_or bytes i 0) c
-    → u ≡ t → TakesFront u c (take (length bytes - (i + 1)) (drop (i + 1) bytes)) n d → TakesFront s a bytes (i + 1 + n) d
-turn s t u a b c d bytes i n k f e p g r h =
-    takes_then s a c d bytes (i + 1) n (omega (arith, k)) (takes_one s a b c bytes i k f p (subst (λ (x : Syntax). GoesTo x b (get_or bytes i 0) c) e g))
-    (subst (λ (x : Syntax). TakesFront x c (take (length bytes - (i + 1)) (drop (i + 1) bytes)) n d) (r ∙ e) h)
 
 -- what is taken is read, and ends no tag
 pub goes_unfinished : (s : Syntax) (a b : TagState) (xs : Chars) → GoesBy s a xs b → is_last a.phase ≡ false → is_last b.phase ≡ false

@@ -32,11 +32,23 @@ is_quoted phase.DoubleQuoted = true
 is_quoted phase.SingleQuoted = true
 is_quoted _ = false
 
--- a small letter goes on with a tag's name
+-- the quote that ends a value in quotes
+abbrev pub ends_value : TagPhase → ℕ → Bool
+ends_value phase.DoubleQuoted c = c == quotation_mark
+ends_value phase.SingleQuoted c = c == apostrophe
+ends_value _ c = false
+
+-- a small letter goes on with a tag's name, or begins an end tag's
 abbrev pub is_naming : TagPhase → Bool
 is_naming phase.Name = true
 is_naming phase.EndName = true
+is_naming phase.EndStart = true
 is_naming _ = false
+
+-- the phase behind such a letter
+abbrev pub named : TagPhase → TagPhase
+named phase.EndStart = phase.EndName
+named p = p
 
 -- a small letter belongs to an attribute's name
 abbrev pub opens_key : TagPhase → Bool
@@ -69,6 +81,10 @@ pub record TakesFront (syntax : Syntax) (old : TagState) (bytes : List ℕ) (n :
   pub fits : n ≤ length bytes
   pub printed : list_all is_printed (take n bytes) ≡ true
   pub goes : GoesBy syntax old (take n bytes) new
+
+-- Wherever the first `taken` bytes lead to a state, the first n of them lead to the new one.
+abbrev pub TakesOn : Syntax → TagState → List ℕ → ℕ → ℕ → TagState → Type 0
+TakesOn syntax old bytes taken n new = (start : TagState) → TakesFront syntax start bytes taken old → TakesFront syntax start bytes n new
 
 -- The value that is read has these characters more, which no run stands before.
 pub record GainsValue (old : Pairs) (front : Chars) (new : Pairs) : Type 0 where

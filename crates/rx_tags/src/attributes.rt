@@ -14,9 +14,11 @@ use std::marker::Model;
 /// Where an attribute stands in the buffer: its name from `start` to `middle`, its value from there to `end`.
 #[derive(Clone, Copy, Drop)]
 pub(crate) struct Row {
+    // The fields stand so that `start` and `middle`, which were written apart shortly before a row is made of them, aren't
+    // copied as one word of twice the size, for which the processor would wait.
     pub(crate) start: usize,
-    pub(crate) middle: usize,
     pub(crate) end: usize,
+    pub(crate) middle: usize,
 }
 
 /// Names and values one after another in one buffer: those of the attributes that are whole, and of the one that is read.

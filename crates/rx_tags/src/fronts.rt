@@ -12,10 +12,13 @@ pub(crate) fn is_printed(byte: u8) -> bool
     matches!(byte, b' '..=b'~')
 }
 
-// One that is itself in each value in quotes.
+// One that is itself in each value in quotes. Most are letters, which are told first.
 fn is_plain(byte: u8) -> bool
     ensures { result ≡ fronts.is_plain byte }
 {
+    if byte > b'<' {
+        return byte <= b'~';
+    }
     is_printed(byte) && !matches!(byte, b'"' | b'&' | b'\'' | b'<')
 }
 
@@ -33,11 +36,35 @@ pub(crate) fn is_quoted(phase: TagPhase) -> bool
     matches!(phase, TagPhase::DoubleQuoted | TagPhase::SingleQuoted)
 }
 
-/// Whether a tag's name is read.
+/// Whether a byte ends the value in quotes that is read.
+pub(crate) fn ends_value(phase: TagPhase, byte: u8) -> bool
+    ensures { result ≡ fronts.ends_value phase byte }
+{
+    match phase {
+        TagPhase::DoubleQuoted => byte == b'"',
+        TagPhase::SingleQuoted => byte == b'\'',
+        _ => false,
+    }
+}
+
+/// Whether a small letter goes on with a tag's name, or begins an end tag's.
 pub(crate) fn is_naming(phase: TagPhase) -> bool
     ensures { result ≡ fronts.is_naming phase }
 {
-    matches!(phase, TagPhase::Name | TagPhase::EndName)
+    matches!(
+        phase,
+        TagPhase::Name | TagPhase::EndName | TagPhase::EndStart
+    )
+}
+
+/// The phase behind such a letter.
+pub(crate) fn named(phase: TagPhase) -> TagPhase
+    ensures { result ≡ fronts.named phase }
+{
+    match phase {
+        TagPhase::EndStart => TagPhase::EndName,
+        _ => phase,
+    }
 }
 
 /// Whether a small letter goes on with an attribute's name, or begins one.

@@ -84,6 +84,7 @@ fn continues_attribute(syntax: Syntax, c: char) -> bool
 }
 
 /// The phase after the character and what it does, or nothing where no tag goes on so.
+#[inline(always)]
 pub(crate) fn move_at(syntax: Syntax, phase: TagPhase, c: char) -> Option<(TagPhase, TagAction)>
     ensures { result ≡ tables.move_of syntax phase c }
 {

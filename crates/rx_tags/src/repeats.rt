@@ -11,6 +11,7 @@ use std::alloc::Global;
 use std::collections::BTreeSet;
 
 /// The rows whose names stand in no row before them, or `None` where that is each of them.
+#[inline(always)]
 pub(crate) fn unrepeated(
     alloc: Global,
     text: &[u8],
@@ -19,9 +20,25 @@ pub(crate) fn unrepeated(
     requires { RowsFit text.now (length text.now) rows.now }
     ensures { IfOk result (λ kept. MatchOption kept (has_repeat (rows_read text.now rows.now) ≡ false) (λ some. KeepsFirsts text.now rows.now some.items)) }
 {
+    if rows.len() < 2 {
+        return Ok(None);
+    }
     if are_few_and_apart(text, rows) {
         return Ok(None);
     }
+    unrepeated_of_many(alloc, text, rows)
+}
+
+#[cold]
+#[inline(never)]
+fn unrepeated_of_many(
+    alloc: Global,
+    text: &[u8],
+    rows: &[Row],
+) -> Result<Option<Vec<Row>>, NoMemory>
+    requires { RowsFit text.now (length text.now) rows.now }
+    ensures { IfOk result (λ kept. MatchOption kept (has_repeat (rows_read text.now rows.now) ≡ false) (λ some. KeepsFirsts text.now rows.now some.items)) }
+{
     let kept = first_rows(alloc, text, rows)?;
     if kept.len() == rows.len() {
         return Ok(None);

@@ -1,12 +1,16 @@
 //! The text of one tag, read a character at a time.
-ghost use Rattle.std.specs.Prelude.{◌≡◌, ◌≤◌, [], ◌∷◌, ◌++◌, ◌&&◌, ◌==◌, not, length, take, IfErr, MatchBool, OnErr, OnOk, string_bytes};
+ghost use Rattle.std.specs.Prelude.{◌≡◌, ◌≤◌, true, [], ◌∷◌, ◌++◌, ◌&&◌, ◌==◌, not, length, take, IfErr, MatchBool, OnErr, OnOk, string_bytes};
+ghost use Rattle.std.specs.List.{list_all};
 ghost use Rattle.std.specs.Str.{chars};
+ghost use Rattle.rx_terms.specs.Ascii.{is_ascii};
 ghost use Rattle.rx_reader.specs.Tables.{is_html};
 ghost use Rattle.rx_reader.specs.Values.{no_value_yet};
 ghost use Rattle.rx_tags.specs.Fronts.{GainsName};
 ghost use Rattle.rx_tags.specs.TagReads.{ActGives, CanEnd, EndGives};
 
-use crate::fronts::{is_naming, is_printed, is_quoted, opens_key, skip, small_length};
+use crate::fronts::{
+    ends_value, is_naming, is_printed, is_quoted, named, opens_key, skip, small_length,
+};
 use crate::moves::{is_last, move_at};
 use crate::pairs::{Pairs, TagError};
 use crate::values::cased;
@@ -99,6 +103,7 @@ impl TagText {
     }
 
     // The character by its move, which doesn't end the tag. Where that fails nothing is changed.
+    #[inline(always)]
     fn go(&mut self, phase: TagPhase, action: TagAction, c: char) -> Result<(), TagError>
         requires by_move { move_of self.old.syntax self.old.state.phase c ≡ Some (phase, action) }
         requires unfinished { tables.is_last phase ≡ false }
@@ -136,9 +141,9 @@ impl TagText {
 }
 
 impl TagText {
-    ghost use Rattle.std.specs.Prelude.{true, false};
+    ghost use Rattle.std.specs.Prelude.{◌<◌, false};
     ghost use Rattle.rx_tags.specs.Fronts as fronts;
-    ghost use Rattle.rx_tags.specs.Fronts.{GoesTo, TakesFront};
+    ghost use Rattle.rx_tags.specs.Fronts.{GoesTo, TakesFront, TakesOn};
 
     /// Takes characters at the front, as far as each is printed ASCII, goes on with the tag and finds memory, and tells how
     /// many.
@@ -146,35 +151,65 @@ impl TagText {
         ensures takes { TakesFront self.old.syntax self.old.state bytes.now result self.new.state }
         ensures syntax { self.new.syntax ≡ self.old.syntax }
     {
-        let mut taken = self.take_run(bytes);
+        let mut taken = 0;
         while taken < bytes.len() {
-            if !self.goes_on(bytes[taken]) {
+            let count = self.take_some(&bytes[taken..]);
+            if count == 0 {
                 return taken;
             }
-            taken += 1;
-            taken += self.take_run(&bytes[taken..]);
+            taken += count;
         }
         taken
     }
 
-    // What stands at the front of a value in quotes, of an attribute's name, or of the rest of the tag's.
+    // What stands at the front with what ends it, or one character.
+    fn take_some(&mut self, bytes: &[u8]) -> usize
+        requires { 0 < length bytes.now }
+        ensures takes { TakesFront self.old.syntax self.old.state bytes.now result self.new.state }
+        ensures syntax { self.new.syntax ≡ self.old.syntax }
+    {
+        let count = self.take_run(bytes);
+        if count > 0 {
+            return count;
+        }
+        if self.goes_on(bytes[0]) {
+            return 1;
+        }
+        0
+    }
+
+    // The front of a value in quotes, of an attribute's name, or of the rest of the tag's, with what ends it.
     fn take_run(&mut self, bytes: &[u8]) -> usize
         ensures takes { TakesFront self.old.syntax self.old.state bytes.now result self.new.state }
         ensures syntax { self.new.syntax ≡ self.old.syntax }
     {
         if is_quoted(self.phase) {
-            return self.pairs.take_plain(bytes);
+            return self.take_value(bytes);
         }
         if opens_key(self.phase) {
             return self.take_key(bytes);
         }
         if is_naming(self.phase) {
-            return take_name(&mut self.name, bytes);
+            return self.take_named(bytes);
         }
         0
     }
 
-    // The small letters at the front, which go on with an attribute's name or begin one.
+    // Characters at the front that are themselves in the value, the quote behind them, and a space behind that.
+    fn take_value(&mut self, bytes: &[u8]) -> usize
+        requires { fronts.is_quoted self.old.state.phase ≡ true }
+        ensures takes { TakesFront self.old.syntax self.old.state bytes.now result self.new.state }
+        ensures syntax { self.new.syntax ≡ self.old.syntax }
+    {
+        let count = self.pairs.take_plain(bytes);
+        let taken = self.end_value(bytes, count);
+        if taken == count {
+            return taken;
+        }
+        self.skip_on(bytes, taken)
+    }
+
+    // The small letters at the front, which go on with an attribute's name or begin one, and `=` with its quote behind them.
     fn take_key(&mut self, bytes: &[u8]) -> usize
         requires { fronts.opens_key self.old.state.phase ≡ true }
         ensures takes { TakesFront self.old.syntax self.old.state bytes.now result self.new.state }
@@ -185,7 +220,72 @@ impl TagText {
             return 0;
         }
         self.phase = TagPhase::Key;
+        let taken = self.skip_on(bytes, count);
+        if taken == count {
+            return taken;
+        }
+        self.skip_on(bytes, taken)
+    }
+
+    // The front of what is left of the tag's name, and a space behind it.
+    fn take_named(&mut self, bytes: &[u8]) -> usize
+        requires { fronts.is_naming self.old.state.phase ≡ true }
+        ensures takes { TakesFront self.old.syntax self.old.state bytes.now result self.new.state }
+        ensures syntax { self.new.syntax ≡ self.old.syntax }
+    {
+        let count = self.take_letters(bytes);
+        self.skip_on(bytes, count)
+    }
+
+    // The small letters at the front, which go on with the tag's name, or begin an end tag's.
+    fn take_letters(&mut self, bytes: &[u8]) -> usize
+        requires { fronts.is_naming self.old.state.phase ≡ true }
+        ensures takes { TakesFront self.old.syntax self.old.state bytes.now result self.new.state }
+        ensures syntax { self.new.syntax ≡ self.old.syntax }
+    {
+        let count = take_name(&mut self.name, bytes);
+        if count == 0 {
+            return 0;
+        }
+        self.phase = named(self.phase);
         count
+    }
+
+    // One byte more, where it ends the value that is read and there is memory.
+    fn end_value(&mut self, bytes: &[u8], taken: usize) -> usize
+        requires { taken ≤ length bytes.now }
+        ensures fits { result ≤ length bytes.now }
+        ensures takes { TakesOn self.old.syntax self.old.state bytes.now taken result self.new.state }
+        ensures syntax { self.new.syntax ≡ self.old.syntax }
+    {
+        if taken == bytes.len() {
+            return taken;
+        }
+        if !ends_value(self.phase, bytes[taken]) {
+            return taken;
+        }
+        if self.pairs.add(self.syntax).is_err() {
+            return taken;
+        }
+        self.phase = TagPhase::AfterValue;
+        taken + 1
+    }
+
+    // One byte more, where by it nothing but the phase changes.
+    fn skip_on(&mut self, bytes: &[u8], taken: usize) -> usize
+        requires { taken ≤ length bytes.now }
+        ensures fits { result ≤ length bytes.now }
+        ensures takes { TakesOn self.old.syntax self.old.state bytes.now taken result self.new.state }
+        ensures syntax { self.new.syntax ≡ self.old.syntax }
+    {
+        if taken == bytes.len() {
+            return taken;
+        }
+        let Some(next) = skip(self.phase, bytes[taken]) else {
+            return taken;
+        };
+        self.phase = next;
+        taken + 1
     }
 
     // One character, if it is printed and the tag goes on with it; else nothing is changed.
@@ -199,7 +299,7 @@ impl TagText {
             self.phase = next;
             return true;
         }
-        if !is_printed(byte) {
+        if byte == b'>' || !is_printed(byte) {
             return false;
         }
         let c = char::from(byte);
@@ -255,6 +355,7 @@ fn refuses(syntax: Syntax, repeated: bool) -> bool
     syntax == Syntax::Xhtml && repeated
 }
 
+#[inline(always)]
 fn act(
     syntax: Syntax,
     action: TagAction,
@@ -306,13 +407,18 @@ fn take_name(name: &mut String, bytes: &[u8]) -> usize
     if count == 0 {
         return 0;
     }
-    let Ok(letters) = str::from_utf8(&bytes[..count]) else {
-        return 0;
-    };
-    if name.push_str(letters).is_err() {
+    if name.push_str(ascii_text(&bytes[..count])).is_err() {
         return 0;
     }
     count
+}
+
+// Bytes of ASCII as text. They are UTF-8, so they aren't looked at again.
+fn ascii_text(bytes: &[u8]) -> &str
+    requires { list_all is_ascii bytes.now ≡ true }
+    ensures { result.now ≡ bytes.now }
+{
+    unsafe { str::from_utf8_unchecked(bytes) }
 }
 
 fn push_name(name: &mut String, c: char) -> Result<(), TagError>
