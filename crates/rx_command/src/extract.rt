@@ -8,7 +8,7 @@ ghost use Rattle.rx_nquads.specs.Document.{Nquads};
 ghost use Rattle.rx_nquads.specs.Quads.{quads};
 ghost use Rattle.rx_nquads.specs.Writing.{nquads};
 
-use rx_graph::{Graph, copy_patterns, relabel};
+use rx_graph::{Graph, copy_patterns, relabelled};
 use rx_nquads::text;
 use rx_terms::{Iri, NoMemory, TripleList};
 use std::alloc::Global;
@@ -31,5 +31,5 @@ pub(crate) fn graph_of(alloc: Global, list: &TripleList) -> Result<Graph, NoMemo
     ensures { IfOk result (λ graph. triples_seen graph ≡ numbered nat_eq (copied nat_eq (triples_seen list.now))) }
 {
     let copied = copy_patterns(alloc, list)?;
-    relabel(alloc, &copied)
+    relabelled(alloc, copied)
 }
