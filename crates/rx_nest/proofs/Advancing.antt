@@ -1,5 +1,5 @@
 -- What is due and what is read are told in turn.
-use Rattle.std.proofs.Common.{◌≡◌, ◌∙◌, ℕ, zero, suc, ◌<◌, ◌+◌, Bool, true, false, List, [], ◌++◌, refl, sym, ap, subst, append_assoc, append-nil, Option, Some, None, arith}
+use Rattle.std.proofs.Common.{◌≡◌, ◌∙◌, ℕ, zero, suc, ◌+◌, Bool, true, false, List, [], ◌++◌, refl, sym, ap, subst, append_assoc, append-nil, Option, Some, None, arith}
 use Rattle.std.proofs.lemmas.Bool.Decides.{nat_tests}
 use Rattle.std.specs.Prelude.{◌-◌, nat_lt, take, drop, if◌then◌else◌}
 use Rattle.rx_chars.specs.declared.syntax.Syntax.{Syntax}
@@ -20,8 +20,10 @@ use Rattle.rx_nest.specs.declared.heard.Did.TheVariants as did
 use Rattle.rx_nest.specs.Lines.{Lines}
 use Rattle.rx_nest.specs.Signs.{Sign, sees, nothing_seen}
 use Rattle.rx_nest.specs.Follows.{flags_of, own_signs}
-use Rattle.rx_nest.specs.Heard.{first_own, next_own, next_owed, first_of}
-use Rattle.rx_nest.specs.Nests.{Nested, At, Stands, Stops, Unshown, LendsStart, begins_own, IsATag, no_token, a_tag, read_before, read_now, HeardOf, DidOf, Done, DidLends, did_signs, did_more, heard_signs, hears_more, Lends, Heeds, last_tag, owed_signs, owes_begin, left, own_left}
+use Rattle.rx_pages.specs.PageReader.{Scanning}
+use Rattle.rx_scan.proofs.MarkLemmas.{none_marked}
+use Rattle.rx_nest.specs.Heard.{first_own, own_next, next_own, next_owed, first_of, paid}
+use Rattle.rx_nest.specs.Nests.{Nested, At, Stands, Stops, Unshown, LendsStart, begins_own, IsATag, a_tag, read_before, read_now, HeardOf, DidOf, Done, DidLends, did_signs, did_more, did_skipped, heard_signs, hears_more, hears_skipped, Lends, Heeds, last_tag, owed_signs, owes_begin, left, own_left}
 use Rattle.rx_nest.proofs.TextSteps.{sees_append}
 use Rattle.rx_nest.proofs.Heeding.{front_rest}
 use Rattle.rx_nest.proofs.Sizes.{still_so}
@@ -58,14 +60,13 @@ pub record Turn (signs : List Sign) (d : Did) (owed : Owed) (v : Scanner) : Type
   pub signs_are : signs ≡ did_signs d v ++ owed_signs owed (last_tag v)
   pub begin_left : owes_begin owed.own ≡ true → LendsStart v
   pub quiet : did_more d ≡ false
-  pub is_due : (items : List Item) → items ≡ [] → DidOf d v items
-  pub is_read : (items : List Item) → IsATag items → DidOf d v items
+  pub is_read : (s : Scanning) (bytes : List ℕ) (items : List Item) → IsATag items → DidOf d v s bytes items
 
 own_turn : (o : Own) (v : Scanner) → Turn (own_signs o (last_tag v)) (first_own o).0 (first_own o).1 v
-own_turn own.Nothing v = record { signs_are = refl; begin_left = λ h. absurd (cc); quiet = refl; is_due = λ items e. no_token e; is_read = λ items t. a_tag t }
-own_turn own.Begin v = record { signs_are = refl; begin_left = λ h. absurd (cc); quiet = refl; is_due = λ items e. read_before e; is_read = λ items t. read_now t }
-own_turn own.Alone v = record { signs_are = refl; begin_left = λ h. absurd (cc); quiet = refl; is_due = λ items e. read_before e; is_read = λ items t. read_now t }
-own_turn own.Finish v = record { signs_are = refl; begin_left = λ h. absurd (cc); quiet = refl; is_due = λ items e. read_before e; is_read = λ items t. read_now t }
+own_turn own.Nothing v = record { signs_are = refl; begin_left = λ h. absurd (cc); quiet = refl; is_read = λ s bytes items t. a_tag t }
+own_turn own.Begin v = record { signs_are = refl; begin_left = λ h. absurd (cc); quiet = refl; is_read = λ s bytes items t. read_now t }
+own_turn own.Alone v = record { signs_are = refl; begin_left = λ h. absurd (cc); quiet = refl; is_read = λ s bytes items t. read_now t }
+own_turn own.Finish v = record { signs_are = refl; begin_left = λ h. absurd (cc); quiet = refl; is_read = λ s bytes items t. read_now t }
 
 -- an own that begins no element lends nothing
 own_lends : (o : Own) (v : Scanner) → (owes_begin (Some o) ≡ true → LendsStart v) → DidLends (first_own o).0 v
@@ -79,8 +80,7 @@ pub record Due (owed : Owed) (d : Did) (next : Owed) (v : Scanner) : Type 0 wher
   pub lends : DidLends d v
   pub begin_left : owes_begin next.own ≡ true → LendsStart v
   pub quiet : did_more d ≡ false
-  pub is_due : (items : List Item) → items ≡ [] → DidOf d v items
-  pub fewer : left next < left owed
+  pub is_due : (s : Scanning) (bytes : List ℕ) (items : List Item) → items ≡ [] → DidOf d v s bytes items
 
 abbrev IsNext : Owed → Did → Owed → Type 0
 IsNext owed d next = ◌≡◌ {A = Option (Did × Owed)} (next_owed owed) (Some (d, next))
@@ -99,24 +99,55 @@ due owed d next v h lends = by owed.ends owed.own refl refl
         subst (λ x. Due owed x next v) d_is
         (subst (λ x. Due owed did.Finish x v) next_is
         (subst (λ x. Due x did.Finish (record { ends = k; own = o }) v) (sym owed_is)
-        (record { signs_are = refl; lends = tt; begin_left = λ b. lends (ap owes_begin p ∙ b); quiet = refl; is_due = λ items e. read_before e; fewer = omega arith })))
+        (record { signs_are = refl; lends = tt; begin_left = λ b. lends (ap owes_begin p ∙ b); quiet = refl; is_due = λ s bytes items e. read_before e })))
     by zero None e p = absurd (let is : next_owed owed ≡ None = rw (e, p) refl in let w : None ≡ Some (d, next) = sym is ∙ h in cc)
     by zero (Some o) e p =
-        let is : next_owed owed ≡ Some (first_own o) = rw (e, p) refl in
-        let same : ◌≡◌ {A = Option (Did × Owed)} (Some (first_own o)) (Some (d, next)) = sym is ∙ h in
-        let pair : first_own o ≡ (d, next) = cc in
+        let is : next_owed owed ≡ own_next o = rw (e, p) refl in
         let owed_is : owed ≡ record { ends = 0; own = Some o } = ap (λ x. record { ends = x; own = owed.own }) e ∙ ap (λ x. record { ends = 0; own = x }) p in
-        subst (λ (x : Did × Owed). Due owed x.0 x.1 v) pair
-        (subst (λ x. Due x (first_own o).0 (first_own o).1 v) (sym owed_is) (own_due o (λ b. lends (ap owes_begin p ∙ b))))
+        subst (λ x. Due x d next v) (sym owed_is) (own_due o (λ b. lends (ap owes_begin p ∙ b)) (sym is ∙ h))
       where
-        own_due : (o : Own) → (owes_begin (Some o) ≡ true → LendsStart v) → Due (record { ends = 0; own = Some o }) (first_own o).0 (first_own o).1 v
-        own_due o l = let t = own_turn o v in record { signs_are = t.signs_are; lends = own_lends o v l; begin_left = t.begin_left; quiet = t.quiet; is_due = t.is_due; fewer = own_fewer o }
-          where
-            own_fewer : (o : Own) → left (first_own o).1 < 0 + own_left (Some o)
-            own_fewer own.Nothing = omega arith
-            own_fewer own.Begin = omega arith
-            own_fewer own.Alone = omega arith
-            own_fewer own.Finish = omega arith
+        own_due : (o : Own) → (owes_begin (Some o) ≡ true → LendsStart v) → ◌≡◌ {A = Option (Did × Owed)} (own_next o) (Some (d, next)) → Due (record { ends = 0; own = Some o }) d next v
+        own_due own.Nothing l k = absurd (cc)
+        own_due own.Begin l k =
+            let pair : ◌≡◌ {A = Did × Owed} (did.Begin, paid) (d, next) = cc in
+            subst (λ (x : Did × Owed). Due (record { ends = 0; own = Some own.Begin }) x.0 x.1 v) pair (record { signs_are = refl; lends = l refl; begin_left = λ b. absurd (cc); quiet = refl; is_due = λ s bytes items e. read_before e })
+        own_due own.Finish l k =
+            let pair : ◌≡◌ {A = Did × Owed} (did.Finish, paid) (d, next) = cc in
+            subst (λ (x : Did × Owed). Due (record { ends = 0; own = Some own.Finish }) x.0 x.1 v) pair (record { signs_are = refl; lends = tt; begin_left = λ b. absurd (cc); quiet = refl; is_due = λ s bytes items e. read_before e })
+        own_due own.Alone l k =
+            let pair : ◌≡◌ {A = Did × Owed} (did.Begin, record { ends = 0; own = Some own.Finish }) (d, next) = cc in
+            subst (λ (x : Did × Owed). Due (record { ends = 0; own = Some own.Alone }) x.0 x.1 v) pair (record { signs_are = refl; lends = l refl; begin_left = λ b. absurd (cc); quiet = refl; is_due = λ s bytes items e. read_before e })
+
+-- one event fewer is due, and it shows something
+pub record Fewer (owed : Owed) (d : Did) (next : Owed) : Type 0 where
+  pub one : left owed ≡ left next + 1
+  pub quiet : did_more d ≡ false
+  pub seen : did_skipped d ≡ false
+
+pub fewer : (owed : Owed) (d : Did) (next : Owed) → IsNext owed d next → Fewer owed d next
+fewer owed d next h = by owed.ends owed.own refl refl
+  where
+    by : (k : ℕ) (o : Option Own) → owed.ends ≡ k → owed.own ≡ o → Fewer owed d next
+    by (suc k) o e p =
+        let is : next_owed owed ≡ Some (did.Finish, record { ends = k; own = o }) = ap next_owed (ap (λ x. record { ends = x; own = owed.own }) e ∙ ap (λ x. record { ends = suc k; own = x }) p) ∙ one_next k o in
+        let same : ◌≡◌ {A = Option (Did × Owed)} (Some (did.Finish, record { ends = k; own = o })) (Some (d, next)) = sym is ∙ h in
+        let pair : ◌≡◌ {A = Did × Owed} (did.Finish, record { ends = k; own = o }) (d, next) = cc in
+        let q : own_left owed.own ≡ own_left o = ap own_left p in
+        subst (λ (x : Did × Owed). Fewer owed x.0 x.1) pair (record { one = omega (arith, e, q); quiet = refl; seen = refl })
+    by zero None e p = absurd (let is : next_owed owed ≡ None = rw (e, p) refl in let w : None ≡ Some (d, next) = sym is ∙ h in cc)
+    by zero (Some o) e p = let is : next_owed owed ≡ own_next o = rw (e, p) refl in own_fewer o (ap own_left p) (sym is ∙ h)
+      where
+        own_fewer : (o : Own) → own_left owed.own ≡ own_left (Some o) → ◌≡◌ {A = Option (Did × Owed)} (own_next o) (Some (d, next)) → Fewer owed d next
+        own_fewer own.Nothing q k = absurd (cc)
+        own_fewer own.Begin q k =
+            let pair : ◌≡◌ {A = Did × Owed} (did.Begin, paid) (d, next) = cc in
+            subst (λ (x : Did × Owed). Fewer owed x.0 x.1) pair (record { one = omega (arith, e, q); quiet = refl; seen = refl })
+        own_fewer own.Finish q k =
+            let pair : ◌≡◌ {A = Did × Owed} (did.Finish, paid) (d, next) = cc in
+            subst (λ (x : Did × Owed). Fewer owed x.0 x.1) pair (record { one = omega (arith, e, q); quiet = refl; seen = refl })
+        own_fewer own.Alone q k =
+            let pair : ◌≡◌ {A = Did × Owed} (did.Begin, record { ends = 0; own = Some own.Finish }) (d, next) = cc in
+            subst (λ (x : Did × Owed). Fewer owed x.0 x.1) pair (record { one = omega (arith, e, q); quiet = refl; seen = refl })
 
 -- nothing is owed
 pub none_due : (owed : Owed) (t : StartTag) → next_owed owed ≡ None → owed_signs owed t ≡ []
@@ -125,7 +156,35 @@ none_due owed t h = by owed.ends owed.own refl refl
     by : (k : ℕ) (o : Option Own) → owed.ends ≡ k → owed.own ≡ o → owed_signs owed t ≡ []
     by (suc k) o e p = absurd (let is : next_owed owed ≡ Some (did.Finish, record { ends = k; own = o }) = ap next_owed (ap (λ x. record { ends = x; own = owed.own }) e ∙ ap (λ x. record { ends = suc k; own = x }) p) ∙ one_next k o in let w : None ≡ Some (did.Finish, record { ends = k; own = o }) = sym h ∙ is in cc)
     by zero None e p = rw (e, p) refl
-    by zero (Some o) e p = absurd (let is : next_owed owed ≡ Some (first_own o) = rw (e, p) refl in let w : None ≡ Some (first_own o) = sym h ∙ is in cc)
+    by zero (Some own.Nothing) e p = rw (e, p) refl
+    by zero (Some own.Begin) e p = absurd (let is : next_owed owed ≡ Some (did.Begin, paid) = rw (e, p) refl in let w : None ≡ Some (did.Begin, paid) = sym h ∙ is in cc)
+    by zero (Some own.Finish) e p = absurd (let is : next_owed owed ≡ Some (did.Finish, paid) = rw (e, p) refl in let w : None ≡ Some (did.Finish, paid) = sym h ∙ is in cc)
+    by zero (Some own.Alone) e p = absurd (let is : next_owed owed ≡ own_next own.Alone = rw (e, p) refl in let w : None ≡ own_next own.Alone = sym h ∙ is in cc)
+
+-- Behind what is skipped nothing is due.
+pub record Passed (h : Heard) : Type 0 where
+  pub some : hears_more h ≡ false
+  pub none : left (first_of h).1 ≡ 0
+
+pub passed_turn : (h : Heard) → did_skipped (first_of h).0 ≡ true → Passed h
+passed_turn heard.More s = absurd (cc)
+passed_turn heard.Skipped s = record { some = refl; none = refl }
+passed_turn heard.Text s = absurd (cc)
+passed_turn (heard.Tag told) s = by told.ends told.own refl refl
+  where
+    own_passed : (o : Own) → did_skipped (first_own o).0 ≡ true → left (first_own o).1 ≡ 0
+    own_passed own.Nothing s = refl
+    own_passed own.Begin s = absurd (cc)
+    own_passed own.Finish s = absurd (cc)
+    own_passed own.Alone s = absurd (cc)
+
+    by : (k : ℕ) (o : Own) → told.ends ≡ k → told.own ≡ o → Passed (heard.Tag told)
+    by zero o e p =
+        let is : told ≡ record { ends = 0; own = o; drops = told.drops } = ap (λ x. record { ends = x; own = told.own; drops = told.drops }) e ∙ ap (λ x. record { ends = 0; own = x; drops = told.drops }) p in
+        record { some = refl; none = ap (λ x. left (first_of (heard.Tag x)).1) is ∙ own_passed o (ap (λ x. did_skipped (first_of (heard.Tag x)).0) (sym is) ∙ s) }
+    by (suc k) o e p =
+        let is : told ≡ record { ends = suc k; own = o; drops = told.drops } = ap (λ x. record { ends = x; own = told.own; drops = told.drops }) e ∙ ap (λ x. record { ends = suc k; own = x; drops = told.drops }) p in
+        absurd (let w : false ≡ true = ap (λ (x : Did × Owed). did_skipped x.0) (sym (one_first k o told.drops)) ∙ (ap (λ x. did_skipped (first_of (heard.Tag x)).0) (sym is) ∙ s) in cc)
 
 -- what was heard
 pub record First (h : Heard) (v : Scanner) : Type 0 where
@@ -133,19 +192,20 @@ pub record First (h : Heard) (v : Scanner) : Type 0 where
   pub lends : DidLends (first_of h).0 v
   pub begin_left : owes_begin (first_of h).1.own ≡ true → LendsStart v
   pub more : did_more (first_of h).0 ≡ hears_more h
-  pub is_read : (items : List Item) → HeardOf h v items → DidOf (first_of h).0 v items
+  pub skipped : hears_skipped h ≡ true → did_skipped (first_of h).0 ≡ true
+  pub is_read : (s : Scanning) (bytes : List ℕ) (items : List Item) → HeardOf h v s bytes items → DidOf (first_of h).0 v s bytes items
 
 pub first_turn : (h : Heard) (v : Scanner) → Lends h v → First h v
-first_turn heard.More v l = record { signs_are = refl; lends = tt; begin_left = λ b. absurd (cc); more = refl; is_read = λ items h. h }
-first_turn heard.Skipped v l = record { signs_are = refl; lends = tt; begin_left = λ b. absurd (cc); more = refl; is_read = λ items h. h }
-first_turn heard.Text v l = record { signs_are = sym (append-nil (did_signs did.Text v)); lends = l; begin_left = λ b. absurd (cc); more = refl; is_read = λ items h. h }
+first_turn heard.More v l = record { signs_are = refl; lends = tt; begin_left = λ b. absurd (cc); more = refl; skipped = λ b. b; is_read = λ s bytes items h. h }
+first_turn heard.Skipped v l = record { signs_are = refl; lends = tt; begin_left = λ b. absurd (cc); more = refl; skipped = λ b. b; is_read = λ s bytes items h. h }
+first_turn heard.Text v l = record { signs_are = sym (append-nil (did_signs did.Text v)); lends = l; begin_left = λ b. absurd (cc); more = refl; skipped = λ b. b; is_read = λ s bytes items h. h }
 first_turn (heard.Tag told) v l = by told.ends told.own refl refl
   where
     by : (k : ℕ) (o : Own) → told.ends ≡ k → told.own ≡ o → First (heard.Tag told) v
     by zero o e p =
         let is : told ≡ record { ends = 0; own = o; drops = told.drops } = ap (λ x. record { ends = x; own = told.own; drops = told.drops }) e ∙ ap (λ x. record { ends = 0; own = x; drops = told.drops }) p in
         let t = own_turn o v in
-        subst (λ x. First (heard.Tag x) v) (sym is) (record { signs_are = t.signs_are; lends = own_lends o v (λ b. l (ap begins_own p ∙ b)); begin_left = t.begin_left; more = t.quiet; is_read = t.is_read })
+        subst (λ x. First (heard.Tag x) v) (sym is) (record { signs_are = t.signs_are; lends = own_lends o v (λ b. l (ap begins_own p ∙ b)); begin_left = t.begin_left; more = t.quiet; skipped = λ b. absurd (cc); is_read = t.is_read })
     by (suc k) o e p =
         let is : told ≡ record { ends = suc k; own = o; drops = told.drops } = ap (λ x. record { ends = x; own = told.own; drops = told.drops }) e ∙ ap (λ x. record { ends = suc k; own = x; drops = told.drops }) p in
         let first = one_first k o told.drops in
@@ -155,7 +215,8 @@ first_turn (heard.Tag told) v l = by told.ends told.own refl refl
           lends = subst (λ (x : Did × Owed). DidLends x.0 v) (sym first) tt;
           begin_left = λ b. l (ap begins_own p ∙ (ap (λ (x : Did × Owed). owes_begin x.1.own) (sym first) ∙ b));
           more = ap (λ (x : Did × Owed). did_more x.0) first;
-          is_read = λ items t. subst (λ (x : Did × Owed). DidOf x.0 v items) (sym first) (read_now t);
+          skipped = λ b. absurd (cc);
+          is_read = λ s bytes items t. subst (λ (x : Did × Owed). DidOf x.0 v s bytes items) (sym first) (read_now t);
         })
 
 module _ (syntax : Syntax) (limits : Limits) (old : Nested) (bytes : List ℕ) (signs : List Sign) (st : Stands syntax limits old bytes signs) (piece : List ℕ) where
@@ -176,13 +237,22 @@ module _ (syntax : Syntax) (limits : Limits) (old : Nested) (bytes : List ℕ) (
         };
         lends = u.lends;
         all = λ m. absurd (let w : true ≡ false = sym m ∙ u.quiet in cc);
-        tokens = record { before = record { now = st.at.now; told = st.told }; read = st.at.read; next = st.at.now.scan; items = []; completed = refl; are = u.is_due [] refl };
+        passed = λ m. absurd (let w : true ≡ false = sym m ∙ (fewer old.owed d next h).seen in cc);
+        tokens = record {
+          before = record { now = st.at.now; told = st.told };
+          read = st.at.read;
+          next = st.at.now.scan;
+          items = [];
+          completed = refl;
+          are = u.is_due st.at.now.scan [] [] refl;
+          mark = λ rest m. absurd (none_marked st.at.now.scan rest m);
+        };
       })
 
   -- what is read is told
-  pub read_done : (n : ℕ) (h : Heard) (new : Nested) → next_owed old.owed ≡ None → Heeds syntax limits bytes st.told piece n h old.line new.scan new.line → new.owed ≡ (first_of h).1 → new.failed ≡ None → new.spent ≡ false
+  pub read_done : (n : ℕ) (h : Heard) (new : Nested) → scan.TakesSome piece n (hears_more h) → next_owed old.owed ≡ None → Heeds syntax limits bytes st.told piece n h old.line new.scan new.line → new.owed ≡ (first_of h).1 → new.failed ≡ None → new.spent ≡ false
       → Done syntax limits bytes signs piece n (first_of h).0 new
-  read_done n h new none heeds owed failed spent =
+  read_done n h new takes none heeds owed failed spent =
       let f = first_turn h new.scan heeds.lends in
       let paid_up : signs ++ owed_signs old.owed (last_tag old.scan) ≡ signs = ap (λ x. signs ++ x) (none_due old.owed (last_tag old.scan) none) ∙ append-nil signs in
       record {
@@ -202,13 +272,15 @@ module _ (syntax : Syntax) (limits : Limits) (old : Nested) (bytes : List ℕ) (
         };
         lends = f.lends;
         all = λ m. heeds.all (sym f.more ∙ m);
+        passed = λ m. let p = passed_turn h m in (takes.some p.some, ap left owed ∙ p.none);
         tokens = record {
           before = heeds.tokens.before;
           read = heeds.tokens.read;
           next = heeds.tokens.next;
           items = heeds.tokens.items;
           completed = heeds.tokens.completed;
-          are = f.is_read heeds.tokens.items heeds.tokens.are;
+          are = f.is_read heeds.tokens.before.now.scan (take n piece) heeds.tokens.items heeds.tokens.are;
+          mark = λ rest m. let q = heeds.tokens.mark rest m in (f.skipped q.0, q.1);
         };
       }
 

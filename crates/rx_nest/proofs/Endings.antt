@@ -24,7 +24,8 @@ use Rattle.rx_nest.specs.declared.heard.Did.{Did}
 use Rattle.rx_nest.specs.declared.heard.Did.TheVariants as did
 use Rattle.rx_nest.specs.declared.nests.Event as shown
 use Rattle.rx_nest.specs.declared.nests.Event.TheVariants as event
-use Rattle.rx_nest.specs.Nests.{DidOf, TellsOf, Nested, At, Stands, Done, DidLends, did_signs, did_more, event_signs, is_more, Speaks, Shown, KeepsOn, Keeps, Stepped, EndsWith, Ended, last_tag, last_text, owed_signs}
+use Rattle.rx_pages.specs.PageReader.{Scanning}
+use Rattle.rx_nest.specs.Nests.{did_skipped, is_skipped, DidOf, TellsOf, Nested, At, Stands, Done, DidLends, did_signs, did_more, event_signs, is_more, Speaks, Shown, KeepsOn, Keeps, Stepped, EndsWith, Ended, last_tag, last_text, owed_signs}
 use Rattle.rx_nest.proofs.Sizes.{read_size}
 use Rattle.rx_nest.proofs.TreeSeen.{whole}
 
@@ -108,14 +109,23 @@ record Tells (d : Did) (v : Scanner) (e : shown.Event) : Type 0 where
   signs_are : event_signs e ≡ did_signs d v
   speaks : Speaks e
   more : is_more e ≡ did_more d
-  tells : (items : List Item) → DidOf d v items → TellsOf e items
+  skipped : is_skipped e ≡ did_skipped d
+  tells : (s : Scanning) (bytes : List ℕ) (items : List Item) → DidOf d v s bytes items → TellsOf e s bytes items
+
+-- what shows something isn't skipped
+not_skipped : (e : shown.Event) (signs : List Sign) → event_signs e ≡ signs → signs ≢ [] → is_skipped e ≡ false
+not_skipped event.Skipped signs h n = absurd (n (sym h))
+not_skipped event.More signs h n = refl
+not_skipped (event.Begin t) signs h n = refl
+not_skipped (event.Text text) signs h n = refl
+not_skipped event.Finish signs h n = refl
 
 tells : (d : Did) (v : Scanner) (e : shown.Event) → DidLends d v → Shown d v e → Tells d v e
-tells did.More v e l s = subst (λ x. Tells did.More v x) (sym s) (record { signs_are = refl; speaks = tt; more = refl; tells = λ items h. h })
-tells did.Skipped v e l s = subst (λ x. Tells did.Skipped v x) (sym s) (record { signs_are = refl; speaks = tt; more = refl; tells = λ items h. h })
-tells did.Finish v e l s = subst (λ x. Tells did.Finish v x) (sym s) (record { signs_are = refl; speaks = tt; more = refl; tells = λ items h. h })
-tells did.Begin v e l s = let is = s.1 l in record { signs_are = is.signs_are; speaks = is.speaks; more = s.0; tells = is.tells }
-tells did.Text v e l s = let is = s.1 l.0 in record { signs_are = is.signs_are; speaks = speaks_so e (last_text v) is.signs_are l.1; more = s.0; tells = is.tells }
+tells did.More v e l s = subst (λ x. Tells did.More v x) (sym s) (record { signs_are = refl; speaks = tt; more = refl; skipped = refl; tells = λ s bytes items h. h })
+tells did.Skipped v e l s = subst (λ x. Tells did.Skipped v x) (sym s) (record { signs_are = refl; speaks = tt; more = refl; skipped = refl; tells = λ s bytes items h. h })
+tells did.Finish v e l s = subst (λ x. Tells did.Finish v x) (sym s) (record { signs_are = refl; speaks = tt; more = refl; skipped = refl; tells = λ s bytes items h. h })
+tells did.Begin v e l s = let is = s.1 l in record { signs_are = is.signs_are; speaks = is.speaks; more = s.0; skipped = not_skipped e (did_signs did.Begin v) is.signs_are (λ z. cc); tells = is.tells }
+tells did.Text v e l s = let is = s.1 l.0 in record { signs_are = is.signs_are; speaks = speaks_so e (last_text v) is.signs_are l.1; more = s.0; skipped = not_skipped e (did_signs did.Text v) is.signs_are (some_said (last_text v) l.1); tells = is.tells }
 
 pub stepped : (syntax : Syntax) (limits : Limits) (bytes : List ℕ) (signs : List Sign) (piece : List ℕ) (n : ℕ) (d : Did) (e : shown.Event) (new : Nested) → Done syntax limits bytes signs piece n d new → Shown d new.scan e → Stepped syntax limits bytes signs piece n e new
 stepped syntax limits bytes signs piece n d e new done s =
@@ -125,13 +135,15 @@ stepped syntax limits bytes signs piece n d e new done s =
       stands = subst (λ x. Stands syntax limits new (bytes ++ take n piece) (signs ++ x)) (sym t.signs_are) done.stands;
       speaks = t.speaks;
       all = λ m. done.all (sym t.more ∙ m);
+      passed = λ m. done.passed (sym t.skipped ∙ m);
       tokens = record {
         before = done.tokens.before;
         read = done.tokens.read;
         next = done.tokens.next;
         items = done.tokens.items;
         completed = done.tokens.completed;
-        are = t.tells done.tokens.items done.tokens.are;
+        are = t.tells done.tokens.before.now.scan (take n piece) done.tokens.items done.tokens.are;
+        mark = λ rest m. let q = done.tokens.mark rest m in (t.skipped ∙ q.0, q.1);
       };
     }
 

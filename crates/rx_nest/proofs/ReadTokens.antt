@@ -31,7 +31,7 @@ use Rattle.rx_scan.specs.declared.answers.Token.TheVariants as token
 use Rattle.rx_scan.specs.declared.places.Setting.{Setting}
 use Rattle.rx_scan.specs.Scanner.{Scanner}
 use Rattle.rx_scan.specs.Entries.{IsNoMemory}
-use Rattle.rx_scan.specs.Steps.{shows_tag, texts_of, IsOne, IsTag, Skips, a_mark, a_comment, an_empty_section, a_line_feed, Are, Shows, ShowsTag, after_some, ends_leading, setting_behind, is_more, is_of_syntax}
+use Rattle.rx_scan.specs.Steps.{shows_tag, shows_skipped, texts_of, IsOne, IsTag, Skips, a_mark, a_comment, an_empty_section, a_line_feed, Are, Shows, ShowsTag, after_some, ends_leading, setting_behind, is_more, is_of_syntax}
 use Rattle.rx_scan.specs.Steps as scan
 use Rattle.rx_nest.specs.declared.heard.Heard.{Heard}
 use Rattle.rx_nest.specs.declared.heard.Heard.TheVariants as heard
@@ -43,7 +43,7 @@ use Rattle.rx_nest.specs.Levels.{Levels, place_under, kept, ends_by}
 use Rattle.rx_nest.specs.Signs.{Sign, said, is_hidden, finishing}
 use Rattle.rx_nest.specs.Follows.{Follows, flags_of, phase_at, own_signs, own_tag, tag_by}
 use Rattle.rx_nest.specs.Heard.{Hears, HearsTag, heard_of}
-use Rattle.rx_nest.specs.Nests.{Stops, IsBetween, begins_own, IsATag, a_skipped_one, a_doctype, some_text, HeardOf, Completes, At, setting_of, start_seen, heard_signs, Lends, is_tag_heard, hears_more, Heeds, ReadGives, last_text, has_text, last_tag}
+use Rattle.rx_nest.specs.Nests.{Stops, IsBetween, begins_own, IsATag, hears_skipped, a_skipped_one, a_doctype, some_text, HeardOf, Completes, At, setting_of, start_seen, heard_signs, Lends, is_tag_heard, hears_more, Heeds, ReadGives, last_text, has_text, last_tag}
 use Rattle.rx_nest.proofs.LineLemmas.{place_is}
 use Rattle.rx_nest.proofs.Takes.{Taken, tag_steps}
 use Rattle.rx_nest.proofs.TextSteps.{said_by, Quiet, none_quiet, texts_quiet, comment_quiet, empty_quiet, line_feed_quiet}
@@ -157,13 +157,26 @@ module _ (syntax : Syntax) (limits : Limits) (bytes : List ℕ) (told : List Eve
     reads : scan_from syntax limits spot s front ≡ Ok st.scanned
     reads = sym (scan_is syntax limits bytes told v line at front) ∙ st.read
 
-    tokens_of : (tells : List Item → Type 0) → tells items → Completes syntax limits bytes front tells
-    tokens_of tells h = record { before = record { now = at.now; told = told }; read = at.read; next = st.scanned.next; items = items; completed = reads; are = h }
+    tokens_of : (skipped : Bool) (tells : Scanning → List ℕ → List Item → Type 0) → (shows_skipped t ≡ true → skipped ≡ true) → tells s front items → Completes syntax limits bytes front skipped tells
+    tokens_of skipped tells k h =
+        record {
+          before = record { now = at.now; told = told };
+          read = at.read;
+          next = st.scanned.next;
+          items = items;
+          completed = reads;
+          are = h;
+          mark = λ rest m. let q = st.mark rest m in (k q.0, q.1);
+        }
+
+    -- what isn't skipped has no mark
+    unskipped : {x : Token} {G : Type 0} → t ≡ x → shows_skipped x ≡ false → shows_skipped t ≡ true → G
+    unskipped e f h = absurd (let w : true ≡ false = sym h ∙ (ap shows_skipped e ∙ f) in cc)
 
     -- tokens that leave the elements as they are
-    quiet_heeds : (h : Heard) (shown : Bool → List Sign) → Quiet syntax limits spot nest items shown → ends_leading t ≡ false → shown (is_hidden (flags_of line.levels)) ≡ heard_signs h mid → Lends h mid → (hears_more h ≡ true → n ≡ length piece) → HeardOf h mid items
+    quiet_heeds : (h : Heard) (shown : Bool → List Sign) → Quiet syntax limits spot nest items shown → ends_leading t ≡ false → shown (is_hidden (flags_of line.levels)) ≡ heard_signs h mid → Lends h mid → (hears_more h ≡ true → n ≡ length piece) → (shows_skipped t ≡ true → hears_skipped h ≡ true) → HeardOf h mid s front items
         → Heeds syntax limits bytes told piece n h line mid line
-    quiet_heeds h shown q l e lends all tells =
+    quiet_heeds h shown q l e lends all k tells =
         record {
           fits = st.fits;
           events = q.step.events;
@@ -171,7 +184,7 @@ module _ (syntax : Syntax) (limits : Limits) (bytes : List ℕ) (told : List Eve
           shows = quiet_shows syntax limits bytes told v line at front mid st.scanned.next items reads st.stands shown q h e;
           lends = lends;
           all = all;
-          tokens = tokens_of (HeardOf h mid) tells;
+          tokens = tokens_of (hears_skipped h) (HeardOf h mid) k tells;
         }
 
     quiet_of : (shown : Bool → List Sign) (other : List Item) → items ≡ other → Quiet syntax limits spot nest other shown → Quiet syntax limits spot nest items shown
@@ -179,22 +192,22 @@ module _ (syntax : Syntax) (limits : Limits) (bytes : List ℕ) (told : List Eve
 
     more_heeds : t ≡ token.More → Heeds syntax limits bytes told piece n heard.More line mid line
     more_heeds e =
-        let none : items ≡ [] = subst (λ x. Are v.reading.setting.drops x items) e st.are in
-        quiet_heeds heard.More (λ hidden. []) (quiet_of (λ hidden. []) [] none (none_quiet syntax limits spot nest refl)) (ap ends_leading e) refl tt (λ h. st.all (ap is_more e)) none
+        let none : items ≡ [] = subst (λ x. Are v.reading.setting.drops x s front items) e st.are in
+        quiet_heeds heard.More (λ hidden. []) (quiet_of (λ hidden. []) [] none (none_quiet syntax limits spot nest refl)) (ap ends_leading e) refl tt (λ h. st.all (ap is_more e)) (unskipped e refl) none
 
     abbrev silent : Bool → List Sign
     silent hidden = []
 
-    skips_quiet : Skips v.reading.setting.drops items → Quiet syntax limits spot nest items silent
-    skips_quiet (a_mark none) = quiet_of silent [] none (none_quiet syntax limits spot nest refl)
+    skips_quiet : Skips v.reading.setting.drops s front items → Quiet syntax limits spot nest items silent
+    skips_quiet (a_mark m none) = quiet_of silent [] none (none_quiet syntax limits spot nest refl)
     skips_quiet (a_comment o) = quiet_of silent (o.item ∷ []) o.one (comment_quiet syntax limits spot nest o.item refl o.is)
     skips_quiet (an_empty_section o) = quiet_of silent (o.item ∷ []) o.one (empty_quiet syntax limits spot nest o.item refl o.is)
     skips_quiet (a_line_feed item d one l) = quiet_of silent (item ∷ []) one (line_feed_quiet syntax limits spot nest item refl (ap (λ (x : Setting). x.drops) (sym at.setting) ∙ d) l)
 
     skip_heeds : t ≡ token.Skipped → Heeds syntax limits bytes told piece n heard.Skipped line mid line
     skip_heeds e =
-        let skips = subst (λ x. Are v.reading.setting.drops x items) e st.are in
-        quiet_heeds heard.Skipped silent (skips_quiet skips) (ap ends_leading e) refl tt (λ h. absurd (cc)) (a_skipped_one v.reading.setting.drops skips)
+        let skips = subst (λ x. Are v.reading.setting.drops x s front items) e st.are in
+        quiet_heeds heard.Skipped silent (skips_quiet skips) (ap ends_leading e) refl tt (λ h. absurd (cc)) (λ h. refl) (a_skipped_one v.reading.setting.drops skips)
 
     abbrev text_heard : Bool → Heard
     text_heard says = if says then heard.Text else heard.Skipped
@@ -207,7 +220,7 @@ module _ (syntax : Syntax) (limits : Limits) (bytes : List ℕ) (told : List Eve
     text_lends true h = h
     text_lends false h = tt
 
-    text_of : (says : Bool) (text : Chars) → text ≡ last_text mid → text ≢ [] → texts_of items ≡ Some text → HeardOf (text_heard says) mid items
+    text_of : (says : Bool) (text : Chars) → text ≡ last_text mid → text ≢ [] → texts_of items ≡ Some text → HeardOf (text_heard says) mid s front items
     text_of true text e some h = h ∙ ap (λ x. Some x) e
     text_of false text e some h = some_text text h some
 
@@ -218,15 +231,15 @@ module _ (syntax : Syntax) (limits : Limits) (bytes : List ℕ) (told : List Eve
     text_heeds : (text : _) → t ≡ token.Text text → Shows mid.what mid.reading t → Heeds syntax limits bytes told piece n (text_heard (says_text line)) line mid line
     text_heeds text e shows =
         let is = text_is mid.what mid refl text (subst (λ x. Shows mid.what mid.reading x) e shows) in
-        let are = subst (λ x. Are v.reading.setting.drops x items) e st.are in
+        let are = subst (λ x. Are v.reading.setting.drops x s front items) e st.are in
         let keeps = ap (λ (x : Setting). scan.keeps_first x.drops items) (sym at.setting) ∙ are.2 in
         quiet_heeds (text_heard (says_text line)) (λ hidden. said_by nest.phase hidden (chars text.now)) (texts_quiet syntax limits spot items nest (chars text.now) refl are.0 keeps) (ap ends_leading e)
-        (said_is syntax limits bytes told v line at (chars text.now) ∙ text_signs (says_text line) (chars text.now) is.0) (text_lends (says_text line) (is.1, λ h. are.1 (is.0 ∙ h))) (never_more (says_text line))
+        (said_is syntax limits bytes told v line at (chars text.now) ∙ text_signs (says_text line) (chars text.now) is.0) (text_lends (says_text line) (is.1, λ h. are.1 (is.0 ∙ h))) (never_more (says_text line)) (unskipped e refl)
         (text_of (says_text line) (chars text.now) is.0 are.1 are.0)
 
     doctype_heeds : t ≡ token.Doctype → Heeds syntax limits bytes told piece n heard.Skipped line mid line
     doctype_heeds e =
-        let one = subst (λ x. Are v.reading.setting.drops x items) e st.are in
+        let one = subst (λ x. Are v.reading.setting.drops x s front items) e st.are in
         let reads_one : scan_from syntax limits spot s front ≡ Ok (record { next = st.scanned.next; items = one.item ∷ [] }) = reads ∙ ap (λ i. Ok (record { next = st.scanned.next; items = i })) one.one in
         record {
           fits = st.fits;
@@ -236,7 +249,7 @@ module _ (syntax : Syntax) (limits : Limits) (bytes : List ℕ) (told : List Eve
           shows = λ signs. ap (λ x. record { flags = flags_of line.levels; signs = x }) (sym (append-nil signs));
           lends = tt;
           all = λ h. absurd (cc);
-          tokens = tokens_of (HeardOf heard.Skipped mid) (a_doctype one);
+          tokens = tokens_of true (HeardOf heard.Skipped mid) (unskipped e refl) (a_doctype one);
         }
 
     -- a tag
@@ -266,7 +279,7 @@ module _ (syntax : Syntax) (limits : Limits) (bytes : List ℕ) (told : List Eve
               subst (λ f. Stops syntax limits bytes told piece f) (sym same) (tag_refused kind gives)
 
       -- the elements after it
-      module _ (tells : Told) (taken : Taken line nest item tells new) (b : Becomes line new) (closing : Bool) (shown : TagShown mid closing g) (no_lead : (if ends_leading t then false else may_lead nest.phase) ≡ false) (opening : begins_own tells.own ≡ true → closing ≡ false) where
+      module _ (tells : Told) (taken : Taken line nest item tells new) (b : Becomes line new) (closing : Bool) (shown : TagShown mid closing g) (no_lead : (if ends_leading t then false else may_lead nest.phase) ≡ false) (opening : begins_own tells.own ≡ true → closing ≡ false) (unmarked : shows_skipped t ≡ true → false ≡ true) where
         abbrev step : Step
         step = taken.step
 
@@ -325,7 +338,7 @@ module _ (syntax : Syntax) (limits : Limits) (bytes : List ℕ) (told : List Eve
                   ∙ ap (λ x. record { flags = flags_of new.levels; signs = x }) (append_assoc signs (finishing tells.ends) (own_signs tells.own (own_tag item)) ∙ ap (λ x. signs ++ (finishing tells.ends ++ own_signs tells.own x)) tag_same);
               lends = λ h. record { what_is = shown.what_is; opening = ap (λ (x : tokens.Tag). x.closing) (sym shown.shows.0) ∙ (shown.shows.3 ∙ opening h) };
               all = λ h. absurd (cc);
-              tokens = tokens_of IsATag (record { the_tag = tag_seen g; is = record { item = item; one = is.one; is = is.is } });
+              tokens = tokens_of false (λ s bytes items. IsATag items) unmarked (record { the_tag = tag_seen g; is = record { item = item; one = is.one; is = is.is } });
             }
 
       open_has_begun : line.levels ≢ [] → line.begun ≡ true
@@ -363,12 +376,12 @@ module _ (syntax : Syntax) (limits : Limits) (bytes : List ℕ) (told : List Eve
     start_heeds : (g : Tag) → t ≡ token.Start g → Shows mid.what mid.reading t → (new : Lines) (tells : Told) → HearsTag line g (Ok (heard.Tag tells)) new → scan.Stands (scan.inside_of (place_under new.levels).content tells.drops mid) st.scanned.next
         → Heeds syntax limits bytes told piece n (heard.Tag tells) line (scan.inside_of (place_under new.levels).content tells.drops mid) new
     start_heeds g e shows new tells h stands =
-        let are = subst (λ x. Are v.reading.setting.drops x items) e st.are in
+        let are = subst (λ x. Are v.reading.setting.drops x s front items) e st.are in
         let last = subst (λ x. scan.IsLast x st.scanned.next.at) e st.last in
         let gives : TagGives line (tag_seen g) (Ok tells) new = gives_of g new tells h in
         let begins : Begins line (tag_seen g) tells new = subst (λ c. GivesBy c line (tag_seen g) (Ok tells) new) are.1 gives in
         let taken : Taken line nest are.0.item tells new = tag_steps line new nest are.0.item (tag_seen g) (Ok tells) at.follows are.0.is gives in
-        tag_heeds g are.0 last new tells taken (begins_so g are.0 last new tells begins) false (start_is mid.what mid refl g (subst (λ x. Shows mid.what mid.reading x) e shows)) (ap (λ x. if ends_leading x then false else may_lead nest.phase) e) (λ h. refl) stands
+        tag_heeds g are.0 last new tells taken (begins_so g are.0 last new tells begins) false (start_is mid.what mid refl g (subst (λ x. Shows mid.what mid.reading x) e shows)) (ap (λ x. if ends_leading x then false else may_lead nest.phase) e) (λ h. refl) (unskipped e refl) stands
 
     end_begins : (levels : Levels) → begins_own (own_of_end levels) ≡ false
     end_begins levels = by_test (shown_under levels) (λ e. rw e refl) (λ e. rw e refl)
@@ -376,7 +389,7 @@ module _ (syntax : Syntax) (limits : Limits) (bytes : List ℕ) (told : List Eve
     end_heeds : (g : Tag) → t ≡ token.End g → Shows mid.what mid.reading t → (new : Lines) (tells : Told) → HearsTag line g (Ok (heard.Tag tells)) new → scan.Stands (scan.inside_of (place_under new.levels).content tells.drops mid) st.scanned.next
         → Heeds syntax limits bytes told piece n (heard.Tag tells) line (scan.inside_of (place_under new.levels).content tells.drops mid) new
     end_heeds g e shows new tells h stands =
-        let are = subst (λ x. Are v.reading.setting.drops x items) e st.are in
+        let are = subst (λ x. Are v.reading.setting.drops x s front items) e st.are in
         let last = subst (λ x. scan.IsLast x st.scanned.next.at) e st.last in
         let gives : TagGives line (tag_seen g) (Ok tells) new = gives_of g new tells h in
         let finishes : Ends line (tag_seen g) tells new = subst (λ c. GivesBy c line (tag_seen g) (Ok tells) new) are.1 gives in
@@ -384,7 +397,7 @@ module _ (syntax : Syntax) (limits : Limits) (bytes : List ℕ) (told : List Eve
         let begun_is : line.begun ≡ true = open_has_begun g are.0 last new (is_open g are.0 last new line.levels finishes.there) in
         tag_heeds g are.0 last new tells taken (ends_so g are.0 last new tells finishes) true (end_is mid.what mid refl g (subst (λ x. Shows mid.what mid.reading x) e shows))
         (ap (λ x. if ends_leading x then false else may_lead nest.phase) e ∙ open_phase g are.0 last new begun_is)
-        (λ h. absurd (let w : true ≡ false = sym h ∙ (ap begins_own finishes.own ∙ end_begins (kept (ends_by true (tag_seen g).name) line.levels)) in cc)) stands
+        (λ h. absurd (let w : true ≡ false = sym h ∙ (ap begins_own finishes.own ∙ end_begins (kept (ends_by true (tag_seen g).name) line.levels)) in cc)) (unskipped e refl) stands
 
     -- a tag that was heard
     pub heard_heeds : (new : Lines) (tells : Told) → Hears line t (Ok (heard.Tag tells)) new → Shows mid.what mid.reading t → scan.Stands (scan.inside_of (place_under new.levels).content tells.drops mid) st.scanned.next
@@ -444,10 +457,10 @@ module _ (syntax : Syntax) (limits : Limits) (bytes : List ℕ) (told : List Eve
         by token.Doctype e k = absurd (let w : Err (stop.Fault fault) ≡ Ok heard.Skipped = k.0 in cc)
         by (token.Text text) e k = absurd (let w : Err (stop.Fault fault) ≡ Ok (text_heard (says_text line)) = k.0 in cc)
         by (token.Start g) e k =
-            let are = subst (λ x. Are v.reading.setting.drops x items) e st.are in
+            let are = subst (λ x. Are v.reading.setting.drops x s front items) e st.are in
             hears_refused g are.0 (subst (λ x. scan.IsLast x st.scanned.next.at) e st.last) new fault k
         by (token.End g) e k =
-            let are = subst (λ x. Are v.reading.setting.drops x items) e st.are in
+            let are = subst (λ x. Are v.reading.setting.drops x s front items) e st.are in
             hears_refused g are.0 (subst (λ x. scan.IsLast x st.scanned.next.at) e st.last) new fault k
 
     -- the content after a tag is one of the syntax
@@ -491,8 +504,8 @@ module _ (syntax : Syntax) (limits : Limits) (bytes : List ℕ) (told : List Eve
         by token.Skipped e k = absurd (let w : Ok (heard.Tag tells) ≡ Ok heard.Skipped = k.0 in cc)
         by token.Doctype e k = absurd (let w : Ok (heard.Tag tells) ≡ Ok heard.Skipped = k.0 in cc)
         by (token.Text text) e k = absurd (text_no (says_text line) k.0)
-        by (token.Start g) e k = let are = subst (λ x. Are v.reading.setting.drops x items) e st.are in tagged g are.0 (inr are.1) k
-        by (token.End g) e k = let are = subst (λ x. Are v.reading.setting.drops x items) e st.are in tagged g are.0 (inl are.1) k
+        by (token.Start g) e k = let are = subst (λ x. Are v.reading.setting.drops x s front items) e st.are in tagged g are.0 (inr are.1) k
+        by (token.End g) e k = let are = subst (λ x. Are v.reading.setting.drops x s front items) e st.are in tagged g are.0 (inl are.1) k
 
     pub heard_stops : (stop : Stop) (other : Scanner) (new : Lines) → Hears line t (Err stop) new → ReadGives syntax limits bytes told piece line (Err stop) other new
     heard_stops (stop.Fault fault) other new h = heard_fails fault new h

@@ -51,9 +51,16 @@ first_own own.Begin = (did.Begin, paid)
 first_own own.Finish = (did.Finish, paid)
 first_own own.Alone = (did.Begin, record { ends = 0; own = Some own.Finish })
 
+-- Where elements ended by omission before it, a tag that is hidden tells no more.
+abbrev pub own_next : Own → Option (Did × Owed)
+own_next own.Nothing = None
+own_next own.Begin = Some (first_own own.Begin)
+own_next own.Finish = Some (first_own own.Finish)
+own_next own.Alone = Some (first_own own.Alone)
+
 abbrev pub next_own : Option Own → Option (Did × Owed)
 next_own None = None
-next_own (Some o) = Some (first_own o)
+next_own (Some o) = own_next o
 
 abbrev pub next_owed : Owed → Option (Did × Owed)
 next_owed owed = if nat_lt 0 owed.ends then Some (did.Finish, record { ends = owed.ends - 1; own = owed.own }) else next_own owed.own

@@ -25,7 +25,7 @@ use Rattle.rx_scan.specs.declared.answers.What.TheVariants as what
 use Rattle.rx_scan.specs.declared.places.Setting.{Setting}
 use Rattle.rx_scan.specs.Scanner.{Scanner}
 use Rattle.rx_scan.specs.Steps as scan
-use Rattle.rx_scan.specs.Steps.{IsOne, Skips, texts_of}
+use Rattle.rx_scan.specs.Steps.{IsOne, MarkAlone, Skips, texts_of}
 use Rattle.rx_nest.specs.declared.lines.Own.{Own}
 use Rattle.rx_nest.specs.declared.lines.Own.TheVariants as own
 use Rattle.rx_nest.specs.declared.heard.Owed.{Owed}
@@ -124,28 +124,33 @@ abbrev pub hears_more : Heard → Bool
 hears_more heard.More = true
 hears_more _ = false
 
--- what is told of the tokens that some bytes complete, which come behind others of a page
-pub record Completes (syntax : Syntax) (limits : Limits) (bytes more : List ℕ) (tells : List Item → Type 0) : Type 0 where
+abbrev pub hears_skipped : Heard → Bool
+hears_skipped heard.Skipped = true
+hears_skipped _ = false
+
+-- What is told of the tokens that more bytes of a page complete, behind what stood before: the byte order mark among these bytes is all that they
+-- have, and is skipped.
+pub record Completes (syntax : Syntax) (limits : Limits) (bytes more : List ℕ) (skipped : Bool) (tells : Scanning → List ℕ → List Item → Type 0) : Type 0 where
   pub before : Progress
   pub read : page_read syntax limits bytes ≡ Ok before
   pub next : Scanning
   pub items : List Item
   pub completed : scan_from syntax limits (spot_of syntax before.now.nest) before.now.scan more ≡ Ok (record { next = next; items = items })
-  pub are : tells items
+  pub are : tells before.now.scan more items
+  pub mark : MarkAlone skipped before.now.scan more items
 
 -- the one token is a tag
 pub record IsATag (items : List Item) : Type 0 where
   pub the_tag : tokens.Tag
   pub is : IsOne (tokens.tag the_tag) items
 
--- Tokens of which the tree shows nothing: none, at a byte order mark, or where a tag was read before that still tells; what the scanner skips;
--- a document type; text outside the root or that a template hides; and a tag that a template hides.
-pub data Passes (items : List Item) : Type 0 where
-  no_token : items ≡ [] → Passes items
-  a_skipped_one : (drops : Bool) → Skips drops items → Passes items
-  a_doctype : IsOne tokens.doctype items → Passes items
-  some_text : (text : Chars) → texts_of items ≡ Some text → text ≢ [] → Passes items
-  a_tag : IsATag items → Passes items
+-- Bytes of which the tree shows nothing: the byte order mark, a comment or whatever else the scanner skips; a document type; text outside the root
+-- or that a template hides; and a tag that a template hides.
+pub data Passes (s : Scanning) (bytes : List ℕ) (items : List Item) : Type 0 where
+  a_skipped_one : (drops : Bool) → Skips drops s bytes items → Passes s bytes items
+  a_doctype : IsOne tokens.doctype items → Passes s bytes items
+  some_text : (text : Chars) → texts_of items ≡ Some text → text ≢ [] → Passes s bytes items
+  a_tag : IsATag items → Passes s bytes items
 
 -- a tag, or none where one was read before that still tells
 pub data MayBeTag (items : List Item) : Type 0 where
@@ -153,11 +158,11 @@ pub data MayBeTag (items : List Item) : Type 0 where
   read_now : IsATag items → MayBeTag items
 
 -- the tokens of which this was heard
-abbrev pub HeardOf : Heard → Scanner → List Item → Type 0
-HeardOf heard.More v items = items ≡ []
-HeardOf heard.Skipped v items = Passes items
-HeardOf heard.Text v items = texts_of items ≡ Some (last_text v)
-HeardOf (heard.Tag told) v items = IsATag items
+abbrev pub HeardOf : Heard → Scanner → Scanning → List ℕ → List Item → Type 0
+HeardOf heard.More v s bytes items = items ≡ []
+HeardOf heard.Skipped v s bytes items = Passes s bytes items
+HeardOf heard.Text v s bytes items = texts_of items ≡ Some (last_text v)
+HeardOf (heard.Tag told) v s bytes items = IsATag items
 
 -- The first n bytes of the piece were read, and this was heard.
 pub record Heeds (syntax : Syntax) (limits : Limits) (bytes : List ℕ) (told : List nesting.Event) (piece : List ℕ) (n : ℕ) (h : Heard) (old : Lines) (v : Scanner) (new : Lines) : Type 0 where
@@ -167,9 +172,9 @@ pub record Heeds (syntax : Syntax) (limits : Limits) (bytes : List ℕ) (told : 
   pub shows : (signs : List Sign) → sees (record { flags = flags_of old.levels; signs = signs }) events ≡ record { flags = flags_of new.levels; signs = signs ++ heard_signs h v }
   pub lends : Lends h v
   pub all : hears_more h ≡ true → n ≡ length piece
-  pub tokens : Completes syntax limits bytes (take n piece) (HeardOf h v)
+  pub tokens : Completes syntax limits bytes (take n piece) (hears_skipped h) (HeardOf h v)
 
--- A byte of the piece decides the fault, and no token is complete before it.
+-- A byte of the piece decides the fault, and before it nothing is told.
 pub record Stops (syntax : Syntax) (limits : Limits) (bytes : List ℕ) (told : List nesting.Event) (piece : List ℕ) (fault : Fault) : Type 0 where
   pub front : List ℕ
   pub byte : ℕ
@@ -228,33 +233,40 @@ DidLends did.Text v = (has_text v.what ≡ true) × (last_text v ≢ [])
 DidLends _ v = Unit {0}
 
 -- the tokens of which this was done
-abbrev pub DidOf : Did → Scanner → List Item → Type 0
-DidOf did.More v items = items ≡ []
-DidOf did.Skipped v items = Passes items
-DidOf did.Begin v items = MayBeTag items
-DidOf did.Text v items = texts_of items ≡ Some (last_text v)
-DidOf did.Finish v items = MayBeTag items
+abbrev pub DidOf : Did → Scanner → Scanning → List ℕ → List Item → Type 0
+DidOf did.More v s bytes items = items ≡ []
+DidOf did.Skipped v s bytes items = Passes s bytes items
+DidOf did.Begin v s bytes items = MayBeTag items
+DidOf did.Text v s bytes items = texts_of items ≡ Some (last_text v)
+DidOf did.Finish v s bytes items = MayBeTag items
 
 abbrev pub did_more : Did → Bool
 did_more did.More = true
 did_more _ = false
 
+abbrev pub did_skipped : Did → Bool
+did_skipped did.Skipped = true
+did_skipped _ = false
+
 -- how many events the last tag still tells
 abbrev pub own_left : Option Own → ℕ
 own_left None = 0
+own_left (Some own.Nothing) = 0
+own_left (Some own.Begin) = 1
+own_left (Some own.Finish) = 1
 own_left (Some own.Alone) = 2
-own_left (Some other) = 1
 
 abbrev pub left : Owed → ℕ
 left owed = owed.ends + own_left owed.own
 
--- How much of the piece was taken: all of it where there is nothing yet, and then nothing is due before or after; and else a byte at least, or
--- something that was due is told.
+-- How much of the piece was taken. What is due is told first: then no byte is, and one event fewer is due. Where nothing is due all of the piece is
+-- taken if there is nothing yet, behind which nothing is due either; and else a byte at least.
 pub record Takes (piece : List ℕ) (n : ℕ) (is_nothing : Bool) (old new : Owed) : Type 0 where
   pub fits : n ≤ length piece
   pub all : is_nothing ≡ true → n ≡ length piece
   pub due : is_nothing ≡ true → (left old ≡ 0) × (left new ≡ 0)
   pub some : is_nothing ≡ false → (0 < n) ⊎ ((n ≡ 0) × (left new < left old))
+  pub first : 0 < left old → (n ≡ 0) × (left old ≡ left new + 1)
 
 -- Whatever it stands for: it answers only where neither a fault nor want of memory was answered; a fault comes again, and want of memory.
 abbrev pub KeepsOn : Nested → List ℕ → Result (ℕ × Did) Stop → Nested → Type 0
@@ -272,7 +284,8 @@ pub record Done (syntax : Syntax) (limits : Limits) (bytes : List ℕ) (signs : 
   pub stands : Stands syntax limits new (bytes ++ take n piece) (signs ++ did_signs d new.scan)
   pub lends : DidLends d new.scan
   pub all : did_more d ≡ true → n ≡ length piece
-  pub tokens : Completes syntax limits bytes (take n piece) (DidOf d new.scan)
+  pub passed : did_skipped d ≡ true → (0 < n) × (left new.owed ≡ 0)
+  pub tokens : Completes syntax limits bytes (take n piece) (did_skipped d) (DidOf d new.scan)
 
 -- A byte of the piece decides the page's fault, whatever follows; and what stands before the faulty token goes on to a page.
 pub record Faults (syntax : Syntax) (limits : Limits) (bytes piece : List ℕ) (fault : Fault) : Type 0 where
@@ -305,30 +318,34 @@ abbrev pub is_more : Event → Bool
 is_more event.More = true
 is_more _ = false
 
+abbrev pub is_skipped : Event → Bool
+is_skipped event.Skipped = true
+is_skipped _ = false
+
 -- text isn't empty, and the tag with which an element begins is no end tag
 abbrev pub Speaks : Event → Type 0
 Speaks (event.Text text) = chars text.now ≢ []
 Speaks (event.Begin t) = (tag_seen t).closing ≡ false
 Speaks _ = Unit {0}
 
--- the tokens of which an event tells: none yet where it tells nothing
-abbrev pub TellsOf : Event → List Item → Type 0
-TellsOf event.More items = items ≡ []
-TellsOf event.Skipped items = Passes items
-TellsOf (event.Begin t) items = MayBeTag items
-TellsOf (event.Text text) items = texts_of items ≡ Some (chars text.now)
-TellsOf event.Finish items = MayBeTag items
+-- the bytes and tokens of which an event tells: no token where there is nothing yet
+abbrev pub TellsOf : Event → Scanning → List ℕ → List Item → Type 0
+TellsOf event.More s bytes items = items ≡ []
+TellsOf event.Skipped s bytes items = Passes s bytes items
+TellsOf (event.Begin t) s bytes items = MayBeTag items
+TellsOf (event.Text text) s bytes items = texts_of items ≡ Some (chars text.now)
+TellsOf event.Finish s bytes items = MayBeTag items
 
 -- the event is the last text
 pub record Says (v : Scanner) (e : Event) : Type 0 where
   pub signs_are : event_signs e ≡ did_signs did.Text v
-  pub tells : (items : List Item) → texts_of items ≡ Some (last_text v) → TellsOf e items
+  pub tells : (s : Scanning) (bytes : List ℕ) (items : List Item) → texts_of items ≡ Some (last_text v) → TellsOf e s bytes items
 
 -- the event begins an element with the last tag
 pub record Begins (v : Scanner) (e : Event) : Type 0 where
   pub signs_are : event_signs e ≡ did_signs did.Begin v
   pub speaks : Speaks e
-  pub tells : (items : List Item) → MayBeTag items → TellsOf e items
+  pub tells : (s : Scanning) (bytes : List ℕ) (items : List Item) → MayBeTag items → TellsOf e s bytes items
 
 -- the event of what was done
 abbrev pub Shown : Did → Scanner → Event → Type 0
@@ -338,13 +355,15 @@ Shown did.Finish v e = e ≡ event.Finish
 Shown did.Begin v e = (is_more e ≡ false) × (LendsStart v → Begins v e)
 Shown did.Text v e = (is_more e ≡ false) × (has_text v.what ≡ true → Says v e)
 
--- A step has taken the first n bytes of the piece, and shows what the page's tree has next.
+-- A step has taken the first n bytes of the piece, and shows what the page's tree has next. Of what it skips the tree shows nothing, and then
+-- nothing is due.
 pub record Stepped (syntax : Syntax) (limits : Limits) (bytes : List ℕ) (signs : List Sign) (piece : List ℕ) (n : ℕ) (e : Event) (new : Nested) : Type 0 where
   pub fits : n ≤ length piece
   pub stands : Stands syntax limits new (bytes ++ take n piece) (signs ++ event_signs e)
   pub speaks : Speaks e
   pub all : is_more e ≡ true → n ≡ length piece
-  pub tokens : Completes syntax limits bytes (take n piece) (TellsOf e)
+  pub passed : is_skipped e ≡ true → (0 < n) × (left new.owed ≡ 0)
+  pub tokens : Completes syntax limits bytes (take n piece) (is_skipped e) (TellsOf e)
 
 abbrev pub StepGives : Syntax → Limits → List ℕ → List Sign → List ℕ → Result (ℕ × Event) Stop → Nested → Type 0
 StepGives syntax limits bytes signs piece (Ok r) new = Stepped syntax limits bytes signs piece r.0 r.1 new

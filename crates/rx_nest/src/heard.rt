@@ -97,8 +97,20 @@ pub(crate) fn next_owed(owed: Owed) -> Option<(Did, Owed)>
         return Some((Did::Finish, left));
     }
     match owed.own {
-        Some(own) => Some(first_own(own)),
+        Some(own) => next_own(own),
         None => None,
+    }
+}
+
+// A tag that is hidden tells nothing behind the elements that it ended.
+fn next_own(own: Own) -> Option<(Did, Owed)>
+    ensures { result ≡ heard.own_next own }
+{
+    match own {
+        Own::Nothing => None,
+        Own::Begin => Some(first_own(Own::Begin)),
+        Own::Finish => Some(first_own(Own::Finish)),
+        Own::Alone => Some(first_own(Own::Alone)),
     }
 }
 

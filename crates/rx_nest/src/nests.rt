@@ -5,6 +5,7 @@ ghost use Rattle.rx_grammar.specs.declared.limits.Limits as limit;
 ghost use Rattle.rx_pages.specs.Nesting as nesting;
 ghost use Rattle.rx_scan.specs.Entries.{IsNoMemory};
 ghost use Rattle.rx_scan.specs.Steps.{is_quiet};
+ghost use Rattle.rx_nest.specs.Heard.{paid};
 ghost use Rattle.rx_nest.specs.Nests as nests;
 
 use crate::heard::{Did, Owed, first_of, next_owed};
@@ -59,7 +60,8 @@ impl Nest {
 
     /// Before the first byte of a page. It takes the memory of all levels.
     pub fn new(alloc: Global, syntax: Syntax, limits: Limits) -> Result<Nest, NoMemory>
-        ensures { IfOk result (λ n. nests.Stands syntax limits n [] []) }
+        ensures stands { IfOk result (λ n. nests.Stands syntax limits n [] []) }
+        ensures paid { IfOk result (λ n. n.owed ≡ paid) }
     {
         let scan = Scan::new(alloc, syntax, limits)?;
         let line = Line::new(alloc, syntax, limits.depth)?;

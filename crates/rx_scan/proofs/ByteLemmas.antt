@@ -1,6 +1,6 @@
 -- What one byte does is what the reader of bytes says.
-use Rattle.std.proofs.Common.{◌≡◌, ◌∙◌, ◌⊎◌, ℕ, ◌+◌, ◌-◌, Bool, true, false, List, [], ◌∷◌, ◌++◌, refl, ap, sym, subst, Result, Ok, Err, inl, inr, length, arith}
-use Rattle.std.specs.Prelude.{◌&&◌, ◌||◌, ◌==◌, not, nat_le, MatchBool}
+use Rattle.std.proofs.Common.{◌≡◌, ◌∙◌, ◌⊎◌, ℕ, ◌+◌, ◌-◌, Bool, true, false, List, [], ◌∷◌, ◌++◌, refl, ap, sym, subst, Result, Ok, Err, inl, inr, length, arith, eqb-true}
+use Rattle.std.specs.Prelude.{◌&&◌, ◌||◌, ◌==◌, not, nat_le, MatchBool, if◌then◌else◌}
 use Rattle.std.proofs.lemmas.Bool.{cond-true, cond-false}
 use Rattle.std.proofs.lemmas.List.{length-append}
 use Rattle.rx_terms.specs.Text.{Chars}
@@ -15,9 +15,11 @@ use Rattle.rx_grammar.specs.declared.faults.Kind.TheVariants.{NotUtf8, Nul, Page
 use Rattle.rx_grammar.specs.declared.limits.Limits.{Limits}
 use Rattle.rx_grammar.specs.Items.{values}
 use Rattle.rx_grammar.specs.PageFaults.{is_known_tag}
-use Rattle.rx_reader.proofs.Bools.{split}
+use Rattle.rx_grammar.specs.declared.faults.Fault.{Fault}
+use Rattle.rx_reader.proofs.Bools.{by_test, both, either, untrue}
 use Rattle.rx_pages.specs.PageReader as reader
 use Rattle.rx_tags.specs.declared.stops.Stop.{Stop}
+use Rattle.rx_tags.specs.declared.stops.Stop.TheVariants as stop
 use Rattle.rx_tags.specs.TagBufs.{TagSoFar}
 use Rattle.rx_scan.specs.declared.answers.What.{What}
 use Rattle.rx_scan.specs.declared.answers.What.TheVariants as what
@@ -29,10 +31,11 @@ use Rattle.rx_marks.specs.KnownTags as known_tags
 use Rattle.rx_marks.specs.Pending.{PendsAs}
 use Rattle.rx_scan.specs.Scanner.{Reading, spot_of}
 use Rattle.rx_scan.specs.Entries as entries
-use Rattle.rx_scan.specs.Steps.{ReadsAs, a_mark}
+use Rattle.rx_scan.specs.Steps.{ReadsAs, mark_bytes}
 use Rattle.rx_scan.proofs.Standing.{some_mark, values_snoc, no_values}
 use Rattle.rx_marks.proofs.Simulation.{known, known_with}
-use Rattle.rx_scan.proofs.GivesLemmas.{Gives, gives_at, gives_by, refuses, nothing_told}
+use Rattle.rx_scan.proofs.GivesLemmas.{Gives, GivesOk, GivesErr, gives_at, gives_by, refuses, nothing_told}
+use Rattle.rx_scan.proofs.MarkLemmas.{mark_is}
 use Rattle.rx_scan.proofs.EntryLemmas.{enters}
 
 -- a case by a test, in what is chosen by it
@@ -64,6 +67,23 @@ nothing_or s i (mark.Section b) run t text h = inr (record { first = 60; more = 
 first_same : (run : List Entry) (x : ℕ) (more : Chars) (a b : ℕ) → values run ≡ x ∷ more → reader.first_of run a ≡ reader.first_of run b
 first_same [] x more a b e = absurd (cc)
 first_same (y ∷ run) x more a b e = refl
+
+-- the byte makes the byte order mark whole
+pub record PassesMark (r : Result reader.Scanned Kind) (s : reader.Scanning) (old : Reading) (byte : ℕ) (result : Result What Stop) (new : Reading) : Type 0 where
+  pub answer : result ≡ Ok what.Skipped
+  pub first : s.started ≡ false
+  pub are : s.held ++ byte ∷ [] ≡ mark_bytes
+  pub is : r ≡ Ok (record { next = reader.passed s; items = [] })
+  pub reads_as : ReadsAs new (reader.passed s)
+  pub text : new.text ≡ old.text
+  pub setting : new.setting ≡ old.setting
+
+-- a byte is one of an entry, or makes the mark whole
+abbrev pub Ways : Result reader.Scanned Kind → reader.Scanning → Reading → ℕ → Result What Stop → Reading → Type 0
+Ways r s old byte result new = Gives r s old result new ⊎ PassesMark r s old byte result new
+
+ways_by : (r q : Result reader.Scanned Kind) (s : reader.Scanning) (old : Reading) (byte : ℕ) (result : Result What Stop) (new : Reading) → r ≡ q → Ways q s old byte result new → Ways r s old byte result new
+ways_by r q s old byte result new e w = subst (λ (x : Result reader.Scanned Kind). Ways x s old byte result new) (sym e) w
 
 module _ (v : Reading) (s : reader.Scanning) (h : ReadsAs v s) where
   abbrev sy : Syntax
@@ -130,44 +150,90 @@ module _ (v : Reading) (s : reader.Scanning) (h : ReadsAs v s) where
       starts : (s.at + 1) - length (s.held ++ byte ∷ []) ≡ s.at - length s.held
       starts = omega (arith, length-append s.held (byte ∷ []))
 
-  byte_passed : (c : ℕ) (result : Result What Stop) (new : Reading) → result ≡ Ok (entries.is_mark c) → new ≡ entries.with_passed v → Gives (Ok (record { next = reader.passed s; items = [] })) s v result new
-  byte_passed c result new q e =
-      subst (λ (x : Result What Stop). Gives r s v x new) (sym q)
-      (split (λ (w : What). Gives r s v (Ok w) new) (c == byte_order_mark) what.Skipped what.Nothing
-      (λ k. gives_at r s v (Ok what.Skipped) (entries.with_passed v) new e (record { scanned = record { next = reader.passed s; items = [] }; is = refl; reads_as = passed_is; told = (a_mark refl, refl); setting = refl }))
-      (λ k. gives_at r s v (Ok what.Nothing) (entries.with_passed v) new e (record { scanned = record { next = reader.passed s; items = [] }; is = refl; reads_as = passed_is; told = nothing_told v (entries.with_passed v) refl (λ e. refl); setting = refl })))
+  -- a character that isn't entered is a line feed after a CR, or the mark
+  byte_passed : (byte c : ℕ) (result : Result What Stop) (new : Reading) → answer_of (s.held ++ byte ∷ []) ≡ Char c → (not s.started && c == byte_order_mark || s.after_return && c == line_feed) ≡ true → result ≡ Ok (entries.is_mark c) → new ≡ entries.with_passed v
+      → Ways (Ok (record { next = reader.passed s; items = [] })) s v byte result new
+  byte_passed byte c result new a t q e =
+      by_test {G = Ways r s v byte result new} (c == byte_order_mark)
+      (λ k. inr (record {
+        answer = q ∙ ap (λ b. Ok (if b then what.Skipped else what.Nothing)) k;
+        first = first k;
+        are = mark_is (s.held ++ byte ∷ []) (a ∙ ap Char (eqb-true c byte_order_mark k));
+        is = refl;
+        reads_as = subst (λ (x : Reading). ReadsAs x (reader.passed s)) (sym e) passed_is;
+        text = ap (λ (x : Reading). x.text) e;
+        setting = ap (λ (x : Reading). x.setting) e;
+      }))
+      (λ k. inl (subst (λ (x : Result What Stop). Gives r s v x new) (sym (q ∙ ap (λ b. Ok (if b then what.Skipped else what.Nothing)) k))
+      (gives_at r s v (Ok what.Nothing) (entries.with_passed v) new e (record { scanned = record { next = reader.passed s; items = [] }; is = refl; reads_as = passed_is; told = nothing_told v (entries.with_passed v) refl (λ e. refl); setting = refl }))))
     where
       r : Result reader.Scanned Kind
       r = Ok (record { next = reader.passed s; items = [] })
 
-  reads_char : (c : ℕ) (result : Result What Stop) (new : Reading) → entries.ReadsChar v c result new → Gives (reader.read_char sy lim spot c s) s v result new
-  reads_char c result new k =
+      first : (c == byte_order_mark) ≡ true → s.started ≡ false
+      first k = elim (either (not s.started && c == byte_order_mark) (s.after_return && c == line_feed) t) [
+        | inl a ↦ untrue s.started (both (not s.started) (c == byte_order_mark) a).0
+        | inr a ↦ absurd (let z : false ≡ true = ap (λ (x : ℕ). x == byte_order_mark) (sym (eqb-true c line_feed (both s.after_return (c == line_feed) a).1)) ∙ k in cc)
+      ]
+
+  reads_char : (byte c : ℕ) (result : Result What Stop) (new : Reading) → answer_of (s.held ++ byte ∷ []) ≡ Char c → entries.ReadsChar v c result new → Ways (reader.read_char sy lim spot c s) s v byte result new
+  reads_char byte c result new a k =
       let e : entries.is_passed v.place c ≡ (not s.started && c == byte_order_mark || s.after_return && c == line_feed) = λ i. not (h.started i) && c == byte_order_mark || h.after_return i && c == line_feed in
       match_by (entries.is_passed v.place c) _ _ k
-      (λ t k. gives_by (reader.read_char sy lim spot c s) (Ok (record { next = reader.passed s; items = [] })) s v result new (cond-true _ _ _ (sym e ∙ t)) (byte_passed c result new k.0 k.1))
-      (λ t k. match_by (entries.is_long v (known_tags.is_tag_with sy v.setting.inside v.pending.mark (as_line_end c))) _ _ k
+      (λ t k. ways_by (reader.read_char sy lim spot c s) (Ok (record { next = reader.passed s; items = [] })) s v byte result new (cond-true _ _ _ (sym e ∙ t)) (byte_passed byte c result new a (sym e ∙ t) k.0 k.1))
+      (λ t k. inl (match_by (entries.is_long v (known_tags.is_tag_with sy v.setting.inside v.pending.mark (as_line_end c))) _ _ k
       (λ u k. refuses (reader.read_char sy lim spot c s) v s TagTooLong result new h (cond-false _ _ _ (sym e ∙ t) ∙ cond-true _ _ _ (long_with (as_line_end c) ∙ u)) k)
-      (λ u k. gives_by (reader.read_char sy lim spot c s) _ s v result new (cond-false _ _ _ (sym e ∙ t) ∙ cond-false _ _ _ (long_with (as_line_end c) ∙ u)) (enters v s h (c == carriage_return) (as_line_end c) result new k)))
+      (λ u k. gives_by (reader.read_char sy lim spot c s) _ s v result new (cond-false _ _ _ (sym e ∙ t) ∙ cond-false _ _ _ (long_with (as_line_end c) ∙ u)) (enters v s h (c == carriage_return) (as_line_end c) result new k))))
 
-  reads_answer : (byte : ℕ) (answer : Utf8Step) (result : Result What Stop) (new : Reading) → entries.ReadsAnswer v (s.held ++ byte ∷ []) answer result new → Gives (reader.read_answer sy lim spot (s.held ++ byte ∷ []) s answer) s v result new
-  reads_answer byte Bad result new k = refuses (Err NotUtf8) v s NotUtf8 result new h refl k
-  reads_answer byte More result new k =
-      match_by (entries.is_long v (known_tags.is_tag v.pending.mark)) _ _ k
+  reads_answer : (byte : ℕ) (answer : Utf8Step) (result : Result What Stop) (new : Reading) → answer_of (s.held ++ byte ∷ []) ≡ answer → entries.ReadsAnswer v (s.held ++ byte ∷ []) answer result new → Ways (reader.read_answer sy lim spot (s.held ++ byte ∷ []) s answer) s v byte result new
+  reads_answer byte Bad result new a k = inl (refuses (Err NotUtf8) v s NotUtf8 result new h refl k)
+  reads_answer byte More result new a k =
+      inl (match_by (entries.is_long v (known_tags.is_tag v.pending.mark)) _ _ k
       (λ u k. refuses (reader.read_answer sy lim spot (s.held ++ byte ∷ []) s More) v s TagTooLong result new h (cond-true _ _ _ (long_is ∙ u)) k)
       (λ u k. subst (λ (x : Result What Stop). Gives (reader.read_answer sy lim spot (s.held ++ byte ∷ []) s More) s v x new) (sym k.0)
       (gives_at (reader.read_answer sy lim spot (s.held ++ byte ∷ []) s More) s v (Ok what.Nothing) (entries.with_held v (s.held ++ byte ∷ [])) new k.1
-      (record { scanned = record { next = reader.holding (s.held ++ byte ∷ []) s; items = [] }; is = cond-false _ _ _ (long_is ∙ u); reads_as = held_is byte; told = nothing_told v (entries.with_held v (s.held ++ byte ∷ [])) refl (λ e. e); setting = refl })))
-  reads_answer byte (Char c) result new k =
+      (record { scanned = record { next = reader.holding (s.held ++ byte ∷ []) s; items = [] }; is = cond-false _ _ _ (long_is ∙ u); reads_as = held_is byte; told = nothing_told v (entries.with_held v (s.held ++ byte ∷ [])) refl (λ e. e); setting = refl }))))
+  reads_answer byte (Char c) result new a k =
       match_by (c == 0) _ _ k
-      (λ t k. refuses (reader.read_answer sy lim spot (s.held ++ byte ∷ []) s (Char c)) v s Nul result new h (cond-true _ _ _ t) k)
+      (λ t k. inl (refuses (reader.read_answer sy lim spot (s.held ++ byte ∷ []) s (Char c)) v s Nul result new h (cond-true _ _ _ t) k))
       (λ t k. match_by (entries.is_long v (known_tags.is_tag v.pending.mark)) _ _ k
-      (λ u k. refuses (reader.read_answer sy lim spot (s.held ++ byte ∷ []) s (Char c)) v s TagTooLong result new h (cond-false _ _ _ t ∙ cond-true _ _ _ (long_is ∙ u)) k)
-      (λ u k. gives_by (reader.read_answer sy lim spot (s.held ++ byte ∷ []) s (Char c)) _ s v result new (cond-false _ _ _ t ∙ cond-false _ _ _ (long_is ∙ u)) (reads_char c result new k)))
+      (λ u k. inl (refuses (reader.read_answer sy lim spot (s.held ++ byte ∷ []) s (Char c)) v s TagTooLong result new h (cond-false _ _ _ t ∙ cond-true _ _ _ (long_is ∙ u)) k))
+      (λ u k. ways_by (reader.read_answer sy lim spot (s.held ++ byte ∷ []) s (Char c)) _ s v byte result new (cond-false _ _ _ t ∙ cond-false _ _ _ (long_is ∙ u)) (reads_char byte c result new a k)))
 
-  pub reads : (byte : ℕ) (result : Result What Stop) (new : Reading) → entries.Reads v byte result new → Gives (reader.read_byte sy lim spot byte s) s v result new
+  pub reads : (byte : ℕ) (result : Result What Stop) (new : Reading) → entries.Reads v byte result new → Ways (reader.read_byte sy lim spot byte s) s v byte result new
   reads byte result new k =
       let e : nat_le lim.page v.place.at ≡ nat_le lim.page s.at = ap (nat_le lim.page) h.at in
       match_by (nat_le lim.page v.place.at) _ _ k
-      (λ t k. refuses (reader.read_byte sy lim spot byte s) v s PageTooLong result new h (cond-true _ _ _ (sym e ∙ t)) k)
-      (λ t k. gives_by (reader.read_byte sy lim spot byte s) _ s v result new (cond-false _ _ _ (sym e ∙ t))
-      (reads_answer byte (answer_of (s.held ++ byte ∷ [])) result new (subst (λ (x : List ℕ). entries.ReadsAnswer v (x ++ byte ∷ []) (answer_of (x ++ byte ∷ [])) result new) h.held k)))
+      (λ t k. inl (refuses (reader.read_byte sy lim spot byte s) v s PageTooLong result new h (cond-true _ _ _ (sym e ∙ t)) k))
+      (λ t k. ways_by (reader.read_byte sy lim spot byte s) _ s v byte result new (cond-false _ _ _ (sym e ∙ t))
+      (reads_answer byte (answer_of (s.held ++ byte ∷ [])) result new refl (subst (λ (x : List ℕ). entries.ReadsAnswer v (x ++ byte ∷ []) (answer_of (x ++ byte ∷ [])) result new) h.held k)))
+
+  -- the same where nothing is skipped
+  pub reads_nothing : (byte : ℕ) (new : Reading) → entries.Reads v byte (Ok what.Nothing) new → GivesOk (reader.read_byte sy lim spot byte s) v what.Nothing new
+  reads_nothing byte new k = elim (reads byte (Ok what.Nothing) new k) [ inl g ↦ g | inr m ↦ absurd (let w : ◌≡◌ {A = Result What Stop} (Ok what.Nothing) (Ok what.Skipped) = m.answer in cc) ]
+
+  pub reads_fault : (byte : ℕ) (fault : Fault) (new : Reading) → entries.Reads v byte (Err (stop.Fault fault)) new → GivesErr (reader.read_byte sy lim spot byte s) s fault
+  reads_fault byte fault new k = elim (reads byte (Err (stop.Fault fault)) new k) [ inl g ↦ g | inr m ↦ absurd (let w : ◌≡◌ {A = Result What Stop} (Err (stop.Fault fault)) (Ok what.Skipped) = m.answer in cc) ]
+
+  -- no byte answers text
+  pub reads_no_text : (byte : ℕ) (new : Reading) → entries.Reads v byte (Ok what.Text) new → ⊥
+  reads_no_text byte new k = elim (reads byte (Ok what.Text) new k) [ inl g ↦ g.told | inr m ↦ let w : ◌≡◌ {A = Result What Stop} (Ok what.Text) (Ok what.Skipped) = m.answer in cc ]
+
+-- at the mark's last byte the answer is that it is skipped
+pub mark_skips : (v : Reading) (byte : ℕ) (answer : What) (new : Reading) → v.place.started ≡ false → v.held ++ byte ∷ [] ≡ mark_bytes → entries.Reads v byte (Ok answer) new → answer ≡ what.Skipped
+mark_skips v byte answer new f m k =
+    match_by (nat_le v.setting.limits.page v.place.at) _ _ k (λ t k. no_fault PageTooLong k)
+    (λ t k. at_mark (subst (λ (x : List ℕ). entries.ReadsAnswer v x (answer_of x) (Ok answer) new) m k))
+  where
+    no_fault : (kind : Kind) → ◌≡◌ {A = Result What Stop} (Ok answer) (Err (stop.Fault (entries.fault_at v kind))) → answer ≡ what.Skipped
+    no_fault kind e = absurd (cc)
+
+    passed : entries.is_passed v.place byte_order_mark ≡ true
+    passed = ap (λ b. not b && true || v.place.after_return && byte_order_mark == line_feed) f
+
+    at_mark : entries.ReadsAnswer v mark_bytes (Char byte_order_mark) (Ok answer) new → answer ≡ what.Skipped
+    at_mark k =
+        match_by (entries.is_long v (known_tags.is_tag v.pending.mark)) _ _ k (λ t k. no_fault TagTooLong k)
+        (λ t k. match_by (entries.is_passed v.place byte_order_mark) _ _ k
+        (λ u k. let w : ◌≡◌ {A = Result What Stop} (Ok answer) (Ok what.Skipped) = k.0 in cc)
+        (λ u k. absurd (let w : true ≡ false = sym passed ∙ u in cc)))

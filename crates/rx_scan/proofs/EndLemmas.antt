@@ -59,7 +59,7 @@ module _ (v : Reading) (s : reader.Scanning) (h : ReadsAs v s) (ar : Bool) (c : 
 
   pub gives_comment : (result : Result What Stop) (new : Reading) → verdict ≡ verdicts.whole comment → entries.Ends v ar whole_mark.Comment result new → Gives (read verdict) s v result new
   gives_comment result new g k =
-      gives_ended comment what.Skipped (entries.undropped v.setting) result new (completes v s h ar c comment g (unliteral v s h ar c comment refl) refl) refl k.0 k.1 refl (a_comment (one comment), refl) refl
+      gives_ended comment what.Skipped (entries.undropped v.setting) result new (completes v s h ar c comment g (unliteral v s h ar c comment refl) refl) refl k.0 k.1 refl ((λ o bytes. a_comment (one comment)), refl) refl
 
   pub gives_doctype : (result : Result What Stop) (new : Reading) → verdict ≡ verdicts.whole doctype → v.setting.leads ≡ true → entries.Ends v ar whole_mark.Doctype result new → Gives (read verdict) s v result new
   gives_doctype result new g l k =
@@ -77,7 +77,7 @@ module _ (v : Reading) (s : reader.Scanning) (h : ReadsAs v s) (ar : Bool) (c : 
       by : (run : Chars) → v.pending.run ≡ run → Gives (read verdict) s v result new
       by [] e =
           gives_ended (section v.pending.run) what.Skipped (entries.undropped v.setting) result new done refl (k.0 ∙ ap (λ (x : Chars). Ok (if is_empty x then what.Skipped else what.Section)) e) k.1 refl
-          (an_empty_section (record { item = item v s h ar c (section v.pending.run); one = refl; is = (is_item v s h ar c (section v.pending.run)).token_is ∙ ap section e }), refl) refl
+          ((λ o bytes. an_empty_section (record { item = item v s h ar c (section v.pending.run); one = refl; is = (is_item v s h ar c (section v.pending.run)).token_is ∙ ap section e })), refl) refl
       by (x ∷ run) e =
           gives_ended (section v.pending.run) what.Section (entries.undropped v.setting) result new done refl (k.0 ∙ ap (λ (x : Chars). Ok (if is_empty x then what.Skipped else what.Section)) e) k.1 refl
           ((one (section v.pending.run), λ z. let q = sym e ∙ z in cc), refl) refl

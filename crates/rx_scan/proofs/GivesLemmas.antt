@@ -13,7 +13,7 @@ use Rattle.rx_scan.specs.declared.answers.What.{What}
 use Rattle.rx_scan.specs.declared.answers.What.TheVariants as what
 use Rattle.rx_scan.specs.Scanner.{Reading, spot_of}
 use Rattle.rx_scan.specs.Entries as entries
-use Rattle.rx_scan.specs.Steps.{ReadsAs, Tells, texts_of, keeps_first, setting_after}
+use Rattle.rx_scan.specs.Steps.{ReadsAs, Skips, Tells, texts_of, keeps_first, setting_after}
 
 -- the text has grown by that of these tokens
 pub record Grows (old : Reading) (items : List Item) (new : Reading) : Type 0 where
@@ -29,7 +29,8 @@ pub record Grows (old : Reading) (items : List Item) (new : Reading) : Type 0 wh
 abbrev pub Told : Reading → What → List Item → Reading → Type 0
 Told old what.Nothing items new = Grows old items new
 Told old what.Text items new = ⊥
-Told old answer items new = Tells old.setting.drops answer items new × (new.text.text ≡ old.text.text)
+Told old what.Skipped items new = ((s : reader.Scanning) (bytes : List ℕ) → Skips old.setting.drops s bytes items) × (new.text.text ≡ old.text.text)
+Told old answer items new = Tells old.setting.drops answer reader.no_bytes [] items new × (new.text.text ≡ old.text.text)
 
 pub record GivesOk (r : Result reader.Scanned Kind) (old : Reading) (answer : What) (new : Reading) : Type 0 where
   pub scanned : reader.Scanned

@@ -1,5 +1,6 @@
 pub mod BufferLemmas
 pub mod Standing
+pub mod MarkLemmas
 pub mod GivesLemmas
 pub mod GoingLemmas
 pub mod WholeLemmas

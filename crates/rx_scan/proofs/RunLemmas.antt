@@ -1,6 +1,6 @@
 -- The bytes of a piece one after another.
-use Rattle.std.proofs.Common.{◌≡◌, ◌∙◌, ℕ, ◌+◌, ◌<◌, ◌≤◌, Bool, true, false, List, [], ◌∷◌, ◌++◌, length, take, drop, refl, ap, sym, subst, Option, Some, None, Result, Ok, Err, append_assoc, arith, get_or}
-use Rattle.std.proofs.lemmas.List.{take_more, take-append-drop}
+use Rattle.std.proofs.Common.{◌≡◌, ◌∙◌, ◌⊎◌, inl, inr, ℕ, ◌+◌, ◌<◌, ◌≤◌, Bool, true, false, List, [], ◌∷◌, ◌++◌, length, take, drop, refl, ap, sym, subst, Option, Some, None, Result, Ok, Err, append_assoc, arith, get_or}
+use Rattle.std.proofs.lemmas.List.{length-append, take_more, take-append-drop}
 use Rattle.std.proofs.lemmas.Option.{slice_get-get_or}
 use Rattle.rx_terms.specs.Text.{Chars}
 use Rattle.rx_chars.specs.declared.syntax.Syntax.{Syntax}
@@ -8,6 +8,7 @@ use Rattle.rx_grammar.specs.declared.faults.Fault.{Fault}
 use Rattle.rx_grammar.specs.declared.limits.Limits.{Limits}
 use Rattle.rx_grammar.specs.Items.{Item, text_of}
 use Rattle.rx_pages.specs.PageReader as reader
+use Rattle.rx_tags.specs.declared.stops.Stop.{Stop}
 use Rattle.rx_tags.specs.declared.stops.Stop.TheVariants as stop
 use Rattle.rx_scan.specs.declared.answers.What.{What}
 use Rattle.rx_scan.specs.declared.answers.What.TheVariants as what
@@ -15,9 +16,10 @@ use Rattle.rx_marks.specs.declared.marks.Mark.TheVariants as mark
 use Rattle.rx_scan.specs.declared.places.Setting.{Setting}
 use Rattle.rx_scan.specs.Scanner.{Reading, spot_of}
 use Rattle.rx_scan.specs.Entries as entries
-use Rattle.rx_scan.specs.Steps.{ReadsAs, joined, texts_of, keeps_first, after_some, setting_after, is_nothing, is_token, Took, Faults, Tells}
+use Rattle.rx_scan.specs.Steps.{ReadsAs, joined, texts_of, keeps_first, after_some, setting_after, is_nothing, is_skipped, is_token, HasMark, MarkAlone, a_mark, mark_bytes, Took, Faults, Tells}
 use Rattle.rx_scan.proofs.GivesLemmas.{GivesOk, Told}
-use Rattle.rx_scan.proofs.ByteLemmas.{reads}
+use Rattle.rx_scan.proofs.MarkLemmas.{Earlier, none_marked, mark_snoc, mark_none, all_held, before_mark}
+use Rattle.rx_scan.proofs.ByteLemmas.{PassesMark, reads, reads_nothing, reads_fault, mark_skips}
 
 -- while text is told, no token is begun, and what might be skipped is over
 pub record IsApart (v : Reading) : Type 0 where
@@ -35,11 +37,12 @@ pub record ReadsOn (old : Reading) (s : reader.Scanning) (bytes : List ℕ) (now
   pub setting : now.setting ≡ after_some old.setting scanned.items
   pub none : now.text.text ≡ [] → scanned.items ≡ []
   pub started : (now.text.text ≡ [] → ⊥) → now.place.started ≡ true
+  pub unmarked : (rest : List ℕ) → HasMark s bytes rest → ⊥
 
 -- before the first byte
 pub reads_none : (old : Reading) (s : reader.Scanning) → old.text.text ≡ [] → ReadsAs old s → ReadsOn old s [] old
 reads_none old s e h =
-    record { scanned = record { next = s; items = [] }; read = refl; reads_as = h; texts = ap Some (sym e); keeps = refl; setting = refl; none = λ z. refl; started = λ z. absurd (z e) }
+    record { scanned = record { next = s; items = [] }; read = refl; reads_as = h; texts = ap Some (sym e); keeps = refl; setting = refl; none = λ z. refl; started = λ z. absurd (z e); unmarked = λ rest m. none_marked s rest m }
 
 module _ (sy : Syntax) (lim : Limits) (spot : reader.Spot) where
   pub on_append : (r : Result reader.Scanned Fault) (a b : List ℕ) → reader.scan_on sy lim spot r (a ++ b) ≡ reader.scan_on sy lim spot (reader.scan_on sy lim spot r a) b
@@ -102,10 +105,33 @@ module _ (old l : Reading) (s : reader.Scanning) (bytes : List ℕ) (r : ReadsOn
   byte_on byte =
       on_append sy lim spot (Ok (record { next = s; items = [] })) bytes (byte ∷ []) ∙ (ap (λ x. reader.scan_byte_on sy lim spot x byte) r.read ∙ ap (reader.with_items r.scanned.next r.scanned.items) (sym (same_byte byte)))
 
+  -- the mark stood there before, or the byte that makes it whole answers that it is skipped
+  pub marked_byte : (byte : ℕ) (answer : What) (new : Reading) → entries.Reads l byte (Ok answer) new → (rest : List ℕ) → HasMark s (bytes ++ byte ∷ []) rest → Earlier s bytes ⊎ (answer ≡ what.Skipped)
+  marked_byte byte answer new k rest m = elim (mark_snoc s bytes byte rest m) [
+    | inl e ↦ inl e
+    | inr w ↦ let q = before_mark sy lim spot bytes (record { next = s; items = [] }) r.scanned m.first w.before r.read in
+        inr (mark_skips l byte answer new (r.reads_as.started ∙ q.0) (ap (λ x. x ++ byte ∷ []) (r.reads_as.held ∙ q.1) ∙ ap (λ x. 0xEF ∷ 0xBB ∷ x ∷ []) w.last) k)
+  ]
+
+  -- and no token is complete with it
+  pub marked_none : (byte : ℕ) (x : reader.Scanned) → reader.read_byte l.setting.syntax l.setting.limits (spot_of l) byte r.scanned.next ≡ Ok x → (rest : List ℕ) → HasMark s (bytes ++ byte ∷ []) rest → x.items ≡ []
+  marked_none byte x e rest m = elim (mark_snoc s bytes byte rest m) [
+    | inl q ↦ absurd (r.unmarked q.rest q.mark)
+    | inr w ↦ let q = before_mark sy lim spot bytes (record { next = s; items = [] }) r.scanned m.first w.before r.read in
+        mark_none sy lim spot byte r.scanned.next x q.0 (ap (λ y. y ++ byte ∷ []) q.1 ∙ ap (λ y. 0xEF ∷ 0xBB ∷ y ∷ []) w.last) (sym (same_byte byte) ∙ e)
+  ]
+
+  -- the mark is whole with the byte
+  pub whole_mark : (byte : ℕ) → r.scanned.next.started ≡ false → r.scanned.next.held ++ byte ∷ [] ≡ mark_bytes → HasMark s (bytes ++ byte ∷ []) []
+  whole_mark byte f m =
+      let h = all_held sy lim spot bytes (record { next = s; items = [] }) r.scanned r.read f in
+      let e : s.held ++ (bytes ++ byte ∷ []) ≡ mark_bytes = sym (append_assoc s.held bytes (byte ∷ [])) ∙ (ap (λ x. x ++ byte ∷ []) (sym h.held) ∙ m) in
+      record { first = h.first; part = omega (arith, ap length e, length-append s.held (bytes ++ byte ∷ []), length-append bytes (byte ∷ [])); are = e }
+
   -- one more byte of text
   pub reads_more : (byte : ℕ) (new : Reading) → entries.Reads l byte (Ok what.Nothing) new → ReadsOn old s (bytes ++ byte ∷ []) new
   reads_more byte new k =
-      let g = reads l r.scanned.next r.reads_as byte (Ok what.Nothing) new k in
+      let g = reads_nothing l r.scanned.next r.reads_as byte new k in
       record {
         scanned = record { next = g.scanned.next; items = r.scanned.items ++ g.scanned.items };
         read = byte_on byte ∙ ap (reader.with_items r.scanned.next r.scanned.items) g.is;
@@ -115,6 +141,7 @@ module _ (old l : Reading) (s : reader.Scanning) (bytes : List ℕ) (r : ReadsOn
         setting = g.setting ∙ (ap (λ x. after_some x g.scanned.items) r.setting ∙ after_append old.setting r.scanned.items g.scanned.items);
         none = λ e. let q = split_nil l.text.text g.told.more (sym g.told.text ∙ e) in both_nil r.scanned.items g.scanned.items (r.none q.0) (g.told.some q.1);
         started = λ n. by_text l.text.text refl n g;
+        unmarked = λ rest m. elim (marked_byte byte (what.Nothing) new k rest m) [ inl e ↦ r.unmarked e.rest e.mark | inr e ↦ let w : what.Nothing ≡ what.Skipped = e in cc ];
       }
     where
       split_nil : (a b : Chars) → a ++ b ≡ [] → (a ≡ []) × (b ≡ [])
@@ -145,11 +172,11 @@ text_setting new old v items e = e
 
 pub took_text : (old l : Reading) (s : reader.Scanning) (piece : List ℕ) (n : ℕ) → n ≤ length piece → 0 < n → ReadsOn old s (take n piece) l → (l.text.text ≡ [] → ⊥) → Took old s piece n what.Text l
 took_text old l s piece n k z r t =
-    record { fits = k; scanned = r.scanned; read = r.read; reads_as = r.reads_as; tells = (r.texts, t, r.keeps); setting = r.setting; all = λ e. absurd (cc); some = λ e. z }
+    record { fits = k; scanned = r.scanned; read = r.read; reads_as = r.reads_as; tells = (r.texts, t, r.keeps); mark = λ rest m. absurd (r.unmarked rest m); setting = r.setting; all = λ e. absurd (cc); some = λ e. z }
 
 pub took_all : (old l : Reading) (s : reader.Scanning) (piece : List ℕ) (n : ℕ) → n ≡ length piece → ReadsOn old s (take n piece) l → l.text.text ≡ [] → Took old s piece n what.Nothing l
 took_all old l s piece n e r t =
-    record { fits = omega arith; scanned = r.scanned; read = r.read; reads_as = r.reads_as; tells = r.none t; setting = r.setting; all = λ z. e; some = λ z. absurd (cc) }
+    record { fits = omega arith; scanned = r.scanned; read = r.read; reads_as = r.reads_as; tells = r.none t; mark = λ rest m. absurd (r.unmarked rest m); setting = r.setting; all = λ z. e; some = λ z. absurd (cc) }
 
 module _ (old l new : Reading) (s : reader.Scanning) (piece : List ℕ) (i : ℕ) (k : i < length piece) (r : ReadsOn old s (take i piece) l) where
   abbrev byte : ℕ
@@ -161,44 +188,86 @@ module _ (old l new : Reading) (s : reader.Scanning) (piece : List ℕ) (i : ℕ
   pub more_read : entries.Reads l byte (Ok what.Nothing) new → ReadsOn old s (take (i + 1) piece) new
   more_read e = subst (λ (x : List ℕ). ReadsOn old s x new) (sym taken) (reads_more old l s (take i piece) r byte new e)
 
-  -- a token other than text is whole with the byte
-  pub took_token : (answer : What) → entries.Reads l byte (Ok answer) new → l.text.text ≡ [] → is_token answer ≡ true → Took old s piece (i + 1) answer new
-  took_token answer e t w =
+  -- the mark stands alone
+  alone : (answer : What) (x : reader.Scanned) → entries.Reads l byte (Ok answer) new → reader.read_byte l.setting.syntax l.setting.limits (spot_of l) byte r.scanned.next ≡ Ok x → MarkAlone (is_skipped answer) s (take (i + 1) piece) x.items
+  alone answer x e q rest m =
+      let h : HasMark s (take i piece ++ byte ∷ []) rest = subst (λ (z : List ℕ). HasMark s z rest) taken m in (
+        elim (marked_byte old l s (take i piece) r byte answer new e rest h) [ inl z ↦ absurd (r.unmarked z.rest z.mark) | inr z ↦ ap is_skipped z ],
+        marked_none old l s (take i piece) r byte x q rest h,
+      )
+
+  -- the piece read so far, with what the byte leads to
+  read_on : l.text.text ≡ [] → (x : reader.Scanned) → reader.read_byte l.setting.syntax l.setting.limits (spot_of l) byte r.scanned.next ≡ Ok x → reader.scan_from old.setting.syntax old.setting.limits (spot_of old) s (take (i + 1) piece) ≡ Ok x
+  read_on t x e =
+      ap (reader.scan_from old.setting.syntax old.setting.limits (spot_of old) s) taken
+      ∙ (byte_on old l s (take i piece) r byte ∙ (ap (reader.with_items r.scanned.next r.scanned.items) e ∙ ap (λ y. Ok (record { next = x.next; items = y ++ x.items })) (no_items old l s (take i piece) r t).0))
+
+  not_nothing : (answer : What) → is_token answer ≡ true → is_nothing answer ≡ true → ⊥
+  not_nothing what.Nothing w z = cc
+  not_nothing what.Skipped w z = cc
+  not_nothing what.Text w z = cc
+  not_nothing what.Section w z = cc
+  not_nothing what.Doctype w z = cc
+  not_nothing what.Tag w z = cc
+
+  told : (answer : What) → is_token answer ≡ true → (items : List Item) → Told l answer items new → Tells l.setting.drops answer s (take (i + 1) piece) items new
+  told what.Nothing w items h = absurd (cc)
+  told what.Skipped w items h = h.0 s (take (i + 1) piece)
+  told what.Text w items h = absurd (cc)
+  told what.Section w items h = h.0
+  told what.Doctype w items h = h.0
+  told what.Tag w items h = h.0
+
+  took_entry : (answer : What) → entries.Reads l byte (Ok answer) new → l.text.text ≡ [] → is_token answer ≡ true → GivesOk (reader.read_byte l.setting.syntax l.setting.limits (spot_of l) byte r.scanned.next) l answer new → Took old s piece (i + 1) answer new
+  took_entry answer e t w g =
       let none = no_items old l s (take i piece) r t in
-      let g = reads l r.scanned.next r.reads_as byte (Ok answer) new e in
       let drops : l.setting.drops ≡ old.setting.drops = ap (λ (x : Setting). x.drops) none.1 in
       record {
         fits = omega arith;
         scanned = g.scanned;
-        read = ap (reader.scan_from old.setting.syntax old.setting.limits (spot_of old) s) taken ∙ (byte_on old l s (take i piece) r byte ∙ (ap (reader.with_items r.scanned.next r.scanned.items) g.is ∙ ap (λ x. Ok (record { next = g.scanned.next; items = x ++ g.scanned.items })) none.0));
+        read = read_on t g.scanned g.is;
         reads_as = g.reads_as;
-        tells = subst (λ (b : Bool). Tells b answer g.scanned.items new) drops (told answer w g.scanned.items g.told);
+        tells = subst (λ (b : Bool). Tells b answer s (take (i + 1) piece) g.scanned.items new) drops (told answer w g.scanned.items g.told);
+        mark = alone answer g.scanned e g.is;
         setting = g.setting ∙ ap (λ x. setting_after answer new x g.scanned.items) none.1;
         all = λ z. absurd (not_nothing answer w z);
         some = λ z. omega arith;
       }
-    where
-      told : (answer : What) → is_token answer ≡ true → (items : List Item) → Told l answer items new → Tells l.setting.drops answer items new
-      told what.Nothing w items h = absurd (cc)
-      told what.Skipped w items h = h.0
-      told what.Text w items h = absurd (cc)
-      told what.Section w items h = h.0
-      told what.Doctype w items h = h.0
-      told what.Tag w items h = h.0
 
-      not_nothing : (answer : What) → is_token answer ≡ true → is_nothing answer ≡ true → ⊥
-      not_nothing what.Nothing w z = cc
-      not_nothing what.Skipped w z = cc
-      not_nothing what.Text w z = cc
-      not_nothing what.Section w z = cc
-      not_nothing what.Doctype w z = cc
-      not_nothing what.Tag w z = cc
+  -- the mark is skipped
+  took_mark : entries.Reads l byte (Ok what.Skipped) new → l.text.text ≡ [] → PassesMark (reader.read_byte l.setting.syntax l.setting.limits (spot_of l) byte r.scanned.next) r.scanned.next l byte (Ok what.Skipped) new → Took old s piece (i + 1) what.Skipped new
+  took_mark e t m =
+      let none = no_items old l s (take i piece) r t in
+      let x : reader.Scanned = record { next = reader.passed r.scanned.next; items = [] } in
+      record {
+        fits = omega arith;
+        scanned = x;
+        read = read_on t x m.is;
+        reads_as = m.reads_as;
+        tells = a_mark (subst (λ (z : List ℕ). HasMark s z []) (sym taken) (whole_mark old l s (take i piece) r byte m.first m.are)) refl;
+        mark = alone what.Skipped x e m.is;
+        setting = m.setting ∙ none.1;
+        all = λ z. absurd (cc);
+        some = λ z. omega arith;
+      }
+
+  -- a token other than text is whole with the byte
+  pub took_token : (answer : What) → entries.Reads l byte (Ok answer) new → l.text.text ≡ [] → is_token answer ≡ true → Took old s piece (i + 1) answer new
+  took_token answer e t w = elim (reads l r.scanned.next r.reads_as byte (Ok answer) new e) [
+    | inl g ↦ took_entry answer e t w g
+    | inr m ↦ let q : answer ≡ what.Skipped = skipped m.answer in
+        subst (λ (a : What). Took old s piece (i + 1) a new) (sym q)
+        (took_mark (subst (λ (a : What). entries.Reads l byte (Ok a) new) q e) t (subst (λ (a : What). PassesMark (reader.read_byte l.setting.syntax l.setting.limits (spot_of l) byte r.scanned.next) r.scanned.next l byte (Ok a) new) q m))
+  ]
+    where
+      skipped : ◌≡◌ {A = Result What Stop} (Ok answer) (Ok what.Skipped) → answer ≡ what.Skipped
+      skipped e = cc
 
   -- the byte decides a fault
   pub faults : (fault : Fault) → entries.Reads l byte (Err (stop.Fault fault)) new → l.text.text ≡ [] → Faults old s piece fault
   faults fault e t =
       let none = no_items old l s (take i piece) r t in
-      let g = reads l r.scanned.next r.reads_as byte (Err (stop.Fault fault)) new e in
+      let g = reads_fault l r.scanned.next r.reads_as byte fault new e in
       let here : reader.read_byte old.setting.syntax old.setting.limits (spot_of old) byte r.scanned.next ≡ Err g.kind = sym (same_byte old l s (take i piece) r byte) ∙ g.is in
       let kind : g.kind ≡ fault.kind = sym (ap (λ (f : Fault). f.kind) g.fault_is) in
       record {
@@ -206,6 +275,7 @@ module _ (old l new : Reading) (s : reader.Scanning) (piece : List ℕ) (i : ℕ
         byte = byte;
         next = r.scanned.next;
         read = r.read ∙ ap (λ x. Ok (record { next = r.scanned.next; items = x })) none.0;
+        unmarked = r.unmarked;
         here = slice_get-get_or piece i 0 k;
         decides = here ∙ ap Err kind;
         is = g.fault_is ∙ ap (reader.fault_in r.scanned.next) kind;

@@ -76,7 +76,7 @@ module _ (v : Reading) (s : reader.Scanning) (h : ReadsAs v s) (ar : Bool) (c : 
         scanned = record { next = behind v s h ar c t; items = item v s h ar c t ∷ [] };
         is = g;
         reads_as = ends_as v s h ar c t (entries.marked mark.Nothing v.pending) (entries.undropped v.setting) v.text v.end bracket e refl refl h.syntax;
-        told = (a_line_feed (item v s h ar c t) q.0 refl (ap is_line_feed i.token_is ∙ (l ∙ q.1)), refl);
+        told = ((λ o bytes. a_line_feed (item v s h ar c t) q.0 refl (ap is_line_feed i.token_is ∙ (l ∙ q.1))), refl);
         setting = refl;
       })
   gives_said t d bracket (Ok what.Text) new g x l e k = absurd k

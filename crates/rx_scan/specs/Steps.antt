@@ -69,12 +69,26 @@ pub record IsOne (token : Token) (items : List Item) : Type 0 where
   pub one : items ≡ item ∷ []
   pub is : item.token ≡ token
 
--- what is skipped: a byte order mark, which is no token; a comment or an instruction; an empty CDATA section; and a line feed that is dropped
-pub data Skips (drops : Bool) (items : List Item) : Type 0 where
-  a_mark : items ≡ [] → Skips drops items
-  a_comment : IsOne comment items → Skips drops items
-  an_empty_section : IsOne (section []) items → Skips drops items
-  a_line_feed : (item : Item) → drops ≡ true → items ≡ item ∷ [] → is_line_feed item.token ≡ true → Skips drops items
+-- the bytes of the byte order mark, U+FEFF
+abbrev pub mark_bytes : List ℕ
+mark_bytes = 0xEF ∷ 0xBB ∷ 0xBF ∷ []
+
+-- Before the page's first character is whole, these bytes make the byte order mark whole, and `rest` stands behind it.
+pub record HasMark (s : Scanning) (bytes rest : List ℕ) : Type 0 where
+  pub first : s.started ≡ false
+  pub part : length s.held < 3
+  pub are : s.held ++ bytes ≡ mark_bytes ++ rest
+
+-- what is skipped: the byte order mark, which is no token; a comment or an instruction; an empty CDATA section; and a line feed that is dropped
+pub data Skips (drops : Bool) (s : Scanning) (bytes : List ℕ) (items : List Item) : Type 0 where
+  a_mark : HasMark s bytes [] → items ≡ [] → Skips drops s bytes items
+  a_comment : IsOne comment items → Skips drops s bytes items
+  an_empty_section : IsOne (section []) items → Skips drops s bytes items
+  a_line_feed : (item : Item) → drops ≡ true → items ≡ item ∷ [] → is_line_feed item.token ≡ true → Skips drops s bytes items
+
+-- Where the bytes have the mark, it is what is skipped, and no token is complete.
+abbrev pub MarkAlone : Bool → Scanning → List ℕ → List Item → Type 0
+MarkAlone skipped s bytes items = (rest : List ℕ) → HasMark s bytes rest → (skipped ≡ true) × (items ≡ [])
 
 -- the one token is this tag, at its place
 pub record IsTag (the_tag : Tag) (first last : ℕ) (items : List Item) : Type 0 where
@@ -85,13 +99,13 @@ pub record IsTag (the_tag : Tag) (first last : ℕ) (items : List Item) : Type 0
   pub last_is : item.last ≡ last
 
 -- what the answer to some bytes tells of their tokens
-abbrev pub Tells : Bool → What → List Item → Reading → Type 0
-Tells drops what.Nothing items new = items ≡ []
-Tells drops what.Text items new = (texts_of items ≡ Some new.text.text) × (new.text.text ≢ []) × (keeps_first drops items ≡ true)
-Tells drops what.Section items new = IsOne (section new.pending.run) items × (new.pending.run ≢ [])
-Tells drops what.Skipped items new = Skips drops items
-Tells drops what.Doctype items new = IsOne doctype items
-Tells drops what.Tag items new = IsTag (parts_of new.pending.tag.state) new.place.token new.end items × (is_last new.pending.tag.state.phase ≡ true) × (new.place.at ≡ new.end + 1) × (new.pending.mark ≡ mark.Nothing)
+abbrev pub Tells : Bool → What → Scanning → List ℕ → List Item → Reading → Type 0
+Tells drops what.Nothing s bytes items new = items ≡ []
+Tells drops what.Text s bytes items new = (texts_of items ≡ Some new.text.text) × (new.text.text ≢ []) × (keeps_first drops items ≡ true)
+Tells drops what.Section s bytes items new = IsOne (section new.pending.run) items × (new.pending.run ≢ [])
+Tells drops what.Skipped s bytes items new = Skips drops s bytes items
+Tells drops what.Doctype s bytes items new = IsOne doctype items
+Tells drops what.Tag s bytes items new = IsTag (parts_of new.pending.tag.state) new.place.token new.end items × (is_last new.pending.tag.state.phase ≡ true) × (new.place.at ≡ new.end + 1) × (new.pending.mark ≡ mark.Nothing)
 
 -- The setting after some tokens: what was to be dropped has come.
 abbrev pub after_some : Setting → List Item → Setting
@@ -104,6 +118,10 @@ is_tag _ = false
 abbrev pub is_nothing : What → Bool
 is_nothing what.Nothing = true
 is_nothing _ = false
+
+abbrev pub is_skipped : What → Bool
+is_skipped what.Skipped = true
+is_skipped _ = false
 
 -- after a start tag or a document type no document type may come
 abbrev pub still_leads : What → Reading → Bool
@@ -122,17 +140,19 @@ pub record Took (old : Reading) (s : Scanning) (piece : List ℕ) (n : ℕ) (ans
   pub scanned : Scanned
   pub read : scan_from old.setting.syntax old.setting.limits (spot_of old) s (take n piece) ≡ Ok scanned
   pub reads_as : ReadsAs new scanned.next
-  pub tells : Tells old.setting.drops answer scanned.items new
+  pub tells : Tells old.setting.drops answer s (take n piece) scanned.items new
+  pub mark : MarkAlone (is_skipped answer) s (take n piece) scanned.items
   pub setting : new.setting ≡ setting_after answer new old.setting scanned.items
   pub all : is_nothing answer ≡ true → n ≡ length piece
   pub some : is_nothing answer ≡ false → 0 < n
 
--- The next byte of the piece after some that complete no token decides the fault.
+-- The next byte of the piece after some that neither complete a token nor have the byte order mark decides the fault.
 pub record Faults (old : Reading) (s : Scanning) (piece : List ℕ) (fault : Fault) : Type 0 where
   pub n : ℕ
   pub byte : ℕ
   pub next : Scanning
   pub read : scan_from old.setting.syntax old.setting.limits (spot_of old) s (take n piece) ≡ Ok (record { next = next; items = [] })
+  pub unmarked : (rest : List ℕ) → HasMark s (take n piece) rest → ⊥
   pub here : slice_get piece n ≡ Some byte
   pub decides : read_byte old.setting.syntax old.setting.limits (spot_of old) byte next ≡ Err fault.kind
   pub is : fault ≡ fault_in next fault.kind
@@ -237,17 +257,21 @@ Shows what.Tag v _ = ⊥
 
 -- The tokens of the bytes are what is shown: none; a tag at its place; text of one or more tokens, of which the first one isn't a line feed
 -- that is dropped; the document type; or one that is skipped.
-abbrev pub Are : Bool → shown.Token → List Item → Type 0
-Are drops token.More items = items ≡ []
-Are drops (token.Start t) items = IsTag (tag_seen t) t.token t.at items × ((tag_seen t).closing ≡ false)
-Are drops (token.End t) items = IsTag (tag_seen t) t.token t.at items × ((tag_seen t).closing ≡ true)
-Are drops (token.Text text) items = (texts_of items ≡ Some (chars text.now)) × (chars text.now ≢ []) × (keeps_first drops items ≡ true)
-Are drops token.Doctype items = IsOne doctype items
-Are drops token.Skipped items = Skips drops items
+abbrev pub Are : Bool → shown.Token → Scanning → List ℕ → List Item → Type 0
+Are drops token.More s bytes items = items ≡ []
+Are drops (token.Start t) s bytes items = IsTag (tag_seen t) t.token t.at items × ((tag_seen t).closing ≡ false)
+Are drops (token.End t) s bytes items = IsTag (tag_seen t) t.token t.at items × ((tag_seen t).closing ≡ true)
+Are drops (token.Text text) s bytes items = (texts_of items ≡ Some (chars text.now)) × (chars text.now ≢ []) × (keeps_first drops items ≡ true)
+Are drops token.Doctype s bytes items = IsOne doctype items
+Are drops token.Skipped s bytes items = Skips drops s bytes items
 
 abbrev pub is_more : shown.Token → Bool
 is_more token.More = true
 is_more _ = false
+
+abbrev pub shows_skipped : shown.Token → Bool
+shows_skipped token.Skipped = true
+shows_skipped _ = false
 
 -- after a start tag or a document type no document type may come
 abbrev pub ends_leading : shown.Token → Bool
@@ -266,13 +290,15 @@ IsLast (token.Start t) at = at ≡ t.at + 1
 IsLast (token.End t) at = at ≡ t.at + 1
 IsLast _ at = Unit {0}
 
--- A step that answers has taken the first n bytes of the piece, whose tokens are what it shows.
+-- A step that answers has taken the first n bytes of the piece, whose tokens are what it shows: none exactly at More and at the byte order mark,
+-- which is shown by itself.
 pub record Stepped (old : Scanner) (s : Scanning) (piece : List ℕ) (n : ℕ) (t : shown.Token) (new : Scanner) : Type 0 where
   pub fits : n ≤ length piece
   pub scanned : Scanned
   pub read : scan_from old.reading.setting.syntax old.reading.setting.limits (spot_of old.reading) s (take n piece) ≡ Ok scanned
   pub stands : Stands new scanned.next
-  pub are : Are old.reading.setting.drops t scanned.items
+  pub are : Are old.reading.setting.drops t s (take n piece) scanned.items
+  pub mark : MarkAlone (shows_skipped t) s (take n piece) scanned.items
   pub last : IsLast t scanned.next.at
   pub setting : new.reading.setting ≡ setting_behind t old.reading.setting scanned.items
   pub all : is_more t ≡ true → n ≡ length piece

@@ -40,7 +40,7 @@ impl Model for Scan {
 
 impl Scan {
     ghost use Rattle.rx_pages.specs.PageReader.{Scanning, no_bytes};
-    ghost use Rattle.rx_scan.specs.Steps.{Stands, first_setting, is_tag, is_of_syntax, may_enter, inside_of, Finishes};
+    ghost use Rattle.rx_scan.specs.Steps.{Stands, first_setting, is_of_syntax, may_enter, inside_of, Finishes};
 
     /// Before the first byte of a page, in content Outside. It takes the memory of the buffer through which text is
     /// handed out, so text by itself asks for no memory later.
@@ -48,7 +48,7 @@ impl Scan {
         ensures setting { IfOk result (λ v. v.reading.setting ≡ first_setting syntax limits) }
         ensures stands { IfOk result (λ v. Stands v no_bytes) }
         ensures enter { IfOk result (λ v. v.stepped ≡ false) }
-        ensures last { IfOk result (λ v. is_tag v.what ≡ false) }
+        ensures nothing { IfOk result (λ v. v.what ≡ What.Nothing) }
     {
         let text = Buffer::with_room(alloc, ROOM)?;
         let pending = Unfinished::new(alloc, syntax)?;

@@ -58,15 +58,15 @@ no_signs event.Finish h = absurd (cc)
 paid_up : (owed : Owed) (t : StartTag) → left owed ≡ 0 → nests.owed_signs owed t ≡ []
 paid_up owed t h = by owed.ends owed.own refl refl
   where
-    no_own : (o : Own) → own_left (Some o) ≡ 0 → ⊥
-    no_own own.Nothing e = cc
-    no_own own.Begin e = cc
-    no_own own.Alone e = cc
-    no_own own.Finish e = cc
+    no_own : (o : Own) → own_left (Some o) ≡ 0 → nests.owes_own (Some o) t ≡ []
+    no_own own.Nothing e = refl
+    no_own own.Begin e = absurd (cc)
+    no_own own.Alone e = absurd (cc)
+    no_own own.Finish e = absurd (cc)
 
     by : (k : ℕ) (o : Option Own) → owed.ends ≡ k → owed.own ≡ o → nests.owed_signs owed t ≡ []
     by zero None e p = rw (e, p) refl
-    by zero (Some o) e p = absurd (no_own o (let w : own_left owed.own ≡ 0 = omega (arith, h) in ap own_left (sym p) ∙ w))
+    by zero (Some o) e p = rw (e, p) (no_own o (let w : own_left owed.own ≡ 0 = omega (arith, h) in ap own_left (sym p) ∙ w))
     by (suc k) o e p = absurd (omega (arith, h, e))
 
 -- before the first byte nothing is shown

@@ -32,7 +32,7 @@ returns-in-Ok-clause-steps c syntax limits bytes signs st =
     let was = subst (λ v. Stands syntax limits v bytes signs) (sym c.self.view_is) st in
     let none = sym c.next_owed.ensures ∙ none_of c.next_owed.result c.in_default-next_owed.not-Some in
     subst (λ d. Done syntax limits bytes signs c.args.piece.now c.in-Ok.taken d new) (sym (ap (λ (p : Did × Owed). p.0) c.first_of-did.ensures))
-    (read_done syntax limits old bytes signs was c.args.piece.now c.in-Ok.taken c.in-Ok.heard new none (c.in-Ok.ensures.reads syntax limits bytes was.told was.at) (ap (λ (p : Did × Owed). p.1) c.first_of-did.ensures) was.unfailed was.unspent)
+    (read_done syntax limits old bytes signs was c.args.piece.now c.in-Ok.taken c.in-Ok.heard new c.in-Ok.ensures.takes none (c.in-Ok.ensures.reads syntax limits bytes was.told was.at) (ap (λ (p : Did × Owed). p.1) c.first_of-did.ensures) was.unfailed was.unspent)
 
 -- src/nests.rt:80:5
 pub returns-in-Err-Fault-clause-steps : goal.returns-in-Err-Fault-clause-steps

@@ -12,8 +12,8 @@ invariant_of-result c unfailed unspent =
       at = new_at c.args.syntax c.args.limits c.in_ok-scan.scan c.in_ok-line.line c.in_ok-scan.ensures.setting c.in_ok-scan.ensures.stands c.in_ok-line.ensures;
     }
 
-pub returns : goal.returns
-returns c =
+pub returns-clause-stands : goal.returns-clause-stands
+returns-clause-stands c =
     let at = new_at c.args.syntax c.args.limits c.in_ok-scan.scan c.in_ok-line.line c.in_ok-scan.ensures.setting c.in_ok-scan.ensures.stands c.in_ok-line.ensures in
     record {
       told = [];
