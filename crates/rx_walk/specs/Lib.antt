@@ -8,3 +8,6 @@ pub mod Faults
 pub mod Courses
 pub mod Walks
 pub mod TagPlaces
+pub mod FaultPlaces
+pub mod KeptTexts
+pub mod Numberings

@@ -12,6 +12,7 @@ ghost use Rattle.rx_eval.specs.Waits.{Shows};
 ghost use Rattle.rx_grammar.specs.Trees.{StartTag, Tree, end, element};
 ghost use Rattle.rx_nest.specs.Signs.{signs_of};
 ghost use Rattle.rx_walk.specs.Courses.{Runs};
+ghost use Rattle.rx_walk.specs.FaultPlaces as places;
 ghost use Rattle.rx_walk.specs.Walks as walks;
 
 use crate::courses::Course;
@@ -143,6 +144,7 @@ impl Walk {
     /// Takes the whole piece.
     pub fn feed(&mut self, piece: &[u8]) -> Result<(), Stop>
         ensures gives { (syntax : syntaxes.Syntax) (limits : limit.Limits) (context : RulesContext) (address : Chars) (bytes : List ℕ) → walks.Stands syntax limits context address self.old bytes → walks.FeedGives syntax limits context address bytes piece.now result self.new }
+        ensures place { (syntax : syntaxes.Syntax) (limits : limit.Limits) (context : RulesContext) (address : Chars) (bytes : List ℕ) → walks.Stands syntax limits context address self.old bytes → places.PlaceGives syntax limits context bytes piece.now result }
         ensures keeps { walks.Keeps self.old result self.new }
     {
         if self.spent {

@@ -1,4 +1,4 @@
-use Rattle.std.proofs.Common.{◌≡◌, sym, subst}
+use Rattle.std.proofs.Common.{sym, subst}
 use Rattle.rx_walk.proofs.Walking.{Taken, taken_start, taken_more, taken_whole, taken_stop, rest_is, somewhere_taken}
 use Rattle.rx_walk.proofs.walks.take_all.Goals as goal
 

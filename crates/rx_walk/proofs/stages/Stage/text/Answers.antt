@@ -1,4 +1,4 @@
-use Rattle.std.proofs.Common.{◌≡◌, refl, sym, subst}
+use Rattle.std.proofs.Common.{refl, sym, subst}
 use Rattle.std.specs.Str.{chars}
 use Rattle.rx_walk.specs.CallsOf.{singles}
 use Rattle.rx_walk.specs.Stages.{Tells}

@@ -1,5 +1,6 @@
-use Rattle.std.proofs.Common.{◌≡◌, ◌++◌, refl, sym, subst}
+use Rattle.std.proofs.Common.{◌++◌, refl, sym, subst}
 use Rattle.rx_walk.specs.Walks.{Stands}
+use Rattle.rx_walk.proofs.FaultPlacing.{placed}
 use Rattle.rx_walk.proofs.walks.Walk.feed.Goals as goal
 
 pub invariant_of-self : goal.invariant_of-self
@@ -19,3 +20,9 @@ returns-in-Err-Fault-clause-gives c syntax limits context address bytes s =
     let was = subst (λ v. Stands syntax limits context address v bytes) (sym c.self.view_is) s in
     let why = rw c.in-Err-Fault.field-0-is at c.in-Err-Fault.ensures in
     (why syntax limits context address bytes was.goes, (refl, was.unspent))
+
+pub returns-in-Err-Fault-clause-place : goal.returns-in-Err-Fault-clause-place
+returns-in-Err-Fault-clause-place c syntax limits context address bytes s =
+    let was = subst (λ v. Stands syntax limits context address v bytes) (sym c.self.view_is) s in
+    let why = rw c.in-Err-Fault.field-0-is at c.in-Err-Fault.ensures in
+    placed syntax limits context address bytes c.args.piece.now c.self.inside.nest c.self.inside.course c.in-Err-Fault.fault was.goes was.paid (why syntax limits context address bytes was.goes)
