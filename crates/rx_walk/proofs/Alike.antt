@@ -1,16 +1,16 @@
 -- In which pieces text comes makes no difference.
-use Rattle.std.proofs.Common.{◌≡◌, ◌∙◌, ◌↔◌, Bool, true, false, List, [], ◌∷◌, ◌++◌, map, refl, sym, ap, subst, append_assoc, append-nil}
+use Rattle.std.proofs.Common.{◌≡◌, ◌∙◌, Bool, true, false, List, [], ◌∷◌, ◌++◌, map, refl, sym, ap, subst, append_assoc, append-nil}
 use Rattle.std.specs.Prelude.{if◌then◌else◌}
 use Rattle.rx_terms.specs.Text.{Chars}
 use Rattle.rx_rdfa.specs.Blanks.{Bnode, Owner, model}
-use Rattle.rx_rdfa.specs.Calls.{Call, Enter, Read, Leave, calls, step, after}
+use Rattle.rx_rdfa.specs.Calls.{Call, Enter, Read, Leave, step, after}
 use Rattle.rx_rdfa.specs.Machine.{Machine, read}
 use Rattle.rx_rdfa.proofs.Calls.{after-append}
 use Rattle.rx_eval.specs.Keeping.{gathers_some}
 use Rattle.rx_eval.specs.Opened.{read_text}
 use Rattle.rx_eval.specs.States.{State}
-use Rattle.rx_walk.specs.CallsOf.{singles, singly, PiecesAreAlike}
-use Rattle.rx_walk.specs.Leading.{Steps, Leads, PiecesLeadAlike}
+use Rattle.rx_walk.specs.CallsOf.{singles, singly}
+use Rattle.rx_walk.specs.Leading.{Leads, PiecesLeadAlike}
 
 -- for the machine of the rules
 

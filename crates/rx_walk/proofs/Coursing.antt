@@ -1,11 +1,10 @@
 -- What becomes of the course.
-use Rattle.std.proofs.Common.{◌≡◌, ◌∙◌, ℕ, suc, ◌+◌, ◌≤◌, ◌<◌, Bool, true, false, List, [], ◌∷◌, ◌++◌, map, length, refl, sym, ap, subst, Option, Some, None, Ok, Err, arith, length-append, append-nil}
+use Rattle.std.proofs.Common.{◌≡◌, ◌∙◌, ℕ, suc, ◌+◌, ◌≤◌, ◌<◌, Bool, true, false, List, [], ◌∷◌, ◌++◌, map, length, refl, sym, ap, subst, Option, Some, None, Ok, Err, arith, length-append}
 use Rattle.std.specs.Option.{option_or}
 use Rattle.std.specs.Prelude.{is_some, option_map, if◌then◌else◌}
 use Rattle.rx_terms.specs.Text.{Chars}
 use Rattle.rx_grammar.specs.declared.faults.Fault.{Fault}
 use Rattle.rx_grammar.specs.Trees.{StartTag}
-use Rattle.rx_rdfa.specs.Calls.{Call, Enter, Leave}
 use Rattle.rx_rdfa.specs.Names.{Context, vocab}
 use Rattle.rx_rdfa.specs.Refusals.{is_relative}
 use Rattle.rx_rdfa.specs.Tree.{Tag}
@@ -16,14 +15,13 @@ use Rattle.rx_curie.specs.Given.{vocabulary_from, RefusesFor}
 use Rattle.rx_curie.specs.declared.facts.FactsError.TheVariants as error
 use Rattle.rx_grammar.specs.declared.faults.Kind.{Kind}
 use Rattle.rx_rdfa.specs.Refusals.{Refusal}
-use Rattle.rx_nest.specs.Signs.{Sign, begun, said, finished}
+use Rattle.rx_nest.specs.Signs.{Sign, begun, said}
 use Rattle.rx_nest.specs.Fronts.{IsFront}
 use Rattle.rx_walk.specs.declared.courses.Course.{Course}
 use Rattle.rx_walk.specs.declared.origins.Origin.{Origin}
-use Rattle.rx_walk.specs.declared.stages.Stage.{Stage}
 use Rattle.rx_walk.specs.Lines.{read_tag, around, line_on, line_of}
 use Rattle.rx_walk.specs.CallsOf.{call_of, calls_of, singles}
-use Rattle.rx_walk.specs.Seekings.{Seeking, seek, seeks, sought}
+use Rattle.rx_walk.specs.Seekings.{seek, sought}
 use Rattle.rx_walk.specs.Refused.{fault_of, refused_at, refused_in}
 use Rattle.rx_walk.specs.Stages.{Staged, MayTake, MayBe, Tells}
 use Rattle.rx_rdfa.specs.Facts.{facts}
@@ -31,7 +29,7 @@ use Rattle.rx_curie.specs.declared.facts.Facts.{Facts as CodeFacts}
 use Rattle.rx_curie.specs.Seen.{facts_seen}
 use Rattle.rx_tags.specs.declared.stops.Stop.{Stop}
 use Rattle.rx_tags.specs.declared.stops.Stop.TheVariants as stop
-use Rattle.rx_walk.specs.Courses.{AllAbsolute, Runs, MayHear, FactsGive, Hears}
+use Rattle.rx_walk.specs.Courses.{AllAbsolute, Runs, FactsGive, Hears}
 use Rattle.rx_walk.proofs.Signed.{line_append, calls_append, seeks_append, refused_append, said_line, said_calls, said_seeks, said_refused}
 use Rattle.rx_walk.proofs.Fronting.{may_more, may_say, front_counts}
 

@@ -1,5 +1,5 @@
 -- Which fault comes first.
-use Rattle.std.proofs.Common.{◌≡◌, ◌∙◌, ℕ, ◌+◌, ◌<◌, ◌≤◌, Bool, true, false, List, [], ◌∷◌, ◌++◌, map, length, refl, sym, ap, subst, Option, Some, None, Result, Ok, Err, arith, length-append, append_assoc, append-nil, ◌⊎◌, inl, inr, ⊎_elim, take}
+use Rattle.std.proofs.Common.{◌≡◌, ◌∙◌, ℕ, ◌<◌, ◌≤◌, Bool, true, false, List, [], ◌∷◌, ◌++◌, map, length, refl, sym, ap, subst, Option, Some, None, Result, Ok, Err, arith, length-append, append_assoc, append-nil, ◌⊎◌, inl, inr, ⊎_elim, take}
 use Rattle.std.proofs.lemmas.List.{append_cancel_left}
 use Rattle.std.specs.Prelude.{option_map, if◌then◌else◌}
 use Rattle.std.specs.Option.{option_or}
@@ -24,7 +24,7 @@ use Rattle.rx_nest.specs.Nests as nests
 use Rattle.rx_nest.proofs.Sizes.{read_size, faults_so}
 use Rattle.rx_nest.proofs.TextSteps.{sees_append}
 use Rattle.rx_walk.specs.Lines.{read_tag, line_on, line_of}
-use Rattle.rx_walk.specs.Refused.{fault_of, refused_at, refused_in}
+use Rattle.rx_walk.specs.Refused.{fault_of, refused_in}
 use Rattle.rx_walk.specs.TagPlaces.{ToldBefore, BegunBefore}
 use Rattle.rx_walk.specs.Faults.{MeaningAt}
 use Rattle.rx_walk.proofs.Placing.{page_told}
@@ -92,7 +92,7 @@ module _ (syntax : Syntax) (limits : Limits) (context : Context) where
       omega (arith, l, (read_size syntax limits m.front m.now m.read).0)
 
   -- a page's fault comes behind what was read
-  page_behind : (front rest : List ℕ) (p : Progress) (other : Fault) → page_read syntax limits front ≡ Ok p → FaultAt syntax limits (front ++ rest) other → length front ≤ other.at
+  pub page_behind : (front rest : List ℕ) (p : Progress) (other : Fault) → page_read syntax limits front ≡ Ok p → FaultAt syntax limits (front ++ rest) other → length front ≤ other.at
   page_behind front rest p other r f = by (page_read syntax limits (front ++ rest)) refl (fault_is_read syntax limits (front ++ rest) other f)
     where
       ends : (q : Progress) (b : Bool) → length front ≤ q.now.scan.at → ◌≡◌ {A = Result Progress Fault} (if b then Ok q else Err (fault_in q.now.scan Unended)) (Err other) → length front ≤ other.at

@@ -1,16 +1,16 @@
 -- The base that is found by the signs of a page.
-use Rattle.std.proofs.Common.{◌≡◌, ◌∙◌, ℕ, suc, Bool, true, false, List, [], ◌∷◌, ◌++◌, map, length, refl, sym, ap, Option, Some, None, codes, bytes_eq, arith}
+use Rattle.std.proofs.Common.{◌≡◌, ◌∙◌, ℕ, suc, Bool, true, false, List, [], ◌∷◌, ◌++◌, map, length, refl, ap, Option, Some, None, codes, bytes_eq, arith}
 use Rattle.std.proofs.lemmas.Bool.Decides.{nat_tests}
 use Rattle.std.specs.Prelude.{◌==◌, if◌then◌else◌}
 use Rattle.std.specs.Option.{option_or}
 use Rattle.rx_terms.specs.Text.{Chars}
 use Rattle.rx_grammar.specs.Trees.{StartTag, Tree, end, element, text}
-use Rattle.rx_rdfa.specs.Base.{first_href, head_href, root_href}
+use Rattle.rx_rdfa.specs.Base.{first_href, head_href}
 use Rattle.rx_rdfa.specs.Tree.{Tag}
 use Rattle.rx_nest.specs.Signs.{Sign, begun, said, finished, signs_of}
-use Rattle.rx_walk.specs.Lines.{read_tag, tags_of, line_of}
-use Rattle.rx_walk.specs.Seekings.{Seeking, first_child, base_child, known, base_href, known_by, seek, seeks, sought, BaseIsFound}
-use Rattle.rx_walk.proofs.Signed.{line_append, seeks_append, said_line, said_seeks, tree_line}
+use Rattle.rx_walk.specs.Lines.{read_tag, tags_of}
+use Rattle.rx_walk.specs.Seekings.{Seeking, first_child, base_child, known, base_href, known_by, seek, seeks, BaseIsFound}
+use Rattle.rx_walk.proofs.Signed.{seeks_append, said_line, said_seeks, tree_line}
 
 known_stays : (line : List Tag) (href : Option Chars) (signs : List Sign) → seeks line (known href) signs ≡ known href
 known_stays line href [] = refl

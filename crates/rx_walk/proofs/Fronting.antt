@@ -1,21 +1,20 @@
 -- What the signs of one element say of the calls for them.
-use Rattle.std.proofs.Common.{◌≡◌, ◌∙◌, ℕ, zero, suc, ◌+◌, ◌≤◌, ◌<◌, Bool, true, false, List, [], ◌∷◌, ◌++◌, map, length, refl, sym, ap, subst, Option, Some, None, arith}
+use Rattle.std.proofs.Common.{◌≡◌, ◌∙◌, ℕ, zero, suc, ◌≤◌, ◌<◌, Bool, true, false, List, [], ◌∷◌, ◌++◌, map, length, refl, sym, ap, subst, Option, Some, None, arith}
 use Rattle.std.proofs.lemmas.Bool.Decides.{nat_tests}
 use Rattle.std.specs.Prelude.{nat_le, if◌then◌else◌}
 use Rattle.rx_terms.specs.Text.{Chars}
 use Rattle.rx_reader.proofs.Bools.{by_test}
-use Rattle.rx_rdfa.specs.Calls.{Call, Enter, Read, Leave}
 use Rattle.rx_rdfa.specs.Names.{Context}
 use Rattle.rx_rdfa.specs.Tree.{Tag}
 use Rattle.rx_grammar.specs.Trees.{StartTag}
 use Rattle.rx_nest.specs.Signs.{Sign, begun, said, finished}
-use Rattle.rx_nest.specs.Fronts.{Front, unbegun, inside, over, levels_of, goes, goes_on, front_of, IsFront}
+use Rattle.rx_nest.specs.Fronts.{Front, unbegun, inside, over, levels_of, goes, goes_on, IsFront}
 use Rattle.rx_walk.specs.Lines.{line_on, line_of}
 use Rattle.rx_walk.specs.CallsOf.{call_of, calls_of, singles}
 use Rattle.rx_walk.specs.Leading.{moves, within, move_all}
 use Rattle.rx_walk.specs.Stages.{MayBe}
 use Rattle.rx_walk.proofs.Moving.{none_moves, move_append}
-use Rattle.rx_walk.proofs.Signed.{line_append, calls_append, said_line, said_calls}
+use Rattle.rx_walk.proofs.Signed.{calls_append, said_calls}
 
 none_goes : (signs : List Sign) → goes_on None signs ≡ None
 none_goes [] = refl

@@ -10,3 +10,10 @@ pub mod Firsts
 pub mod Walking
 pub mod Wholes
 pub mod Making
+pub mod FaultPlacing
+pub mod TokenPlacing
+pub mod TextKeeping
+pub mod NumberedPages
+pub mod QuietReading
+pub mod Idling
+pub mod Quieting

@@ -1,8 +1,7 @@
 -- What the calls for a page's tree make: the list of the tree.
-use Rattle.std.proofs.Common.{◌≡◌, ◌∙◌, ℕ, List, [], ◌∷◌, ◌++◌, refl, sym, ap, subst, append_assoc, append-nil}
+use Rattle.std.proofs.Common.{◌≡◌, ◌∙◌, ℕ, List, [], ◌∷◌, ◌++◌, sym, ap, subst, append_assoc, append-nil}
 use Rattle.rx_terms.specs.Text.{Chars}
 use Rattle.rx_terms.specs.declared.triples.Triple.{Triple as CodeTriple}
-use Rattle.rx_model.specs.Seen.{triples_seen}
 use Rattle.rx_grammar.specs.Trees.{Tree}
 use Rattle.rx_rdfa.specs.Base.{base_of}
 use Rattle.rx_rdfa.specs.Calls.{Call, Enter, Read, Leave, calls}
@@ -10,7 +9,7 @@ use Rattle.rx_rdfa.specs.Facts.{Facts, with_facts}
 use Rattle.rx_rdfa.specs.Names.{Context}
 use Rattle.rx_rdfa.specs.Tree.{Nodes}
 use Rattle.rx_eval.specs.Numbering.{Numbering}
-use Rattle.rx_eval.specs.Opened.{begun_state, read_text}
+use Rattle.rx_eval.specs.Opened.{begun_state}
 use Rattle.rx_eval.specs.Standing.{Stands, Makes, no_numbers}
 use Rattle.rx_eval.specs.States.{State}
 use Rattle.rx_eval.proofs.EndLemmas.{left_stands}
@@ -23,16 +22,16 @@ use Rattle.rx_walk.proofs.Alike.{pieces_lead}
 use Rattle.rx_walk.proofs.Signed.{calls_tree}
 
 -- the state stands for the calls under some numbering
-record StandsSome (list : List Call) (state : State) : Type 0 where
-  to : Numbering
-  stands : Stands to list state
+pub record StandsSome (list : List Call) (state : State) : Type 0 where
+  pub to : Numbering
+  pub stands : Stands to list state
 
 one_on : (call : Call) (to : Numbering) (list : List Call) (old new : State) → Steps call old new → Stands to list old → StandsSome (list ++ call ∷ []) new
 one_on (Enter facts) to list old new s st = let x = enter_stands to list old facts new s.1 s.0.root s.0.drawn st in record { to = x.now; stands = x.stands }
 one_on (Read chars) to list old new s st = record { to = to; stands = subst (λ z. Stands to (list ++ Read chars ∷ []) z) (sym s) (text_stands to list old chars st) }
 one_on Leave to list old new s st = let x = left_stands to list old new s st in record { to = x.now; stands = x.stands }
 
-all_on : (list before : List Call) (to : Numbering) (old new : State) → Leads list old new → Stands to before old → StandsSome (before ++ list) new
+pub all_on : (list before : List Call) (to : Numbering) (old new : State) → Leads list old new → Stands to before old → StandsSome (before ++ list) new
 all_on [] before to old new h st = record { to = to; stands = subst (λ l. Stands to l new) (sym (append-nil before)) (subst (λ z. Stands to before z) (sym h) st) }
 all_on (call ∷ list) before to old new h st =
     let one = one_on call to before old h.0 h.1 st in

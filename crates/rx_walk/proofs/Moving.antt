@@ -8,7 +8,7 @@ use Rattle.rx_rdfa.specs.Calls.{Call, Enter, Read, Leave}
 use Rattle.rx_rdfa.specs.Facts.{Facts}
 use Rattle.rx_eval.specs.Opened.{Opens, begun_state, read_text}
 use Rattle.rx_eval.specs.Ending.{Closes}
-use Rattle.rx_eval.specs.States.{State, Frame}
+use Rattle.rx_eval.specs.States.{State}
 use Rattle.rx_nest.specs.Fronts.{Front, unbegun, inside, over, levels_of}
 use Rattle.rx_walk.specs.Leading.{Steps, Leads, Led, moves, within, move_all}
 use Rattle.rx_walk.specs.Stages.{MayBe, MayFollow}

@@ -1,7 +1,6 @@
 -- Each start tag that is told of a page ends within the bytes that were read.
-use Rattle.std.proofs.Common.{◌≡◌, ◌∙◌, ℕ, ◌+◌, ◌<◌, ◌≤◌, Bool, true, false, List, [], ◌∷◌, ◌++◌, map, refl, sym, ap, subst, Option, Some, None, Result, Ok, Err, arith}
-use Rattle.std.specs.Prelude.{◌&&◌, ◌||◌, ◌==◌, not, nat_le, option_map, if◌then◌else◌}
-use Rattle.std.specs.Option.{option_or}
+use Rattle.std.proofs.Common.{◌≡◌, ◌∙◌, ℕ, ◌+◌, ◌<◌, ◌≤◌, Bool, true, false, List, [], ◌∷◌, ◌++◌, refl, sym, subst, Option, Some, None, Result, Ok, Err, arith}
+use Rattle.std.specs.Prelude.{◌&&◌, ◌||◌, ◌==◌, not, nat_le}
 use Rattle.rx_terms.specs.Text.{Chars}
 use Rattle.rx_terms.specs.Ascii.{greater_than_sign}
 use Rattle.rx_chars.specs.declared.syntax.Syntax.{Syntax}
@@ -14,13 +13,13 @@ use Rattle.rx_grammar.specs.declared.faults.Kind.{Kind}
 use Rattle.rx_grammar.specs.declared.limits.Limits.{Limits}
 use Rattle.rx_grammar.specs.Begun.{Line, Phase, before, within, after, inside_of, parent_of}
 use Rattle.rx_grammar.specs.Contents.{is_alone, is_html}
-use Rattle.rx_grammar.specs.Items.{values, Item, is_literal, is_line_feed, start_of}
+use Rattle.rx_grammar.specs.Items.{values, Item, is_literal, is_line_feed}
 use Rattle.rx_grammar.specs.Names.{same, is_among}
 use Rattle.rx_grammar.specs.Omission.{enders, is_omissible, is_held}
 use Rattle.rx_grammar.specs.PageFaults.{under_start, first_row, tag_rows}
 use Rattle.rx_grammar.specs.Tokens.{Tag, Token, tag, character, reference, kept, section, comment, doctype}
 use Rattle.rx_reader.proofs.Bools.{split}
-use Rattle.rx_pages.specs.Nesting.{Event, begins, says, finishes, Nesting, Step, ended_by_start, ended_under, ended_by_end, begun_under, tag_passes, unless_refused, told, text_step, doctype_step, nest_step, step_by, content_at}
+use Rattle.rx_pages.specs.Nesting.{Event, begins, says, finishes, Nesting, Step, ended_by_start, ended_under, ended_by_end, begun_under, tag_passes, unless_refused, told, text_step, doctype_step, nest_step, step_by}
 use Rattle.rx_pages.specs.Scanner.{Verdict, goes_on, whole, ended, refused, verdict}
 use Rattle.rx_pages.specs.PageReader as reader
 use Rattle.rx_pages.specs.PageReader.{Spot, Scanning, Scanned, Progress, first_of, starts_at, token_at, item_of, is_doctype, is_too_long, completed, told_first, with_item, after_token, read_entry, read_char, read_answer, read_byte, spot_of, with_events, step_on, steps_on, no_step, progress_of, nested_items, telling, page_byte_on, page_on, page_read, nothing_read}

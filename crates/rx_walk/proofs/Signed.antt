@@ -8,9 +8,9 @@ use Rattle.rx_rdfa.specs.Calls.{Call, Enter, Read, Leave, calls}
 use Rattle.rx_rdfa.specs.Facts.{facts, with_facts}
 use Rattle.rx_rdfa.specs.Names.{Context}
 use Rattle.rx_rdfa.specs.Tree.{Tag}
-use Rattle.rx_nest.specs.Signs.{Sign, begun, said, finished, signs_of}
-use Rattle.rx_walk.specs.Lines.{read_tag, tags_of, around, line_on, line_of}
-use Rattle.rx_walk.specs.CallsOf.{call_of, calls_of, singles, singly, CallsOfTree}
+use Rattle.rx_nest.specs.Signs.{Sign, said, finished, signs_of}
+use Rattle.rx_walk.specs.Lines.{read_tag, tags_of, line_on, line_of}
+use Rattle.rx_walk.specs.CallsOf.{call_of, calls_of, singles, singly}
 use Rattle.rx_walk.specs.Seekings.{Seeking, seek, seeks}
 use Rattle.rx_walk.specs.Refused.{refused_at, refused_in}
 

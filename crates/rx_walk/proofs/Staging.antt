@@ -3,7 +3,7 @@ use Rattle.std.proofs.Common.{◌≡◌, ◌∙◌, ℕ, ◌<◌, Bool, true, fa
 use Rattle.std.specs.Prelude.{if◌then◌else◌}
 use Rattle.rx_terms.specs.Text.{Chars}
 use Rattle.rx_rdfa.specs.Base.{base_by}
-use Rattle.rx_rdfa.specs.Calls.{Call, Enter, Read, Leave}
+use Rattle.rx_rdfa.specs.Calls.{Call, Enter, Leave}
 use Rattle.rx_rdfa.specs.Facts.{Facts}
 use Rattle.rx_eval.specs.Opened.{begun_state, read_text}
 use Rattle.rx_eval.specs.States.{State}
@@ -11,12 +11,11 @@ use Rattle.rx_walk.specs.declared.calls.Call.{Call as CodeCall}
 use Rattle.rx_walk.specs.declared.calls.Call.TheVariants as code
 use Rattle.rx_walk.specs.declared.origins.Origin.{Origin}
 use Rattle.rx_walk.specs.declared.stages.Head.{Head}
-use Rattle.rx_walk.specs.declared.stages.Stage.{Stage}
 use Rattle.rx_walk.specs.declared.stages.Stage.TheVariants as stage
 use Rattle.rx_walk.specs.CallsOf.{singles}
 use Rattle.rx_walk.specs.Seekings.{Seeking, known}
 use Rattle.rx_walk.specs.Leading.{Steps, Leads, Led}
-use Rattle.rx_walk.specs.Stages.{sought_seen, call_seen, queue_seen, MayBe, Known, Seeks, Staged, MayTake, Tells, HeadGives, MayFollow}
+use Rattle.rx_walk.specs.Stages.{sought_seen, call_seen, queue_seen, MayBe, Known, MayTake, Tells, HeadGives, MayFollow}
 use Rattle.rx_walk.proofs.Alike.{leads_then, leads_singles}
 use Rattle.rx_element.proofs.DrawLemmas.{drop_at, nothing_left}
 use Rattle.rx_walk.proofs.Moving.{may_enter, may_leave, follow_first, follow_rest}

@@ -1,5 +1,5 @@
 -- What becomes of a walk, turn by turn.
-use Rattle.std.proofs.Common.{◌≡◌, ◌∙◌, ℕ, zero, suc, ◌+◌, ◌-◌, ◌≤◌, ◌<◌, ◌⊎◌, inl, inr, Bool, true, false, List, [], ◌∷◌, ◌++◌, map, length, take, drop, refl, sym, ap, subst, Option, Some, None, Result, Ok, Err, arith, length-append, length-take, append-nil, append_assoc}
+use Rattle.std.proofs.Common.{◌≡◌, ◌∙◌, ℕ, zero, suc, ◌-◌, ◌<◌, true, List, [], ◌∷◌, ◌++◌, length, take, drop, refl, sym, ap, subst, Option, Some, None, Result, Ok, Err, arith, length-append, length-take, append-nil, append_assoc}
 use Rattle.std.specs.Option.{option_or}
 use Rattle.rx_terms.specs.Text.{Chars}
 use Rattle.rx_chars.specs.declared.syntax.Syntax.{Syntax}
@@ -19,11 +19,10 @@ use Rattle.rx_grammar.specs.Trees.{StartTag}
 use Rattle.rx_pages.specs.PageReader.{Progress, nothing_read}
 use Rattle.rx_nest.specs.Signs.{Sign, Sight, sees, nothing_seen}
 use Rattle.rx_walk.specs.declared.courses.Course.{Course}
-use Rattle.rx_walk.specs.declared.turns.Turn.{Turn}
 use Rattle.rx_walk.specs.declared.turns.Turn.TheVariants as turn
 use Rattle.rx_walk.specs.Lines.{line_of}
 use Rattle.rx_walk.specs.Refused.{refused_in}
-use Rattle.rx_walk.specs.Courses.{Runs, MayHear, Hears}
+use Rattle.rx_walk.specs.Courses.{Runs, Hears}
 use Rattle.rx_walk.specs.Faults.{MeaningAt, for_form, for_meaning, StopGives}
 use Rattle.rx_walk.specs.Walks.{Goes, Somewhere, TurnGives, PieceGives}
 use Rattle.rx_walk.proofs.Signed.{refused_append}

@@ -1,5 +1,5 @@
 -- What a walk knows of its page.
-use Rattle.std.proofs.Common.{◌≡◌, ◌∙◌, ℕ, Bool, true, false, List, [], ◌∷◌, ◌++◌, length, refl, sym, ap, subst, ◌≢◌, Option, Some, None, Result, Ok, Err, IfOk, IfErr, append-nil, arith}
+use Rattle.std.proofs.Common.{◌≡◌, ◌∙◌, ℕ, List, [], ◌∷◌, ◌++◌, length, refl, sym, ap, subst, ◌≢◌, Option, Some, None, Result, Ok, Err, IfOk, IfErr, append-nil}
 use Rattle.rx_terms.specs.Text.{Chars}
 use Rattle.rx_terms.specs.declared.triples.Triple.{Triple as CodeTriple}
 use Rattle.rx_model.specs.Seen.{triples_seen}
@@ -16,8 +16,7 @@ use Rattle.rx_rdfa.specs.Calls.{Call}
 use Rattle.rx_rdfa.specs.Names.{Context}
 use Rattle.rx_nest.specs.Nests as nests
 use Rattle.rx_nest.specs.Nests.{Nested}
-use Rattle.rx_nest.specs.Signs.{Sign, begun, finished, signs_of}
-use Rattle.rx_nest.specs.Fronts.{over, levels_of}
+use Rattle.rx_nest.specs.Signs.{Sign, finished, signs_of}
 use Rattle.rx_eval.specs.States.{State}
 use Rattle.rx_walk.specs.declared.courses.Course.{Course}
 use Rattle.rx_walk.specs.declared.stages.Head.{Head}
@@ -29,7 +28,6 @@ use Rattle.rx_walk.specs.Lines.{tags_of, line_of}
 use Rattle.rx_walk.specs.CallsOf.{calls_of}
 use Rattle.rx_walk.specs.Seekings.{Seeking, known, sought}
 use Rattle.rx_walk.specs.Leading.{Led}
-use Rattle.rx_walk.specs.Refused.{refused_in}
 use Rattle.rx_walk.specs.Stages.{sought_seen, Known, Staged}
 use Rattle.rx_walk.specs.Courses.{Runs}
 use Rattle.rx_walk.proofs.Making.{list_made}
@@ -39,7 +37,7 @@ use Rattle.rx_walk.proofs.Found.{base_found}
 use Rattle.rx_walk.proofs.Moving.{led_at, is_ended}
 use Rattle.rx_walk.proofs.Fronting.{may_counts, root_ended}
 
-known_at : (address : Chars) (levels : ℕ) (seeking : Seeking) (list : List Call) (x : Stage) (state : State) → Staged address levels seeking list x → state_of x ≡ Some state → Known address levels seeking list state
+pub known_at : (address : Chars) (levels : ℕ) (seeking : Seeking) (list : List Call) (x : Stage) (state : State) → Staged address levels seeking list x → state_of x ≡ Some state → Known address levels seeking list state
 known_at address levels seeking list (stage.Seeking head) state s e = absurd (cc)
 known_at address levels seeking list (stage.Found other) state s e = let is : other ≡ state = cc in subst (λ z. Known address levels seeking list z) is s
 

@@ -8,3 +8,7 @@ pub mod Faults
 pub mod Courses
 pub mod Walks
 pub mod TagPlaces
+pub mod FaultPlaces
+pub mod KeptTexts
+pub mod Numberings
+pub mod Quiets

@@ -1,6 +1,5 @@
 -- How far the seeking of the base has come, and what was told until then.
-use Rattle.std.specs.Prelude.{◌≡◌, ℕ, List, [], ◌∷◌, ◌++◌, Option, Some, None, option_map}
-use Rattle.std.specs.Str.{chars}
+use Rattle.std.specs.Prelude.{◌≡◌, ℕ, List, [], ◌∷◌, ◌++◌, Option, Some, None}
 use Rattle.rx_terms.specs.Text.{Chars}
 use Rattle.rx_rdfa.specs.Base.{base_by}
 use Rattle.rx_rdfa.specs.Calls.{Call, Enter, Leave}
@@ -20,7 +19,7 @@ use Rattle.rx_walk.specs.declared.stages.Stage.{Stage}
 use Rattle.rx_walk.specs.declared.stages.Stage.TheVariants as stage
 use Rattle.rx_walk.specs.CallsOf.{singles}
 use Rattle.rx_walk.specs.Seekings.{Seeking, first_child, base_child, known}
-use Rattle.rx_walk.specs.Leading.{Led, Leads, move_all}
+use Rattle.rx_walk.specs.Leading.{Led, move_all}
 
 abbrev pub sought_seen : Sought → Seeking
 sought_seen looks.FirstChild = first_child

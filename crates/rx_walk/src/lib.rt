@@ -4,6 +4,8 @@
 ghost use Rattle.rx_walk.specs.CallsOf.{CallsOfTree, PiecesAreAlike};
 ghost use Rattle.rx_walk.specs.Seekings.{BaseIsFound};
 ghost use Rattle.rx_walk.specs.Leading.{PiecesLeadAlike};
+ghost use Rattle.rx_walk.specs.KeptTexts.{KeepsOneText};
+ghost use Rattle.rx_walk.specs.Numberings.{IsNumbered};
 
 mod calls;
 mod courses;
@@ -37,4 +39,16 @@ pub fn pieces_lead_alike()
 /// Of a whole page the base that the rules take is found.
 pub fn base_is_found()
     ensures { BaseIsFound }
+{}
+
+/// Once a page's base is known, the text that a walk keeps is that of the outermost open element that gathers its own, as far
+/// as it has come; where none does, it keeps no text.
+pub fn walks_keep_one_text()
+    ensures { KeepsOneText }
+{}
+
+/// Once a page's base is known, there is one numbering of blank nodes, one to one, under which a walk's triples so far and
+/// what it shows of its innermost open element are what the rules say of the elements that were read.
+pub fn walks_are_numbered()
+    ensures { IsNumbered }
 {}

@@ -1,4 +1,4 @@
-use Rattle.std.proofs.Common.{◌≡◌, ◌∷◌, sym, subst}
+use Rattle.std.proofs.Common.{◌∷◌, sym, subst}
 use Rattle.rx_rdfa.specs.Facts.{facts}
 use Rattle.rx_rdfa.specs.Refusals.{refusal}
 use Rattle.rx_names.specs.Lines.{Kept, Stands}

@@ -1,5 +1,3 @@
-use Rattle.rx_refs.specs.Views.{seen_slice}
-use Rattle.rx_rdfa.specs.Base.{base_by}
 use Rattle.rx_walk.specs.Stages.{queue_seen}
 use Rattle.rx_walk.proofs.Staging.{follow_begun}
 use Rattle.rx_walk.proofs.evaluation.evaluated.Goals as goal

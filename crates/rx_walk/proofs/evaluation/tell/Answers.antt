@@ -1,4 +1,4 @@
-use Rattle.std.proofs.Common.{◌≡◌, ◌∙◌, sym, ap, subst}
+use Rattle.std.proofs.Common.{◌∙◌, sym, ap, subst}
 use Rattle.rx_curie.specs.Seen.{facts_seen}
 use Rattle.rx_eval.specs.Opened.{read_text}
 use Rattle.rx_walk.specs.Leading.{Leads}

@@ -1,4 +1,4 @@
-use Rattle.std.proofs.Common.{◌≡◌, ◌<◌, ◌≤◌, ◌+◌, ◌∙◌, [], ◌∷◌, length, refl, sym, ap, subst, arith}
+use Rattle.std.proofs.Common.{◌≡◌, ◌≤◌, ◌+◌, [], ◌∷◌, length, refl, sym, ap, subst, arith}
 use Rattle.rx_rdfa.specs.Calls.{Enter}
 use Rattle.rx_names.specs.Lines.{Kept}
 use Rattle.rx_names.specs.Tags.{tag_of}

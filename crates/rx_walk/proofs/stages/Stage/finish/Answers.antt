@@ -1,4 +1,4 @@
-use Rattle.std.proofs.Common.{◌≡◌, [], ◌∷◌, refl, sym, subst}
+use Rattle.std.proofs.Common.{[], ◌∷◌, refl, sym, subst}
 use Rattle.rx_rdfa.specs.Calls.{Leave}
 use Rattle.rx_walk.specs.Seekings.{seek_finished}
 use Rattle.rx_walk.specs.Stages.{MayTake, Tells}

@@ -1,4 +1,4 @@
-use Rattle.std.proofs.Common.{◌≡◌, sym, subst}
+use Rattle.std.proofs.Common.{sym, subst}
 use Rattle.rx_walk.specs.Walks.{Stands}
 use Rattle.rx_walk.proofs.Wholes.{ends_whole, whole_of, end_gives, end_stops, no_fault}
 use Rattle.rx_walk.proofs.walks.Walk.finish.Goals as goal

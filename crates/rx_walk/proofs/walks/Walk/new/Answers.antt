@@ -1,4 +1,4 @@
-use Rattle.std.proofs.Common.{refl, [], ◌≡◌}
+use Rattle.std.proofs.Common.{refl, []}
 use Rattle.rx_walk.proofs.Walking.{new_paid}
 use Rattle.rx_walk.proofs.walks.Walk.new.Goals as goal
 

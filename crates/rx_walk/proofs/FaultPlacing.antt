@@ -1,0 +1,234 @@
+-- Where a page's fault lies.
+use Rattle.std.proofs.Common.{◌≡◌, ◌∙◌, ℕ, ◌+◌, ◌<◌, ◌≤◌, List, [], ◌∷◌, ◌++◌, length, refl, sym, ap, subst, Option, Some, None, Result, Ok, Err, arith, append-nil, zero, suc, Bool, true, false, take, drop}
+use Rattle.std.proofs.lemmas.Bool.Decides.{nat_tests}
+use Rattle.std.specs.Prelude.{option_map, nat_le, if◌then◌else◌}
+use Rattle.rx_reader.proofs.Bools.{by_test}
+use Rattle.std.specs.Option.{option_or}
+use Rattle.rx_terms.specs.Text.{Chars}
+use Rattle.rx_chars.specs.declared.syntax.Syntax.{Syntax}
+use Rattle.rx_grammar.specs.declared.faults.Fault.{Fault}
+use Rattle.rx_grammar.specs.declared.faults.Kind.TheVariants.{Unended}
+use Rattle.rx_grammar.specs.declared.limits.Limits.{Limits}
+use Rattle.rx_grammar.specs.Pages.{Page}
+use Rattle.rx_grammar.specs.PageFaults.{FaultAt}
+use Rattle.rx_grammar.specs.Trees.{StartTag, Tree}
+use Rattle.rx_rdfa.specs.Facts.{facts}
+use Rattle.rx_rdfa.specs.Names.{Context}
+use Rattle.rx_rdfa.specs.Refusals.{Refusal, refusal}
+use Rattle.rx_rdfa.specs.Tree.{Tag}
+use Rattle.rx_pages.specs.PageReader.{Progress, page_read, page_on, nothing_read, no_page, spot_of, end_of, may_end, fault_in}
+use Rattle.rx_pages.specs.Closings.{IsFront}
+use Rattle.rx_pages.proofs.FaultFronts.{faults_follow_fronts}
+use Rattle.rx_pages.proofs.FaultWalk.{fault_stays}
+use Rattle.rx_pages.proofs.FaultsRead.{fault_is_read}
+use Rattle.rx_pages.proofs.PageRead.{page_is_read}
+use Rattle.rx_pages.proofs.ScanSteps.{page_append}
+use Rattle.rx_pages.proofs.Trees.{one_tree}
+use Rattle.rx_nest.specs.Signs.{Sign, begun, said, finished, Sight, sees, nothing_seen, signs_of}
+use Rattle.rx_nest.specs.Fronts.{Lie}
+use Rattle.rx_nest.specs.Nests.{Nested}
+use Rattle.rx_nest.proofs.Sizes.{read_size, faults_so}
+use Rattle.rx_nest.proofs.TagPlaces.{shows_more}
+use Rattle.rx_nest.proofs.TreeSeen.{whole}
+use Rattle.rx_walk.specs.Lines.{read_tag, line_on, line_of}
+use Rattle.rx_walk.specs.Refused.{fault_of, refused_in}
+use Rattle.rx_walk.specs.declared.courses.Course.{Course}
+use Rattle.rx_walk.specs.Faults.{MeaningAt, Refuses, Stops, for_form, for_meaning}
+use Rattle.rx_walk.specs.FaultPlaces.{BeginsNone, BeginsRefused, PlaceLaw, of_form, of_meaning, Placed}
+use Rattle.rx_walk.specs.Walks.{Goes, OwesNone}
+use Rattle.rx_walk.proofs.Signed.{refused_append}
+use Rattle.rx_walk.proofs.Firsts.{meaning_within, page_behind}
+use Rattle.rx_walk.proofs.TokenPlacing.{refused_fronts}
+
+-- a start tag that is refused lies where the tags lie
+
+refused_one : (n : ℕ) (t : StartTag) (r : Option Refusal) (fault : Fault) → n ≤ t.at → option_map (fault_of t) r ≡ Some fault → n ≤ fault.at
+refused_one n t None fault l e = absurd (cc)
+refused_one n t (Some r) fault l e = let is : fault_of t r ≡ fault = cc in subst (λ (f : Fault). n ≤ f.at) is l
+
+refused_from : (context : Context) (from to : ℕ) (line : List Tag) (signs : List Sign) (fault : Fault) → Lie from to signs → refused_in context line signs ≡ Some fault → from ≤ fault.at
+refused_from context from to line [] fault h e = absurd (cc)
+refused_from context from to line (said c ∷ signs) fault h e = refused_from context from to line signs fault h e
+refused_from context from to line (finished ∷ signs) fault h e = refused_from context from to (line_on line finished) signs fault h e
+refused_from context from to line (begun t ∷ signs) fault h e = by (refused_from context from to (read_tag t ∷ line) signs fault h.2) (refusal (facts context line (read_tag t))) e
+  where
+    by : (refused_in context (read_tag t ∷ line) signs ≡ Some fault → from ≤ fault.at) → (r : Option Refusal) → option_or (option_map (fault_of t) r) (refused_in context (read_tag t ∷ line) signs) ≡ Some fault → from ≤ fault.at
+    by ih None k = ih k
+    by ih (Some r) k = refused_one from t (Some r) fault h.0 k
+
+-- the front of bytes that are read is read
+
+front_back : (n : ℕ) (xs : List ℕ) → take n xs ++ drop n xs ≡ xs
+front_back zero xs = refl
+front_back (suc n) [] = refl
+front_back (suc n) (x ∷ xs) = ap (λ r. x ∷ r) (front_back n xs)
+
+take_length : (n : ℕ) (xs : List ℕ) → n ≤ length xs → length (take n xs) ≡ n
+take_length zero xs l = refl
+take_length (suc n) [] l = absurd (omega arith)
+take_length (suc n) (x ∷ xs) l = ap suc (take_length n xs (omega arith))
+
+pub take_front : (n : ℕ) (xs ys : List ℕ) → n ≤ length xs → take n (xs ++ ys) ≡ take n xs
+take_front zero xs ys l = refl
+take_front (suc n) [] ys l = absurd (omega arith)
+take_front (suc n) (x ∷ xs) ys l = ap (λ r. x ∷ r) (take_front n xs ys (omega arith))
+
+-- the first that is there stays, whatever follows
+some_first : {A : Type 0} (x y : Option A) (a : A) → x ≡ Some a → option_or x y ≡ Some a
+some_first None y a e = absurd (cc)
+some_first (Some b) y a e = e
+
+module _ (syntax : Syntax) (limits : Limits) where
+  pub record Read (bytes : List ℕ) : Type 0 where
+    pub now : Progress
+    pub is : page_read syntax limits bytes ≡ Ok now
+
+  pub read_front : (front rest : List ℕ) (q : Progress) → page_read syntax limits (front ++ rest) ≡ Ok q → Read front
+  read_front front rest q e = by (page_read syntax limits front) refl
+    where
+      by : (x : Result Progress Fault) → page_read syntax limits front ≡ x → Read front
+      by (Ok p) k = record { now = p; is = k }
+      by (Err fault) k =
+          absurd (let w : Err fault ≡ Ok q =
+          sym (fault_stays syntax limits fault rest) ∙ (ap (λ x. page_on syntax limits x rest) (sym k) ∙ (sym (page_append syntax limits (spot_of syntax no_page.nest) (Ok nothing_read) front rest) ∙ e)) in cc)
+
+  -- a page is read to its end, and shows its tree
+  pub record PageShows (bytes : List ℕ) (tree : Tree) : Type 0 where
+    pub final : Progress
+    pub read : page_read syntax limits bytes ≡ Ok final
+    pub signs_are : (sees nothing_seen final.told).signs ≡ signs_of tree
+
+  pub page_shows : (bytes : List ℕ) (tree : Tree) → Page syntax limits bytes tree → PageShows bytes tree
+  page_shows bytes tree page =
+      let r = page_is_read syntax limits bytes tree page in
+      let w = whole syntax limits bytes r.final r.is_read in
+      let same : w.tree ≡ tree = one_tree syntax limits bytes w.tree tree w.page page in
+      record {
+        final = r.final;
+        read = by (page_read syntax limits bytes) r.final r.is_read;
+        signs_are = ap (λ (x : Sight). x.signs) w.shows ∙ ap signs_of same;
+      }
+    where
+      ends : (p final : Progress) (b : Bool) → ◌≡◌ {A = Result Progress Fault} (if b then Ok p else Err (fault_in p.now.scan Unended)) (Ok final) → ◌≡◌ {A = Result Progress Fault} (Ok p) (Ok final)
+      ends p final true e = e
+      ends p final false e = absurd (cc)
+
+      by : (x : Result Progress Fault) (final : Progress) → end_of x ≡ Ok final → x ≡ Ok final
+      by (Ok p) final e = ends p final (may_end p.now) e
+      by (Err fault) final e = absurd (cc)
+
+  module _ (context : Context) where
+    abbrev shown : Progress → List Sign
+    shown p = (sees nothing_seen p.told).signs
+
+    -- the bytes through the fault's place show the tag
+    pub record Shown (bytes : List ℕ) (fault : Fault) : Type 0 where
+      pub now : Progress
+      pub read : page_read syntax limits bytes ≡ Ok now
+      pub refused : refused_in context [] (shown now) ≡ Some fault
+
+    shown_by : (front rest : List ℕ) (p q : Progress) (fault : Fault) → page_read syntax limits front ≡ Ok p → page_read syntax limits (front ++ rest) ≡ Ok q
+        → refused_in context [] (shown q) ≡ Some fault → fault.at < length front → refused_in context [] (shown p) ≡ Some fault
+    shown_by front rest p q fault r s e l =
+        let more = shows_more syntax limits front rest p q r s in
+        by more.signs more.lie (refused_in context [] (shown p)) refl (sym (refused_append context [] (shown p) more.signs) ∙ (ap (refused_in context []) (sym more.are) ∙ e))
+      where
+        by : (signs : List Sign) → Lie (length front) (length (front ++ rest)) signs → (x : Option Fault) → refused_in context [] (shown p) ≡ x
+            → option_or (refused_in context [] (shown p)) (refused_in context (line_of [] (shown p)) signs) ≡ Some fault → refused_in context [] (shown p) ≡ Some fault
+        by signs lie (Some other) k w =
+            let z : Some other ≡ Some fault = sym (ap (λ y. option_or y (refused_in context (line_of [] (shown p)) signs)) k) ∙ w in
+            k ∙ z
+        by signs lie None k w =
+            let z : refused_in context (line_of [] (shown p)) signs ≡ Some fault = sym (ap (λ y. option_or y (refused_in context (line_of [] (shown p)) signs)) k) ∙ w in
+            let far = refused_from context (length front) (length (front ++ rest)) (line_of [] (shown p)) signs fault lie z in
+            absurd (omega (arith, far, l))
+
+    pub through : (bytes : List ℕ) (fault : Fault) (m : MeaningAt syntax limits context bytes fault) → Shown (take (fault.at + 1) bytes) fault
+    through bytes fault m =
+        let n : ℕ = fault.at + 1 in
+        let l = meaning_within syntax limits context bytes fault m in
+        let at : length (take n m.front) ≡ n = take_length n m.front (omega (arith, l)) in
+        let parts : take n m.front ++ drop n m.front ≡ m.front = front_back n m.front in
+        let whole_read : page_read syntax limits (take n m.front ++ drop n m.front) ≡ Ok m.now = ap (λ b. page_read syntax limits b) parts ∙ m.read in
+        let r = read_front (take n m.front) (drop n m.front) m.now whole_read in
+        let same : take n m.front ≡ take n bytes = sym (take_front n m.front m.rest (omega (arith, l))) ∙ ap (take n) (sym m.are) in
+        record {
+          now = r.now;
+          read = ap (λ b. page_read syntax limits b) (sym same) ∙ r.is;
+          refused = shown_by (take n m.front) (drop n m.front) r.now m.now fault r.is whole_read m.refused (omega (arith, at));
+        }
+
+    -- each page that begins so has this tag
+    pub refused_of : (bytes : List ℕ) (fault : Fault) → Shown bytes fault → BeginsRefused syntax limits context bytes fault
+    refused_of bytes fault s rest tree page =
+        let p = page_shows (bytes ++ rest) tree page in
+        let more = shows_more syntax limits bytes rest s.now p.final s.read p.read in
+        ap (refused_in context []) (sym p.signs_are ∙ more.are) ∙ (refused_append context [] (shown s.now) more.signs
+        ∙ some_first (refused_in context [] (shown s.now)) (refused_in context (line_of [] (shown s.now)) more.signs) fault s.refused)
+
+    -- a fault lies behind what was read without one
+    pub lies_behind : (bytes piece : List ℕ) (p : Progress) (fault : Fault) → page_read syntax limits bytes ≡ Ok p → refused_in context [] (shown p) ≡ None
+        → Refuses syntax limits context (bytes ++ piece) fault → length bytes ≤ fault.at
+    lies_behind bytes piece p fault r a (for_form f none) = page_behind syntax limits context bytes piece p fault r f
+    lies_behind bytes piece p fault r a (for_meaning m first) = by_within (through (bytes ++ piece) fault m)
+      where
+        -- what is shown of the bytes through a place before their end
+        none : (x : Option Fault) → x ≡ None → x ≡ Some fault → ⊥
+        none x e f = let w : None ≡ Some fault = sym e ∙ f in cc
+
+        early : fault.at + 1 ≤ length bytes → Shown (take (fault.at + 1) (bytes ++ piece)) fault → ⊥
+        early l s =
+            let n : ℕ = fault.at + 1 in
+            let same : take n (bytes ++ piece) ≡ take n bytes = take_front n bytes piece l in
+            let read : page_read syntax limits (take n bytes) ≡ Ok s.now = ap (λ b. page_read syntax limits b) (sym same) ∙ s.read in
+            let all : page_read syntax limits (take n bytes ++ drop n bytes) ≡ Ok p = ap (λ b. page_read syntax limits b) (front_back n bytes) ∙ r in
+            let more = shows_more syntax limits (take n bytes) (drop n bytes) s.now p read all in
+            none (refused_in context [] (shown p)) a
+            (ap (refused_in context []) more.are ∙ (refused_append context [] (shown s.now) more.signs
+            ∙ some_first (refused_in context [] (shown s.now)) (refused_in context (line_of [] (shown s.now)) more.signs) fault s.refused))
+
+        by_within : Shown (take (fault.at + 1) (bytes ++ piece)) fault → length bytes ≤ fault.at
+        by_within s = by_test (nat_le (length bytes) fault.at) (λ t. grind (arith, nat_tests)) (λ t. absurd (early (grind (arith, nat_tests)) s))
+
+  -- a fault of the form that one of the bytes decides is read
+  fault_read : (bytes : List ℕ) (fault : Fault) → FaultAt syntax limits bytes fault → fault.at < length bytes → page_read syntax limits bytes ≡ Err fault
+  fault_read bytes fault f l = by (page_read syntax limits bytes) refl (fault_is_read syntax limits bytes fault f)
+    where
+      ends : (q : Progress) (b : Bool) → length bytes ≡ q.now.scan.at → ◌≡◌ {A = Result Progress Fault} (if b then Ok q else Err (fault_in q.now.scan Unended)) (Err fault) → page_read syntax limits bytes ≡ Err fault
+      ends q true e w = absurd (cc)
+      ends q false e w =
+          let is : fault_in q.now.scan Unended ≡ fault = cc in
+          let at : q.now.scan.at ≡ fault.at = ap (λ (x : Fault). x.at) is in
+          absurd (omega (arith, l, at, e))
+
+      by : (x : Result Progress Fault) → page_read syntax limits bytes ≡ x → end_of x ≡ Err fault → page_read syntax limits bytes ≡ Err fault
+      by (Ok q) k w = ends q (may_end q.now) (sym (read_size syntax limits bytes q k).0) w
+      by (Err other) k w = k ∙ w
+
+  -- no page begins with the bytes through its place
+  pub begins_none : (bytes : List ℕ) (fault : Fault) → FaultAt syntax limits bytes fault → fault.at < length bytes → BeginsNone syntax limits (take (fault.at + 1) bytes)
+  begins_none bytes fault f l rest tree page =
+      let n : ℕ = fault.at + 1 in
+      let front = read_front (take n bytes) rest (page_shows (take n bytes ++ rest) tree page).final (page_shows (take n bytes ++ rest) tree page).read in
+      let fails : page_read syntax limits (take n bytes ++ drop n bytes) ≡ Err fault = ap (λ b. page_read syntax limits b) (front_back n bytes) ∙ fault_read bytes fault f l in
+      let from = (faults_so syntax limits (take n bytes) (drop n bytes) front.now fault front.is fails).from in
+      let size = take_length n bytes (omega (arith, l)) in
+      omega (arith, from, size)
+
+-- where a fault lies that a piece brings
+pub placed : (syntax : Syntax) (limits : Limits) (context : Context) (address : Chars) (bytes piece : List ℕ) (nest : Nested) (course : Course) (fault : Fault)
+    → Goes syntax limits context address nest course bytes → OwesNone nest → Stops syntax limits context (bytes ++ piece) fault → Placed syntax limits context bytes piece fault
+placed syntax limits context address bytes piece nest course fault g paid st =
+    let now : Progress = record { now = g.shown.at.now; told = g.shown.told } in
+    let seen : (sees nothing_seen g.shown.told).signs ≡ g.signs = ap (λ (x : Sight). x.signs) g.shown.sight ∙ (ap (λ x. g.signs ++ x) paid ∙ append-nil g.signs) in
+    let refuses : Refuses syntax limits context (bytes ++ piece) fault = subst (λ b. Refuses syntax limits context b fault) (append-nil (bytes ++ piece)) (st.stays []) in
+    record {
+      from = lies_behind syntax limits context bytes piece now fault g.shown.at.read (ap (refused_in context []) seen ∙ g.runs.accepted) refuses;
+      law = by refuses;
+    }
+  where
+    by : Refuses syntax limits context (bytes ++ piece) fault → PlaceLaw syntax limits context (bytes ++ piece) fault
+    by (for_form f none) = of_form f (begins_none syntax limits (bytes ++ piece) fault f st.within) (faults_follow_fronts syntax limits (bytes ++ piece) fault f)
+    by (for_meaning m first) =
+        of_meaning m (refused_of syntax limits context (take (fault.at + 1) (bytes ++ piece)) fault (through syntax limits context (bytes ++ piece) fault m))
+        (subst (λ b. IsFront syntax limits (take fault.token b)) (sym m.are) (refused_fronts syntax limits context m.front m.rest m.now fault m.read m.refused))

@@ -1,0 +1,105 @@
+-- The text that is kept is that of the outermost element that gathers.
+use Rattle.std.proofs.Common.{◌≡◌, ◌∙◌, ℕ, zero, suc, ◌+◌, ◌-◌, ◌≤◌, Bool, true, false, List, [], ◌∷◌, ◌++◌, map, length, take, refl, sym, ap, subst, arith, length-append}
+use Rattle.std.specs.Prelude.{◌||◌, is_some, if◌then◌else◌}
+use Rattle.rx_terms.specs.Text.{Chars}
+use Rattle.rx_rdfa.specs.Names.{Context}
+use Rattle.rx_rdfa.specs.Tree.{Tag}
+use Rattle.rx_nest.specs.Signs.{Sign, begun, said, finished}
+use Rattle.rx_eval.specs.Keeping.{gathers_some}
+use Rattle.rx_eval.specs.Opened.{begun_state}
+use Rattle.rx_eval.specs.States.{State, Frame}
+use Rattle.rx_walk.specs.Lines.{line_on}
+use Rattle.rx_walk.specs.CallsOf.{call_of, calls_of}
+use Rattle.rx_walk.specs.Seekings.{sought}
+use Rattle.rx_walk.specs.Leading.{Steps, Leads}
+use Rattle.rx_walk.specs.KeptTexts.{texts_on, texts_of, gathered_text, KeepsOneText}
+use Rattle.rx_walk.proofs.Wholes.{known_at}
+
+-- the lists of frames and of texts, as elements begin, speak and end
+
+none_either : (b : Bool) → ◌≡◌ {A = Chars} (if b then [] else []) []
+none_either true = refl
+none_either false = refl
+
+with_one : (frames : List Frame) (texts : List Chars) (frame : Frame) → length frames ≡ length texts → gathered_text (frames ++ frame ∷ []) (texts ++ [] ∷ []) ≡ gathered_text frames texts
+with_one [] [] frame e = none_either (is_some frame.text)
+with_one [] (t ∷ texts) frame e = absurd (omega (arith, e))
+with_one (f ∷ frames) [] frame e = absurd (omega (arith, e))
+with_one (f ∷ frames) (t ∷ texts) frame e = ap (λ x. if is_some f.text then t else x) (with_one frames texts frame (omega (arith, e)))
+
+with_more : (frames : List Frame) (texts : List Chars) (chars : Chars) → length frames ≡ length texts
+    → (if gathers_some frames then gathered_text frames texts ++ chars else gathered_text frames texts) ≡ gathered_text frames (map (λ text. text ++ chars) texts)
+with_more [] texts chars e = refl
+with_more (f ∷ frames) [] chars e = absurd (omega (arith, e))
+with_more (f ∷ frames) (t ∷ texts) chars e = by (is_some f.text) (with_more frames texts chars (omega (arith, e)))
+  where
+    by : (b : Bool) → (if gathers_some frames then gathered_text frames texts ++ chars else gathered_text frames texts) ≡ gathered_text frames (map (λ text. text ++ chars) texts)
+        → (if b || gathers_some frames then (if b then t else gathered_text frames texts) ++ chars else (if b then t else gathered_text frames texts)) ≡ (if b then t ++ chars else gathered_text frames (map (λ text. text ++ chars) texts))
+    by true ih = refl
+    by false ih = ih
+
+all_but : (t : Chars) (texts : List Chars) (n : ℕ) → length texts ≡ suc n → take (length (t ∷ texts) - 1) (t ∷ texts) ≡ t ∷ take (length texts - 1) texts
+all_but t texts n e = let k : length (t ∷ texts) - 1 ≡ suc (length texts - 1) = omega (arith, e) in ap (λ m. take m (t ∷ texts)) k
+
+with_less : (frames : List Frame) (texts : List Chars) (frame : Frame) → length texts ≡ length frames + 1
+    → (if gathers_some frames then gathered_text (frames ++ frame ∷ []) texts else []) ≡ gathered_text frames (take (length texts - 1) texts)
+with_less [] texts frame e = refl
+with_less (f ∷ frames) [] frame e = absurd (omega (arith, e))
+with_less (f ∷ frames) (t ∷ texts) frame e =
+    by (is_some f.text) (with_less frames texts frame (omega (arith, e))) ∙ ap (gathered_text (f ∷ frames)) (sym (all_but t texts (length frames) (omega (arith, e))))
+  where
+    by : (b : Bool) → (if gathers_some frames then gathered_text (frames ++ frame ∷ []) texts else []) ≡ gathered_text frames (take (length texts - 1) texts)
+        → (if b || gathers_some frames then (if b then t else gathered_text (frames ++ frame ∷ []) texts) else []) ≡ (if b then t else gathered_text frames (take (length texts - 1) texts))
+    by true ih = refl
+    by false ih = ih
+
+same_many : (texts : List Chars) (chars : Chars) → length (map (λ text. text ++ chars) texts) ≡ length texts
+same_many [] chars = refl
+same_many (t ∷ texts) chars = ap suc (same_many texts chars)
+
+fewer : (n : ℕ) (texts : List Chars) → n ≤ length texts → length (take n texts) ≡ n
+fewer zero texts l = refl
+fewer (suc n) [] l = absurd (omega (arith, l))
+fewer (suc n) (t ∷ texts) l = ap suc (fewer n texts (omega (arith, l)))
+
+-- as many texts as frames, and that one is kept
+record Kept (state : State) (texts : List Chars) : Type 0 where
+  many : length state.frames ≡ length texts
+  kept : state.kept ≡ gathered_text state.frames texts
+
+one_kept : (context : Context) (line : List Tag) (texts : List Chars) (sign : Sign) (old new : State) → Steps (call_of context line sign) old new → Kept old texts → Kept new (texts_on texts sign)
+one_kept context line texts (begun t) old new s k =
+    let o = s.1 in
+    let size : length new.frames ≡ length old.frames + 1 = ap length o.pushed ∙ length-append old.frames (o.frame ∷ []) in
+    record {
+      many = omega (arith, size, k.many, length-append texts ([] ∷ []));
+      kept = o.rest.4 ∙ (k.kept ∙ (sym (with_one old.frames texts o.frame k.many) ∙ ap (λ fs. gathered_text fs (texts ++ [] ∷ [])) (sym o.pushed)));
+    }
+one_kept context line texts (said c) old new s k =
+    let same : new.frames ≡ old.frames = ap (λ (z : State). z.frames) s in
+    record {
+      many = ap length same ∙ (k.many ∙ sym (same_many texts (c ∷ [])));
+      kept =
+          ap (λ (z : State). z.kept) s ∙ (ap (λ x. if gathers_some old.frames then x ++ c ∷ [] else x) k.kept
+          ∙ (with_more old.frames texts (c ∷ []) k.many ∙ ap (λ fs. gathered_text fs (map (λ text. text ++ c ∷ []) texts)) (sym same)));
+    }
+one_kept context line texts finished old new c k =
+    let size : length old.frames ≡ length new.frames + 1 = ap length c.popped ∙ length-append new.frames (c.frame ∷ []) in
+    let less : length (take (length texts - 1) texts) ≡ length texts - 1 = fewer (length texts - 1) texts (omega arith) in
+    record {
+      many = omega (arith, size, less, k.many);
+      kept =
+          c.kept ∙ (ap (λ x. if gathers_some new.frames then x else []) (k.kept ∙ ap (λ fs. gathered_text fs texts) c.popped)
+          ∙ with_less new.frames texts c.frame (omega (arith, size, k.many)));
+    }
+
+all_kept : (context : Context) (line : List Tag) (texts : List Chars) (signs : List Sign) (old new : State) → Leads (calls_of context line signs) old new → Kept old texts → Kept new (texts_of texts signs)
+all_kept context line texts [] old new h k = subst (λ z. Kept z texts) (sym h) k
+all_kept context line texts (sign ∷ signs) old new h k =
+    all_kept context (line_on line sign) (texts_on texts sign) signs h.0 new h.2 (one_kept context line texts sign old h.0 h.1 k)
+
+pub keeps_one_text : KeepsOneText
+keeps_one_text syntax limits context address walk bytes s state e =
+    let known = known_at address limits.depth (sought s.goes.signs) (calls_of context [] s.goes.signs) walk.course.stage state s.goes.runs.staged e in
+    let begun : Kept (begun_state _ limits.depth) [] = record { many = refl; kept = refl } in
+    (all_kept context [] [] s.goes.signs (begun_state _ limits.depth) state known.led.leads begun).kept
