@@ -14,3 +14,6 @@ pub mod FaultPlacing
 pub mod TokenPlacing
 pub mod TextKeeping
 pub mod NumberedPages
+pub mod QuietReading
+pub mod Idling
+pub mod Quieting

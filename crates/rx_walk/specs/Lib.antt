@@ -11,3 +11,4 @@ pub mod TagPlaces
 pub mod FaultPlaces
 pub mod KeptTexts
 pub mod Numberings
+pub mod Quiets

@@ -1,5 +1,5 @@
 //! The elements of a page as they are told: the names in force, and what the evaluator is told of them.
-ghost use Rattle.std.specs.Prelude.{◌≡◌, ◌<◌, ◌+◌, ◌∷◌, ◌++◌, [], List, ℕ, false, map, OnOk, IfOk};
+ghost use Rattle.std.specs.Prelude.{◌≡◌, ◌<◌, ◌+◌, ◌∷◌, ◌++◌, [], List, ℕ, false, true, map, OnOk, IfOk, IsOk};
 ghost use Rattle.std.specs.Str.{chars};
 ghost use Rattle.rx_terms.specs.Text.{Chars};
 ghost use Rattle.rx_rdfa.specs.Names.{Context as RulesContext};
@@ -11,6 +11,7 @@ ghost use Rattle.rx_curie.specs.Given.{vocabulary_from};
 ghost use Rattle.rx_nest.specs.Nests.{tag_shown, event_signs};
 ghost use Rattle.rx_nest.specs.Signs.{Sign, begun, said, finished};
 ghost use Rattle.rx_nest.specs.Fronts.{IsFront};
+ghost use Rattle.rx_walk.specs.Quiets.{IsIdle, is_calm};
 ghost use Rattle.rx_walk.specs.Courses.{Runs, MayHear, FactsGive, Hears};
 
 use crate::origins::Origin;
@@ -85,7 +86,8 @@ impl Course {
     /// Takes what comes next in the page's tree. A fault is that of a start tag that is refused for what it means.
     pub(crate) fn hear(&mut self, event: Event<'_>) -> Result<(), Stop>
         requires { MayHear self.old (event_signs event) }
-        ensures { (context : RulesContext) (address : Chars) (levels : ℕ) (signs : List Sign) → Runs context address levels self.old signs → IsFront levels (signs ++ event_signs event.entry) → Hears context address levels signs (event_signs event.entry) result self.new }
+        ensures hears { (context : RulesContext) (address : Chars) (levels : ℕ) (signs : List Sign) → Runs context address levels self.old signs → IsFront levels (signs ++ event_signs event.entry) → Hears context address levels signs (event_signs event.entry) result self.new }
+        ensures quiet { is_calm event.entry ≡ true → IsIdle self.old.stage → IsOk result × IsIdle self.new.stage }
     {
         match event {
             Event::More | Event::Skipped => Ok(()),
@@ -115,7 +117,8 @@ impl Course {
 
     fn text(&mut self, text: &str) -> Result<(), Stop>
         requires { MayHear self.old (map said (chars text.now)) }
-        ensures { (context : RulesContext) (address : Chars) (levels : ℕ) (signs : List Sign) → Runs context address levels self.old signs → IsFront levels (signs ++ map said (chars text.now)) → Hears context address levels signs (map said (chars text.now)) result self.new }
+        ensures hears { (context : RulesContext) (address : Chars) (levels : ℕ) (signs : List Sign) → Runs context address levels self.old signs → IsFront levels (signs ++ map said (chars text.now)) → Hears context address levels signs (map said (chars text.now)) result self.new }
+        ensures quiet { IsIdle self.old.stage → IsOk result × IsIdle self.new.stage }
     {
         let Ok(()) = self.stage.text(&self.origin, text) else {
             return Err(Stop::NoMemory);

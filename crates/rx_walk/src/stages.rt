@@ -1,11 +1,12 @@
 //! How far the seeking of the base has come.
-ghost use Rattle.std.specs.Prelude.{◌≡◌, [], ◌∷◌, ◌++◌, IfOk, OnOk};
+ghost use Rattle.std.specs.Prelude.{◌≡◌, [], ◌∷◌, ◌++◌, IfOk, IsOk, OnOk};
 ghost use Rattle.std.specs.Str.{chars};
 ghost use Rattle.rx_rdfa.specs.Calls.{Enter, Leave};
 ghost use Rattle.rx_curie.specs.Seen.{facts_seen};
 ghost use Rattle.rx_names.specs.Tags.{tag_of};
 ghost use Rattle.rx_walk.specs.CallsOf.{singles};
 ghost use Rattle.rx_walk.specs.Seekings.{seek_begun, seek_finished};
+ghost use Rattle.rx_walk.specs.Quiets.{IsIdle};
 ghost use Rattle.rx_walk.specs.Stages.{sought_seen, queue_seen, MayBe, MayTake, Tells, HeadGives};
 
 use crate::calls::Call;
@@ -100,9 +101,10 @@ impl Stage {
         Ok(())
     }
 
-    /// Text of the innermost element.
+    /// Text of the innermost element. It takes no memory where the base is known and no open element gathers its text.
     pub(crate) fn text(&mut self, origin: &Origin, text: &str) -> Result<(), NoMemory>
-        ensures { OnOk result (Tells origin.now (λ seeking. seeking) (singles (chars text.now)) self.old self.new) }
+        ensures tells { OnOk result (Tells origin.now (λ seeking. seeking) (singles (chars text.now)) self.old self.new) }
+        ensures quiet { IsIdle self.old → IsOk result × IsIdle self.new }
     {
         match self {
             Stage::Found(eval) => eval.text(text),

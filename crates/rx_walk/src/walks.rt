@@ -1,11 +1,15 @@
 //! A page that is walked through in pieces.
-ghost use Rattle.std.specs.Prelude.{◌≡◌, ◌≤◌, ℕ, List, [], length, true, IfOk, IfErr, Some, None, MatchOption, if◌then◌else◌};
+ghost use Rattle.std.specs.Prelude.{◌≡◌, ◌≤◌, ℕ, List, [], length, true, false, IfOk, IfErr, Some, None, MatchOption, if◌then◌else◌};
 ghost use Rattle.rx_terms.specs.Text.{Chars};
 ghost use Rattle.rx_chars.specs.declared.syntax.Syntax as syntaxes;
 ghost use Rattle.rx_grammar.specs.declared.limits.Limits as limit;
 ghost use Rattle.rx_rdfa.specs.Names.{Context as RulesContext};
 ghost use Rattle.rx_names.specs.Lines.{declared_along};
+ghost use Rattle.rx_scan.specs.Entries.{IsNoMemory};
+ghost use Rattle.rx_scan.specs.Steps.{is_quiet};
 ghost use Rattle.rx_nest.specs.Nests as nests;
+ghost use Rattle.rx_nest.specs.Nests.{IsBetween};
+ghost use Rattle.rx_eval.specs.Keeping.{gathers_some};
 ghost use Rattle.rx_eval.specs.Opened.{handed_on};
 ghost use Rattle.rx_eval.specs.States.{State};
 ghost use Rattle.rx_eval.specs.Waits.{Shows};
@@ -13,6 +17,7 @@ ghost use Rattle.rx_grammar.specs.Trees.{StartTag, Tree, end, element};
 ghost use Rattle.rx_nest.specs.Signs.{signs_of};
 ghost use Rattle.rx_walk.specs.Courses.{Runs};
 ghost use Rattle.rx_walk.specs.FaultPlaces as places;
+ghost use Rattle.rx_walk.specs.Quiets as quiets;
 ghost use Rattle.rx_walk.specs.Walks as walks;
 
 use crate::courses::Course;
@@ -60,6 +65,7 @@ fn step(nest: &mut Nest, course: &mut Course, piece: &[u8]) -> Result<Turn, Stop
     requires { walks.Somewhere nest.old course.old }
     ensures gives { (syntax : syntaxes.Syntax) (limits : limit.Limits) (context : RulesContext) (address : Chars) (bytes : List ℕ) → walks.Goes syntax limits context address nest.old course.old bytes → walks.TurnGives syntax limits context address bytes piece.now result nest.new course.new }
     ensures takes { walks.TurnTakes piece.now result nest.old.owed nest.new.owed }
+    ensures quiet { (syntax : syntaxes.Syntax) (limits : limit.Limits) (context : RulesContext) (address : Chars) (bytes : List ℕ) → quiets.QuietAt syntax limits context address nest.old course.old bytes → is_quiet piece.now ≡ true → quiets.QuietTurn syntax limits context address bytes piece.now result nest.new course.new }
 {
     let (taken, event) = match nest.step(piece) {
         Ok(step) => step,
@@ -78,6 +84,7 @@ fn take_some(nest: &mut Nest, course: &mut Course, piece: &[u8]) -> Result<Turn,
     requires { walks.Somewhere nest.old course.old }
     ensures gives { (syntax : syntaxes.Syntax) (limits : limit.Limits) (context : RulesContext) (address : Chars) (bytes : List ℕ) → walks.Goes syntax limits context address nest.old course.old bytes → walks.TurnGives syntax limits context address bytes piece.now result nest.new course.new }
     ensures takes { walks.TakesByte piece.now result }
+    ensures quiet { (syntax : syntaxes.Syntax) (limits : limit.Limits) (context : RulesContext) (address : Chars) (bytes : List ℕ) → quiets.QuietAt syntax limits context address nest.old course.old bytes → is_quiet piece.now ≡ true → quiets.QuietTurn syntax limits context address bytes piece.now result nest.new course.new }
 {
     'turns: loop {
         match step(nest, course, piece) {
@@ -91,7 +98,8 @@ fn take_some(nest: &mut Nest, course: &mut Course, piece: &[u8]) -> Result<Turn,
 /// Takes the whole piece.
 fn take_all(nest: &mut Nest, course: &mut Course, piece: &[u8]) -> Result<(), Stop>
     requires { walks.Somewhere nest.old course.old }
-    ensures { (syntax : syntaxes.Syntax) (limits : limit.Limits) (context : RulesContext) (address : Chars) (bytes : List ℕ) → walks.Goes syntax limits context address nest.old course.old bytes → walks.PieceGives syntax limits context address bytes piece.now result nest.new course.new }
+    ensures gives { (syntax : syntaxes.Syntax) (limits : limit.Limits) (context : RulesContext) (address : Chars) (bytes : List ℕ) → walks.Goes syntax limits context address nest.old course.old bytes → walks.PieceGives syntax limits context address bytes piece.now result nest.new course.new }
+    ensures quiet { (syntax : syntaxes.Syntax) (limits : limit.Limits) (context : RulesContext) (address : Chars) (bytes : List ℕ) → quiets.QuietAt syntax limits context address nest.old course.old bytes → is_quiet piece.now ≡ true → quiets.QuietEnd result }
 {
     let mut rest = piece;
     'turns: loop {
@@ -141,10 +149,12 @@ impl Walk {
         })
     }
 
-    /// Takes the whole piece.
+    /// Takes the whole piece. Text takes no memory where the base is known and no open element gathers its text: a piece
+    /// without `<` and `&` then never wants memory where no token is unfinished.
     pub fn feed(&mut self, piece: &[u8]) -> Result<(), Stop>
         ensures gives { (syntax : syntaxes.Syntax) (limits : limit.Limits) (context : RulesContext) (address : Chars) (bytes : List ℕ) → walks.Stands syntax limits context address self.old bytes → walks.FeedGives syntax limits context address bytes piece.now result self.new }
         ensures place { (syntax : syntaxes.Syntax) (limits : limit.Limits) (context : RulesContext) (address : Chars) (bytes : List ℕ) → walks.Stands syntax limits context address self.old bytes → places.PlaceGives syntax limits context bytes piece.now result }
+        ensures quiet { (syntax : syntaxes.Syntax) (limits : limit.Limits) (context : RulesContext) (address : Chars) (bytes : List ℕ) → walks.Stands syntax limits context address self.old bytes → IsBetween syntax limits bytes → is_quiet piece.now ≡ true → (state : State) → walks.state_of self.old.course.stage ≡ Some state → gathers_some state.frames ≡ false → IsNoMemory result ≡ false }
         ensures keeps { walks.Keeps self.old result self.new }
     {
         if self.spent {

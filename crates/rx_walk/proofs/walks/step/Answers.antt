@@ -1,7 +1,9 @@
-use Rattle.std.proofs.Common.{◌∙◌, ◌++◌, sym, take}
+use Rattle.std.proofs.Common.{ℕ, ◌∙◌, ◌++◌, sym, take}
 use Rattle.rx_nest.specs.Nests.{event_signs}
 use Rattle.rx_nest.proofs.Fronts.{shows_one}
 use Rattle.rx_walk.proofs.Walking.{took, done, heard_stop, step_stop}
+use Rattle.rx_nest.specs.declared.nests.Event.{Event}
+use Rattle.rx_walk.proofs.QuietReading.{no_want, steps_quietly}
 use Rattle.rx_walk.proofs.walks.step.Goals as goal
 
 pub returns-in-Err-clause-gives : goal.returns-in-Err-clause-gives
@@ -29,7 +31,7 @@ returns-in-Ok-hear-clause-gives c syntax limits context address bytes g =
     let s = h.1 syntax limits bytes g.signs g.shown in
     let front = shows_one syntax limits c.step.follows.lender-at-none (bytes ++ take c.in-Ok.step.0 c.args.piece.now) (g.signs ++ event_signs c.in-Ok.step.1) s.stands in
     let more = sym c.is_more-is_done.ensures ∙ c.if-is_done.true in
-    done syntax limits context address bytes c.args.piece.now g.signs c.in-Ok.step.0 c.in-Ok.step.1 c.step.follows.lender-at-none s c.hear.new.self (c.in-Ok-hear.ensures context address limits.depth g.signs g.runs front)
+    done syntax limits context address bytes c.args.piece.now g.signs c.in-Ok.step.0 c.in-Ok.step.1 c.step.follows.lender-at-none s c.hear.new.self (c.in-Ok-hear.ensures.hears context address limits.depth g.signs g.runs front)
     more (h.0.4.due more).1
 
 pub returns-in-Ok-2-clause-gives : goal.returns-in-Ok-2-clause-gives
@@ -37,7 +39,7 @@ returns-in-Ok-2-clause-gives c syntax limits context address bytes g =
     let h = rw c.in-Ok.is at c.step.follows.holds-at-none in
     let s = h.1 syntax limits bytes g.signs g.shown in
     let front = shows_one syntax limits c.step.follows.lender-at-none (bytes ++ take c.in-Ok.step.0 c.args.piece.now) (g.signs ++ event_signs c.in-Ok.step.1) s.stands in
-    took syntax limits context address bytes c.args.piece.now g.signs c.in-Ok.step.0 c.in-Ok.step.1 c.step.follows.lender-at-none s c.hear.new.self (c.in-Ok-2.ensures context address limits.depth g.signs g.runs front)
+    took syntax limits context address bytes c.args.piece.now g.signs c.in-Ok.step.0 c.in-Ok.step.1 c.step.follows.lender-at-none s c.hear.new.self (c.in-Ok-2.ensures.hears context address limits.depth g.signs g.runs front)
 
 pub returns-in-Err-hear-clause-gives : goal.returns-in-Err-hear-clause-gives
 returns-in-Err-hear-clause-gives c syntax limits context address bytes g =
@@ -45,4 +47,23 @@ returns-in-Err-hear-clause-gives c syntax limits context address bytes g =
     let s = h.1 syntax limits bytes g.signs g.shown in
     let front = shows_one syntax limits c.step.follows.lender-at-none (bytes ++ take c.in-Ok.step.0 c.args.piece.now) (g.signs ++ event_signs c.in-Ok.step.1) s.stands in
     heard_stop syntax limits context address bytes c.args.piece.now g.signs c.in-Ok.step.0 c.in-Ok.step.1 c.step.follows.lender-at-none s c.in-Err-hear.stop c.hear.new.self
-    (c.in-Err-hear.ensures context address limits.depth g.signs g.runs front)
+    (c.in-Err-hear.ensures.hears context address limits.depth g.signs g.runs front)
+
+pub returns-in-Err-clause-quiet : goal.returns-in-Err-clause-quiet
+returns-in-Err-clause-quiet c syntax limits context address bytes g q =
+    no_want (ℕ × Event) c.in-Err.stop (c.in-Err.ensures.quiet syntax limits bytes g.goes.signs g.goes.shown g.between q)
+
+pub returns-in-Ok-2-clause-quiet : goal.returns-in-Ok-2-clause-quiet
+returns-in-Ok-2-clause-quiet c syntax limits context address bytes g q =
+    let h = rw c.in-Ok.is at c.step.follows.holds-at-none in
+    let s = h.1 syntax limits bytes g.goes.signs g.goes.shown in
+    let k = steps_quietly syntax limits bytes c.args.piece.now g.goes.signs c.args.nest.now c.step.follows.lender-at-none c.in-Ok.step.0 c.in-Ok.step.1 g.goes.shown g.paid g.between q s in
+    record { goes = returns-in-Ok-2-clause-gives c syntax limits context address bytes g.goes; between = k.between; paid = k.paid; idle = (c.in-Ok-2.ensures.quiet k.calm g.idle).1 }
+
+pub returns-in-Err-hear-clause-quiet : goal.returns-in-Err-hear-clause-quiet
+returns-in-Err-hear-clause-quiet c syntax limits context address bytes g q =
+    let h = rw c.in-Ok.is at c.step.follows.holds-at-none in
+    let s = h.1 syntax limits bytes g.goes.signs g.goes.shown in
+    let k = steps_quietly syntax limits bytes c.args.piece.now g.goes.signs c.args.nest.now c.step.follows.lender-at-none c.in-Ok.step.0 c.in-Ok.step.1 g.goes.shown g.paid g.between q s in
+    let none = (c.in-Err-hear.ensures.quiet k.calm g.idle).0 in
+    absurd (cc)

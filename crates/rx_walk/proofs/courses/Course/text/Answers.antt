@@ -3,7 +3,7 @@ use Rattle.std.specs.Str.{chars}
 use Rattle.rx_walk.proofs.Coursing.{runs_said}
 use Rattle.rx_walk.proofs.courses.Course.text.Goals as goal
 
-pub returns : goal.returns
-returns c context address levels signs r f =
+pub returns-clause-hears : goal.returns-clause-hears
+returns-clause-hears c context address levels signs r f =
     runs_said context address levels c.args.self.now (record { origin = c.args.self.now.origin; names = c.args.self.now.names; count = c.args.self.now.count; stage = c.text.new.self }) signs r
-    (chars c.args.text.now) f refl refl refl c.in-Ok.ensures
+    (chars c.args.text.now) f refl refl refl c.in-Ok.ensures.tells
