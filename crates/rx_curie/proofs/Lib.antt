@@ -1,5 +1,6 @@
 pub mod ReadLemmas
 pub mod MadeLemmas
+pub mod WordLemmas
 pub mod TokenSteps
 pub mod LangForms
 pub mod RefusalLemmas

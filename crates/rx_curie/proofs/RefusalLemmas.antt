@@ -1,6 +1,7 @@
 -- What is refused of a start tag.
 use Rattle.std.proofs.Common.{◌≡◌, ◌∙◌, ℕ, ◌<◌, ◌/◌, ◌%◌, Bool, true, false, ◌==◌, ◌&&◌, not, List, [], ◌∷◌, ◌++◌, codes, Option, Some, None, option_map, sym, ap, subst, refl, arith}
-use Rattle.std.specs.Prelude.{is_some, option_and_then, if◌then◌else◌}
+use Rattle.std.specs.Prelude.{is_some, bytes_eq, option_and_then, if◌then◌else◌}
+use Rattle.std.specs.Cmp.Lexicographic.{bytes_decides}
 use Rattle.std.specs.List.{list_all}
 use Rattle.std.proofs.lemmas.Bool.{and_parts}
 use Rattle.std.proofs.lemmas.Bool.Decides.{nat_tests}
@@ -13,11 +14,13 @@ use Rattle.rx_refs.proofs.PartLemmas.{by_test, behind-some, behind-none, before-
 use Rattle.rx_refs.proofs.SchemeLemmas.{cleaned-append, has_scheme-cut, has_scheme-uncut, none_at, forbidden-small, uncleaned}
 use Rattle.rx_rdfa.specs.Tree.{Tag, attribute}
 use Rattle.rx_rdfa.specs.Names.{Context, vocab, declared_or, unless_empty}
-use Rattle.rx_rdfa.specs.Facts.{Facts, facts}
-use Rattle.rx_rdfa.specs.Refusals.{is_relative, refusal, RelativeVocab, has_literals_of, rdf_xml_literal, rdf_html}
-use Rattle.rx_grammar.specs.declared.faults.Kind.TheVariants as kind
+use Rattle.rx_terms.specs.Literal.{rdf_lang_string}
+use Rattle.rx_rdfa.specs.Facts.{Facts, Datatype, Empty, Is, facts, predicate, predicates, datatype_of}
+use Rattle.rx_rdfa.specs.Refusals.{Refusal, RelativeVocab, XmlLiteral, HtmlLiteral, is_relative, is_datatype, refusal, rdf_xml_literal, rdf_html}
+use Rattle.rx_grammar.specs.declared.faults.Kind.{Kind}
 use Rattle.rx_curie.specs.declared.facts.FactsError.TheVariants as error
-use Rattle.rx_curie.specs.Given.{own_vocabulary, vocabulary_from, RefusesFor}
+use Rattle.rx_curie.specs.Given.{own_vocabulary, vocabulary_from, kind_of, RefusesFor}
+use Rattle.rx_curie.specs.Refusing.{is_iri, markup, markup_of}
 
 -- Escapes leave the scheme as it is, also where there is none.
 
@@ -88,13 +91,10 @@ relative-cleaned (Some text) = ap not (cleaned-scheme-same text)
 
 -- The first refusal that holds
 
-pub own-refused : (context : Context) (above : List Tag) (tag : Tag) → is_relative (own_vocabulary tag) ≡ true → RefusesFor (error.Meaning kind.RelativeVocab) (refusal (facts context above tag))
-own-refused context above tag h =
-    let relative : is_relative (option_map cleaned (own_vocabulary tag)) ≡ true = relative-cleaned (own_vocabulary tag) ∙ h in
-    let first : refusal (facts context above tag) ≡ Some RelativeVocab = first-holds (facts context above tag) relative in
-    subst (RefusesFor (error.Meaning kind.RelativeVocab)) (sym first) refl where
-      first-holds : (f : Facts) → is_relative f.vocab ≡ true → refusal f ≡ Some RelativeVocab
-      first-holds f e = rw e refl
+pub own-refused : (context : Context) (above : List Tag) (tag : Tag) → is_relative (own_vocabulary tag) ≡ true → refusal (facts context above tag) ≡ Some RelativeVocab
+own-refused context above tag h = first-holds (facts context above tag) (relative-cleaned (own_vocabulary tag) ∙ h) where
+  first-holds : (f : Facts) → is_relative f.vocab ≡ true → refusal f ≡ Some RelativeVocab
+  first-holds f e = rw e refl
 
 -- a vocabulary in force is the tag's own, or one from above
 pub absolute-line : (tag : Tag) (above : List Tag) → is_relative (own_vocabulary tag) ≡ false → is_relative (vocabulary_from above tag) ≡ false → is_relative (vocab (tag ∷ above)) ≡ false
@@ -104,10 +104,57 @@ absolute-line tag above own other = go (attribute tag (codes "vocab")) own other
   go None e h = h
   go (Some value) e h = e
 
-pub nothing-refused : (context : Context) (above : List Tag) (tag : Tag) (made : Facts) → made ≡ facts context above tag → is_relative (own_vocabulary tag) ≡ false
-    → has_literals_of made rdf_xml_literal ≡ false → has_literals_of made rdf_html ≡ false → refusal (facts context above tag) ≡ None
-nothing-refused context above tag made e own xml html =
-    let relative : is_relative (option_map cleaned (own_vocabulary tag)) ≡ false = relative-cleaned (own_vocabulary tag) ∙ own in
-    none-holds (facts context above tag) relative (sym (ap (λ (f : Facts). has_literals_of f rdf_xml_literal) e) ∙ xml) (sym (ap (λ (f : Facts). has_literals_of f rdf_html) e) ∙ html) where
-      none-holds : (f : Facts) → is_relative f.vocab ≡ false → has_literals_of f rdf_xml_literal ≡ false → has_literals_of f rdf_html ≡ false → refusal f ≡ None
-      none-holds f a b d = rw (a, b, d) refl
+some-mapped : {A B : Type 0} (f : A → B) (o : Option A) → is_some (option_map f o) ≡ is_some o
+some-mapped f None = refl
+some-mapped f (Some x) = refl
+
+pub no-property : (context : Context) (above : List Tag) (tag : Tag) → is_relative (own_vocabulary tag) ≡ false → is_some (attribute tag (codes "property")) ≡ false
+    → refusal (facts context above tag) ≡ None
+no-property context above tag own none =
+    none-holds (facts context above tag) (relative-cleaned (own_vocabulary tag) ∙ own) (some-mapped (predicates context (tag ∷ above)) (attribute tag (codes "property")) ∙ none) where
+      none-holds : (f : Facts) → is_relative f.vocab ≡ false → is_some f.property ≡ false → refusal f ≡ None
+      none-holds f a b = rw (a, b) refl
+
+-- a datatype isn't rdf:langString and markup at once
+abbrev markup_as : Option Datatype → Chars → Chars → Option Refusal
+markup_as datatype xml html = if is_datatype datatype xml then Some XmlLiteral else if is_datatype datatype html then Some HtmlLiteral else None
+
+abbrev markup_in : Option Chars → Chars → Chars → Option Refusal
+markup_in iri xml html = if is_iri iri xml then Some XmlLiteral else if is_iri iri html then Some HtmlLiteral else None
+
+datatype-apart : (lang xml html iri : Chars) → bytes_eq lang xml ≡ false → bytes_eq lang html ≡ false
+    → markup_as (Some (if bytes_eq iri lang then Empty else Is iri)) xml html ≡ markup_in (Some iri) xml html
+datatype-apart lang xml html iri a b =
+    by_test (bytes_eq iri lang)
+    (λ t.
+    let e : iri ≡ lang = (bytes_decides iri lang).0 t in
+    let x : bytes_eq iri xml ≡ false = subst (λ z. bytes_eq z xml ≡ false) (sym e) a in
+    let h : bytes_eq iri html ≡ false = subst (λ z. bytes_eq z html ≡ false) (sym e) b in
+    rw (t, x, h) refl) (λ t. rw t refl)
+
+datatype-markup : (iri : Option Chars) → markup_as (Some (datatype_of iri)) rdf_xml_literal rdf_html ≡ markup iri
+datatype-markup None = refl
+datatype-markup (Some iri) = datatype-apart rdf_lang_string rdf_xml_literal rdf_html iri refl refl
+
+value-markup : (context : Context) (line : List Tag) (value : Option Chars)
+    → markup_as (option_map (λ text. datatype_of (predicate context line (trimmed text))) value) rdf_xml_literal rdf_html ≡ markup_of context line value
+value-markup context line None = refl
+value-markup context line (Some text) = datatype-markup (predicate context line (trimmed text))
+
+pub with-property : (context : Context) (above : List Tag) (tag : Tag) → is_relative (own_vocabulary tag) ≡ false → is_some (attribute tag (codes "property")) ≡ true
+    → refusal (facts context above tag) ≡ markup_of context (tag ∷ above) (attribute tag (codes "datatype"))
+with-property context above tag own some =
+    markup-holds (facts context above tag) (relative-cleaned (own_vocabulary tag) ∙ own) (some-mapped (predicates context (tag ∷ above)) (attribute tag (codes "property")) ∙ some)
+    ∙ value-markup context (tag ∷ above) (attribute tag (codes "datatype")) where
+      markup-holds : (f : Facts) → is_relative f.vocab ≡ false → is_some f.property ≡ true → refusal f ≡ markup_as f.datatype rdf_xml_literal rdf_html
+      markup-holds f a b = rw (a, b) refl
+
+-- the refusal in the code's words
+
+pub refuses-for : (k : Kind) (r : Option Refusal) → Some k ≡ option_map kind_of r → RefusesFor (error.Meaning k) r
+refuses-for k None e = absurd (cc)
+refuses-for k (Some refused) e = cc
+
+pub refuses-none : (r : Option Refusal) → None ≡ option_map kind_of r → r ≡ None
+refuses-none None e = refl
+refuses-none (Some refused) e = absurd (cc)

@@ -4,3 +4,4 @@ pub mod Absolute
 pub mod Brackets
 pub mod Given
 pub mod Parts
+pub mod Refusing

@@ -4,10 +4,11 @@ ghost use Rattle.std.specs.Str.{chars};
 ghost use Rattle.rx_rdfa.specs.Facts as the;
 ghost use Rattle.rx_curie.specs.Seen.{kind_seen};
 
-use crate::literals::{is_relative, is_word, language, own_vocabulary, vocabulary};
+use crate::literals::{is_word, language, own_vocabulary, vocabulary};
 use crate::nodes::Nodes2;
 use crate::parts::{Content, Links, Resources};
 use crate::refs::Ref;
+use crate::refusals::refusal_of;
 use crate::types::types;
 use rx_grammar::Kind;
 use rx_names::{NamesView, attribute};
@@ -84,10 +85,8 @@ pub enum FactsError {
 
 impl Facts {
     ghost use Rattle.std.specs.Prelude.{◌≡◌, List, ◌∷◌, false, true, IfOk, IfErr, IsErrOf, OnOk};
-    ghost use Rattle.std.specs.List.{list_all};
-    ghost use Rattle.rx_terms.specs.Ascii.{is_ascii};
     ghost use Rattle.rx_rdfa.specs.Tree.{Tag as StartTag};
-    ghost use Rattle.rx_rdfa.specs.Refusals.{is_relative, has_literals_of};
+    ghost use Rattle.rx_rdfa.specs.Refusals.{is_relative};
     ghost use Rattle.rx_rdfa.specs.Facts as the;
     ghost use Rattle.rx_names.specs.Tags.{tag_of};
     ghost use Rattle.rx_names.specs.Lines.{Stands, vocabulary_of};
@@ -108,33 +107,12 @@ impl Facts {
         ensures absolute { OnOk result (is_relative (vocabulary_of (names_seen names.now)) ≡ false) }
         ensures kinds { IfErr result (λ why. is_for_meaning why ≡ true) }
     {
-        if is_relative(own_vocabulary(tag)) {
-            return Err(FactsError::Meaning(Kind::RelativeVocab));
-        }
-        if is_relative(names.vocab()) {
-            return Err(FactsError::Meaning(Kind::RelativeVocab));
-        }
-        let facts = match Facts::read(alloc, tag, names) {
-            Ok(facts) => facts,
-            Err(NoMemory) => return Err(FactsError::NoMemory),
-        };
-        if facts.has_literals_of("http://www.w3.org/1999/02/22-rdf-syntax-ns#XMLLiteral") {
-            return Err(FactsError::Meaning(Kind::XmlLiteral));
-        }
-        if facts.has_literals_of("http://www.w3.org/1999/02/22-rdf-syntax-ns#HTML") {
-            return Err(FactsError::Meaning(Kind::HtmlLiteral));
-        }
-        Ok(facts)
-    }
-
-    /// Whether there are values with this datatype, which is ASCII.
-    fn has_literals_of(&self, datatype: &str) -> bool
-        requires { list_all is_ascii datatype.now ≡ true }
-        ensures { result ≡ has_literals_of (facts_seen self.now) datatype.now }
-    {
-        match (&self.property, &self.datatype) {
-            (Some(_property), Some(Datatype::Is(iri))) => is_word(iri.as_str(), datatype),
-            _ => false,
+        match refusal_of(tag, names) {
+            Some(kind) => Err(FactsError::Meaning(kind)),
+            None => match Facts::read(alloc, tag, names) {
+                Ok(facts) => Ok(facts),
+                Err(NoMemory) => Err(FactsError::NoMemory),
+            },
         }
     }
 

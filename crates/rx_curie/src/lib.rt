@@ -14,6 +14,7 @@ mod parts;
 mod predicates;
 mod readings;
 mod refs;
+mod refusals;
 mod resources;
 mod types;
 
@@ -21,6 +22,7 @@ pub use facts::{Datatype, ElementKind, Facts, FactsError};
 pub use nodes::Nodes2;
 pub use readings::{Reading, read_resource, read_term};
 pub use refs::Ref;
+pub use refusals::refusal_of;
 pub use rx_grammar::Kind;
 
 /// Facts that are seen as the same facts of the rules are the same.

@@ -1,0 +1,30 @@
+-- Why a start tag is refused, by what its `datatype` reads to.
+use Rattle.std.specs.Prelude.{Bool, true, false, not, ◌==◌, ◌&&◌, ℕ, List, Option, Some, None, bytes_eq, option_and_then, if◌then◌else◌}
+use Rattle.rx_terms.specs.Ascii.{percent_sign}
+use Rattle.rx_terms.specs.Iri.{is_forbidden}
+use Rattle.rx_terms.specs.Text.{Chars, trimmed}
+use Rattle.rx_rdfa.specs.Tree.{Tag}
+use Rattle.rx_rdfa.specs.Names.{Context}
+use Rattle.rx_rdfa.specs.Facts.{predicate}
+use Rattle.rx_rdfa.specs.Refusals.{Refusal, XmlLiteral, HtmlLiteral, rdf_xml_literal, rdf_html}
+use Rattle.rx_grammar.specs.declared.faults.Kind.{Kind}
+use Rattle.rx_curie.specs.Given.{is_refusal_kind}
+
+abbrev pub is_iri : Option Chars → Chars → Bool
+is_iri None word = false
+is_iri (Some iri) word = bytes_eq iri word
+
+-- a character that stands in a cleaned text only where it stood before
+abbrev pub is_uncleaned : ℕ → Bool
+is_uncleaned c = not (is_forbidden c) && not (c == percent_sign)
+
+-- literals with this datatype are markup of XML, or of HTML
+abbrev pub markup : Option Chars → Option Refusal
+markup iri = if is_iri iri rdf_xml_literal then Some XmlLiteral else if is_iri iri rdf_html then Some HtmlLiteral else None
+
+abbrev pub markup_of : Context → List Tag → Option Chars → Option Refusal
+markup_of context line value = option_and_then (λ text. markup (predicate context line (trimmed text))) value
+
+abbrev pub kind_or_none : Option Kind → Bool
+kind_or_none None = true
+kind_or_none (Some kind) = is_refusal_kind kind

@@ -1,0 +1,111 @@
+//! The faults for which a start tag is refused.
+ghost use Rattle.std.specs.Prelude.{◌≡◌, ◌∷◌, ◌++◌, List, false, true, None, Some, bytes_eq, option_map};
+ghost use Rattle.std.specs.List.{list_all};
+ghost use Rattle.std.specs.Str.{chars};
+ghost use Rattle.rx_terms.specs.Ascii.{is_ascii};
+ghost use Rattle.rx_terms.specs.Text.{trimmed};
+ghost use Rattle.rx_refs.specs.Views.{seen_slice};
+ghost use Rattle.rx_rdfa.specs.Tree.{Tag as StartTag};
+ghost use Rattle.rx_rdfa.specs.Refusals.{is_relative, refusal};
+ghost use Rattle.rx_rdfa.specs.Facts as the;
+ghost use Rattle.rx_names.specs.Tags.{tag_of};
+ghost use Rattle.rx_names.specs.Lines.{Stands, vocabulary_of};
+ghost use Rattle.rx_names.specs.Views.{names_seen};
+ghost use Rattle.rx_curie.specs.Given.{own_vocabulary, vocabulary_from, kind_of, is_refusal_kind};
+ghost use Rattle.rx_curie.specs.Refusing.{is_iri, is_uncleaned, markup, markup_of, kind_or_none};
+ghost use Rattle.rx_curie.specs.Seen.{reading_seen};
+
+use crate::literals::{is_relative, is_word, own_vocabulary};
+use crate::readings::{Reading, read_term};
+use rx_grammar::Kind;
+use rx_names::{NamesView, attribute};
+use rx_tags::Tag;
+use rx_words::{behind, trim};
+
+/// The fault for which a start tag is refused under these names, or `None` exactly where it has facts. The first that holds
+/// is answered: `RelativeVocab` where the tag declares a vocabulary without a scheme, `XmlLiteral` where it has `property` and
+/// a datatype that reads as rdf:XMLLiteral, `HtmlLiteral` where that is rdf:HTML. Where an element around declares the
+/// vocabulary in force, and that has no scheme, the answer is `RelativeVocab` too. No memory is taken.
+pub fn refusal_of(tag: &Tag<'_>, names: &NamesView<'_>) -> Option<Kind>
+    ensures line { (above : List StartTag) → Stands (names_seen names.now) (tag_of tag.now ∷ above)
+        → is_relative (vocabulary_from above (tag_of tag.now)) ≡ false
+        → result ≡ option_map kind_of (refusal (the.facts (names_seen names.now).context above (tag_of tag.now))) }
+    ensures relative { is_relative (vocabulary_of (names_seen names.now)) ≡ true → result ≡ Some Kind.RelativeVocab }
+    ensures own { result ≡ None → is_relative (own_vocabulary (tag_of tag.now)) ≡ false }
+    ensures absolute { result ≡ None → is_relative (vocabulary_of (names_seen names.now)) ≡ false }
+    ensures kinds { kind_or_none result ≡ true }
+{
+    if is_relative(own_vocabulary(tag)) {
+        return Some(Kind::RelativeVocab);
+    }
+    if is_relative(names.vocab()) {
+        return Some(Kind::RelativeVocab);
+    }
+    match attribute(tag, "property") {
+        Some(_property) => markup_of(names, attribute(tag, "datatype")),
+        None => None,
+    }
+}
+
+/// The kind of markup that a literal with this attribute `datatype` is, if it is any.
+fn markup_of(names: &NamesView<'_>, value: Option<&str>) -> Option<Kind>
+    ensures line { (line : List StartTag) → Stands (names_seen names.now) line
+        → result ≡ option_map kind_of (markup_of (names_seen names.now).context line (seen_slice value.entry)) }
+    ensures kinds { kind_or_none result ≡ true }
+{
+    let Some(value) = value else {
+        return None;
+    };
+    match read_term(names, trim(value)) {
+        Some(datatype) => markup(datatype),
+        None => None,
+    }
+}
+
+/// The kind of markup that the reading names as a datatype, if it is any.
+fn markup(datatype: Reading<'_>) -> Option<Kind>
+    ensures value { result ≡ option_map kind_of (markup (the.iri_of (reading_seen datatype.entry))) }
+    ensures kinds { kind_or_none result ≡ true }
+{
+    if makes(
+        datatype,
+        "http://www.w3.org/1999/02/22-rdf-syntax-ns#XMLLiteral",
+    ) {
+        return Some(Kind::XmlLiteral);
+    }
+    if makes(datatype, "http://www.w3.org/1999/02/22-rdf-syntax-ns#HTML") {
+        return Some(Kind::HtmlLiteral);
+    }
+    None
+}
+
+/// Whether the reading makes this IRI, which is ASCII and has neither escapes nor what is to be escaped.
+fn makes(reading: Reading<'_>, iri: &str) -> bool
+    requires ascii { list_all is_ascii iri.now ≡ true }
+    requires clean { list_all is_uncleaned iri.now ≡ true }
+    ensures { result ≡ is_iri (the.iri_of (reading_seen reading.entry)) iri.now }
+{
+    match reading {
+        Reading::Full(whole) => is_word(whole, iri),
+        Reading::Joined(front, more) => are_word(front, more, iri),
+        Reading::Label(_label) => false,
+        Reading::Reference(_reference) => false,
+    }
+}
+
+/// Whether the two texts, the second behind the first, are this word, which is ASCII.
+fn are_word(front: &str, more: &str, word: &str) -> bool
+    requires { list_all is_ascii word.now ≡ true }
+    ensures { result ≡ bytes_eq (chars front.now ++ chars more.now) word.now }
+{
+    match behind(word, front) {
+        Some(rest) => is_same(more, rest),
+        None => false,
+    }
+}
+
+fn is_same(a: &str, b: &str) -> bool
+    ensures { result ≡ bytes_eq (chars a.now) (chars b.now) }
+{
+    a == b
+}
