@@ -10,3 +10,5 @@ pub mod Firsts
 pub mod Walking
 pub mod Wholes
 pub mod Making
+pub mod Accepted
+pub mod Checking

@@ -8,3 +8,5 @@ pub mod Faults
 pub mod Courses
 pub mod Walks
 pub mod TagPlaces
+pub mod Accepting
+pub mod Checks

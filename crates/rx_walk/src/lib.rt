@@ -6,6 +6,7 @@ ghost use Rattle.rx_walk.specs.Seekings.{BaseIsFound};
 ghost use Rattle.rx_walk.specs.Leading.{PiecesLeadAlike};
 
 mod calls;
+mod checks;
 mod courses;
 mod evaluation;
 mod origins;
@@ -14,6 +15,7 @@ mod stages;
 mod turns;
 mod walks;
 
+pub use checks::Check;
 pub use rx_eval::Inherited;
 pub use rx_nest::{Fault, Kind, Limits, Stop, Syntax};
 pub use walks::Walk;
