@@ -25,7 +25,7 @@ use Rattle.rx_command.specs.Words.{Asked, Task, Extraction, extracts, checks}
 use Rattle.rx_walk.specs.Faults.{Refuses}
 use Rattle.rx_command.specs.declared.errors.InputError.{InputError}
 use Rattle.rx_command.specs.declared.errors.InputError.TheVariants as error
-use Rattle.rx_command.specs.Reading.{standard, Way, ReadsPage, Finds, ReadsClean, IsClean, PageGives}
+use Rattle.rx_command.specs.Reading.{standard, Way, ReadsPage, ReadsRight, Finds, ReadsClean, IsClean, PageGives}
 use Rattle.rx_command.proofs.ReadLemmas.{unread_clean}
 use Rattle.rx_command.specs.Files.{ReadsFile, TakesOf, size_of}
 use Rattle.rx_command.specs.Contexts.{IsContextFile, IsFileOf, IsContext, HasContext, TakesContext, ReadsContext, context_size, is_context}
@@ -148,9 +148,9 @@ job_refused asked file context fault e x y z c p =
 
 -- ---- what a page is
 
-pub page_right : (way : Way) (name named text : List ℕ) (list : List CodeTriple) → named ≡ name → text ≡ ok_line → (x y : Told) → ReadsPage way named list x y → PageText (checks way.syntax) way.context name text x y
-page_right way name named text list e t x y c =
-    let right : IsRight way.syntax way.context c.bytes text = record { tree = c.ended.tree; is = record { page = c.ended.page; accepted = c.ended.accepted }; spelled = t } in
+pub page_right : (way : Way) (name named text : List ℕ) → named ≡ name → text ≡ ok_line → (x y : Told) → ReadsRight way named x y → PageText (checks way.syntax) way.context name text x y
+page_right way name named text e t x y c =
+    let right : IsRight way.syntax way.context c.bytes text = record { tree = c.right.tree; is = record { page = c.right.page; accepted = c.right.accepted }; spelled = t } in
     record { bytes = c.bytes; file = sym (ap (λ n. file_of x.files n) e) ∙ c.file; gives = right; graph = right; left = c.left }
 
 pub page_text : (e : Extraction) (context : Context) (name named text : List ℕ) (list : List CodeTriple) → named ≡ name
@@ -226,10 +226,10 @@ gives_no_context way name e told now g is = subst (λ x. PageGives way name (Err
 
 -- what a call gives
 
-pub if_right : {V E : Type 0} (items : V → List ℕ) (r : Result V E) (way : Way) (name named : List ℕ) (list : List CodeTriple) (told now : Option Told) → named ≡ name → IfOk r (λ text. items text ≡ ok_line) → Moves (ReadsPage way named list) told now
+pub if_right : {V E : Type 0} (items : V → List ℕ) (r : Result V E) (way : Way) (name named : List ℕ) (told now : Option Told) → named ≡ name → IfOk r (λ text. items text ≡ ok_line) → Moves (ReadsRight way named) told now
     → IfOk r (λ text. Moves (PageText (checks way.syntax) way.context name (items text)) told now)
-if_right items (Ok text) way name named list told now e t m = moves_weaker (PageText (checks way.syntax) way.context name (items text)) (λ x y c. page_right way name named (items text) list e t x y c) m
-if_right items (Err error) way name named list told now e t m = tt
+if_right items (Ok text) way name named told now e t m = moves_weaker (PageText (checks way.syntax) way.context name (items text)) (λ x y c. page_right way name named (items text) e t x y c) m
+if_right items (Err error) way name named told now e t m = tt
 
 pub if_job : {V E : Type 0} (items : V → List ℕ) (r : Result V E) (asked : Asked) (file : Option (List ℕ)) (context : Context) (told mid now : Option Told) → file ≡ asked.context → Moves (ReadsContext file context) told mid
     → IfOk r (λ text. Moves (PageText asked.task context (encode_utf8_all asked.page) (items text)) mid now) → IfOk r (λ text. Moves (JobText asked (items text)) told now)

@@ -21,6 +21,7 @@ use Rattle.rx_command.specs.Reading.{standard, Way, EndGives}
 use Rattle.rx_command.specs.Outcome.{check_address, IsAccepted}
 use Rattle.rx_command.specs.Samples.{head, item_before, item_behind, items_to, cut_in, sample_page, tail, depth_at, open_after, larger, deepest, deepest_in, triples_in, line_with, line_for, IsSample, SampleRefuses}
 use Rattle.rx_walk.specs.Faults.{Refuses}
+use Rattle.rx_command.specs.declared.readers.Reader.TheVariants as reader
 use Rattle.rx_command.specs.declared.errors.InputError.{InputError}
 use Rattle.rx_command.specs.declared.errors.InputError.TheVariants as error
 use Rattle.rx_command.specs.Feeding.{Fed, FedTo, TakeGives, ItemGives, WholeGives}
@@ -57,7 +58,7 @@ depth_is walk bytes s =
     sym (ap open_after shown.at.read ∙ ap (λ x. length (line_of [] x)) signs_are)
 
 pub size_fits : (walk : Walked) (bytes : List ℕ) → Stands Html standard names.standard check_address walk bytes → length bytes ≤ 1073741824
-size_fits walk bytes s = not_longer sample_way walk bytes s
+size_fits walk bytes s = not_longer sample_way (reader.Walks walk) bytes s
 
 -- ---- the line
 

@@ -1,5 +1,5 @@
 -- Reading a page as its bytes come.
-use Rattle.std.specs.Prelude.{◌≡◌, ℕ, ◌+◌, ◌≤◌, List, [], ◌++◌, length, Option, Some, Result, Ok, Err}
+use Rattle.std.specs.Prelude.{◌≡◌, ℕ, Bool, true, false, ◌+◌, ◌≤◌, List, [], ◌++◌, length, Option, Some, Result, Ok, Err}
 use Rattle.rx_terms.specs.Text.{Chars}
 use Rattle.rx_terms.specs.declared.triples.Triple.{Triple as CodeTriple}
 use Rattle.rx_chars.specs.declared.syntax.Syntax.{Syntax}
@@ -7,12 +7,18 @@ use Rattle.rx_grammar.specs.declared.faults.Fault.{Fault}
 use Rattle.rx_grammar.specs.declared.faults.Kind.TheVariants.{Unended}
 use Rattle.rx_grammar.specs.declared.limits.Limits.{Limits}
 use Rattle.rx_rdfa.specs.Names.{Context}
-use Rattle.rx_walk.specs.Faults.{Refuses}
-use Rattle.rx_walk.specs.Walks.{Walked, Stands, Ended}
+use Rattle.rx_tags.specs.declared.stops.Stop.{Stop}
+use Rattle.rx_walk.specs.Faults.{Refuses, StopGives}
+use Rattle.rx_walk.specs.Walks as walk
+use Rattle.rx_walk.specs.Walks.{Ended}
+use Rattle.rx_walk.specs.Checks as check
+use Rattle.rx_walk.specs.Checks.{Accepted}
 use Rattle.rx_ports.specs.Files.{file_of}
 use Rattle.rx_ports.specs.Told.{Told, Moves}
 use Rattle.rx_command.specs.declared.errors.InputError.{InputError}
 use Rattle.rx_command.specs.declared.errors.InputError.TheVariants as error
+use Rattle.rx_command.specs.declared.readers.Reader.{Reader}
+use Rattle.rx_command.specs.declared.readers.Reader.TheVariants as reader
 
 -- 512 levels, tags of 1 MiB, pages of 1 GiB
 abbrev pub standard : Limits
@@ -28,9 +34,20 @@ pub record Way : Type 0 where
   pub context : Context
   pub address : Chars
 
--- the walk stands where these bytes of a page lead
-abbrev pub Reached : Way → Walked → List ℕ → Type 0
-Reached way v bytes = Stands way.syntax standard way.context way.address v bytes
+-- the page's triples are wanted
+abbrev pub walks : Reader → Bool
+walks (reader.Walks v) = true
+walks (reader.Checks v) = false
+
+-- the reader stands where these bytes of a page lead; a check knows no address
+abbrev pub Reached : Way → Reader → List ℕ → Type 0
+Reached way (reader.Walks v) bytes = walk.Stands way.syntax standard way.context way.address v bytes
+Reached way (reader.Checks v) bytes = check.Stands way.syntax standard way.context v bytes
+
+-- a piece was taken, or stops the reader
+abbrev pub FeedGives : Way → List ℕ → List ℕ → Result (Unit {0}) Stop → Reader → Type 0
+FeedGives way bytes piece (Ok done) new = Reached way new (bytes ++ piece)
+FeedGives way bytes piece (Err why) new = StopGives way.syntax standard way.context (bytes ++ piece) why
 
 -- the bytes have this fault, the first of their form and of what their tags mean
 abbrev pub HasFirst : Way → List ℕ → Fault → Type 0
@@ -54,7 +71,7 @@ pub record AddsNone (old new : Told) : Type 0 where
   pub taken : new.taken ≡ old.taken
 
 -- a read gave some bytes, which were taken
-abbrev pub NextGives : Way → List ℕ → Result ℕ InputError → Walked → Option Told → Option Told → Type 0
+abbrev pub NextGives : Way → List ℕ → Result ℕ InputError → Reader → Option Told → Option Told → Type 0
 NextGives way bytes (Ok n) new before now = (more : List ℕ) × (length more ≡ n) × Reached way new (bytes ++ more) × Moves (Adds more) before now
 NextGives way bytes (Err (error.Refused fault)) new before now = (more : List ℕ) × (length more ≤ largest_piece) × Decides way bytes more fault × Moves (Adds more) before now
 NextGives way bytes (Err error.Failed) new before now = Moves AddsNone before now
@@ -69,12 +86,23 @@ EndGives way bytes (Err error.Failed) = ⊥
 EndGives way bytes (Err error.BadContext) = ⊥
 EndGives way bytes (Err error.NoMemory) = Unit {0}
 
+abbrev pub CheckEnds : Way → List ℕ → Result (Unit {0}) InputError → Type 0
+CheckEnds way bytes (Ok done) = Accepted way.syntax standard way.context bytes
+CheckEnds way bytes (Err why) = EndGives way bytes (Err why)
+
 -- The file was read to its end, and is a page with this list of triples.
 pub record ReadsPage (way : Way) (name : List ℕ) (list : List CodeTriple) (old new : Told) : Type 0 where
   pub bytes : List ℕ
   pub file : file_of old.files name ≡ Some bytes
   pub left : new.left ≡ []
   pub ended : Ended way.syntax standard way.context way.address bytes list
+
+-- The file was read to its end, and is a page of which no start tag is refused.
+pub record ReadsRight (way : Way) (name : List ℕ) (old new : Told) : Type 0 where
+  pub bytes : List ℕ
+  pub file : file_of old.files name ≡ Some bytes
+  pub left : new.left ≡ []
+  pub right : Accepted way.syntax standard way.context bytes
 
 -- The file has this fault, and was read no further than a piece past it.
 pub record Finds (way : Way) (name : List ℕ) (fault : Fault) (old new : Told) : Type 0 where
@@ -100,18 +128,18 @@ pub record IsFile (name bytes : List ℕ) (old new : Told) : Type 0 where
   pub left : new.left ≡ []
   pub taken : new.taken ≡ old.taken + length bytes
 
--- the walk is before the first byte of a page
-pub record Starts (v : Walked) : Type 0 where
+-- the reader is before the first byte of a page
+pub record Starts (v : Reader) : Type 0 where
   pub way : Way
   pub reached : Reached way v []
 
--- the walk stands where the whole file leads
-pub record Fed (way : Way) (name : List ℕ) (v : Walked) (before now : Option Told) : Type 0 where
+-- the reader stands where the whole file leads
+pub record Fed (way : Way) (name : List ℕ) (v : Reader) (before now : Option Told) : Type 0 where
   pub bytes : List ℕ
   pub reached : Reached way v bytes
   pub read : Moves (IsFile name bytes) before now
 
-abbrev pub FileGives : Way → List ℕ → Result (Unit {0}) InputError → Walked → Option Told → Option Told → Type 0
+abbrev pub FileGives : Way → List ℕ → Result (Unit {0}) InputError → Reader → Option Told → Option Told → Type 0
 FileGives way name (Ok done) v before now = Fed way name v before now
 FileGives way name (Err (error.Refused fault)) v before now = Moves (Finds way name fault) before now
 FileGives way name (Err error.Failed) v before now = Moves (ReadsClean way name) before now
@@ -124,3 +152,8 @@ PageGives way name (Err (error.Refused fault)) before now = Moves (Finds way nam
 PageGives way name (Err error.Failed) before now = Moves (ReadsClean way name) before now
 PageGives way name (Err error.BadContext) before now = ⊥
 PageGives way name (Err error.NoMemory) before now = Unit {0}
+
+-- a check of a page is stopped by what stops the reading of its triples
+abbrev pub CheckGives : Way → List ℕ → Result (Unit {0}) InputError → Option Told → Option Told → Type 0
+CheckGives way name (Ok done) before now = Moves (ReadsRight way name) before now
+CheckGives way name (Err why) before now = PageGives way name (Err why) before now

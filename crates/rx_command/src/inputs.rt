@@ -16,7 +16,7 @@ use crate::errors::InputError;
 use crate::extract::text_of;
 use crate::files::{ReadError, read_file};
 use crate::jobs::Job;
-use crate::pages::{Approach, read_page};
+use crate::pages::{Approach, check_page, read_page};
 use rx_names::{Context, ContextError};
 use rx_ports::Shelf;
 use rx_terms::{Iri, IriError, NoMemory, Text};
@@ -140,8 +140,8 @@ fn check<F: Shelf>(
     ensures cleanly { IsErrOf result InputError.Failed → Moves (ReadsClean (way_of approach) (encode_utf8_all page.now)) (F.told shelf.old) (F.told shelf.new) }
     ensures later { F.faults shelf.old ≤ F.faults shelf.new }
 {
-    match read_page(alloc, shelf, page.as_str(), approach) {
-        Ok(_list) => ok_text(alloc),
+    match check_page(alloc, shelf, page.as_str(), approach) {
+        Ok(()) => ok_text(alloc),
         Err(error) => Err(error),
     }
 }

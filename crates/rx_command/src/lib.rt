@@ -13,6 +13,7 @@ mod inputs;
 mod jobs;
 mod options;
 mod pages;
+mod readers;
 mod samples;
 mod statuses;
 #[cfg(test)]

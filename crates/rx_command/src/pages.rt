@@ -1,16 +1,17 @@
 //! Reading a page as its bytes come.
-ghost use Rattle.std.specs.Prelude.{◌≡◌, ◌<◌, ◌≤◌, ◌⊎◌, ℕ, List, [], IfOk, IsErrOf, length};
+ghost use Rattle.std.specs.Prelude.{◌≡◌, ◌<◌, ◌≤◌, ◌⊎◌, ℕ, List, [], IfOk, OnOk, IsErrOf, length, true, false};
 ghost use Rattle.rx_ports.specs.Counts.{Rose};
 ghost use Rattle.rx_ports.specs.Told.{Moves, Lacks};
-ghost use Rattle.rx_command.specs.Reading.{Way, Reached, Starts, NextGives, EndGives, FileGives, PageGives};
+ghost use Rattle.rx_command.specs.Reading.{Way, Reached, Starts, NextGives, EndGives, CheckEnds, FileGives, PageGives, CheckGives, walks};
 ghost use Rattle.rx_command.specs.Files.{TakesSome, TakesOf};
 ghost use Rattle.rx_command.specs.Ways.{way_of};
 
 use crate::errors::InputError;
+use crate::readers::Reader;
 use rx_names::Context;
 use rx_ports::Shelf;
 use rx_terms::{Iri, TripleList};
-use rx_walk::{Limits, Stop, Syntax, Walk};
+use rx_walk::{Check, Limits, Stop, Syntax, Walk};
 use std::alloc::Global;
 
 /// How a page is read: its syntax, the names that hold in it, and its address.
@@ -45,24 +46,51 @@ pub(crate) fn read_page<F: Shelf>(
         context,
         address,
     } = approach;
-    let Ok(mut walk) = Walk::new(alloc, syntax, context, address, Limits::standard()) else {
+    let Ok(walk) = Walk::new(alloc, syntax, context, address, Limits::standard()) else {
         return Err(InputError::NoMemory);
     };
-    match feed_file(alloc, shelf, name, &mut walk) {
-        Ok(()) => list_of(walk),
+    let mut reader = Reader::Walks(walk);
+    match feed_file(alloc, shelf, name, &mut reader) {
+        Ok(()) => list_of(reader),
         Err(error) => Err(error),
     }
 }
 
-// Feeds the walk the whole file.
+/// Reads a page as [`read_page`] does, but only for its faults: the address doesn't matter then, and no triples are made.
+pub(crate) fn check_page<F: Shelf>(
+    alloc: Global,
+    shelf: &mut F,
+    name: &str,
+    approach: Approach,
+) -> Result<(), InputError>
+    ensures gives { CheckGives (way_of approach) name.now result (F.told shelf.old) (F.told shelf.new) }
+    ensures takes { Moves (TakesOf name.now 1073807359) (F.told shelf.old) (F.told shelf.new) }
+    ensures later { F.faults shelf.old ≤ F.faults shelf.new }
+    ensures failed { IsErrOf result InputError.Failed → Rose (F.faults shelf.old) (F.faults shelf.new) ⊎ Lacks (F.told shelf.old) name.now }
+{
+    let Approach {
+        syntax, context, ..
+    } = approach;
+    let Ok(check) = Check::new(alloc, syntax, context, Limits::standard()) else {
+        return Err(InputError::NoMemory);
+    };
+    let mut reader = Reader::Checks(check);
+    match feed_file(alloc, shelf, name, &mut reader) {
+        Ok(()) => checked(reader),
+        Err(error) => Err(error),
+    }
+}
+
+// Feeds the reader the whole file.
 fn feed_file<F: Shelf>(
     alloc: Global,
     shelf: &mut F,
     name: &str,
-    walk: &mut Walk,
+    reader: &mut Reader,
 ) -> Result<(), InputError>
-    requires { Starts walk.old }
-    ensures gives { (way : Way) → Reached way walk.old [] → FileGives way name.now result walk.new (F.told shelf.old) (F.told shelf.new) }
+    requires { Starts reader.old }
+    ensures gives { (way : Way) → Reached way reader.old [] → FileGives way name.now result reader.new (F.told shelf.old) (F.told shelf.new) }
+    ensures same { OnOk result (walks reader.new ≡ walks reader.old) }
     ensures takes { Moves (TakesOf name.now 1073807359) (F.told shelf.old) (F.told shelf.new) }
     ensures later { F.faults shelf.old ≤ F.faults shelf.new }
     ensures failed { IsErrOf result InputError.Failed → Rose (F.faults shelf.old) (F.faults shelf.new) ⊎ Lacks (F.told shelf.old) name.now }
@@ -75,7 +103,7 @@ fn feed_file<F: Shelf>(
     };
     let mut taken = 0;
     while taken <= LARGEST_PAGE {
-        match feed_next(shelf, walk, &mut piece[..]) {
+        match feed_next(shelf, reader, &mut piece[..]) {
             Ok(0) => return Ok(()),
             Ok(count) => taken += count,
             Err(error) => return Err(error),
@@ -87,12 +115,13 @@ fn feed_file<F: Shelf>(
 // Reads on once, and takes what was read.
 fn feed_next<F: Shelf>(
     shelf: &mut F,
-    walk: &mut Walk,
+    reader: &mut Reader,
     piece: &mut [u8],
 ) -> Result<usize, InputError>
     requires { 0 < length piece.old }
     ensures bound { IfOk result (λ n. n ≤ length piece.new) }
-    ensures gives { (way : Way) (bytes : List ℕ) → Reached way walk.old bytes → length piece.old ≤ 65536 → NextGives way bytes result walk.new (F.told shelf.old) (F.told shelf.new) }
+    ensures gives { (way : Way) (bytes : List ℕ) → Reached way reader.old bytes → length piece.old ≤ 65536 → NextGives way bytes result reader.new (F.told shelf.old) (F.told shelf.new) }
+    ensures same { OnOk result (walks reader.new ≡ walks reader.old) }
     ensures takes { Moves (TakesSome (length piece.old)) (F.told shelf.old) (F.told shelf.new) }
     ensures later { F.faults shelf.old ≤ F.faults shelf.new }
     ensures failed { IsErrOf result InputError.Failed → Rose (F.faults shelf.old) (F.faults shelf.new) }
@@ -100,20 +129,42 @@ fn feed_next<F: Shelf>(
     let Ok(count) = shelf.read(piece) else {
         return Err(InputError::Failed);
     };
-    match walk.feed(&piece[..count]) {
+    match reader.feed(&piece[..count]) {
         Ok(()) => Ok(count),
         Err(Stop::Fault(fault)) => Err(InputError::Refused(fault)),
         Err(Stop::NoMemory) => Err(InputError::NoMemory),
     }
 }
 
-// The page's end.
-pub(crate) fn list_of(walk: Walk) -> Result<TripleList, InputError>
-    ensures gives { (way : Way) (bytes : List ℕ) → Reached way walk bytes → EndGives way bytes result }
+// The page's end, where its triples are wanted.
+pub(crate) fn list_of(reader: Reader) -> Result<TripleList, InputError>
+    requires { walks reader ≡ true }
+    ensures gives { (way : Way) (bytes : List ℕ) → Reached way reader bytes → EndGives way bytes result }
     ensures reads_none { IsErrOf result InputError.Failed → ⊥ }
 {
+    let walk = match reader {
+        Reader::Walks(walk) => walk,
+        Reader::Checks(_check) => unreachable!(),
+    };
     match walk.finish() {
         Ok(list) => Ok(list),
+        Err(Stop::Fault(fault)) => Err(InputError::Refused(fault)),
+        Err(Stop::NoMemory) => Err(InputError::NoMemory),
+    }
+}
+
+// The page's end, where only its faults are wanted.
+fn checked(reader: Reader) -> Result<(), InputError>
+    requires { walks reader ≡ false }
+    ensures gives { (way : Way) (bytes : List ℕ) → Reached way reader bytes → CheckEnds way bytes result }
+    ensures reads_none { IsErrOf result InputError.Failed → ⊥ }
+{
+    let check = match reader {
+        Reader::Walks(_walk) => unreachable!(),
+        Reader::Checks(check) => check,
+    };
+    match check.finish() {
+        Ok(()) => Ok(()),
         Err(Stop::Fault(fault)) => Err(InputError::Refused(fault)),
         Err(Stop::NoMemory) => Err(InputError::NoMemory),
     }

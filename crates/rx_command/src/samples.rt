@@ -12,6 +12,7 @@ use crate::errors::InputError;
 use crate::extract::graph_of;
 use crate::inputs::localhost;
 use crate::pages::list_of;
+use crate::readers::Reader;
 use rx_names::Context;
 use rx_nquads::text;
 use rx_terms::{NoMemory, TripleList};
@@ -55,7 +56,7 @@ pub(crate) fn sample(alloc: Global, count: u32) -> Result<Vec<u8>, InputError>
         depth,
         ..
     } = feeding;
-    let list = match list_of(walk) {
+    let list = match list_of(Reader::Walks(walk)) {
         Ok(list) => list,
         Err(error) => return Err(error),
     };

@@ -17,3 +17,5 @@ pub mod NumberedPages
 pub mod QuietReading
 pub mod Idling
 pub mod Quieting
+pub mod Accepted
+pub mod Checking

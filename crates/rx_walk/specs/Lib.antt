@@ -12,3 +12,5 @@ pub mod FaultPlaces
 pub mod KeptTexts
 pub mod Numberings
 pub mod Quiets
+pub mod Accepting
+pub mod Checks

@@ -8,6 +8,7 @@ ghost use Rattle.rx_walk.specs.KeptTexts.{KeepsOneText};
 ghost use Rattle.rx_walk.specs.Numberings.{IsNumbered};
 
 mod calls;
+mod checks;
 mod courses;
 mod evaluation;
 mod origins;
@@ -16,6 +17,7 @@ mod stages;
 mod turns;
 mod walks;
 
+pub use checks::Check;
 pub use rx_eval::Inherited;
 pub use rx_nest::{Fault, Kind, Limits, Stop, Syntax};
 pub use walks::Walk;

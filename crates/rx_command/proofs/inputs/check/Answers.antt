@@ -8,7 +8,7 @@ use Rattle.rx_command.proofs.InputLemmas.{if_right, page_found, gives_refused, g
 use Rattle.rx_command.proofs.inputs.check.Goals as goal
 
 pub returns-in-Ok-clause-ok : goal.returns-in-Ok-clause-ok
-returns-in-Ok-clause-ok g c = if_right (λ text. text.items) c.ok_text.result (way_of c.args.approach) _ _ c.in-Ok._list _ _ c.as_str.ensures.bytes c.ok_text.ensures.ok c.in-Ok.ensures.gives
+returns-in-Ok-clause-ok g c = if_right (λ text. text.items) c.ok_text.result (way_of c.args.approach) _ _ _ _ c.as_str.ensures.bytes c.ok_text.ensures.ok c.in-Ok.ensures.gives
 
 pub returns-in-Err-clause-refused : goal.returns-in-Err-clause-refused
 returns-in-Err-clause-refused g c fault is =

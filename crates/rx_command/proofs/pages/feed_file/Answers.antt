@@ -1,4 +1,4 @@
-use Rattle.std.proofs.Common.{arith, rules, ◌≤◌, ◌+◌, [], length, refl}
+use Rattle.std.proofs.Common.{arith, rules, ◌≡◌, ◌∙◌, ◌≤◌, ◌+◌, List, [], ℕ, length, refl, Ok, Err}
 use Rattle.rx_ports.proofs.MoveLemmas.{moves_weaker, moves_then}
 use Rattle.rx_command.specs.Files.{HasRead, TakesOf}
 use Rattle.rx_command.specs.Reading.{ReadsClean}
@@ -24,13 +24,17 @@ loop-taken-init g c =
         read = moves_weaker (HasRead c.args.name.now []) (λ x y s. read_start c.args.name.now [] x y refl s) c.in-Ok-start_file.ensures.told;
       };
       later = c.in-Ok-start_file.ensures.later;
+      same = refl;
     }
 
 pub returns-in-Ok-eq0-clause-gives : goal.returns-in-Ok-eq0-clause-gives
 returns-in-Ok-eq0-clause-gives g c way r =
     let s = c.loop-taken.invariant.so_far way r in
     let small : length c.deref_mut.result.now ≤ 65536 = omega (arith, c.deref_mut.ensures.len, c.loop-taken.invariant.piece) in
-    file_fed way c.args.name.now c.loop-taken.walk c.feed_next.new.walk c.loop-taken.taken c.in-Ok-eq0.field-0 _ _ _ s (c.in-Ok-eq0.ensures.gives way s.bytes s.reached small) c.in-Ok-eq0.field-0-test
+    file_fed way c.args.name.now c.loop-taken.reader c.feed_next.new.reader c.loop-taken.taken c.in-Ok-eq0.field-0 _ _ _ s (c.in-Ok-eq0.ensures.gives way s.bytes s.reached small) c.in-Ok-eq0.field-0-test
+
+pub returns-in-Ok-eq0-clause-same : goal.returns-in-Ok-eq0-clause-same
+returns-in-Ok-eq0-clause-same g c = c.in-Ok-eq0.ensures.same ∙ c.loop-taken.invariant.same
 
 pub returns-in-Ok-eq0-clause-takes : goal.returns-in-Ok-eq0-clause-takes
 returns-in-Ok-eq0-clause-takes g c =
@@ -46,15 +50,16 @@ loop-taken-preserved g c =
       most = omega (arith, c.loop-taken-test.true, c.in-Ok-feed_next.ensures.bound, c.feed_next.auto.piece, c.deref_mut.ensures.len, c.loop-taken.invariant.piece);
       so_far = λ way r.
           let s = c.loop-taken.invariant.so_far way r in
-          more_so_far way c.args.name.now c.loop-taken.walk c.feed_next.new.walk c.loop-taken.taken c.in-Ok-feed_next.count _ _ _ s (c.in-Ok-feed_next.ensures.gives way s.bytes s.reached small);
+          more_so_far way c.args.name.now c.loop-taken.reader c.feed_next.new.reader c.loop-taken.taken c.in-Ok-feed_next.count _ _ _ s (c.in-Ok-feed_next.ensures.gives way s.bytes s.reached small);
       later = omega (arith, c.loop-taken.invariant.later, c.in-Ok-feed_next.ensures.later);
+      same = c.in-Ok-feed_next.ensures.same ∙ c.loop-taken.invariant.same;
     }
 
 pub returns-in-Err-clause-gives : goal.returns-in-Err-clause-gives
 returns-in-Err-clause-gives g c way r =
     let s = c.loop-taken.invariant.so_far way r in
     let small : length c.deref_mut.result.now ≤ 65536 = omega (arith, c.deref_mut.ensures.len, c.loop-taken.invariant.piece) in
-    next_file way c.args.name.now c.loop-taken.walk c.feed_next.new.walk c.loop-taken.taken c.in-Err.error _ _ _ s (c.in-Err.ensures.gives way s.bytes s.reached small)
+    next_file way c.args.name.now c.loop-taken.reader c.feed_next.new.reader c.loop-taken.taken c.in-Err.error _ _ _ s (c.in-Err.ensures.gives way s.bytes s.reached small)
 
 pub returns-in-Err-clause-takes : goal.returns-in-Err-clause-takes
 returns-in-Err-clause-takes g c =
@@ -65,5 +70,5 @@ returns-in-Err-clause-takes g c =
 pub unreachable-requires : goal.unreachable-requires
 unreachable-requires g c =
     let s = c.loop-taken.invariant.so_far c.requires.way c.requires.reached in
-    let small = not_longer c.requires.way c.loop-taken.walk s.bytes s.reached in
+    let small = not_longer c.requires.way c.loop-taken.reader s.bytes s.reached in
     omega (arith, small, s.size, c.loop-taken-test.false)

@@ -1,12 +1,19 @@
-use Rattle.rx_command.specs.Reading.{standard}
+use Rattle.std.proofs.Common.{◌≡◌, ◌∙◌, true, false, sym, ap, subst}
+use Rattle.rx_command.specs.declared.readers.Reader.{Reader}
+use Rattle.rx_command.specs.declared.readers.Reader.TheVariants as reader
+use Rattle.rx_command.specs.Reading.{standard, Reached, walks}
 use Rattle.rx_command.proofs.ReadLemmas.{end_refused}
 use Rattle.rx_command.proofs.pages.list_of.Goals as goal
 
+pub unreachable-requires : goal.unreachable-requires
+unreachable-requires c = let both : true ≡ false = sym c.requires ∙ ap walks c.in-Checks.is in absurd (cc both)
+
 pub returns-in-Ok-clause-gives : goal.returns-in-Ok-clause-gives
-returns-in-Ok-clause-gives c way bytes r = c.in-Ok.ensures.gives way.syntax standard way.context way.address bytes r
+returns-in-Ok-clause-gives c way bytes r =
+    c.in-Ok.ensures.gives way.syntax standard way.context way.address bytes (subst (λ (v : Reader). Reached way v bytes) c.in-Walks.is r)
 
 pub returns-in-Err-Fault-clause-gives : goal.returns-in-Err-Fault-clause-gives
 returns-in-Err-Fault-clause-gives c way bytes r =
     let ends = rw c.in-Err-Fault.field-0-is at c.in-Err-Fault.ensures.gives in
-    let e = ends way.syntax standard way.context way.address bytes r in
-    (end_refused way c.args.walk bytes c.in-Err-Fault.fault r e.0, e.2)
+    let e = ends way.syntax standard way.context way.address bytes (subst (λ (v : Reader). Reached way v bytes) c.in-Walks.is r) in
+    (end_refused way c.args.reader bytes c.in-Err-Fault.fault r e.0, e.2)

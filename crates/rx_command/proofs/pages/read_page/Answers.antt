@@ -7,15 +7,18 @@ feed_file-requires g c =
     let limits = limits_are c.standard.result c.standard.ensures.depth c.standard.ensures.tag c.standard.ensures.page in
     record { way = way_of c.args.approach; reached = start_reached (way_of c.args.approach) c.standard.result c.in-Ok.walk limits c.in-Ok.ensures }
 
+pub list_of-requires : goal.list_of-requires
+list_of-requires g c = c.in-Ok-feed_file.ensures.same
+
 pub returns-in-Ok-feed_file-clause-gives : goal.returns-in-Ok-feed_file-clause-gives
 returns-in-Ok-feed_file-clause-gives g c =
     let limits = limits_are c.standard.result c.standard.ensures.depth c.standard.ensures.tag c.standard.ensures.page in
     let way = way_of c.args.approach in
     let fed = c.in-Ok-feed_file.ensures.gives way (start_reached way c.standard.result c.in-Ok.walk limits c.in-Ok.ensures) in
-    fed_ends way c.args.name.now c.feed_file.new.walk _ _ fed c.list_of.result (c.list_of.ensures.gives way fed.bytes fed.reached)
+    fed_ends way c.args.name.now c.feed_file.new.reader _ _ fed c.list_of.result (c.list_of.ensures.gives way fed.bytes fed.reached)
 
 pub returns-in-Err-clause-gives : goal.returns-in-Err-clause-gives
 returns-in-Err-clause-gives g c =
     let limits = limits_are c.standard.result c.standard.ensures.depth c.standard.ensures.tag c.standard.ensures.page in
     let way = way_of c.args.approach in
-    file_page way c.args.name.now c.feed_file.new.walk _ _ c.in-Err.error (c.in-Err.ensures.gives way (start_reached way c.standard.result c.in-Ok.walk limits c.in-Ok.ensures))
+    file_page way c.args.name.now c.feed_file.new.reader _ _ c.in-Err.error (c.in-Err.ensures.gives way (start_reached way c.standard.result c.in-Ok.walk limits c.in-Ok.ensures))

@@ -1,0 +1,13 @@
+use Rattle.std.proofs.Common.{◌≡◌, subst}
+use Rattle.rx_command.specs.declared.readers.Reader.{Reader}
+use Rattle.rx_command.specs.Reading.{standard, Reached}
+use Rattle.rx_command.proofs.ReadLemmas.{walk_fed, check_fed}
+use Rattle.rx_command.proofs.readers.Reader.feed.Goals as goal
+
+pub returns-in-Walks-clause-gives : goal.returns-in-Walks-clause-gives
+returns-in-Walks-clause-gives c way bytes r =
+    walk_fed way bytes c.args.piece.now c.feed.result c.feed.new.self (c.feed.ensures.gives way.syntax standard way.context way.address bytes (subst (λ (v : Reader). Reached way v bytes) c.in-Walks.is r))
+
+pub returns-in-Checks-clause-gives : goal.returns-in-Checks-clause-gives
+returns-in-Checks-clause-gives c way bytes r =
+    check_fed way bytes c.args.piece.now c.feed-2.result c.feed-2.new.self (c.feed-2.ensures.gives way.syntax standard way.context bytes (subst (λ (v : Reader). Reached way v bytes) c.in-Checks.is r))

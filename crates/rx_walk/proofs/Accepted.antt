@@ -1,0 +1,79 @@
+-- What becomes of signs that are accepted.
+use Rattle.std.proofs.Common.{◌≡◌, ◌∙◌, true, false, List, [], ◌∷◌, ◌++◌, map, refl, sym, ap, subst, Option, Some, None}
+use Rattle.std.specs.Option.{option_or}
+use Rattle.std.specs.Prelude.{option_map}
+use Rattle.rx_terms.specs.Text.{Chars}
+use Rattle.rx_grammar.specs.declared.faults.Fault.{Fault}
+use Rattle.rx_grammar.specs.declared.faults.Kind.{Kind}
+use Rattle.rx_grammar.specs.Trees.{StartTag}
+use Rattle.rx_rdfa.specs.Names.{Context}
+use Rattle.rx_rdfa.specs.Refusals.{Refusal}
+use Rattle.rx_rdfa.specs.Tree.{Tag}
+use Rattle.rx_names.specs.Lines as names
+use Rattle.rx_names.specs.Lines.{Kept, no_tags}
+use Rattle.rx_curie.specs.Given.{kind_of}
+use Rattle.rx_nest.specs.Signs.{Sign, begun, said}
+use Rattle.rx_walk.specs.Lines.{around, line_on, line_of}
+use Rattle.rx_walk.specs.Refused.{fault_of, refused_at, refused_in}
+use Rattle.rx_walk.specs.Courses.{AllAbsolute}
+use Rattle.rx_walk.specs.Accepting.{Accepts}
+use Rattle.rx_walk.proofs.Signed.{line_append, refused_append, said_line, said_refused}
+
+or_none : (o : Option Fault) → option_or o None ≡ o
+or_none None = refl
+or_none (Some x) = refl
+
+pub absolute_around : (line : List Tag) → AllAbsolute line → AllAbsolute (around line)
+absolute_around [] a = tt
+absolute_around (t ∷ line) a = a.1
+
+pub accepts_none : (context : Context) (kept : Kept) → kept ≡ no_tags context → names.Stands kept [] → Accepts context kept []
+accepts_none context kept e s = record { names_are = s; context_is = ap (λ (k : Kept). k.context) e; absolute = tt; accepted = refl }
+
+module _ (context : Context) (old : Kept) (signs : List Sign) (r : Accepts context old signs) where
+  refused_one : (sign : Sign) → refused_in context [] (signs ++ sign ∷ []) ≡ refused_at context (line_of [] signs) sign
+  refused_one sign =
+      refused_append context [] signs (sign ∷ []) ∙ (ap (λ x. option_or x (refused_in context (line_of [] signs) (sign ∷ []))) r.accepted
+      ∙ or_none (refused_at context (line_of [] signs) sign))
+
+  -- one more sign
+  pub accepts_more : (new : Kept) (sign : Sign) → names.Stands new (line_on (line_of [] signs) sign) → new.context ≡ old.context → AllAbsolute (line_on (line_of [] signs) sign)
+      → refused_at context (line_of [] signs) sign ≡ None → Accepts context new (signs ++ sign ∷ [])
+  accepts_more new sign n c a e =
+      let line : line_of [] (signs ++ sign ∷ []) ≡ line_on (line_of [] signs) sign = line_append [] signs (sign ∷ []) in
+      record {
+        names_are = subst (λ l. names.Stands new l) (sym line) n;
+        context_is = c ∙ r.context_is;
+        absolute = subst AllAbsolute (sym line) a;
+        accepted = refused_one sign ∙ e;
+      }
+
+  -- text
+  pub accepts_said : (chars : Chars) → Accepts context old (signs ++ map said chars)
+  accepts_said chars =
+      let line : line_of [] (signs ++ map said chars) ≡ line_of [] signs = line_append [] signs (map said chars) ∙ said_line (line_of [] signs) chars in
+      record {
+        names_are = subst (λ l. names.Stands old l) (sym line) r.names_are;
+        context_is = r.context_is;
+        absolute = subst AllAbsolute (sym line) r.absolute;
+        accepted =
+            refused_append context [] signs (map said chars) ∙ (ap (λ x. option_or x (refused_in context (line_of [] signs) (map said chars))) r.accepted
+            ∙ said_refused context (line_of [] signs) chars);
+      }
+
+  -- a start tag that is refused
+  pub refused_next : (new : Kept) (t : StartTag) (fault : Fault) → new.context ≡ old.context → Some fault ≡ refused_at new.context (line_of [] signs) (begun t) → refused_in context [] (signs ++ begun t ∷ []) ≡ Some fault
+  refused_next new t fault c e = refused_one (begun t) ∙ (sym (ap (λ x. refused_at x (line_of [] signs) (begun t)) (c ∙ r.context_is)) ∙ sym e)
+
+  pub accepted_next : (new : Kept) (t : StartTag) → new.context ≡ old.context → None ≡ refused_at new.context (line_of [] signs) (begun t) → refused_at context (line_of [] signs) (begun t) ≡ None
+  accepted_next new t c e = sym (ap (λ x. refused_at x (line_of [] signs) (begun t)) (c ∙ r.context_is)) ∙ sym e
+
+-- the fault of a tag that is refused
+
+pub fault_is : (k : Kind) (r : Option Refusal) (t : StartTag) → Some k ≡ option_map kind_of r → ◌≡◌ {A = Option Fault} (Some (record { kind = k; token = t.token; at = t.at })) (option_map (fault_of t) r)
+fault_is k None t e = absurd (cc)
+fault_is k (Some refused) t e = let is : k ≡ kind_of refused = cc in ap (λ z. Some (record { kind = z; token = t.token; at = t.at })) is
+
+pub no_fault_is : (r : Option Refusal) (t : StartTag) → None ≡ option_map kind_of r → ◌≡◌ {A = Option Fault} None (option_map (fault_of t) r)
+no_fault_is None t e = refl
+no_fault_is (Some refused) t e = absurd (cc)

@@ -1,0 +1,24 @@
+use Rattle.std.proofs.Common.{refl, []}
+use Rattle.rx_walk.proofs.Walking.{new_paid}
+use Rattle.rx_walk.proofs.Accepted.{accepts_none}
+use Rattle.rx_walk.proofs.checks.Check.new.Goals as goal
+
+pub invariant_of-result : goal.invariant_of-result
+invariant_of-result c unfailed unspent = (
+  record {
+    syntax = c.args.syntax;
+    limits = c.args.limits;
+    context = c.args.context;
+    bytes = [];
+    goes = record { signs = []; shown = c.in_ok-nest.ensures; accepts = accepts_none c.args.context c.in_ok-names.names c.in_ok-names.ensures.none c.in_ok-names.ensures.line };
+  },
+  new_paid c.args.syntax c.args.limits c.in_ok-nest.nest c.in_ok-nest.ensures,
+)
+
+pub returns : goal.returns
+returns c = record {
+  goes = record { signs = []; shown = c.in_ok-nest.ensures; accepts = accepts_none c.args.context c.in_ok-names.names c.in_ok-names.ensures.none c.in_ok-names.ensures.line };
+  paid = new_paid c.args.syntax c.args.limits c.in_ok-nest.nest c.in_ok-nest.ensures;
+  unfailed = refl;
+  unspent = refl;
+}
