@@ -1,5 +1,5 @@
 -- What becomes of signs that are accepted.
-use Rattle.std.proofs.Common.{◌≡◌, ◌∙◌, true, false, List, [], ◌∷◌, ◌++◌, map, refl, sym, ap, subst, Option, Some, None}
+use Rattle.std.proofs.Common.{◌≡◌, ◌∙◌, List, [], ◌∷◌, ◌++◌, map, refl, sym, ap, subst, Option, Some, None}
 use Rattle.std.specs.Option.{option_or}
 use Rattle.std.specs.Prelude.{option_map}
 use Rattle.rx_terms.specs.Text.{Chars}

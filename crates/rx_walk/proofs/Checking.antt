@@ -1,45 +1,23 @@
 -- What becomes of a check, turn by turn.
-use Rattle.std.proofs.Common.{◌≡◌, ◌∙◌, ℕ, zero, suc, ◌+◌, ◌⊎◌, inl, inr, Bool, true, false, List, [], ◌∷◌, ◌++◌, length, take, drop, refl, sym, ap, subst, Option, Some, None, Result, Ok, Err, arith, append-nil, append_assoc}
+use Rattle.std.proofs.Common.{◌≡◌, ◌∙◌, ℕ, inl, true, false, List, [], ◌++◌, take, drop, refl, sym, ap, subst, None, Result, Ok, Err, append-nil, append_assoc}
 use Rattle.rx_chars.specs.declared.syntax.Syntax.{Syntax}
-use Rattle.rx_grammar.specs.declared.faults.Fault.{Fault}
 use Rattle.rx_grammar.specs.declared.limits.Limits.{Limits}
-use Rattle.rx_grammar.specs.Trees.{StartTag}
 use Rattle.rx_rdfa.specs.Names.{Context}
 use Rattle.rx_names.specs.Lines.{Kept}
 use Rattle.rx_tags.specs.declared.stops.Stop.{Stop}
 use Rattle.rx_tags.specs.declared.stops.Stop.TheVariants as stop
 use Rattle.rx_nest.specs.declared.nests.Event.{Event}
-use Rattle.rx_nest.specs.declared.lines.Own.{Own}
-use Rattle.rx_nest.specs.declared.lines.Own.TheVariants as own
 use Rattle.rx_nest.specs.Nests as nests
 use Rattle.rx_nest.specs.Nests.{Nested, Stepped, StepGives, event_signs, is_more, left, own_left, owes_own}
-use Rattle.rx_nest.specs.Signs.{Sign, finishing, signs_of}
-use Rattle.rx_walk.specs.declared.turns.Turn.{Turn}
+use Rattle.rx_nest.specs.Signs.{Sign, signs_of}
 use Rattle.rx_walk.specs.declared.turns.Turn.TheVariants as turn
 use Rattle.rx_walk.specs.Refused.{refused_in}
 use Rattle.rx_walk.specs.Faults.{for_form, StopGives}
 use Rattle.rx_walk.specs.Walks.{OwesNone}
 use Rattle.rx_walk.specs.Accepting.{Accepts, Heard}
-use Rattle.rx_walk.specs.Checks.{Checked, Goes, Somewhere, Stands, TurnGives, PieceGives, KeepsEnd, EndGives}
+use Rattle.rx_walk.specs.Checks.{Checked, Goes, Somewhere, TurnGives, PieceGives, KeepsEnd, EndGives}
 use Rattle.rx_walk.proofs.Firsts.{no_meaning}
-use Rattle.rx_walk.proofs.Walking.{front_back, heard_fault}
-
-every : (xs : List ℕ) → take (length xs) xs ≡ xs
-every [] = refl
-every (x ∷ xs) = ap (λ r. x ∷ r) (every xs)
-
--- where nothing is due, nothing more is shown
-
-no_own : (o : Own) → own_left (Some o) ≡ 0 → ⊥
-no_own own.Nothing e = cc
-no_own own.Begin e = cc
-no_own own.Alone e = cc
-no_own own.Finish e = cc
-
-paid : (ends : ℕ) (o : Option Own) (t : StartTag) → ends + own_left o ≡ 0 → finishing ends ++ owes_own o t ≡ []
-paid zero None t h = refl
-paid zero (Some o) t h = let none : own_left (Some o) ≡ 0 = omega (arith, h) in absurd (no_own o none)
-paid (suc ends) o t h = absurd (omega (arith, h))
+use Rattle.rx_walk.proofs.Walking.{every, paid_up, front_back, heard_fault}
 
 module _ (syntax : Syntax) (limits : Limits) (context : Context) where
   -- one turn
@@ -51,7 +29,7 @@ module _ (syntax : Syntax) (limits : Limits) (context : Context) where
     pub done : (kept : Kept) → Accepts context kept (signs ++ event_signs e) → is_more e ≡ true → left nest.owed ≡ 0 → TurnGives syntax limits context bytes piece (Ok turn.Done) nest kept
     done kept r m p = (
       subst (λ l. Goes syntax limits context nest kept (bytes ++ l)) (ap (λ k. take k piece) (s.all m) ∙ every piece) (took kept r),
-      paid nest.owed.ends nest.owed.own (nests.last_tag nest.scan) p,
+      paid_up nest.owed (nests.last_tag nest.scan) p,
     )
 
     pub heard_stop : (why : Stop) (kept : Kept) → Heard context signs (event_signs e) (Err why) kept → StopGives syntax limits context (bytes ++ piece) why

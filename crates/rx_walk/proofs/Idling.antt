@@ -1,5 +1,5 @@
 -- Text that no open element gathers leaves a stage idle.
-use Rattle.std.proofs.Common.{◌≡◌, ◌∙◌, ap, Bool, false, Option, Some, Result, Ok, Err}
+use Rattle.std.proofs.Common.{◌≡◌, ◌∙◌, ap, false, Result, Ok, Err}
 use Rattle.std.specs.Prelude.{IsOk, OnOk}
 use Rattle.rx_terms.specs.Text.{Chars}
 use Rattle.rx_terms.specs.declared.texts.NoMemory.{NoMemory}

@@ -14,7 +14,7 @@ use Rattle.rx_chars.specs.Utf8.{answer_of}
 use Rattle.rx_chars.specs.Characters.{Entry, byte_order_mark, line_feed, carriage_return, as_line_end}
 use Rattle.rx_chars.proofs.Utf8Exact.{answers_from}
 use Rattle.rx_chars.proofs.Utf8Forms.{tables_agree}
-use Rattle.rx_reader.proofs.Bools.{by_test, split, both, untrue}
+use Rattle.rx_reader.proofs.Bools.{by_test, split, both}
 use Rattle.rx_grammar.specs.declared.contents.Content.{Content}
 use Rattle.rx_grammar.specs.declared.faults.Fault.{Fault}
 use Rattle.rx_grammar.specs.declared.faults.Kind.{Kind}
@@ -40,7 +40,7 @@ use Rattle.rx_nest.specs.declared.lines.Own.{Own}
 use Rattle.rx_nest.specs.declared.lines.Own.TheVariants as own
 use Rattle.rx_nest.specs.Nests as nests
 use Rattle.rx_nest.specs.Nests.{Nested, Stepped, event_signs, IsBetween}
-use Rattle.rx_nest.specs.Signs.{Sign, begun, said, finished, Sight, is_hidden, see, sees, nothing_seen, finishing}
+use Rattle.rx_nest.specs.Signs.{Sign, said, Sight, is_hidden, sees, nothing_seen, finishing}
 use Rattle.rx_nest.proofs.TextSteps.{sees_append}
 use Rattle.rx_walk.specs.Walks.{OwesNone}
 use Rattle.rx_walk.specs.Quiets.{is_calm, HasMemory}

@@ -1,12 +1,12 @@
 -- Turns on a quiet piece.
-use Rattle.std.proofs.Common.{◌≡◌, ◌∙◌, ℕ, Bool, true, false, List, [], ◌∷◌, ◌++◌, take, drop, refl, sym, ap, subst, Some, append-nil, append_assoc}
+use Rattle.std.proofs.Common.{◌≡◌, ◌∙◌, ℕ, true, false, List, [], ◌∷◌, ◌++◌, take, drop, refl, sym, ap, subst, Some, append-nil, append_assoc}
 use Rattle.rx_terms.specs.Text.{Chars}
 use Rattle.rx_chars.specs.declared.syntax.Syntax.{Syntax}
 use Rattle.rx_grammar.specs.declared.limits.Limits.{Limits}
 use Rattle.rx_rdfa.specs.Calls.{Call, Enter, Read, Leave}
 use Rattle.rx_rdfa.specs.Names.{Context}
 use Rattle.rx_scan.specs.Steps.{is_quiet}
-use Rattle.rx_nest.specs.Nests.{Nested, IsBetween}
+use Rattle.rx_nest.specs.Nests.{Nested}
 use Rattle.rx_eval.specs.Keeping.{gathers_some}
 use Rattle.rx_eval.specs.Opened.{begun_state}
 use Rattle.rx_eval.specs.States.{State}
@@ -16,10 +16,10 @@ use Rattle.rx_walk.specs.declared.stages.Stage.TheVariants as stage
 use Rattle.rx_walk.specs.Leading.{Steps, Leads}
 use Rattle.rx_walk.specs.Seekings.{Seeking}
 use Rattle.rx_walk.specs.Stages.{Staged}
-use Rattle.rx_walk.specs.Walks.{Goes, OwesNone, state_of}
+use Rattle.rx_walk.specs.Walks.{state_of}
 use Rattle.rx_walk.specs.Quiets.{IsIdle, QuietAt}
 use Rattle.rx_walk.proofs.QuietReading.{quiet_drop}
-use Rattle.rx_walk.proofs.Walking.{GoesOn, TakenBy, front_back, none_took}
+use Rattle.rx_walk.proofs.Walking.{GoesOn, TakenBy, front_back}
 
 -- it stays quiet while nothing is taken
 abbrev pub QuietOn : Nested → Course → List ℕ → Nested → Course → Type 0

@@ -33,7 +33,7 @@ front_back zero xs = refl
 front_back (suc n) [] = refl
 front_back (suc n) (x ∷ xs) = ap (λ r. x ∷ r) (front_back n xs)
 
-every : (xs : List ℕ) → take (length xs) xs ≡ xs
+pub every : (xs : List ℕ) → take (length xs) xs ≡ xs
 every [] = refl
 every (x ∷ xs) = ap (λ r. x ∷ r) (every xs)
 
@@ -54,7 +54,7 @@ no_signs (event.Text text) h = absurd (cc)
 no_signs event.Finish h = absurd (cc)
 
 -- where nothing is due, nothing more is shown
-paid_up : (owed : Owed) (t : StartTag) → left owed ≡ 0 → nests.owed_signs owed t ≡ []
+pub paid_up : (owed : Owed) (t : StartTag) → left owed ≡ 0 → nests.owed_signs owed t ≡ []
 paid_up owed t h = by owed.ends owed.own refl refl
   where
     no_own : (o : Own) → own_left (Some o) ≡ 0 → nests.owes_own (Some o) t ≡ []

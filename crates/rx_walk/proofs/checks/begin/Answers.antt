@@ -1,4 +1,4 @@
-use Rattle.std.proofs.Common.{◌≡◌, ◌∙◌, [], sym, ap}
+use Rattle.std.proofs.Common.{◌∙◌, [], sym, ap}
 use Rattle.rx_names.specs.Lines.{Kept}
 use Rattle.rx_names.specs.Tags.{tag_of}
 use Rattle.rx_nest.specs.Nests.{tag_shown}

@@ -1,4 +1,4 @@
-use Rattle.std.proofs.Common.{◌≡◌, ◌<◌, [], length, refl, ap, arith}
+use Rattle.std.proofs.Common.{[], refl, ap, arith}
 use Rattle.rx_names.specs.Lines.{Kept}
 use Rattle.rx_nest.specs.Signs.{finished}
 use Rattle.rx_walk.specs.Lines.{line_of}

@@ -1,4 +1,4 @@
-use Rattle.std.proofs.Common.{◌≡◌, ◌∙◌, ◌++◌, sym, take}
+use Rattle.std.proofs.Common.{◌∙◌, ◌++◌, sym, take}
 use Rattle.rx_nest.specs.Nests.{event_signs}
 use Rattle.rx_nest.proofs.Fronts.{shows_one}
 use Rattle.rx_walk.proofs.Checking.{took, done, heard_stop, step_stop}

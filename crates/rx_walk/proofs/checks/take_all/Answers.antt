@@ -1,4 +1,4 @@
-use Rattle.std.proofs.Common.{◌≡◌, sym, subst}
+use Rattle.std.proofs.Common.{sym, subst}
 use Rattle.rx_walk.proofs.Walking.{rest_is}
 use Rattle.rx_walk.proofs.Checking.{Taken, taken_start, taken_more, taken_whole, taken_stop, somewhere_taken}
 use Rattle.rx_walk.proofs.checks.take_all.Goals as goal

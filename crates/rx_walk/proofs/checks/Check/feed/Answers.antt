@@ -1,4 +1,4 @@
-use Rattle.std.proofs.Common.{◌≡◌, ◌++◌, refl, sym, subst}
+use Rattle.std.proofs.Common.{◌++◌, refl, sym, subst}
 use Rattle.rx_walk.specs.Checks.{Stands}
 use Rattle.rx_walk.proofs.checks.Check.feed.Goals as goal
 

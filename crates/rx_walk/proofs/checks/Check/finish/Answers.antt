@@ -1,4 +1,4 @@
-use Rattle.std.proofs.Common.{◌≡◌, ◌∙◌, sym, ap, subst}
+use Rattle.std.proofs.Common.{◌∙◌, sym, ap, subst}
 use Rattle.rx_walk.specs.Checks.{Checked, Stands}
 use Rattle.rx_walk.proofs.Wholes.{no_fault}
 use Rattle.rx_walk.proofs.Checking.{end_gives, end_keeps}
