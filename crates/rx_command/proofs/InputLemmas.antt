@@ -236,7 +236,7 @@ pub if_job : {V E : Type 0} (items : V → List ℕ) (r : Result V E) (asked : A
 if_job items (Ok text) asked file context told mid now e m p = moves_then (JobText asked (items text)) (λ x y z c t. job_text asked file context (items text) e x y z c t) m p
 if_job items (Err error) asked file context told mid now e m p = tt
 
-rose_before : (a b c : ℕ) → a ≤ b → Rose b c → Rose a c
+pub rose_before : (a b c : ℕ) → a ≤ b → Rose b c → Rose a c
 rose_before a b c low rose = omega (arith, low, rose)
 
 lacks_page : (told mid : Option Told) (asked : Asked) (file : Option (List ℕ)) (context : Context) (name : List ℕ) → file ≡ asked.context → name ≡ encode_utf8_all asked.page → Moves (ReadsContext file context) told mid → Lacks mid name → TellsThat (IsLacking asked) told

@@ -7,7 +7,6 @@ use Rattle.rx_grammar.specs.declared.limits.Limits.{Limits}
 use Rattle.rx_grammar.specs.PageFaults.{FaultAt}
 use Rattle.rx_pages.specs.PageReader.{Progress, page_read, no_page}
 use Rattle.rx_tags.specs.declared.stops.Stop.{Stop}
-use Rattle.rx_tags.specs.declared.stops.Stop.TheVariants as stop
 use Rattle.rx_nest.specs.Nests as nests
 use Rattle.rx_nest.specs.Nests.{Nested}
 use Rattle.rx_nest.specs.Signs.{Sign, Sight, sees, nothing_seen}
@@ -26,7 +25,7 @@ use Rattle.rx_command.specs.declared.errors.InputError.TheVariants as error
 use Rattle.rx_command.specs.declared.readers.Reader.{Reader}
 use Rattle.rx_command.specs.declared.readers.Reader.TheVariants as reader
 use Rattle.rx_command.specs.Files.{HasRead}
-use Rattle.rx_command.specs.Reading.{standard, Way, Reached, FeedGives, HasFirst, Decides, Adds, AddsNone, NextGives, EndGives, CheckEnds, ReadsPage, ReadsRight, Finds, IsClean, ReadsClean, IsFile, Fed, FileGives, PageGives, CheckGives}
+use Rattle.rx_command.specs.Reading.{standard, Way, Reached, FeedGives, HasFirst, Decides, Adds, AddsNone, NextGives, EndGives, CheckEnds, ReadsPage, ReadsRight, Finds, ReadsClean, IsFile, Fed, FileGives, PageGives, CheckGives}
 use Rattle.rx_command.proofs.FaultLemmas.{no_meaning_in, only_unended, refused_from}
 
 pub limits_are : (l : Limits) → l.depth ≡ 512 → l.tag ≡ 1048576 → l.page ≡ 1073741824 → l ≡ standard

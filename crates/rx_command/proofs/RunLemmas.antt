@@ -1,5 +1,5 @@
 -- From what was read of the files to what comes of the page.
-use Rattle.std.proofs.Common.{◌≡◌, ◌≢◌, ◌∙◌, ℕ, ◌≤◌, ◌⊎◌, inl, inr, List, [], ◌++◌, length, sym, ap, subst, refl, arith, Option, Some, None, true, false, encode_utf8_all, length-append, append-nil}
+use Rattle.std.proofs.Common.{◌≡◌, ◌≢◌, ◌∙◌, ℕ, ◌⊎◌, inl, inr, List, sym, ap, subst, refl, Option, Some, None, true, false, encode_utf8_all}
 use Rattle.rx_ports.specs.Counts.{Rose}
 use Rattle.rx_ports.specs.Told.{Told, Moves, Stays}
 use Rattle.rx_ports.specs.Files.{file_of}
@@ -10,13 +10,13 @@ use Rattle.rx_chars.specs.declared.syntax.Syntax.TheVariants.{Html}
 use Rattle.rx_rdfa.specs.Standard as names
 use Rattle.rx_command.specs.declared.jobs.Job.{Job as CodeJob}
 use Rattle.rx_command.specs.Jobs.{asked_by, page_by, ReadsPage}
-use Rattle.rx_command.specs.Words.{Asked, Job, Task, extracts, checks, reads, samples, job, page_in, page_asked}
+use Rattle.rx_command.specs.Words.{Asked, Job, Task, extracts, checks, samples, job, page_in, page_asked}
 use Rattle.rx_command.specs.Reading.{standard}
 use Rattle.rx_command.proofs.FaultLemmas.{one_first, page_has_none}
 use Rattle.rx_command.specs.Contexts.{IsContext, HasContext, HasOther, LacksContext, is_context}
 use Rattle.rx_command.proofs.InputLemmas.{has_context, one_context}
-use Rattle.rx_command.specs.Outcome.{TaskGives, TaskDenotes, TaskRefuses, IsAccepted, way_in, NamesPage, HasPageText, HasPageGraph, HasPageFault, Meets, IsLacking, LacksFile, HasBadContext}
-use Rattle.rx_command.specs.Samples.{IsSample, SampleRefuses, sample_page, SaysOfSample, HasSampleFault, Yields, YieldsGraph, Refuses}
+use Rattle.rx_command.specs.Outcome.{TaskGives, TaskRefuses, way_in, NamesPage, Meets, IsLacking, LacksFile, HasBadContext}
+use Rattle.rx_command.specs.Samples.{IsSample, SampleRefuses, sample_page, Yields, YieldsGraph, Refuses}
 use Rattle.rx_command.specs.Inputs.{JobText, JobRefused, TellsThat}
 use Rattle.rx_command.specs.declared.statuses.Status.{Status}
 use Rattle.rx_command.specs.declared.statuses.Status.TheVariants as status

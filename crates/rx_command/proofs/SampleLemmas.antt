@@ -1,5 +1,5 @@
 -- The sample page as it is fed.
-use Rattle.std.proofs.Common.{◌≡◌, ◌∙◌, ◌⊎◌, ⊎_elim, inl, inr, ℕ, zero, suc, nat_eq, ◌+◌, ◌≤◌, ◌<◌, List, [], ◌++◌, length, refl, sym, ap, subst, arith, Option, Some, None, Result, Ok, Err, encode_utf8_all, append_assoc, append-nil, length-append}
+use Rattle.std.proofs.Common.{◌≡◌, ◌∙◌, ⊎_elim, inl, inr, ℕ, zero, suc, nat_eq, ◌+◌, ◌≤◌, ◌<◌, List, [], ◌++◌, length, sym, ap, subst, arith, None, Result, Ok, Err, encode_utf8_all, append_assoc, append-nil, length-append}
 use Rattle.std.proofs.lemmas.Bool.{cases_lt}
 use Rattle.rx_chars.specs.declared.syntax.Syntax.TheVariants.{Html}
 use Rattle.rx_terms.specs.Text.{Chars}
@@ -13,12 +13,11 @@ use Rattle.rx_model.specs.Seen.{triples_seen}
 use Rattle.rx_model.specs.Terms.{Triple}
 use Rattle.rx_nquads.specs.Writing.{nquads}
 use Rattle.rx_rdfa.specs.Standard as names
-use Rattle.rx_pages.specs.PageReader.{Progress, page_read}
 use Rattle.rx_nest.specs.Signs.{sees, nothing_seen}
 use Rattle.rx_walk.specs.Lines.{line_of}
 use Rattle.rx_walk.specs.Walks.{Walked, Stands, Ended, open_line}
 use Rattle.rx_command.specs.Reading.{standard, Way, EndGives}
-use Rattle.rx_command.specs.Outcome.{check_address, IsAccepted}
+use Rattle.rx_command.specs.Outcome.{check_address}
 use Rattle.rx_command.specs.Samples.{head, item_before, item_behind, items_to, cut_in, sample_page, tail, depth_at, open_after, larger, deepest, deepest_in, triples_in, line_with, line_for, IsSample, SampleRefuses}
 use Rattle.rx_walk.specs.Faults.{Refuses}
 use Rattle.rx_command.specs.declared.readers.Reader.TheVariants as reader
@@ -27,7 +26,7 @@ use Rattle.rx_command.specs.declared.errors.InputError.TheVariants as error
 use Rattle.rx_command.specs.Feeding.{Fed, FedTo, TakeGives, ItemGives, WholeGives}
 use Rattle.rx_command.specs.declared.samples.Feeding.{Feeding}
 use Rattle.rx_command.proofs.MadeLemmas.{list_written}
-use Rattle.rx_command.proofs.ReadLemmas.{is_read, not_longer}
+use Rattle.rx_command.proofs.ReadLemmas.{not_longer}
 
 -- how a sample page is read
 abbrev pub sample_way : Way

@@ -1,5 +1,5 @@
 -- The words behind a task, pair by pair.
-use Rattle.std.proofs.Common.{◌≡◌, ◌∙◌, ◌<◌, length, arith, is_some, ◌||◌, true, false, Bool, List, [], ◌∷◌, ◌++◌, ap, refl, sym, subst, append_assoc, append-nil, codes, Option, Some, None, option_and_then, option_map, if◌then◌else◌}
+use Rattle.std.proofs.Common.{◌≡◌, ◌∙◌, ◌<◌, length, arith, is_some, ◌||◌, true, false, Bool, List, [], ◌∷◌, ◌++◌, ap, refl, sym, subst, append_assoc, append-nil, Option, Some, None, option_and_then, option_map, if◌then◌else◌}
 use Rattle.std.specs.Cmp.Lexicographic.{bytes_decides}
 use Rattle.rx_terms.specs.Text.{Chars}
 use Rattle.rx_reader.proofs.Bools.{by_test}

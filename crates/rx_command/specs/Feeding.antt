@@ -2,7 +2,6 @@
 use Rattle.std.specs.Prelude.{◌≡◌, ℕ, suc, List, [], ◌++◌, length, Result, Ok, Err}
 use Rattle.rx_chars.specs.declared.syntax.Syntax.TheVariants.{Html}
 use Rattle.rx_rdfa.specs.Standard as names
-use Rattle.rx_grammar.specs.declared.faults.Fault.{Fault}
 use Rattle.rx_walk.specs.Faults.{Refuses}
 use Rattle.rx_walk.specs.Walks.{Stands}
 use Rattle.rx_command.specs.declared.errors.InputError.{InputError}

@@ -69,7 +69,9 @@ pub(crate) fn check_page<F: Shelf>(
     ensures failed { IsErrOf result InputError.Failed → Rose (F.faults shelf.old) (F.faults shelf.new) ⊎ Lacks (F.told shelf.old) name.now }
 {
     let Approach {
-        syntax, context, ..
+        syntax,
+        context,
+        ..
     } = approach;
     let Ok(check) = Check::new(alloc, syntax, context, Limits::standard()) else {
         return Err(InputError::NoMemory);

@@ -1,4 +1,4 @@
-use Rattle.std.proofs.Common.{ℕ, length, []}
+use Rattle.std.proofs.Common.{length, []}
 use Rattle.rx_command.specs.Jobs.{text_in}
 use Rattle.rx_command.proofs.WordLemmas.{Reads}
 use Rattle.rx_command.proofs.arguments.arguments_of.Given as goal

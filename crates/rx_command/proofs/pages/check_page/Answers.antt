@@ -1,4 +1,3 @@
-use Rattle.std.proofs.Common.{◌≡◌, refl}
 use Rattle.rx_command.specs.Ways.{way_of}
 use Rattle.rx_command.proofs.ReadLemmas.{limits_are, start_checked, fed_checked, file_page}
 use Rattle.rx_command.proofs.pages.check_page.Goals as goal
@@ -18,8 +17,8 @@ returns-in-Ok-feed_file-clause-gives g c =
     let fed = c.in-Ok-feed_file.ensures.gives way (start_checked way c.standard.result c.in-Ok.check limits c.in-Ok.ensures) in
     fed_checked way c.args.name.now c.feed_file.new.reader _ _ fed c.checked.result (c.checked.ensures.gives way fed.bytes fed.reached)
 
-pub returns-in-Err-clause-gives : goal.returns-in-Err-clause-gives
-returns-in-Err-clause-gives g c =
+pub returns-clause-gives : goal.returns-clause-gives
+returns-clause-gives g c =
     let limits = limits_are c.standard.result c.standard.ensures.depth c.standard.ensures.tag c.standard.ensures.page in
     let way = way_of c.args.approach in
     file_page way c.args.name.now c.feed_file.new.reader _ _ c.in-Err.error (c.in-Err.ensures.gives way (start_checked way c.standard.result c.in-Ok.check limits c.in-Ok.ensures))

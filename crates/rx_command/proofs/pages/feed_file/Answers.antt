@@ -1,6 +1,8 @@
-use Rattle.std.proofs.Common.{arith, rules, ◌≡◌, ◌∙◌, ◌≤◌, ◌+◌, List, [], ℕ, length, refl, Ok, Err}
+use Rattle.std.proofs.Common.{arith, rules, ap, inl, ◌≡◌, ◌∙◌, ◌≤◌, ◌+◌, [], length, refl, Err}
 use Rattle.rx_ports.proofs.MoveLemmas.{moves_weaker, moves_then}
 use Rattle.rx_command.specs.Files.{HasRead, TakesOf}
+use Rattle.rx_command.specs.declared.errors.InputError.TheVariants.{Failed}
+use Rattle.rx_command.proofs.InputLemmas.{rose_before}
 use Rattle.rx_command.specs.Reading.{ReadsClean}
 use Rattle.rx_command.proofs.FileLemmas.{read_start, takes_none, takes_more}
 use Rattle.rx_command.proofs.ReadLemmas.{more_so_far, not_longer, next_file, file_fed, unread_clean}
@@ -72,3 +74,6 @@ unreachable-requires g c =
     let s = c.loop-taken.invariant.so_far c.requires.way c.requires.reached in
     let small = not_longer c.requires.way c.loop-taken.reader s.bytes s.reached in
     omega (arith, small, s.size, c.loop-taken-test.false)
+
+pub returns-in-Err-clause-failed : goal.returns-in-Err-clause-failed
+returns-in-Err-clause-failed g c is = let e : c.in-Err.error ≡ Failed = (cc) in inl (rose_before _ _ _ c.loop-taken.invariant.later (c.in-Err.ensures.failed (ap Err e)))

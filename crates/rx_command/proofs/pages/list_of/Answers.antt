@@ -1,6 +1,5 @@
 use Rattle.std.proofs.Common.{◌≡◌, ◌∙◌, true, false, sym, ap, subst}
 use Rattle.rx_command.specs.declared.readers.Reader.{Reader}
-use Rattle.rx_command.specs.declared.readers.Reader.TheVariants as reader
 use Rattle.rx_command.specs.Reading.{standard, Reached, walks}
 use Rattle.rx_command.proofs.ReadLemmas.{end_refused}
 use Rattle.rx_command.proofs.pages.list_of.Goals as goal

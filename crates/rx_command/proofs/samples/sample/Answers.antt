@@ -1,6 +1,5 @@
-use Rattle.std.proofs.Common.{◌≡◌, ap, subst, Err}
+use Rattle.std.proofs.Common.{◌≡◌}
 use Rattle.rx_command.specs.Samples.{sample_page}
-use Rattle.rx_command.specs.Reading.{EndGives}
 use Rattle.rx_command.specs.declared.errors.InputError.TheVariants.{BadContext}
 use Rattle.rx_command.proofs.SampleLemmas.{sample_way, end_stops, no_context_at_end, said_so}
 use Rattle.rx_command.proofs.samples.sample.Goals as goal

@@ -1,4 +1,4 @@
-use Rattle.std.proofs.Common.{◌≡◌, ◌∙◌, sym, ap, true}
+use Rattle.std.proofs.Common.{◌∙◌, sym, ap}
 use Rattle.rx_command.specs.Words.{is_number}
 use Rattle.rx_command.proofs.NumberLemmas.{is_count, is_past, is_too_long}
 use Rattle.rx_command.proofs.words.count_of.Goals as goal

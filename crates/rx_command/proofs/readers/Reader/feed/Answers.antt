@@ -1,4 +1,4 @@
-use Rattle.std.proofs.Common.{◌≡◌, subst}
+use Rattle.std.proofs.Common.{subst}
 use Rattle.rx_command.specs.declared.readers.Reader.{Reader}
 use Rattle.rx_command.specs.Reading.{standard, Reached}
 use Rattle.rx_command.proofs.ReadLemmas.{walk_fed, check_fed}
@@ -10,4 +10,4 @@ returns-in-Walks-clause-gives c way bytes r =
 
 pub returns-in-Checks-clause-gives : goal.returns-in-Checks-clause-gives
 returns-in-Checks-clause-gives c way bytes r =
-    check_fed way bytes c.args.piece.now c.feed-2.result c.feed-2.new.self (c.feed-2.ensures.gives way.syntax standard way.context bytes (subst (λ (v : Reader). Reached way v bytes) c.in-Checks.is r))
+    check_fed way bytes c.args.piece.now c.feed-in-Checks.result c.feed-in-Checks.new.self (c.feed-in-Checks.ensures.gives way.syntax standard way.context bytes (subst (λ (v : Reader). Reached way v bytes) c.in-Checks.is r))

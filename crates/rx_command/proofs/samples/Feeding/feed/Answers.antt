@@ -1,4 +1,4 @@
-use Rattle.std.proofs.Common.{◌≡◌, ◌∙◌, ℕ, ◌≤◌, sym, ap, subst, arith}
+use Rattle.std.proofs.Common.{◌≡◌, ◌∙◌, ap, arith}
 use Rattle.rx_command.specs.Samples.{deepest_in, items_to}
 use Rattle.rx_command.proofs.SampleLemmas.{whole_stops, whole_fed, tail_due}
 use Rattle.rx_command.proofs.samples.Feeding.feed.Goals as goal

@@ -1,9 +1,4 @@
-use Rattle.std.proofs.Common.{◌≡◌, ◌∙◌, List, ℕ, ◌++◌, sym, ap, subst}
-use Rattle.rx_chars.specs.declared.syntax.Syntax.TheVariants.{Html}
-use Rattle.rx_rdfa.specs.Standard as names
-use Rattle.rx_walk.specs.Faults.{Refuses}
-use Rattle.rx_command.specs.Reading.{standard}
-use Rattle.rx_command.specs.Samples.{cut_in}
+use Rattle.std.proofs.Common.{◌∙◌}
 use Rattle.rx_command.proofs.SampleLemmas.{cut_is, item_fed, item_stops, behind_is}
 use Rattle.rx_command.proofs.samples.Feeding.item.Goals as goal
 

@@ -1,4 +1,4 @@
-use Rattle.std.proofs.Common.{◌≡◌, List, ℕ, ◌+◌, ◌≤◌, ◌++◌, sym, ap, subst, refl, arith, append_assoc}
+use Rattle.std.proofs.Common.{◌++◌, subst, refl, arith}
 use Rattle.rx_chars.specs.declared.syntax.Syntax.TheVariants.{Html}
 use Rattle.rx_rdfa.specs.Standard as names
 use Rattle.rx_walk.specs.Faults.{Refuses, StopGives}
