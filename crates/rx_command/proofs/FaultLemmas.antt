@@ -20,7 +20,7 @@ use Rattle.rx_rdfa.specs.Refusals.{Refusal, refusal}
 use Rattle.rx_rdfa.specs.Tree.{Tag}
 use Rattle.rx_nest.specs.Fronts.{Lie}
 use Rattle.rx_nest.specs.Signs.{Sign, begun, said, finished, sees, nothing_seen, signs_of}
-use Rattle.rx_nest.proofs.Sizes.{read_size, faults_so}
+use Rattle.rx_nest.proofs.Sizes.{read_size, within_so}
 use Rattle.rx_nest.proofs.TagPlaces.{shows_more}
 use Rattle.rx_nest.proofs.TreeSeen.{whole}
 use Rattle.rx_walk.specs.Faults.{MeaningAt, Refuses, for_form, for_meaning}
@@ -129,7 +129,7 @@ module _ (syntax : Syntax) (limits : Limits) (context : Context) where
 
       by : (x : Result Progress Fault) → page_read syntax limits (bytes ++ more) ≡ x → end_of x ≡ Err fault → length bytes ≤ fault.at
       by (Ok q) k e = on q (may_end q.now) (read_size syntax limits (bytes ++ more) q k).0 e
-      by (Err g) k e = (faults_so syntax limits bytes more p fault h (k ∙ e)).from
+      by (Err g) k e = (within_so syntax limits bytes more p fault h (k ∙ e)).from
 
   pub refused_from : (bytes more : List ℕ) (p : Progress) → page_read syntax limits bytes ≡ Ok p → refused_in context [] (SignsOf p) ≡ None → (fault : Fault) → Refuses syntax limits context (bytes ++ more) fault → length bytes ≤ fault.at
   refused_from bytes more p h none fault (for_form f n) = at_least bytes more p h fault f

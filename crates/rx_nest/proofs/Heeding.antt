@@ -23,7 +23,7 @@ use Rattle.rx_scan.specs.declared.answers.Token.{Token}
 use Rattle.rx_scan.specs.declared.answers.Token.TheVariants as token
 use Rattle.rx_scan.specs.declared.places.Setting.{Setting}
 use Rattle.rx_scan.specs.Scanner.{Scanner}
-use Rattle.rx_scan.specs.Steps.{IsOne, IsTag, Skips, a_mark, a_comment, an_empty_section, a_line_feed, texts_of, keeps_first, after_some, ends_leading, setting_behind, Faults, is_more}
+use Rattle.rx_scan.specs.Steps.{HasMark, mark_bytes, IsOne, IsTag, Skips, a_mark, a_comment, an_empty_section, a_line_feed, texts_of, keeps_first, after_some, ends_leading, setting_behind, Faults, is_more}
 use Rattle.rx_scan.specs.Steps as scan
 use Rattle.rx_nest.specs.declared.heard.Heard.{Heard}
 use Rattle.rx_nest.specs.Lines.{Lines, says_text, is_none_open}
@@ -87,6 +87,15 @@ module _ (syntax : Syntax) (limits : Limits) (bytes : List ℕ) (told : List Eve
         are = b.1;
         now = record { scan = f.next; nest = nest };
         read = quiet;
+        before = record {
+          before = record { now = at.now; told = told };
+          read = at.read;
+          next = f.next;
+          items = [];
+          completed = sym (scan_is (take f.n piece)) ∙ f.read;
+          are = refl;
+          mark = λ rest m. absurd (f.unmarked rest m);
+        };
         here =
             ap (λ x. page_read syntax limits x) (sym (append_assoc bytes (take f.n piece) (f.byte ∷ [])))
             ∙ (page_append syntax limits spot (Ok nothing_read) (bytes ++ take f.n piece) (f.byte ∷ [])
@@ -240,14 +249,30 @@ module _ (syntax : Syntax) (limits : Limits) (bytes : List ℕ) (told : List Eve
       tag_fault : (kind : Kind) → nest_step syntax limits.depth nest item ≡ Err kind → page_read syntax limits (bytes ++ xs) ≡ Err (record { kind = kind; token = t.token; at = t.at })
       tag_fault kind h = tag_page (Err kind) h ∙ ap (λ n. Err (record { kind = kind; token = n; at = b.before.at })) (sym b.first_is ∙ first_is) ∙ ap (λ n. Err (record { kind = kind; token = t.token; at = n })) (sym b.last_is ∙ last_is)
 
-      pub tag_stops : (kind : Kind) → nest_step syntax limits.depth nest item ≡ Err kind → (piece rest : List ℕ) → piece ≡ xs ++ rest → Stops syntax limits bytes told piece (record { kind = kind; token = t.token; at = t.at })
-      tag_stops kind h piece rest e = record {
+      longer : (more : List ℕ) → HasMark s b.front more → HasMark s xs (more ++ b.byte ∷ [])
+      longer more m = record {
+        first = m.first;
+        part = m.part;
+        are = ap (λ z. s.held ++ z) b.are ∙ (sym (append_assoc s.held b.front (b.byte ∷ [])) ∙ (ap (λ z. z ++ b.byte ∷ []) m.are ∙ append_assoc mark_bytes more (b.byte ∷ [])));
+      }
+
+      pub tag_stops : (kind : Kind) → nest_step syntax limits.depth nest item ≡ Err kind → (piece rest : List ℕ) → piece ≡ xs ++ rest → ((more : List ℕ) → HasMark s xs more → ⊥) → Stops syntax limits bytes told piece (record { kind = kind; token = t.token; at = t.at })
+      tag_stops kind h piece rest e unmarked = record {
         front = b.front;
         byte = b.byte;
         rest = rest;
         are = e ∙ (ap (λ y. y ++ rest) b.are ∙ append_assoc b.front (b.byte ∷ []) rest);
         now = record { scan = b.before; nest = nest };
         read = quiet_front b.front b.before b.reads;
+        before = record {
+          before = record { now = at.now; told = told };
+          read = at.read;
+          next = b.before;
+          items = [];
+          completed = b.reads;
+          are = refl;
+          mark = λ more m. absurd (unmarked (more ++ b.byte ∷ []) (longer more m));
+        };
         here = ap (λ y. page_read syntax limits (bytes ++ y)) (sym b.are) ∙ tag_fault kind h;
       }
 

@@ -263,20 +263,20 @@ module _ (syntax : Syntax) (limits : Limits) (bytes : List ℕ) (told : List Eve
       steps_as : (x : Result Step Kind) → nest_step line.syntax line.depth nest item ≡ x → nest_step syntax limits.depth nest item ≡ x
       steps_as x h = subst (λ d. nest_step syntax d nest item ≡ x) at.depth_is (subst (λ l. nest_step l line.depth nest item ≡ x) at.syntax_is h)
 
-      tag_refused : (kind : Kind) → TagGives line (tag_seen g) (Err (refused.Fault kind)) new → Stops syntax limits bytes told piece (record { kind = kind; token = g.token; at = g.at })
-      tag_refused kind gives =
+      tag_refused : (kind : Kind) → TagGives line (tag_seen g) (Err (refused.Fault kind)) new → (shows_skipped t ≡ true → ⊥) → Stops syntax limits bytes told piece (record { kind = kind; token = g.token; at = g.at })
+      tag_refused kind gives unskips =
           let steps : nest_step line.syntax line.depth nest item ≡ Err kind = tag_steps line new nest item (tag_seen g) (Err (refused.Fault kind)) at.follows is.is gives in
-          tag_stops syntax limits bytes told v line at front st.scanned.next item reads_tag g is.is is.first_is is.last_is ends kind (steps_as (Err kind) steps) piece (drop n piece) (sym (front_rest n piece))
+          tag_stops syntax limits bytes told v line at front st.scanned.next item reads_tag g is.is is.first_is is.last_is ends kind (steps_as (Err kind) steps) piece (drop n piece) (sym (front_rest n piece)) (λ rest m. unskips (st.mark rest m).0)
 
-      pub hears_refused : (fault : Fault) → HearsTag line g (Err (stop.Fault fault)) new → Stops syntax limits bytes told piece fault
-      hears_refused fault h = by h.taken h.is h.gives
+      pub hears_refused : (fault : Fault) → HearsTag line g (Err (stop.Fault fault)) new → (shows_skipped t ≡ true → ⊥) → Stops syntax limits bytes told piece fault
+      hears_refused fault h unskips = by h.taken h.is h.gives
         where
           by : (taken : Result Told Refused) → Err (stop.Fault fault) ≡ heard_of g taken → TagGives line (tag_seen g) taken new → Stops syntax limits bytes told piece fault
           by (Ok told) e gives = absurd (cc)
           by (Err refused.NoMemory) e gives = absurd (let w : Err (stop.Fault fault) ≡ Err stop.NoMemory = e in cc)
           by (Err (refused.Fault kind)) e gives =
               let same : fault ≡ record { kind = kind; token = g.token; at = g.at } = (let w : Err (stop.Fault fault) ≡ Err (stop.Fault (record { kind = kind; token = g.token; at = g.at })) = e in cc) in
-              subst (λ f. Stops syntax limits bytes told piece f) (sym same) (tag_refused kind gives)
+              subst (λ f. Stops syntax limits bytes told piece f) (sym same) (tag_refused kind gives unskips)
 
       -- the elements after it
       module _ (tells : Told) (taken : Taken line nest item tells new) (b : Becomes line new) (closing : Bool) (shown : TagShown mid closing g) (no_lead : (if ends_leading t then false else may_lead nest.phase) ≡ false) (opening : begins_own tells.own ≡ true → closing ≡ false) (unmarked : shows_skipped t ≡ true → false ≡ true) where
@@ -458,10 +458,10 @@ module _ (syntax : Syntax) (limits : Limits) (bytes : List ℕ) (told : List Eve
         by (token.Text text) e k = absurd (let w : Err (stop.Fault fault) ≡ Ok (text_heard (says_text line)) = k.0 in cc)
         by (token.Start g) e k =
             let are = subst (λ x. Are v.reading.setting.drops x s front items) e st.are in
-            hears_refused g are.0 (subst (λ x. scan.IsLast x st.scanned.next.at) e st.last) new fault k
+            hears_refused g are.0 (subst (λ x. scan.IsLast x st.scanned.next.at) e st.last) new fault k (unskipped e refl)
         by (token.End g) e k =
             let are = subst (λ x. Are v.reading.setting.drops x s front items) e st.are in
-            hears_refused g are.0 (subst (λ x. scan.IsLast x st.scanned.next.at) e st.last) new fault k
+            hears_refused g are.0 (subst (λ x. scan.IsLast x st.scanned.next.at) e st.last) new fault k (unskipped e refl)
 
     -- the content after a tag is one of the syntax
     pub content_is : (new : Lines) (tells : Told) → Hears line t (Ok (heard.Tag tells)) new → is_of_syntax mid.reading.setting.syntax (place_under new.levels).content ≡ true

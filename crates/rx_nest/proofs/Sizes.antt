@@ -2,7 +2,7 @@
 use Rattle.std.proofs.Common.{◌≡◌, ◌∙◌, ⊎_elim, inl, inr, append-nil, ℕ, ◌+◌, ◌≤◌, ◌<◌, List, [], ◌∷◌, ◌++◌, refl, sym, ap, subst, length, length-append, append_assoc, Result, Ok, Err, arith}
 use Rattle.std.proofs.lemmas.Bool.Decides.{nat_tests}
 use Rattle.std.proofs.lemmas.List.{append_cancel_left}
-use Rattle.std.specs.Prelude.{◌⊎◌, nat_le, if◌then◌else◌}
+use Rattle.std.specs.Prelude.{◌⊎◌, ◌-◌, nat_le, take, if◌then◌else◌}
 use Rattle.rx_chars.specs.declared.syntax.Syntax.{Syntax}
 use Rattle.rx_chars.specs.Utf8.{answer_of}
 use Rattle.rx_reader.proofs.Bools.{by_test}
@@ -11,12 +11,13 @@ use Rattle.rx_grammar.specs.declared.faults.Kind.{Kind}
 use Rattle.rx_grammar.specs.declared.faults.Kind.TheVariants.{PageTooLong}
 use Rattle.rx_grammar.specs.declared.limits.Limits.{Limits}
 use Rattle.rx_pages.specs.Nesting.{Event, Step}
-use Rattle.rx_pages.specs.PageReader.{Scanned, Progress, Reading, read_answer, read_byte, spot_of, steps_on, no_step, progress_of, nested_items, page_byte, page_byte_on, telling, page_on, page_read, nothing_read, end_of}
+use Rattle.rx_pages.specs.PageReader.{Spot, Scanned, Progress, Reading, read_answer, read_byte, spot_of, steps_on, no_step, progress_of, nested_items, page_byte, page_byte_on, telling, page_on, page_read, nothing_read, end_of}
 use Rattle.rx_pages.proofs.ByteFacts.{byte_is}
 use Rattle.rx_pages.proofs.FaultWalk.{fault_stays}
 use Rattle.rx_pages.proofs.OnlyPages.{found_fault}
 use Rattle.rx_pages.proofs.ScanSteps.{page_append}
-use Rattle.rx_nest.specs.Nests.{Faults, Stops}
+use Rattle.rx_grammar.specs.PageFaults.{FaultAt}
+use Rattle.rx_nest.specs.Nests.{Faults, NoneYet, Stops}
 use Rattle.rx_pages.proofs.FaultFronts.{faults_follow_fronts}
 
 module _ (syntax : Syntax) (limits : Limits) where
@@ -64,19 +65,25 @@ module _ (syntax : Syntax) (limits : Limits) where
       let s = subst (λ x. AllSized nothing_read bytes x) h (all_sized bytes nothing_read (omega arith)) in
       (omega (arith, s.0), omega (arith, s.0, s.1))
 
-  -- a fault that the next bytes decide
-  pub faults_so : (bytes piece : List ℕ) (p : Progress) (fault : Fault) → page_read syntax limits bytes ≡ Ok p → page_read syntax limits (bytes ++ piece) ≡ Err fault → Faults syntax limits bytes piece fault
-  faults_so bytes piece p fault h f =
+  -- a fault that the next bytes decide has its place in them
+  pub record Within (bytes piece : List ℕ) (fault : Fault) : Type 0 where
+    pub from : length bytes ≤ fault.at
+    pub within : fault.at < length (bytes ++ piece)
+
+  pub within_so : (bytes piece : List ℕ) (p : Progress) (fault : Fault) → page_read syntax limits bytes ≡ Ok p → page_read syntax limits (bytes ++ piece) ≡ Err fault → Within bytes piece fault
+  within_so bytes piece p fault h f =
       let at = read_size bytes p h in
       let here : page_on syntax limits (Ok p) piece ≡ Err fault = ap (λ x. page_on syntax limits x piece) (sym h) ∙ (sym (page_append syntax limits (spot_of syntax p.now.nest) (Ok nothing_read) bytes piece) ∙ f) in
       let s = subst (λ x. AllSized p piece x) here (all_sized piece p (omega (arith, at.0, at.1))) in
-      record {
-        stays = λ rest. found_fault syntax limits ((bytes ++ piece) ++ rest) fault
-            (ap end_of (page_append syntax limits (spot_of syntax p.now.nest) (Ok nothing_read) (bytes ++ piece) rest ∙ (ap (λ x. page_on syntax limits x rest) f ∙ fault_stays syntax limits fault rest)));
-        from = omega (arith, at.0, s.0);
-        within = omega (arith, at.0, s.1, length-append bytes piece);
-        front = faults_follow_fronts syntax limits (bytes ++ piece) fault (found_fault syntax limits (bytes ++ piece) fault (ap end_of f));
-      }
+      record { from = omega (arith, at.0, s.0); within = omega (arith, at.0, s.1, length-append bytes piece) }
+
+  found_behind : (bytes : List ℕ) (fault : Fault) → page_read syntax limits bytes ≡ Err fault → (spot : Spot) (rest : List ℕ) → FaultAt syntax limits (bytes ++ rest) fault
+  found_behind bytes fault f spot rest =
+      found_fault syntax limits (bytes ++ rest) fault (ap end_of (page_append syntax limits spot (Ok nothing_read) bytes rest ∙ (ap (λ x. page_on syntax limits x rest) f ∙ fault_stays syntax limits fault rest)))
+
+  take_front : (front more : List ℕ) → take (length front) (front ++ more) ≡ front
+  take_front [] more = refl
+  take_front (x ∷ front) more = ap (λ z. x ∷ z) (take_front front more)
 
   -- a fault that a byte of the piece decides is that of the whole piece
   pub stops_so : (bytes piece : List ℕ) (told : List Event) (fault : Fault) → Stops syntax limits bytes told piece fault → page_read syntax limits (bytes ++ piece) ≡ Err fault
@@ -84,6 +91,34 @@ module _ (syntax : Syntax) (limits : Limits) where
       ap (λ x. page_read syntax limits x) (ap (λ x. bytes ++ x) (f.are ∙ sym (append_assoc f.front (f.byte ∷ []) f.rest)) ∙ sym (append_assoc bytes (f.front ++ f.byte ∷ []) f.rest))
       ∙ (page_append syntax limits (spot_of syntax f.now.nest) (Ok nothing_read) (bytes ++ (f.front ++ f.byte ∷ [])) f.rest
       ∙ (ap (λ x. page_on syntax limits x f.rest) f.here ∙ fault_stays syntax limits fault f.rest))
+
+  -- the fault's place is that of the byte that decides it
+  place_so : (bytes piece : List ℕ) (told : List Event) (fault : Fault) (f : Stops syntax limits bytes told piece fault) → fault.at ≡ length bytes + length f.front
+  place_so bytes piece told fault f =
+      let w = within_so (bytes ++ f.front) (f.byte ∷ []) (record { now = f.now; told = told }) fault f.read (ap (λ x. page_read syntax limits x) (append_assoc bytes f.front (f.byte ∷ [])) ∙ f.here) in
+      omega (arith, w.from, w.within, length-append (bytes ++ f.front) (f.byte ∷ []), length-append bytes f.front)
+
+  pub faults_so : (bytes piece : List ℕ) (p : Progress) (told : List Event) (fault : Fault) → page_read syntax limits bytes ≡ Ok p → Stops syntax limits bytes told piece fault → Faults syntax limits bytes piece fault
+  faults_so bytes piece p told fault h f =
+      let whole = stops_so bytes piece told fault f in
+      let w = within_so bytes piece p fault h whole in
+      let at = place_so bytes piece told fault f in
+      let spot = spot_of syntax f.now.nest in
+      let through : List ℕ = bytes ++ (f.front ++ f.byte ∷ []) in
+      let all : bytes ++ piece ≡ through ++ f.rest =
+      ap (λ x. bytes ++ x) (f.are ∙ sym (append_assoc f.front (f.byte ∷ []) f.rest)) ∙ sym (append_assoc bytes (f.front ++ f.byte ∷ []) f.rest) in
+      let size : fault.at + 1 ≡ length through = omega (arith, at, length-append bytes (f.front ++ f.byte ∷ []), length-append f.front (f.byte ∷ [])) in
+      let taken : take (fault.at + 1) (bytes ++ piece) ≡ through = ap (λ n. take n (bytes ++ piece)) size ∙ (ap (λ x. take (length through) x) all ∙ take_front through f.rest) in
+      let front_size : fault.at - length bytes ≡ length f.front = omega (arith, at) in
+      let front : take (fault.at - length bytes) piece ≡ f.front = ap (λ n. take n piece) front_size ∙ (ap (λ x. take (length f.front) x) f.are ∙ take_front f.front (f.byte ∷ f.rest)) in
+      record {
+        stays = λ rest. found_behind (bytes ++ piece) fault whole spot rest;
+        decides = λ rest. subst (λ x. FaultAt syntax limits (x ++ rest) fault) (sym taken) (found_behind through fault f.here spot rest);
+        before = subst (λ x. NoneYet syntax limits bytes x) (sym front) f.before;
+        from = w.from;
+        within = w.within;
+        front = faults_follow_fronts syntax limits (bytes ++ piece) fault (found_fault syntax limits (bytes ++ piece) fault (ap end_of whole));
+      }
 
   -- what is told only grows
   record Grows (p q : Progress) : Type 0 where

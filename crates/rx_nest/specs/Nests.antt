@@ -1,5 +1,5 @@
 -- What a nest stands for, and what its calls answer of a page's bytes.
-use Rattle.std.specs.Prelude.{◌≡◌, ◌≢◌, ◌⊎◌, ℕ, ◌+◌, ◌≤◌, ◌<◌, Bool, true, false, List, [], ◌∷◌, ◌++◌, map, length, take, Option, Some, None, Result, Ok, Err}
+use Rattle.std.specs.Prelude.{◌≡◌, ◌≢◌, ◌⊎◌, ℕ, ◌+◌, ◌-◌, ◌≤◌, ◌<◌, Bool, true, false, List, [], ◌∷◌, ◌++◌, map, length, take, Option, Some, None, Result, Ok, Err}
 use Rattle.std.specs.Str.{chars}
 use Rattle.rx_terms.specs.Text.{Chars}
 use Rattle.rx_chars.specs.declared.syntax.Syntax.{Syntax}
@@ -174,6 +174,10 @@ pub record Heeds (syntax : Syntax) (limits : Limits) (bytes : List ℕ) (told : 
   pub all : hears_more h ≡ true → n ≡ length piece
   pub tokens : Completes syntax limits bytes (take n piece) (hears_skipped h) (HeardOf h v)
 
+-- no token is complete yet, and there is no byte order mark
+abbrev pub NoneYet : Syntax → Limits → List ℕ → List ℕ → Type 0
+NoneYet syntax limits bytes more = Completes syntax limits bytes more false (λ s bytes items. items ≡ [])
+
 -- A byte of the piece decides the fault, and before it nothing is told.
 pub record Stops (syntax : Syntax) (limits : Limits) (bytes : List ℕ) (told : List nesting.Event) (piece : List ℕ) (fault : Fault) : Type 0 where
   pub front : List ℕ
@@ -183,6 +187,7 @@ pub record Stops (syntax : Syntax) (limits : Limits) (bytes : List ℕ) (told : 
   pub now : Reading
   pub read : page_read syntax limits (bytes ++ front) ≡ Ok (record { now = now; told = told })
   pub here : page_read syntax limits (bytes ++ (front ++ byte ∷ [])) ≡ Err fault
+  pub before : NoneYet syntax limits bytes front
 
 abbrev pub ReadGives : Syntax → Limits → List ℕ → List nesting.Event → List ℕ → Lines → Result (ℕ × Heard) Stop → Scanner → Lines → Type 0
 ReadGives syntax limits bytes told piece old (Ok r) v new = Heeds syntax limits bytes told piece r.0 r.1 old v new
@@ -287,9 +292,12 @@ pub record Done (syntax : Syntax) (limits : Limits) (bytes : List ℕ) (signs : 
   pub passed : did_skipped d ≡ true → (0 < n) × (left new.owed ≡ 0)
   pub tokens : Completes syntax limits bytes (take n piece) (did_skipped d) (DidOf d new.scan)
 
--- A byte of the piece decides the page's fault, whatever follows; and what stands before the faulty token goes on to a page.
+-- A byte of the piece decides the page's fault, whatever follows the bytes through it; before it nothing is told of the piece, a token that the tree
+-- doesn't show or the byte order mark neither; and what stands before the faulty token goes on to a page.
 pub record Faults (syntax : Syntax) (limits : Limits) (bytes piece : List ℕ) (fault : Fault) : Type 0 where
   pub stays : (rest : List ℕ) → FaultAt syntax limits ((bytes ++ piece) ++ rest) fault
+  pub decides : (rest : List ℕ) → FaultAt syntax limits (take (fault.at + 1) (bytes ++ piece) ++ rest) fault
+  pub before : NoneYet syntax limits bytes (take (fault.at - length bytes) piece)
   pub from : length bytes ≤ fault.at
   pub within : fault.at < length (bytes ++ piece)
   pub front : IsFront syntax limits (take fault.token (bytes ++ piece))

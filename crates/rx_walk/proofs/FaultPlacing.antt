@@ -27,7 +27,7 @@ use Rattle.rx_pages.proofs.Trees.{one_tree}
 use Rattle.rx_nest.specs.Signs.{Sign, begun, said, finished, Sight, sees, nothing_seen, signs_of}
 use Rattle.rx_nest.specs.Fronts.{Lie}
 use Rattle.rx_nest.specs.Nests.{Nested}
-use Rattle.rx_nest.proofs.Sizes.{read_size, faults_so}
+use Rattle.rx_nest.proofs.Sizes.{read_size, within_so}
 use Rattle.rx_nest.proofs.TagPlaces.{shows_more}
 use Rattle.rx_nest.proofs.TreeSeen.{whole}
 use Rattle.rx_walk.specs.Lines.{read_tag, line_on, line_of}
@@ -211,7 +211,7 @@ module _ (syntax : Syntax) (limits : Limits) where
       let n : ℕ = fault.at + 1 in
       let front = read_front (take n bytes) rest (page_shows (take n bytes ++ rest) tree page).final (page_shows (take n bytes ++ rest) tree page).read in
       let fails : page_read syntax limits (take n bytes ++ drop n bytes) ≡ Err fault = ap (λ b. page_read syntax limits b) (front_back n bytes) ∙ fault_read bytes fault f l in
-      let from = (faults_so syntax limits (take n bytes) (drop n bytes) front.now fault front.is fails).from in
+      let from = (within_so syntax limits (take n bytes) (drop n bytes) front.now fault front.is fails).from in
       let size = take_length n bytes (omega (arith, l)) in
       omega (arith, from, size)
 

@@ -21,7 +21,7 @@ use Rattle.rx_pages.proofs.FaultsRead.{fault_is_read}
 use Rattle.rx_pages.proofs.ScanSteps.{page_append}
 use Rattle.rx_nest.specs.Signs.{Sign, begun, said, finished, Flags, Sight, is_hidden, ended_sight, see, sees, nothing_seen}
 use Rattle.rx_nest.specs.Nests as nests
-use Rattle.rx_nest.proofs.Sizes.{read_size, faults_so}
+use Rattle.rx_nest.proofs.Sizes.{read_size, within_so}
 use Rattle.rx_nest.proofs.TextSteps.{sees_append}
 use Rattle.rx_walk.specs.Lines.{read_tag, line_on, line_of}
 use Rattle.rx_walk.specs.Refused.{fault_of, refused_in}
@@ -101,7 +101,7 @@ module _ (syntax : Syntax) (limits : Limits) (context : Context) where
 
       by : (x : Result Progress Fault) → page_read syntax limits (front ++ rest) ≡ x → end_of x ≡ Err other → length front ≤ other.at
       by (Ok q) k e = ends q (may_end q.now) (omega (arith, (read_size syntax limits (front ++ rest) q k).0, length-append front rest)) e
-      by (Err fault) k e = let is : fault ≡ other = cc in subst (λ (x : Fault). length front ≤ x.at) is (faults_so syntax limits front rest p fault r k).from
+      by (Err fault) k e = let is : fault ≡ other = cc in subst (λ (x : Fault). length front ≤ x.at) is (within_so syntax limits front rest p fault r k).from
 
   -- a tag that is refused stands before the page's fault
   pub meaning_first : (bytes : List ℕ) (fault : Fault) → MeaningAt syntax limits context bytes fault → (other : Fault) → FaultAt syntax limits bytes other → fault.at < other.at

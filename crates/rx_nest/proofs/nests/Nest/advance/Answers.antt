@@ -3,7 +3,7 @@ use Rattle.rx_nest.specs.declared.heard.Owed.{Owed}
 use Rattle.rx_nest.specs.declared.heard.Did.{Did}
 use Rattle.rx_nest.specs.Nests.{Nested, Stands, Stops, Done, ReadGives}
 use Rattle.rx_nest.proofs.Advancing.{due_done, read_done, unshown}
-use Rattle.rx_nest.proofs.Sizes.{faults_so, stops_so}
+use Rattle.rx_nest.proofs.Sizes.{faults_so}
 use Rattle.rx_nest.proofs.nests.Nest.advance.Goals as goal
 
 none_of : (o : Option (Did × Owed)) → ((x : Did × Owed) → o ≢ Some x) → o ≡ None
@@ -42,7 +42,7 @@ returns-in-Err-Fault-clause-steps c syntax limits bytes signs st =
     subst (λ x. ReadGives syntax limits bytes was.told c.args.piece.now c.self.inside.line (Err x) c.read.new.scan c.read.new.line) c.in-Err-Fault.field-0-is (c.in-Err-Fault.ensures.reads syntax limits bytes was.told was.at) in
     let old : Nested = record { scan = c.self.inside.scan; line = c.self.inside.line; owed = c.self.inside.owed; failed = c.self.inside.failed; spent = c.self.inside.spent } in
     let none = sym c.next_owed.ensures ∙ none_of c.next_owed.result c.in_default-next_owed.not-Some in (
-      faults_so syntax limits bytes c.args.piece.now _ c.in-Err-Fault.fault was.at.read (stops_so syntax limits bytes c.args.piece.now was.told c.in-Err-Fault.fault stops),
+      faults_so syntax limits bytes c.args.piece.now _ was.told c.in-Err-Fault.fault was.at.read stops,
       record { failed = refl; unspent = was.unspent },
       unshown syntax limits old bytes signs was c.args.piece.now c.in-Err-Fault.fault none stops,
     )
