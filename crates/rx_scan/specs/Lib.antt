@@ -1,6 +1,7 @@
 pub mod Buffers
 pub mod Places
 pub mod Scanner
+pub mod Bytes
 pub mod Entries
 pub mod Fronts
 pub mod Steps

@@ -68,9 +68,8 @@ impl Buffer {
         ensures room { self.old.room ≤ self.new.room }
         ensures fits { self.old.size + length bytes.now ≤ self.old.room → IsOk result }
     {
-        let Ok(text) = str::from_utf8(bytes) else {
-            return Err(NoMemory);
-        };
+        // ASCII is UTF-8, so the bytes aren't looked at again.
+        let text = unsafe { str::from_utf8_unchecked(bytes) };
         if self.text.push_str(text).is_err() {
             return Err(NoMemory);
         }

@@ -1,8 +1,10 @@
 //! What the scanner does with one byte.
-ghost use Rattle.std.specs.Prelude.{◌≡◌, ◌+◌, ◌<◌, ◌^◌, [], ◌∷◌, ◌++◌};
+ghost use Rattle.std.specs.Prelude.{◌≡◌, ◌+◌, ◌<◌, ◌^◌, true, [], ◌∷◌, ◌++◌};
 ghost use Rattle.rx_chars.specs.Characters as characters;
 ghost use Rattle.rx_chars.specs.Utf8.{answer_of};
+ghost use Rattle.rx_scan.specs.Bytes as bytes;
 ghost use Rattle.rx_scan.specs.Entries as entries;
+ghost use Rattle.rx_scan.specs.declared.places.Setting.{Setting};
 ghost use Rattle.rx_tags.specs.TagBufs.{MayStep};
 
 use crate::answers::What;
@@ -11,7 +13,7 @@ use crate::readers::Reader;
 use rx_chars::{Utf8, Utf8Step};
 use rx_grammar::Kind;
 use rx_marks::{Mark, is_tag, is_tag_with};
-use rx_tags::Stop;
+use rx_tags::{Stop, is_letter};
 
 fn is_passed(place: Place, c: char) -> bool
     ensures { result ≡ entries.is_passed place c }
@@ -32,6 +34,17 @@ fn is_mark(c: char) -> What
         What::Skipped
     } else {
         What::Nothing
+    }
+}
+
+// Whether a character that is printed surely belongs to a tag.
+fn is_of_tag(mark: Mark, c: char) -> bool
+    ensures { result ≡ true → (setting : Setting) → bytes.IsOfTag setting mark c }
+{
+    match mark {
+        Mark::Tag => matches!(c, ' '..='~'),
+        Mark::LessThan => c == '/' || is_letter(c),
+        _ => false,
     }
 }
 
@@ -77,7 +90,45 @@ impl Reader {
         self.read_entry(value, c == '\r')
     }
 
+    // Whether the character surely belongs to a tag.
+    fn is_in_tag(&self, c: char) -> bool
+        ensures { result ≡ true → bytes.IsOfTag self.now.setting self.now.pending.mark c }
+    {
+        is_of_tag(self.pending.mark(), c)
+    }
+
+    // A character of a tag that is no CR and no NUL.
+    fn read_of_tag(&mut self, c: char) -> Result<What, Stop>
+        requires may_step { MayStep self.old.pending.tag }
+        requires room { self.old.place.at + 1 < 2 ^ 64 }
+        requires of_tag { bytes.IsOfTag self.old.setting self.old.pending.mark c }
+        ensures reads { entries.ReadsAnswer self.old [] (Utf8Step.Char c) result self.new }
+        ensures ready { entries.IsReady self.old result self.new }
+    {
+        if self.is_long(true) {
+            return Err(Stop::Fault(self.fault_at(Kind::TagTooLong)));
+        }
+        self.tag_on(c, false)
+    }
+
+    // Most characters that are read one by one are of tags, and are told first.
     fn read_whole(&mut self, c: char) -> Result<What, Stop>
+        requires may_step { MayStep self.old.pending.tag }
+        requires room { self.old.place.at + 1 < 2 ^ 64 }
+        ensures reads { entries.ReadsAnswer self.old [] (Utf8Step.Char c) result self.new }
+        ensures between { self.old.pending.mark ≡ Mark.Nothing → entries.Between self.old result self.new }
+        ensures ready { entries.IsReady self.old result self.new }
+    {
+        if c == '<' && self.pending.mark() == Mark::Nothing {
+            return self.read_first(c, false);
+        }
+        if self.is_in_tag(c) {
+            return self.read_of_tag(c);
+        }
+        self.read_any(c)
+    }
+
+    fn read_any(&mut self, c: char) -> Result<What, Stop>
         requires may_step { MayStep self.old.pending.tag }
         requires room { self.old.place.at + 1 < 2 ^ 64 }
         ensures reads { entries.ReadsAnswer self.old [] (Utf8Step.Char c) result self.new }

@@ -24,7 +24,7 @@ impl Reader {
         }
     }
 
-    fn read_first(&mut self, c: char, after_return: bool) -> Result<What, Stop>
+    pub(crate) fn read_first(&mut self, c: char, after_return: bool) -> Result<What, Stop>
         requires may_step { MayStep self.old.pending.tag }
         requires nothing { self.old.pending.mark ≡ Mark.Nothing }
         requires room { self.old.place.at + 1 < 2 ^ 64 }
