@@ -1,5 +1,6 @@
 //! What a tag does to the open elements.
-ghost use Rattle.std.specs.Prelude.{◌≡◌, OnOk, true, false, nat_le, length, not, ◌&&◌};
+ghost use Rattle.std.specs.Prelude.{◌≡◌, OnOk, true, false, nat_le, length, not, ◌&&◌, if◌then◌else◌};
+ghost use Rattle.rx_grammar.specs.Contents as contents;
 ghost use Rattle.rx_grammar.specs.PageFaults.{first_row};
 ghost use Rattle.rx_tags.specs.Seen.{tag_seen};
 ghost use Rattle.rx_nest.specs.Levels as levels;
@@ -83,6 +84,7 @@ impl Line {
     pub(crate) fn depth(&self) -> u32
         ensures { result ≡ length self.now.levels }
     {
+        // There is room for so many levels, whose number has 32 bits.
         let _most = self.depth;
         self.levels.depth() as u32
     }
@@ -156,9 +158,10 @@ impl Line {
         if self.is_full() {
             return Err(Refused::Fault(Kind::TooDeep));
         }
-        let own = self.own_of_start(tag);
-        let drops = self.drops_line_feed(tag);
-        match self.enter(tag) {
+        let alone = self.levels.place().is_alone(self.syntax, tag);
+        let own = self.own_of_start(alone);
+        let drops = self.drops_line_feed(tag, alone);
+        match self.enter(tag, alone) {
             Ok(()) => Ok(Told { ends, own, drops }),
             Err(NoMemory) => Err(Refused::NoMemory),
         }
@@ -182,32 +185,32 @@ impl Line {
         self.levels.depth() >= self.depth as usize
     }
 
-    fn own_of_start(&self, tag: &Tag<'_>) -> Own
-        ensures { result ≡ lines.own_of_start self.now.syntax (tag_seen tag.now) self.now.levels }
+    fn own_of_start(&self, alone: bool) -> Own
+        ensures { result ≡ (if levels.hidden_under self.now.levels then Own.Nothing else if alone then Own.Alone else Own.Begin) }
     {
         if self.levels.hides() {
             Own::Nothing
-        } else if self.levels.place().is_alone(self.syntax, tag) {
+        } else if alone {
             Own::Alone
         } else {
             Own::Begin
         }
     }
 
-    fn drops_line_feed(&self, tag: &Tag<'_>) -> bool
-        ensures { result ≡ lines.drops_under self.now.syntax (tag_seen tag.now) self.now.levels }
+    fn drops_line_feed(&self, tag: &Tag<'_>, alone: bool) -> bool
+        ensures { result ≡ (not alone && contents.drops_line_feed (levels.place_under self.now.levels) (tag_seen tag.now)) }
     {
-        let place = self.levels.place();
-        !place.is_alone(self.syntax, tag) && place.drops_line_feed(tag)
+        !alone && self.levels.place().drops_line_feed(tag)
     }
 
     // The element begins.
-    fn enter(&mut self, tag: &Tag<'_>) -> Result<(), NoMemory>
-        requires { nat_le self.old.depth (length self.old.levels) ≡ false }
+    fn enter(&mut self, tag: &Tag<'_>, alone: bool) -> Result<(), NoMemory>
+        requires room { nat_le self.old.depth (length self.old.levels) ≡ false }
+        requires is { alone ≡ contents.is_alone self.old.syntax (levels.place_under self.old.levels) (tag_seen tag.now) }
         ensures { OnOk result (self.new ≡ record self.old { begun = true; levels = lines.begun_under self.old.syntax (tag_seen tag.now) self.old.levels }) }
     {
         self.begun = true;
-        if self.levels.place().is_alone(self.syntax, tag) {
+        if alone {
             return Ok(());
         }
         let traits = self.traits(tag);
