@@ -1,6 +1,7 @@
 -- What is taken at once is read like its bytes one after another.
 use Rattle.std.proofs.Common.{◌≡◌, ◌∙◌, ℕ, ◌+◌, ◌-◌, ◌≤◌, ◌<◌, Bool, true, false, List, [], ◌∷◌, ◌++◌, length, take, drop, refl, ap, sym, subst, Ok, append_assoc, arith, eqb-true, take-add, length-take-le, length-drop, inl, inr, ◌⊎◌}
-use Rattle.std.specs.Prelude.{◌&&◌, ◌==◌, not, nat_le, MatchBool}
+use Rattle.std.specs.Prelude.{◌&&◌, ◌||◌, ◌==◌, not, nat_le, MatchBool}
+use Rattle.rx_tags.specs.Fronts.{is_printed}
 use Rattle.std.specs.List.{list_all}
 use Rattle.std.proofs.lemmas.Bool.{cond-true, cond-false, lt-ltb, lt-leb, leb-true, eqb-false, and_parts, and_from, or_from, both_ways, cases_lt}
 use Rattle.std.proofs.lemmas.List.{take_rest}
@@ -41,8 +42,19 @@ use Rattle.rx_scan.proofs.RunLemmas.{ReadsOn, reads_none, reads_more}
 is_none : (b d : ℕ) → is_plain b ≡ true → is_plain d ≡ false → (b == d) ≡ false
 is_none b d h k = by_test {G = (b == d) ≡ false} (b == d) (λ e. absurd (both_ways (is_plain d) k (ap is_plain (sym (eqb-true b d e)) ∙ h))) (λ e. e)
 
+one_of : (x y : Bool) → (x || y) ≡ true → (x ≡ true) ⊎ (y ≡ true)
+one_of true y e = inl refl
+one_of false y e = inr e
+
+below : (b d : ℕ) → d ≤ 126 → (b == d) ≡ true → b ≤ 126
+below b d k e = let q : b ≡ d = eqb-true b d e in omega (arith, q)
+
 plain_below : (b : ℕ) → is_plain b ≡ true → b ≤ 126
-plain_below b h = leb-true b 126 (and_parts _ _ (and_parts _ _ h).0).1
+plain_below b h =
+    elim (one_of (is_printed b) _ (and_parts _ _ h).0) [
+      | inl p ↦ leb-true b 126 (and_parts _ _ p).1
+      | inr w ↦ elim (one_of (b == 9) _ w) [ inl e ↦ below b 9 (omega arith) e | inr e ↦ below b 10 (omega arith) e ]
+    ]
 
 pub plain_ascii : (front : List ℕ) → list_all is_plain front ≡ true → list_all is_ascii front ≡ true
 plain_ascii [] h = refl
@@ -112,7 +124,7 @@ module _ (l new : Reading) (b : ℕ) (t : TellsFront l (b ∷ []) new) where
   says : entries.Enters l b false (entries.move_at l b) (Ok what.Nothing) new
   says =
       subst (λ (x : Move). entries.Enters l b false x (Ok what.Nothing) new) (sym move_is)
-      (ap (λ x. l.setting.drops && x) (is_none b 10 plain refl) ∙ and_false l.setting.drops, tells)
+      (ap (λ x. x && (b == 10)) m.undropped, tells)
 
   enters : entries.Enters l (as_line_end b) (b == 13) (entries.move_at l (as_line_end b)) (Ok what.Nothing) new
   enters =
@@ -127,7 +139,7 @@ module _ (l new : Reading) (b : ℕ) (t : TellsFront l (b ∷ []) new) where
 
   not_passed : entries.is_passed l.place b ≡ false
   not_passed =
-      or_from _ _ (ap (λ x. not l.place.started && x) (is_none b 65279 plain refl) ∙ and_false (not l.place.started)) (ap (λ x. l.place.after_return && x) (is_none b 10 plain refl) ∙ and_false l.place.after_return)
+      or_from _ _ (ap (λ x. not l.place.started && x) (is_none b 65279 plain refl) ∙ and_false (not l.place.started)) (ap (λ x. x && (b == 10)) m.on_a_line)
 
   as_char : entries.ReadsAnswer l (b ∷ []) (Char b) (Ok what.Nothing) new
   as_char =
@@ -160,6 +172,8 @@ module _ (l new : Reading) (b d : ℕ) (front : List ℕ) (t : TellsFront l (b �
           between = t.may.between;
           held = t.may.held;
           inside = t.may.inside;
+          undropped = t.may.undropped;
+          on_a_line = t.may.on_a_line;
           plain = and_from (is_plain b) true (and_parts (is_plain b) _ t.may.plain).0 refl;
           page = omega (arith, t.may.page);
         };
@@ -172,7 +186,7 @@ module _ (l new : Reading) (b d : ℕ) (front : List ℕ) (t : TellsFront l (b �
   rest_tells : TellsFront (middle l b new.text.room) (d ∷ front) new
   rest_tells =
       record {
-        may = record { between = t.may.between; held = refl; inside = t.may.inside; plain = (and_parts (is_plain b) _ t.may.plain).1; page = omega (arith, t.may.page) };
+        may = record { between = t.may.between; held = refl; inside = t.may.inside; undropped = refl; on_a_line = refl; plain = (and_parts (is_plain b) _ t.may.plain).1; page = omega (arith, t.may.page) };
         text = t.text ∙ sym (append_assoc l.text.text (b ∷ []) (d ∷ front));
         size = omega (arith, t.size);
         room = omega arith;

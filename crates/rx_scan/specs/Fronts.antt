@@ -1,7 +1,7 @@
 -- Plain text at the front of some bytes, and characters of a tag, which are taken at once.
-use Rattle.std.specs.Prelude.{◌≡◌, ◌+◌, ◌≤◌, ℕ, Bool, true, false, not, ◌&&◌, ◌||◌, ◌==◌, nat_le, List, [], ◌++◌, length}
+use Rattle.std.specs.Prelude.{◌≡◌, ◌+◌, ◌≤◌, ℕ, Bool, true, false, not, ◌&&◌, ◌||◌, ◌==◌, List, [], ◌++◌, length}
 use Rattle.std.specs.List.{list_all}
-use Rattle.rx_terms.specs.Ascii.{ampersand, less_than_sign, greater_than_sign, right_bracket}
+use Rattle.rx_terms.specs.Ascii.{ampersand, less_than_sign, greater_than_sign, line_feed, right_bracket, tab}
 use Rattle.rx_grammar.specs.declared.contents.Content.{Content}
 use Rattle.rx_grammar.specs.declared.contents.Content.TheVariants as content
 use Rattle.rx_marks.specs.declared.marks.Mark.TheVariants as mark
@@ -12,20 +12,23 @@ use Rattle.rx_scan.specs.Entries.{with_parts, undropped}
 use Rattle.rx_scan.specs.Places.{said, fed}
 use Rattle.rx_scan.specs.Scanner.{Reading}
 
--- a character of ASCII that is printed and means nothing but itself: neither `&`, `<` and `>` nor `]`
+-- a character of ASCII that is printed, a tab or a line feed, and means nothing but itself: neither `&`, `<` and `>` nor `]`
 abbrev pub is_plain : ℕ → Bool
-is_plain byte = (nat_le 32 byte && nat_le byte 126) && not (byte == ampersand || byte == less_than_sign || byte == greater_than_sign || byte == right_bracket)
+is_plain byte = (is_printed byte || (byte == tab || byte == line_feed)) && not (byte == ampersand || byte == less_than_sign || byte == greater_than_sign || byte == right_bracket)
 
 -- outside the root no such character is text
 abbrev pub has_text : Content → Bool
 has_text content.Outside = false
 has_text _ = true
 
--- Between tokens and between characters these bytes may be told: none is past the page's limit.
+-- Between tokens and between characters these bytes may be told: none is past the page's limit, and no line feed is dropped
+-- or belongs to a CR before it.
 pub record IsFront (v : Reading) (front : List ℕ) : Type 0 where
   pub between : v.pending.mark ≡ mark.Nothing
   pub held : v.held ≡ []
   pub inside : has_text v.setting.inside ≡ true
+  pub undropped : v.setting.drops ≡ false
+  pub on_a_line : v.place.after_return ≡ false
   pub plain : list_all is_plain front ≡ true
   pub page : v.place.at + length front ≤ v.setting.limits.page
 

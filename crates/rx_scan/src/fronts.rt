@@ -10,11 +10,12 @@ use crate::settings::undropped;
 use rx_grammar::Content;
 use rx_marks::Mark;
 
-// A printed character that means nothing but itself in each content that has text, whatever stands before it.
+// A character that means nothing but itself in each content that has text, where no line feed is dropped and no CR stands
+// before it.
 fn is_plain(byte: u8) -> bool
     ensures { result ≡ is_plain byte }
 {
-    matches!(byte, b' '..=b'~') && !matches!(byte, b'&' | b'<' | b'>' | b']')
+    matches!(byte, b' '..=b'~' | b'\t' | b'\n') && !matches!(byte, b'&' | b'<' | b'>' | b']')
 }
 
 // Outside the root white space alone is text.
@@ -135,7 +136,7 @@ impl Reader {
         if !self.utf8.is_whole() {
             return 0;
         }
-        if !has_text(self.setting.inside) {
+        if !has_text(self.setting.inside) || self.setting.drops || self.place.after_return {
             return 0;
         }
         plain_length(bytes, self.front_limit())
