@@ -1,5 +1,7 @@
 pub mod TagLemmas
 pub mod RowLemmas
+pub mod PlaceLemmas
+pub mod NumberLemmas
 pub mod DeclarationLemmas
 pub mod TableLemmas
 pub mod PutLemmas

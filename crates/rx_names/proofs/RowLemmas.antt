@@ -1,17 +1,31 @@
 -- Lists of rows.
-use Rattle.std.proofs.Common.{◌≡◌, ◌∙◌, ℕ, ◌+◌, ◌-◌, ◌<◌, ◌≤◌, ap, sym, refl, arith, true, ◌&&◌, Option, Some, None, List, [], ◌∷◌, ◌++◌, take, drop, length, get_or}
+use Rattle.std.proofs.Common.{◌≡◌, ◌∙◌, ℕ, zero, suc, ◌<◌, ◌≤◌, ap, sym, refl, arith, Bool, true, false, ◌==◌, ◌&&◌, Option, Some, None, List, [], ◌∷◌, ◌++◌, take, drop, length, get_or, slice_get, map, take-take, if◌then◌else◌, bytes_eq, true≢false, take-suc}
 use Rattle.std.specs.List.{list_all}
-use Rattle.std.specs.Option.{option_or}
+use Rattle.std.specs.Option.{option_or, option_map}
 use Rattle.std.proofs.lemmas.Bool.{and_parts}
-use Rattle.std.proofs.lemmas.List.{take-append-drop, take_more}
-use Rattle.std.proofs.lemmas.List.Folds.{list_all-append}
+use Rattle.std.proofs.lemmas.List.{take-append-drop, take-map, length-map}
+use Rattle.std.proofs.lemmas.Option.{slice_get_within, get_or_from_slice_get}
+use Rattle.std.proofs.lemmas.Bool.Decides.{nat_tests}
+use Rattle.std.proofs.lemmas.Slice.Eq.{bytes_eq-Decides}
+use Rattle.std.proofs.lemmas.List.Folds.{list_all-append, list_all_at}
 use Rattle.rx_names.specs.declared.rows.Row.{Row}
-use Rattle.rx_names.specs.Rows.{is_sound, last_of}
+use Rattle.rx_names.specs.declared.rows.Row.TheVariants as row
+use Rattle.rx_terms.specs.Text.{Chars}
+use Rattle.rx_names.specs.Rows.{is_sound, last_of, prefix_in, vocabulary_in, language_in}
+use Rattle.rx_names.specs.Numbers.{number_of, row_number, AreNumbered}
+use Rattle.rx_names.specs.Places.{last_place}
+use Rattle.rx_names.proofs.PlaceLemmas.{last-within}
 
 pub sound-front : (n : ℕ) (rows : List Row) → list_all is_sound rows ≡ true → list_all is_sound (take n rows) ≡ true
 sound-front n rows h =
     let whole : (list_all is_sound (take n rows) && list_all is_sound (drop n rows)) ≡ true = sym (list_all-append is_sound (take n rows) (drop n rows)) ∙ ap (list_all is_sound) (take-append-drop n rows) ∙ h in
     (and_parts _ _ whole).0
+
+pub sound-at : (rows : List Row) (i : ℕ) (x : Row) → list_all is_sound rows ≡ true → i < length rows → x ≡ get_or rows i x → is_sound x ≡ true
+sound-at rows i x h within at = ap is_sound at ∙ whole (is_sound (get_or rows i x)) refl where
+  whole : (b : Bool) → is_sound (get_or rows i x) ≡ b → is_sound (get_or rows i x) ≡ true
+  whole true t = t
+  whole false t = absurd (true≢false (sym h ∙ list_all_at is_sound rows i x within t))
 
 -- what rows say that stand behind others
 pub or-none : {A : Type 0} (o : Option A) → option_or o None ≡ o
@@ -27,14 +41,132 @@ last-append f [] rows = sym (or-none (last_of f rows))
 last-append f (row ∷ front) rows = ap (λ o. option_or o (f row)) (last-append f front rows) ∙ or-assoc (last_of f rows) (last_of f front) (f row)
 
 -- a front is told by its last row, or by the rows before that
-module _ {A : Type 0} (f : Row → Option A) (rows : List Row) (i : ℕ) (x : Row) where
-  last-step : 0 < i → i ≤ length rows → x ≡ get_or rows (i - 1) x → last_of f (take i rows) ≡ option_or (f x) (last_of f (take (i - 1) rows))
-  last-step some within is =
-      let below : i - 1 < length rows = omega arith in
-      let one_more : i - 1 + 1 ≡ i = omega arith in
-      let whole : take i rows ≡ take (i - 1) rows ++ x ∷ [] =
-      ap (λ (n : ℕ). take n rows) (sym one_more) ∙ take_more rows (i - 1) x below ∙ ap (λ (r : Row). take (i - 1) rows ++ r ∷ []) (sym is) in
-      ap (last_of f) whole ∙ last-append f (take (i - 1) rows) (x ∷ [])
+last-here :
+    {A : Type 0} (f : Row → Option A) (rows : List Row) (i : ℕ) (x : Row) (t : Option A)
+    → i < length rows → x ≡ get_or rows i x → f x ≡ t → last_of f (take (suc i) rows) ≡ option_or t (last_of f (take i rows))
+last-here f rows i x t within at is =
+    ap (last_of f) (take-suc rows i x within ∙ ap (λ (r : Row). take i rows ++ r ∷ []) (sym at)) ∙ last-append f (take i rows) (x ∷ [])
+    ∙ ap (λ (o : Option _). option_or o (last_of f (take i rows))) is
 
-  pub last-here : (t : Option A) → 0 < i → i ≤ length rows → x ≡ get_or rows (i - 1) x → f x ≡ t → last_of f (take i rows) ≡ option_or t (last_of f (take (i - 1) rows))
-  last-here t some within is e = last-step some within is ∙ ap (λ (o : Option A). option_or o (last_of f (take (i - 1) rows))) e
+-- an earlier place is one before
+earlier-below : (numbers : List ℕ) (p q m : ℕ) → last_place m (take p numbers) ≡ Some q → q < p
+earlier-below numbers p q m e =
+    let inside = slice_get_within (take p numbers) q m (last-within m (take p numbers) q e) in
+    let count : length (take p numbers) ≤ p = length-front p numbers in
+    omega (arith, inside, count) where
+      length-front : (k : ℕ) (xs : List ℕ) → length (take k xs) ≤ k
+      length-front zero xs = omega arith
+      length-front (suc k) [] = omega arith
+      length-front (suc k) (x ∷ xs) = let l = length-front k xs in omega (arith, l)
+
+get-front : (xs : List ℕ) (k i : ℕ) → i < k → slice_get (take k xs) i ≡ slice_get xs i
+get-front [] zero i l = refl
+get-front [] (suc k) i l = refl
+get-front (x ∷ xs) zero i l = absurd (omega (arith, l))
+get-front (x ∷ xs) (suc k) zero l = refl
+get-front (x ∷ xs) (suc k) (suc i) l = get-front xs k i (omega (arith, l))
+
+-- where a number stands, a row stands
+pub row-within : (rows : List Row) (numbers : List ℕ) (p n : ℕ) → AreNumbered rows numbers → slice_get numbers p ≡ Some n → p < length rows
+row-within rows numbers p n numbered here =
+    let inside = slice_get_within numbers p n here in
+    let count : length numbers ≡ length rows = ap (λ (l : List ℕ). length l) numbered.are ∙ length-map rows row_number in
+    omega (arith, inside, count)
+
+-- the rows through a place, none where there is no place
+abbrev pub through : Option ℕ → List Row → List Row
+through None rows = []
+through (Some place) rows = take (suc place) rows
+
+-- how many these are
+abbrev pub reach : Option ℕ → ℕ
+reach None = 0
+reach (Some place) = suc place
+
+-- what all rows tell is told by those through `next`, where a row of this number stands
+pub record Told {A : Type 0} (f : Row → Option A) (n : ℕ) (rows : List Row) (numbers : List ℕ) (next : Option ℕ) : Type 0 where
+  pub rest : last_of f rows ≡ last_of f (through next rows)
+  pub there : (place : ℕ) → next ≡ Some place → slice_get numbers place ≡ Some n
+
+-- rows of another number than `n` say nothing, so what is told is told by the last row of that number, or by those before
+module _ {A : Type 0} (f : Row → Option A) (n : ℕ) (others : (x : Row) → (row_number x == n) ≡ false → f x ≡ None) where
+  pub last-numbered : (rows : List Row) → last_of f rows ≡ last_of f (through (last_place n (map row_number rows)) rows)
+  last-numbered [] = refl
+  last-numbered (x ∷ rows) = there (last_place n (map row_number rows)) (row_number x == n) refl (last-numbered rows) where
+    there :
+        (o : Option ℕ) (b : Bool) → (row_number x == n) ≡ b → last_of f rows ≡ last_of f (through o rows)
+        → last_of f (x ∷ rows) ≡ last_of f (through (option_or (option_map suc o) (if b then Some 0 else None)) (x ∷ rows))
+    there None true t ih = ap (λ (o : Option A). option_or o (f x)) ih
+    there None false t ih = ap (λ (o : Option A). option_or o (f x)) ih ∙ others x t
+    there (Some p) b t ih = ap (λ (o : Option A). option_or o (f x)) ih
+
+  pub told-at-first : (rows : List Row) (numbers : List ℕ) (next : Option ℕ) → AreNumbered rows numbers → next ≡ last_place n numbers → Told f n rows numbers next
+  told-at-first rows numbers next numbered found = record {
+    rest = last-numbered rows ∙ ap (λ (o : Option ℕ). last_of f (through o rows)) (ap (last_place n) (sym numbered.are) ∙ sym found);
+    there = λ p e. last-within n numbers p (sym found ∙ e);
+  }
+
+  -- the row at the place tells it
+  pub told-there :
+      (rows : List Row) (numbers : List ℕ) (next : Option ℕ) (p : ℕ) (x : Row) (v : A)
+      → AreNumbered rows numbers → Told f n rows numbers next → next ≡ Some p → x ≡ get_or rows p x → f x ≡ Some v → last_of f rows ≡ Some v
+  told-there rows numbers next p x v numbered told is at says =
+      told.rest ∙ ap (λ (o : Option ℕ). last_of f (through o rows)) is ∙ last-here f rows p x (Some v) (row-within rows numbers p n numbered (told.there p is)) at says
+
+  -- or else those before it
+  pub told-before :
+      (rows : List Row) (numbers : List ℕ) (next before : Option ℕ) (p : ℕ) (x : Row)
+      → AreNumbered rows numbers → Told f n rows numbers next → next ≡ Some p → x ≡ get_or rows p x → f x ≡ None
+      → before ≡ last_place (get_or numbers p 0) (take p numbers) → Told f n rows numbers before
+  told-before rows numbers next before p x numbered told is at silent found = record {
+    rest =
+        told.rest ∙ ap (λ (o : Option ℕ). last_of f (through o rows)) is
+        ∙ last-here f rows p x None (row-within rows numbers p n numbered (told.there p is)) at silent
+        ∙ last-numbered (take p rows)
+        ∙ ap (λ (o : Option ℕ). last_of f (through o (take p rows))) place
+        ∙ shorter before refl;
+    there = λ q e. sym (get-front numbers p q (earlier-below numbers p q n (last e))) ∙ last-within n (take p numbers) q (last e);
+  } where
+    last : {o : Option ℕ} → before ≡ o → last_place n (take p numbers) ≡ o
+    last e = ap (λ (k : ℕ). last_place k (take p numbers)) (sym (get_or_from_slice_get numbers p n 0 (told.there p is))) ∙ sym found ∙ e
+
+    place : last_place n (map row_number (take p rows)) ≡ before
+    place = ap (last_place n) (sym (take-map row_number p rows) ∙ ap (take p) (sym numbered.are)) ∙ last refl
+
+    shorter : (o : Option ℕ) → before ≡ o → last_of f (through o (take p rows)) ≡ last_of f (through o rows)
+    shorter None e = refl
+    shorter (Some q) e =
+        let inside : q < p = earlier-below numbers p q n (last e) in
+        ap (last_of f) (take-take (suc q) p rows (omega (arith, inside)))
+
+-- each turn comes nearer to the first row
+pub nearer : (numbers : List ℕ) (next before : Option ℕ) (p m : ℕ) → next ≡ Some p → before ≡ last_place m (take p numbers) → reach before < reach next
+nearer numbers next before p m is found = less before refl where
+  here : reach next ≡ suc p
+  here = ap reach is
+
+  less : (o : Option ℕ) → before ≡ o → reach o < reach next
+  less None e = omega (arith, here)
+  less (Some q) e = let below = earlier-below numbers p q m (sym found ∙ e) in omega (arith, here, below)
+
+-- which rows say nothing
+pub other-prefix : (name : Chars) (x : Row) → (row_number x == number_of name) ≡ false → prefix_in name x ≡ None
+other-prefix name (row.Prefix key iri) t = silent (bytes_eq key name) refl where
+  same : (m k : ℕ) → m ≡ k → (m == k) ≡ true
+  same m k e = grind (arith, nat_tests)
+
+  silent : (b : Bool) → bytes_eq key name ≡ b → (if b then Some iri else None) ≡ None
+  silent true e = absurd (true≢false (sym (same (number_of key) (number_of name) (ap number_of ((bytes_eq-Decides key name).0 e))) ∙ t))
+  silent false e = refl
+other-prefix name (row.Vocabulary value) t = refl
+other-prefix name (row.Language value) t = refl
+
+pub other-vocabulary : (x : Row) → (row_number x == 0) ≡ false → vocabulary_in x ≡ None
+other-vocabulary (row.Prefix key iri) t = refl
+other-vocabulary (row.Vocabulary value) t = absurd (cc)
+other-vocabulary (row.Language value) t = refl
+
+pub other-language : (x : Row) → (row_number x == 1) ≡ false → language_in x ≡ None
+other-language (row.Prefix key iri) t = refl
+other-language (row.Vocabulary value) t = refl
+other-language (row.Language value) t = absurd (cc)

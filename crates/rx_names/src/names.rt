@@ -12,6 +12,7 @@ ghost use Rattle.rx_names.specs.Views.{names_seen};
 
 use crate::contexts::Context;
 use crate::declarations::push_declarations;
+use crate::kept_rows::KeptRows;
 use crate::rows::Rows;
 use rx_tags::Tag;
 use rx_terms::NoMemory;
@@ -24,7 +25,7 @@ use std::marker::Model;
 pub struct Names {
     alloc: Global,
     context: Context,
-    rows: Rows,
+    rows: KeptRows,
     marks: Vec<usize>,
 }
 
@@ -45,7 +46,7 @@ impl Names {
         Ok(Names {
             alloc,
             context,
-            rows: Rows::new(alloc),
+            rows: KeptRows::new(alloc),
             marks: Vec::with_capacity(alloc, levels as usize)?,
         })
     }

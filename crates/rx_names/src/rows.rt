@@ -1,11 +1,9 @@
-//! The declarations that are kept.
-ghost use Rattle.std.specs.Prelude.{◌≡◌, [], ◌∷◌, ◌++◌, length, take, true, OnOk, OnErr, IfSome};
-ghost use Rattle.std.specs.Str.{chars};
-ghost use Rattle.rx_terms.specs.Iri.{has_scheme};
-ghost use Rattle.rx_terms.specs.Text.{lowered};
-ghost use Rattle.rx_refs.specs.Views.{seen_slice};
-ghost use Rattle.rx_names.specs.Rows.{is_sound, last_of, prefix_in, vocabulary_in, language_in, flattened};
+//! What a start tag may declare.
+ghost use Rattle.std.specs.Prelude.{◌≡◌, [], ◌∷◌, ◌++◌, true, OnOk, OnErr};
+ghost use Rattle.std.specs.List.{list_all};
+ghost use Rattle.rx_names.specs.Rows.{is_sound};
 
+use crate::numbers::{LANGUAGE, VOCABULARY, number_of};
 use rx_terms::{Lang, NoMemory, Text};
 use rx_words::is_same_lowered;
 use std::alloc::Global;
@@ -22,7 +20,7 @@ pub enum Row {
     Language(Option<Lang>),
 }
 
-/// The declarations of the open elements, in their order. A contract sees the list.
+/// The declarations of a start tag, in their order. A contract sees the list.
 #[derive(Debug, Drop)]
 pub(crate) struct Rows {
     rows: Vec<Row>,
@@ -61,64 +59,13 @@ impl Rows {
         }
     }
 
-    /// Adds the other rows at the end.
-    pub(crate) fn append(&mut self, other: Rows) -> Result<(), NoMemory>
-        ensures ok { OnOk result (self.new ≡ self.old ++ other) }
-        ensures err { OnErr result (self.new ≡ self.old) }
+    /// The rows as a list.
+    pub(crate) fn into_list(self) -> Vec<Row>
+        ensures rows { result.items ≡ self }
+        ensures sound { list_all is_sound result.items ≡ true }
     {
-        let Rows { mut rows } = other;
-        self.rows.append(&mut rows)?;
-        Ok(())
-    }
-
-    pub(crate) fn len(&self) -> usize
-        ensures length { result ≡ length self.now }
-    {
-        self.rows.len()
-    }
-
-    /// What the last declaration of the prefix says.
-    pub(crate) fn prefix(&self, name: &str) -> Option<&str>
-        ensures last { seen_slice result ≡ last_of (prefix_in (lowered (chars name.now))) self.now }
-        ensures scheme { IfSome result (λ iri. has_scheme (chars iri.now) ≡ true) }
-    {
-        for i in (0..self.rows.len()).rev() {
-            if let Some(iri) = self.rows[i].prefix(name) {
-                return Some(iri);
-            }
-        }
-        None
-    }
-
-    /// The default vocabulary by the last declaration of one.
-    pub(crate) fn vocabulary(&self) -> Option<&str>
-        ensures last { seen_slice result ≡ flattened (last_of vocabulary_in self.now) }
-    {
-        for i in (0..self.rows.len()).rev() {
-            if let Some(vocabulary) = self.rows[i].vocabulary() {
-                return vocabulary;
-            }
-        }
-        None
-    }
-
-    /// The language by the last declaration of one.
-    pub(crate) fn language(&self) -> Option<&str>
-        ensures last { seen_slice result ≡ flattened (last_of language_in self.now) }
-    {
-        for i in (0..self.rows.len()).rev() {
-            if let Some(language) = self.rows[i].language() {
-                return language;
-            }
-        }
-        None
-    }
-
-    /// Drops all but the first rows.
-    pub(crate) fn truncate(&mut self, count: usize)
-        ensures front { self.new ≡ take count self.old }
-    {
-        self.rows.truncate(count);
+        let Rows { rows } = self;
+        rows
     }
 }
 
@@ -129,9 +76,22 @@ impl Row {
     ghost use Rattle.rx_terms.specs.Text.{lowered};
     ghost use Rattle.rx_refs.specs.Views.{seen_slice};
     ghost use Rattle.rx_names.specs.Rows.{is_sound, prefix_in, vocabulary_in, language_in};
+    ghost use Rattle.rx_names.specs.Numbers.{row_number};
+
+    /// The number by which the row is found.
+    pub(crate) fn number(&self) -> u64
+        requires { is_sound self.now ≡ true }
+        ensures number { result ≡ row_number self.now }
+    {
+        match self {
+            Row::Prefix(key, _iri) => number_of(key.as_str()),
+            Row::Vocabulary(_vocabulary) => VOCABULARY,
+            Row::Language(_language) => LANGUAGE,
+        }
+    }
 
     /// The IRI of the prefix, where that is what the row declares.
-    fn prefix(&self, name: &str) -> Option<&str>
+    pub(crate) fn prefix(&self, name: &str) -> Option<&str>
         requires { is_sound self.now ≡ true }
         ensures iri { seen_slice result ≡ prefix_in (lowered (chars name.now)) self.now }
         ensures scheme { IfSome result (λ iri. has_scheme (chars iri.now) ≡ true) }
@@ -150,7 +110,7 @@ impl Row {
     }
 
     /// The default vocabulary, where that is what the row declares.
-    fn vocabulary(&self) -> Option<Option<&str>>
+    pub(crate) fn vocabulary(&self) -> Option<Option<&str>>
         ensures value { option_map seen_slice result ≡ vocabulary_in self.now }
     {
         match self {
@@ -162,7 +122,7 @@ impl Row {
     }
 
     /// The language, where that is what the row declares.
-    fn language(&self) -> Option<Option<&str>>
+    pub(crate) fn language(&self) -> Option<Option<&str>>
         ensures value { option_map seen_slice result ≡ language_in self.now }
     {
         match self {

@@ -1,0 +1,136 @@
+//! The declarations of the open elements.
+ghost use Rattle.std.specs.Prelude.{◌≡◌, [], ◌++◌, length, take, map, true, OnOk, OnErr, IfSome};
+ghost use Rattle.std.specs.List.{list_all};
+ghost use Rattle.std.specs.Str.{chars};
+ghost use Rattle.rx_terms.specs.Iri.{has_scheme};
+ghost use Rattle.rx_terms.specs.Text.{lowered};
+ghost use Rattle.rx_refs.specs.Views.{seen_slice};
+ghost use Rattle.rx_names.specs.Rows.{is_sound, last_of, prefix_in, vocabulary_in, language_in, flattened};
+ghost use Rattle.rx_names.specs.Numbers.{row_number};
+
+use crate::numbers::{LANGUAGE, VOCABULARY, number_of};
+use crate::places::Places;
+use crate::rows::{Row, Rows};
+use rx_terms::NoMemory;
+use std::alloc::Global;
+use std::marker::Model;
+
+/// The declarations of the open elements, in their order. None is looked up by going through the others. A contract sees the
+/// list.
+#[derive(Debug, Drop)]
+pub(crate) struct KeptRows {
+    rows: Vec<Row>,
+    // of each row its number, so that a look-up goes to the rows of one number alone
+    places: Places,
+}
+
+impl Model for KeptRows {
+    ghost use Rattle.std.specs.Prelude.{List};
+    ghost use Rattle.rx_names.specs.declared.rows.Row.{Row};
+    ghost use Rattle.rx_names.specs.Numbers.{AreNumbered};
+
+    ghost Value = { List Row };
+
+    ghost view = { λ kept. kept.rows.items };
+
+    ghost invariant = { λ kept. AreNumbered kept.rows.items kept.places };
+}
+
+impl KeptRows {
+    pub(crate) fn new(alloc: Global) -> KeptRows
+        ensures empty { result ≡ [] }
+    {
+        KeptRows {
+            rows: Vec::new(alloc),
+            places: Places::new(alloc),
+        }
+    }
+
+    /// Adds the rows at the end.
+    pub(crate) fn append(&mut self, added: Rows) -> Result<(), NoMemory>
+        ensures ok { OnOk result (self.new ≡ self.old ++ added) }
+        ensures err { OnErr result (self.new ≡ self.old) }
+    {
+        let mut rows = added.into_list();
+        let count = self.places.len();
+        push_numbers(&mut self.places, rows.as_slice())?;
+        if self.rows.append(&mut rows).is_err() {
+            self.places.truncate(count);
+            return Err(NoMemory);
+        }
+        Ok(())
+    }
+
+    pub(crate) fn len(&self) -> usize
+        ensures length { result ≡ length self.now }
+    {
+        self.rows.len()
+    }
+
+    /// What the last declaration of the prefix says.
+    pub(crate) fn prefix(&self, name: &str) -> Option<&str>
+        ensures last { seen_slice result ≡ last_of (prefix_in (lowered (chars name.now))) self.now }
+        ensures scheme { IfSome result (λ iri. has_scheme (chars iri.now) ≡ true) }
+    {
+        let mut next = self.places.last(number_of(name));
+        while let Some(place) = next {
+            if let Some(iri) = self.rows[place].prefix(name) {
+                return Some(iri);
+            }
+            next = self.places.earlier(place);
+        }
+        None
+    }
+
+    /// The default vocabulary by the last declaration of one.
+    pub(crate) fn vocabulary(&self) -> Option<&str>
+        ensures last { seen_slice result ≡ flattened (last_of vocabulary_in self.now) }
+    {
+        let mut next = self.places.last(VOCABULARY);
+        while let Some(place) = next {
+            if let Some(vocabulary) = self.rows[place].vocabulary() {
+                return vocabulary;
+            }
+            next = self.places.earlier(place);
+        }
+        None
+    }
+
+    /// The language by the last declaration of one.
+    pub(crate) fn language(&self) -> Option<&str>
+        ensures last { seen_slice result ≡ flattened (last_of language_in self.now) }
+    {
+        let mut next = self.places.last(LANGUAGE);
+        while let Some(place) = next {
+            if let Some(language) = self.rows[place].language() {
+                return language;
+            }
+            next = self.places.earlier(place);
+        }
+        None
+    }
+
+    /// Drops all but the first rows.
+    pub(crate) fn truncate(&mut self, count: usize)
+        ensures front { self.new ≡ take count self.old }
+    {
+        self.rows.truncate(count);
+        self.places.truncate(count);
+    }
+}
+
+/// Adds the numbers of the rows, or none of them.
+fn push_numbers(places: &mut Places, rows: &[Row]) -> Result<(), NoMemory>
+    requires { list_all is_sound rows.now ≡ true }
+    ensures ok { OnOk result (places.new ≡ places.old ++ map row_number rows.now) }
+    ensures err { OnErr result (places.new ≡ places.old) }
+{
+    let count = places.len();
+    for row in rows {
+        if places.push(row.number()).is_err() {
+            places.truncate(count);
+            return Err(NoMemory);
+        }
+    }
+    Ok(())
+}
