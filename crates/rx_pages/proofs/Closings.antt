@@ -1,5 +1,5 @@
 -- The front of a page goes on to a page: what is open is closed, from the innermost element on.
-use Rattle.std.proofs.Common.{◌≡◌, ◌∙◌, ℕ, ◌+◌, ◌-◌, ◌≤◌, Bool, true, false, List, [], ◌∷◌, ◌++◌, Option, Some, None, refl, ap, sym, subst, length, append_assoc, append-nil, arith}
+use Rattle.std.proofs.Common.{◌≡◌, ◌∙◌, ℕ, ◌+◌, ◌-◌, ◌≤◌, Bool, true, false, List, [], ◌∷◌, ◌++◌, Option, Some, None, refl, ap, sym, subst, subst₂, length, append_assoc, append-nil, arith}
 use Rattle.std.specs.Prelude.{◌&&◌, ◌||◌, ◌==◌, not, nat_le, codes, Ok, encode_utf8_all}
 use Rattle.std.specs.List.{list_all}
 use Rattle.std.specs.Char.{len_utf8}
@@ -28,7 +28,7 @@ use Rattle.rx_pages.specs.Nesting as nesting
 use Rattle.rx_pages.specs.Nesting.{Event, Nesting, Step, content_at, over, step_by, nest_step, Goes, stands, goes, IsAt}
 use Rattle.rx_pages.specs.PageReader.{item_of}
 use Rattle.rx_pages.specs.Laws.{FrontsClose}
-use Rattle.rx_pages.specs.Closings.{end_tag, end_tags, closing, closed, IsPage}
+use Rattle.rx_pages.specs.Closings.{end_tag, end_tags, closing, closed, IsPage, Bare}
 use Rattle.rx_pages.proofs.CharSteps.{passes}
 use Rattle.rx_pages.proofs.CharWalk.{is_started, ends_return}
 use Rattle.rx_pages.proofs.Nested.{opening}
@@ -85,14 +85,14 @@ entered_more (x ∷ xs) cs h s =
     let k = both (is_steady x) _ s in
     then_more cs xs x (entered_as cs x (ap (λ b. not b && x == byte_order_mark) h) k.0) (entered_more xs (cs ++ x ∷ []) (started_snoc cs x) k.1)
 
-entered_tag : (cs text : List ℕ) → list_all is_steady text ≡ true → page_entries (cs ++ 60 ∷ text) ≡ page_entries cs ++ placed (length (encodes cs)) (60 ∷ text)
+pub entered_tag : (cs text : List ℕ) → list_all is_steady text ≡ true → page_entries (cs ++ 60 ∷ text) ≡ page_entries cs ++ placed (length (encodes cs)) (60 ∷ text)
 entered_tag cs text s = then_more cs text 60 (entered_as cs 60 (and_false (not (is_started cs))) refl) (entered_more text (cs ++ 60 ∷ []) (started_snoc cs 60) s)
 
-values_placed : (at : ℕ) (cs : List ℕ) → values (placed at cs) ≡ cs
+pub values_placed : (at : ℕ) (cs : List ℕ) → values (placed at cs) ≡ cs
 values_placed at [] = refl
 values_placed at (c ∷ cs) = ap (λ x. c ∷ x) (values_placed (at + len_utf8 c) cs)
 
-all_append : {A : Type 0} (test : A → Bool) (a b : List A) → list_all test a ≡ true → list_all test b ≡ true → list_all test (a ++ b) ≡ true
+pub all_append : {A : Type 0} (test : A → Bool) (a b : List A) → list_all test a ≡ true → list_all test b ≡ true → list_all test (a ++ b) ≡ true
 all_append test [] b h k = k
 all_append test (x ∷ a) b h k = let p = both (test x) (list_all test a) h in and_from (test x) (list_all test (a ++ b)) p.0 (all_append test a b p.1 k)
 
@@ -105,7 +105,7 @@ fair_scalars : (cs : List ℕ) → list_all is_fair cs ≡ true → all_scalars 
 fair_scalars [] h = refl
 fair_scalars (c ∷ cs) h = let k = both (is_fair c) (list_all is_fair cs) h in and_from (scalar c) (all_scalars cs) (both (scalar c) (not (c == 0)) k.0).0 (fair_scalars cs k.1)
 
-scalars_append : (a b : List ℕ) → all_scalars a ≡ true → all_scalars b ≡ true → all_scalars (a ++ b) ≡ true
+pub scalars_append : (a b : List ℕ) → all_scalars a ≡ true → all_scalars b ≡ true → all_scalars (a ++ b) ≡ true
 scalars_append [] b h k = k
 scalars_append (c ∷ a) b h k = let p = both (scalar c) (all_scalars a) h in and_from (scalar c) (all_scalars (a ++ b)) p.0 (scalars_append a b p.1 k)
 
@@ -119,15 +119,15 @@ fits_one limit item (section x) h = tt
 fits_one limit item comment h = tt
 fits_one limit item doctype h = tt
 
-last_within : (end last : ℕ) (run rest : List Entry) → last + 1 ≤ end → Within end (run ++ rest) → last_from last run + 1 ≤ end
+pub last_within : (end last : ℕ) (run rest : List Entry) → last + 1 ≤ end → Within end (run ++ rest) → last_from last run + 1 ≤ end
 last_within end last [] rest h w = h
 last_within end last (e ∷ run) rest h w = last_within end e.last run rest w.0 w.1
 
-rest_within : (end : ℕ) (run rest : List Entry) → Within end (run ++ rest) → Within end rest
+pub rest_within : (end : ℕ) (run rest : List Entry) → Within end (run ++ rest) → Within end rest
 rest_within end [] rest w = w
 rest_within end (e ∷ run) rest w = rest_within end run rest w.1
 
-all_fit : (syntax : Syntax) (limit end : ℕ) → end ≤ limit → {entries : List Entry} {next : Option ℕ} {items : List Item} → Spelled syntax entries next items → Within end entries → AllFit limit items
+pub all_fit : (syntax : Syntax) (limit end : ℕ) → end ≤ limit → {entries : List Entry} {next : Option ℕ} {items : List Item} → Spelled syntax entries next items → Within end entries → AllFit limit items
 all_fit syntax limit end h no_more w = tt
 all_fit syntax limit end h (one c run rest item sp f l more) w =
     let last = last_within end c.last run rest w.0 w.1 in
@@ -169,17 +169,16 @@ html_stands Xhtml = record { allowed = refl; known = refl; holds = refl }
 
 module _ (syntax : Syntax) (depth : ℕ) where
   -- These characters are whole tokens at the front of a page, before a `<` and, where the page is over, before nothing.
-  pub record Ahead (cs : List ℕ) (items : List Item) (place : Nesting) : Type 0 where
+  pub record Ahead (cs : List ℕ) (items : List Item) (place : Nesting) (events : List Event) : Type 0 where
     pub scalars : all_scalars cs ≡ true
     pub no_nul : has_no_nul (page_entries cs) ≡ true
     pub spelled : Spelled syntax (page_entries cs) (Some 60) items
     pub last : place.phase ≡ after → Spelled syntax (page_entries cs) None items
     pub sections : no_section_end items false false ≡ true
-    pub events : List Event
     pub going : Goes syntax depth (λ m. m ≡ place) nesting.not_begun items events
 
   -- one more tag
-  module _ (cs : List ℕ) (items : List Item) (place : Nesting) (a : Ahead cs items place) (text : Chars) (t : Tag) (fair : list_all is_fair text ≡ true) (steady : list_all is_steady text ≡ true)
+  module _ (cs : List ℕ) (items : List Item) (place : Nesting) (events : List Event) (a : Ahead cs items place events) (text : Chars) (t : Tag) (fair : list_all is_fair text ≡ true) (steady : list_all is_steady text ≡ true)
       (spells : (next : Option ℕ) → Spells syntax (content_at syntax place) (60 ∷ text) next (tag t)) where
     abbrev start : ℕ
     start = length (encodes cs)
@@ -199,7 +198,7 @@ module _ (syntax : Syntax) (depth : ℕ) where
     fair_all : list_all is_fair (60 ∷ text) ≡ true
     fair_all = and_from (is_fair 60) (list_all is_fair text) refl fair
 
-    pub adds : (step : Step) → nest_step syntax depth place added ≡ Ok step → Ahead (cs ++ 60 ∷ text) (items ++ added ∷ []) step.next
+    pub adds : (step : Step) → nest_step syntax depth place added ≡ Ok step → Ahead (cs ++ 60 ∷ text) (items ++ added ∷ []) step.next (events ++ step.events)
     adds step e =
         record {
           scalars = scalars_append cs (60 ∷ text) a.scalars (fair_scalars (60 ∷ text) fair_all);
@@ -207,16 +206,15 @@ module _ (syntax : Syntax) (depth : ℕ) where
           spelled = spelled_more (Some 60);
           last = λ h. spelled_more None;
           sections = sections_snoc items added false false a.sections no_mark;
-          events = a.events ++ step.events;
           going = goes_snoc syntax depth place added step a.going refl e;
         }
 
-  -- they lead to these open elements
-  pub record Reaches (cs : List ℕ) (line : Line) (phase : Phase) : Type 0 where
+  -- they lead to these open elements, and tell this on the way
+  pub record Reaches (cs : List ℕ) (line : Line) (phase : Phase) (events : List Event) : Type 0 where
     pub items : List Item
     pub place : Nesting
     pub at : IsAt line phase place
-    pub ahead : Ahead cs items place
+    pub ahead : Ahead cs items place events
 
   -- a tag steps by the open elements alone
   tag_steps : (line : Line) (phase : Phase) (place : Nesting) (item : Item) (t : Tag) → IsAt line phase place → step_by syntax depth place item (tag t) ≡ step_by syntax depth (record { line = line; phase = phase; drops = false }) item (tag t)
@@ -227,57 +225,82 @@ module _ (syntax : Syntax) (depth : ℕ) where
   over_line (t ∷ above) = refl
 
   -- the innermost element's end tag
-  closes_one : (cs : List ℕ) (t : StartTag) (above : Line) → IsName syntax t.name → Reaches cs (t ∷ above) within → Reaches (cs ++ end_tag t.name) above (over above).phase
-  closes_one cs t above n r =
+  closes_one : (cs : List ℕ) (t : StartTag) (above : Line) (events : List Event) → IsName syntax t.name → Reaches cs (t ∷ above) within events → Reaches (cs ++ end_tag t.name) above (over above).phase (events ++ nesting.finishes ∷ [])
+  closes_one cs t above events n r =
       let text : Chars = ending_text t.name in
       let spells : (next : Option ℕ) → Spells syntax (content_at syntax r.place) (60 ∷ text) next (tag (ending t.name)) = λ next. subst (λ l. Spells syntax (inside_of syntax l).content (60 ∷ text) next (tag (ending t.name))) (sym r.at.line_is) (spells_end syntax t above n next) in
       let fair : list_all is_fair text ≡ true = all_append is_fair (47 ∷ t.name) (62 ∷ []) (and_from (is_fair 47) (list_all is_fair t.name) refl n.fair) refl in
       let steady : list_all is_steady text ≡ true = all_append is_steady (47 ∷ t.name) (62 ∷ []) (name_steady syntax t.name n) refl in
-      let single : Item = added cs r.items r.place r.ahead text (ending t.name) fair steady spells in
+      let single : Item = added cs r.items r.place events r.ahead text (ending t.name) fair steady spells in
       let step : Step = record { next = over above; events = nesting.finishes ∷ [] } in
       record {
         items = r.items ++ single ∷ [];
         place = over above;
         at = record { line_is = over_line above; phase_is = refl };
-        ahead = adds cs r.items r.place r.ahead text (ending t.name) fair steady spells step (tag_steps (t ∷ above) within r.place single (ending t.name) r.at ∙ nested.closing syntax depth above t single (ending t.name) refl refl);
+        ahead = adds cs r.items r.place events r.ahead text (ending t.name) fair steady spells step (tag_steps (t ∷ above) within r.place single (ending t.name) r.at ∙ nested.closing syntax depth above t single (ending t.name) refl refl);
       }
 
-  closes_all : (line : Line) (cs : List ℕ) → AllNamed syntax depth line → Reaches cs line (over line).phase → Reaches (cs ++ end_tags line) [] after
-  closes_all [] cs n r = subst (λ x. Reaches x [] after) (sym (append-nil cs)) r
-  closes_all (t ∷ above) cs n r = subst (λ x. Reaches x [] after) (append_assoc cs (end_tag t.name) (end_tags above)) (closes_all above (cs ++ end_tag t.name) n.1 (closes_one cs t above n.0 r))
+  -- an end for each open element
+  abbrev pub ends_of : Line → List Event
+  ends_of [] = []
+  ends_of (t ∷ above) = nesting.finishes ∷ ends_of above
+
+  closes_all : (line : Line) (cs : List ℕ) (events : List Event) → AllNamed syntax depth line → Reaches cs line (over line).phase events → Reaches (cs ++ end_tags line) [] after (events ++ ends_of line)
+  closes_all [] cs events n r = subst₂ (λ x es. Reaches x [] after es) (sym (append-nil cs)) (sym (append-nil events)) r
+  closes_all (t ∷ above) cs events n r =
+      subst₂ (λ x es. Reaches x [] after es) (append_assoc cs (end_tag t.name) (end_tags above)) (append_assoc events (nesting.finishes ∷ []) (ends_of above))
+      (closes_all above (cs ++ end_tag t.name) (events ++ nesting.finishes ∷ []) n.1 (closes_one cs t above events n.0 r))
+
+  ends_bare : (line : Line) → Bare (ends_of line)
+  ends_bare [] = tt
+  ends_bare (t ∷ above) = ends_bare above
+
+  -- these characters are a page, which tells this and then ends, and elements without attributes
+  pub record Told (cs : List ℕ) (events : List Event) : Type 0 where
+    pub more : List Event
+    pub bare : Bare more
+    pub reaches : Reaches cs [] after (events ++ more)
 
   -- the empty root
   room : (depth : ℕ) → 1 ≤ depth → nat_le depth 0 ≡ false
   room depth h = grind (arith, nat_tests)
 
-  closes_root : (cs : List ℕ) (stood : Bool) → 1 ≤ depth → Reaches cs [] (before stood) → Reaches (cs ++ codes "<html></html>") [] after
-  closes_root cs stood d r =
+  closes_root : (cs : List ℕ) (stood : Bool) (events : List Event) → 1 ≤ depth → Reaches cs [] (before stood) events → Told (cs ++ codes "<html></html>") events
+  closes_root cs stood events d r =
       let m = html_stands syntax in
       let text : Chars = codes "html>" in
       let spells : (next : Option ℕ) → Spells syntax (content_at syntax r.place) (60 ∷ text) next (tag html_tag) = λ next. subst (λ l. Spells syntax (inside_of syntax l).content (60 ∷ text) next (tag html_tag)) (sym r.at.line_is) (a_tag text html_tag refl (html_spelled syntax)) in
-      let single : Item = added cs r.items r.place r.ahead text html_tag refl refl spells in
+      let single : Item = added cs r.items r.place events r.ahead text html_tag refl refl spells in
       let begun : Step = record { next = record { line = start_of single html_tag ∷ []; phase = within; drops = drops_line_feed outside html_tag }; events = nesting.begins (start_of single html_tag) false ∷ [] } in
       let opens : nest_step syntax depth r.place single ≡ Ok begun =
       tag_steps [] (before stood) r.place single html_tag r.at
       ∙ (opening syntax depth [] (before stood) single html_tag refl m.allowed m.known refl (room depth d) (record { not_ended = refl; named = refl }) ∙ ap (λ (x : Step). Ok x) (cond-false _ _ _ m.holds)) in
-      let root : Reaches (cs ++ codes "<html>") (start_of single html_tag ∷ []) within =
-      record { items = r.items ++ single ∷ []; place = begun.next; at = record { line_is = refl; phase_is = refl }; ahead = adds cs r.items r.place r.ahead text html_tag refl refl spells begun opens } in
-      subst (λ x. Reaches x [] after) (append_assoc cs (codes "<html>") (codes "</html>")) (closes_one (cs ++ codes "<html>") (start_of single html_tag) [] (html_name syntax) root)
+      let root : Reaches (cs ++ codes "<html>") (start_of single html_tag ∷ []) within (events ++ begun.events) =
+      record { items = r.items ++ single ∷ []; place = begun.next; at = record { line_is = refl; phase_is = refl }; ahead = adds cs r.items r.place events r.ahead text html_tag refl refl spells begun opens } in
+      record {
+        more = nesting.begins (start_of single html_tag) false ∷ nesting.finishes ∷ [];
+        bare = (refl, tt);
+        reaches = subst₂ (λ x es. Reaches x [] after es) (append_assoc cs (codes "<html>") (codes "</html>")) (append_assoc events begun.events (nesting.finishes ∷ []))
+            (closes_one (cs ++ codes "<html>") (start_of single html_tag) [] (events ++ begun.events) (html_name syntax) root);
+      }
 
-  closes : (cs : List ℕ) {items : List Item} {line : Line} {phase : Phase} → 1 ≤ depth → Stands syntax depth items line phase → AllNamed syntax depth line → Reaches cs line phase → Reaches (cs ++ closing line phase) [] after
-  closes cs d (not_begun stood lead) n r = closes_root cs stood d r
-  closes cs d (still_open {t = t} {above = above} levels op e) n r = closes_all (t ∷ above) cs n r
-  closes cs d (ended tree document) n r = closes_all [] cs n r
+  closes_line : (line : Line) (cs : List ℕ) (events : List Event) → AllNamed syntax depth line → Reaches cs line (over line).phase events → Told (cs ++ end_tags line) events
+  closes_line line cs events n r = record { more = ends_of line; bare = ends_bare line; reaches = closes_all line cs events n r }
 
-  as_meant : (meant : Nesting → Type 0) (place : Nesting) → meant place → {n : Nesting} {items : List Item} {events : List Event} → Goes syntax depth (λ m. m ≡ place) n items events → Goes syntax depth meant n items events
+  pub closes : (cs : List ℕ) {items : List Item} {line : Line} {phase : Phase} (events : List Event) → 1 ≤ depth → Stands syntax depth items line phase → AllNamed syntax depth line → Reaches cs line phase events → Told (cs ++ closing line phase) events
+  closes cs events d (not_begun stood lead) n r = closes_root cs stood events d r
+  closes cs events d (still_open {t = t} {above = above} levels op e) n r = closes_line (t ∷ above) cs events n r
+  closes cs events d (ended tree document) n r = closes_line [] cs events n r
+
+  pub as_meant : (meant : Nesting → Type 0) (place : Nesting) → meant place → {n : Nesting} {items : List Item} {events : List Event} → Goes syntax depth (λ m. m ≡ place) n items events → Goes syntax depth meant n items events
   as_meant meant place h (stands n p) = stands n (subst meant (sym p) h)
   as_meant meant place h (goes item step c e g) = goes item step c e (as_meant meant place h g)
 
   -- at the page's end
-  is_page : (cs bytes : List ℕ) (limits : Limits) → limits.depth ≡ depth → encodes cs ≡ bytes → Reaches cs [] after → IsPage syntax limits bytes
-  is_page cs bytes limits d e r =
+  pub is_page : (cs bytes : List ℕ) (limits : Limits) (events : List Event) → limits.depth ≡ depth → encodes cs ≡ bytes → Reaches cs [] after events → IsPage syntax limits bytes
+  is_page cs bytes limits events d e r =
       let sp = r.ahead.last r.at.phase_is in
-      let s = fronts_stand syntax depth (page_entries cs) None r.items [] after sp (record { events = r.ahead.events; going = as_meant (IsAt [] after) r.place r.at r.ahead.going }) in
+      let s = fronts_stand syntax depth (page_entries cs) None r.items [] after sp (record { events = events; going = as_meant (IsAt [] after) r.place r.at r.ahead.going }) in
       let p = after_only s refl in
       record {
         tree = p.0;
@@ -300,7 +323,9 @@ pub record Fronted (syntax : Syntax) (limits : Limits) (bytes : List ℕ) (line 
   pub characters : List ℕ
   pub forms : encodes characters ≡ bytes
   pub named : AllNamed syntax limits.depth line
-  pub reaches : Reaches syntax limits.depth characters line phase
+  pub events : List Event
+  pub reaches : Reaches syntax limits.depth characters line phase events
+  pub fit : AllFit limits.tag reaches.items
 
 pub fronted : (syntax : Syntax) (limits : Limits) (bytes : List ℕ) (next : Option ℕ) (line : Line) (phase : Phase) → Begun syntax limits bytes next line phase → Fronted syntax limits bytes line phase
 fronted syntax limits bytes next line phase b =
@@ -314,16 +339,19 @@ fronted syntax limits bytes next line phase b =
       characters = cs;
       forms = b.read.forms;
       named = subst (AllNamed syntax limits.depth) a.is_meant.line_is a.sound.names;
+      events = l.events;
       reaches = record {
         items = b.items;
         place = a.place;
         at = a.is_meant;
-        ahead = record { scalars = b.read.scalars; no_nul = no_nul; spelled = spelled_less syntax sp; last = λ h. spelled_last syntax sp (a.last h); sections = b.sections; events = l.events; going = a.going };
+        ahead = record { scalars = b.read.scalars; no_nul = no_nul; spelled = spelled_less syntax sp; last = λ h. spelled_last syntax sp (a.last h); sections = b.sections; going = a.going };
       };
+      fit = b.fit;
     }
 
 pub fronts_close : FrontsClose
 fronts_close syntax limits bytes next line phase d b =
     let f = fronted syntax limits bytes next line phase b in
-    is_page syntax limits.depth (f.characters ++ closing line phase) (closed bytes line phase) limits refl (encodes-append f.characters (closing line phase) ∙ ap (λ x. x ++ encode_utf8_all (closing line phase)) f.forms)
-    (closes syntax limits.depth f.characters d b.stands f.named f.reaches)
+    let t = closes syntax limits.depth f.characters f.events d b.stands f.named f.reaches in
+    is_page syntax limits.depth (f.characters ++ closing line phase) (closed bytes line phase) limits (f.events ++ t.more) refl
+    (encodes-append f.characters (closing line phase) ∙ ap (λ x. x ++ encode_utf8_all (closing line phase)) f.forms) t.reaches

@@ -64,3 +64,4 @@ pub mod OpenLines
 pub mod Closings
 pub mod FaultFronts
 pub mod OnePlace
+pub mod ClosedTold

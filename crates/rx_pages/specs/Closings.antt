@@ -1,5 +1,5 @@
 -- How the front of a page goes on to a page: what is open is closed, from the innermost element on.
-use Rattle.std.specs.Prelude.{◌≡◌, ℕ, ◌≤◌, List, [], ◌∷◌, ◌++◌, length, codes, Option, encode_utf8_all, if◌then◌else◌}
+use Rattle.std.specs.Prelude.{◌≡◌, ℕ, ◌+◌, ◌<◌, ◌≤◌, Ok, List, [], ◌∷◌, ◌++◌, length, codes, Option, encode_utf8_all, if◌then◌else◌}
 use Rattle.rx_terms.specs.Text.{Chars}
 use Rattle.rx_chars.specs.declared.syntax.Syntax.{Syntax}
 use Rattle.rx_grammar.specs.declared.limits.Limits.{Limits}
@@ -7,6 +7,10 @@ use Rattle.rx_grammar.specs.Trees.{Tree}
 use Rattle.rx_grammar.specs.Pages.{Page}
 use Rattle.rx_grammar.specs.Begun.{Line, Phase, Begun}
 use Rattle.rx_grammar.specs.PageFaults.{is_before}
+use Rattle.rx_grammar.specs.Items.{Item}
+use Rattle.rx_terms.specs.Ascii.{less_than_sign}
+use Rattle.rx_pages.specs.Nesting.{Event, begins, says, finishes, Nesting, not_begun, Goes}
+use Rattle.rx_pages.specs.PageReader.{Progress, page_read}
 
 -- the end tag of a name
 abbrev pub end_tag : Chars → Chars
@@ -42,3 +46,36 @@ pub record IsFront (syntax : Syntax) (limits : Limits) (bytes : List ℕ) : Type
   pub phase : Phase
   pub begun : Begun syntax limits bytes next line phase
   pub closes : 1 ≤ limits.depth → IsPage syntax limits (closed bytes line phase)
+
+-- elements that begin have no attributes
+abbrev pub Bare : List Event → Type 0
+Bare [] = Unit {0}
+Bare (begins t hides ∷ events) = (t.attributes ≡ []) × Bare events
+Bare (says chars ∷ events) = Bare events
+Bare (finishes ∷ events) = Bare events
+
+-- tokens end before an offset
+abbrev pub AllEnd : ℕ → List Item → Type 0
+AllEnd end [] = Unit {0}
+AllEnd end (item ∷ items) = (item.last < end) × AllEnd end items
+
+-- the bytes are read, and tell this
+pub record Tells (syntax : Syntax) (limits : Limits) (bytes : List ℕ) (events : List Event) : Type 0 where
+  pub now : Progress
+  pub read : page_read syntax limits bytes ≡ Ok now
+  pub told : now.told ≡ events
+
+-- What the tokens of a page's front tell, once a `<` ends them; and what the front tells when it is closed: besides, that
+-- elements end, and that one without attributes begins.
+pub record ClosedTells (syntax : Syntax) (limits : Limits) (bytes : List ℕ) (line : Line) (phase : Phase) : Type 0 where
+  pub items : List Item
+  pub ends : AllEnd (length bytes) items
+  pub place : Nesting
+  pub events : List Event
+  pub going : Goes syntax limits.depth (λ m. m ≡ place) not_begun items events
+  pub front : length bytes + 1 ≤ limits.page → Tells syntax limits (bytes ++ less_than_sign ∷ []) events
+  pub more : List Event
+  pub bare : Bare more
+  pub tree : Tree
+  pub page : (wide : Limits) → IsWide limits wide (length (closed bytes line phase)) → Page syntax wide (closed bytes line phase) tree
+  pub whole : (wide : Limits) → IsWide limits wide (length (closed bytes line phase)) → Tells syntax wide (closed bytes line phase) (events ++ more)

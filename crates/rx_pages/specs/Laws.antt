@@ -19,7 +19,7 @@ use Rattle.rx_pages.specs.Nesting.{Event, Nesting, not_begun, Goes, IsAt, told_t
 use Rattle.rx_pages.specs.Scanner.{GoesOn, ReadAs}
 use Rattle.rx_pages.specs.Faults.{Decides}
 use Rattle.rx_pages.specs.PageReader.{Progress, page_read, end_of}
-use Rattle.rx_pages.specs.Closings.{closed, IsPage, IsFront}
+use Rattle.rx_pages.specs.Closings.{closed, IsPage, IsFront, ClosedTells}
 
 -- characters that spell a token are read as it
 abbrev pub ReadsEachToken : Type 0
@@ -100,6 +100,10 @@ FaultsStay = (syntax : Syntax) (limits : Limits) (bytes : List ℕ) (fault : Fau
 -- tag and page. An empty root needs a level.
 abbrev pub FrontsClose : Type 0
 FrontsClose = (syntax : Syntax) (limits : Limits) (bytes : List ℕ) (next : Option ℕ) (line : Line) (phase : Phase) → 1 ≤ limits.depth → Begun syntax limits bytes next line phase → IsPage syntax limits (closed bytes line phase)
+
+-- What a front tells, closed it tells first; and then no more than ends, and one element without attributes.
+abbrev pub FrontsTell : Type 0
+FrontsTell = (syntax : Syntax) (limits : Limits) (bytes : List ℕ) (next : Option ℕ) (line : Line) (phase : Phase) → 1 ≤ limits.depth → Begun syntax limits bytes next line phase → ClosedTells syntax limits bytes line phase
 
 -- Its open elements and its phase are one, whatever comes next.
 pub record IsSamePlace (line others : Line) (phase other : Phase) : Type 0 where

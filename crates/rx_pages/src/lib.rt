@@ -6,7 +6,7 @@
 #![tactic(auto)]
 
 ghost use Rattle.rx_grammar.specs.Laws.{NotBoth, OneFault, OneTree, PageOrFault};
-ghost use Rattle.rx_pages.specs.Laws.{FaultsAreDecided, FaultsFollowFronts, FaultsStay, FindsEachFault, FindsOnlyFaults, FrontsClose, FrontsLead, FrontsStand, OnePlace, PagesGoOn, ReadsEachPage, ReadsEachToken, ReadsOnlyPages, SpellsEachToken, UnfinishedGoesOn};
+ghost use Rattle.rx_pages.specs.Laws.{FaultsAreDecided, FaultsFollowFronts, FaultsStay, FindsEachFault, FindsOnlyFaults, FrontsClose, FrontsLead, FrontsStand, FrontsTell, OnePlace, PagesGoOn, ReadsEachPage, ReadsEachToken, ReadsOnlyPages, SpellsEachToken, UnfinishedGoesOn};
 
 /// A byte list has at most one tree.
 pub fn one_tree()
@@ -93,6 +93,12 @@ pub fn faults_stay()
 /// The front of a page, closed from the innermost open element on, is a page, but for the limits of tag and page.
 pub fn fronts_close()
     ensures { FrontsClose }
+{}
+
+/// What the front of a page tells, it tells first when it is closed, and after that no more than ends, and the start of an
+/// empty root where none has begun.
+pub fn fronts_tell()
+    ensures { FrontsTell }
 {}
 
 /// The front of a page has one line of open elements and one phase, whatever follows it.
