@@ -1,6 +1,7 @@
 -- What becomes of a check, turn by turn.
-use Rattle.std.proofs.Common.{◌≡◌, ◌∙◌, ℕ, inl, true, false, List, [], ◌++◌, take, drop, refl, sym, ap, subst, None, Result, Ok, Err, append-nil, append_assoc}
+use Rattle.std.proofs.Common.{◌≡◌, ◌∙◌, ℕ, inl, Bool, true, false, List, [], ◌++◌, take, drop, refl, sym, ap, subst, Option, None, Result, Ok, Err, append-nil, append_assoc}
 use Rattle.rx_chars.specs.declared.syntax.Syntax.{Syntax}
+use Rattle.rx_grammar.specs.declared.faults.Fault.{Fault}
 use Rattle.rx_grammar.specs.declared.limits.Limits.{Limits}
 use Rattle.rx_rdfa.specs.Names.{Context}
 use Rattle.rx_names.specs.Lines.{Kept}
@@ -15,7 +16,8 @@ use Rattle.rx_walk.specs.Refused.{refused_in}
 use Rattle.rx_walk.specs.Faults.{for_form, StopGives}
 use Rattle.rx_walk.specs.Walks.{OwesNone}
 use Rattle.rx_walk.specs.Accepting.{Accepts, Heard}
-use Rattle.rx_walk.specs.Checks.{Checked, Goes, Somewhere, TurnGives, PieceGives, KeepsEnd, EndGives}
+use Rattle.rx_walk.specs.Falling.{MayAnswer}
+use Rattle.rx_walk.specs.Checks.{Goes, Somewhere, TurnGives, PieceGives, EndGives}
 use Rattle.rx_walk.proofs.Firsts.{no_meaning}
 use Rattle.rx_walk.proofs.Walking.{every, paid_up, front_back, heard_fault}
 
@@ -85,11 +87,18 @@ module _ (syntax : Syntax) (limits : Limits) (context : Context) where
   end_gives nest new kept bytes (Err (stop.Fault fault)) g none e = e
   end_gives nest new kept bytes (Err stop.NoMemory) g none e = e
 
-pub end_keeps : (check : Checked) (syntax : Syntax) (limits : Limits) (bytes : List ℕ) (signs : List Sign) (nest new : Nested) (r : Result (Unit {0}) Stop)
-    → nests.EndGives syntax limits bytes signs nest r new → check.failed ≡ None → check.spent ≡ false → KeepsEnd check r
-end_keeps check syntax limits bytes signs nest new (Ok done) e f s = (f, s)
-end_keeps check syntax limits bytes signs nest new (Err (stop.Fault fault)) e f s = (s, inl f)
-end_keeps check syntax limits bytes signs nest new (Err stop.NoMemory) e f s = absurd e
+-- the end takes no memory
+pub end_asks : (syntax : Syntax) (limits : Limits) (bytes : List ℕ) (signs : List Sign) (nest new : Nested) (r : Result (Unit {0}) Stop)
+    → nests.EndGives syntax limits bytes signs nest r new → (failed : Option Fault) (spent : Bool) → failed ≡ None → spent ≡ false → MayAnswer failed spent r
+end_asks syntax limits bytes signs nest new (Ok done) e failed spent f s = (f, s)
+end_asks syntax limits bytes signs nest new (Err (stop.Fault fault)) e failed spent f s = (s, inl f)
+end_asks syntax limits bytes signs nest new (Err stop.NoMemory) e failed spent f s = absurd e
+
+pub end_takes_none : (syntax : Syntax) (limits : Limits) (bytes : List ℕ) (signs : List Sign) (nest new : Nested) (r : Result (Unit {0}) Stop)
+    → nests.EndGives syntax limits bytes signs nest r new → r ≡ Err stop.NoMemory → ⊥
+end_takes_none syntax limits bytes signs nest new (Ok done) e is = cc
+end_takes_none syntax limits bytes signs nest new (Err (stop.Fault fault)) e is = cc
+end_takes_none syntax limits bytes signs nest new (Err stop.NoMemory) e is = e
 
 -- what was read stays so
 abbrev pub GoesOn : Nested → Kept → Nested → Kept → Type 0

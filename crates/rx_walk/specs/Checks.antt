@@ -1,5 +1,5 @@
 -- What a check stands for, and what its calls answer of a page's bytes.
-use Rattle.std.specs.Prelude.{◌≡◌, ◌⊎◌, ℕ, Bool, true, false, List, [], ◌++◌, length, take, Option, Some, None, Result, Ok, Err}
+use Rattle.std.specs.Prelude.{◌≡◌, ℕ, Bool, false, List, [], ◌++◌, length, take, Option, None, Result, Ok, Err}
 use Rattle.rx_chars.specs.declared.syntax.Syntax.{Syntax}
 use Rattle.rx_grammar.specs.declared.faults.Fault.{Fault}
 use Rattle.rx_grammar.specs.declared.faults.Kind.TheVariants.{Unended}
@@ -18,6 +18,7 @@ use Rattle.rx_walk.specs.declared.turns.Turn.{Turn}
 use Rattle.rx_walk.specs.declared.turns.Turn.TheVariants as turn
 use Rattle.rx_walk.specs.Refused.{refused_in}
 use Rattle.rx_walk.specs.Faults.{StopGives}
+use Rattle.rx_walk.specs.Falling.{FallsBy}
 use Rattle.rx_walk.specs.Accepting.{Accepts}
 use Rattle.rx_walk.specs.Walks.{OwesNone}
 
@@ -63,26 +64,9 @@ abbrev pub PieceGives : Syntax → Limits → Context → List ℕ → List ℕ 
 PieceGives syntax limits context bytes piece (Ok done) nest kept = Goes syntax limits context nest kept (bytes ++ piece) × OwesNone nest
 PieceGives syntax limits context bytes piece (Err why) nest kept = StopGives syntax limits context (bytes ++ piece) why
 
--- after this nothing else is answered
-abbrev pub FallsBy : Stop → Checked → Type 0
-FallsBy (stop.Fault fault) new = (new.failed ≡ Some fault) × (new.spent ≡ false)
-FallsBy stop.NoMemory new = new.spent ≡ true
-
 abbrev pub FeedGives : Syntax → Limits → Context → List ℕ → List ℕ → Result (Unit {0}) Stop → Checked → Type 0
 FeedGives syntax limits context bytes piece (Ok done) new = Stands syntax limits context new (bytes ++ piece)
-FeedGives syntax limits context bytes piece (Err why) new = StopGives syntax limits context (bytes ++ piece) why × FallsBy why new
-
--- Whatever it stands for: a check answers only where neither a fault nor want of memory was answered; a fault comes again, and want of memory.
-abbrev pub Keeps : Checked → Result (Unit {0}) Stop → Checked → Type 0
-Keeps old (Ok done) new = (old.failed ≡ None) × (old.spent ≡ false) × (new.failed ≡ None) × (new.spent ≡ false)
-Keeps old (Err (stop.Fault fault)) new = (old.spent ≡ false) × ((old.failed ≡ None) ⊎ (old.failed ≡ Some fault)) × (new.failed ≡ Some fault) × (new.spent ≡ false)
-Keeps old (Err stop.NoMemory) new = ((old.spent ≡ true) ⊎ (old.failed ≡ None)) × (new.spent ≡ true)
-
--- the end takes no memory
-abbrev pub KeepsEnd : Checked → Result (Unit {0}) Stop → Type 0
-KeepsEnd old (Ok done) = (old.failed ≡ None) × (old.spent ≡ false)
-KeepsEnd old (Err (stop.Fault fault)) = (old.spent ≡ false) × ((old.failed ≡ None) ⊎ (old.failed ≡ Some fault))
-KeepsEnd old (Err stop.NoMemory) = old.spent ≡ true
+FeedGives syntax limits context bytes piece (Err why) new = StopGives syntax limits context (bytes ++ piece) why × FallsBy why new.failed new.spent
 
 -- The bytes are a page of which no start tag is refused.
 pub record Accepted (syntax : Syntax) (limits : Limits) (context : Context) (bytes : List ℕ) : Type 0 where

@@ -5,6 +5,7 @@ pub mod Refused
 pub mod Leading
 pub mod Stages
 pub mod Faults
+pub mod Falling
 pub mod Courses
 pub mod Walks
 pub mod TagPlaces

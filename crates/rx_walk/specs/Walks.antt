@@ -33,6 +33,7 @@ use Rattle.rx_walk.specs.CallsOf.{calls_of}
 use Rattle.rx_walk.specs.Refused.{refused_in}
 use Rattle.rx_walk.specs.Leading.{Led}
 use Rattle.rx_walk.specs.Faults.{StopGives}
+use Rattle.rx_walk.specs.Falling.{FallsBy}
 use Rattle.rx_walk.specs.Courses.{Runs}
 
 -- the page's elements as they are read, what is known of them, the fault that was answered, and want of memory
@@ -107,25 +108,9 @@ abbrev pub PieceGives : Syntax → Limits → Context → Chars → List ℕ →
 PieceGives syntax limits context address bytes piece (Ok done) nest course = Goes syntax limits context address nest course (bytes ++ piece) × OwesNone nest
 PieceGives syntax limits context address bytes piece (Err why) nest course = StopGives syntax limits context (bytes ++ piece) why
 
--- after this nothing else is answered
-abbrev pub FallsBy : Stop → Walked → Type 0
-FallsBy (stop.Fault fault) new = (new.failed ≡ Some fault) × (new.spent ≡ false)
-FallsBy stop.NoMemory new = new.spent ≡ true
-
 abbrev pub FeedGives : Syntax → Limits → Context → Chars → List ℕ → List ℕ → Result (Unit {0}) Stop → Walked → Type 0
 FeedGives syntax limits context address bytes piece (Ok done) new = Stands syntax limits context address new (bytes ++ piece)
-FeedGives syntax limits context address bytes piece (Err why) new = StopGives syntax limits context (bytes ++ piece) why × FallsBy why new
-
--- Whatever it stands for: a walk answers only where neither a fault nor want of memory was answered; a fault comes again, and want of memory.
-abbrev pub Keeps : Walked → Result (Unit {0}) Stop → Walked → Type 0
-Keeps old (Ok done) new = (old.failed ≡ None) × (old.spent ≡ false) × (new.failed ≡ None) × (new.spent ≡ false)
-Keeps old (Err (stop.Fault fault)) new = (old.spent ≡ false) × ((old.failed ≡ None) ⊎ (old.failed ≡ Some fault)) × (new.failed ≡ Some fault) × (new.spent ≡ false)
-Keeps old (Err stop.NoMemory) new = ((old.spent ≡ true) ⊎ (old.failed ≡ None)) × (new.spent ≡ true)
-
-abbrev pub KeepsEnd : Walked → Result (List CodeTriple) Stop → Type 0
-KeepsEnd old (Ok list) = (old.failed ≡ None) × (old.spent ≡ false)
-KeepsEnd old (Err (stop.Fault fault)) = (old.spent ≡ false) × ((old.failed ≡ None) ⊎ (old.failed ≡ Some fault))
-KeepsEnd old (Err stop.NoMemory) = (old.spent ≡ true) ⊎ (old.failed ≡ None)
+FeedGives syntax limits context address bytes piece (Err why) new = StopGives syntax limits context (bytes ++ piece) why × FallsBy why new.failed new.spent
 
 -- the list is what an evaluator has after the calls for a whole page
 pub record Lists (context : Context) (address : Chars) (levels : ℕ) (tree : Tree) (list : List CodeTriple) : Type 0 where

@@ -1,5 +1,5 @@
 //! A page that is checked in pieces.
-ghost use Rattle.std.specs.Prelude.{◌≡◌, ◌∷◌, ◌++◌, ℕ, List, [], false, None, IfOk};
+ghost use Rattle.std.specs.Prelude.{◌≡◌, ◌∷◌, ◌++◌, ℕ, List, [], true, false, None, Err, IfOk};
 ghost use Rattle.rx_chars.specs.declared.syntax.Syntax as syntaxes;
 ghost use Rattle.rx_grammar.specs.declared.limits.Limits as limit;
 ghost use Rattle.rx_rdfa.specs.Names.{Context as RulesContext};
@@ -8,16 +8,16 @@ ghost use Rattle.rx_rdfa.specs.Tree.{Tag as StartTag};
 ghost use Rattle.rx_names.specs.Lines as lines;
 ghost use Rattle.rx_names.specs.Tags.{tag_of};
 ghost use Rattle.rx_curie.specs.Given.{vocabulary_from};
-ghost use Rattle.rx_nest.specs.Nests as nests;
 ghost use Rattle.rx_nest.specs.Nests.{tag_shown, event_signs};
 ghost use Rattle.rx_nest.specs.Signs.{Sign, begun, finished};
 ghost use Rattle.rx_nest.specs.Fronts.{IsFront};
+ghost use Rattle.rx_walk.specs.Falling.{Answered, MayAnswer};
 ghost use Rattle.rx_walk.specs.Refused.{refused_at};
 ghost use Rattle.rx_walk.specs.Accepting.{Accepts, MayFollow, Heard};
 ghost use Rattle.rx_walk.specs.Walks.{TurnTakes, TakesByte};
 ghost use Rattle.rx_walk.specs.Checks as checks;
 
-use crate::turns::Turn;
+use crate::turns::{Turn, is_more};
 use rx_curie::refusal_of;
 use rx_names::{Context, Names};
 use rx_nest::{Event, Fault, Limits, Nest, Stop, Syntax, Tag};
@@ -45,15 +45,6 @@ impl Model for Check {
     ghost view = { λ c. record { nest = c.nest; names = c.names; failed = c.failed; spent = c.spent } };
 
     ghost invariant = { λ c. Ready c.nest c.names c.failed c.spent };
-}
-
-fn is_more(event: Event<'_>) -> bool
-    ensures { result ≡ nests.is_more event.entry }
-{
-    match event {
-        Event::More => true,
-        _ => false,
-    }
 }
 
 /// The fault for which the start tag is refused.
@@ -179,7 +170,8 @@ impl Check {
     /// Takes the whole piece.
     pub fn feed(&mut self, piece: &[u8]) -> Result<(), Stop>
         ensures gives { (syntax : syntaxes.Syntax) (limits : limit.Limits) (context : RulesContext) (bytes : List ℕ) → checks.Stands syntax limits context self.old bytes → checks.FeedGives syntax limits context bytes piece.now result self.new }
-        ensures keeps { checks.Keeps self.old result self.new }
+        ensures asked { MayAnswer self.old.failed self.old.spent result }
+        ensures keeps { Answered result self.new.failed self.new.spent }
     {
         if self.spent {
             return Err(Stop::NoMemory);
@@ -204,7 +196,8 @@ impl Check {
     /// page and no earlier fault stands in them.
     pub fn finish(self) -> Result<(), Stop>
         ensures gives { (syntax : syntaxes.Syntax) (limits : limit.Limits) (context : RulesContext) (bytes : List ℕ) → checks.Stands syntax limits context self bytes → checks.EndGives syntax limits context bytes result }
-        ensures keeps { checks.KeepsEnd self result }
+        ensures asked { MayAnswer self.failed self.spent result }
+        ensures memory { result ≡ Err Stop.NoMemory → self.spent ≡ true }
     {
         let Check {
             mut nest,

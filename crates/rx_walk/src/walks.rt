@@ -7,7 +7,6 @@ ghost use Rattle.rx_rdfa.specs.Names.{Context as RulesContext};
 ghost use Rattle.rx_names.specs.Lines.{declared_along};
 ghost use Rattle.rx_scan.specs.Entries.{IsNoMemory};
 ghost use Rattle.rx_scan.specs.Steps.{is_quiet};
-ghost use Rattle.rx_nest.specs.Nests as nests;
 ghost use Rattle.rx_nest.specs.Nests.{IsBetween};
 ghost use Rattle.rx_eval.specs.Keeping.{gathers_some};
 ghost use Rattle.rx_eval.specs.Opened.{handed_on};
@@ -16,13 +15,14 @@ ghost use Rattle.rx_eval.specs.Waits.{Shows};
 ghost use Rattle.rx_grammar.specs.Trees.{StartTag, Tree, end, element};
 ghost use Rattle.rx_nest.specs.Signs.{signs_of};
 ghost use Rattle.rx_walk.specs.Courses.{Runs};
+ghost use Rattle.rx_walk.specs.Falling.{Answered, MayAnswer};
 ghost use Rattle.rx_walk.specs.FaultPlaces as places;
 ghost use Rattle.rx_walk.specs.Quiets as quiets;
 ghost use Rattle.rx_walk.specs.Walks as walks;
 
 use crate::courses::Course;
 use crate::stages::Stage;
-use crate::turns::Turn;
+use crate::turns::{Turn, is_more};
 use rx_eval::Inherited;
 use rx_names::Context;
 use rx_nest::{Event, Fault, Limits, Nest, Stop, Syntax};
@@ -49,15 +49,6 @@ impl Model for Walk {
     ghost view = { λ w. record { nest = w.nest; course = w.course; failed = w.failed; spent = w.spent } };
 
     ghost invariant = { λ w. Ready w.nest w.course w.failed w.spent };
-}
-
-fn is_more(event: Event<'_>) -> bool
-    ensures { result ≡ nests.is_more event.entry }
-{
-    match event {
-        Event::More => true,
-        _ => false,
-    }
 }
 
 /// Takes what comes next of the page's tree.
@@ -155,7 +146,8 @@ impl Walk {
         ensures gives { (syntax : syntaxes.Syntax) (limits : limit.Limits) (context : RulesContext) (address : Chars) (bytes : List ℕ) → walks.Stands syntax limits context address self.old bytes → walks.FeedGives syntax limits context address bytes piece.now result self.new }
         ensures place { (syntax : syntaxes.Syntax) (limits : limit.Limits) (context : RulesContext) (address : Chars) (bytes : List ℕ) → walks.Stands syntax limits context address self.old bytes → places.PlaceGives syntax limits context bytes piece.now result }
         ensures quiet { (syntax : syntaxes.Syntax) (limits : limit.Limits) (context : RulesContext) (address : Chars) (bytes : List ℕ) → walks.Stands syntax limits context address self.old bytes → IsBetween syntax limits bytes → is_quiet piece.now ≡ true → (state : State) → walks.state_of self.old.course.stage ≡ Some state → gathers_some state.frames ≡ false → IsNoMemory result ≡ false }
-        ensures keeps { walks.Keeps self.old result self.new }
+        ensures asked { MayAnswer self.old.failed self.old.spent result }
+        ensures keeps { Answered result self.new.failed self.new.spent }
     {
         if self.spent {
             return Err(Stop::NoMemory);
@@ -180,7 +172,7 @@ impl Walk {
     /// in them.
     pub fn finish(self) -> Result<TripleList, Stop>
         ensures gives { (syntax : syntaxes.Syntax) (limits : limit.Limits) (context : RulesContext) (address : Chars) (bytes : List ℕ) → walks.Stands syntax limits context address self bytes → walks.EndGives syntax limits context address bytes result }
-        ensures keeps { walks.KeepsEnd self result }
+        ensures asked { MayAnswer self.failed self.spent result }
     {
         let Walk {
             mut nest,
