@@ -12,7 +12,7 @@ use Rattle.rx_walk.specs.Lines.{read_tag, tags_of}
 use Rattle.rx_walk.specs.Seekings.{Seeking, first_child, base_child, known, base_href, known_by, seek, seeks, BaseIsFound}
 use Rattle.rx_walk.proofs.Signed.{seeks_append, said_line, said_seeks, tree_line}
 
-known_stays : (line : List Tag) (href : Option Chars) (signs : List Sign) → seeks line (known href) signs ≡ known href
+pub known_stays : (line : List Tag) (href : Option Chars) (signs : List Sign) → seeks line (known href) signs ≡ known href
 known_stays line href [] = refl
 known_stays line href (begun t ∷ signs) = known_stays (read_tag t ∷ line) href signs
 known_stays line href (said c ∷ signs) = known_stays line href signs

@@ -19,3 +19,7 @@ pub mod Idling
 pub mod Quieting
 pub mod Accepted
 pub mod Checking
+pub mod SeenStates
+pub mod AlikeStates
+pub mod StandsAlike
+pub mod GrownNumbers

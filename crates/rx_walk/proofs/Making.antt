@@ -10,9 +10,10 @@ use Rattle.rx_rdfa.specs.Names.{Context}
 use Rattle.rx_rdfa.specs.Tree.{Nodes}
 use Rattle.rx_eval.specs.Numbering.{Numbering}
 use Rattle.rx_eval.specs.Opened.{begun_state}
-use Rattle.rx_eval.specs.Standing.{Stands, Makes, no_numbers}
+use Rattle.rx_eval.specs.Standing.{Stands, StandsOn, Makes, no_numbers}
 use Rattle.rx_eval.specs.States.{State}
 use Rattle.rx_eval.proofs.EndLemmas.{left_stands}
+use Rattle.rx_eval.proofs.NameLemmas.{grown_same, grown_then}
 use Rattle.rx_eval.proofs.StandLemmas.{begun_stands, enter_stands, text_stands, finish_makes}
 use Rattle.rx_walk.specs.CallsOf.{singly}
 use Rattle.rx_walk.specs.Leading.{Steps, Leads}
@@ -21,22 +22,19 @@ use Rattle.rx_walk.specs.Walks.{Lists, IsMade}
 use Rattle.rx_walk.proofs.Alike.{pieces_lead}
 use Rattle.rx_walk.proofs.Signed.{calls_tree}
 
--- the state stands for the calls under some numbering
-pub record StandsSome (list : List Call) (state : State) : Type 0 where
-  pub to : Numbering
-  pub stands : Stands to list state
+-- the state stands for the calls under a numbering that has grown
 
-one_on : (call : Call) (to : Numbering) (list : List Call) (old new : State) → Steps call old new → Stands to list old → StandsSome (list ++ call ∷ []) new
-one_on (Enter facts) to list old new s st = let x = enter_stands to list old facts new s.1 s.0.root s.0.drawn st in record { to = x.now; stands = x.stands }
-one_on (Read chars) to list old new s st = record { to = to; stands = subst (λ z. Stands to (list ++ Read chars ∷ []) z) (sym s) (text_stands to list old chars st) }
-one_on Leave to list old new s st = let x = left_stands to list old new s st in record { to = x.now; stands = x.stands }
+pub one_on : (call : Call) (to : Numbering) (list : List Call) (old new : State) → Steps call old new → Stands to list old → StandsOn to (list ++ call ∷ []) new
+one_on (Enter facts) to list old new s st = enter_stands to list old facts new s.1 s.0.root s.0.drawn st
+one_on (Read chars) to list old new s st = record { now = to; grown = grown_same to; stands = subst (λ z. Stands to (list ++ Read chars ∷ []) z) (sym s) (text_stands to list old chars st) }
+one_on Leave to list old new s st = left_stands to list old new s st
 
-pub all_on : (list before : List Call) (to : Numbering) (old new : State) → Leads list old new → Stands to before old → StandsSome (before ++ list) new
-all_on [] before to old new h st = record { to = to; stands = subst (λ l. Stands to l new) (sym (append-nil before)) (subst (λ z. Stands to before z) (sym h) st) }
+pub all_on : (list before : List Call) (to : Numbering) (old new : State) → Leads list old new → Stands to before old → StandsOn to (before ++ list) new
+all_on [] before to old new h st = record { now = to; grown = grown_same to; stands = subst (λ l. Stands to l new) (sym (append-nil before)) (subst (λ z. Stands to before z) (sym h) st) }
 all_on (call ∷ list) before to old new h st =
     let one = one_on call to before old h.0 h.1 st in
-    let all = all_on list (before ++ call ∷ []) one.to h.0 new h.2 one.stands in
-    record { to = all.to; stands = subst (λ l. Stands all.to l new) (append_assoc before (call ∷ []) list) all.stands }
+    let all = all_on list (before ++ call ∷ []) one.now h.0 new h.2 one.stands in
+    record { now = all.now; grown = grown_then to one.now all.now one.grown all.grown; stands = subst (λ l. Stands all.now l new) (append_assoc before (call ∷ []) list) all.stands }
 
 -- the base stays
 one_base : (call : Call) (old new : State) → Steps call old new → new.base ≡ old.base
@@ -44,14 +42,14 @@ one_base (Enter facts) old new s = s.1.rest.0
 one_base (Read chars) old new s = ap (λ (z : State). z.base) s
 one_base Leave old new s = s.rest.0
 
-all_base : (list : List Call) (old new : State) → Leads list old new → new.base ≡ old.base
+pub all_base : (list : List Call) (old new : State) → Leads list old new → new.base ≡ old.base
 all_base [] old new h = ap (λ (z : State). z.base) h
 all_base (call ∷ list) old new h = all_base list h.0 new h.2 ∙ one_base call old h.0 h.1
 
 made_by : (base : Chars) (levels : ℕ) (tree : Nodes Facts) (state : State) → Leads (calls tree) (begun_state base levels) state → (to : Numbering) × Makes to base tree state.out
 made_by base levels tree state h =
     let s = all_on (calls tree) [] no_numbers (begun_state base levels) state h (begun_stands base levels) in
-    (s.to, subst (λ b. Makes s.to b tree state.out) (all_base (calls tree) (begun_state base levels) state h) (finish_makes s.to state tree s.stands))
+    (s.now, subst (λ b. Makes s.now b tree state.out) (all_base (calls tree) (begun_state base levels) state h) (finish_makes s.now state tree s.stands))
 
 pub list_made : (context : Context) (address : Chars) (levels : ℕ) (tree : Tree) (list : List CodeTriple) → Lists context address levels tree list → IsMade context address tree list
 list_made context address levels tree list l =

@@ -55,10 +55,10 @@ is_numbered syntax limits context address walk bytes s state e =
     let base = base_by known.href address in
     let some = all_on (calls_of context [] s.goes.signs) [] no_numbers (begun_state base limits.depth) state known.led.leads (begun_stands base limits.depth) in
     record {
-      to = some.to;
+      to = some.now;
       by = record {
         stands = some.stands;
         line = facts_line context s.goes.signs;
-        shows = λ shown h. shows_after some.to (calls_of context [] s.goes.signs) state shown h some.stands;
+        shows = λ shown h. shows_after some.now (calls_of context [] s.goes.signs) state shown h some.stands;
       };
     }

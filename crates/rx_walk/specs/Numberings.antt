@@ -1,10 +1,14 @@
 -- The numbers that a page's blank nodes have at any time.
-use Rattle.std.specs.Prelude.{◌≡◌, ℕ, List, [], ◌∷◌, Some}
+use Rattle.std.specs.Prelude.{◌≡◌, ℕ, List, [], ◌∷◌, ◌++◌, Some}
 use Rattle.rx_terms.specs.Text.{Chars}
+use Rattle.rx_terms.specs.declared.triples.Triple.{Triple as CodeTriple}
+use Rattle.rx_model.specs.Seen.{triples_seen}
 use Rattle.rx_chars.specs.declared.syntax.Syntax.{Syntax}
 use Rattle.rx_grammar.specs.declared.limits.Limits.{Limits}
+use Rattle.rx_grammar.specs.Trees.{Tree}
+use Rattle.rx_rdfa.specs.Base.{base_of}
 use Rattle.rx_rdfa.specs.Calls.{line_after, no_line}
-use Rattle.rx_rdfa.specs.Facts.{Facts, facts}
+use Rattle.rx_rdfa.specs.Facts.{Facts, facts, with_facts}
 use Rattle.rx_rdfa.specs.Names.{Context}
 use Rattle.rx_rdfa.specs.Tree.{Tag}
 use Rattle.rx_nest.specs.Signs.{Sign}
@@ -15,9 +19,9 @@ use Rattle.rx_eval.specs.Shown.{ShowsAfter}
 use Rattle.rx_eval.specs.Standing as eval
 use Rattle.rx_eval.specs.States.{State}
 use Rattle.rx_eval.specs.Waits.{Shows}
-use Rattle.rx_walk.specs.Lines.{line_of}
+use Rattle.rx_walk.specs.Lines.{line_of, tags_of}
 use Rattle.rx_walk.specs.CallsOf.{calls_of}
-use Rattle.rx_walk.specs.Walks.{Walked, Stands, state_of}
+use Rattle.rx_walk.specs.Walks.{Walked, Stands, Ended, state_of}
 
 -- the facts of the elements of a line, the innermost first
 abbrev pub facts_along : Context → List Tag → List Facts
@@ -42,7 +46,26 @@ pub record NumberedOn (old : Numbering) (context : Context) (signs : List Sign) 
   pub grown : Grown old to
   pub by : NumbersBy to context signs state
 
+-- under a numbering that has grown the list is what RDFa's rules make of the tree
+pub record MadeOn (old : Numbering) (context : Context) (address : Chars) (tree : Tree) (list : List CodeTriple) : Type 0 where
+  pub to : Numbering
+  pub grown : Grown old to
+  pub makes : eval.Makes to (base_of (tags_of tree) address) (with_facts context [] (tags_of tree)) (triples_seen list)
+
 -- law: once the base is known, a walk has such a numbering
 abbrev pub IsNumbered : Type 0
 IsNumbered = (syntax : Syntax) (limits : Limits) (context : Context) (address : Chars) (walk : Walked) (bytes : List ℕ) (s : Stands syntax limits context address walk bytes) (state : State)
     → state_of walk.course.stage ≡ Some state → Numbered context s.goes.signs state
+
+-- law: with the bytes of a page its numbering only grows: each that a walk has for some of them becomes, by more numbers
+-- alone, one that a walk has for these and more
+abbrev pub NumbersGrow : Type 0
+NumbersGrow = (syntax : Syntax) (limits : Limits) (context : Context) (address : Chars) (before after : Walked) (bytes piece : List ℕ)
+    (s : Stands syntax limits context address before bytes) (t : Stands syntax limits context address after (bytes ++ piece)) (old new : State)
+    → state_of before.course.stage ≡ Some old → state_of after.course.stage ≡ Some new → (to : Numbering) → NumbersBy to context s.goes.signs old → NumberedOn to context t.goes.signs new
+
+-- law: and one under which the list of the whole page is told
+abbrev pub ListIsNumbered : Type 0
+ListIsNumbered = (syntax : Syntax) (limits : Limits) (context : Context) (address : Chars) (walk : Walked) (bytes piece : List ℕ) (s : Stands syntax limits context address walk bytes) (state : State)
+    → state_of walk.course.stage ≡ Some state → (to : Numbering) → NumbersBy to context s.goes.signs state
+    → (list : List CodeTriple) (e : Ended syntax limits context address (bytes ++ piece) list) → MadeOn to context address e.tree list

@@ -5,7 +5,7 @@ ghost use Rattle.rx_walk.specs.CallsOf.{CallsOfTree, PiecesAreAlike};
 ghost use Rattle.rx_walk.specs.Seekings.{BaseIsFound};
 ghost use Rattle.rx_walk.specs.Leading.{PiecesLeadAlike};
 ghost use Rattle.rx_walk.specs.KeptTexts.{KeepsOneText};
-ghost use Rattle.rx_walk.specs.Numberings.{IsNumbered};
+ghost use Rattle.rx_walk.specs.Numberings.{IsNumbered, ListIsNumbered, NumbersGrow};
 
 mod calls;
 mod checks;
@@ -53,4 +53,14 @@ pub fn walks_keep_one_text()
 /// what it shows of its innermost open element are what the rules say of the elements that were read.
 pub fn walks_are_numbered()
     ensures { IsNumbered }
+{}
+
+/// With the bytes of a page a numbering only grows: what has a number keeps it, whatever a walk is fed.
+pub fn numbers_grow()
+    ensures { NumbersGrow }
+{}
+
+/// The list of a page is told under a numbering that has grown out of each that a walk has had for the page's first bytes.
+pub fn lists_are_numbered()
+    ensures { ListIsNumbered }
 {}
