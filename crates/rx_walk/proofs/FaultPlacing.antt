@@ -1,10 +1,9 @@
 -- Where a page's fault lies.
-use Rattle.std.proofs.Common.{◌≡◌, ◌∙◌, ℕ, ◌+◌, ◌<◌, ◌≤◌, List, [], ◌∷◌, ◌++◌, length, refl, sym, ap, subst, Option, Some, None, Result, Ok, Err, arith, append-nil, zero, suc, Bool, true, false, take, drop}
+use Rattle.std.proofs.Common.{◌≡◌, ◌∙◌, ℕ, ◌+◌, ◌<◌, ◌≤◌, List, [], ◌∷◌, ◌++◌, length, refl, sym, ap, subst, Option, Some, None, Result, Ok, Err, arith, zero, suc, Bool, true, false, take, drop}
 use Rattle.std.proofs.lemmas.Bool.Decides.{nat_tests}
 use Rattle.std.specs.Prelude.{option_map, nat_le, if◌then◌else◌}
 use Rattle.rx_reader.proofs.Bools.{by_test}
 use Rattle.std.specs.Option.{option_or}
-use Rattle.rx_terms.specs.Text.{Chars}
 use Rattle.rx_chars.specs.declared.syntax.Syntax.{Syntax}
 use Rattle.rx_grammar.specs.declared.faults.Fault.{Fault}
 use Rattle.rx_grammar.specs.declared.faults.Kind.TheVariants.{Unended}
@@ -17,8 +16,6 @@ use Rattle.rx_rdfa.specs.Names.{Context}
 use Rattle.rx_rdfa.specs.Refusals.{Refusal, refusal}
 use Rattle.rx_rdfa.specs.Tree.{Tag}
 use Rattle.rx_pages.specs.PageReader.{Progress, page_read, page_on, nothing_read, no_page, spot_of, end_of, may_end, fault_in}
-use Rattle.rx_pages.specs.Closings.{IsFront}
-use Rattle.rx_pages.proofs.FaultFronts.{faults_follow_fronts}
 use Rattle.rx_pages.proofs.FaultWalk.{fault_stays}
 use Rattle.rx_pages.proofs.FaultsRead.{fault_is_read}
 use Rattle.rx_pages.proofs.PageRead.{page_is_read}
@@ -26,19 +23,17 @@ use Rattle.rx_pages.proofs.ScanSteps.{page_append}
 use Rattle.rx_pages.proofs.Trees.{one_tree}
 use Rattle.rx_nest.specs.Signs.{Sign, begun, said, finished, Sight, sees, nothing_seen, signs_of}
 use Rattle.rx_nest.specs.Fronts.{Lie}
-use Rattle.rx_nest.specs.Nests.{Nested}
 use Rattle.rx_nest.proofs.Sizes.{read_size, within_so}
 use Rattle.rx_nest.proofs.TagPlaces.{shows_more}
 use Rattle.rx_nest.proofs.TreeSeen.{whole}
 use Rattle.rx_walk.specs.Lines.{read_tag, line_on, line_of}
 use Rattle.rx_walk.specs.Refused.{fault_of, refused_in}
-use Rattle.rx_walk.specs.declared.courses.Course.{Course}
-use Rattle.rx_walk.specs.Faults.{MeaningAt, Refuses, Stops, for_form, for_meaning}
-use Rattle.rx_walk.specs.FaultPlaces.{BeginsNone, BeginsRefused, PlaceLaw, of_form, of_meaning, Placed}
-use Rattle.rx_walk.specs.Walks.{Goes, OwesNone}
+use Rattle.rx_walk.specs.Faults.{MeaningAt, Refuses, for_form, for_meaning}
+use Rattle.rx_walk.specs.FaultPlaces.{BeginsNone, BeginsRefused}
 use Rattle.rx_walk.proofs.Signed.{refused_append}
 use Rattle.rx_walk.proofs.Firsts.{meaning_within, page_behind}
-use Rattle.rx_walk.proofs.TokenPlacing.{refused_fronts}
+use Rattle.rx_walk.proofs.TokenPlacing.{take_front}
+use Rattle.rx_walk.proofs.Walking.{front_back}
 
 -- a start tag that is refused lies where the tags lie
 
@@ -46,7 +41,7 @@ refused_one : (n : ℕ) (t : StartTag) (r : Option Refusal) (fault : Fault) → 
 refused_one n t None fault l e = absurd (cc)
 refused_one n t (Some r) fault l e = let is : fault_of t r ≡ fault = cc in subst (λ (f : Fault). n ≤ f.at) is l
 
-refused_from : (context : Context) (from to : ℕ) (line : List Tag) (signs : List Sign) (fault : Fault) → Lie from to signs → refused_in context line signs ≡ Some fault → from ≤ fault.at
+pub refused_from : (context : Context) (from to : ℕ) (line : List Tag) (signs : List Sign) (fault : Fault) → Lie from to signs → refused_in context line signs ≡ Some fault → from ≤ fault.at
 refused_from context from to line [] fault h e = absurd (cc)
 refused_from context from to line (said c ∷ signs) fault h e = refused_from context from to line signs fault h e
 refused_from context from to line (finished ∷ signs) fault h e = refused_from context from to (line_on line finished) signs fault h e
@@ -58,23 +53,13 @@ refused_from context from to line (begun t ∷ signs) fault h e = by (refused_fr
 
 -- the front of bytes that are read is read
 
-front_back : (n : ℕ) (xs : List ℕ) → take n xs ++ drop n xs ≡ xs
-front_back zero xs = refl
-front_back (suc n) [] = refl
-front_back (suc n) (x ∷ xs) = ap (λ r. x ∷ r) (front_back n xs)
-
-take_length : (n : ℕ) (xs : List ℕ) → n ≤ length xs → length (take n xs) ≡ n
+pub take_length : (n : ℕ) (xs : List ℕ) → n ≤ length xs → length (take n xs) ≡ n
 take_length zero xs l = refl
 take_length (suc n) [] l = absurd (omega arith)
 take_length (suc n) (x ∷ xs) l = ap suc (take_length n xs (omega arith))
 
-pub take_front : (n : ℕ) (xs ys : List ℕ) → n ≤ length xs → take n (xs ++ ys) ≡ take n xs
-take_front zero xs ys l = refl
-take_front (suc n) [] ys l = absurd (omega arith)
-take_front (suc n) (x ∷ xs) ys l = ap (λ r. x ∷ r) (take_front n xs ys (omega arith))
-
 -- the first that is there stays, whatever follows
-some_first : {A : Type 0} (x y : Option A) (a : A) → x ≡ Some a → option_or x y ≡ Some a
+pub some_first : {A : Type 0} (x y : Option A) (a : A) → x ≡ Some a → option_or x y ≡ Some a
 some_first None y a e = absurd (cc)
 some_first (Some b) y a e = e
 
@@ -118,7 +103,7 @@ module _ (syntax : Syntax) (limits : Limits) where
       by (Err fault) final e = absurd (cc)
 
   module _ (context : Context) where
-    abbrev shown : Progress → List Sign
+    abbrev pub shown : Progress → List Sign
     shown p = (sees nothing_seen p.told).signs
 
     -- the bytes through the fault's place show the tag
@@ -214,21 +199,3 @@ module _ (syntax : Syntax) (limits : Limits) where
       let from = (within_so syntax limits (take n bytes) (drop n bytes) front.now fault front.is fails).from in
       let size = take_length n bytes (omega (arith, l)) in
       omega (arith, from, size)
-
--- where a fault lies that a piece brings
-pub placed : (syntax : Syntax) (limits : Limits) (context : Context) (address : Chars) (bytes piece : List ℕ) (nest : Nested) (course : Course) (fault : Fault)
-    → Goes syntax limits context address nest course bytes → OwesNone nest → Stops syntax limits context (bytes ++ piece) fault → Placed syntax limits context bytes piece fault
-placed syntax limits context address bytes piece nest course fault g paid st =
-    let now : Progress = record { now = g.shown.at.now; told = g.shown.told } in
-    let seen : (sees nothing_seen g.shown.told).signs ≡ g.signs = ap (λ (x : Sight). x.signs) g.shown.sight ∙ (ap (λ x. g.signs ++ x) paid ∙ append-nil g.signs) in
-    let refuses : Refuses syntax limits context (bytes ++ piece) fault = subst (λ b. Refuses syntax limits context b fault) (append-nil (bytes ++ piece)) (st.stays []) in
-    record {
-      from = lies_behind syntax limits context bytes piece now fault g.shown.at.read (ap (refused_in context []) seen ∙ g.runs.accepted) refuses;
-      law = by refuses;
-    }
-  where
-    by : Refuses syntax limits context (bytes ++ piece) fault → PlaceLaw syntax limits context (bytes ++ piece) fault
-    by (for_form f none) = of_form f (begins_none syntax limits (bytes ++ piece) fault f st.within) (faults_follow_fronts syntax limits (bytes ++ piece) fault f)
-    by (for_meaning m first) =
-        of_meaning m (refused_of syntax limits context (take (fault.at + 1) (bytes ++ piece)) fault (through syntax limits context (bytes ++ piece) fault m))
-        (subst (λ b. IsFront syntax limits (take fault.token b)) (sym m.are) (refused_fronts syntax limits context m.front m.rest m.now fault m.read m.refused))

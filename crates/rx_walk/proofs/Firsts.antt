@@ -61,7 +61,7 @@ finished_seen : (n : ℕ) (flags : Flags) (signs : List Sign) → BegunBefore n 
 finished_seen n [] signs h = h
 finished_seen n (flag ∷ flags) signs h = begun_append n signs _ h (one_if n flag.0)
 
-all_seen : (n : ℕ) (events : List Event) (sight : Sight) → BegunBefore n sight.signs → ToldBefore n events → BegunBefore n (sees sight events).signs
+pub all_seen : (n : ℕ) (events : List Event) (sight : Sight) → BegunBefore n sight.signs → ToldBefore n events → BegunBefore n (sees sight events).signs
 all_seen n [] sight h t = h
 all_seen n (begins tag hides ∷ events) sight h t =
     all_seen n events (see (begins tag hides) sight.flags sight.signs) (begun_seen n tag hides (is_hidden sight.flags) sight.flags sight.signs t.0 h) t.1
@@ -74,7 +74,7 @@ refused_one : (n : ℕ) (t : StartTag) (r : Option Refusal) (fault : Fault) → 
 refused_one n t None fault l e = absurd (cc)
 refused_one n t (Some r) fault l e = let is : fault_of t r ≡ fault = cc in subst (λ (f : Fault). f.at < n) is l
 
-refused_before : (context : Context) (n : ℕ) (line : List Tag) (signs : List Sign) (fault : Fault) → BegunBefore n signs → refused_in context line signs ≡ Some fault → fault.at < n
+pub refused_before : (context : Context) (n : ℕ) (line : List Tag) (signs : List Sign) (fault : Fault) → BegunBefore n signs → refused_in context line signs ≡ Some fault → fault.at < n
 refused_before context n line [] fault h e = absurd (cc)
 refused_before context n line (said c ∷ signs) fault h e = refused_before context n line signs fault h e
 refused_before context n line (finished ∷ signs) fault h e = refused_before context n (line_on line finished) signs fault h e

@@ -102,7 +102,7 @@ module _ (syntax : Syntax) (limits : Limits) (spot : Spot) (n : ℕ) where
 
 -- what they tell
 
-abbrev StepBefore : ℕ → Result Step Kind → Type 0
+abbrev pub StepBefore : ℕ → Result Step Kind → Type 0
 StepBefore n (Ok step) = ToldBefore n step.events
 StepBefore n (Err kind) = Unit {0}
 
@@ -143,7 +143,7 @@ module _ (syntax : Syntax) (depth n : ℕ) where
   doctype_before within = tt
   doctype_before after = tt
 
-  item_before : (m : Nesting) (item : Item) → ((t : Tag) → item.token ≡ tag t → item.last < n) → StepBefore n (nest_step syntax depth m item)
+  pub item_before : (m : Nesting) (item : Item) → ((t : Tag) → item.token ≡ tag t → item.last < n) → StepBefore n (nest_step syntax depth m item)
   item_before m item h = by item.token h
     where
       by : (token : Token) → ((t : Tag) → token ≡ tag t → item.last < n) → StepBefore n (step_by syntax depth m item token)

@@ -1,5 +1,5 @@
 -- Before each start tag that is shown stands the front of a page.
-use Rattle.std.proofs.Common.{◌≡◌, ◌∙◌, ℕ, zero, suc, ◌+◌, ◌≤◌, Bool, true, false, List, [], ◌∷◌, ◌++◌, map, refl, sym, ap, subst, length, length-append, append_assoc, append-nil, Option, Some, None, Result, Ok, Err, arith, take}
+use Rattle.std.proofs.Common.{◌≡◌, ◌∙◌, ℕ, zero, suc, ◌+◌, ◌<◌, ◌≤◌, Bool, true, false, List, [], ◌∷◌, ◌++◌, map, refl, sym, ap, subst, length, length-append, append_assoc, append-nil, Option, Some, None, Result, Ok, Err, arith, take}
 use Rattle.std.specs.Prelude.{◌&&◌, ◌||◌, ◌==◌, not, nat_le, option_map, if◌then◌else◌}
 use Rattle.std.specs.Option.{option_or}
 use Rattle.rx_terms.specs.Ascii.{greater_than_sign, less_than_sign, ampersand}
@@ -216,18 +216,25 @@ module _ (syntax : Syntax) (depth n : ℕ) where
       by (Ok next) k = begin_append n step.events next.events s k
       by (Err kind) k = tt
 
-take_front : (n : ℕ) (xs ys : List ℕ) → n ≤ length xs → take n (xs ++ ys) ≡ take n xs
+pub take_front : (n : ℕ) (xs ys : List ℕ) → n ≤ length xs → take n (xs ++ ys) ≡ take n xs
 take_front zero xs ys l = refl
 take_front (suc n) [] ys l = absurd (omega arith)
 take_front (suc n) (x ∷ xs) ys l = ap (λ r. x ∷ r) (take_front n xs ys (omega arith))
 
 module _ (syntax : Syntax) (limits : Limits) where
-  -- the bytes before an offset are the front of a page
-  abbrev IsBefore : List ℕ → ℕ → Type 0
-  IsBefore bytes n = (n ≤ length bytes) × IsFront syntax limits (take n bytes)
+  -- the bytes up to an offset are the front of a page
+  abbrev IsUpTo : List ℕ → ℕ → Type 0
+  IsUpTo bytes n = (n ≤ length bytes) × IsFront syntax limits (take n bytes)
+
+  -- and the offset is that of one of them
+  abbrev pub IsBefore : List ℕ → ℕ → Type 0
+  IsBefore bytes n = (n < length bytes) × IsFront syntax limits (take n bytes)
 
   before_more : (bytes more : List ℕ) (n : ℕ) → IsBefore bytes n → IsBefore (bytes ++ more) n
-  before_more bytes more n h = (omega (arith, h.0, length-append bytes more), subst (IsFront syntax limits) (sym (take_front n bytes more h.0)) h.1)
+  before_more bytes more n h = (omega (arith, h.0, length-append bytes more), subst (IsFront syntax limits) (sym (take_front n bytes more (omega (arith, h.0)))) h.1)
+
+  before_byte : (bytes : List ℕ) (byte n : ℕ) → IsUpTo bytes n → IsBefore (bytes ++ byte ∷ []) n
+  before_byte bytes byte n h = (omega (arith, h.0, length-append bytes (byte ∷ [])), subst (IsFront syntax limits) (sym (take_front n bytes (byte ∷ []) h.0)) h.1)
 
   none_held : (r : Reading) → may_end r ≡ true → r.scan.held ≡ []
   none_held r = by r.scan.held
@@ -249,20 +256,20 @@ module _ (syntax : Syntax) (limits : Limits) where
           (if b then Err PageTooLong else read_answer syntax limits (spot_of syntax p.now.nest) (p.now.scan.held ++ 255 ∷ []) p.now.scan (answer_of (p.now.scan.held ++ 255 ∷ []))))
 
   -- what was read before the next token is the front of a page: the next byte may have a fault, or the page may end
-  front_at : (bytes : List ℕ) (p : Progress) → page_read syntax limits bytes ≡ Ok p → Fits p.now.scan.run p.now.scan.at → IsBefore bytes (token_at p.now.scan)
+  front_at : (bytes : List ℕ) (p : Progress) → page_read syntax limits bytes ≡ Ok p → Fits p.now.scan.run p.now.scan.at → IsUpTo bytes (token_at p.now.scan)
   front_at bytes p r f = by_test (may_end p.now) over unended
     where
       small : token_at p.now.scan ≤ length bytes
       small = let l = token_fits p.now.scan f in omega (arith, l, (read_size syntax limits bytes p r).0)
 
-      unended : may_end p.now ≡ false → IsBefore bytes (token_at p.now.scan)
+      unended : may_end p.now ≡ false → IsUpTo bytes (token_at p.now.scan)
       unended e = (
         small,
         faults_follow_fronts syntax limits bytes (fault_in p.now.scan Unended)
             (found_fault syntax limits bytes (fault_in p.now.scan Unended) (ap end_of r ∙ ap (λ b. if b then Ok p else Err (fault_in p.now.scan Unended)) e)),
       )
 
-      over : may_end p.now ≡ true → IsBefore bytes (token_at p.now.scan)
+      over : may_end p.now ≡ true → IsUpTo bytes (token_at p.now.scan)
       over e =
           let fails = fails_next p (none_held p.now e) in
           let read : page_read syntax limits (bytes ++ 255 ∷ []) ≡ Err (fault_in p.now.scan fails.0) =
@@ -312,7 +319,7 @@ module _ (syntax : Syntax) (limits : Limits) where
         there ∙ e,
         f,
         told_append (bytes ++ byte ∷ []) p.told step.events (told_more bytes (byte ∷ []) p.told h.2)
-            (told_there (bytes ++ byte ∷ []) (token_at p.now.scan) step.events (before_more bytes (byte ∷ []) (token_at p.now.scan) (front_at bytes p h.0 h.1)) k),
+            (told_there (bytes ++ byte ∷ []) (token_at p.now.scan) step.events (before_byte bytes byte (token_at p.now.scan) (front_at bytes p h.0 h.1)) k),
       )
       on scanned f (Err kind) k e = tt
 
@@ -388,8 +395,11 @@ module _ (syntax : Syntax) (limits : Limits) where
       by ih None k = ih k
       by ih (Some r) k = refused_one bytes t (Some r) fault h.0 k
 
+  pub token_before : (context : Context) (bytes : List ℕ) (p : Progress) (fault : Fault) → page_read syntax limits bytes ≡ Ok p → refused_in context [] (sees nothing_seen p.told).signs ≡ Some fault → IsBefore bytes fault.token
+  token_before context bytes p fault r e =
+      let told = (subst (Behind bytes) r (all_behind bytes [] (Ok nothing_read) (refl, tt, tt))).2 in
+      refused_behind context bytes [] (sees nothing_seen p.told).signs fault (all_seen bytes p.told nothing_seen tt told) e
+
   pub refused_fronts : (context : Context) (bytes more : List ℕ) (p : Progress) (fault : Fault) → page_read syntax limits bytes ≡ Ok p → refused_in context [] (sees nothing_seen p.told).signs ≡ Some fault
       → IsFront syntax limits (take fault.token (bytes ++ more))
-  refused_fronts context bytes more p fault r e =
-      let told = (subst (Behind bytes) r (all_behind bytes [] (Ok nothing_read) (refl, tt, tt))).2 in
-      (before_more bytes more fault.token (refused_behind context bytes [] (sees nothing_seen p.told).signs fault (all_seen bytes p.told nothing_seen tt told) e)).1
+  refused_fronts context bytes more p fault r e = (before_more bytes more fault.token (token_before context bytes p fault r e)).1

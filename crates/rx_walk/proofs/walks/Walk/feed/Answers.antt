@@ -3,7 +3,7 @@ use Rattle.rx_walk.specs.CallsOf.{calls_of}
 use Rattle.rx_walk.specs.Seekings.{sought}
 use Rattle.rx_walk.specs.Walks.{Walked, Stands, state_of}
 use Rattle.rx_walk.proofs.Quieting.{idle_at}
-use Rattle.rx_walk.proofs.FaultPlacing.{placed}
+use Rattle.rx_walk.proofs.PlaceLaws.{placed}
 use Rattle.rx_walk.proofs.walks.Walk.feed.Goals as goal
 
 pub invariant_of-self : goal.invariant_of-self
