@@ -1,5 +1,5 @@
 -- Lists of rows.
-use Rattle.std.proofs.Common.{◌≡◌, ◌∙◌, ℕ, zero, suc, ◌<◌, ◌≤◌, ap, sym, refl, arith, Bool, true, false, ◌==◌, ◌&&◌, Option, Some, None, List, [], ◌∷◌, ◌++◌, take, drop, length, get_or, slice_get, map, take-take, if◌then◌else◌, bytes_eq, true≢false, take-suc}
+use Rattle.std.proofs.Common.{◌≡◌, ◌∙◌, ℕ, zero, suc, ◌-◌, ◌<◌, ◌≤◌, ap, sym, refl, arith, Bool, true, false, ◌==◌, ◌&&◌, Option, Some, None, List, [], ◌∷◌, ◌++◌, take, drop, length, get_or, slice_get, map, take-take, if◌then◌else◌, bytes_eq, true≢false, take-suc}
 use Rattle.std.specs.List.{list_all}
 use Rattle.std.specs.Option.{option_or, option_map}
 use Rattle.std.proofs.lemmas.Bool.{and_parts}
@@ -47,6 +47,13 @@ last-here :
 last-here f rows i x t within at is =
     ap (last_of f) (take-suc rows i x within ∙ ap (λ (r : Row). take i rows ++ r ∷ []) (sym at)) ∙ last-append f (take i rows) (x ∷ [])
     ∙ ap (λ (o : Option _). option_or o (last_of f (take i rows))) is
+
+pub last-before :
+    {A : Type 0} (f : Row → Option A) (rows : List Row) (i : ℕ) (x : Row) (t : Option A)
+    → 0 < i → i ≤ length rows → x ≡ get_or rows (i - 1) x → f x ≡ t → last_of f (take i rows) ≡ option_or t (last_of f (take (i - 1) rows))
+last-before f rows i x t some within at is =
+    let one_more : i ≡ suc (i - 1) = omega arith in
+    ap (λ (n : ℕ). last_of f (take n rows)) one_more ∙ last-here f rows (i - 1) x t (omega arith) at is
 
 -- an earlier place is one before
 earlier-below : (numbers : List ℕ) (p q m : ℕ) → last_place m (take p numbers) ≡ Some q → q < p

@@ -15,7 +15,10 @@ use rx_terms::NoMemory;
 use std::alloc::Global;
 use std::marker::Model;
 
-/// The declarations of the open elements, in their order. None is looked up by going through the others. A contract sees the
+/// So many rows are gone through faster than a number is found.
+const FEW: usize = 16;
+
+/// The declarations of the open elements, in their order. None is looked up by going through many others. A contract sees the
 /// list.
 #[derive(Debug, Drop)]
 pub(crate) struct KeptRows {
@@ -52,6 +55,10 @@ impl KeptRows {
         ensures err { OnErr result (self.new ≡ self.old) }
     {
         let mut rows = added.into_list();
+        // most tags declare nothing
+        if rows.is_empty() {
+            return Ok(());
+        }
         let count = self.places.len();
         push_numbers(&mut self.places, rows.as_slice())?;
         if self.rows.append(&mut rows).is_err() {
@@ -69,6 +76,28 @@ impl KeptRows {
 
     /// What the last declaration of the prefix says.
     pub(crate) fn prefix(&self, name: &str) -> Option<&str>
+        ensures last { seen_slice result ≡ last_of (prefix_in (lowered (chars name.now))) self.now }
+        ensures scheme { IfSome result (λ iri. has_scheme (chars iri.now) ≡ true) }
+    {
+        if self.rows.len() <= FEW {
+            return self.prefix_among_few(name);
+        }
+        self.prefix_by_number(name)
+    }
+
+    fn prefix_among_few(&self, name: &str) -> Option<&str>
+        ensures last { seen_slice result ≡ last_of (prefix_in (lowered (chars name.now))) self.now }
+        ensures scheme { IfSome result (λ iri. has_scheme (chars iri.now) ≡ true) }
+    {
+        for i in (0..self.rows.len()).rev() {
+            if let Some(iri) = self.rows[i].prefix(name) {
+                return Some(iri);
+            }
+        }
+        None
+    }
+
+    fn prefix_by_number(&self, name: &str) -> Option<&str>
         ensures last { seen_slice result ≡ last_of (prefix_in (lowered (chars name.now))) self.now }
         ensures scheme { IfSome result (λ iri. has_scheme (chars iri.now) ≡ true) }
     {
@@ -114,6 +143,9 @@ impl KeptRows {
     pub(crate) fn truncate(&mut self, count: usize)
         ensures front { self.new ≡ take count self.old }
     {
+        if self.rows.len() <= count {
+            return;
+        }
         self.rows.truncate(count);
         self.places.truncate(count);
     }

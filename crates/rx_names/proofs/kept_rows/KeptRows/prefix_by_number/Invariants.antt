@@ -3,7 +3,7 @@ use Rattle.rx_terms.specs.Text.{lowered}
 use Rattle.rx_names.specs.Numbers.{number_of}
 use Rattle.rx_names.specs.Rows.{prefix_in}
 use Rattle.rx_names.proofs.RowLemmas.{Told, reach}
-use Rattle.rx_names.proofs.kept_rows.KeptRows.prefix.Given as goal
+use Rattle.rx_names.proofs.kept_rows.KeptRows.prefix_by_number.Given as goal
 
 abbrev pub invariant-loop-next : goal.invariant-loop-next
 invariant-loop-next l = Told (prefix_in (lowered (chars l.name))) (number_of (lowered (chars l.name))) l.self-inside.rows.items l.self-inside.places l.next

@@ -6,7 +6,7 @@ use Rattle.rx_names.specs.Places.{last_place}
 use Rattle.rx_names.specs.Rows.{last_of, prefix_in}
 use Rattle.std.proofs.lemmas.Option.{slice_get_within}
 use Rattle.rx_names.proofs.RowLemmas.{sound-at, told-at-first, told-there, told-before, row-within, nearer, other-prefix}
-use Rattle.rx_names.proofs.kept_rows.KeptRows.prefix.Goals as goal
+use Rattle.rx_names.proofs.kept_rows.KeptRows.prefix_by_number.Goals as goal
 
 pub loop-next-init : goal.loop-next-init
 loop-next-init c = told-at-first (prefix_in (lowered (chars c.args.name.now))) (number_of (lowered (chars c.args.name.now))) (other-prefix (lowered (chars c.args.name.now))) c.self.inside.rows.items c.self.inside.places c.last-next.result c.self.invariant (c.last-next.ensures ∙ ap (λ (k : ℕ). last_place k c.self.inside.places) c.number_of.ensures)

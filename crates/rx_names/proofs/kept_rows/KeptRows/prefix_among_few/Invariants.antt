@@ -1,0 +1,11 @@
+use Rattle.std.proofs.Common.{◌≡◌, ◌≤◌, take, length}
+use Rattle.std.specs.Str.{chars}
+use Rattle.rx_terms.specs.Text.{lowered}
+use Rattle.rx_names.specs.Rows.{last_of, prefix_in}
+use Rattle.rx_names.proofs.kept_rows.KeptRows.prefix_among_few.Given as goal
+
+abbrev pub invariant-loop-i : goal.invariant-loop-i
+invariant-loop-i l = record {
+  within : l.i ≤ length l.self-inside.rows.items;
+  rest : last_of (prefix_in (lowered (chars l.name))) l.self ≡ last_of (prefix_in (lowered (chars l.name))) (take l.i l.self-inside.rows.items);
+}
