@@ -1,5 +1,6 @@
 -- Triples that are added one after another.
-use Rattle.std.proofs.Common.{◌≡◌, ◌∙◌, ℕ, ◌+◌, ◌≤◌, List, [], ◌∷◌, ◌++◌, map, length, drop, Some, slice_get, refl, sym, ap, append_assoc, append-nil, add-one}
+use Rattle.std.proofs.Common.{◌≡◌, ◌∙◌, ℕ, ◌+◌, ◌≤◌, List, [], ◌∷◌, ◌++◌, map, length, drop, Some, slice_get, refl, sym, ap, append_assoc, append-nil, add-one, Result, Ok, Err}
+use Rattle.std.specs.Prelude.{OnOk}
 use Rattle.rx_terms.specs.Text.{Chars}
 use Rattle.rx_model.specs.Terms.{Node, Term, Triple}
 use Rattle.rx_model.specs.Copied.{spo}
@@ -14,11 +15,8 @@ use Rattle.rx_element.specs.Moment.{moment}
 use Rattle.rx_element.specs.Places.{named}
 use Rattle.rx_element.specs.TextRules.{resource_term}
 use Rattle.rx_element.specs.Starts.{types_of}
+use Rattle.rx_element.specs.Triples.{ToCome}
 use Rattle.rx_element.proofs.DrawLemmas.{drop_at, nothing_left}
-
--- what is there and what is to come is the whole
-pub record ToCome (out left whole : List (Triple ℕ)) : Type 0 where
-  pub path : out ++ left ≡ whole
 
 pub one_came : (out more whole left rest : List (Triple ℕ)) (t : Triple ℕ) → left ≡ t ∷ rest → more ≡ out ++ t ∷ [] → ToCome out left whole → ToCome more rest whole
 one_came out more whole left rest t e m w = record { path = ap (λ (x : List (Triple ℕ)). x ++ rest) m ∙ append_assoc out (t ∷ []) rest ∙ ap (λ (x : List (Triple ℕ)). out ++ x) (sym e) ∙ w.path }
@@ -32,6 +30,15 @@ map_at f xs i x g = rw add-one (ap (map f) (drop_at xs i x g))
 
 pub map_end : {A : Type 0} (f : A → Triple ℕ) (xs : List A) (i : ℕ) → length xs ≤ i → map f (drop i xs) ≡ []
 map_end f xs i h = ap (map f) (nothing_left i xs h)
+
+-- the last one
+last_came : {A : Type 0} (f : A → Triple ℕ) (xs : List A) (i : ℕ) (x : A) (out more whole : List (Triple ℕ)) → slice_get xs i ≡ Some x → length xs ≤ i + 1 → more ≡ out ++ f x ∷ [] → ToCome out (map f (drop i xs)) whole → more ≡ whole
+last_came f xs i x out more whole g h m w = all_came more (map f (drop (i + 1) xs)) whole (map_end f xs (i + 1) h) (one_came out more whole _ _ (f x) (map_at f xs i x g) m w)
+
+pub last_pushed : {A E : Type 0} (r : Result (Unit {0}) E) (f : A → Triple ℕ) (xs : List A) (i : ℕ) (x : A) (out more whole : List (Triple ℕ)) → slice_get xs i ≡ Some x → length xs ≤ i + 1
+    → OnOk r (more ≡ out ++ f x ∷ []) → ToCome out (map f (drop i xs)) whole → OnOk r (more ≡ whole)
+last_pushed (Ok done) f xs i x out more whole g h m w = last_came f xs i x out more whole g h m w
+last_pushed (Err error) f xs i x out more whole g h m w = m
 
 -- a type more
 same_named : (labels : Numbered) (f : ℕ) (base : Chars) (r : Ref) → resource_named (moment labels 0 0 0) base r ≡ resource_named (moment labels f 0 0) base r

@@ -1,22 +1,25 @@
 //! The triples of an element's start, in the order of the steps.
-ghost use Rattle.std.specs.Prelude.{◌≡◌, ◌++◌, OnOk, IfOk, option_map};
+ghost use Rattle.std.specs.Prelude.{◌≡◌, ◌∷◌, [], ◌++◌, OnOk, IfOk, option_map};
+ghost use Rattle.rx_model.specs.Copied.{spo};
 ghost use Rattle.rx_model.specs.Seen.{node_seen, term_seen, triples_seen};
+ghost use Rattle.rx_rdfa.specs.Iris.{rdf_type};
 ghost use Rattle.rx_rdfa.specs.Inherited.{listed};
 ghost use Rattle.rx_rdfa.specs.Resources.{resources};
 ghost use Rattle.rx_rdfa.specs.Value.{rule, value_now};
 ghost use Rattle.rx_rdfa.specs.Element.{start_of};
-ghost use Rattle.rx_curie.specs.Seen.{facts_seen, refs_seen};
+ghost use Rattle.rx_curie.specs.Seen.{facts_seen, ref_seen, refs_seen};
 ghost use Rattle.rx_element.specs.Found.{found_seen};
-ghost use Rattle.rx_element.specs.Places.{naming, standing};
+ghost use Rattle.rx_element.specs.TextRules.{resource_term};
+ghost use Rattle.rx_element.specs.Places.{named, naming, standing};
 ghost use Rattle.rx_element.specs.Starts.{vocabulary_by, types_of, properties_of, links_of, values_of, found_by, start_by};
 
 use crate::iris::{rdf_type, uses_vocabulary};
 use crate::places::{Place, named};
 use crate::resources::Found;
 use crate::triples::{push, push_completed, push_each};
-use crate::values::{node_term, value_now};
-use rx_curie::{Facts, Nodes2};
-use rx_terms::{Iri, Iris, NoMemory, Node, Term, TripleList};
+use crate::values::{into_term, node_term, value_now};
+use rx_curie::{Facts, Nodes2, Ref};
+use rx_terms::{Iri, Iris, NoMemory, Node, Term, Triple, TripleList};
 use std::alloc::Global;
 
 /// What the start of an element finds: its resources, and the value of its property where that isn't its text.
@@ -39,7 +42,7 @@ fn push_vocabulary(
         Some(vocab) => {
             let page = Node::Iri(base.try_clone()?);
             let predicate = uses_vocabulary(alloc)?;
-            push(out, &page, &predicate, &Term::Iri(vocab.try_clone()?))
+            push(out, &page, &predicate, Term::Iri(vocab.try_clone()?))
         }
         None => Ok(()),
     }
@@ -55,7 +58,22 @@ fn push_all(
     ensures { OnOk result (triples_seen out.new ≡ triples_seen out.old ++ properties_of (node_seen subject.now) predicates.now (term_seen object.now)) }
 {
     match predicates {
-        Some(predicates) => push_each(out, subject, predicates, object),
+        Some(predicates) => push_each(out, subject, predicates, object.try_clone()?),
+        None => Ok(()),
+    }
+}
+
+/// The same where the object is a node.
+fn push_all_linked(
+    out: &mut TripleList,
+    subject: &Node,
+    predicates: &Option<Iris>,
+    object: &Node,
+) -> Result<(), NoMemory>
+    ensures { OnOk result (triples_seen out.new ≡ triples_seen out.old ++ properties_of (node_seen subject.now) predicates.now (resource_term (node_seen object.now))) }
+{
+    match predicates {
+        Some(predicates) => push_each(out, subject, predicates, node_term(object)?),
         None => Ok(()),
     }
 }
@@ -70,9 +88,9 @@ fn push_links(
     ensures { OnOk result (triples_seen out.new ≡ triples_seen out.old ++ links_of (facts_seen facts.now) (node_seen subject.now) (node_seen object.now)) }
 {
     if !facts.inlist {
-        push_all(out, subject, &facts.rel, &node_term(object)?)?;
+        push_all_linked(out, subject, &facts.rel, object)?;
     }
-    push_all(out, object, &facts.rev, &node_term(subject)?)
+    push_all_linked(out, object, &facts.rev, subject)
 }
 
 /// Adds the properties with a value, where they are no lists.
@@ -159,11 +177,20 @@ impl<'a> Place<'a> {
     fn push_types(&self, out: &mut TripleList, typed: &Node, types: &Nodes2) -> Result<(), NoMemory>
         ensures { OnOk result (triples_seen out.new ≡ triples_seen out.old ++ types_of (naming self.now) self.now.base.now (node_seen typed.now) (refs_seen types.now)) }
     {
-        let predicate = rdf_type(self.alloc)?;
         for i in 0..types.len() {
-            let node = named(self.alloc, self.base, self.labels, types.at(i))?;
-            push(out, typed, &predicate, &node_term(&node)?)?;
+            self.push_type(out, typed, types.at(i))?;
         }
         Ok(())
+    }
+
+    fn push_type(&self, out: &mut TripleList, typed: &Node, name: &Ref) -> Result<(), NoMemory>
+        ensures { OnOk result (triples_seen out.new ≡ triples_seen out.old ++ spo (node_seen typed.now) rdf_type (resource_term (named self.now.labels.now self.now.base.now (ref_seen name.now))) ∷ []) }
+    {
+        let node = named(self.alloc, self.base, self.labels, name)?;
+        out.push(Triple {
+            subject: typed.try_clone()?,
+            predicate: rdf_type(self.alloc)?,
+            object: into_term(node),
+        })
     }
 }

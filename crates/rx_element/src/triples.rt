@@ -1,26 +1,45 @@
 //! The triples of an element's start (RDFa Core 1.1, section 7.5, steps 2, 7, 9, 11 and 12).
-ghost use Rattle.std.specs.Prelude.{◌≡◌, ◌∷◌, [], ◌++◌, OnOk, map, filter_map};
+ghost use Rattle.std.specs.Prelude.{◌≡◌, ◌≤◌, ◌∷◌, [], ◌++◌, OnOk, drop, length, map, filter_map};
 ghost use Rattle.rx_model.specs.Seen.{node_seen, term_seen, triples_seen};
 ghost use Rattle.rx_model.specs.Copied.{spo};
 ghost use Rattle.rx_rdfa.specs.Inherited.{listed};
 ghost use Rattle.rx_rdfa.specs.Element.{completed};
-ghost use Rattle.rx_element.specs.Triples.{completed_by};
+ghost use Rattle.rx_element.specs.Triples.{ToCome, completed_by};
 
 use crate::contexts::Waiting;
 use crate::values::node_term;
 use rx_terms::{Iri, Iris, NoMemory, Node, Term, Triple, TripleList};
 
-/// Adds the triples of the subject with the object, one for each predicate.
+/// Adds the triples of the subject with the object, one for each predicate. The last one takes the object itself.
 pub fn push_each(
     out: &mut TripleList,
     subject: &Node,
     predicates: &Iris,
+    object: Term,
+) -> Result<(), NoMemory>
+    ensures { OnOk result (triples_seen out.new ≡ triples_seen out.old ++ map (λ p. spo (node_seen subject.now) p (term_seen object)) predicates.now) }
+{
+    let Some(last) = predicates.len().checked_sub(1) else {
+        return Ok(());
+    };
+    push_first(out, subject, predicates, last, &object)?;
+    push(out, subject, predicates.at(last), object)
+}
+
+/// The same for the first predicates alone.
+fn push_first(
+    out: &mut TripleList,
+    subject: &Node,
+    predicates: &Iris,
+    count: usize,
     object: &Term,
 ) -> Result<(), NoMemory>
-    ensures { OnOk result (triples_seen out.new ≡ triples_seen out.old ++ map (λ p. spo (node_seen subject.now) p (term_seen object.now)) predicates.now) }
+    requires { count ≤ length predicates.now }
+    ensures { OnOk result (ToCome (triples_seen out.new) (map (λ p. spo (node_seen subject.now) p (term_seen object.now)) (drop count predicates.now))
+        (triples_seen out.old ++ map (λ p. spo (node_seen subject.now) p (term_seen object.now)) predicates.now)) }
 {
-    for i in 0..predicates.len() {
-        push(out, subject, predicates.at(i), object)?;
+    for i in 0..count {
+        push_copy(out, subject, predicates.at(i), object)?;
     }
     Ok(())
 }
@@ -29,15 +48,26 @@ pub(crate) fn push(
     out: &mut TripleList,
     subject: &Node,
     predicate: &Iri,
-    object: &Term,
+    object: Term,
 ) -> Result<(), NoMemory>
-    ensures { OnOk result (triples_seen out.new ≡ triples_seen out.old ++ spo (node_seen subject.now) predicate.now (term_seen object.now) ∷ []) }
+    ensures { OnOk result (triples_seen out.new ≡ triples_seen out.old ++ spo (node_seen subject.now) predicate.now (term_seen object) ∷ []) }
 {
     out.push(Triple {
         subject: subject.try_clone()?,
         predicate: predicate.try_clone()?,
-        object: object.try_clone()?,
+        object,
     })
+}
+
+fn push_copy(
+    out: &mut TripleList,
+    subject: &Node,
+    predicate: &Iri,
+    object: &Term,
+) -> Result<(), NoMemory>
+    ensures { OnOk result (triples_seen out.new ≡ triples_seen out.old ++ spo (node_seen subject.now) predicate.now (term_seen object.now) ∷ []) }
+{
+    push(out, subject, predicate, object.try_clone()?)
 }
 
 /// Adds the triples that wait, when an element with a subject completes them; lists that wait get an item elsewhere.
@@ -51,8 +81,8 @@ pub(crate) fn push_completed(
 {
     for one in waiting {
         match one {
-            Waiting::Forward(predicate) => push(out, above, predicate, &node_term(subject)?)?,
-            Waiting::Reverse(predicate) => push(out, subject, predicate, &node_term(above)?)?,
+            Waiting::Forward(predicate) => push(out, above, predicate, node_term(subject)?)?,
+            Waiting::Reverse(predicate) => push(out, subject, predicate, node_term(above)?)?,
             Waiting::InList(_owner, _predicate) => {}
         }
     }

@@ -41,6 +41,16 @@ pub fn node_term(node: &Node) -> Result<Term, NoMemory>
     }
 }
 
+/// The node itself as a term.
+pub(crate) fn into_term(node: Node) -> Term
+    ensures { term_seen result ≡ resource_term (node_seen node) }
+{
+    match node {
+        Node::Iri(iri) => Term::Iri(iri),
+        Node::Blank(blank) => Term::Blank(blank),
+    }
+}
+
 /// A literal without datatype, in the language where there is one.
 fn plain_literal(lang: &Option<Lang>, lexical: Text) -> Result<Term, NoMemory>
     ensures { IfOk result (λ term. term_seen term ≡ plain_literal lang.now lexical) }

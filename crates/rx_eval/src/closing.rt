@@ -32,14 +32,14 @@ fn put_value(
     out: &mut TripleList,
     lists: &mut Lists,
     gathered: &Gathered,
-    value: &Term,
+    value: Term,
 ) -> Result<(), NoMemory>
-    ensures said { OnOk result (triples_seen out.new ≡ triples_seen out.old ++ said_by gathered.now.target (node_seen gathered.now.subject) (term_seen value.now)) }
-    ensures filled { OnOk result (owners_seen lists.new ≡ fill_all (slots_in gathered.now.target) (term_seen value.now) (owners_seen lists.old)) }
+    ensures said { OnOk result (triples_seen out.new ≡ triples_seen out.old ++ said_by gathered.now.target (node_seen gathered.now.subject) (term_seen value)) }
+    ensures filled { OnOk result (owners_seen lists.new ≡ fill_all (slots_in gathered.now.target) (term_seen value) (owners_seen lists.old)) }
 {
     match &gathered.target {
         Target::Said(predicates) => push_each(out, gathered.subject.node(), predicates, value),
-        Target::Listed(slots) => fill_each(lists, slots.as_slice(), value),
+        Target::Listed(slots) => fill_each(lists, slots.as_slice(), &value),
     }
 }
 
@@ -55,7 +55,7 @@ pub(crate) fn end_text(
     ensures filled { OnOk result (owners_seen lists.new ≡ fill_all (slots_in gathered.now.target) (text_literal gathered.now.rule (chars text.now)) (owners_seen lists.old)) }
 {
     let value = gathered.rule.value(alloc, text)?;
-    put_value(out, lists, gathered, &value)
+    put_value(out, lists, gathered, value)
 }
 
 /// Adds the triples of an owner's lists, whose cells are numbered from `next` on, and gives the next number. Where no

@@ -1,5 +1,6 @@
-use Rattle.rx_element.proofs.TripleLemmas.{one_came, map_at}
+use Rattle.std.proofs.Common.{arith}
+use Rattle.rx_element.proofs.TripleLemmas.{last_pushed}
 use Rattle.rx_element.proofs.triples.push_each.Goals as goal
 
-pub loop-i-preserved : goal.loop-i-preserved
-loop-i-preserved c = one_came _ _ _ _ _ _ (map_at _ c.args.predicates.now c.loop-i.i _ c.at.ensures) c.in_ok-push.ensures c.loop-i.invariant
+pub returns : goal.returns
+returns c = last_pushed c.push.result _ c.args.predicates.now c.in-Some.last _ _ _ _ c.at.ensures (omega (arith, c.in-Some.ensures, c.len.ensures)) c.push.ensures c.in_ok-push_first.ensures

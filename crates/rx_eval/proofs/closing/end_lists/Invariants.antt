@@ -1,6 +1,6 @@
 use Rattle.std.proofs.Common.{◌++◌, map, drop}
 use Rattle.rx_model.specs.Seen.{triple_seen, triples_seen}
-use Rattle.rx_element.proofs.TripleLemmas.{ToCome}
+use Rattle.rx_element.specs.Triples.{ToCome}
 use Rattle.rx_eval.proofs.closing.end_lists.Given as goal
 
 abbrev pub invariant-loop-i : goal.invariant-loop-i

@@ -3,7 +3,7 @@ use Rattle.rx_model.specs.Seen.{node_seen, triples_seen}
 use Rattle.rx_curie.specs.Seen.{refs_seen}
 use Rattle.rx_element.specs.Places.{naming}
 use Rattle.rx_element.specs.Starts.{types_of}
-use Rattle.rx_element.proofs.TripleLemmas.{ToCome}
+use Rattle.rx_element.specs.Triples.{ToCome}
 use Rattle.rx_element.proofs.places.Place.push_types.Given as goal
 
 abbrev pub invariant-loop-i : goal.invariant-loop-i

@@ -1,8 +1,8 @@
 use Rattle.std.proofs.Common.{◌++◌, map, drop}
 use Rattle.rx_model.specs.Seen.{node_seen, term_seen, triples_seen}
 use Rattle.rx_model.specs.Copied.{spo}
-use Rattle.rx_element.proofs.TripleLemmas.{ToCome}
-use Rattle.rx_element.proofs.triples.push_each.Given as goal
+use Rattle.rx_element.specs.Triples.{ToCome}
+use Rattle.rx_element.proofs.triples.push_first.Given as goal
 
 abbrev pub invariant-loop-i : goal.invariant-loop-i
 invariant-loop-i l =
