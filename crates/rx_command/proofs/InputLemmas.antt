@@ -25,7 +25,7 @@ use Rattle.rx_command.specs.Words.{Asked, Task, Extraction, extracts, checks}
 use Rattle.rx_walk.specs.Faults.{Refuses}
 use Rattle.rx_command.specs.declared.errors.InputError.{InputError}
 use Rattle.rx_command.specs.declared.errors.InputError.TheVariants as error
-use Rattle.rx_command.specs.Reading.{standard, Way, ReadsPage, ReadsRight, Finds, ReadsClean, IsClean, PageGives}
+use Rattle.rx_command.specs.Reading.{standard, Way, ReadsPage, ReadsRight, Finds, ReadsClean, IsClean, PageFails}
 use Rattle.rx_command.proofs.ReadLemmas.{unread_clean}
 use Rattle.rx_command.specs.Files.{ReadsFile, TakesOf, size_of}
 use Rattle.rx_command.specs.Contexts.{IsContextFile, IsFileOf, IsContext, HasContext, TakesContext, ReadsContext, context_size, is_context}
@@ -155,7 +155,7 @@ page_right way name named text e t x y c =
 
 pub page_text : (e : Extraction) (context : Context) (name named text : List ℕ) (list : List CodeTriple) → named ≡ name
     → text ≡ encode_utf8_all (nquads (numbered nat_eq (copied nat_eq (triples_seen list))) e.graph) → Nquads (chars text) (quads (numbered nat_eq (copied nat_eq (triples_seen list))) e.graph)
-    → (x y : Told) → ReadsPage (way_in (extracts e) context) named list x y → PageText (extracts e) context name text x y
+    → (x y : Told) → ReadsPage (way_in (extracts e) context) e.address named list x y → PageText (extracts e) context name text x y
 page_text e context name named text list n spelled denotes x y c =
     let made = list_written e.address context c.ended.tree list c.ended.made in
     let is : IsAccepted e.syntax context c.bytes c.ended.tree = record { page = c.ended.page; accepted = c.ended.accepted } in
@@ -176,53 +176,36 @@ page_text e context name named text list n spelled denotes x y c =
 pub if_text : {V E : Type 0} (items : V → List ℕ) (r : Result V E) (approach : Approach) (graph : Option (Bor Chars)) (name named : List ℕ) (list : List CodeTriple) (told now : Option Told) → named ≡ name
     → IfOk r (λ text. items text ≡ encode_utf8_all (nquads (numbered nat_eq (copied nat_eq (triples_seen list))) (option_map (λ iri. iri.now) graph)))
     → IfOk r (λ text. Nquads (chars (items text)) (quads (numbered nat_eq (copied nat_eq (triples_seen list))) (option_map (λ iri. iri.now) graph)))
-    → Moves (ReadsPage (way_of approach) named list) told now → IfOk r (λ text. Moves (PageText (extracts (extraction_of approach graph)) approach.context name (items text)) told now)
+    → Moves (ReadsPage (way_of approach) approach.address named list) told now → IfOk r (λ text. Moves (PageText (extracts (extraction_of approach graph)) approach.context name (items text)) told now)
 if_text items (Ok text) approach graph name named list told now e s d m =
     moves_weaker (PageText (extracts (extraction_of approach graph)) approach.context name (items text)) (λ x y c. page_text (extraction_of approach graph) approach.context name named (items text) list e s d x y c) m
 if_text items (Err error) approach graph name named list told now e s d m = tt
 
--- the extraction that the code is given is the one that is asked for
-same_extraction : (approach : Approach) (graph : Option (Bor Chars)) (e : Extraction) (context : Context) → way_of approach ≡ way_in (extracts e) context → option_map (λ iri. iri.now) graph ≡ e.graph → extraction_of approach graph ≡ e
-same_extraction approach graph e context w g =
-    ap (λ (way : Way). record { syntax = way.syntax; graph = option_map (λ iri. iri.now) graph; address = way.address }) w ∙ ap (λ name. record { syntax = e.syntax; graph = name; address = e.address }) g
+-- of a job that is known to be an extraction, or a check
+pub for_extraction : (holds : Task → Context → List ℕ → Type 0) (asked : Asked) (approach : Approach) (graph : Option (Bor Chars)) (e : Extraction) (file : Option Chars) (page : Chars)
+    → asked ≡ record { task = extracts e; context = file; page = page } → approach.syntax ≡ e.syntax → approach.address ≡ e.address → option_map (λ iri. iri.now) graph ≡ e.graph
+    → holds (extracts (extraction_of approach graph)) approach.context (encode_utf8_all page) → holds asked.task approach.context (encode_utf8_all asked.page)
+for_extraction holds asked approach graph e file page is s a n h =
+    let same : extraction_of approach graph ≡ e = λ i. record { syntax = s i; graph = n i; address = a i } in
+    subst (λ (k : Asked). holds k.task approach.context (encode_utf8_all k.page)) (sym is) (subst (λ (x : Extraction). holds (extracts x) approach.context (encode_utf8_all page)) same h)
 
-as_asked : (holds : Task → Context → Type 0) (approach : Approach) (graph : Option (Bor Chars)) (e : Extraction) (context : Context) → way_of approach ≡ way_in (extracts e) context → option_map (λ iri. iri.now) graph ≡ e.graph
-    → holds (extracts (extraction_of approach graph)) approach.context → holds (extracts e) context
-as_asked holds approach graph e context w g h =
-    subst (λ c. holds (extracts e) c) (ap (λ (way : Way). way.context) w) (subst (λ x. holds (extracts x) approach.context) (same_extraction approach graph e context w g) h)
-
-as_checked : (holds : Task → Context → Type 0) (approach : Approach) (syntax : Syntax) (context : Context) → way_of approach ≡ way_in (checks syntax) context → holds (checks approach.syntax) approach.context → holds (checks syntax) context
-as_checked holds approach syntax context w h =
-    subst (λ c. holds (checks syntax) c) (ap (λ (way : Way). way.context) w) (subst (λ x. holds (checks x) approach.context) (ap (λ (way : Way). way.syntax) w) h)
-
--- the same of a job that is known to be an extraction, or a check
-pub for_extraction : (holds : Task → Context → List ℕ → Type 0) (asked : Asked) (approach : Approach) (graph : Option (Bor Chars)) (e : Extraction) (file : Option Chars) (page : Chars) (context : Context)
-    → asked ≡ record { task = extracts e; context = file; page = page } → way_of approach ≡ way_in asked.task context → option_map (λ iri. iri.now) graph ≡ e.graph
-    → holds (extracts (extraction_of approach graph)) approach.context (encode_utf8_all page) → holds asked.task context (encode_utf8_all asked.page)
-for_extraction holds asked approach graph e file page context is w g h =
-    let way : way_of approach ≡ way_in (extracts e) context = w ∙ ap (λ (k : Asked). way_in k.task context) is in
-    subst (λ (k : Asked). holds k.task context (encode_utf8_all k.page)) (sym is) (as_asked (λ task known. holds task known (encode_utf8_all page)) approach graph e context way g h)
-
-pub for_check : (holds : Task → Context → List ℕ → Type 0) (asked : Asked) (approach : Approach) (syntax : Syntax) (file : Option Chars) (page : Chars) (context : Context)
-    → asked ≡ record { task = checks syntax; context = file; page = page } → way_of approach ≡ way_in asked.task context
-    → holds (checks approach.syntax) approach.context (encode_utf8_all page) → holds asked.task context (encode_utf8_all asked.page)
-for_check holds asked approach syntax file page context is w h =
-    let way : way_of approach ≡ way_in (checks syntax) context = w ∙ ap (λ (k : Asked). way_in k.task context) is in
-    subst (λ (k : Asked). holds k.task context (encode_utf8_all k.page)) (sym is) (as_checked (λ task known. holds task known (encode_utf8_all page)) approach syntax context way h)
+pub for_check : (holds : Task → Context → List ℕ → Type 0) (asked : Asked) (syntax : Syntax) (file : Option Chars) (page : Chars) (context : Context)
+    → asked ≡ record { task = checks syntax; context = file; page = page } → holds (checks syntax) context (encode_utf8_all page) → holds asked.task context (encode_utf8_all asked.page)
+for_check holds asked syntax file page context is h = subst (λ (k : Asked). holds k.task context (encode_utf8_all k.page)) (sym is) h
 
 pub page_found : (task : Task) (way : Way) (context : Context) (name named : List ℕ) (fault : Fault) → named ≡ name → way.syntax ≡ (way_in task context).syntax → way.context ≡ (way_in task context).context → (x y : Told) → Finds way named fault x y → PageRefused task context name fault x y
 page_found task way context name named fault e s k x y f =
     record { bytes = f.bytes; file = sym (ap (λ n. file_of x.files n) e) ∙ f.file; refused = subst (λ z. Refuses z standard (way_in task context).context f.bytes fault) s (subst (λ z. Refuses way.syntax standard z f.bytes fault) k f.is); reads = f.read }
 
 -- why a page was not read
-pub gives_refused : (way : Way) (name named : List ℕ) (e : InputError) (fault : Fault) (told now : Option Told) → named ≡ name → PageGives way named (Err e) told now → e ≡ error.Refused fault → Moves (Finds way name fault) told now
-gives_refused way name named e fault told now n g is = subst (λ x. Moves (Finds way x fault) told now) n (subst (λ x. PageGives way named (Err x) told now) is g)
+pub fails_refused : (way : Way) (name named : List ℕ) (e : InputError) (fault : Fault) (told now : Option Told) → named ≡ name → PageFails way named e told now → e ≡ error.Refused fault → Moves (Finds way name fault) told now
+fails_refused way name named e fault told now n g is = subst (λ x. Moves (Finds way x fault) told now) n (subst (λ x. PageFails way named x told now) is g)
 
-pub gives_clean : (way : Way) (name named : List ℕ) (e : InputError) (told now : Option Told) → named ≡ name → PageGives way named (Err e) told now → e ≡ error.Failed → Moves (ReadsClean way name) told now
-gives_clean way name named e told now n g is = subst (λ x. Moves (ReadsClean way x) told now) n (subst (λ x. PageGives way named (Err x) told now) is g)
+pub fails_clean : (way : Way) (name named : List ℕ) (e : InputError) (told now : Option Told) → named ≡ name → PageFails way named e told now → e ≡ error.Failed → Moves (ReadsClean way name) told now
+fails_clean way name named e told now n g is = subst (λ x. Moves (ReadsClean way x) told now) n (subst (λ x. PageFails way named x told now) is g)
 
-pub gives_no_context : (way : Way) (name : List ℕ) (e : InputError) (told now : Option Told) → PageGives way name (Err e) told now → e ≡ error.BadContext → ⊥
-gives_no_context way name e told now g is = subst (λ x. PageGives way name (Err x) told now) is g
+pub fails_no_context : (way : Way) (name : List ℕ) (e : InputError) (told now : Option Told) → PageFails way name e told now → e ≡ error.BadContext → ⊥
+fails_no_context way name e told now g is = subst (λ x. PageFails way name x told now) is g
 
 -- what a call gives
 

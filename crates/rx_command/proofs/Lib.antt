@@ -7,3 +7,7 @@ pub mod ReadLemmas
 pub mod MadeLemmas
 pub mod SampleLemmas
 pub mod NumberLemmas
+pub mod WrittenTokens
+pub mod WrittenNodes
+pub mod SampleTokens
+pub mod SampleNodes

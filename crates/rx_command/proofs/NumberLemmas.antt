@@ -11,6 +11,7 @@ use Rattle.std.proofs.lemmas.Bool.Decides.{nat_tests}
 use Rattle.std.proofs.lemmas.Str.Parse.{IsDigitsTest, numerals_by_value, parse_digits}
 use Rattle.rx_terms.specs.Ascii.{is_ascii}
 use Rattle.rx_terms.proofs.CharLemmas.{ascii-same}
+use Rattle.rx_reader.proofs.Bools.{split}
 use Rattle.rx_command.specs.Words.{count_of, digit_zero, is_number, most_items}
 
 digit_ascii : (c : ℕ) → is_ascii_digit c ≡ true → is_ascii c ≡ true
@@ -26,7 +27,7 @@ digits_ascii : (word : List ℕ) → list_all is_ascii_digit word ≡ true → l
 digits_ascii [] e = refl
 digits_ascii (c ∷ word) e = let p = and_parts _ _ e in and_from _ _ (digit_ascii c p.0) (digits_ascii word p.1)
 
-tells : IsDigitsTest (λ ds. list_all is_ascii_digit ds ≡ true)
+pub tells : IsDigitsTest (λ ds. list_all is_ascii_digit ds ≡ true)
 tells = record {
   empty = refl;
   parts = λ c cs e. let p = and_parts _ _ e in (digit_from c p.0, p.1);
@@ -76,3 +77,13 @@ is_too_long word bytes why b e h =
   where
     past : (n : ℕ) → (n < 2 ^ 32 → ⊥) → 100000 < n
     past n l = omega arith
+
+small_one : (n : ℕ) → nat_le n 100000 ≡ true → n ≤ 100000
+small_one n t = grind (arith, nat_tests)
+
+-- a number that is read isn't too large
+pub few_counted : (word : List ℕ) (count : ℕ) → count_of word ≡ Some count → count ≤ most_items
+few_counted word count e = split (λ (found : Option ℕ). found ≡ Some count → count ≤ most_items) (is_number word && nat_le (digits_value 10 word) most_items) (Some (digits_value 10 word)) None (λ t k. few t k) (λ f k. absurd (cc)) e
+  where
+    few : (is_number word && nat_le (digits_value 10 word) most_items) ≡ true → ◌≡◌ {A = Option ℕ} (Some (digits_value 10 word)) (Some count) → count ≤ most_items
+    few t k = let same : digits_value 10 word ≡ count = (cc) in omega (arith, same, small_one (digits_value 10 word) (and_parts (is_number word) (nat_le (digits_value 10 word) most_items) t).1)

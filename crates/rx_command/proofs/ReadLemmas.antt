@@ -1,5 +1,6 @@
 -- A page that is read as its bytes come.
 use Rattle.std.proofs.Common.{◌≡◌, ◌∙◌, ℕ, ◌+◌, ◌≤◌, ◌<◌, List, [], ◌∷◌, ◌++◌, length, take, sym, ap, subst, refl, arith, Option, Some, None, Result, Ok, Err, append_assoc, append-nil, length-append, length-take}
+use Rattle.rx_terms.specs.Text.{Chars}
 use Rattle.rx_terms.specs.declared.triples.Triple.{Triple as CodeTriple}
 use Rattle.rx_grammar.specs.declared.faults.Fault.{Fault}
 use Rattle.rx_grammar.specs.declared.faults.Kind.TheVariants.{Unended}
@@ -25,26 +26,26 @@ use Rattle.rx_command.specs.declared.errors.InputError.TheVariants as error
 use Rattle.rx_command.specs.declared.readers.Reader.{Reader}
 use Rattle.rx_command.specs.declared.readers.Reader.TheVariants as reader
 use Rattle.rx_command.specs.Files.{HasRead}
-use Rattle.rx_command.specs.Reading.{standard, Way, Reached, FeedGives, HasFirst, Decides, Adds, AddsNone, NextGives, EndGives, CheckEnds, ReadsPage, ReadsRight, Finds, ReadsClean, IsFile, Fed, FileGives, PageGives, CheckGives}
+use Rattle.rx_command.specs.Reading.{standard, Way, Reached, FeedGives, HasFirst, Decides, Adds, AddsNone, NextGives, EndFails, EndGives, CheckEnds, ReadsPage, ReadsRight, Finds, ReadsClean, IsFile, Fed, PageFails, PageGives, CheckGives}
 use Rattle.rx_command.proofs.FaultLemmas.{no_meaning_in, only_unended, refused_from}
 
 pub limits_are : (l : Limits) → l.depth ≡ 512 → l.tag ≡ 1048576 → l.page ≡ 1073741824 → l ≡ standard
 limits_are l d t p = ap (λ x. record { depth = x; tag = l.tag; page = l.page }) d ∙ (ap (λ x. record { depth = 512; tag = x; page = l.page }) t ∙ ap (λ x. record { depth = 512; tag = 1048576; page = x }) p)
 
-pub start_reached : (way : Way) (l : Limits) (v : Walked) → l ≡ standard → walks.Stands way.syntax l way.context way.address v [] → Reached way (reader.Walks v) []
-start_reached way l v e st = subst (λ x. walks.Stands way.syntax x way.context way.address v []) e st
+pub start_reached : (way : Way) (address : Chars) (l : Limits) (v : Walked) → l ≡ standard → walks.Stands way.syntax l way.context address v [] → Reached way address (reader.Walks v) []
+start_reached way address l v e st = subst (λ x. walks.Stands way.syntax x way.context address v []) e st
 
-pub start_checked : (way : Way) (l : Limits) (v : Checked) → l ≡ standard → checks.Stands way.syntax l way.context v [] → Reached way (reader.Checks v) []
-start_checked way l v e st = subst (λ x. checks.Stands way.syntax x way.context v []) e st
+pub start_checked : (way : Way) (address : Chars) (l : Limits) (v : Checked) → l ≡ standard → checks.Stands way.syntax l way.context v [] → Reached way address (reader.Checks v) []
+start_checked way address l v e st = subst (λ x. checks.Stands way.syntax x way.context v []) e st
 
 -- a piece
-pub walk_fed : (way : Way) (bytes piece : List ℕ) (r : Result (Unit {0}) Stop) (v : Walked) → walks.FeedGives way.syntax standard way.context way.address bytes piece r v → FeedGives way bytes piece r (reader.Walks v)
-walk_fed way bytes piece (Ok done) v g = g
-walk_fed way bytes piece (Err why) v g = g.0
+pub walk_fed : (way : Way) (address : Chars) (bytes piece : List ℕ) (r : Result (Unit {0}) Stop) (v : Walked) → walks.FeedGives way.syntax standard way.context address bytes piece r v → FeedGives way address bytes piece r (reader.Walks v)
+walk_fed way address bytes piece (Ok done) v g = g
+walk_fed way address bytes piece (Err why) v g = g.0
 
-pub check_fed : (way : Way) (bytes piece : List ℕ) (r : Result (Unit {0}) Stop) (v : Checked) → checks.FeedGives way.syntax standard way.context bytes piece r v → FeedGives way bytes piece r (reader.Checks v)
-check_fed way bytes piece (Ok done) v g = g
-check_fed way bytes piece (Err why) v g = g.0
+pub check_fed : (way : Way) (address : Chars) (bytes piece : List ℕ) (r : Result (Unit {0}) Stop) (v : Checked) → checks.FeedGives way.syntax standard way.context bytes piece r v → FeedGives way address bytes piece r (reader.Checks v)
+check_fed way address bytes piece (Ok done) v g = g
+check_fed way address bytes piece (Err why) v g = g.0
 
 -- bytes that were read without a fault
 pub record IsRead (way : Way) (bytes : List ℕ) : Type 0 where
@@ -57,23 +58,23 @@ shown_read way bytes nest signs shown paid accepted =
     let signs_are : (sees nothing_seen shown.told).signs ≡ signs = ap (λ (x : Sight). x.signs) shown.sight ∙ (ap (λ x. signs ++ x) paid ∙ append-nil signs) in
     record { now = record { now = shown.at.now; told = shown.told }; read = shown.at.read; accepted = ap (λ x. refused_in way.context [] x) signs_are ∙ accepted }
 
-pub is_read : (way : Way) (v : Reader) (bytes : List ℕ) → Reached way v bytes → IsRead way bytes
-is_read way (reader.Walks v) bytes r = shown_read way bytes v.nest r.goes.signs r.goes.shown r.paid r.goes.runs.accepted
-is_read way (reader.Checks v) bytes r = shown_read way bytes v.nest r.goes.signs r.goes.shown r.paid r.goes.accepts.accepted
+pub is_read : (way : Way) (address : Chars) (v : Reader) (bytes : List ℕ) → Reached way address v bytes → IsRead way bytes
+is_read way address (reader.Walks v) bytes r = shown_read way bytes v.nest r.goes.signs r.goes.shown r.paid r.goes.runs.accepted
+is_read way address (reader.Checks v) bytes r = shown_read way bytes v.nest r.goes.signs r.goes.shown r.paid r.goes.accepts.accepted
 
 no_bytes_read : (way : Way) → IsRead way []
 no_bytes_read way = record { now = record { now = no_page; told = [] }; read = refl; accepted = refl }
 
 -- a piece that is refused
-pub piece_refused : (way : Way) (v : Reader) (bytes piece : List ℕ) (fault : Fault) → Reached way v bytes → Stops way.syntax standard way.context (bytes ++ piece) fault → Decides way bytes piece fault
-piece_refused way v bytes piece fault r s =
-    let i = is_read way v bytes r in
+pub piece_refused : (way : Way) (address : Chars) (v : Reader) (bytes piece : List ℕ) (fault : Fault) → Reached way address v bytes → Stops way.syntax standard way.context (bytes ++ piece) fault → Decides way bytes piece fault
+piece_refused way address v bytes piece fault r s =
+    let i = is_read way address v bytes r in
     record { stays = s.stays; from = refused_from way.syntax standard way.context bytes piece i.now i.read i.accepted fault (subst (λ x. HasFirst way x fault) (append-nil (bytes ++ piece)) (s.stays [])) }
 
 -- the end of a page that isn't whole
-pub end_refused : (way : Way) (v : Reader) (bytes : List ℕ) (fault : Fault) → Reached way v bytes → FaultAt way.syntax standard bytes fault → HasFirst way bytes fault
-end_refused way v bytes fault r f =
-    let i = is_read way v bytes r in
+pub end_refused : (way : Way) (address : Chars) (v : Reader) (bytes : List ℕ) (fault : Fault) → Reached way address v bytes → FaultAt way.syntax standard bytes fault → HasFirst way bytes fault
+end_refused way address v bytes fault r f =
+    let i = is_read way address v bytes r in
     for_form f (λ other m. no_meaning_in way.syntax standard way.context bytes i.now i.read i.accepted other m)
 
 -- a read
@@ -87,10 +88,10 @@ read_adds buf k x y r room within =
     }
 
 -- the file so far
-pub record SoFar (way : Way) (name : List ℕ) (v : Reader) (n : ℕ) (before now : Option Told) : Type 0 where
+pub record SoFar (way : Way) (address : Chars) (name : List ℕ) (v : Reader) (n : ℕ) (before now : Option Told) : Type 0 where
   pub bytes : List ℕ
   pub size : length bytes ≡ n
-  pub reached : Reached way v bytes
+  pub reached : Reached way address v bytes
   pub read : Moves (HasRead name bytes) before now
 
 has_more : (name bytes more : List ℕ) (x y z : Told) → HasRead name bytes x y → Adds more y z → HasRead name (bytes ++ more) x z
@@ -101,8 +102,8 @@ has_more name bytes more x y z h a =
       taken = omega (arith, h.taken, a.taken, length-append bytes more);
     }
 
-pub more_so_far : (way : Way) (name : List ℕ) (v w : Reader) (n k : ℕ) (before now later : Option Told) (s : SoFar way name v n before now) → NextGives way s.bytes (Ok k) w now later → SoFar way name w (n + k) before later
-more_so_far way name v w n k before now later s g =
+pub more_so_far : (way : Way) (address : Chars) (name : List ℕ) (v w : Reader) (n k : ℕ) (before now later : Option Told) (s : SoFar way address name v n before now) → NextGives way address s.bytes (Ok k) w now later → SoFar way address name w (n + k) before later
+more_so_far way address name v w n k before now later s g =
     record {
       bytes = s.bytes ++ g.0;
       size = omega (arith, length-append s.bytes g.0, s.size, g.1);
@@ -111,8 +112,8 @@ more_so_far way name v w n k before now later s g =
     }
 
 -- a page isn't longer than the largest
-pub not_longer : (way : Way) (v : Reader) (bytes : List ℕ) → Reached way v bytes → length bytes ≤ 1073741824
-not_longer way v bytes r = let i = is_read way v bytes r in (read_size way.syntax standard bytes i.now i.read).1
+pub not_longer : (way : Way) (address : Chars) (v : Reader) (bytes : List ℕ) → Reached way address v bytes → length bytes ≤ 1073741824
+not_longer way address v bytes r = let i = is_read way address v bytes r in (read_size way.syntax standard bytes i.now i.read).1
 
 clean_of : (way : Way) (bytes : List ℕ) → IsRead way bytes → (fault : Fault) → HasFirst way bytes fault → fault.kind ≡ Unended
 clean_of way bytes i fault f = only_unended way.syntax standard way.context bytes i.now i.read i.accepted fault f
@@ -120,9 +121,9 @@ clean_of way bytes i fault f = only_unended way.syntax standard way.context byte
 some_file : (a b : List ℕ) → ◌≡◌ {A = Option (List ℕ)} (Some a) (Some b) → a ≡ b
 some_file a b e = cc
 
-read_clean : (way : Way) (name : List ℕ) (v : Reader) (bytes : List ℕ) (x y z : Told) → HasRead name bytes x y → AddsNone y z → Reached way v bytes → ReadsClean way name x z
-read_clean way name v bytes x y z h a r file f =
-    record { bytes = bytes; rest = y.left; are = some_file file (bytes ++ y.left) (sym f ∙ h.file); taken = omega (arith, h.taken, a.taken); clean = clean_of way bytes (is_read way v bytes r) }
+read_clean : (way : Way) (address : Chars) (name : List ℕ) (v : Reader) (bytes : List ℕ) (x y z : Told) → HasRead name bytes x y → AddsNone y z → Reached way address v bytes → ReadsClean way name x z
+read_clean way address name v bytes x y z h a r file f =
+    record { bytes = bytes; rest = y.left; are = some_file file (bytes ++ y.left) (sym f ∙ h.file); taken = omega (arith, h.taken, a.taken); clean = clean_of way bytes (is_read way address v bytes r) }
 
 -- nothing was read of the file
 pub unread_clean : (way : Way) (name : List ℕ) (x y : Told) → y.taken ≤ x.taken → ReadsClean way name x y
@@ -134,11 +135,11 @@ found way name bytes more fault x y z h a small f =
     let r = has_more name bytes more x y z h a in
     record { bytes = (bytes ++ more) ++ z.left; file = r.file; is = f.stays z.left; read = omega (arith, r.taken, length-append bytes more, f.from) }
 
-pub next_found : (way : Way) (name : List ℕ) (v w : Reader) (n : ℕ) (e : InputError) (before now later : Option Told) (s : SoFar way name v n before now) → NextGives way s.bytes (Err e) w now later → PageGives way name (Err e) before later
-next_found way name v w n (error.Refused fault) before now later s g = moves_then (Finds way name fault) (λ x y z h a. found way name s.bytes g.0 fault x y z h a g.1 g.2) s.read g.3
-next_found way name v w n error.Failed before now later s g = moves_then (ReadsClean way name) (λ x y z h a file f. read_clean way name v s.bytes x y z h a s.reached file f) s.read g
-next_found way name v w n error.BadContext before now later s g = g
-next_found way name v w n error.NoMemory before now later s g = tt
+pub next_found : (way : Way) (address : Chars) (name : List ℕ) (v w : Reader) (n : ℕ) (e : InputError) (before now later : Option Told) (s : SoFar way address name v n before now) → NextGives way address s.bytes (Err e) w now later → PageFails way name e before later
+next_found way address name v w n (error.Refused fault) before now later s g = moves_then (Finds way name fault) (λ x y z h a. found way name s.bytes g.0 fault x y z h a g.1 g.2) s.read g.3
+next_found way address name v w n error.Failed before now later s g = moves_then (ReadsClean way name) (λ x y z h a file f. read_clean way address name v s.bytes x y z h a s.reached file f) s.read g
+next_found way address name v w n error.BadContext before now later s g = g
+next_found way address name v w n error.NoMemory before now later s g = tt
 
 -- the file's end
 nothing_more : (more : List ℕ) → length more ≡ 0 → more ≡ []
@@ -152,8 +153,8 @@ ended_file : (way : Way) (name bytes more : List ℕ) (x y z : Told) → HasRead
 ended_file way name bytes more x y z h a none =
     (has_more name bytes more x y z h a).file ∙ ap Some (ap (λ l. (bytes ++ more) ++ l) (at_end more y z a none) ∙ append-nil (bytes ++ more))
 
-pub file_fed : (way : Way) (name : List ℕ) (v w : Reader) (n k : ℕ) (before now later : Option Told) (s : SoFar way name v n before now) → NextGives way s.bytes (Ok k) w now later → k ≡ 0 → Fed way name w before later
-file_fed way name v w n k before now later s g none =
+pub file_fed : (way : Way) (address : Chars) (name : List ℕ) (v w : Reader) (n k : ℕ) (before now later : Option Told) (s : SoFar way address name v n before now) → NextGives way address s.bytes (Ok k) w now later → k ≡ 0 → Fed way address name w before later
+file_fed way address name v w n k before now later s g none =
     record {
       bytes = s.bytes ++ g.0;
       reached = g.2;
@@ -162,26 +163,17 @@ file_fed way name v w n k before now later s g none =
           (λ x y z h a. record { file = ended_file way name s.bytes g.0 x y z h a (nothing_more g.0 (g.1 ∙ none)); left = at_end g.0 y z a (nothing_more g.0 (g.1 ∙ none)); taken = (has_more name s.bytes g.0 x y z h a).taken }) s.read g.3;
     }
 
-pub next_file : (way : Way) (name : List ℕ) (v w : Reader) (n : ℕ) (e : InputError) (before now later : Option Told) (s : SoFar way name v n before now) → NextGives way s.bytes (Err e) w now later → FileGives way name (Err e) w before later
-next_file way name v w n (error.Refused fault) before now later s g = next_found way name v w n (error.Refused fault) before now later s g
-next_file way name v w n error.Failed before now later s g = next_found way name v w n error.Failed before now later s g
-next_file way name v w n error.BadContext before now later s g = g
-next_file way name v w n error.NoMemory before now later s g = tt
-
 -- the page
-pub fed_ends : (way : Way) (name : List ℕ) (v : Reader) (before now : Option Told) (f : Fed way name v before now) (result : Result (List CodeTriple) InputError) → EndGives way f.bytes result → PageGives way name result before now
-fed_ends way name v before now f (Ok list) e = moves_weaker (ReadsPage way name list) (λ x y i. record { bytes = f.bytes; file = i.file; left = i.left; ended = e }) f.read
-fed_ends way name v before now f (Err (error.Refused fault)) e = moves_weaker (Finds way name fault) (λ x y i. record { bytes = f.bytes; file = i.file; is = e.0; read = omega (arith, i.taken, e.1) }) f.read
-fed_ends way name v before now f (Err error.Failed) e = absurd e
-fed_ends way name v before now f (Err error.BadContext) e = absurd e
-fed_ends way name v before now f (Err error.NoMemory) e = tt
+fails_at_end : (way : Way) (address : Chars) (name : List ℕ) (v : Reader) (before now : Option Told) (f : Fed way address name v before now) (e : InputError) → EndFails way f.bytes e → PageFails way name e before now
+fails_at_end way address name v before now f (error.Refused fault) e = moves_weaker (Finds way name fault) (λ x y i. record { bytes = f.bytes; file = i.file; is = e.0; read = omega (arith, i.taken, e.1) }) f.read
+fails_at_end way address name v before now f error.Failed e = absurd e
+fails_at_end way address name v before now f error.BadContext e = absurd e
+fails_at_end way address name v before now f error.NoMemory e = tt
 
-pub file_page : (way : Way) (name : List ℕ) (v : Reader) (before now : Option Told) (e : InputError) → FileGives way name (Err e) v before now → PageGives way name (Err e) before now
-file_page way name v before now (error.Refused fault) g = g
-file_page way name v before now error.Failed g = g
-file_page way name v before now error.BadContext g = g
-file_page way name v before now error.NoMemory g = tt
+pub fed_ends : (way : Way) (address : Chars) (name : List ℕ) (v : Reader) (before now : Option Told) (f : Fed way address name v before now) (result : Result (List CodeTriple) InputError) → EndGives way address f.bytes result → PageGives way address name result before now
+fed_ends way address name v before now f (Ok list) e = moves_weaker (ReadsPage way address name list) (λ x y i. record { bytes = f.bytes; file = i.file; left = i.left; ended = e }) f.read
+fed_ends way address name v before now f (Err why) e = fails_at_end way address name v before now f why e
 
-pub fed_checked : (way : Way) (name : List ℕ) (v : Reader) (before now : Option Told) (f : Fed way name v before now) (result : Result (Unit {0}) InputError) → CheckEnds way f.bytes result → CheckGives way name result before now
-fed_checked way name v before now f (Ok done) e = moves_weaker (ReadsRight way name) (λ x y i. record { bytes = f.bytes; file = i.file; left = i.left; right = e }) f.read
-fed_checked way name v before now f (Err why) e = fed_ends way name v before now f (Err why) e
+pub fed_checked : (way : Way) (address : Chars) (name : List ℕ) (v : Reader) (before now : Option Told) (f : Fed way address name v before now) (result : Result (Unit {0}) InputError) → CheckEnds way f.bytes result → CheckGives way name result before now
+fed_checked way address name v before now f (Ok done) e = moves_weaker (ReadsRight way name) (λ x y i. record { bytes = f.bytes; file = i.file; left = i.left; right = e }) f.read
+fed_checked way address name v before now f (Err why) e = fails_at_end way address name v before now f why e

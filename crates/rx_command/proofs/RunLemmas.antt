@@ -1,22 +1,23 @@
 -- From what was read of the files to what comes of the page.
-use Rattle.std.proofs.Common.{◌≡◌, ◌≢◌, ◌∙◌, ℕ, ◌⊎◌, inl, inr, List, sym, ap, subst, refl, Option, Some, None, true, false, encode_utf8_all}
+use Rattle.std.proofs.Common.{◌≡◌, ◌≢◌, ◌∙◌, ℕ, ◌⊎◌, ◌≤◌, inl, inr, List, [], ◌∷◌, sym, ap, subst, refl, Option, Some, None, true, false, encode_utf8_all}
+use Rattle.std.specs.Prelude.{codes, option_map, option_and_then}
 use Rattle.rx_ports.specs.Counts.{Rose}
 use Rattle.rx_ports.specs.Told.{Told, Moves, Stays}
 use Rattle.rx_ports.specs.Files.{file_of}
 use Rattle.rx_ports.proofs.MoveLemmas.{moves_at, moves_weaker}
 use Rattle.rx_grammar.specs.declared.faults.Fault.{Fault}
 use Rattle.rx_rdfa.specs.Names.{Context}
-use Rattle.rx_chars.specs.declared.syntax.Syntax.TheVariants.{Html}
-use Rattle.rx_rdfa.specs.Standard as names
+use Rattle.rx_reader.proofs.Bools.{split}
 use Rattle.rx_command.specs.declared.jobs.Job.{Job as CodeJob}
 use Rattle.rx_command.specs.Jobs.{asked_by, page_by, ReadsPage}
-use Rattle.rx_command.specs.Words.{Asked, Job, Task, extracts, checks, samples, job, page_in, page_asked}
+use Rattle.rx_command.specs.Words.{Asked, Job, Task, extracts, checks, reads, samples, count_of, sampling, extraction, checking, given, is_word, most_items, job, page_in, page_asked}
 use Rattle.rx_command.specs.Reading.{standard}
 use Rattle.rx_command.proofs.FaultLemmas.{one_first, page_has_none}
+use Rattle.rx_command.proofs.NumberLemmas.{few_counted}
 use Rattle.rx_command.specs.Contexts.{IsContext, HasContext, HasOther, LacksContext, is_context}
 use Rattle.rx_command.proofs.InputLemmas.{has_context, one_context}
-use Rattle.rx_command.specs.Outcome.{TaskGives, TaskRefuses, way_in, NamesPage, Meets, IsLacking, LacksFile, HasBadContext}
-use Rattle.rx_command.specs.Samples.{IsSample, SampleRefuses, sample_page, Yields, YieldsGraph, Refuses}
+use Rattle.rx_command.specs.Outcome.{TaskGives, TaskRefuses, way_in, NamesPage, HasPageFault, Meets, IsLacking, LacksFile, HasBadContext}
+use Rattle.rx_command.specs.Samples.{Yields, YieldsGraph}
 use Rattle.rx_command.specs.Inputs.{JobText, JobRefused, TellsThat}
 use Rattle.rx_command.specs.declared.statuses.Status.{Status}
 use Rattle.rx_command.specs.declared.statuses.Status.TheVariants as status
@@ -32,10 +33,10 @@ yields_graph words told now asked text t a m e =
     let r = moves_at t m e in
     inl (record { bytes = (r.1).page.bytes; page = record { asked = asked; shelf = t; context = (r.1).context; asks = a; tells = e; holds = (r.1).holds; file = (r.1).page.file }; graph = (r.1).page.graph })
 
-pub refuses : (words : List (List ℕ)) (told now : Option Told) (asked : Asked) (fault : Fault) (t : Told) → page_asked words ≡ Some asked → Moves (JobRefused asked fault) told now → told ≡ Some t → Refuses words told fault
+pub refuses : (words : List (List ℕ)) (told now : Option Told) (asked : Asked) (fault : Fault) (t : Told) → page_asked words ≡ Some asked → Moves (JobRefused asked fault) told now → told ≡ Some t → HasPageFault words told fault
 refuses words told now asked fault t a m e =
     let r = moves_at t m e in
-    inl (record { bytes = (r.1).bytes; page = record { asked = asked; shelf = t; context = (r.1).context; asks = a; tells = e; holds = (r.1).holds; file = (r.1).file }; refused = (r.1).refused })
+    record { bytes = (r.1).bytes; page = record { asked = asked; shelf = t; context = (r.1).context; asks = a; tells = e; holds = (r.1).holds; file = (r.1).file }; refused = (r.1).refused }
 
 -- both name one page
 one_page : (words : List (List ℕ)) (told : Option Told) (bytes others : List ℕ) → NamesPage words told bytes → NamesPage words told others → bytes ≡ others
@@ -75,75 +76,76 @@ same_page words told bytes others a p q r =
 pub not_sample : (words : List (List ℕ)) (asked : Asked) (count : ℕ) → page_asked words ≡ Some asked → job words ≡ Some (samples count) → ⊥
 not_sample words asked count p s = let both : None ≡ Some asked = sym (ap page_in s) ∙ p in absurd (cc)
 
-one_count : (words : List (List ℕ)) (m n : ℕ) → job words ≡ Some (samples m) → job words ≡ Some (samples n) → m ≡ n
-one_count words m n e f = let both : ◌≡◌ {A = Option Job} (Some (samples m)) (Some (samples n)) = sym e ∙ f in (cc)
-
-no_sample_both : (count : ℕ) (text : List ℕ) (fault : Fault) → IsSample count text → SampleRefuses count fault → ⊥
-no_sample_both count text fault h n = page_has_none Html standard names.standard (sample_page count) h.tree h.is.page h.is.accepted fault n
-
 -- no outcome is a text and a refusal
-pub not_both : (words : List (List ℕ)) (told : Option Told) (text : List ℕ) (fault : Fault) → Yields words told text → Refuses words told fault → ⊥
-not_both words told text fault (inl y) (inl r) = no_both y.page.asked.task y.page.context y.bytes text fault y.has_text (same_page words told r.bytes y.bytes fault r.page y.page r.refused)
-not_both words told text fault (inl y) (inr r) = not_sample words y.page.asked r.count y.page.asks r.asks
-not_both words told text fault (inr y) (inl r) = not_sample words r.page.asked y.count r.page.asks y.asks
-not_both words told text fault (inr y) (inr r) = no_sample_both y.count text fault y.is (subst (λ n. SampleRefuses n fault) (one_count words r.count y.count r.asks y.asks) r.refused)
+pub not_both : (words : List (List ℕ)) (told : Option Told) (text : List ℕ) (fault : Fault) → Yields words told text → HasPageFault words told fault → ⊥
+not_both words told text fault (inl y) r = no_both y.page.asked.task y.page.context y.bytes text fault y.has_text (same_page words told r.bytes y.bytes fault r.page y.page r.refused)
+not_both words told text fault (inr y) r = not_sample words r.page.asked y.count r.page.asks y.asks
 
 -- there is one refusal
-pub one_refusal : (words : List (List ℕ)) (told : Option Told) (a b : Fault) → Refuses words told a → Refuses words told b → a ≡ b
-one_refusal words told a b (inl p) (inl q) =
+pub one_refusal : (words : List (List ℕ)) (told : Option Told) (a b : Fault) → HasPageFault words told a → HasPageFault words told b → a ≡ b
+one_refusal words told a b p q =
     let way = way_in q.page.asked.task q.page.context in
     one_first way.syntax standard way.context q.bytes a b (same_page words told p.bytes q.bytes a p.page q.page p.refused) q.refused
-one_refusal words told a b (inl p) (inr q) = absurd (not_sample words p.page.asked q.count p.page.asks q.asks)
-one_refusal words told a b (inr p) (inl q) = absurd (not_sample words q.page.asked p.count q.page.asks p.asks)
-one_refusal words told a b (inr p) (inr q) = one_first Html standard names.standard (sample_page q.count) a b (subst (λ n. SampleRefuses n a) (one_count words p.count q.count p.asks q.asks) p.refused) q.refused
 
 -- a job that reads a page is that of the words
 pub asks_page : (words : List (List ℕ)) (j : CodeJob) → job words ≡ Some (asked_by j) → ReadsPage j → page_asked words ≡ Some (page_by j)
 asks_page words j e r = ap page_in (e ∙ ap Some r.asks)
 
 -- a page that was read has one outcome
-pub text_not_refused : (words : List (List ℕ)) (told now : Option Told) (asked : Asked) (text : List ℕ) (fault : Fault) → page_asked words ≡ Some asked → Moves (JobText asked text) told now → Refuses words told fault → ⊥
-text_not_refused words told now asked text fault a m (inl r) = not_both words told text fault (yields words told now asked text r.page.shelf a m r.page.tells) (inl r)
-text_not_refused words told now asked text fault a m (inr r) = not_sample words asked r.count a r.asks
+pub text_not_refused : (words : List (List ℕ)) (told now : Option Told) (asked : Asked) (text : List ℕ) (fault : Fault) → page_asked words ≡ Some asked → Moves (JobText asked text) told now → HasPageFault words told fault → ⊥
+text_not_refused words told now asked text fault a m r = not_both words told text fault (yields words told now asked text r.page.shelf a m r.page.tells) r
 
 pub refused_no_text : (words : List (List ℕ)) (told now : Option Told) (asked : Asked) (text : List ℕ) (fault : Fault) → page_asked words ≡ Some asked → Moves (JobRefused asked fault) told now → Yields words told text → ⊥
 refused_no_text words told now asked text fault a m (inl y) = not_both words told text fault (inl y) (refuses words told now asked fault y.page.shelf a m y.page.tells)
 refused_no_text words told now asked text fault a m (inr y) = not_sample words asked y.count a y.asks
 
-pub refused_so : (words : List (List ℕ)) (told now : Option Told) (asked : Asked) (found fault : Fault) → page_asked words ≡ Some asked → Moves (JobRefused asked found) told now → Refuses words told fault → found ≡ fault
-refused_so words told now asked found fault a m (inl r) = one_refusal words told found fault (refuses words told now asked found r.page.shelf a m r.page.tells) (inl r)
-refused_so words told now asked found fault a m (inr r) = absurd (not_sample words asked r.count a r.asks)
+pub refused_so : (words : List (List ℕ)) (told now : Option Told) (asked : Asked) (found fault : Fault) → page_asked words ≡ Some asked → Moves (JobRefused asked found) told now → HasPageFault words told fault → found ≡ fault
+refused_so words told now asked found fault a m r = one_refusal words told found fault (refuses words told now asked found r.page.shelf a m r.page.tells) r
 
 -- ---- a sample
+
+no_reading : (asked : Option Asked) (count : ℕ) → option_map reads asked ≡ Some (samples count) → ⊥
+no_reading None count e = cc
+no_reading (Some asked) count e = cc
+
+sampled : (number : Option ℕ) (count : ℕ) → option_map samples number ≡ Some (samples count) → number ≡ Some count
+sampled None count e = absurd (cc)
+sampled (Some n) count e = cc
+
+few_sampled : (words : List (List ℕ)) (count : ℕ) → sampling words ≡ Some (samples count) → count ≤ most_items
+few_sampled [] count e = absurd (cc)
+few_sampled (word ∷ []) count e = few_counted word count (sampled (count_of word) count e)
+few_sampled (word ∷ second ∷ words) count e = absurd (cc)
+
+abbrev IsFew : ℕ → Option Job → Type 0
+IsFew count found = ◌≡◌ {A = Option Job} found (Some (samples count)) → count ≤ most_items
+
+-- a sample that is asked for has no more items than any may have
+pub few_asked : (words : List (List ℕ)) (count : ℕ) → job words ≡ Some (samples count) → count ≤ most_items
+few_asked [] count e = absurd (cc)
+few_asked (task ∷ words) count e =
+    split (IsFew count) (is_word task (codes "sample")) (sampling words) _ (λ t k. few_sampled words count k)
+    (λ f. split (IsFew count) (is_word task (codes "extract")) (option_map reads (option_and_then extraction (given words))) _ (λ t k. absurd (no_reading (option_and_then extraction (given words)) count k))
+    (λ f. split (IsFew count) (is_word task (codes "check")) (option_map reads (option_and_then checking (given words))) None (λ t k. absurd (no_reading (option_and_then checking (given words)) count k)) (λ f k. absurd (cc))))
+    e
 
 pub sample_nothing : (count : ℕ) (s : Status) (old new : Option (List ℕ)) (before now : ℕ) → SampleEnds count s old new before now → s ≢ status.Done → s ≢ status.WriteFault → Moves Stays old new
 sample_nothing count status.Done old new before now e d w = absurd (d refl)
 sample_nothing count status.WriteFault old new before now e d w = absurd (w refl)
-sample_nothing count (status.Refused fault) old new before now e d w = e.1
+sample_nothing count (status.Refused fault) old new before now e d w = absurd e
 sample_nothing count status.Memory old new before now e d w = e
 sample_nothing count status.Usage old new before now e d w = absurd e
 sample_nothing count status.ReadFault old new before now e d w = absurd e
 sample_nothing count status.BadContext old new before now e d w = absurd e
 
-pub sample_completes : (words : List (List ℕ)) (told : Option Told) (text : List ℕ) (count : ℕ) (s : Status) (old new : Option (List ℕ)) (before now : ℕ) → job words ≡ Some (samples count) → Yields words told text → ¬ Rose before now
-    → SampleEnds count s old new before now → (s ≡ status.Done) ⊎ (s ≡ status.Memory)
-sample_completes words told text count status.Done old new before now j y n e = inl refl
-sample_completes words told text count status.WriteFault old new before now j y n e = absurd (n e.3)
-sample_completes words told text count (status.Refused fault) old new before now j y n e = absurd (not_both words told text fault y (inr (record { count = count; asks = j; refused = e.0 })))
-sample_completes words told text count status.Memory old new before now j y n e = inr refl
-sample_completes words told text count status.Usage old new before now j y n e = absurd e
-sample_completes words told text count status.ReadFault old new before now j y n e = absurd e
-sample_completes words told text count status.BadContext old new before now j y n e = absurd e
-
-pub sample_refuses : (words : List (List ℕ)) (told : Option Told) (fault : Fault) (count : ℕ) (s : Status) (old new : Option (List ℕ)) (before now : ℕ) → job words ≡ Some (samples count) → Refuses words told fault
-    → SampleEnds count s old new before now → (s ≡ status.Refused fault) ⊎ (s ≡ status.Memory)
-sample_refuses words told fault count status.Done old new before now j r e = absurd (not_both words told e.0 fault (inr (record { count = count; asks = j; is = e.1 })) r)
-sample_refuses words told fault count status.WriteFault old new before now j r e = absurd (not_both words told e.0 fault (inr (record { count = count; asks = j; is = e.1 })) r)
-sample_refuses words told fault count (status.Refused found) old new before now j r e = inl (ap (λ (f : Fault). status.Refused f) (one_refusal words told found fault (inr (record { count = count; asks = j; refused = e.0 })) r))
-sample_refuses words told fault count status.Memory old new before now j r e = inr refl
-sample_refuses words told fault count status.Usage old new before now j r e = absurd e
-sample_refuses words told fault count status.ReadFault old new before now j r e = absurd e
-sample_refuses words told fault count status.BadContext old new before now j r e = absurd e
+pub sample_completes : (count : ℕ) (s : Status) (old new : Option (List ℕ)) (before now : ℕ) → ¬ Rose before now → SampleEnds count s old new before now → (s ≡ status.Done) ⊎ (s ≡ status.Memory)
+sample_completes count status.Done old new before now n e = inl refl
+sample_completes count status.WriteFault old new before now n e = absurd (n e.3)
+sample_completes count (status.Refused fault) old new before now n e = absurd e
+sample_completes count status.Memory old new before now n e = inr refl
+sample_completes count status.Usage old new before now n e = absurd e
+sample_completes count status.ReadFault old new before now n e = absurd e
+sample_completes count status.BadContext old new before now n e = absurd e
 
 -- a file isn't there and missing
 there : (file : Option (List ℕ)) (bytes : List ℕ) → file ≡ Some bytes → file ≡ None → ⊥

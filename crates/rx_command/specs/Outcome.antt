@@ -60,14 +60,10 @@ pub record IsRight (syntax : Syntax) (context : Context) (bytes text : List ℕ)
   pub is : IsAccepted syntax context bytes tree
   pub spelled : text ≡ ok_line
 
--- the address at which a page is checked
-abbrev pub check_address : Chars
-check_address = codes "http://localhost/"
-
 -- how the task reads a page
 abbrev pub way_in : Task → Context → Way
-way_in (extracts e) context = record { syntax = e.syntax; context = context; address = e.address }
-way_in (checks syntax) context = record { syntax = syntax; context = context; address = check_address }
+way_in (extracts e) context = record { syntax = e.syntax; context = context }
+way_in (checks syntax) context = record { syntax = syntax; context = context }
 
 -- what a task makes of a page: an extraction gives the text of its triples; a check says that the page is one
 abbrev pub TaskGives : Task → Context → List ℕ → List ℕ → Type 0

@@ -28,26 +28,25 @@ standard = record { depth = 512; tag = 1048576; page = 1073741824 }
 abbrev pub largest_piece : ℕ
 largest_piece = 65536
 
--- how a page is read: its syntax, the names that hold in it, and its address
+-- how a page is read: its syntax, and the names that hold in it
 pub record Way : Type 0 where
   pub syntax : Syntax
   pub context : Context
-  pub address : Chars
 
 -- the page's triples are wanted
 abbrev pub walks : Reader → Bool
 walks (reader.Walks v) = true
 walks (reader.Checks v) = false
 
--- the reader stands where these bytes of a page lead; a check knows no address
-abbrev pub Reached : Way → Reader → List ℕ → Type 0
-Reached way (reader.Walks v) bytes = walk.Stands way.syntax standard way.context way.address v bytes
-Reached way (reader.Checks v) bytes = check.Stands way.syntax standard way.context v bytes
+-- the reader stands where these bytes of the page at an address lead; a check knows no address
+abbrev pub Reached : Way → Chars → Reader → List ℕ → Type 0
+Reached way address (reader.Walks v) bytes = walk.Stands way.syntax standard way.context address v bytes
+Reached way address (reader.Checks v) bytes = check.Stands way.syntax standard way.context v bytes
 
 -- a piece was taken, or stops the reader
-abbrev pub FeedGives : Way → List ℕ → List ℕ → Result (Unit {0}) Stop → Reader → Type 0
-FeedGives way bytes piece (Ok done) new = Reached way new (bytes ++ piece)
-FeedGives way bytes piece (Err why) new = StopGives way.syntax standard way.context (bytes ++ piece) why
+abbrev pub FeedGives : Way → Chars → List ℕ → List ℕ → Result (Unit {0}) Stop → Reader → Type 0
+FeedGives way address bytes piece (Ok done) new = Reached way address new (bytes ++ piece)
+FeedGives way address bytes piece (Err why) new = StopGives way.syntax standard way.context (bytes ++ piece) why
 
 -- the bytes have this fault, the first of their form and of what their tags mean
 abbrev pub HasFirst : Way → List ℕ → Fault → Type 0
@@ -71,31 +70,35 @@ pub record AddsNone (old new : Told) : Type 0 where
   pub taken : new.taken ≡ old.taken
 
 -- a read gave some bytes, which were taken
-abbrev pub NextGives : Way → List ℕ → Result ℕ InputError → Reader → Option Told → Option Told → Type 0
-NextGives way bytes (Ok n) new before now = (more : List ℕ) × (length more ≡ n) × Reached way new (bytes ++ more) × Moves (Adds more) before now
-NextGives way bytes (Err (error.Refused fault)) new before now = (more : List ℕ) × (length more ≤ largest_piece) × Decides way bytes more fault × Moves (Adds more) before now
-NextGives way bytes (Err error.Failed) new before now = Moves AddsNone before now
-NextGives way bytes (Err error.BadContext) new before now = ⊥
-NextGives way bytes (Err error.NoMemory) new before now = Unit {0}
+abbrev pub NextGives : Way → Chars → List ℕ → Result ℕ InputError → Reader → Option Told → Option Told → Type 0
+NextGives way address bytes (Ok n) new before now = (more : List ℕ) × (length more ≡ n) × Reached way address new (bytes ++ more) × Moves (Adds more) before now
+NextGives way address bytes (Err (error.Refused fault)) new before now = (more : List ℕ) × (length more ≤ largest_piece) × Decides way bytes more fault × Moves (Adds more) before now
+NextGives way address bytes (Err error.Failed) new before now = Moves AddsNone before now
+NextGives way address bytes (Err error.BadContext) new before now = ⊥
+NextGives way address bytes (Err error.NoMemory) new before now = Unit {0}
+
+-- the page's end shows a fault, or there was no memory
+abbrev pub EndFails : Way → List ℕ → InputError → Type 0
+EndFails way bytes (error.Refused fault) = HasFirst way bytes fault × (fault.at ≡ length bytes)
+EndFails way bytes error.Failed = ⊥
+EndFails way bytes error.BadContext = ⊥
+EndFails way bytes error.NoMemory = Unit {0}
 
 -- the page ends
-abbrev pub EndGives : Way → List ℕ → Result (List CodeTriple) InputError → Type 0
-EndGives way bytes (Ok list) = Ended way.syntax standard way.context way.address bytes list
-EndGives way bytes (Err (error.Refused fault)) = HasFirst way bytes fault × (fault.at ≡ length bytes)
-EndGives way bytes (Err error.Failed) = ⊥
-EndGives way bytes (Err error.BadContext) = ⊥
-EndGives way bytes (Err error.NoMemory) = Unit {0}
+abbrev pub EndGives : Way → Chars → List ℕ → Result (List CodeTriple) InputError → Type 0
+EndGives way address bytes (Ok list) = Ended way.syntax standard way.context address bytes list
+EndGives way address bytes (Err why) = EndFails way bytes why
 
 abbrev pub CheckEnds : Way → List ℕ → Result (Unit {0}) InputError → Type 0
 CheckEnds way bytes (Ok done) = Accepted way.syntax standard way.context bytes
-CheckEnds way bytes (Err why) = EndGives way bytes (Err why)
+CheckEnds way bytes (Err why) = EndFails way bytes why
 
 -- The file was read to its end, and is a page with this list of triples.
-pub record ReadsPage (way : Way) (name : List ℕ) (list : List CodeTriple) (old new : Told) : Type 0 where
+pub record ReadsPage (way : Way) (address : Chars) (name : List ℕ) (list : List CodeTriple) (old new : Told) : Type 0 where
   pub bytes : List ℕ
   pub file : file_of old.files name ≡ Some bytes
   pub left : new.left ≡ []
-  pub ended : Ended way.syntax standard way.context way.address bytes list
+  pub ended : Ended way.syntax standard way.context address bytes list
 
 -- The file was read to its end, and is a page of which no start tag is refused.
 pub record ReadsRight (way : Way) (name : List ℕ) (old new : Told) : Type 0 where
@@ -131,29 +134,30 @@ pub record IsFile (name bytes : List ℕ) (old new : Told) : Type 0 where
 -- the reader is before the first byte of a page
 pub record Starts (v : Reader) : Type 0 where
   pub way : Way
-  pub reached : Reached way v []
+  pub address : Chars
+  pub reached : Reached way address v []
 
 -- the reader stands where the whole file leads
-pub record Fed (way : Way) (name : List ℕ) (v : Reader) (before now : Option Told) : Type 0 where
+pub record Fed (way : Way) (address : Chars) (name : List ℕ) (v : Reader) (before now : Option Told) : Type 0 where
   pub bytes : List ℕ
-  pub reached : Reached way v bytes
+  pub reached : Reached way address v bytes
   pub read : Moves (IsFile name bytes) before now
 
-abbrev pub FileGives : Way → List ℕ → Result (Unit {0}) InputError → Reader → Option Told → Option Told → Type 0
-FileGives way name (Ok done) v before now = Fed way name v before now
-FileGives way name (Err (error.Refused fault)) v before now = Moves (Finds way name fault) before now
-FileGives way name (Err error.Failed) v before now = Moves (ReadsClean way name) before now
-FileGives way name (Err error.BadContext) v before now = ⊥
-FileGives way name (Err error.NoMemory) v before now = Unit {0}
+-- the file has a fault, or reading it failed, or there was no memory
+abbrev pub PageFails : Way → List ℕ → InputError → Option Told → Option Told → Type 0
+PageFails way name (error.Refused fault) before now = Moves (Finds way name fault) before now
+PageFails way name error.Failed before now = Moves (ReadsClean way name) before now
+PageFails way name error.BadContext before now = ⊥
+PageFails way name error.NoMemory before now = Unit {0}
 
-abbrev pub PageGives : Way → List ℕ → Result (List CodeTriple) InputError → Option Told → Option Told → Type 0
-PageGives way name (Ok list) before now = Moves (ReadsPage way name list) before now
-PageGives way name (Err (error.Refused fault)) before now = Moves (Finds way name fault) before now
-PageGives way name (Err error.Failed) before now = Moves (ReadsClean way name) before now
-PageGives way name (Err error.BadContext) before now = ⊥
-PageGives way name (Err error.NoMemory) before now = Unit {0}
+abbrev pub FileGives : Way → Chars → List ℕ → Result (Unit {0}) InputError → Reader → Option Told → Option Told → Type 0
+FileGives way address name (Ok done) v before now = Fed way address name v before now
+FileGives way address name (Err why) v before now = PageFails way name why before now
 
--- a check of a page is stopped by what stops the reading of its triples
+abbrev pub PageGives : Way → Chars → List ℕ → Result (List CodeTriple) InputError → Option Told → Option Told → Type 0
+PageGives way address name (Ok list) before now = Moves (ReadsPage way address name list) before now
+PageGives way address name (Err why) before now = PageFails way name why before now
+
 abbrev pub CheckGives : Way → List ℕ → Result (Unit {0}) InputError → Option Told → Option Told → Type 0
 CheckGives way name (Ok done) before now = Moves (ReadsRight way name) before now
-CheckGives way name (Err why) before now = PageGives way name (Err why) before now
+CheckGives way name (Err why) before now = PageFails way name why before now

@@ -10,7 +10,7 @@ use Rattle.rx_command.specs.Files.{size_of}
 use Rattle.rx_command.specs.Contexts.{context_size, context_limit}
 use Rattle.rx_command.specs.Outcome.{LacksFile}
 use Rattle.rx_command.specs.Inputs.{StopsClean}
-use Rattle.rx_command.specs.Samples.{IsSample, SampleRefuses}
+use Rattle.rx_command.specs.Samples.{IsSample}
 use Rattle.rx_grammar.specs.declared.faults.Fault.{Fault}
 use Rattle.rx_grammar.specs.declared.faults.Kind.{Kind}
 use Rattle.rx_grammar.specs.declared.faults.Kind.TheVariants as kind
@@ -103,12 +103,12 @@ refused_line fault = codes "refused: " ++ kind_name fault.kind ++ codes " at byt
 abbrev pub Says : List ℕ → Option (List ℕ) → Option (List ℕ) → ℕ → ℕ → Type 0
 Says line old new before now = Moves (GrowsBy line) old new ⊎ (Rose before now × Moves (GrowsByPart line) old new)
 
--- how a sample of so many items ends: its line was written, or a front of it, where out failed; or its page is refused
+-- how a sample of so many items ends: its line was written, or a front of it, where out failed; or there was no memory
 abbrev pub SampleEnds : ℕ → Status → Option (List ℕ) → Option (List ℕ) → ℕ → ℕ → Type 0
 SampleEnds count status.Done old new before now = (line : List ℕ) × IsSample count line × Moves (GrowsBy line) old new
 SampleEnds count status.WriteFault old new before now = (line : List ℕ) × IsSample count line × Moves (GrowsByPart line) old new × Rose before now
-SampleEnds count (status.Refused fault) old new before now = SampleRefuses count fault × Moves Stays old new
 SampleEnds count status.Memory old new before now = Moves Stays old new
+SampleEnds count (status.Refused fault) old new before now = ⊥
 SampleEnds count status.Usage old new before now = ⊥
 SampleEnds count status.ReadFault old new before now = ⊥
 SampleEnds count status.BadContext old new before now = ⊥

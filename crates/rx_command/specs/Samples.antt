@@ -1,5 +1,5 @@
 -- The sample page, and the line that is said of it. Own.
-use Rattle.std.specs.Prelude.{◌≡◌, ◌⊎◌, ℕ, zero, suc, List, [], ◌++◌, length, Result, Ok, Err, Option, Some, None, encode_utf8_all, codes, nat_lt, if◌then◌else◌}
+use Rattle.std.specs.Prelude.{◌≡◌, ◌≤◌, ◌⊎◌, ℕ, zero, suc, List, [], ◌++◌, length, Result, Ok, Err, Option, Some, None, encode_utf8_all, codes, nat_lt, if◌then◌else◌}
 use Rattle.std.specs.Fmt.{decimal}
 use Rattle.rx_terms.specs.Text.{Chars}
 use Rattle.rx_model.specs.Terms.{Triple}
@@ -11,12 +11,11 @@ use Rattle.rx_grammar.specs.Trees.{Tree}
 use Rattle.rx_pages.specs.PageReader.{Progress, page_read}
 use Rattle.rx_nest.specs.Signs.{sees, nothing_seen}
 use Rattle.rx_nquads.specs.Writing.{nquads}
-use Rattle.rx_walk.specs.Faults as faults
 use Rattle.rx_walk.specs.Lines.{line_of}
 use Rattle.rx_command.specs.Reading.{standard}
 use Rattle.rx_ports.specs.Told.{Told}
-use Rattle.rx_command.specs.Words.{job, samples}
-use Rattle.rx_command.specs.Outcome.{IsAccepted, check_address, base_in, facts_in, HasPageText, HasPageGraph, HasPageFault}
+use Rattle.rx_command.specs.Words.{job, samples, most_items}
+use Rattle.rx_command.specs.Outcome.{IsAccepted, base_in, facts_in, HasPageText, HasPageGraph}
 
 -- what stands before the items
 abbrev pub head : List ℕ
@@ -66,9 +65,17 @@ deepest_in (suc i) = larger (deepest_in i) (depth_at (cut_in i))
 abbrev pub deepest : ℕ → ℕ
 deepest count = larger (deepest_in count) (depth_at (sample_page count))
 
+-- The page of each number that may be asked for is one of the grammar, and no start tag of it is refused.
+abbrev pub SamplesArePages : Type 0
+SamplesArePages = (count : ℕ) → count ≤ most_items → (tree : Tree) × IsAccepted Html names.standard (sample_page count) tree
+
+-- the address at which a sample is read
+abbrev pub sample_address : Chars
+sample_address = codes "http://localhost/"
+
 -- the triples that RDFa's rules give the tree, as they are written
 abbrev pub triples_in : Tree → List (Triple ℕ)
-triples_in tree = written (base_in check_address tree) (facts_in names.standard tree)
+triples_in tree = written (base_in sample_address tree) (facts_in names.standard tree)
 
 -- a line with these numbers: how many items, how many bytes the page has, how many triples it gives, how many bytes their
 -- text has, and how deep the page is
@@ -87,21 +94,11 @@ pub record IsSample (count : ℕ) (line : List ℕ) : Type 0 where
   pub is : IsAccepted Html names.standard (sample_page count) tree
   pub spelled : line ≡ line_for count (triples_in tree)
 
--- the page of so many items has this fault
-abbrev pub SampleRefuses : ℕ → Fault → Type 0
-SampleRefuses count fault = faults.Refuses Html standard names.standard (sample_page count) fault
-
 -- the words ask for a sample, of which this line is said
 pub record SaysOfSample (words : List Chars) (line : List ℕ) : Type 0 where
   pub count : ℕ
   pub asks : job words ≡ Some (samples count)
   pub is : IsSample count line
-
--- or of which the page has this fault
-pub record HasSampleFault (words : List Chars) (fault : Fault) : Type 0 where
-  pub count : ℕ
-  pub asks : job words ≡ Some (samples count)
-  pub refused : SampleRefuses count fault
 
 -- the outcome is this text
 abbrev pub Yields : List Chars → Option Told → List ℕ → Type 0
@@ -110,7 +107,3 @@ Yields words told text = HasPageText words told text ⊎ SaysOfSample words text
 -- the outcome is this text, which, where a page is read, denotes exactly its graph
 abbrev pub YieldsGraph : List Chars → Option Told → List ℕ → Type 0
 YieldsGraph words told text = HasPageGraph words told text ⊎ SaysOfSample words text
-
--- the outcome is this refusal
-abbrev pub Refuses : List Chars → Option Told → Fault → Type 0
-Refuses words told fault = HasPageFault words told fault ⊎ HasSampleFault words fault

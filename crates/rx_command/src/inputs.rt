@@ -8,7 +8,7 @@ ghost use Rattle.rx_command.specs.Files.{TakesOf};
 ghost use Rattle.rx_command.specs.Reading.{ReadsClean};
 ghost use Rattle.rx_command.specs.Ways.{way_of, extraction_of};
 ghost use Rattle.rx_command.specs.Contexts.{IsContextFile, IsFileOf, ReadsContext, TakesContext, LacksContext, HasOther};
-ghost use Rattle.rx_command.specs.Outcome.{IsLacking, check_address, ok_line, way_in};
+ghost use Rattle.rx_command.specs.Outcome.{IsLacking, ok_line};
 ghost use Rattle.rx_command.specs.Inputs.{PageText, PageRefused, JobText, JobRefused, TellsThat, WhereTold};
 ghost use Rattle.rx_command.specs.Runs.{TakesFiles, StopsCleanly};
 
@@ -19,7 +19,7 @@ use crate::jobs::Job;
 use crate::pages::{Approach, check_page, read_page};
 use rx_names::{Context, ContextError};
 use rx_ports::Shelf;
-use rx_terms::{Iri, IriError, NoMemory, Text};
+use rx_terms::{Iri, NoMemory, Text};
 use rx_walk::{Fault, Syntax};
 use std::alloc::Global;
 
@@ -47,55 +47,26 @@ pub(crate) fn text_of_job<F: Shelf>(
         Ok(context) => context,
         Err(error) => return Err(error),
     };
-    let approach = match approach_of(alloc, job, context) {
-        Ok(approach) => approach,
-        Err(NoMemory) => return Err(InputError::NoMemory),
-    };
-    match job {
-        Job::Extract { graph, page, .. } => extract(alloc, shelf, page, approach, graph.as_ref()),
-        Job::Check { page, .. } => check(alloc, shelf, page, approach),
-        Job::Sample { .. } => unreachable!(),
-    }
-}
-
-/// How the job's page is read: at its own address, or, where it is only checked, at that of the machine itself.
-fn approach_of(alloc: Global, job: &Job, context: Context) -> Result<Approach, NoMemory>
-    requires { reads_page job.now ≡ true }
-    ensures { IfOk result (λ approach. way_of approach ≡ way_in (page_by job.now).task context) }
-{
     match job {
         Job::Extract {
             syntax,
+            graph,
             address,
+            page,
             ..
         } => {
-            let address = address.try_clone()?;
-            Ok(Approach {
+            let Ok(address) = address.try_clone() else {
+                return Err(InputError::NoMemory);
+            };
+            let approach = Approach {
                 syntax: *syntax,
                 context,
                 address,
-            })
+            };
+            extract(alloc, shelf, page, approach, graph.as_ref())
         }
-        Job::Check { syntax, .. } => {
-            let address = localhost(alloc)?;
-            Ok(Approach {
-                syntax: *syntax,
-                context,
-                address,
-            })
-        }
+        Job::Check { syntax, page, .. } => check(alloc, shelf, page, *syntax, context),
         Job::Sample { .. } => unreachable!(),
-    }
-}
-
-pub(crate) fn localhost(alloc: Global) -> Result<Iri, NoMemory>
-    ensures { IfOk result (λ iri. iri ≡ check_address) }
-{
-    match Iri::of(alloc, "http://localhost/") {
-        Ok(iri) => Ok(iri),
-        Err(IriError::NoMemory) => Err(NoMemory),
-        Err(IriError::NoScheme) => unreachable!(),
-        Err(IriError::Forbidden) => unreachable!(),
     }
 }
 
@@ -130,17 +101,18 @@ fn check<F: Shelf>(
     alloc: Global,
     shelf: &mut F,
     page: &Text,
-    approach: Approach,
+    syntax: Syntax,
+    context: Context,
 ) -> Result<Vec<u8>, InputError>
-    ensures ok { IfOk result (λ text. Moves (PageText (checks approach.syntax) approach.context (encode_utf8_all page.now) text.items) (F.told shelf.old) (F.told shelf.new)) }
-    ensures refused { (fault : Fault) → result ≡ Err (InputError.Refused fault) → Moves (PageRefused (checks approach.syntax) approach.context (encode_utf8_all page.now) fault) (F.told shelf.old) (F.told shelf.new) }
+    ensures ok { IfOk result (λ text. Moves (PageText (checks syntax) context (encode_utf8_all page.now) text.items) (F.told shelf.old) (F.told shelf.new)) }
+    ensures refused { (fault : Fault) → result ≡ Err (InputError.Refused fault) → Moves (PageRefused (checks syntax) context (encode_utf8_all page.now) fault) (F.told shelf.old) (F.told shelf.new) }
     ensures takes { Moves (TakesOf (encode_utf8_all page.now) 1073807359) (F.told shelf.old) (F.told shelf.new) }
-    ensures context { IsErrOf result InputError.BadContext → ⊥ }
+    ensures no_context { IsErrOf result InputError.BadContext → ⊥ }
     ensures failed { IsErrOf result InputError.Failed → Rose (F.faults shelf.old) (F.faults shelf.new) ⊎ Lacks (F.told shelf.old) (encode_utf8_all page.now) }
-    ensures cleanly { IsErrOf result InputError.Failed → Moves (ReadsClean (way_of approach) (encode_utf8_all page.now)) (F.told shelf.old) (F.told shelf.new) }
+    ensures cleanly { IsErrOf result InputError.Failed → Moves (ReadsClean (record { syntax = syntax; context = context }) (encode_utf8_all page.now)) (F.told shelf.old) (F.told shelf.new) }
     ensures later { F.faults shelf.old ≤ F.faults shelf.new }
 {
-    match check_page(alloc, shelf, page.as_str(), approach) {
+    match check_page(alloc, shelf, page.as_str(), syntax, context) {
         Ok(()) => ok_text(alloc),
         Err(error) => Err(error),
     }

@@ -5,6 +5,8 @@
 //! its clause says.
 #![tactic(auto)]
 
+ghost use Rattle.rx_command.specs.Samples.{SamplesArePages};
+
 mod arguments;
 mod errors;
 mod extract;
@@ -25,3 +27,8 @@ pub use jobs::{Job, JobError};
 pub use rx_walk::{Fault, Kind};
 pub use statuses::Status;
 pub use top::run;
+
+/// The sample page of each number that may be asked for is a page, and none of its start tags is refused.
+pub fn samples_are_pages()
+    ensures { SamplesArePages }
+{}

@@ -2,6 +2,7 @@
 ghost use Rattle.std.specs.Prelude.{◌≡◌, ◌<◌, ◌≤◌, ◌⊎◌, ℕ, List, [], IfOk, OnOk, IsErrOf, length, true, false};
 ghost use Rattle.rx_ports.specs.Counts.{Rose};
 ghost use Rattle.rx_ports.specs.Told.{Moves, Lacks};
+ghost use Rattle.rx_terms.specs.Text.{Chars};
 ghost use Rattle.rx_command.specs.Reading.{Way, Reached, Starts, NextGives, EndGives, CheckEnds, FileGives, PageGives, CheckGives, walks};
 ghost use Rattle.rx_command.specs.Files.{TakesSome, TakesOf};
 ghost use Rattle.rx_command.specs.Ways.{way_of};
@@ -14,7 +15,7 @@ use rx_terms::{Iri, TripleList};
 use rx_walk::{Check, Limits, Stop, Syntax, Walk};
 use std::alloc::Global;
 
-/// How a page is read: its syntax, the names that hold in it, and its address.
+/// How a page is read whose triples are wanted: its syntax, the names that hold in it, and its address.
 #[derive(Drop)]
 pub(crate) struct Approach {
     pub(crate) syntax: Syntax,
@@ -36,7 +37,7 @@ pub(crate) fn read_page<F: Shelf>(
     name: &str,
     approach: Approach,
 ) -> Result<TripleList, InputError>
-    ensures gives { PageGives (way_of approach) name.now result (F.told shelf.old) (F.told shelf.new) }
+    ensures gives { PageGives (way_of approach) approach.address name.now result (F.told shelf.old) (F.told shelf.new) }
     ensures takes { Moves (TakesOf name.now 1073807359) (F.told shelf.old) (F.told shelf.new) }
     ensures later { F.faults shelf.old ≤ F.faults shelf.new }
     ensures failed { IsErrOf result InputError.Failed → Rose (F.faults shelf.old) (F.faults shelf.new) ⊎ Lacks (F.told shelf.old) name.now }
@@ -56,23 +57,19 @@ pub(crate) fn read_page<F: Shelf>(
     }
 }
 
-/// Reads a page as [`read_page`] does, but only for its faults: the address doesn't matter then, and no triples are made.
+/// Reads a page as [`read_page`] does, but only for its faults: no triples are made, and so no address is needed.
 pub(crate) fn check_page<F: Shelf>(
     alloc: Global,
     shelf: &mut F,
     name: &str,
-    approach: Approach,
+    syntax: Syntax,
+    context: Context,
 ) -> Result<(), InputError>
-    ensures gives { CheckGives (way_of approach) name.now result (F.told shelf.old) (F.told shelf.new) }
+    ensures gives { CheckGives (record { syntax = syntax; context = context }) name.now result (F.told shelf.old) (F.told shelf.new) }
     ensures takes { Moves (TakesOf name.now 1073807359) (F.told shelf.old) (F.told shelf.new) }
     ensures later { F.faults shelf.old ≤ F.faults shelf.new }
     ensures failed { IsErrOf result InputError.Failed → Rose (F.faults shelf.old) (F.faults shelf.new) ⊎ Lacks (F.told shelf.old) name.now }
 {
-    let Approach {
-        syntax,
-        context,
-        ..
-    } = approach;
     let Ok(check) = Check::new(alloc, syntax, context, Limits::standard()) else {
         return Err(InputError::NoMemory);
     };
@@ -91,7 +88,7 @@ fn feed_file<F: Shelf>(
     reader: &mut Reader,
 ) -> Result<(), InputError>
     requires { Starts reader.old }
-    ensures gives { (way : Way) → Reached way reader.old [] → FileGives way name.now result reader.new (F.told shelf.old) (F.told shelf.new) }
+    ensures gives { (way : Way) (address : Chars) → Reached way address reader.old [] → FileGives way address name.now result reader.new (F.told shelf.old) (F.told shelf.new) }
     ensures same { OnOk result (walks reader.new ≡ walks reader.old) }
     ensures takes { Moves (TakesOf name.now 1073807359) (F.told shelf.old) (F.told shelf.new) }
     ensures later { F.faults shelf.old ≤ F.faults shelf.new }
@@ -122,7 +119,7 @@ fn feed_next<F: Shelf>(
 ) -> Result<usize, InputError>
     requires { 0 < length piece.old }
     ensures bound { IfOk result (λ n. n ≤ length piece.new) }
-    ensures gives { (way : Way) (bytes : List ℕ) → Reached way reader.old bytes → length piece.old ≤ 65536 → NextGives way bytes result reader.new (F.told shelf.old) (F.told shelf.new) }
+    ensures gives { (way : Way) (address : Chars) (bytes : List ℕ) → Reached way address reader.old bytes → length piece.old ≤ 65536 → NextGives way address bytes result reader.new (F.told shelf.old) (F.told shelf.new) }
     ensures same { OnOk result (walks reader.new ≡ walks reader.old) }
     ensures takes { Moves (TakesSome (length piece.old)) (F.told shelf.old) (F.told shelf.new) }
     ensures later { F.faults shelf.old ≤ F.faults shelf.new }
@@ -139,9 +136,9 @@ fn feed_next<F: Shelf>(
 }
 
 // The page's end, where its triples are wanted.
-pub(crate) fn list_of(reader: Reader) -> Result<TripleList, InputError>
+fn list_of(reader: Reader) -> Result<TripleList, InputError>
     requires { walks reader ≡ true }
-    ensures gives { (way : Way) (bytes : List ℕ) → Reached way reader bytes → EndGives way bytes result }
+    ensures gives { (way : Way) (address : Chars) (bytes : List ℕ) → Reached way address reader bytes → EndGives way address bytes result }
     ensures reads_none { IsErrOf result InputError.Failed → ⊥ }
 {
     let walk = match reader {
@@ -158,7 +155,7 @@ pub(crate) fn list_of(reader: Reader) -> Result<TripleList, InputError>
 // The page's end, where only its faults are wanted.
 fn checked(reader: Reader) -> Result<(), InputError>
     requires { walks reader ≡ false }
-    ensures gives { (way : Way) (bytes : List ℕ) → Reached way reader bytes → CheckEnds way bytes result }
+    ensures gives { (way : Way) (address : Chars) (bytes : List ℕ) → Reached way address reader bytes → CheckEnds way bytes result }
     ensures reads_none { IsErrOf result InputError.Failed → ⊥ }
 {
     let check = match reader {

@@ -1,21 +1,17 @@
 //! The sample: a page of many items, made and read piece by piece, and the line that is said of it.
-ghost use Rattle.std.specs.Prelude.{◌≡◌, List, ℕ, length, nat_eq, IfOk, IsErrOf, Err, string_bytes, None, encode_utf8_all};
-ghost use Rattle.rx_grammar.specs.declared.faults.Fault.{Fault};
+ghost use Rattle.std.specs.Prelude.{◌≡◌, ◌≤◌, ◌<◌, List, ℕ, suc, length, nat_eq, IfOk, OnOk, string_bytes, None, encode_utf8_all};
 ghost use Rattle.rx_model.specs.Copied.{copied};
 ghost use Rattle.rx_model.specs.Numbered.{numbered};
 ghost use Rattle.rx_model.specs.Seen.{triples_seen};
 ghost use Rattle.rx_nquads.specs.Writing.{nquads};
-ghost use Rattle.rx_command.specs.Samples.{IsSample, SampleRefuses, item_before, larger, line_with};
-ghost use Rattle.rx_command.specs.Feeding.{Fed, IsFed, FedTo, FedWhole, TakeGives, ItemGives, WholeGives};
+ghost use Rattle.rx_command.specs.Words.{most_items};
+ghost use Rattle.rx_command.specs.Samples.{IsSample, item_before, larger, line_with, sample_address};
+ghost use Rattle.rx_command.specs.Feeding.{Fed, FedTo, FedWhole, IsDue, TakesPiece};
 
-use crate::errors::InputError;
 use crate::extract::graph_of;
-use crate::inputs::localhost;
-use crate::pages::list_of;
-use crate::readers::Reader;
 use rx_names::Context;
 use rx_nquads::text;
-use rx_terms::{NoMemory, TripleList};
+use rx_terms::{Iri, IriError, NoMemory, TripleList};
 use rx_walk::{Limits, Stop, Syntax, Walk};
 use std::alloc::{AllocError, Global};
 
@@ -36,34 +32,25 @@ pub(crate) struct Feeding {
     depth: u32,
 }
 
-/// The line that is said of the page of so many items, which is read as any other page is.
-pub(crate) fn sample(alloc: Global, count: u32) -> Result<Vec<u8>, InputError>
-    ensures ok { IfOk result (λ line. IsSample count line.items) }
-    ensures refused { (fault : Fault) → result ≡ Err (InputError.Refused fault) → SampleRefuses count fault }
-    ensures reads_none { IsErrOf result InputError.Failed → ⊥ }
-    ensures no_context { IsErrOf result InputError.BadContext → ⊥ }
+/// The line that is said of the page of so many items, which is read as any other page is. No such page is refused.
+pub(crate) fn sample(alloc: Global, count: u32) -> Result<Vec<u8>, NoMemory>
+    requires { count ≤ most_items }
+    ensures { IfOk result (λ line. IsSample count line.items) }
 {
-    let Ok(mut feeding) = Feeding::new(alloc) else {
-        return Err(InputError::NoMemory);
-    };
-    match feeding.feed(alloc, count) {
-        Ok(()) => {}
-        Err(error) => return Err(error),
-    }
+    let mut feeding = Feeding::new(alloc)?;
+    feeding.feed(alloc, count)?;
     let Feeding {
         walk,
         size,
         depth,
         ..
     } = feeding;
-    let list = match list_of(Reader::Walks(walk)) {
+    let list = match walk.finish() {
         Ok(list) => list,
-        Err(error) => return Err(error),
+        Err(Stop::Fault(_fault)) => unreachable!(),
+        Err(Stop::NoMemory) => return Err(NoMemory),
     };
-    match line_of(alloc, count, size, depth, &list) {
-        Ok(line) => Ok(line),
-        Err(NoMemory) => Err(InputError::NoMemory),
-    }
+    line_of(alloc, count, size, depth, &list)
 }
 
 impl Feeding {
@@ -87,57 +74,63 @@ impl Feeding {
     }
 
     /// Feeds the page of so many items.
-    fn feed(&mut self, alloc: Global, count: u32) -> Result<(), InputError>
-        requires { FedTo 0 self.old }
-        ensures { WholeGives count result self.new }
+    fn feed(&mut self, alloc: Global, count: u32) -> Result<(), NoMemory>
+        requires fed { FedTo 0 self.old }
+        requires few { count ≤ most_items }
+        ensures { OnOk result (FedWhole count self.new) }
     {
         for number in 0..count {
-            match self.item(alloc, number) {
-                Ok(()) => {}
-                Err(error) => return Err(error),
-            }
+            self.item(alloc, number)?;
         }
         let Ok(()) = self.piece.extend_from_slice(TAIL) else {
-            return Err(InputError::NoMemory);
+            return Err(NoMemory);
         };
         self.take()
     }
 
     /// Feeds the page up to the end tag of the item's name, and keeps what is behind in the item.
-    fn item(&mut self, alloc: Global, number: u32) -> Result<(), InputError>
-        requires { FedTo number self.old }
-        ensures { ItemGives number result self.new }
+    fn item(&mut self, alloc: Global, number: u32) -> Result<(), NoMemory>
+        requires fed { FedTo number self.old }
+        requires few { number < most_items }
+        ensures { OnOk result (FedTo (suc number) self.new) }
     {
-        let Ok(before) = item_before(alloc, number) else {
-            return Err(InputError::NoMemory);
-        };
+        let before = item_before(alloc, number)?;
         let Ok(()) = self.piece.extend_from_slice(before.as_bytes()) else {
-            return Err(InputError::NoMemory);
+            return Err(NoMemory);
         };
-        match self.take() {
-            Ok(()) => {}
-            Err(error) => return Err(error),
-        }
+        self.take()?;
         let Ok(()) = self.piece.extend_from_slice(ITEM_BEHIND) else {
-            return Err(InputError::NoMemory);
+            return Err(NoMemory);
         };
         Ok(())
     }
 
     /// Feeds the piece, and counts its bytes and the elements that are open behind it.
-    fn take(&mut self) -> Result<(), InputError>
-        requires { IsFed self.old }
-        ensures { (bytes : List ℕ) → Fed bytes self.old → TakeGives bytes self.old result self.new }
+    fn take(&mut self) -> Result<(), NoMemory>
+        requires { IsDue self.old }
+        ensures { (bytes : List ℕ) → Fed bytes self.old → OnOk result (TakesPiece bytes self.old self.new) }
     {
         match self.walk.feed(self.piece.as_slice()) {
             Ok(()) => {}
-            Err(Stop::Fault(fault)) => return Err(InputError::Refused(fault)),
-            Err(Stop::NoMemory) => return Err(InputError::NoMemory),
+            Err(Stop::Fault(_fault)) => unreachable!(),
+            Err(Stop::NoMemory) => return Err(NoMemory),
         }
         self.size += self.piece.len() as u64;
         self.piece.clear();
         self.depth = larger(self.depth, self.walk.depth());
         Ok(())
+    }
+}
+
+/// The address at which a sample is read.
+fn localhost(alloc: Global) -> Result<Iri, NoMemory>
+    ensures { IfOk result (λ iri. iri ≡ sample_address) }
+{
+    match Iri::of(alloc, "http://localhost/") {
+        Ok(iri) => Ok(iri),
+        Err(IriError::NoMemory) => Err(NoMemory),
+        Err(IriError::NoScheme) => unreachable!(),
+        Err(IriError::Forbidden) => unreachable!(),
     }
 }
 

@@ -1,12 +1,12 @@
 //! The top call.
-ghost use Rattle.std.specs.Prelude.{◌≡◌, ◌≢◌, ◌⊎◌, ℕ, List, None, Some, ◌++◌, IfOk, string_bytes, codes};
+ghost use Rattle.std.specs.Prelude.{◌≡◌, ◌≢◌, ◌≤◌, ◌⊎◌, ℕ, List, None, Some, ◌++◌, IfOk, string_bytes, codes};
 ghost use Rattle.std.specs.Fmt.{decimal};
 ghost use Rattle.rx_ports.specs.Counts.{Rose};
 ghost use Rattle.rx_ports.specs.Told.{Told, Moves, GrowsBy, GrowsByPart, Stays};
-ghost use Rattle.rx_command.specs.Words.{job, samples, page_asked};
+ghost use Rattle.rx_command.specs.Words.{job, most_items, page_asked, samples};
 ghost use Rattle.rx_command.specs.Contexts.{TakesContext};
-ghost use Rattle.rx_command.specs.Outcome.{LacksFile, HasBadContext, NamesContext};
-ghost use Rattle.rx_command.specs.Samples.{Yields, YieldsGraph, Refuses};
+ghost use Rattle.rx_command.specs.Outcome.{HasBadContext, HasPageFault, LacksFile, NamesContext};
+ghost use Rattle.rx_command.specs.Samples.{Yields, YieldsGraph};
 ghost use Rattle.rx_command.specs.Runs.{ReadCause, TakesFiles, TakesToFault, StopsCleanly, IsAtEnd, SampleEnds, Says, usage_line, refused_line, context_line, context_named};
 
 use crate::errors::InputError;
@@ -15,7 +15,7 @@ use crate::jobs::{Job, JobError};
 use crate::samples::sample;
 use crate::statuses::{Status, name_of};
 use rx_ports::{Shelf, Sink, put_all};
-use rx_terms::Text;
+use rx_terms::{NoMemory, Text};
 use rx_walk::Fault;
 use std::alloc::{AllocError, Global};
 
@@ -52,7 +52,7 @@ pub fn run<F: Shelf, O: Sink, E: Sink>(
 
     // Refused comes only where the page has this fault.
     ensures refused { (fault : Fault) → result ≡ Status.Refused fault → (told : Told) → F.told shelf.old ≡ Some told →
-        Refuses words.now (F.told shelf.old) fault }
+        HasPageFault words.now (F.told shelf.old) fault }
     // The page is then read no further than 65,536 bytes past the byte that decides the fault.
     ensures refused_takes { (fault : Fault) → result ≡ Status.Refused fault → Moves (TakesToFault (page_asked words.now) fault) (F.told shelf.old) (F.told shelf.new) }
 
@@ -90,7 +90,7 @@ pub fn run<F: Shelf, O: Sink, E: Sink>(
     // is named, one byte past the largest of these.
     ensures takes { Moves (TakesFiles (page_asked words.now)) (F.told shelf.old) (F.told shelf.new) }
 
-    // A sample reads nothing, and answers its line, whatever the shelf and the sinks tell.
+    // A sample reads nothing, and answers its line, whatever the shelf and the sinks tell: no page of a sample is refused.
     ensures sample { (count : ℕ) → job words.now ≡ Some (samples count) →
         SampleEnds count result (O.held out.old) (O.held out.new) (O.faults out.old) (O.faults out.new) }
     ensures sample_reads { (count : ℕ) → job words.now ≡ Some (samples count) → Moves Stays (F.told shelf.old) (F.told shelf.new) }
@@ -98,7 +98,7 @@ pub fn run<F: Shelf, O: Sink, E: Sink>(
     // Where nothing failed, a page that has a text is done, and one that has a fault is refused.
     ensures completes { (text : List ℕ) → Yields words.now (F.told shelf.old) text → ¬ Rose (F.faults shelf.old) (F.faults shelf.new)
         → ¬ Rose (O.faults out.old) (O.faults out.new) → (result ≡ Status.Done) ⊎ (result ≡ Status.Memory) }
-    ensures refuses { (fault : Fault) → Refuses words.now (F.told shelf.old) fault → ¬ Rose (F.faults shelf.old) (F.faults shelf.new)
+    ensures refuses { (fault : Fault) → HasPageFault words.now (F.told shelf.old) fault → ¬ Rose (F.faults shelf.old) (F.faults shelf.new)
         → (result ≡ Status.Refused fault) ⊎ (result ≡ Status.Memory) }
 {
     let job = match Job::of(alloc, words) {
@@ -110,7 +110,7 @@ pub fn run<F: Shelf, O: Sink, E: Sink>(
         Err(JobError::NoMemory) => return Status::Memory,
     };
     match job.sample_count() {
-        Some(count) => return run_sample(alloc, count, out, err),
+        Some(count) => return run_sample(alloc, count, out),
         None => {}
     }
     match text_of_job(alloc, shelf, &job) {
@@ -135,34 +135,16 @@ pub fn run<F: Shelf, O: Sink, E: Sink>(
 }
 
 /// Writes the line that is said of the sample page.
-fn run_sample<O: Sink, E: Sink>(alloc: Global, count: u32, out: &mut O, err: &mut E) -> Status
-    ensures ends { SampleEnds count result (O.held out.old) (O.held out.new) (O.faults out.old) (O.faults out.new) }
-    ensures says_refused { (fault : Fault) → result ≡ Status.Refused fault →
-        Says (refused_line fault) (E.held err.old) (E.held err.new) (E.faults err.old) (E.faults err.new) }
-    ensures says_nothing { ((fault : Fault) → result ≢ Status.Refused fault) → Moves Stays (E.held err.old) (E.held err.new) }
+fn run_sample<O: Sink>(alloc: Global, count: u32, out: &mut O) -> Status
+    requires { count ≤ most_items }
+    ensures { SampleEnds count result (O.held out.old) (O.held out.new) (O.faults out.old) (O.faults out.new) }
 {
     match sample(alloc, count) {
         Ok(line) => match put_all(out, line.as_slice()) {
             Ok(()) => Status::Done,
             Err(_failed) => Status::WriteFault,
         },
-        Err(InputError::Refused(fault)) => refuse(alloc, fault, err),
-        Err(_no_memory) => Status::Memory,
-    }
-}
-
-/// Says why the page is refused.
-fn refuse<E: Sink>(alloc: Global, fault: Fault, err: &mut E) -> Status
-    ensures is { (result ≡ Status.Refused fault) ⊎ (result ≡ Status.Memory) }
-    ensures says { result ≡ Status.Refused fault → Says (refused_line fault) (E.held err.old) (E.held err.new) (E.faults err.old) (E.faults err.new) }
-    ensures says_nothing { result ≡ Status.Memory → Moves Stays (E.held err.old) (E.held err.new) }
-{
-    match line_of(alloc, fault) {
-        Ok(line) => {
-            say(err, line.as_bytes());
-            Status::Refused(fault)
-        }
-        Err(_no_memory) => Status::Memory,
+        Err(NoMemory) => Status::Memory,
     }
 }
 

@@ -2,23 +2,23 @@ use Rattle.std.proofs.Common.{◌≡◌, encode_utf8_all}
 use Rattle.rx_ports.proofs.MoveLemmas.{moves_weaker}
 use Rattle.rx_command.specs.declared.errors.InputError.TheVariants as error
 use Rattle.rx_command.specs.Words.{checks}
-use Rattle.rx_command.specs.Ways.{way_of}
+use Rattle.rx_command.specs.Reading.{Way}
 use Rattle.rx_command.specs.Inputs.{PageRefused}
-use Rattle.rx_command.proofs.InputLemmas.{if_right, page_found, gives_refused, gives_clean, gives_no_context}
+use Rattle.rx_command.proofs.InputLemmas.{if_right, page_found, fails_refused, fails_clean, fails_no_context}
 use Rattle.rx_command.proofs.inputs.check.Goals as goal
 
 pub returns-in-Ok-clause-ok : goal.returns-in-Ok-clause-ok
-returns-in-Ok-clause-ok g c = if_right (λ text. text.items) c.ok_text.result (way_of c.args.approach) _ _ _ _ c.as_str.ensures.bytes c.ok_text.ensures.ok c.in-Ok.ensures.gives
+returns-in-Ok-clause-ok g c = if_right (λ text. text.items) c.ok_text.result (record { syntax = c.args.syntax; context = c.args.context }) _ _ _ _ c.as_str.ensures.bytes c.ok_text.ensures.ok c.in-Ok.ensures.gives
 
 pub returns-in-Err-clause-refused : goal.returns-in-Err-clause-refused
 returns-in-Err-clause-refused g c fault is =
     let same : c.in-Err.error ≡ error.Refused fault = (cc) in
-    moves_weaker (PageRefused (checks c.args.approach.syntax) c.args.approach.context (encode_utf8_all c.args.page.now) fault)
-    (λ x y f. page_found (checks c.args.approach.syntax) (way_of c.args.approach) c.args.approach.context _ _ fault (c.as_str.ensures.bytes) (λ i. c.args.approach.syntax) (λ i. c.args.approach.context) x y f)
-    (gives_refused (way_of c.args.approach) _ _ c.in-Err.error fault _ _ (λ i. c.as_str.result.now) c.in-Err.ensures.gives same)
+    moves_weaker (PageRefused (checks c.args.syntax) c.args.context (encode_utf8_all c.args.page.now) fault)
+    (λ x y f. page_found (checks c.args.syntax) (record { syntax = c.args.syntax; context = c.args.context }) c.args.context _ _ fault (c.as_str.ensures.bytes) (λ i. c.args.syntax) (λ i. c.args.context) x y f)
+    (fails_refused (record { syntax = c.args.syntax; context = c.args.context }) _ _ c.in-Err.error fault _ _ (λ i. c.as_str.result.now) c.in-Err.ensures.gives same)
 
 pub returns-in-Err-clause-cleanly : goal.returns-in-Err-clause-cleanly
-returns-in-Err-clause-cleanly g c is = gives_clean (way_of c.args.approach) _ _ c.in-Err.error _ _ c.as_str.ensures.bytes c.in-Err.ensures.gives (cc)
+returns-in-Err-clause-cleanly g c is = fails_clean (record { syntax = c.args.syntax; context = c.args.context }) _ _ c.in-Err.error _ _ c.as_str.ensures.bytes c.in-Err.ensures.gives (cc)
 
-pub returns-in-Err-clause-context : goal.returns-in-Err-clause-context
-returns-in-Err-clause-context g c is = gives_no_context (way_of c.args.approach) _ c.in-Err.error _ _ c.in-Err.ensures.gives (cc)
+pub returns-in-Err-clause-no_context : goal.returns-in-Err-clause-no_context
+returns-in-Err-clause-no_context g c is = fails_no_context (record { syntax = c.args.syntax; context = c.args.context }) _ c.in-Err.error _ _ c.in-Err.ensures.gives (cc)

@@ -4,7 +4,7 @@ use Rattle.rx_command.specs.declared.errors.InputError.TheVariants as error
 use Rattle.rx_command.specs.Words.{extracts}
 use Rattle.rx_command.specs.Ways.{way_of, extraction_of}
 use Rattle.rx_command.specs.Inputs.{PageText, PageRefused}
-use Rattle.rx_command.proofs.InputLemmas.{page_text, page_found, gives_refused, gives_clean, gives_no_context}
+use Rattle.rx_command.proofs.InputLemmas.{page_text, page_found, fails_refused, fails_clean, fails_no_context}
 use Rattle.rx_command.proofs.inputs.extract.Goals as goal
 
 pub returns-in-Ok-text_of-clause-ok : goal.returns-in-Ok-text_of-clause-ok
@@ -19,10 +19,10 @@ returns-in-Err-clause-refused g c fault is =
     let same : c.in-Err.error ≡ error.Refused fault = (cc) in
     moves_weaker (PageRefused (extracts (extraction_of c.args.approach c.args.graph)) c.args.approach.context (encode_utf8_all c.args.page.now) fault)
     (λ x y f. page_found (extracts (extraction_of c.args.approach c.args.graph)) (way_of c.args.approach) c.args.approach.context _ _ fault (c.as_str.ensures.bytes) (λ i. c.args.approach.syntax) (λ i. c.args.approach.context) x y f)
-    (gives_refused (way_of c.args.approach) _ _ c.in-Err.error fault _ _ (λ i. c.as_str.result.now) c.in-Err.ensures.gives same)
+    (fails_refused (way_of c.args.approach) _ _ c.in-Err.error fault _ _ (λ i. c.as_str.result.now) c.in-Err.ensures.gives same)
 
 pub returns-in-Err-clause-cleanly : goal.returns-in-Err-clause-cleanly
-returns-in-Err-clause-cleanly g c is = gives_clean (way_of c.args.approach) _ _ c.in-Err.error _ _ c.as_str.ensures.bytes c.in-Err.ensures.gives (cc)
+returns-in-Err-clause-cleanly g c is = fails_clean (way_of c.args.approach) _ _ c.in-Err.error _ _ c.as_str.ensures.bytes c.in-Err.ensures.gives (cc)
 
 pub returns-in-Err-clause-context : goal.returns-in-Err-clause-context
-returns-in-Err-clause-context g c is = gives_no_context (way_of c.args.approach) _ c.in-Err.error _ _ c.in-Err.ensures.gives (cc)
+returns-in-Err-clause-context g c is = fails_no_context (way_of c.args.approach) _ c.in-Err.error _ _ c.in-Err.ensures.gives (cc)

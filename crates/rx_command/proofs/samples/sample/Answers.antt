@@ -1,16 +1,16 @@
-use Rattle.std.proofs.Common.{◌≡◌}
-use Rattle.rx_command.specs.Samples.{sample_page}
-use Rattle.rx_command.specs.declared.errors.InputError.TheVariants.{BadContext}
-use Rattle.rx_command.proofs.SampleLemmas.{sample_way, end_stops, no_context_at_end, said_so}
+use Rattle.rx_chars.specs.declared.syntax.Syntax.TheVariants.{Html}
+use Rattle.rx_rdfa.specs.Standard as names
+use Rattle.rx_command.specs.Reading.{standard}
+use Rattle.rx_command.specs.Samples.{sample_page, sample_address}
+use Rattle.rx_command.proofs.SampleLemmas.{no_fault_at_end, if_sample}
 use Rattle.rx_command.proofs.samples.sample.Goals as goal
 
-pub returns-in-Err-list_of-clause-refused : goal.returns-in-Err-list_of-clause-refused
-returns-in-Err-list_of-clause-refused c fault is = end_stops c.args.count c.in-Err-list_of.error fault (cc) (c.in-Err-list_of.ensures.gives sample_way (sample_page c.args.count) c.in-Ok-feed.ensures.fed.stands)
+pub unreachable-requires : goal.unreachable-requires
+unreachable-requires c =
+    let ends = rw c.in-Err-Fault.field-0-is at c.in-Err-Fault.ensures.gives in
+    no_fault_at_end c.args.count c.in-Err-Fault._fault c.requires (ends Html standard names.standard sample_address (sample_page c.args.count) c.in_ok-feed.ensures.fed.stands).0
 
-pub returns-in-Err-list_of-clause-no_context : goal.returns-in-Err-list_of-clause-no_context
-returns-in-Err-list_of-clause-no_context c is = let e : c.in-Err-list_of.error ≡ BadContext = (cc) in no_context_at_end c.args.count c.in-Err-list_of.error e (c.in-Err-list_of.ensures.gives sample_way (sample_page c.args.count) c.in-Ok-feed.ensures.fed.stands)
-
-pub returns-in-Ok-line_of-clause-ok : goal.returns-in-Ok-line_of-clause-ok
-returns-in-Ok-line_of-clause-ok c =
-    said_so c.args.count c.feed.new.self.size c.feed.new.self.depth _ c.in-Ok-line_of.line.items c.in-Ok-feed.ensures.fed.size c.in-Ok-feed.ensures.depth
-    (c.in-Ok-list_of.ensures.gives sample_way (sample_page c.args.count) c.in-Ok-feed.ensures.fed.stands) c.in-Ok-line_of.ensures
+pub returns : goal.returns
+returns c =
+    if_sample (λ line. line.items) c.args.count c.feed.new.self.size c.feed.new.self.depth c.in-Ok.list c.line_of.result c.in_ok-feed.ensures.fed.size c.in_ok-feed.ensures.depth
+    (c.in-Ok.ensures.gives Html standard names.standard sample_address (sample_page c.args.count) c.in_ok-feed.ensures.fed.stands) c.line_of.ensures

@@ -1,12 +1,12 @@
 use Rattle.std.proofs.Common.{◌≡◌, ◌∙◌, inl, subst, List, ℕ, ap, Some, Err}
 use Rattle.rx_ports.specs.Told.{Moves, GrowsBy, GrowsByPart}
-use Rattle.rx_command.specs.Samples.{Refuses}
+use Rattle.rx_command.specs.Outcome.{HasPageFault}
 use Rattle.rx_command.specs.Jobs.{page_by}
 use Rattle.rx_command.specs.Runs.{TakesToFault}
 use Rattle.rx_command.specs.Words.{page_asked}
 use Rattle.rx_grammar.specs.declared.faults.Fault.{Fault}
 use Rattle.rx_command.specs.declared.statuses.Status.TheVariants.{Refused}
-use Rattle.rx_command.proofs.RunLemmas.{asks_page, yields, yields_graph, refuses, text_not_refused, refused_no_text, refused_so, sample_nothing, sample_completes, sample_refuses, not_lacking, refused_not_lacking, not_bad, refused_not_bad, read_cause, at_end, to_fault, stops_cleanly}
+use Rattle.rx_command.proofs.RunLemmas.{asks_page, yields, yields_graph, refuses, text_not_refused, refused_no_text, refused_so, not_sample, few_asked, sample_nothing, sample_completes, not_lacking, refused_not_lacking, not_bad, refused_not_bad, read_cause, at_end, to_fault, stops_cleanly}
 use Rattle.rx_command.proofs.top.run.Goals as goal
 
 pub returns-in-Ok-put_all-clause-done : goal.returns-in-Ok-put_all-clause-done
@@ -51,7 +51,7 @@ returns-in-Err-Failed-clause-read_fault g c = λ is. read_cause c.args.words.now
 pub returns-in-Ok-line_of-clause-refused : goal.returns-in-Ok-line_of-clause-refused
 returns-in-Ok-line_of-clause-refused g c =
     let m = c.in-Err-Refused.ensures.refused c.in-Err-Refused.fault (ap Err c.in-Err-Refused.field-0-is) in
-    λ fault is told e. let same : c.in-Err-Refused.fault ≡ fault = (cc) in subst (λ (f : Fault). Refuses c.args.words.now (g.F.Shelf.told c.args.shelf.now) f) same (refuses c.args.words.now _ _ _ c.in-Err-Refused.fault told (asks_page c.args.words.now c.in-Ok.job c.in-Ok.ensures c.in-None.ensures) m e)
+    λ fault is told e. let same : c.in-Err-Refused.fault ≡ fault = (cc) in subst (λ (f : Fault). HasPageFault c.args.words.now (g.F.Shelf.told c.args.shelf.now) f) same (refuses c.args.words.now _ _ _ c.in-Err-Refused.fault told (asks_page c.args.words.now c.in-Ok.job c.in-Ok.ensures c.in-None.ensures) m e)
 
 pub returns-in-Ok-line_of-clause-refused_takes : goal.returns-in-Ok-line_of-clause-refused_takes
 returns-in-Ok-line_of-clause-refused_takes g c =
@@ -81,11 +81,14 @@ returns-in-Ok-line_of-clause-refuses g c =
 pub returns-in-Err-Failed-clause-cleanly : goal.returns-in-Err-Failed-clause-cleanly
 returns-in-Err-Failed-clause-cleanly g c = λ is. stops_cleanly c.args.words.now (page_by c.in-Ok.job) _ _ (asks_page c.args.words.now c.in-Ok.job c.in-Ok.ensures c.in-None.ensures) (c.in-Err-Failed.ensures.cleanly (ap Err c.in-Err-Failed.field-0-is))
 
+pub run_sample-requires : goal.run_sample-requires
+run_sample-requires g c = few_asked c.args.words.now c.in-Some.count (c.in-Ok.ensures ∙ ap Some c.in-Some.ensures)
+
 pub returns-in-Some-clause-nothing_written : goal.returns-in-Some-clause-nothing_written
-returns-in-Some-clause-nothing_written g c = λ d w. sample_nothing c.in-Some.count c.run_sample.result _ _ _ _ c.run_sample.ensures.ends d w
+returns-in-Some-clause-nothing_written g c = λ d w. sample_nothing c.in-Some.count c.run_sample.result _ _ _ _ c.run_sample.ensures d w
 
 pub returns-in-Some-clause-completes : goal.returns-in-Some-clause-completes
-returns-in-Some-clause-completes g c = λ text y quiet calm. sample_completes c.args.words.now _ text c.in-Some.count c.run_sample.result _ _ _ _ (c.in-Ok.ensures ∙ ap Some c.in-Some.ensures) y calm c.run_sample.ensures.ends
+returns-in-Some-clause-completes g c = λ text y quiet calm. sample_completes c.in-Some.count c.run_sample.result _ _ _ _ calm c.run_sample.ensures
 
 pub returns-in-Some-clause-refuses : goal.returns-in-Some-clause-refuses
-returns-in-Some-clause-refuses g c = λ fault r quiet. sample_refuses c.args.words.now _ fault c.in-Some.count c.run_sample.result _ _ _ _ (c.in-Ok.ensures ∙ ap Some c.in-Some.ensures) r c.run_sample.ensures.ends
+returns-in-Some-clause-refuses g c = λ fault r quiet. absurd (not_sample c.args.words.now r.page.asked c.in-Some.count r.page.asks (c.in-Ok.ensures ∙ ap Some c.in-Some.ensures))

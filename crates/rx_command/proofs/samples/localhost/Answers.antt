@@ -2,10 +2,10 @@ use Rattle.std.proofs.Common.{◌≡◌, ◌∙◌, sym, ap, refl, Err, true, fa
 use Rattle.std.specs.Str.{chars}
 use Rattle.rx_terms.specs.Iri.{has_scheme, has_forbidden}
 use Rattle.rx_terms.proofs.CharLemmas.{ascii-chars}
-use Rattle.rx_command.specs.Outcome.{check_address}
-use Rattle.rx_command.proofs.inputs.localhost.Goals as goal
+use Rattle.rx_command.specs.Samples.{sample_address}
+use Rattle.rx_command.proofs.samples.localhost.Goals as goal
 
-same : chars (codes "http://localhost/") ≡ check_address
+same : chars (codes "http://localhost/") ≡ sample_address
 same = ascii-chars (codes "http://localhost/") refl
 
 pub unreachable-requires : goal.unreachable-requires
