@@ -63,4 +63,11 @@ impl TripleList {
     {
         &self.triples[i]
     }
+
+    /// The triples themselves, in order, without a copy.
+    pub fn into_vec(self) -> Vec<Triple>
+        ensures { result.items ≡ self }
+    {
+        self.triples
+    }
 }
