@@ -90,7 +90,7 @@ fn extract<F: Shelf>(
         Ok(list) => list,
         Err(error) => return Err(error),
     };
-    match text_of(alloc, &list, graph) {
+    match text_of(alloc, list, graph) {
         Ok(text) => Ok(text),
         Err(NoMemory) => Err(InputError::NoMemory),
     }

@@ -50,7 +50,7 @@ pub(crate) fn sample(alloc: Global, count: u32) -> Result<Vec<u8>, NoMemory>
         Err(Stop::Fault(_fault)) => unreachable!(),
         Err(Stop::NoMemory) => return Err(NoMemory),
     };
-    line_of(alloc, count, size, depth, &list)
+    line_of(alloc, count, size, depth, list)
 }
 
 impl Feeding {
@@ -155,9 +155,9 @@ fn line_of(
     count: u32,
     size: u64,
     depth: u32,
-    list: &TripleList,
+    list: TripleList,
 ) -> Result<Vec<u8>, NoMemory>
-    ensures { IfOk result (λ line. line.items ≡ line_with count size (length (numbered nat_eq (copied nat_eq (triples_seen list.now)))) (length (encode_utf8_all (nquads (numbered nat_eq (copied nat_eq (triples_seen list.now))) None))) depth) }
+    ensures { IfOk result (λ line. line.items ≡ line_with count size (length (numbered nat_eq (copied nat_eq (triples_seen list)))) (length (encode_utf8_all (nquads (numbered nat_eq (copied nat_eq (triples_seen list))) None))) depth) }
 {
     let graph = graph_of(alloc, list)?;
     let text = text(alloc, &graph, None)?;

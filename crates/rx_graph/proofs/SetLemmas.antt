@@ -113,6 +113,13 @@ pub graph_turn : (list : List CodeTriple) (i : ℕ) (t u : CodeTriple) (old new 
 graph_turn list i t u old new at same before turn =
     turn ∙ ap₂ added before (ap triple_seen same) ∙ graph_grows (triples_seen (take i list)) (triple_seen t) ∙ ap (distinct (same_triple nat_eq)) (sym (seen_more list i t at))
 
+pub owned_turn : (list : List CodeTriple) (t : CodeTriple) (old new : List CodeTriple)
+    → triples_seen old ≡ distinct (same_triple nat_eq) (triples_seen list)
+    → triples_seen new ≡ added (triples_seen old) (triple_seen t)
+    → triples_seen new ≡ distinct (same_triple nat_eq) (triples_seen (list ++ t ∷ []))
+owned_turn list t old new before turn =
+    turn ∙ ap (λ z. added z (triple_seen t)) before ∙ graph_grows (triples_seen list) (triple_seen t) ∙ ap (distinct (same_triple nat_eq)) (sym (map-append triple_seen list (t ∷ [])))
+
 -- ---- where each stands once
 
 module _ {A B : Type 0} (seen : A → B) (eq : A → A → Bool) (same : B → B → Bool) (agrees : (a b : A) → eq a b ≡ same (seen a) (seen b)) where

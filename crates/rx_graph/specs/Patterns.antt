@@ -1,9 +1,13 @@
 -- The patterns of a list of triples, where their triples stand, and what they lead to.
-use Rattle.std.specs.Prelude.{◌≡◌, ◌↔◌, ℕ, suc, Bool, true, not, ◌&&◌, List, [], ◌∷◌, ◌++◌, map, filter_map, Option, Some, None, option_map, is_none, nat_eq, if◌then◌else◌}
+use Rattle.std.specs.Prelude.{◌≡◌, ◌↔◌, ℕ, suc, Bool, true, not, ◌&&◌, List, [], ◌∷◌, ◌++◌, map, filter_map, Option, Some, None, option_map, is_none, nat_eq, bytes_eq, if◌then◌else◌}
 use Rattle.rx_model.specs.Sets.{Among, contains}
 use Rattle.rx_model.specs.Terms.{Node, Triple, same_node}
-use Rattle.rx_model.specs.Copied.{Leads, is_pattern, is_referenced, edges, live, says_pattern, spo}
+use Rattle.rx_model.specs.Copied.{Leads, rdfa_copy, is_pattern, is_referenced, edges, live, says_pattern, spo}
 use Rattle.rx_graph.specs.Resources.{live_by}
+
+-- the triple's predicate is rdfa:copy
+abbrev pub copies : Triple ℕ → Bool
+copies t = bytes_eq t.predicate rdfa_copy
 
 -- the places, counted from one on, of the triples that pass the test
 abbrev pub places : (Triple ℕ → Bool) → ℕ → List (Triple ℕ) → List ℕ

@@ -38,6 +38,17 @@ impl Graph {
         Ok(graph)
     }
 
+    /// The same of a list that is handed over, so that no triple is copied.
+    pub fn of_owned(alloc: Global, triples: TripleList) -> Result<Graph, NoMemory>
+        ensures { IfOk result (λ graph. triples_seen graph ≡ distinct (same_triple nat_eq) (triples_seen triples)) }
+    {
+        let mut graph = Graph::new(alloc);
+        for triple in triples.into_vec() {
+            graph.add(triple)?;
+        }
+        Ok(graph)
+    }
+
     /// The empty graph.
     pub(crate) fn new(alloc: Global) -> Graph
         ensures { result ≡ [] }

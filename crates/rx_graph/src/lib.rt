@@ -12,9 +12,9 @@ mod resources;
 mod rows;
 mod vocabulary;
 
-pub use copying::copy_patterns;
+pub use copying::{copy_patterns, copy_patterns_owned};
 pub use graphs::Graph;
-pub use numbering::{relabel, relabelled};
+pub use numbering::{relabel, relabel_owned};
 
 #[cfg(test)]
 mod tests;

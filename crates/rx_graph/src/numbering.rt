@@ -27,7 +27,7 @@ pub fn relabel(alloc: Global, graph: &Graph) -> Result<Graph, NoMemory>
 
 /// The same of a graph that is handed over, which is given back as it is where its blank nodes have these numbers already:
 /// no triple is copied then.
-pub fn relabelled(alloc: Global, graph: Graph) -> Result<Graph, NoMemory>
+pub fn relabel_owned(alloc: Global, graph: Graph) -> Result<Graph, NoMemory>
     ensures numbered { IfOk result (λ relabelled. triples_seen relabelled ≡ numbered nat_eq (triples_seen graph)) }
 {
     if is_numbered(&graph) {

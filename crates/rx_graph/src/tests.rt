@@ -33,13 +33,15 @@ fn repeats_vanish(rt: HostRuntime) -> Result<(), Fail> {
     assert_eq!(rt; graph.len(), 1_000);
     let copied = copy_patterns(alloc, &triples)?;
     assert_eq!(rt; copied.len(), 1_000);
+    let owned = copy_patterns_owned(alloc, triples)?;
+    assert_eq!(rt; owned.len(), 1_000);
     let numbered = relabel(alloc, &graph)?;
     assert_eq!(rt; numbered.len(), 1_000);
     assert_eq!(rt; numbered.at(999).subject == Node::Blank(Blank(1_000)), true);
     assert_eq!(rt; numbered.at(999).object == Term::Blank(Blank(1)), true);
-    let again = relabelled(alloc, numbered)?;
+    let again = relabel_owned(alloc, numbered)?;
     assert_eq!(rt; again.len(), 1_000);
-    let handed_over = relabelled(alloc, graph)?;
+    let handed_over = relabel_owned(alloc, graph)?;
     assert_eq!(rt; handed_over.len(), 1_000);
     assert_eq!(rt; handed_over.at(999).object == Term::Blank(Blank(1)), true);
     Ok(())
@@ -81,5 +83,6 @@ fn a_long_chain_is_copied(rt: HostRuntime) -> Result<(), Fail> {
     // The last pattern's copy triple isn't live. It is copied with the 2,000 others.
     assert_eq!(rt; copied.is_empty(), false);
     assert_eq!(rt; copied.len(), 2_001);
+    assert_eq!(rt; copy_patterns_owned(alloc, triples)?.len(), 2_001);
     Ok(())
 }
