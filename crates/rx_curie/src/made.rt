@@ -73,7 +73,7 @@ fn joined(alloc: Global, iri: &str, more: &str) -> Result<Iri, NoMemory>
     requires { has_scheme (chars iri.now) ≡ true }
     ensures { IfOk result (λ made. made ≡ cleaned (chars iri.now ++ chars more.now)) }
 {
-    let mut text = String::new(alloc);
+    let mut text = String::with_capacity(alloc, iri.len().saturating_add(more.len()))?;
     push_clean(&mut text, iri)?;
     push_clean(&mut text, more)?;
     Ok(Iri::of_text(Text::of_string(text)))
