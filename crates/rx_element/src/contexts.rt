@@ -20,19 +20,21 @@ pub enum Waiting {
     InList(Owner, Iri),
 }
 
-/// The triples that wait, shared by those who hand them on. A contract sees the list.
+/// The triples that wait, shared by those who hand them on. Where none waits no memory is taken, as at most elements. A
+/// contract sees the list.
 #[derive(Drop)]
 pub struct Hangings {
-    list: Rc<Vec<Waiting>>,
+    list: Option<Rc<Vec<Waiting>>>,
 }
 
 impl Model for Hangings {
-    ghost use Rattle.std.specs.Prelude.{List};
+    ghost use Rattle.std.specs.Prelude.{List, option_map};
+    ghost use Rattle.rx_rdfa.specs.Inherited.{listed};
     ghost use Rattle.rx_element.specs.declared.contexts.Waiting.{Waiting};
 
     ghost Value = { List Waiting };
 
-    ghost view = { λ h. h.list.value.items };
+    ghost view = { λ h. listed (option_map (λ shared. shared.value.items) h.list) };
 }
 
 impl Hangings {
@@ -40,8 +42,11 @@ impl Hangings {
     pub fn of(alloc: Global, list: Vec<Waiting>) -> Result<Hangings, NoMemory>
         ensures { IfOk result (λ hangings. hangings ≡ list.items) }
     {
+        if list.is_empty() {
+            return Ok(Hangings { list: None });
+        }
         match Rc::new(alloc, list) {
-            Ok(list) => Ok(Hangings { list }),
+            Ok(list) => Ok(Hangings { list: Some(list) }),
             Err(_refused) => Err(NoMemory),
         }
     }
@@ -50,16 +55,22 @@ impl Hangings {
     pub fn share(&self) -> Result<Hangings, NoMemory>
         ensures { IfOk result (λ hangings. hangings ≡ self.now) }
     {
-        Ok(Hangings {
-            list: self.list.clone()?,
-        })
+        match &self.list {
+            Some(list) => Ok(Hangings {
+                list: Some(list.clone()?),
+            }),
+            None => Ok(Hangings { list: None }),
+        }
     }
 
     /// The triples that wait, in order.
     pub fn as_slice(&self) -> &[Waiting]
         ensures { result.now ≡ self.now }
     {
-        self.list.as_ref().as_slice()
+        match &self.list {
+            Some(list) => list.as_ref().as_slice(),
+            None => &[],
+        }
     }
 }
 
