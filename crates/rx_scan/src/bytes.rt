@@ -48,6 +48,24 @@ fn is_of_tag(mark: Mark, c: char) -> bool
     }
 }
 
+// Whether the byte is a character of its own.
+fn is_alone(utf8: &Utf8, byte: u8) -> bool
+    ensures { result ≡ true → (utf8.now ≡ []) × (byte < 128) }
+{
+    byte.is_ascii() && utf8.is_whole()
+}
+
+// What the next byte makes of those before it. Most bytes are ASCII, which is told at once.
+#[inline(always)]
+fn peek(utf8: &Utf8, byte: u8) -> Utf8Step
+    ensures { result ≡ answer_of (utf8.now ++ byte ∷ []) }
+{
+    if is_alone(utf8, byte) {
+        return Utf8Step::Char(char::from(byte));
+    }
+    utf8.peek(byte)
+}
+
 fn hold_byte(utf8: &mut Utf8, byte: u8)
     requires { answer_of (utf8.old ++ byte ∷ []) ≡ Utf8Step.More }
     ensures { utf8.new ≡ utf8.old ++ byte ∷ [] }
@@ -170,7 +188,7 @@ impl Reader {
         if self.place.at >= self.setting.limits.page {
             return Err(Stop::Fault(self.fault_at(Kind::PageTooLong)));
         }
-        match self.utf8.peek(byte) {
+        match peek(&self.utf8, byte) {
             Utf8Step::Bad => Err(Stop::Fault(self.fault_at(Kind::NotUtf8))),
             Utf8Step::Char(c) => self.read_whole(c),
             Utf8Step::More => self.hold(byte),

@@ -5,7 +5,6 @@ ghost use Rattle.rx_tags.specs.TagBufs.{MayStep};
 
 use crate::answers::What;
 use crate::readers::Reader;
-use crate::settings::{after_doctype, undropped};
 use rx_chars::Utf8;
 use rx_marks::{Mark, Whole};
 use rx_tags::Stop;
@@ -17,10 +16,10 @@ impl Reader {
         ensures does { entries.Ends self.old after_return whole result self.new }
         ensures ready { entries.IsReady self.old result self.new }
     {
-        self.setting = match whole {
-            Whole::Doctype => after_doctype(self.setting),
-            Whole::Comment | Whole::Section => undropped(self.setting),
-        };
+        match whole {
+            Whole::Doctype => self.setting.pass_doctype(),
+            Whole::Comment | Whole::Section => self.setting.drop_none(),
+        }
         self.place = self.place.ended(after_return, false);
         self.pending.turn(Mark::Nothing);
         self.utf8 = Utf8::new();

@@ -6,7 +6,6 @@ ghost use Rattle.rx_scan.specs.Fronts.{FeedsFront, IsFront, TakesFront, TellsFro
 
 use crate::readers::Reader;
 use crate::runs::ROOM;
-use crate::settings::undropped;
 use rx_grammar::Content;
 use rx_marks::Mark;
 
@@ -56,9 +55,18 @@ fn at_most(most: u64, length: usize) -> usize
     }
 }
 
+// What is left of so many bytes behind those that are taken.
+fn left_of(most: u64, taken: u64) -> u64
+    ensures most { 0 < result → taken + result ≤ most }
+    ensures place { 0 < result → taken + result < 2 ^ 64 }
+{
+    most.saturating_sub(taken)
+}
+
 impl Reader {
     /// Takes the characters at the front that may be taken at once, of text as far as it has room or of a tag, and tells
     /// how many bytes they have.
+    #[inline(always)]
     pub(crate) fn take_front(&mut self, bytes: &[u8]) -> usize
         requires may_step { MayStep self.old.pending.tag }
         requires size { self.old.text.size + 4 ≤ ROOM }
@@ -89,6 +97,7 @@ impl Reader {
     }
 
     // Takes the characters at the front with which the tag goes on, and tells how many.
+    #[inline(never)]
     fn feed_front(&mut self, bytes: &[u8]) -> usize
         requires in_tag { self.old.pending.mark ≡ Mark.Tag }
         requires may_step { MayStep self.old.pending.tag }
@@ -113,14 +122,10 @@ impl Reader {
         requires { self.now.text.size + 4 ≤ ROOM }
         ensures room { (self.now.text.size + result) + 4 ≤ ROOM }
         ensures page { 0 < result → self.now.place.at + result ≤ self.now.setting.limits.page }
+        ensures place { 0 < result → self.now.place.at + result < 2 ^ 64 }
     {
         let room = ROOM - 4 - self.text.len();
-        let page = self.setting.limits.page.saturating_sub(self.place.at);
-        if page < room as u64 {
-            page as usize
-        } else {
-            room
-        }
+        at_most(left_of(self.setting.limits.page, self.place.at), room)
     }
 
     // How many bytes at the front are text that is told at once.
@@ -129,6 +134,7 @@ impl Reader {
         ensures fits { result ≤ length bytes.now }
         ensures room { (self.now.text.size + result) + 4 ≤ ROOM }
         ensures may { 0 < result → IsFront self.now (take result bytes.now) }
+        ensures place { 0 < result → self.now.place.at + result < 2 ^ 64 }
     {
         if self.pending.mark() != Mark::Nothing {
             return 0;
@@ -143,6 +149,7 @@ impl Reader {
     }
 
     // Takes the plain text at the front, as far as it has room, and tells how many bytes it has.
+    #[inline(never)]
     fn say_front(&mut self, bytes: &[u8]) -> usize
         requires size { self.old.text.size + 4 ≤ ROOM }
         requires room { ROOM ≤ self.old.text.room }
@@ -158,8 +165,8 @@ impl Reader {
         if self.text.push_ascii(&bytes[..count]).is_err() {
             return 0;
         }
-        self.setting = undropped(self.setting);
         self.place = self.place.said(count as u64);
+        self.setting.drop_none();
         count
     }
 }

@@ -102,6 +102,7 @@ impl Unfinished {
     }
 
     /// One more character of a tag.
+    #[inline(always)]
     pub(crate) fn feed(&mut self, mark: Mark, c: char) -> Result<TagStep, TagError>
         requires { MayStep self.old.tag }
         ensures gives { StepGives self.old.tag c result self.new.tag }

@@ -90,11 +90,8 @@ impl Scan {
         ensures new { self.new ≡ inside_of content drop_newline self.old }
         ensures between { may_enter self.old ≡ true → self.old.reading.pending.mark ≡ Mark.Nothing }
     {
-        self.reader.setting = Setting {
-            inside: content,
-            drops: drop_newline,
-            ..self.reader.setting
-        };
+        self.reader.setting.inside = content;
+        self.reader.setting.drops = drop_newline;
     }
 
     /// The page's end. Unended comes exactly where a token is unfinished, and then at each later call.

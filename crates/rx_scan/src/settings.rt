@@ -5,32 +5,29 @@ ghost use Rattle.rx_scan.specs.Entries as entries;
 use crate::places::Setting;
 use rx_grammar::Content;
 
-pub(crate) fn undropped(setting: Setting) -> Setting
-    ensures { result ≡ entries.undropped setting }
-{
-    Setting {
-        drops: false,
-        ..setting
+// These write the fields that change and leave the others where they are, since a whole setting is large.
+impl Setting {
+    /// Behind a token no line feed is dropped.
+    pub(crate) fn drop_none(&mut self)
+        ensures { self.new ≡ entries.undropped self.old }
+    {
+        self.drops = false;
     }
-}
 
-pub(crate) fn after_doctype(setting: Setting) -> Setting
-    ensures { result ≡ entries.after_doctype setting }
-{
-    Setting {
-        leads: false,
-        drops: false,
-        ..setting
+    /// Behind a document type there may be no other.
+    pub(crate) fn pass_doctype(&mut self)
+        ensures { self.new ≡ entries.after_doctype self.old }
+    {
+        self.leads = false;
+        self.drops = false;
     }
-}
 
-pub(crate) fn after_tag(setting: Setting, closing: bool) -> Setting
-    ensures { result ≡ entries.after_tag setting closing }
-{
-    Setting {
-        leads: setting.leads && closing,
-        drops: false,
-        ..setting
+    /// Behind a start tag there may be no document type.
+    pub(crate) fn pass_tag(&mut self, closing: bool)
+        ensures { self.new ≡ entries.after_tag self.old closing }
+    {
+        self.leads = self.leads && closing;
+        self.drops = false;
     }
 }
 

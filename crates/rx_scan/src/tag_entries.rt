@@ -6,7 +6,6 @@ ghost use Rattle.rx_tags.specs.TagBufs.{MayStep};
 
 use crate::answers::What;
 use crate::readers::Reader;
-use crate::settings::after_tag;
 use rx_chars::Utf8;
 use rx_grammar::{Fault, Kind};
 use rx_marks::Mark;
@@ -18,13 +17,15 @@ impl Reader {
         requires room { self.old.place.at + 1 < 2 ^ 64 }
         ensures { self.new ≡ entries.with_tag self.old after_return }
     {
-        self.setting = after_tag(self.setting, self.pending.is_closing());
+        let closing = self.pending.is_closing();
+        self.setting.pass_tag(closing);
         self.pending.turn(Mark::Nothing);
         self.end = self.place.at;
         self.place = self.place.ended(after_return, false);
         self.utf8 = Utf8::new();
     }
 
+    #[inline(always)]
     pub(crate) fn tag_on(&mut self, c: char, after_return: bool) -> Result<What, Stop>
         requires may_step { MayStep self.old.pending.tag }
         requires room { self.old.place.at + 1 < 2 ^ 64 }

@@ -6,7 +6,7 @@ ghost use Rattle.rx_tags.specs.TagBufs.{MayStep};
 use crate::answers::What;
 use crate::places::Place;
 use crate::readers::Reader;
-use crate::settings::{is_bracket, is_dropped, undropped};
+use crate::settings::{is_bracket, is_dropped};
 use rx_chars::Utf8;
 use rx_marks::{First, Mark, Move, at_first, first_char, phase_of};
 use rx_tags::{Stop, meaning, no_meaning};
@@ -24,7 +24,7 @@ impl Reader {
         if !dropped && self.text.push(c).is_err() {
             return Err(Stop::NoMemory);
         }
-        self.setting = undropped(self.setting);
+        self.setting.drop_none();
         self.place = place;
         self.pending.turn(Mark::Nothing);
         self.utf8 = Utf8::new();
@@ -88,7 +88,7 @@ impl Reader {
         if self.text.push_all(self.pending.run()).is_err() {
             return Err(NoMemory);
         }
-        self.setting = undropped(self.setting);
+        self.setting.drop_none();
         self.place = self.place.cut();
         Ok(())
     }
