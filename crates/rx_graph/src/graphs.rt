@@ -42,7 +42,7 @@ impl Graph {
     pub fn of_owned(alloc: Global, triples: TripleList) -> Result<Graph, NoMemory>
         ensures { IfOk result (λ graph. triples_seen graph ≡ distinct (same_triple nat_eq) (triples_seen triples)) }
     {
-        let mut graph = Graph::new(alloc);
+        let mut graph = Graph::with_capacity(alloc, triples.len())?;
         for triple in triples.into_vec() {
             graph.add(triple)?;
         }
@@ -56,6 +56,14 @@ impl Graph {
         Graph {
             triples: IndexSet::new(alloc),
         }
+    }
+
+    /// The empty graph, with room for so many triples.
+    fn with_capacity(alloc: Global, count: usize) -> Result<Graph, NoMemory>
+        ensures { IfOk result (λ graph. graph ≡ []) }
+    {
+        let triples = IndexSet::with_capacity(alloc, count)?;
+        Ok(Graph { triples })
     }
 
     /// Adds the triple at the end, where it isn't there yet.
