@@ -1,5 +1,6 @@
 -- The patterns of a list, from left to right.
 use Rattle.std.proofs.Common.{◌≡◌, ℕ, suc, zero, ◌+◌, ◌≤◌, Bool, true, false, ◌&&◌, ◌||◌, nat_eq, List, [], ◌∷◌, ◌++◌, map, filter_map, flat_map, length, take, slice_get, Option, Some, None, option_map, refl, sym, ap, ap₂, subst, ◌∙◌, true≢false, arith, if◌then◌else◌, append-nil, bytes_eq}
+use Rattle.std.proofs.lemmas.Bool.{or_parts}
 use Rattle.std.proofs.lemmas.List.Elements.{filter_map-append}
 use Rattle.std.proofs.lemmas.List.{take_all}
 use Rattle.std.specs.List.{cons_option, list_any}
@@ -247,17 +248,13 @@ number_row_by f nodes rows s n e h = ap (λ (z : List (List ℕ)). slice_get z n
 
 -- ---- where nothing is copied
 
-neither : (a b : Bool) → (a || b) ≡ false → (a ≡ false) × (b ≡ false)
-neither true b h = absurd (true≢false h)
-neither false b h = (refl, h)
-
 pub none_more : (list : List CodeTriple) (i : ℕ) (u : CodeTriple) → slice_get list i ≡ Some u → copies (triple_seen u) ≡ false
     → list_any copies (triples_seen (take i list)) ≡ false → list_any copies (triples_seen (take (i + 1) list)) ≡ false
 none_more list i u at not_this none = ap (list_any copies) (seen_more list i u at) ∙ last (triples_seen (take i list)) none
   where
     last : (some : List (Triple ℕ)) → list_any copies some ≡ false → list_any copies (some ++ triple_seen u ∷ []) ≡ false
     last [] h = ap (λ b. b || false) not_this
-    last (t ∷ some) h = ap₂ ◌||◌ (neither (copies t) (list_any copies some) h).0 (last some (neither (copies t) (list_any copies some) h).1)
+    last (t ∷ some) h = ap₂ ◌||◌ (or_parts (copies t) (list_any copies some) h).0 (last some (or_parts (copies t) (list_any copies some) h).1)
 
 pub none_end : (list : List CodeTriple) (i : ℕ) → length list ≤ i → list_any copies (triples_seen (take i list)) ≡ false → list_any copies (triples_seen list) ≡ false
 none_end list i all h = subst (λ (z : List CodeTriple). list_any copies (triples_seen z) ≡ false) (take_all i list all) h
@@ -268,13 +265,13 @@ not_live whole u h = ap (λ b. if b then pattern_object nat_eq whole u.object el
 no_edges : (whole list : List (Triple ℕ)) → list_any copies list ≡ false → filter_map (edge nat_eq whole) list ≡ []
 no_edges whole [] h = refl
 no_edges whole (u ∷ list) h =
-    let none = neither (copies u) (list_any copies list) h in
+    let none = or_parts (copies u) (list_any copies list) h in
     ap₂ cons_option (ap (option_map (λ (to : Node ℕ). (u.subject, to))) (not_live whole u none.0)) (no_edges whole list none.1)
 
 all_kept : (whole list : List (Triple ℕ)) → list_any copies list ≡ false → flat_map (treated nat_eq whole []) list ≡ list
 all_kept whole [] h = refl
 all_kept whole (u ∷ list) h =
-    let none = neither (copies u) (list_any copies list) h in
+    let none = or_parts (copies u) (list_any copies list) h in
     ap₂ ◌++◌ (ap (replaced nat_eq whole [] u) (not_live whole u none.0)) (all_kept whole list none.1)
 
 pub nothing_copied : (list : List (Triple ℕ)) → list_any copies list ≡ false → copied nat_eq list ≡ distinct (same_triple nat_eq) list

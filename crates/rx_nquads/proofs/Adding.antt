@@ -1,18 +1,18 @@
 -- Characters added to a text, one part after another.
-use Rattle.std.proofs.Common.{◌≡◌, ◌∙◌, ℕ, ◌<◌, ◌^◌, true, List, [], ◌∷◌, ◌++◌, sym, ap, refl, subst, append_assoc, append-nil, Result, Ok, Err, OnOk, IsAscii, suc, codes, arith}
-use Rattle.std.proofs.lemmas.Bool.{and_from}
+use Rattle.std.proofs.Common.{◌≡◌, ◌∙◌, ℕ, ◌<◌, ◌^◌, true, false, ◌||◌, ◌==◌, List, [], ◌∷◌, ◌++◌, sym, ap, ap₂, refl, subst, append_assoc, append-nil, Result, Ok, Err, OnOk, IsAscii, suc, codes, arith}
+use Rattle.std.proofs.lemmas.Bool.{and_from, or_parts}
 use Rattle.std.proofs.lemmas.Bool.Decides.{nat_tests}
 use Rattle.std.specs.Str.{chars, IsUtf8, encode_utf8_all}
 use Rattle.std.specs.Fmt.{decimal}
-use Rattle.std.specs.List.{list_all}
+use Rattle.std.specs.List.{list_all, list_any}
 use Rattle.std.proofs.lemmas.Str.{encodes-append, scalars-chars}
 use Rattle.std.proofs.lemmas.Fmt.{IsAscii-decimal}
-use Rattle.rx_terms.specs.Ascii.{is_ascii}
+use Rattle.rx_terms.specs.Ascii.{is_ascii, line_feed, carriage_return, quotation_mark, reverse_solidus}
 use Rattle.rx_terms.specs.Text.{Chars}
 use Rattle.rx_terms.specs.Iri.{IsIri}
 use Rattle.rx_terms.specs.Lang.{is_lang}
 use Rattle.rx_terms.proofs.CharLemmas.{ascii-chars, ascii-same}
-use Rattle.rx_nquads.specs.Writing.{escaped_char, escaped_text}
+use Rattle.rx_nquads.specs.Writing.{is_escaped, escaped_char, escaped_text}
 use Rattle.rx_nquads.specs.Writable.{Adds, WritableText, WritableIri, WritableTag}
 
 pub if_ok : {A E P Q : Type 0} (r : Result A E) → (P → Q) → OnOk r P → OnOk r Q
@@ -29,6 +29,20 @@ adds_nothing a = record { bytes = sym (append-nil a) }
 
 pub adds_by : {a b : List ℕ} {x y : Chars} → x ≡ y → Adds a b x → Adds a b y
 adds_by {a} e h = record { bytes = h.bytes ∙ ap (λ z. a ++ encode_utf8_all z) e }
+
+-- where nothing is escaped
+plain_char : (c : ℕ) → is_escaped c ≡ false → escaped_char c ≡ c ∷ []
+plain_char c h =
+    let last = or_parts ((c == quotation_mark || c == reverse_solidus) || c == line_feed) (c == carriage_return) h in
+    let third = or_parts (c == quotation_mark || c == reverse_solidus) (c == line_feed) last.0 in
+    let first = or_parts (c == quotation_mark) (c == reverse_solidus) third.0 in
+    rw (first.0, first.1, third.1, last.1) refl
+
+pub plain_text : (text : Chars) → list_any is_escaped text ≡ false → escaped_text text ≡ text
+plain_text [] h = refl
+plain_text (c ∷ text) h =
+    let none = or_parts (is_escaped c) (list_any is_escaped text) h in
+    ap₂ ◌++◌ (plain_char c none.0) (plain_text text none.1)
 
 -- a literal of ASCII is its own characters
 pub literal : {a b : List ℕ} (text : List ℕ) → list_all is_ascii text ≡ true → Adds a b (chars text) → Adds a b text

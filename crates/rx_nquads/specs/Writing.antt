@@ -1,11 +1,15 @@
 -- The N-Quads text of a list of triples, character by character (the choice of the layout is our own).
-use Rattle.std.specs.Prelude.{ℕ, ◌==◌, List, [], ◌∷◌, ◌++◌, codes, flat_map, Option, Some, None, if◌then◌else◌}
+use Rattle.std.specs.Prelude.{ℕ, Bool, ◌||◌, ◌==◌, List, [], ◌∷◌, ◌++◌, codes, flat_map, Option, Some, None, if◌then◌else◌}
 use Rattle.std.specs.Fmt.{decimal}
 use Rattle.rx_terms.specs.Ascii.{line_feed, carriage_return, quotation_mark, reverse_solidus}
 use Rattle.rx_terms.specs.Text.{Chars}
 use Rattle.rx_model.specs.Terms.{Kind, Plain, Tagged, Typed, Node, Iri, Blank, Term, Resource, Literal, Triple}
 
--- `"`, `\`, LF and CR are written with a backslash, all else stands as it is
+-- the characters that have an escape: `"`, `\`, LF and CR
+abbrev pub is_escaped : ℕ → Bool
+is_escaped c = ((c == quotation_mark || c == reverse_solidus) || c == line_feed) || c == carriage_return
+
+-- these are written with a backslash, all else stands as it is
 abbrev pub escaped_char : ℕ → Chars
 escaped_char c =
     if c == quotation_mark then codes "\\\""

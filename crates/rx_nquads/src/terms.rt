@@ -1,8 +1,9 @@
 //! How terms are written.
 ghost use Rattle.std.specs.Prelude.{◌≡◌, ◌<◌, ◌^◌, ℕ, OnOk, string_bytes, flat_map};
+ghost use Rattle.std.specs.List.{list_any};
 ghost use Rattle.std.specs.Str.{chars};
 ghost use Rattle.rx_model.specs.Seen.{kind_seen, node_seen, term_seen};
-ghost use Rattle.rx_nquads.specs.Writing.{escaped_char, escaped_text, string_text, iri_text, blank_text, node_text, kind_text, term_text};
+ghost use Rattle.rx_nquads.specs.Writing.{is_escaped, escaped_char, escaped_text, string_text, iri_text, blank_text, node_text, kind_text, term_text};
 ghost use Rattle.rx_nquads.specs.Writable.{Adds, WritableText, WritableIri, WritableTag, WritableNode, WritableKind, WritableTerm};
 
 use rx_terms::{Blank, Iri, Lang, LiteralKind, NoMemory, Node, Term, Text};
@@ -82,7 +83,30 @@ fn push_char(out: &mut String, c: char) -> Result<(), NoMemory>
     Ok(())
 }
 
+/// Whether the character has an escape of its own.
+fn is_escaped(c: char) -> bool
+    ensures { result ≡ is_escaped c }
+{
+    matches!(c, '"' | '\\' | '\n' | '\r')
+}
+
+fn has_escaped(text: &str) -> bool
+    ensures { result ≡ list_any is_escaped (chars text.now) }
+{
+    text.chars().any(|c| is_escaped(c))
+}
+
+/// Most texts have nothing to escape, and are written at once.
 fn push_escaped(out: &mut String, text: &str) -> Result<(), NoMemory>
+    ensures { OnOk result (Adds (string_bytes out.old) (string_bytes out.new) (escaped_text (chars text.now))) }
+{
+    if has_escaped(text) {
+        return push_escaping(out, text);
+    }
+    push(out, text)
+}
+
+fn push_escaping(out: &mut String, text: &str) -> Result<(), NoMemory>
     ensures { OnOk result (Adds (string_bytes out.old) (string_bytes out.new) (escaped_text (chars text.now))) }
 {
     for c in text.chars() {

@@ -1,30 +1,6 @@
-use Rattle.std.proofs.Common.{◌≡◌, ◌∙◌, ap}
-use Rattle.std.specs.Str.{chars}
-use Rattle.std.specs.Str.Iter.{chars_rest}
-use Rattle.std.proofs.lemmas.Str.{chars_past_char, IsUtf8-past_char}
-use Rattle.rx_terms.proofs.CharLemmas.{chars-end}
-use Rattle.rx_nquads.proofs.Adding.{left_start, left_less, left_none}
+use Rattle.std.proofs.Common.{◌∙◌, sym}
+use Rattle.rx_nquads.proofs.Adding.{if_ok, adds_by, plain_text}
 use Rattle.rx_nquads.proofs.terms.push_escaped.Goals as goal
 
-pub loop-c-init : goal.loop-c-init
-loop-c-init c =
-    let whole : chars_rest c.into_iter-c-iterator.result ≡ c.args.text.now = ap chars_rest c.into_iter-c-iterator.ensures.into_iter_gives ∙ c.chars-c-items.ensures.rest in
-    record {
-      can_next = tt;
-      finite = tt;
-      utf8 = rw whole c.utf8.text;
-      left = left_start _ _ _ (ap chars whole);
-    }
-
-pub loop-c-preserved : goal.loop-c-preserved
-loop-c-preserved c =
-    let next = chars_past_char _ _ _ c.loop-c.invariant.utf8 c.in-Some.ensures.steps.0 in
-    record {
-      can_next = tt;
-      finite = tt;
-      utf8 = IsUtf8-past_char _ _ _ c.loop-c.invariant.utf8 c.in-Some.ensures.steps.0;
-      left = left_less c.in-Some.c _ c.loop-c.invariant.left next c.in_ok-push_char.ensures;
-    }
-
 pub returns : goal.returns
-returns c = left_none c.loop-c.invariant.left (chars-end _ c.in-None.ensures.steps.0.0)
+returns c = if_ok c.push.result (λ h. adds_by (sym (plain_text _ (sym c.has_escaped.ensures ∙ c.if-has_escaped.false))) h) c.push.ensures

@@ -2,7 +2,7 @@ use Rattle.std.proofs.Common.{string_bytes}
 use Rattle.std.specs.Str.{chars, IsUtf8}
 use Rattle.std.specs.Str.Iter.{chars_rest}
 use Rattle.rx_nquads.proofs.Adding.{Left}
-use Rattle.rx_nquads.proofs.terms.push_escaped.Given as goal
+use Rattle.rx_nquads.proofs.terms.push_escaping.Given as goal
 
 abbrev pub invariant-loop-c : goal.invariant-loop-c
 invariant-loop-c l = record {
