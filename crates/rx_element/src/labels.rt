@@ -7,13 +7,17 @@ ghost use Rattle.rx_element.specs.Rows.{IsNew};
 use indexmap::IndexSet;
 use rx_terms::{NoMemory, Text};
 use std::alloc::Global;
+use std::hash::{BuildHasherDefault, DefaultHasher};
 use std::marker::Model;
+
+// Pages choose the labels, so one that makes their hashes equal must be hard to write.
+type LabelSet = IndexSet<String, BuildHasherDefault<DefaultHasher>>;
 
 /// The numbers of the blank nodes that authors name by labels. A contract sees the labels with their numbers.
 #[derive(Drop)]
 pub struct Labels {
     alloc: Global,
-    labels: IndexSet<String>,
+    labels: LabelSet,
     numbers: Vec<u64>,
 }
 
@@ -37,7 +41,7 @@ impl Labels {
     {
         Ok(Labels {
             alloc,
-            labels: IndexSet::new(alloc),
+            labels: LabelSet::with_hasher(alloc, BuildHasherDefault::new()),
             numbers: Vec::new(alloc),
         })
     }
@@ -90,7 +94,7 @@ impl Labels {
 
 /// Adds a new key and its number at the ends.
 fn add_row(
-    keys: &mut IndexSet<String>,
+    keys: &mut LabelSet,
     numbers: &mut Vec<u64>,
     key: String,
     number: u64,

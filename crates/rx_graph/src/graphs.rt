@@ -8,13 +8,17 @@ ghost use Rattle.rx_graph.specs.Graph.{added};
 use indexmap::IndexSet;
 use rx_terms::{NoMemory, Triple, TripleList};
 use std::alloc::Global;
+use std::hash::{BuildHasherDefault, DefaultHasher};
 use std::marker::Model;
+
+// Pages choose the triples, so one that makes their hashes equal must be hard to write.
+type Triples = IndexSet<Triple, BuildHasherDefault<DefaultHasher>>;
 
 /// An RDF graph (RDF 1.1 Concepts, section 3): a set of triples, kept in order of first appearance. A contract sees
 /// the list of its triples, each once.
 #[derive(Debug, Drop)]
 pub struct Graph {
-    triples: IndexSet<Triple>,
+    triples: Triples,
 }
 
 impl Model for Graph {
@@ -54,7 +58,7 @@ impl Graph {
         ensures { result ≡ [] }
     {
         Graph {
-            triples: IndexSet::new(alloc),
+            triples: Triples::with_hasher(alloc, BuildHasherDefault::new()),
         }
     }
 
@@ -62,7 +66,7 @@ impl Graph {
     fn with_capacity(alloc: Global, count: usize) -> Result<Graph, NoMemory>
         ensures { IfOk result (λ graph. graph ≡ []) }
     {
-        let triples = IndexSet::with_capacity(alloc, count)?;
+        let triples = Triples::with_capacity_and_hasher(alloc, count, BuildHasherDefault::new())?;
         Ok(Graph { triples })
     }
 

@@ -9,6 +9,7 @@ use crate::vocabulary::copies;
 use indexmap::IndexSet;
 use rx_terms::{Blank, Iri, NoMemory, Node, Term, Triple};
 use std::alloc::Global;
+use std::hash::{BuildHasherDefault, DefaultHasher};
 use std::marker::Model;
 
 /// A node, borrowed from a triple's subject or object.
@@ -43,7 +44,7 @@ impl<'a> Resource<'a> {
 /// Borrowed nodes in order of first appearance, each once. The number of each is its place. A contract sees the list.
 #[derive(Drop)]
 pub(crate) struct Nodes<'a> {
-    nodes: IndexSet<Resource<'a>>,
+    nodes: IndexSet<Resource<'a>, BuildHasherDefault<DefaultHasher>>,
 }
 
 impl<'a> Model for Nodes<'a> {
@@ -61,7 +62,7 @@ impl<'a> Nodes<'a> {
         ensures { result ≡ [] }
     {
         Nodes {
-            nodes: IndexSet::new(alloc),
+            nodes: IndexSet::with_hasher(alloc, BuildHasherDefault::new()),
         }
     }
 

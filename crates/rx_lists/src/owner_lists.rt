@@ -12,13 +12,17 @@ use crate::slot_rows::SlotRows;
 use indexmap::IndexSet;
 use rx_terms::{Iri, NoMemory, Node, Term, TripleList};
 use std::alloc::Global;
+use std::hash::{BuildHasherDefault, DefaultHasher};
 use std::marker::Model;
+
+// Pages choose the predicates, so one that makes their hashes equal must be hard to write.
+type Predicates = IndexSet<Iri, BuildHasherDefault<DefaultHasher>>;
 
 /// The lists of one owner, in order of their first slot or touch. A predicate is found by its hash.
 #[derive(Drop)]
 pub(crate) struct OwnerLists {
     subject: Node,
-    predicates: IndexSet<Iri>,
+    predicates: Predicates,
     slots: SlotRows,
 }
 
@@ -41,7 +45,7 @@ impl OwnerLists {
     {
         OwnerLists {
             subject,
-            predicates: IndexSet::new(alloc),
+            predicates: Predicates::with_hasher(alloc, BuildHasherDefault::new()),
             slots: SlotRows::new(alloc),
         }
     }
@@ -172,7 +176,7 @@ impl OwnerLists {
 
 /// Adds a new key and its row at the ends, or neither.
 fn add_row(
-    keys: &mut IndexSet<Iri>,
+    keys: &mut Predicates,
     rows: &mut SlotRows,
     key: Iri,
     with_slot: bool,
