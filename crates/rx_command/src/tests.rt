@@ -5,6 +5,22 @@ use rx_terms::Text;
 use std::alloc::Global;
 use std::test::Fail;
 
+mod characters;
+mod checked;
+mod contexts;
+mod copying;
+mod faults;
+mod hanging;
+mod lists;
+mod literals;
+mod names;
+mod omitted_ends;
+mod page_rows;
+mod references;
+mod values;
+mod words;
+mod xhtml;
+
 const PAGE: &[u8] =
     b"<html><body><p about=\"http://h.example/s\" property=\"http://v.example/p\">Hi</p></body></html>";
 

@@ -19,6 +19,7 @@ pub mod Idling
 pub mod Quieting
 pub mod Accepted
 pub mod Checking
+pub mod CheckQuieting
 pub mod SeenStates
 pub mod AlikeStates
 pub mod StandsAlike

@@ -69,7 +69,7 @@ one_unspent (Enter facts) old new s = s.1.rest.6
 one_unspent (Read chars) old new s = ap (λ (z : State). z.spent) s
 one_unspent Leave old new s = s.rest.5
 
-all_unspent : (list : List Call) (old new : State) → Leads list old new → new.spent ≡ old.spent
+pub all_unspent : (list : List Call) (old new : State) → Leads list old new → new.spent ≡ old.spent
 all_unspent [] old new h = ap (λ (z : State). z.spent) h
 all_unspent (call ∷ list) old new h = all_unspent list h.0 new h.2 ∙ one_unspent call old h.0 h.1
 

@@ -1,5 +1,5 @@
 -- What a walk knows of its page.
-use Rattle.std.proofs.Common.{◌≡◌, ◌∙◌, ℕ, List, [], ◌∷◌, ◌++◌, length, refl, sym, ap, subst, ◌≢◌, Option, Some, None, Result, Ok, Err, IfOk, IfErr, append-nil}
+use Rattle.std.proofs.Common.{◌≡◌, ◌∙◌, ℕ, false, List, [], ◌∷◌, ◌++◌, length, refl, sym, ap, subst, ◌≢◌, Option, Some, None, Result, Err, append-nil}
 use Rattle.rx_terms.specs.Text.{Chars}
 use Rattle.rx_terms.specs.declared.triples.Triple.{Triple as CodeTriple}
 use Rattle.rx_model.specs.Seen.{triples_seen}
@@ -17,6 +17,7 @@ use Rattle.rx_rdfa.specs.Names.{Context}
 use Rattle.rx_nest.specs.Nests as nests
 use Rattle.rx_nest.specs.Nests.{Nested}
 use Rattle.rx_nest.specs.Signs.{Sign, finished, signs_of}
+use Rattle.rx_eval.specs.Opened.{begun_state}
 use Rattle.rx_eval.specs.States.{State}
 use Rattle.rx_walk.specs.declared.courses.Course.{Course}
 use Rattle.rx_walk.specs.declared.stages.Head.{Head}
@@ -34,6 +35,7 @@ use Rattle.rx_walk.proofs.Making.{list_made}
 use Rattle.rx_walk.specs.Walks.{Walked, Goes, Stands, open_line, OwesNone, state_of, FramesFit, Lists, IsWhole, Ended, EndGives}
 use Rattle.rx_walk.proofs.Signed.{tree_line}
 use Rattle.rx_walk.proofs.Found.{base_found}
+use Rattle.rx_walk.proofs.Quieting.{all_unspent}
 use Rattle.rx_walk.proofs.Moving.{led_at, is_ended}
 use Rattle.rx_walk.proofs.Fronting.{may_counts, root_ended}
 
@@ -62,6 +64,13 @@ pub not_sought : (course : Course) (head : Head) → course.stage ≡ stage.Seek
 not_sought course head e w =
     let s = subst (λ x. Staged w.address w.levels (sought (signs_of (element w.root w.inside end))) (calls_of w.context [] (signs_of (element w.root w.inside end))) x) e w.runs.staged in
     no_sought head.sought (root_href (tags_of (element w.root w.inside end))) (s.sought ∙ base_found w.root w.inside)
+
+-- the evaluator has always had the memory that it asked for
+pub whole_unspent : (course : Course) (state : State) → course.stage ≡ stage.Found state → IsWhole course → state.spent ≡ false
+whole_unspent course state e w =
+    let signs : List Sign = signs_of (element w.root w.inside end) in
+    let k = known_at w.address w.levels (sought signs) (calls_of w.context [] signs) course.stage state w.runs.staged (ap state_of e) in
+    all_unspent (calls_of w.context [] signs) (begun_state (base_by k.href w.address) w.levels) state k.led.leads
 
 pub whole_lists : (context : Context) (address : Chars) (levels : ℕ) (course : Course) (root : StartTag) (inside : Tree) (state : State) (list : List CodeTriple)
     → Runs context address levels course (signs_of (element root inside end)) → course.stage ≡ stage.Found state → triples_seen list ≡ state.out → Lists context address levels (element root inside end) list
@@ -106,15 +115,16 @@ pub ended_of : (syntax : Syntax) (limits : Limits) (context : Context) (address 
 ended_of syntax limits context address course bytes list w l =
     record { tree = element w.root w.inside end; page = w.page; accepted = w.runs.accepted; lists = l; made = list_made context address limits.depth (element w.root w.inside end) list l }
 
-pub end_gives : (syntax : Syntax) (limits : Limits) (context : Context) (address : Chars) (course : Course) (bytes : List ℕ) (r : Result (List CodeTriple) Stop) (w : EndsWhole syntax limits context address course bytes)
-    → IfOk r (λ list. Lists context address limits.depth (element w.root w.inside end) list) → IfErr r (λ why. why ≡ stop.NoMemory) → EndGives syntax limits context address bytes r
-end_gives syntax limits context address course bytes (Ok list) w l e = ended_of syntax limits context address course bytes list w l
-end_gives syntax limits context address course bytes (Err why) w l e = subst (λ x. EndGives syntax limits context address bytes (Err x)) (sym e) tt
-
 pub end_stops : (syntax : Syntax) (limits : Limits) (context : Context) (address : Chars) (bytes : List ℕ) (signs : List Sign) (old new : Nested) (why : Stop)
     → nests.EndGives syntax limits bytes signs old (Err why) new → EndGives syntax limits context address bytes (Err why)
 end_stops syntax limits context address bytes signs old new (stop.Fault fault) g = g
-end_stops syntax limits context address bytes signs old new stop.NoMemory g = tt
+end_stops syntax limits context address bytes signs old new stop.NoMemory g = g
+
+-- the end takes no memory
+pub end_wants_none : (syntax : Syntax) (limits : Limits) (bytes : List ℕ) (signs : List Sign) (old new : Nested) (why : Stop)
+    → nests.EndGives syntax limits bytes signs old (Err why) new → ◌≡◌ {A = Result (List CodeTriple) Stop} (Err why) (Err stop.NoMemory) → ⊥
+end_wants_none syntax limits bytes signs old new (stop.Fault fault) g is = cc
+end_wants_none syntax limits bytes signs old new stop.NoMemory g is = g
 
 pub no_fault : (o : Option Fault) → ((x : Fault) → o ≢ Some x) → o ≡ None
 no_fault None n = refl

@@ -1,11 +1,11 @@
 -- Signs of a page in which no start tag is refused, and the names in force behind them.
-use Rattle.std.specs.Prelude.{◌≡◌, ℕ, List, [], ◌++◌, Some, None, Result, Ok, Err}
+use Rattle.std.specs.Prelude.{◌≡◌, ℕ, Bool, true, false, List, [], ◌∷◌, ◌++◌, Some, None, Result, Ok, Err}
 use Rattle.rx_rdfa.specs.Names.{Context}
 use Rattle.rx_names.specs.Lines as names
 use Rattle.rx_names.specs.Lines.{Kept}
 use Rattle.rx_tags.specs.declared.stops.Stop.{Stop}
 use Rattle.rx_tags.specs.declared.stops.Stop.TheVariants as stop
-use Rattle.rx_nest.specs.Signs.{Sign}
+use Rattle.rx_nest.specs.Signs.{Sign, begun, said, finished}
 use Rattle.rx_nest.specs.Fronts.{IsFront}
 use Rattle.rx_walk.specs.Lines.{line_of}
 use Rattle.rx_walk.specs.Refused.{refused_in}
@@ -26,8 +26,15 @@ pub record MayFollow (kept : Kept) (more : List Sign) : Type 0 where
   pub accepts : Accepts context kept signs
   pub front : IsFront levels (signs ++ more)
 
--- more signs are accepted, or one of them is refused
+-- an element begins
+abbrev pub begins_one : List Sign → Bool
+begins_one [] = false
+begins_one (begun t ∷ signs) = true
+begins_one (said c ∷ signs) = false
+begins_one (finished ∷ signs) = false
+
+-- more signs are accepted, or one of them is refused; memory is wanted only where an element begins
 abbrev pub Heard : Context → List Sign → List Sign → Result (Unit {0}) Stop → Kept → Type 0
 Heard context signs more (Ok done) new = Accepts context new (signs ++ more)
 Heard context signs more (Err (stop.Fault fault)) new = refused_in context [] (signs ++ more) ≡ Some fault
-Heard context signs more (Err stop.NoMemory) new = Unit {0}
+Heard context signs more (Err stop.NoMemory) new = begins_one more ≡ true

@@ -12,7 +12,7 @@ use Rattle.rx_names.specs.Lines.{Kept}
 use Rattle.rx_tags.specs.declared.stops.Stop.{Stop}
 use Rattle.rx_tags.specs.declared.stops.Stop.TheVariants as stop
 use Rattle.rx_nest.specs.Nests as nests
-use Rattle.rx_nest.specs.Nests.{Nested}
+use Rattle.rx_nest.specs.Nests.{Nested, IsBetween}
 use Rattle.rx_nest.specs.Signs.{Sign, signs_of}
 use Rattle.rx_walk.specs.declared.turns.Turn.{Turn}
 use Rattle.rx_walk.specs.declared.turns.Turn.TheVariants as turn
@@ -21,6 +21,7 @@ use Rattle.rx_walk.specs.Faults.{StopGives}
 use Rattle.rx_walk.specs.Falling.{FallsBy}
 use Rattle.rx_walk.specs.Accepting.{Accepts}
 use Rattle.rx_walk.specs.Walks.{OwesNone}
+use Rattle.rx_walk.specs.Quiets.{HasMemory}
 
 -- the page's elements as they are read, the names in force, the fault that was answered, and want of memory
 pub record Checked : Type 0 where
@@ -63,6 +64,18 @@ TurnGives syntax limits context bytes piece (Err why) nest kept = StopGives synt
 abbrev pub PieceGives : Syntax → Limits → Context → List ℕ → List ℕ → Result (Unit {0}) Stop → Nested → Kept → Type 0
 PieceGives syntax limits context bytes piece (Ok done) nest kept = Goes syntax limits context nest kept (bytes ++ piece) × OwesNone nest
 PieceGives syntax limits context bytes piece (Err why) nest kept = StopGives syntax limits context (bytes ++ piece) why
+
+-- between two tokens of these bytes nothing is due: a check keeps no text, whatever elements are open
+pub record QuietAt (syntax : Syntax) (limits : Limits) (context : Context) (nest : Nested) (kept : Kept) (bytes : List ℕ) : Type 0 where
+  pub goes : Goes syntax limits context nest kept bytes
+  pub between : IsBetween syntax limits bytes
+  pub paid : OwesNone nest
+
+-- a turn stays quiet, and doesn't want memory
+abbrev pub QuietTurn : Syntax → Limits → Context → List ℕ → List ℕ → Result Turn Stop → Nested → Kept → Type 0
+QuietTurn syntax limits context bytes piece (Ok turn.Done) nest kept = Unit {0}
+QuietTurn syntax limits context bytes piece (Ok (turn.Took n)) nest kept = QuietAt syntax limits context nest kept (bytes ++ take n piece)
+QuietTurn syntax limits context bytes piece (Err why) nest kept = HasMemory why
 
 abbrev pub FeedGives : Syntax → Limits → Context → List ℕ → List ℕ → Result (Unit {0}) Stop → Checked → Type 0
 FeedGives syntax limits context bytes piece (Ok done) new = Stands syntax limits context new (bytes ++ piece)

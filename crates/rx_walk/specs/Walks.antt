@@ -145,7 +145,7 @@ pub record Ended (syntax : Syntax) (limits : Limits) (context : Context) (addres
 abbrev pub EndGives : Syntax → Limits → Context → Chars → List ℕ → Result (List CodeTriple) Stop → Type 0
 EndGives syntax limits context address bytes (Ok list) = Ended syntax limits context address bytes list
 EndGives syntax limits context address bytes (Err (stop.Fault fault)) = FaultAt syntax limits bytes fault × (fault.kind ≡ Unended) × (fault.at ≡ length bytes)
-EndGives syntax limits context address bytes (Err stop.NoMemory) = Unit {0}
+EndGives syntax limits context address bytes (Err stop.NoMemory) = ⊥
 
 -- a fault or want of memory was answered
 abbrev pub has_fallen : Walked → Bool

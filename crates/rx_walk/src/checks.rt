@@ -8,13 +8,16 @@ ghost use Rattle.rx_rdfa.specs.Tree.{Tag as StartTag};
 ghost use Rattle.rx_names.specs.Lines as lines;
 ghost use Rattle.rx_names.specs.Tags.{tag_of};
 ghost use Rattle.rx_curie.specs.Given.{vocabulary_from};
-ghost use Rattle.rx_nest.specs.Nests.{tag_shown, event_signs};
+ghost use Rattle.rx_scan.specs.Entries.{IsNoMemory};
+ghost use Rattle.rx_scan.specs.Steps.{is_quiet};
+ghost use Rattle.rx_nest.specs.Nests.{tag_shown, event_signs, IsBetween};
 ghost use Rattle.rx_nest.specs.Signs.{Sign, begun, finished};
 ghost use Rattle.rx_nest.specs.Fronts.{IsFront};
 ghost use Rattle.rx_walk.specs.Falling.{Answered, MayAnswer};
 ghost use Rattle.rx_walk.specs.Refused.{refused_at};
 ghost use Rattle.rx_walk.specs.Accepting.{Accepts, MayFollow, Heard};
 ghost use Rattle.rx_walk.specs.Walks.{TurnTakes, TakesByte};
+ghost use Rattle.rx_walk.specs.Quiets.{QuietEnd};
 ghost use Rattle.rx_walk.specs.Checks as checks;
 
 use crate::turns::{Turn, is_more};
@@ -104,6 +107,7 @@ fn step(nest: &mut Nest, names: &mut Names, piece: &[u8]) -> Result<Turn, Stop>
     requires { checks.Somewhere nest.old names.old }
     ensures gives { (syntax : syntaxes.Syntax) (limits : limit.Limits) (context : RulesContext) (bytes : List ℕ) → checks.Goes syntax limits context nest.old names.old bytes → checks.TurnGives syntax limits context bytes piece.now result nest.new names.new }
     ensures takes { TurnTakes piece.now result nest.old.owed nest.new.owed }
+    ensures quiet { (syntax : syntaxes.Syntax) (limits : limit.Limits) (context : RulesContext) (bytes : List ℕ) → checks.QuietAt syntax limits context nest.old names.old bytes → is_quiet piece.now ≡ true → checks.QuietTurn syntax limits context bytes piece.now result nest.new names.new }
 {
     let (taken, event) = match nest.step(piece) {
         Ok(step) => step,
@@ -122,6 +126,7 @@ fn take_some(nest: &mut Nest, names: &mut Names, piece: &[u8]) -> Result<Turn, S
     requires { checks.Somewhere nest.old names.old }
     ensures gives { (syntax : syntaxes.Syntax) (limits : limit.Limits) (context : RulesContext) (bytes : List ℕ) → checks.Goes syntax limits context nest.old names.old bytes → checks.TurnGives syntax limits context bytes piece.now result nest.new names.new }
     ensures takes { TakesByte piece.now result }
+    ensures quiet { (syntax : syntaxes.Syntax) (limits : limit.Limits) (context : RulesContext) (bytes : List ℕ) → checks.QuietAt syntax limits context nest.old names.old bytes → is_quiet piece.now ≡ true → checks.QuietTurn syntax limits context bytes piece.now result nest.new names.new }
 {
     'turns: loop {
         match step(nest, names, piece) {
@@ -135,7 +140,8 @@ fn take_some(nest: &mut Nest, names: &mut Names, piece: &[u8]) -> Result<Turn, S
 /// Takes the whole piece.
 fn take_all(nest: &mut Nest, names: &mut Names, piece: &[u8]) -> Result<(), Stop>
     requires { checks.Somewhere nest.old names.old }
-    ensures { (syntax : syntaxes.Syntax) (limits : limit.Limits) (context : RulesContext) (bytes : List ℕ) → checks.Goes syntax limits context nest.old names.old bytes → checks.PieceGives syntax limits context bytes piece.now result nest.new names.new }
+    ensures gives { (syntax : syntaxes.Syntax) (limits : limit.Limits) (context : RulesContext) (bytes : List ℕ) → checks.Goes syntax limits context nest.old names.old bytes → checks.PieceGives syntax limits context bytes piece.now result nest.new names.new }
+    ensures quiet { (syntax : syntaxes.Syntax) (limits : limit.Limits) (context : RulesContext) (bytes : List ℕ) → checks.QuietAt syntax limits context nest.old names.old bytes → is_quiet piece.now ≡ true → QuietEnd result }
 {
     let mut rest = piece;
     'turns: loop {
@@ -167,9 +173,11 @@ impl Check {
         })
     }
 
-    /// Takes the whole piece.
+    /// Takes the whole piece. Text takes no memory: a piece without `<` and `&` never wants memory where no token is
+    /// unfinished, whatever elements are open.
     pub fn feed(&mut self, piece: &[u8]) -> Result<(), Stop>
         ensures gives { (syntax : syntaxes.Syntax) (limits : limit.Limits) (context : RulesContext) (bytes : List ℕ) → checks.Stands syntax limits context self.old bytes → checks.FeedGives syntax limits context bytes piece.now result self.new }
+        ensures quiet { (syntax : syntaxes.Syntax) (limits : limit.Limits) (context : RulesContext) (bytes : List ℕ) → checks.Stands syntax limits context self.old bytes → IsBetween syntax limits bytes → is_quiet piece.now ≡ true → IsNoMemory result ≡ false }
         ensures asked { MayAnswer self.old.failed self.old.spent result }
         ensures keeps { Answered result self.new.failed self.new.spent }
     {

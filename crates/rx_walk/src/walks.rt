@@ -1,5 +1,5 @@
 //! A page that is walked through in pieces.
-ghost use Rattle.std.specs.Prelude.{◌≡◌, ◌≤◌, ℕ, List, [], length, true, false, IfOk, IfErr, Some, None, MatchOption, if◌then◌else◌};
+ghost use Rattle.std.specs.Prelude.{◌≡◌, ◌≤◌, ℕ, List, [], length, true, false, Err, IfOk, Some, None, MatchOption, if◌then◌else◌};
 ghost use Rattle.rx_terms.specs.Text.{Chars};
 ghost use Rattle.rx_chars.specs.declared.syntax.Syntax as syntaxes;
 ghost use Rattle.rx_grammar.specs.declared.limits.Limits as limit;
@@ -102,17 +102,16 @@ fn take_all(nest: &mut Nest, course: &mut Course, piece: &[u8]) -> Result<(), St
     }
 }
 
-/// The list of a whole page.
-fn list_of(course: Course) -> Result<TripleList, Stop>
+/// The list of a whole page. It takes no memory: the evaluator of a walk has always had what it asked for.
+fn list_of(course: Course) -> TripleList
     requires { walks.IsWhole course }
-    ensures gives { (context : RulesContext) (address : Chars) (levels : ℕ) (root : StartTag) (inside : Tree) → Runs context address levels course (signs_of (element root inside end)) → IfOk result (λ list. walks.Lists context address levels (element root inside end) list) }
-    ensures no_fault { IfErr result (λ why. why ≡ Stop.NoMemory) }
+    ensures { (context : RulesContext) (address : Chars) (levels : ℕ) (root : StartTag) (inside : Tree) → Runs context address levels course (signs_of (element root inside end)) → walks.Lists context address levels (element root inside end) result }
 {
     let Course { stage, .. } = course;
     match stage {
         Stage::Found(eval) => match eval.finish() {
-            Ok(list) => Ok(list),
-            Err(NoMemory) => Err(Stop::NoMemory),
+            Ok(list) => list,
+            Err(NoMemory) => unreachable!(),
         },
         Stage::Seeking(_head) => unreachable!(),
     }
@@ -169,10 +168,11 @@ impl Walk {
     }
 
     /// The page's end: the list of its triples. `Unended` comes exactly where the bytes are no page and no earlier fault stands
-    /// in them.
+    /// in them. It takes no memory: want of memory is answered only where it was before.
     pub fn finish(self) -> Result<TripleList, Stop>
         ensures gives { (syntax : syntaxes.Syntax) (limits : limit.Limits) (context : RulesContext) (address : Chars) (bytes : List ℕ) → walks.Stands syntax limits context address self bytes → walks.EndGives syntax limits context address bytes result }
         ensures asked { MayAnswer self.failed self.spent result }
+        ensures memory { result ≡ Err Stop.NoMemory → self.spent ≡ true }
     {
         let Walk {
             mut nest,
@@ -187,7 +187,7 @@ impl Walk {
             return Err(Stop::Fault(fault));
         }
         match nest.end() {
-            Ok(()) => list_of(course),
+            Ok(()) => Ok(list_of(course)),
             Err(stop) => Err(stop),
         }
     }

@@ -1,6 +1,6 @@
 use Rattle.std.proofs.Common.{sym, subst}
 use Rattle.rx_walk.specs.Walks.{Stands}
-use Rattle.rx_walk.proofs.Wholes.{ends_whole, whole_of, end_gives, end_stops, no_fault}
+use Rattle.rx_walk.proofs.Wholes.{ends_whole, whole_of, ended_of, end_stops, end_wants_none, no_fault}
 use Rattle.rx_walk.proofs.walks.Walk.finish.Goals as goal
 
 pub list_of-requires : goal.list_of-requires
@@ -14,9 +14,14 @@ pub returns-in-Ok-clause-gives : goal.returns-in-Ok-clause-gives
 returns-in-Ok-clause-gives c syntax limits context address bytes s =
     let was = subst (λ v. Stands syntax limits context address v bytes) (sym c.self.view_is) s in
     let w = ends_whole syntax limits context address c.self.inside.nest c.self.inside.course bytes was.goes was.paid (c.in-Ok.ensures.ends syntax limits bytes was.goes.signs was.goes.shown) in
-    end_gives syntax limits context address c.self.inside.course bytes c.list_of.result w (c.list_of.ensures.gives context address limits.depth w.root w.inside w.runs) c.list_of.ensures.no_fault
+    ended_of syntax limits context address c.self.inside.course bytes c.list_of.result w (c.list_of.ensures context address limits.depth w.root w.inside w.runs)
 
 pub returns-clause-gives : goal.returns-clause-gives
 returns-clause-gives c syntax limits context address bytes s =
     let was = subst (λ v. Stands syntax limits context address v bytes) (sym c.self.view_is) s in
     end_stops syntax limits context address bytes was.goes.signs c.self.inside.nest c.end.new.self c.in-Err.stop (c.in-Err.ensures.ends syntax limits bytes was.goes.signs was.goes.shown)
+
+pub returns-clause-memory : goal.returns-clause-memory
+returns-clause-memory c is =
+    let s = (c.self.invariant (no_fault c.self.inside.failed c.in_default.not-Some) c.if-spent.false).0 in
+    absurd (end_wants_none s.syntax s.limits s.bytes s.goes.signs c.self.inside.nest c.end.new.self c.in-Err.stop (c.in-Err.ensures.ends s.syntax s.limits s.bytes s.goes.signs s.goes.shown) is)
