@@ -65,7 +65,7 @@ pub(crate) fn cleaned(alloc: Global, iri: &str) -> Result<Iri, NoMemory>
     ensures { IfOk result (λ made. made ≡ cleaned (chars iri.now)) }
 {
     let text = clean(alloc, iri)?;
-    Ok(Iri::of_text(text))
+    Iri::of_text(alloc, text)
 }
 
 /// The IRI of these two parts, with the same escapes.
@@ -76,5 +76,5 @@ fn joined(alloc: Global, iri: &str, more: &str) -> Result<Iri, NoMemory>
     let mut text = String::with_capacity(alloc, iri.len().saturating_add(more.len()))?;
     push_clean(&mut text, iri)?;
     push_clean(&mut text, more)?;
-    Ok(Iri::of_text(Text::of_string(text)))
+    Iri::of_text(alloc, Text::of_string(text))
 }

@@ -95,5 +95,6 @@ fn iri(alloc: Global, text: &str) -> Result<Iri, NoMemory>
     requires form { IsIri text.now }
     ensures { IfOk result (λ iri. iri ≡ text.now) }
 {
-    Ok(Iri::of_text(Text::of(alloc, text)?))
+    let text = Text::of(alloc, text)?;
+    Iri::of_text(alloc, text)
 }

@@ -61,7 +61,8 @@ fn table_of(alloc: Global, rows: &[(&str, &str)]) -> Result<Table, NoMemory>
     let mut table = Table::new(alloc);
     for (name, iri) in rows {
         let name = Text::of(alloc, name)?;
-        let iri = Iri::of_text(Text::of(alloc, iri)?);
+        let text = Text::of(alloc, iri)?;
+        let iri = Iri::of_text(alloc, text)?;
         table.push(name, iri)?;
     }
     Ok(table)

@@ -21,7 +21,7 @@ pub fn resolve(alloc: Global, base: &Iri, reference: &str) -> Result<Iri, NoMemo
     let target = target_of(split(base.as_str()), split(trim(reference)));
     let text = recompose(alloc, &target)?;
     let clean = clean_string(alloc, text)?;
-    Ok(Iri::of_text(clean))
+    Iri::of_text(alloc, clean)
 }
 
 /// The IRI up to its first `#`.
@@ -30,5 +30,6 @@ pub fn without_fragment(alloc: Global, iri: &Iri) -> Result<Iri, NoMemory>
     ensures iri { IfOk result (λ front. IsIri front) }
 {
     let (front, _fragment) = cut(iri.as_str(), '#');
-    Ok(Iri::of_text(Text::of(alloc, front)?))
+    let text = Text::of(alloc, front)?;
+    Iri::of_text(alloc, text)
 }

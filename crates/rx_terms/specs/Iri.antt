@@ -1,6 +1,8 @@
 -- Which texts are IRIs.
 use Rattle.std.specs.Prelude.{◌≡◌, ℕ, Bool, true, false, not, ◌||◌, ◌&&◌, ◌==◌, nat_le, [], ◌∷◌, Option, Some, None}
 use Rattle.std.specs.List.{list_all, list_any}
+use Rattle.std.specs.Str.{encode_utf8_all}
+use Rattle.std.specs.Hash.DefaultHasher as sip
 use Rattle.rx_terms.specs.Ascii.{is_letter, is_letter_or_digit, plus_sign, hyphen, full_stop, colon, space, less_than_sign, greater_than_sign, quotation_mark, left_brace, right_brace, vertical_line, reverse_solidus, circumflex_accent, grave_accent}
 use Rattle.rx_terms.specs.Text.{Chars, split_at}
 
@@ -40,3 +42,12 @@ pub record IsIri (text : Chars) : Type 0 where
 -- the same as a test
 abbrev pub is_iri : Chars → Bool
 is_iri text = has_scheme text && not (has_forbidden text)
+
+-- the SipHash of the text's UTF-8
+unfoldable pub number_of : Chars → ℕ
+number_of text = sip.finish (sip.write sip.initial (encode_utf8_all text))
+
+-- what is kept of an IRI: its text, and the number of that
+pub record IsKept (text : Chars) (number : ℕ) : Type 0 where
+  pub is_iri : IsIri text
+  pub is_number : number ≡ number_of text

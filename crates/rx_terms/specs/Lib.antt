@@ -1,5 +1,6 @@
 pub mod Ascii
 pub mod Text
 pub mod Iri
+pub mod Iris
 pub mod Lang
 pub mod Literal

@@ -6,18 +6,23 @@ use crate::texts::NoMemory;
 use std::alloc::Global;
 use std::marker::Model;
 
-/// A list of IRIs that only grows, in the order of its pushes. A contract sees the list.
+/// A list of IRIs that only grows, in the order of its pushes. Most lists have one, which takes no memory. A contract sees
+/// the list.
 #[derive(Debug, Drop)]
 pub struct Iris {
-    iris: Vec<Iri>,
+    first: Option<Iri>,
+    others: Vec<Iri>,
 }
 
 impl Model for Iris {
     ghost use Rattle.std.specs.Prelude.{ℕ, List};
+    ghost use Rattle.rx_terms.specs.Iris.{first_with, IsFilled};
 
     ghost Value = { List (List ℕ) };
 
-    ghost view = { λ list. list.iris.items };
+    ghost view = { λ list. first_with list.first list.others.items };
+
+    ghost invariant = { λ list. IsFilled list.first list.others.items };
 }
 
 impl Iris {
@@ -26,7 +31,8 @@ impl Iris {
         ensures { result ≡ [] }
     {
         Iris {
-            iris: Vec::new(alloc),
+            first: None,
+            others: Vec::new(alloc),
         }
     }
 
@@ -35,7 +41,11 @@ impl Iris {
         ensures ok { OnOk result (self.new ≡ self.old ++ iri ∷ []) }
         ensures err { OnErr result (self.new ≡ self.old) }
     {
-        match self.iris.push(iri) {
+        if self.first.is_none() {
+            self.first = Some(iri);
+            return Ok(());
+        }
+        match self.others.push(iri) {
             Ok(()) => Ok(()),
             Err(_refused) => Err(NoMemory),
         }
@@ -45,14 +55,17 @@ impl Iris {
     pub fn len(&self) -> usize
         ensures { result ≡ length self.now }
     {
-        self.iris.len()
+        match self.first {
+            Some(_) => 1 + self.others.len(),
+            None => 0,
+        }
     }
 
     /// Whether there is none.
     pub fn is_empty(&self) -> bool
         ensures { result ≡ (length self.now == 0) }
     {
-        self.iris.is_empty()
+        self.first.is_none()
     }
 
     /// The IRI at a place below `len`, from 0.
@@ -60,6 +73,9 @@ impl Iris {
         requires { i < length self.now }
         ensures { slice_get self.now i ≡ Some result.now }
     {
-        &self.iris[i]
+        match &self.first {
+            Some(iri) if i == 0 => iri,
+            _ => &self.others[i - 1],
+        }
     }
 }

@@ -1,33 +1,47 @@
 //! Internationalized resource identifiers (RFC 3987), as far as N-Quads and Turtle take them.
-ghost use Rattle.std.specs.Prelude.{◌≡◌, IfOk, IsErrOf, ◌↔◌, true, false, encode_utf8_all};
+ghost use Rattle.std.specs.Prelude.{◌≡◌, IfOk, IsErrOf, ◌↔◌, true, false, encode_utf8_all, nat_eq};
 ghost use Rattle.std.specs.List.{list_all};
 ghost use Rattle.std.specs.Str.{chars};
-ghost use Rattle.rx_terms.specs.Iri.{is_scheme_char, is_scheme, begins_with_letter, has_scheme, is_forbidden, has_forbidden, IsIri};
+ghost use Rattle.std.specs.Cmp.Lexicographic.{pointwise, nat_list_eq_equiv};
+ghost use Rattle.std.specs.Cmp.{partial_equiv_from_equiv};
+ghost use Rattle.std.specs.Hash as fed;
+ghost use Rattle.std.specs.Cmp.Rules.{hashing};
+ghost use Rattle.std.proofs.Common.{rules};
+ghost use Rattle.rx_terms.specs.Iri.{is_scheme_char, is_scheme, begins_with_letter, has_scheme, is_forbidden, has_forbidden, IsIri, number_of};
 
 use crate::texts::{NoMemory, Text};
 use std::alloc::Global;
+use std::hash::{DefaultHasher, Hash, Hasher};
 use std::marker::Model;
+use std::rc::Rc;
 use thiserror::Error;
 
 /// An absolute IRI: a text that begins with a scheme and has none of the characters that N-Quads and Turtle forbid
-/// in an IRI. A contract sees it as its characters.
-#[derive(Debug, Drop, PartialEq, Eq, Hash)]
+/// in an IRI. It is shared by those who have it, so that a page's few IRIs are kept once each. A contract sees it as its
+/// characters.
+#[derive(Debug, Drop)]
 pub struct Iri {
+    kept: Rc<Kept>,
+}
+
+/// What is kept of an IRI.
+#[derive(Debug, Drop)]
+struct Kept {
     text: Text,
+    /// The SipHash of the text's UTF-8, by which sets find the IRI.
+    number: u64,
 }
 
 impl Model for Iri {
-    ghost use Rattle.std.specs.Prelude.{ℕ, List};
+    ghost use Rattle.std.specs.Prelude.{◌≡◌, ℕ, List};
 
     ghost Value = { List ℕ };
 
-    ghost use Rattle.rx_terms.specs.Iri.{IsIri};
+    ghost use Rattle.rx_terms.specs.Iri.{IsKept};
 
-    ghost view = { λ iri. iri.text };
+    ghost view = { λ iri. iri.kept.value.text };
 
-    ghost inverse = { λ text. record { text = text } };
-
-    ghost invariant = { λ iri. IsIri iri.text };
+    ghost invariant = { λ iri. IsKept iri.kept.value.text iri.kept.value.number };
 }
 
 /// Why a text is no IRI.
@@ -57,18 +71,22 @@ impl Iri {
         if has_forbidden(text) {
             return Err(IriError::Forbidden);
         }
-        match Text::of(alloc, text) {
-            Ok(text) => Ok(Iri { text }),
+        match copied(alloc, text) {
+            Ok(iri) => Ok(iri),
             Err(NoMemory) => Err(IriError::NoMemory),
         }
     }
 
-    /// The IRI that a text is of which this is known, so that nothing is read or copied.
-    pub fn of_text(text: Text) -> Iri
+    /// The IRI that a text is of which this is known, so that its form isn't looked at and its characters aren't copied.
+    pub fn of_text(alloc: Global, text: Text) -> Result<Iri, NoMemory>
         requires { IsIri text }
-        ensures { result ≡ text }
+        ensures { IfOk result (λ iri. iri ≡ text) }
     {
-        Iri { text }
+        let number = number_of(text.as_str());
+        match Rc::new(alloc, Kept { text, number }) {
+            Ok(kept) => Ok(Iri { kept }),
+            Err(_refused) => Err(NoMemory),
+        }
     }
 
     /// The IRI's characters as UTF-8.
@@ -77,17 +95,59 @@ impl Iri {
         ensures bytes { result.now ≡ encode_utf8_all self.now }
         ensures form { IsIri self.now }
     {
-        self.text.as_str()
+        self.kept.as_ref().text.as_str()
     }
 
-    /// An equal IRI.
+    /// The same IRI for one more, without a copy.
     pub fn try_clone(&self) -> Result<Iri, NoMemory>
         ensures { IfOk result (λ iri. iri ≡ self.now) }
     {
         Ok(Iri {
-            text: self.text.try_clone()?,
+            kept: self.kept.clone()?,
         })
     }
+}
+
+impl PartialEq for Iri {
+    ghost eq = { pointwise nat_eq };
+
+    ghost laws = { partial_equiv_from_equiv nat_list_eq_equiv };
+
+    fn eq(&self, other: &Iri) -> bool {
+        self.as_str() == other.as_str()
+    }
+}
+
+impl Eq for Iri {
+    ghost laws = { nat_list_eq_equiv };
+}
+
+impl Hash for Iri {
+    ghost hash_input = { λ iri. fed.u64 (number_of iri) };
+
+    ghost respects_eq = { Prim.search (hashing, rules) };
+
+    fn hash<H: Hasher>(&self, state: &mut H) {
+        state.write_u64(self.kept.as_ref().number);
+    }
+}
+
+/// The IRI that the text is.
+fn copied(alloc: Global, text: &str) -> Result<Iri, NoMemory>
+    requires { IsIri (chars text.now) }
+    ensures { IfOk result (λ iri. iri ≡ chars text.now) }
+{
+    let text = Text::of(alloc, text)?;
+    Iri::of_text(alloc, text)
+}
+
+/// The SipHash of the text's UTF-8.
+fn number_of(text: &str) -> u64
+    ensures { result ≡ number_of (chars text.now) }
+{
+    let mut hasher = DefaultHasher::new();
+    hasher.write(text.as_bytes());
+    hasher.finish()
 }
 
 /// Whether the text begins with a scheme and `:` (RFC 3986, section 3.1).

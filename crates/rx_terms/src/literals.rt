@@ -19,8 +19,9 @@ pub enum LiteralKind {
 /// A literal: its characters, and its language tag or datatype.
 #[derive(Debug, Drop, PartialEq, Eq, Hash)]
 pub struct Literal {
-    pub lexical: Text,
+    // First, since what is hashed before a text goes in whole words.
     pub kind: LiteralKind,
+    pub lexical: Text,
 }
 
 const XSD_STRING: &str = "http://www.w3.org/2001/XMLSchema#string";
