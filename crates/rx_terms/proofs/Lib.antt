@@ -2,3 +2,4 @@ pub mod CharLemmas
 pub mod SplitLemmas
 pub mod LangLemmas
 pub mod NumberLemmas
+pub mod OkLemmas

@@ -3,6 +3,7 @@ use Rattle.std.specs.Prelude.{string_bytes}
 use Rattle.std.specs.Str.{chars}
 use Rattle.rx_terms.specs.Text.{Chars, trimmed}
 use Rattle.rx_terms.specs.Iri.{IsIri}
+use Rattle.rx_terms.proofs.OkLemmas.{ok_is}
 use Rattle.rx_refs.specs.Parts.{Components, components_of, recomposed}
 use Rattle.rx_refs.specs.Resolve.{target, cleaned, resolved}
 use Rattle.rx_refs.specs.Views.{seen, seen_target}
@@ -25,4 +26,4 @@ pub of_text-requires : goal.of_text-requires
 of_text-requires c = subst IsIri (sym (meaning c)) ((resolved-iri c.args.base.now (chars c.args.reference.now)).iri c.as_str.ensures.form)
 
 pub returns-clause-meaning : goal.returns-clause-meaning
-returns-clause-meaning c = c.of_text.ensures ∙ meaning (goal.at.returns-clause-meaning c).In_ok-clean
+returns-clause-meaning c = ok_is c.of_text.result (meaning (goal.at.returns-clause-meaning c).In_ok-clean) c.of_text.ensures
