@@ -2,6 +2,7 @@ use Rattle.std.proofs.Common.{◌∙◌, ◌++◌, ap}
 use Rattle.std.specs.Prelude.{string_bytes}
 use Rattle.std.specs.Str.{chars}
 use Rattle.std.proofs.lemmas.Str.{chars-nil}
+use Rattle.rx_terms.proofs.OkLemmas.{ok_is}
 use Rattle.rx_curie.proofs.MadeLemmas.{text-iri, two-pieces, scheme-more}
 use Rattle.rx_curie.proofs.made.joined.Goals as goal
 
@@ -17,5 +18,7 @@ pub returns : goal.returns
 returns c =
     let iri = chars c.args.iri.now in
     let more = chars c.args.more.now in
-    c.of_text.ensures ∙ c.of_string.ensures ∙ two-pieces (chars (string_bytes c.in_ok-text.text)) (chars (string_bytes c.push_clean.new.out)) (chars (string_bytes c.push_clean-2.new.out)) iri more
-    (ap chars c.in_ok-text.ensures.bytes ∙ chars-nil) c.in_ok-push_clean.ensures c.in_ok-push_clean-2.ensures
+    ok_is c.of_text.result
+    (c.of_string.ensures ∙ two-pieces (chars (string_bytes c.in_ok-text.text)) (chars (string_bytes c.push_clean.new.out)) (chars (string_bytes c.push_clean-2.new.out)) iri more
+    (ap chars c.in_ok-text.ensures.bytes ∙ chars-nil) c.in_ok-push_clean.ensures c.in_ok-push_clean-2.ensures)
+    c.of_text.ensures
