@@ -5,7 +5,7 @@ ghost use Rattle.rx_terms.specs.Ascii.{is_ascii};
 ghost use Rattle.rx_terms.specs.Iri.{IsIri};
 ghost use Rattle.rx_model.specs.Seen.{node_seen, term_seen, triples_seen};
 ghost use Rattle.rx_model.specs.Copied.{spo};
-ghost use Rattle.rx_rdfa.specs.Iris.{rdf_rest};
+ghost use Rattle.rx_rdfa.specs.Iris.{rdf_first, rdf_rest};
 ghost use Rattle.rx_rdfa.specs.Lists.{list_of};
 ghost use Rattle.rx_lists.specs.Owners.{itself};
 ghost use Rattle.rx_lists.specs.Cells.{cell_node, one_cell};
@@ -32,6 +32,7 @@ pub(crate) fn push_list(
     ensures triples { OnOk result (triples_seen out.new ≡ triples_seen out.old ++ list_of (λ i. first + i) (node_seen subject.now) predicate.now (map term_seen (filter_map itself slots.now))) }
     ensures next { IfOk result (λ next. next ≡ first + length (map term_seen (filter_map itself slots.now))) }
 {
+    let iris = CellIris::new(alloc)?;
     let mut cell = first;
     let mut end = End {
         node: subject.try_clone()?,
@@ -41,12 +42,29 @@ pub(crate) fn push_list(
         let Some(item) = slot else {
             continue;
         };
-        end = end.push_cell(alloc, out, cell, item)?;
+        end = end.push_cell(&iris, out, cell, item)?;
         cell += 1;
     }
     let nil = iri(alloc, NIL)?;
     push(out, end.node, end.by, Term::Iri(nil))?;
     Ok(cell)
+}
+
+/// The predicates of cells, which all cells of a list share.
+#[derive(Drop)]
+struct CellIris {
+    first: Iri,
+    rest: Iri,
+}
+
+impl CellIris {
+    fn new(alloc: Global) -> Result<CellIris, NoMemory>
+        ensures { IfOk result (λ iris. (iris.first ≡ rdf_first) × (iris.rest ≡ rdf_rest)) }
+    {
+        let first = iri(alloc, FIRST)?;
+        let rest = iri(alloc, REST)?;
+        Ok(CellIris { first, rest })
+    }
 }
 
 /// The node and the predicate by which the next cell is linked.
@@ -60,21 +78,22 @@ impl End {
     /// Adds the cell of the item.
     fn push_cell(
         self,
-        alloc: Global,
+        iris: &CellIris,
         out: &mut TripleList,
         cell: u64,
         item: &Term,
     ) -> Result<End, NoMemory>
+        requires { (iris.now.first ≡ rdf_first) × (iris.now.rest ≡ rdf_rest) }
         ensures triples { OnOk result (triples_seen out.new ≡ triples_seen out.old ++ one_cell (node_seen self.node) self.by cell (term_seen item.now)) }
         ensures end { IfOk result (λ end. (node_seen end.node ≡ cell_node cell) × (end.by ≡ rdf_rest)) }
     {
         let End { node, by } = self;
         push(out, node, by, Term::Blank(Blank(cell)))?;
-        let first = iri(alloc, FIRST)?;
+        let first = iris.first.try_clone()?;
         push(out, Node::Blank(Blank(cell)), first, item.try_clone()?)?;
         Ok(End {
             node: Node::Blank(Blank(cell)),
-            by: iri(alloc, REST)?,
+            by: iris.rest.try_clone()?,
         })
     }
 }

@@ -15,7 +15,7 @@ use std::alloc::Global;
 use std::hash::{BuildHasherDefault, DefaultHasher};
 use std::marker::Model;
 
-// Pages choose the predicates, so one that makes their hashes equal must be hard to write.
+// A page chooses these predicates. SipHash makes it hard to choose many with one hash.
 type Predicates = IndexSet<Iri, BuildHasherDefault<DefaultHasher>>;
 
 /// The lists of one owner, in order of their first slot or touch. A predicate is found by its hash.
