@@ -1,9 +1,11 @@
 -- What is made of texts with a scheme.
 use Rattle.std.proofs.Common.{◌≡◌, ◌∙◌, true, [], ◌∷◌, ◌++◌, append_assoc, sym, ap, subst}
+use Rattle.std.specs.Prelude.{bytes_eq}
+use Rattle.std.specs.Cmp.Lexicographic.{bytes_decides}
 use Rattle.rx_terms.specs.Text.{Chars}
 use Rattle.rx_terms.specs.Iri.{IsIri, has_scheme}
 use Rattle.rx_refs.specs.Resolve.{cleaned}
-use Rattle.rx_refs.proofs.SchemeLemmas.{cut-scheme, cleaned-has-scheme, cleaned-clean, cleaned-append, has_scheme-cut}
+use Rattle.rx_refs.proofs.SchemeLemmas.{cut-scheme, cleaned-has-scheme, cleaned-clean, cleaned-append, has_scheme-cut, uncleaned}
 
 pub clean-iri : (text : Chars) → has_scheme text ≡ true → IsIri (cleaned text)
 clean-iri text h =
@@ -22,3 +24,7 @@ text-iri text made h e = subst IsIri (sym e) (clean-iri text h)
 -- a text that was written in two pieces
 pub two-pieces : (empty one two : Chars) (a b : Chars) → empty ≡ [] → one ≡ empty ++ cleaned a → two ≡ one ++ cleaned b → two ≡ cleaned (a ++ b)
 two-pieces empty one two a b e f g = g ∙ ap (λ (x : Chars). x ++ cleaned b) (f ∙ ap (λ (x : Chars). x ++ cleaned a) e) ∙ sym (cleaned-append a b)
+
+-- an IRI has nothing to be escaped, so it is what would be made of its characters
+pub kept-same : (text iri : Chars) → IsIri iri → bytes_eq text iri ≡ true → iri ≡ cleaned text
+kept-same text iri form t = let same : text ≡ iri = (bytes_decides text iri).0 t in sym (ap cleaned same ∙ uncleaned iri form.clean)

@@ -5,6 +5,7 @@ ghost use Rattle.rx_rdfa.specs.Facts as the;
 ghost use Rattle.rx_curie.specs.Seen.{kind_seen};
 
 use crate::literals::{is_word, language, own_vocabulary, vocabulary};
+use crate::makers::IriMaker;
 use crate::nodes::Nodes2;
 use crate::parts::{Content, Links, Resources};
 use crate::refs::Ref;
@@ -84,7 +85,7 @@ pub enum FactsError {
 }
 
 impl Facts {
-    ghost use Rattle.std.specs.Prelude.{◌≡◌, List, ◌∷◌, false, true, IfOk, IfErr, IsErrOf, OnOk};
+    ghost use Rattle.std.specs.Prelude.{◌≡◌, List, ◌∷◌, length, false, true, IfOk, IfErr, IsErrOf, OnOk};
     ghost use Rattle.rx_rdfa.specs.Tree.{Tag as StartTag};
     ghost use Rattle.rx_rdfa.specs.Refusals.{is_relative};
     ghost use Rattle.rx_rdfa.specs.Facts as the;
@@ -98,7 +99,11 @@ impl Facts {
     /// answered: `RelativeVocab` where the tag declares a vocabulary without a scheme, `XmlLiteral` where it has `property`
     /// and a datatype that reads as rdf:XMLLiteral, `HtmlLiteral` where that is rdf:HTML. Where an element around declares
     /// the vocabulary in force, and that has no scheme, the answer is `RelativeVocab` too.
-    pub fn of(alloc: Global, tag: &Tag<'_>, names: &NamesView<'_>) -> Result<Facts, FactsError>
+    pub fn of(
+        maker: &mut IriMaker,
+        tag: &Tag<'_>,
+        names: &NamesView<'_>,
+    ) -> Result<Facts, FactsError>
         ensures line { (above : List StartTag) → Stands (names_seen names.now) (tag_of tag.now ∷ above)
             → is_relative (vocabulary_from above (tag_of tag.now)) ≡ false
             → Gives result (the.facts (names_seen names.now).context above (tag_of tag.now)) }
@@ -109,7 +114,7 @@ impl Facts {
     {
         match refusal_of(tag, names) {
             Some(kind) => Err(FactsError::Meaning(kind)),
-            None => match Facts::read(alloc, tag, names) {
+            None => match Facts::read(maker, tag, names) {
                 Ok(facts) => Ok(facts),
                 Err(NoMemory) => Err(FactsError::NoMemory),
             },
@@ -117,18 +122,21 @@ impl Facts {
     }
 
     /// What the tag says under these names.
-    fn read(alloc: Global, tag: &Tag<'_>, names: &NamesView<'_>) -> Result<Facts, NoMemory>
+    fn read(maker: &mut IriMaker, tag: &Tag<'_>, names: &NamesView<'_>) -> Result<Facts, NoMemory>
         requires own { is_relative (own_vocabulary (tag_of tag.now)) ≡ false }
         requires vocabulary { is_relative (vocabulary_of (names_seen names.now)) ≡ false }
         ensures { IfOk result (λ facts. (line : List StartTag) → Stands (names_seen names.now) line
             → facts_seen facts ≡ the.facts_of (names_seen names.now).context line (tag_of tag.now)) }
     {
-        let resources = Resources::of(alloc, tag, names)?;
-        let links = Links::of(alloc, tag, names)?;
-        let types = types(alloc, names, attribute(tag, "typeof"))?;
-        let content = Content::of(alloc, tag, names)?;
-        let vocab = vocabulary(alloc, own_vocabulary(tag))?;
-        let lang = language(alloc, names)?;
+        if tag.count() == 0 {
+            return Facts::bare(maker.alloc, tag, names);
+        }
+        let resources = Resources::of(maker, tag, names)?;
+        let links = Links::of(maker, tag, names)?;
+        let types = types(maker, names, attribute(tag, "typeof"))?;
+        let content = Content::of(maker, tag, names)?;
+        let vocab = vocabulary(maker, own_vocabulary(tag))?;
+        let lang = language(maker.alloc, names)?;
         Ok(Facts {
             element: kind_of(tag.name()),
             about: resources.about,
@@ -144,6 +152,32 @@ impl Facts {
             datatype: content.datatype,
             inlist: attribute(tag, "inlist").is_some(),
             vocab,
+            lang,
+        })
+    }
+
+    /// What the tag says, which has no attributes.
+    fn bare(alloc: Global, tag: &Tag<'_>, names: &NamesView<'_>) -> Result<Facts, NoMemory>
+        requires { length (tag_of tag.now).attributes ≡ 0 }
+        ensures { IfOk result (λ facts. (line : List StartTag) → Stands (names_seen names.now) line
+            → facts_seen facts ≡ the.facts_of (names_seen names.now).context line (tag_of tag.now)) }
+    {
+        let lang = language(alloc, names)?;
+        Ok(Facts {
+            element: kind_of(tag.name()),
+            about: None,
+            resource: None,
+            href: None,
+            src: None,
+            rel: None,
+            rev: None,
+            property: None,
+            types: None,
+            content: None,
+            datetime: None,
+            datatype: None,
+            inlist: false,
+            vocab: None,
             lang,
         })
     }

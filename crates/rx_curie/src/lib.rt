@@ -6,9 +6,11 @@
 
 ghost use Rattle.rx_curie.specs.Seen.{SeenOneToOne};
 
+mod comparisons;
 mod facts;
 mod literals;
 mod made;
+mod makers;
 mod nodes;
 mod parts;
 mod predicates;
@@ -19,6 +21,7 @@ mod resources;
 mod types;
 
 pub use facts::{Datatype, ElementKind, Facts, FactsError};
+pub use makers::IriMaker;
 pub use nodes::Nodes2;
 pub use readings::{Reading, read_resource, read_term};
 pub use refs::Ref;

@@ -17,7 +17,7 @@ ghost use Rattle.rx_curie.specs.Given.{own_vocabulary};
 ghost use Rattle.rx_curie.specs.Seen.{datatype_seen};
 
 use crate::facts::Datatype;
-use crate::made::cleaned;
+use crate::makers::IriMaker;
 use crate::predicates::predicate;
 use rx_names::{NamesView, attribute};
 use rx_refs::has_scheme;
@@ -29,7 +29,7 @@ use std::alloc::Global;
 /// The datatype, where the attribute is there. It is read as one token; one that can't be read, and rdf:langString, count as
 /// the empty one.
 pub(crate) fn datatype(
-    alloc: Global,
+    maker: &mut IriMaker,
     names: &NamesView<'_>,
     value: Option<&str>,
 ) -> Result<Option<Datatype>, NoMemory>
@@ -41,7 +41,7 @@ pub(crate) fn datatype(
     let Some(value) = value else {
         return Ok(None);
     };
-    let datatype = predicate(alloc, names, trim(value))?;
+    let datatype = predicate(maker, names, trim(value))?;
     Ok(Some(datatype_of(datatype)))
 }
 
@@ -100,14 +100,17 @@ pub(crate) fn is_relative(vocabulary: Option<&str>) -> bool
 }
 
 /// The IRI of the vocabulary that the tag declares, where there is one.
-pub(crate) fn vocabulary(alloc: Global, declared: Option<&str>) -> Result<Option<Iri>, NoMemory>
+pub(crate) fn vocabulary(
+    maker: &mut IriMaker,
+    declared: Option<&str>,
+) -> Result<Option<Iri>, NoMemory>
     requires { is_relative (seen_slice declared) ≡ false }
     ensures { IfOk result (λ iri. iri ≡ option_map cleaned (seen_slice declared.entry)) }
 {
     let Some(declared) = declared else {
         return Ok(None);
     };
-    let iri = cleaned(alloc, declared)?;
+    let iri = maker.cleaned(declared)?;
     Ok(Some(iri))
 }
 

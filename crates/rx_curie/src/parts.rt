@@ -9,13 +9,13 @@ ghost use Rattle.rx_curie.specs.Parts.{AreResources, AreLinks, IsContent};
 
 use crate::facts::Datatype;
 use crate::literals::datatype;
+use crate::makers::IriMaker;
 use crate::predicates::{link, properties};
 use crate::refs::Ref;
 use crate::resources::{reference, resource, text};
 use rx_names::{NamesView, attribute};
 use rx_tags::Tag;
 use rx_terms::{Iris, NoMemory, Text};
-use std::alloc::Global;
 
 /// The attributes that name a resource.
 #[derive(Drop)]
@@ -44,17 +44,17 @@ pub(crate) struct Content {
 
 impl Resources {
     pub(crate) fn of(
-        alloc: Global,
+        maker: &mut IriMaker,
         tag: &Tag<'_>,
         names: &NamesView<'_>,
     ) -> Result<Resources, NoMemory>
         ensures { IfOk result (λ parts. (line : List StartTag) → Stands (names_seen names.now) line
             → AreResources (names_seen names.now).context line (tag_of tag.now) parts) }
     {
-        let about = resource(alloc, names, attribute(tag, "about"))?;
-        let resource = resource(alloc, names, attribute(tag, "resource"))?;
-        let href = reference(alloc, attribute(tag, "href"))?;
-        let src = reference(alloc, attribute(tag, "src"))?;
+        let about = resource(maker, names, attribute(tag, "about"))?;
+        let resource = resource(maker, names, attribute(tag, "resource"))?;
+        let href = reference(maker.alloc, attribute(tag, "href"))?;
+        let src = reference(maker.alloc, attribute(tag, "src"))?;
         Ok(Resources {
             about,
             resource,
@@ -65,23 +65,27 @@ impl Resources {
 }
 
 impl Links {
-    pub(crate) fn of(alloc: Global, tag: &Tag<'_>, names: &NamesView<'_>) -> Result<Links, NoMemory>
+    pub(crate) fn of(
+        maker: &mut IriMaker,
+        tag: &Tag<'_>,
+        names: &NamesView<'_>,
+    ) -> Result<Links, NoMemory>
         requires { is_relative (vocabulary_of (names_seen names.now)) ≡ false }
         ensures { IfOk result (λ parts. (line : List StartTag) → Stands (names_seen names.now) line
             → AreLinks (names_seen names.now).context line (tag_of tag.now) parts) }
     {
         let property = attribute(tag, "property");
         let beside_property = property.is_some();
-        let rel = link(alloc, names, attribute(tag, "rel"), beside_property)?;
-        let rev = link(alloc, names, attribute(tag, "rev"), beside_property)?;
-        let property = properties(alloc, names, property)?;
+        let rel = link(maker, names, attribute(tag, "rel"), beside_property)?;
+        let rev = link(maker, names, attribute(tag, "rev"), beside_property)?;
+        let property = properties(maker, names, property)?;
         Ok(Links { rel, rev, property })
     }
 }
 
 impl Content {
     pub(crate) fn of(
-        alloc: Global,
+        maker: &mut IriMaker,
         tag: &Tag<'_>,
         names: &NamesView<'_>,
     ) -> Result<Content, NoMemory>
@@ -89,9 +93,9 @@ impl Content {
         ensures { IfOk result (λ parts. (line : List StartTag) → Stands (names_seen names.now) line
             → IsContent (names_seen names.now).context line (tag_of tag.now) parts) }
     {
-        let content = text(alloc, attribute(tag, "content"))?;
-        let datetime = text(alloc, attribute(tag, "datetime"))?;
-        let datatype = datatype(alloc, names, attribute(tag, "datatype"))?;
+        let content = text(maker.alloc, attribute(tag, "content"))?;
+        let datetime = text(maker.alloc, attribute(tag, "datetime"))?;
+        let datatype = datatype(maker, names, attribute(tag, "datatype"))?;
         Ok(Content {
             content,
             datetime,

@@ -9,16 +9,16 @@ ghost use Rattle.rx_names.specs.Lines.{Stands, vocabulary_of};
 ghost use Rattle.rx_names.specs.Views.{names_seen};
 
 use crate::made::iri_of;
+use crate::makers::IriMaker;
 use crate::readings::{read_no_term, read_term};
 use rx_names::{NamesView, is_term};
 use rx_terms::{Iri, Iris, NoMemory};
 use rx_words::first_token;
-use std::alloc::Global;
 
 /// The predicates of `rel` or `rev` where the attribute counts as present. Beside `property` only CURIEs and texts with a
 /// scheme are kept, and an attribute that keeps none counts as absent (HTML+RDFa 1.1, section 3.1).
 pub(crate) fn link(
-    alloc: Global,
+    maker: &mut IriMaker,
     names: &NamesView<'_>,
     value: Option<&str>,
     beside_property: bool,
@@ -31,15 +31,15 @@ pub(crate) fn link(
         return Ok(None);
     };
     if beside_property {
-        return kept_predicates(alloc, names, value);
+        return kept_predicates(maker, names, value);
     }
-    let iris = predicates(alloc, names, value)?;
+    let iris = predicates(maker, names, value)?;
     Ok(Some(iris))
 }
 
 /// The predicates of `property`, where the attribute is there.
 pub(crate) fn properties(
-    alloc: Global,
+    maker: &mut IriMaker,
     names: &NamesView<'_>,
     value: Option<&str>,
 ) -> Result<Option<Iris>, NoMemory>
@@ -50,20 +50,20 @@ pub(crate) fn properties(
     let Some(value) = value else {
         return Ok(None);
     };
-    let iris = predicates(alloc, names, value)?;
+    let iris = predicates(maker, names, value)?;
     Ok(Some(iris))
 }
 
 /// The predicates that the tokens name, in order.
-fn predicates(alloc: Global, names: &NamesView<'_>, value: &str) -> Result<Iris, NoMemory>
+fn predicates(maker: &mut IriMaker, names: &NamesView<'_>, value: &str) -> Result<Iris, NoMemory>
     requires { is_relative (vocabulary_of (names_seen names.now)) ≡ false }
     ensures { IfOk result (λ iris. (line : List Tag) → Stands (names_seen names.now) line
         → iris ≡ the.predicates (names_seen names.now).context line (chars value.now)) }
 {
-    let mut iris = Iris::new(alloc);
+    let mut iris = Iris::new(maker.alloc);
     let mut rest = value;
     while let Some((token, behind)) = first_token(rest) {
-        push_predicate(alloc, &mut iris, names, token)?;
+        push_predicate(maker, &mut iris, names, token)?;
         rest = behind;
     }
     Ok(iris)
@@ -71,7 +71,7 @@ fn predicates(alloc: Global, names: &NamesView<'_>, value: &str) -> Result<Iris,
 
 /// The predicates of the tokens that are kept beside `property`, where there is one.
 fn kept_predicates(
-    alloc: Global,
+    maker: &mut IriMaker,
     names: &NamesView<'_>,
     value: &str,
 ) -> Result<Option<Iris>, NoMemory>
@@ -79,12 +79,12 @@ fn kept_predicates(
     ensures { IfOk result (λ iris. (line : List Tag) → Stands (names_seen names.now) line
         → iris ≡ the.link (names_seen names.now).context line true (chars value.now)) }
 {
-    let mut iris = Iris::new(alloc);
+    let mut iris = Iris::new(maker.alloc);
     let mut is_present = false;
     let mut rest = value;
     while let Some((token, behind)) = first_token(rest) {
         if stays_beside_property(names, token) {
-            push_predicate(alloc, &mut iris, names, token)?;
+            push_predicate(maker, &mut iris, names, token)?;
             is_present = true;
         }
         rest = behind;
@@ -108,7 +108,7 @@ fn stays_beside_property(names: &NamesView<'_>, token: &str) -> bool
 
 /// Adds the predicate that the token names, if it does.
 fn push_predicate(
-    alloc: Global,
+    maker: &mut IriMaker,
     iris: &mut Iris,
     names: &NamesView<'_>,
     token: &str,
@@ -117,7 +117,7 @@ fn push_predicate(
     ensures { OnOk result ((line : List Tag) → Stands (names_seen names.now) line
         → iris.new ≡ iris.old ++ option_to_list (the.predicate (names_seen names.now).context line (chars token.now))) }
 {
-    match predicate(alloc, names, token)? {
+    match predicate(maker, names, token)? {
         Some(iri) => iris.push(iri),
         None => Ok(()),
     }
@@ -125,7 +125,7 @@ fn push_predicate(
 
 /// The predicate or datatype that the token names: a blank node is none.
 pub(crate) fn predicate(
-    alloc: Global,
+    maker: &mut IriMaker,
     names: &NamesView<'_>,
     token: &str,
 ) -> Result<Option<Iri>, NoMemory>
@@ -134,7 +134,7 @@ pub(crate) fn predicate(
         → iri ≡ the.predicate (names_seen names.now).context line (chars token.now)) }
 {
     match read_term(names, token) {
-        Some(reading) => iri_of(alloc, reading),
+        Some(reading) => iri_of(maker, reading),
         None => Ok(None),
     }
 }

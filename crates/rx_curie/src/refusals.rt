@@ -15,12 +15,13 @@ ghost use Rattle.rx_curie.specs.Given.{own_vocabulary, vocabulary_from, kind_of,
 ghost use Rattle.rx_curie.specs.Refusing.{is_iri, is_uncleaned, markup, markup_of, kind_or_none};
 ghost use Rattle.rx_curie.specs.Seen.{reading_seen};
 
+use crate::comparisons::are_text;
 use crate::literals::{is_relative, is_word, own_vocabulary};
 use crate::readings::{Reading, read_term};
 use rx_grammar::Kind;
 use rx_names::{NamesView, attribute};
 use rx_tags::Tag;
-use rx_words::{behind, trim};
+use rx_words::trim;
 
 /// The fault for which a start tag is refused under these names, or `None` exactly where it has facts. The first that holds
 /// is answered: `RelativeVocab` where the tag declares a vocabulary without a scheme, `XmlLiteral` where it has `property` and
@@ -98,14 +99,5 @@ fn are_word(front: &str, more: &str, word: &str) -> bool
     requires { list_all is_ascii word.now ≡ true }
     ensures { result ≡ bytes_eq (chars front.now ++ chars more.now) word.now }
 {
-    match behind(word, front) {
-        Some(rest) => is_same(more, rest),
-        None => false,
-    }
-}
-
-fn is_same(a: &str, b: &str) -> bool
-    ensures { result ≡ bytes_eq (chars a.now) (chars b.now) }
-{
-    a == b
+    are_text(front, more, word)
 }

@@ -8,6 +8,7 @@ ghost use Rattle.rx_names.specs.Views.{names_seen};
 ghost use Rattle.rx_curie.specs.Seen.{ref_seen};
 
 use crate::made::ref_of;
+use crate::makers::IriMaker;
 use crate::readings::read_resource;
 use crate::refs::Ref;
 use rx_names::NamesView;
@@ -17,7 +18,7 @@ use std::alloc::Global;
 /// The resource of `about` or `resource`, where the attribute counts as present: brackets without a CURIE inside make it
 /// absent.
 pub(crate) fn resource(
-    alloc: Global,
+    maker: &mut IriMaker,
     names: &NamesView<'_>,
     value: Option<&str>,
 ) -> Result<Option<Ref>, NoMemory>
@@ -30,7 +31,7 @@ pub(crate) fn resource(
     let Some(reading) = read_resource(names, value) else {
         return Ok(None);
     };
-    let resource = ref_of(alloc, reading)?;
+    let resource = ref_of(maker, reading)?;
     Ok(Some(resource))
 }
 

@@ -1,4 +1,4 @@
-use crate::{Datatype, ElementKind, Facts, FactsError, Nodes2, Ref};
+use crate::{Datatype, ElementKind, Facts, FactsError, IriMaker, Nodes2, Ref};
 use rx_names::{Context, Names};
 use rx_tags::{Syntax, Tag, TagBuf, TagStep};
 use rx_terms::{Iri, Iris, NoMemory};
@@ -10,13 +10,14 @@ use std::test::Fail;
 fn facts_at(alloc: Global, tags: &[u8]) -> Result<String, Fail> {
     let context = Context::standard(alloc)?;
     let mut names = Names::new(alloc, context, 512)?;
+    let mut maker = IriMaker::new(alloc)?;
     let mut buf = TagBuf::new(alloc, Syntax::Html)?;
     let mut answer = String::new(alloc);
     for i in 0..tags.len() {
         match buf.step(char::from(tags[i])) {
             Ok(TagStep::More) => {}
             Ok(TagStep::Done) => {
-                answer = facts_of(alloc, &mut names, &buf.tag(0, 0))?;
+                answer = facts_of(alloc, &mut maker, &mut names, &buf.tag(0, 0))?;
                 buf.clear();
             }
             Err(error) => return Err(Fail::from(error)),
@@ -25,9 +26,14 @@ fn facts_at(alloc: Global, tags: &[u8]) -> Result<String, Fail> {
     Ok(answer)
 }
 
-fn facts_of(alloc: Global, names: &mut Names, tag: &Tag<'_>) -> Result<String, Fail> {
+fn facts_of(
+    alloc: Global,
+    maker: &mut IriMaker,
+    names: &mut Names,
+    tag: &Tag<'_>,
+) -> Result<String, Fail> {
     names.push(tag)?;
-    match Facts::of(alloc, tag, &names.view()) {
+    match Facts::of(maker, tag, &names.view()) {
         Ok(facts) => Ok(shown(alloc, &facts)?),
         Err(FactsError::Meaning(kind)) => Ok(format!(in alloc; "{kind:?}")?),
         Err(FactsError::NoMemory) => Err(Fail::from(NoMemory)),
@@ -123,7 +129,7 @@ fn push_types(text: &mut String, types: &Option<Nodes2>) -> Result<(), AllocErro
 
 #[test]
 fn facts_of_tags(rt: HostRuntime) -> Result<(), Fail> {
-    let rows: [(&[u8], &str); 50] = [
+    let rows: [(&[u8], &str); 52] = [
         (b"p>", ""),
         (b"head>", "Head "),
         (b"body>", "Body "),
@@ -162,6 +168,15 @@ fn facts_of_tags(rt: HostRuntime) -> Result<(), Fail> {
             "property=http://www.w3.org/1999/xhtml/vocab#license =http://www.w3.org/1999/xhtml/vocab#license  ",
         ),
         (b"p property=' '>", "property "),
+        // an IRI that comes again, and two that a maker keeps in one place
+        (
+            b"div prefix='e: http://v.example/' typeof='e:T'>p property='e:p e:q e:p' typeof='e:T http://v.example/T'>",
+            "property=http://v.example/p =http://v.example/q =http://v.example/p  types=http://v.example/T =http://v.example/T  ",
+        ),
+        (
+            b"p property='dc:abstract dc:spatial dc:abstract dc:spatial'>",
+            "property=http://purl.org/dc/terms/abstract =http://purl.org/dc/terms/spatial =http://purl.org/dc/terms/abstract =http://purl.org/dc/terms/spatial  ",
+        ),
         // brackets, terms under a vocabulary, a blank node as a predicate
         (
             b"div vocab='http://v.example/'>p about='[dc:x]' property='t license _:b'>",

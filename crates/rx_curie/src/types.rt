@@ -11,16 +11,16 @@ ghost use Rattle.rx_names.specs.Views.{names_seen};
 ghost use Rattle.rx_curie.specs.Seen.{refs_seen};
 
 use crate::made::ref_of;
+use crate::makers::IriMaker;
 use crate::nodes::Nodes2;
 use crate::readings::read_term;
 use rx_names::NamesView;
 use rx_terms::NoMemory;
 use rx_words::first_token;
-use std::alloc::Global;
 
 /// The types, where the attribute is there.
 pub(crate) fn types(
-    alloc: Global,
+    maker: &mut IriMaker,
     names: &NamesView<'_>,
     value: Option<&str>,
 ) -> Result<Option<Nodes2>, NoMemory>
@@ -31,20 +31,20 @@ pub(crate) fn types(
     let Some(value) = value else {
         return Ok(None);
     };
-    let types = types_of(alloc, names, value)?;
+    let types = types_of(maker, names, value)?;
     Ok(Some(types))
 }
 
 /// The types that the tokens name, in order.
-fn types_of(alloc: Global, names: &NamesView<'_>, value: &str) -> Result<Nodes2, NoMemory>
+fn types_of(maker: &mut IriMaker, names: &NamesView<'_>, value: &str) -> Result<Nodes2, NoMemory>
     requires { is_relative (vocabulary_of (names_seen names.now)) ≡ false }
     ensures { IfOk result (λ types. (line : List Tag) → Stands (names_seen names.now) line
         → refs_seen types ≡ the.types_of (names_seen names.now).context line (chars value.now)) }
 {
-    let mut types = Nodes2::new(alloc);
+    let mut types = Nodes2::new(maker.alloc);
     let mut rest = value;
     while let Some((token, behind)) = first_token(rest) {
-        push_type(alloc, &mut types, names, token)?;
+        push_type(maker, &mut types, names, token)?;
         rest = behind;
     }
     Ok(types)
@@ -52,7 +52,7 @@ fn types_of(alloc: Global, names: &NamesView<'_>, value: &str) -> Result<Nodes2,
 
 /// Adds the type that the token names, if it does.
 fn push_type(
-    alloc: Global,
+    maker: &mut IriMaker,
     types: &mut Nodes2,
     names: &NamesView<'_>,
     token: &str,
@@ -65,6 +65,6 @@ fn push_type(
     let Some(reading) = read_term(names, token) else {
         return Ok(());
     };
-    let node = ref_of(alloc, reading)?;
+    let node = ref_of(maker, reading)?;
     types.push(node)
 }

@@ -1,7 +1,7 @@
 use Rattle.std.specs.Str.{chars}
 use Rattle.rx_terms.proofs.OkLemmas.{ok_is}
 use Rattle.rx_curie.proofs.MadeLemmas.{text-iri}
-use Rattle.rx_curie.proofs.made.cleaned.Goals as goal
+use Rattle.rx_curie.proofs.makers.cleaned.Goals as goal
 
 pub of_text-requires : goal.of_text-requires
 of_text-requires c = text-iri (chars c.args.iri.now) c.in_ok-text.text c.requires c.in_ok-text.ensures

@@ -4,7 +4,7 @@ use Rattle.std.specs.Str.{chars}
 use Rattle.std.proofs.lemmas.Str.{chars-nil}
 use Rattle.rx_terms.proofs.OkLemmas.{ok_is}
 use Rattle.rx_curie.proofs.MadeLemmas.{text-iri, two-pieces, scheme-more}
-use Rattle.rx_curie.proofs.made.joined.Goals as goal
+use Rattle.rx_curie.proofs.makers.joined.Goals as goal
 
 pub of_text-requires : goal.of_text-requires
 of_text-requires c =

@@ -1,0 +1,10 @@
+use Rattle.std.proofs.Common.{◌∙◌, ◌++◌, ap}
+use Rattle.std.specs.Str.{chars}
+use Rattle.std.proofs.lemmas.Str.{chars-nil}
+use Rattle.rx_terms.specs.Text.{Chars}
+use Rattle.rx_terms.proofs.OkLemmas.{ok_is}
+use Rattle.rx_refs.specs.Resolve.{cleaned}
+use Rattle.rx_curie.proofs.makers.IriMaker.cleaned.Goals as goal
+
+pub returns-in-Some : goal.returns-in-Some
+returns-in-Some c = ok_is c.try_clone.result (c.in-Some.ensures ∙ ap (λ (front : Chars). cleaned (front ++ chars c.args.iri.now)) chars-nil) c.try_clone.ensures

@@ -1,0 +1,120 @@
+//! The IRIs of readings, of which a page has few, and most of them many times.
+ghost use Rattle.std.specs.Prelude.{◌≡◌, ◌++◌, true, IfOk, IfSome};
+ghost use Rattle.std.specs.Str.{chars};
+ghost use Rattle.rx_terms.specs.Iri.{has_scheme};
+ghost use Rattle.rx_refs.specs.Resolve.{cleaned};
+
+use crate::comparisons::are_text;
+use rx_refs::{clean, push_clean};
+use rx_terms::{Iri, NoMemory, Text};
+use std::alloc::Global;
+
+/// How many IRIs a maker keeps.
+const PLACES: usize = 256;
+
+/// An odd number whose bits are mixed (2^64 through the golden ratio): each byte of a text moves the highest bits.
+const MIXER: u64 = 0x9E37_79B9_7F4A_7C15;
+
+/// Makes the IRIs of readings, and keeps those that it made lately, so that one that comes again is shared. An IRI that is
+/// shared is the one that would be made, so what is kept is no part of any contract.
+#[derive(Drop)]
+pub struct IriMaker {
+    pub(crate) alloc: Global,
+    // An IRI stands in the place of its text, where the next one that has this place takes its stead.
+    places: Vec<Option<Iri>>,
+}
+
+impl IriMaker {
+    /// A maker that keeps no IRI yet.
+    pub fn new(alloc: Global) -> Result<IriMaker, NoMemory> {
+        let mut places = Vec::new(alloc);
+        places.resize_with(PLACES, || None)?;
+        Ok(IriMaker { alloc, places })
+    }
+
+    /// The IRI, with escapes for the characters that no IRI may have.
+    pub(crate) fn cleaned(&mut self, iri: &str) -> Result<Iri, NoMemory>
+        requires { has_scheme (chars iri.now) ≡ true }
+        ensures { IfOk result (λ made. made ≡ cleaned (chars iri.now)) }
+    {
+        let place = place_of("", iri);
+        if let Some(kept) = self.kept(place, "", iri) {
+            return kept.try_clone();
+        }
+        let made = cleaned(self.alloc, iri)?;
+        self.keep(place, &made)?;
+        Ok(made)
+    }
+
+    /// The IRI of these two parts, with the same escapes.
+    pub(crate) fn joined(&mut self, front: &str, more: &str) -> Result<Iri, NoMemory>
+        requires { has_scheme (chars front.now) ≡ true }
+        ensures { IfOk result (λ made. made ≡ cleaned (chars front.now ++ chars more.now)) }
+    {
+        let place = place_of(front, more);
+        if let Some(kept) = self.kept(place, front, more) {
+            return kept.try_clone();
+        }
+        let made = joined(self.alloc, front, more)?;
+        self.keep(place, &made)?;
+        Ok(made)
+    }
+
+    /// The IRI that is kept in the place, if its characters are those of the two parts.
+    fn kept(&self, place: usize, front: &str, more: &str) -> Option<&Iri>
+        ensures { IfSome result (λ iri. iri.now ≡ cleaned (chars front.now ++ chars more.now)) }
+    {
+        let Some(Some(iri)) = self.places.get(place) else {
+            return None;
+        };
+        if !is_joined(iri, front, more) {
+            return None;
+        }
+        Some(iri)
+    }
+
+    /// Keeps the IRI in the place.
+    fn keep(&mut self, place: usize, iri: &Iri) -> Result<(), NoMemory> {
+        if let Some(kept) = self.places.get_mut(place) {
+            *kept = Some(iri.try_clone()?);
+        }
+        Ok(())
+    }
+}
+
+/// Whether the IRI's characters are those of the two parts, which then have none to be escaped.
+fn is_joined(iri: &Iri, front: &str, more: &str) -> bool
+    ensures { result ≡ true → iri.now ≡ cleaned (chars front.now ++ chars more.now) }
+{
+    are_text(front, more, iri.as_str())
+}
+
+/// The place of the IRI of these two parts. Texts may share one, so that only the last of them is kept.
+fn place_of(front: &str, more: &str) -> usize {
+    let mut number = front.len() as u64;
+    for byte in more.as_bytes() {
+        number = number.wrapping_add(u64::from(*byte)).wrapping_mul(MIXER);
+    }
+    // the highest eight bits
+    (number >> 56) as usize
+}
+
+/// A new IRI, with escapes for the characters that no IRI may have.
+fn cleaned(alloc: Global, iri: &str) -> Result<Iri, NoMemory>
+    requires { has_scheme (chars iri.now) ≡ true }
+    ensures { IfOk result (λ made. made ≡ cleaned (chars iri.now)) }
+{
+    let text = clean(alloc, iri)?;
+    Iri::of_text(alloc, text)
+}
+
+/// A new IRI of these two parts, with the same escapes.
+fn joined(alloc: Global, iri: &str, more: &str) -> Result<Iri, NoMemory>
+    requires { has_scheme (chars iri.now) ≡ true }
+    ensures { IfOk result (λ made. made ≡ cleaned (chars iri.now ++ chars more.now)) }
+{
+    let mut text = String::with_capacity(alloc, iri.len().saturating_add(more.len()))?;
+    push_clean(&mut text, iri)?;
+    push_clean(&mut text, more)?;
+    Iri::of_text(alloc, Text::of_string(text))
+}
