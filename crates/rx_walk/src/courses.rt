@@ -17,7 +17,7 @@ ghost use Rattle.rx_walk.specs.Courses.{Runs, MayHear, FactsGive, Hears};
 use crate::origins::Origin;
 use crate::seeking::Sought;
 use crate::stages::{Head, Stage};
-use rx_curie::{Facts, FactsError};
+use rx_curie::{Facts, FactsError, IriMaker};
 use rx_names::{Context, Names};
 use rx_nest::{Event, Fault, Stop, Tag};
 use rx_terms::{Iri, NoMemory};
@@ -28,17 +28,19 @@ use std::alloc::Global;
 pub(crate) struct Course {
     pub(crate) origin: Origin,
     pub(crate) names: Names,
+    /// Makes the IRIs of all tags, so that those that come often are kept once.
+    pub(crate) maker: IriMaker,
     /// How many elements are open.
     pub(crate) count: u32,
     pub(crate) stage: Stage,
 }
 
 /// What the start tag says, or the fault for which it is refused.
-fn facts_of(alloc: Global, tag: &Tag<'_>, names: &Names) -> Result<Facts, Stop>
+fn facts_of(maker: &mut IriMaker, tag: &Tag<'_>, names: &Names) -> Result<Facts, Stop>
     ensures line { (above : List StartTag) → lines.Stands names.now (tag_of tag.now ∷ above) → is_relative (vocabulary_from above (tag_of tag.now)) ≡ false → FactsGive names.now.context above (tag_shown tag.now) result }
     ensures absolute { OnOk result (is_relative (lines.vocabulary_of names.now) ≡ false) }
 {
-    match Facts::of(alloc, tag, &names.view()) {
+    match Facts::of(maker, tag, &names.view()) {
         Ok(facts) => Ok(facts),
         Err(FactsError::Meaning(kind)) => Err(Stop::Fault(Fault {
             kind,
@@ -68,6 +70,7 @@ impl Course {
         ensures { IfOk result (λ course. Runs context address levels course []) }
     {
         let names = Names::new(alloc, context, levels)?;
+        let maker = IriMaker::new(alloc)?;
         Ok(Course {
             origin: Origin {
                 alloc,
@@ -75,6 +78,7 @@ impl Course {
                 levels,
             },
             names,
+            maker,
             count: 0,
             stage: Stage::Seeking(Head {
                 sought: Sought::FirstChild,
@@ -104,7 +108,7 @@ impl Course {
         let Ok(()) = self.names.push(tag) else {
             return Err(Stop::NoMemory);
         };
-        let facts = match facts_of(self.origin.alloc, tag, &self.names) {
+        let facts = match facts_of(&mut self.maker, tag, &self.names) {
             Ok(facts) => facts,
             Err(stop) => return Err(stop),
         };

@@ -12,7 +12,7 @@ use Rattle.rx_walk.proofs.courses.Course.begin.Goals as goal
 
 pub returns-in-Err : goal.returns-in-Err
 returns-in-Err c context address levels signs r f =
-    begin_refused context address levels c.args.self.now (record { origin = c.args.self.now.origin; names = c.push.new.self; count = c.args.self.now.count; stage = c.args.self.now.stage }) signs r c.push.new.self
+    begin_refused context address levels c.args.self.now (record { origin = c.args.self.now.origin; names = c.push.new.self; maker = c.facts_of.new.maker; count = c.args.self.now.count; stage = c.args.self.now.stage }) signs r c.push.new.self
     (tag_shown c.args.tag.now) c.in-Err.stop (ap (λ (k : Kept). k.context) c.in-Ok.ensures.ok)
     (c.in-Err.ensures.line (line_of [] signs) (c.in-Ok.ensures.line (line_of [] signs) r.names_are) (from_absolute (tag_of c.args.tag.now) (line_of [] signs) r.absolute))
 
@@ -38,7 +38,7 @@ returns c context address levels signs r f =
     let g = begin_facts context address levels c.args.self.now c.args.self.now signs r c.push.new.self (tag_shown c.args.tag.now) c.in-Ok-facts_of.facts (ap (λ (k : Kept). k.context) c.in-Ok.ensures.ok)
     (c.in-Ok-facts_of.ensures.line line stands (from_absolute (tag_of c.args.tag.now) line r.absolute)) in
     let size : c.one_more-self.result ≡ length line + 1 = omega (arith, c.one_more-self.ensures, r.count_is) in
-    runs_more context address levels c.args.self.now (record { origin = c.args.self.now.origin; names = c.push.new.self; count = c.one_more-self.result; stage = c.begin.new.self }) signs r (begun (tag_shown c.args.tag.now)) f
+    runs_more context address levels c.args.self.now (record { origin = c.args.self.now.origin; names = c.push.new.self; maker = c.facts_of.new.maker; count = c.one_more-self.result; stage = c.begin.new.self }) signs r (begun (tag_shown c.args.tag.now)) f
     stands (ap (λ (k : Kept). k.context) c.in-Ok.ensures.ok) refl (omega (arith, size))
     (absolute_more c.push.new.self line (tag_of c.args.tag.now) r.absolute stands c.in-Ok-facts_of.ensures.absolute) g.1
     (subst (λ x. Tells c.args.self.now.origin (λ s. seek_begun c.args.self.now.count s (tag_of c.args.tag.now)) (Enter x ∷ []) c.args.self.now.stage c.begin.new.self) g.0 c.in-Ok-begin.ensures)
