@@ -6,3 +6,5 @@ pub mod PatternLemmas
 pub mod ReachLemmas
 pub mod PlaceLemmas
 pub mod NumberedLemmas
+pub mod FirstLemmas
+pub mod GivenLemmas

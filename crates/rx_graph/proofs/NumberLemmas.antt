@@ -1,5 +1,5 @@
 -- Numbering from left to right.
-use Rattle.std.proofs.Common.{◌≡◌, ℕ, suc, ◌+◌, Bool, true, false, ◌||◌, List, [], ◌∷◌, ◌++◌, map, length, refl, sym, ap, ap₂, ◌∙◌, inl, inr, true≢false, if◌then◌else◌, nat_eq, arith, append_assoc, append-nil, cond, take, slice_get, Some, ◌≤◌}
+use Rattle.std.proofs.Common.{◌≡◌, ℕ, suc, ◌+◌, Bool, true, false, ◌||◌, List, [], ◌∷◌, ◌++◌, map, refl, sym, ap, ap₂, ◌∙◌, inl, inr, true≢false, if◌then◌else◌, nat_eq, arith, append_assoc, append-nil, cond, take, slice_get, Some}
 use Rattle.rx_model.specs.Sets.{Among, contains, distinct}
 use Rattle.rx_model.specs.Terms.{Node, Iri, Blank, Term, Resource, Literal, Triple, same_triple}
 use Rattle.rx_model.specs.Numbered.{blank_of_node, blank_of_term, blanks_of, blanks, place_in, rename_node, rename_term, rename, numbered}
@@ -10,13 +10,12 @@ use Rattle.rx_graph.specs.Numbering.{known_one, known}
 use Rattle.rx_terms.specs.declared.triples.Blank.{Blank as CodeBlank}
 use Rattle.rx_terms.specs.declared.triples.Triple.{Triple as CodeTriple}
 use Rattle.rx_model.specs.Seen.{triple_seen, triples_seen}
-use Rattle.rx_graph.specs.Graph.{added}
 use Rattle.indexmap.specs.IndexSet.{insert_key}
 use Rattle.std.specs.List.{position_or_len}
-use Rattle.std.proofs.lemmas.List.{map-append, take_all}
+use Rattle.std.proofs.lemmas.List.{map-append}
 use Rattle.std.proofs.lemmas.List.Recursion.{is_position_or_len}
 use Rattle.rx_graph.proofs.CodeEq.{blank_eq, exact_blank}
-use Rattle.rx_graph.proofs.SetLemmas.{distinct_grows, graph_grows, same_truth, insert_seen, seen_more, distinct_apart}
+use Rattle.rx_graph.proofs.SetLemmas.{distinct_grows, same_truth, insert_seen, seen_more, distinct_apart}
 
 abbrev pub number_of : CodeBlank → ℕ
 number_of b = b.0
@@ -147,17 +146,17 @@ module _ (list : List CodeTriple) (i : ℕ) (t : CodeTriple) (at : slice_get lis
   places_stay : (b : ℕ) → Among (blanks (triples_seen (take i list))) b → place_in nat_eq numbers b ≡ place_in nat_eq more b
   places_stay b m = rw grows (sym ((kept_known numbers (blanks_of (triple_seen t))).places b (ap (λ z. contains nat_eq z b) before ∙ in_table (triples_seen (take i list)) b m)))
 
-  pub relabel_turn : (old new : List CodeTriple) (u : CodeTriple)
-      → triples_seen old ≡ distinct (same_triple nat_eq) (map (rename (place_in nat_eq numbers)) (triples_seen (take i list)))
-      → triple_seen u ≡ rename (place_in nat_eq more) (triple_seen t)
-      → triples_seen new ≡ added (triples_seen old) (triple_seen u)
-      → triples_seen new ≡ distinct (same_triple nat_eq) (map (rename (place_in nat_eq more)) (triples_seen (take (i + 1) list)))
-  relabel_turn old new u a b c =
+  -- and its number in place of each of its blank nodes
+  pub front_turn : (old new : List (Triple ℕ)) (u : Triple ℕ)
+      → old ≡ map (rename (place_in nat_eq numbers)) (triples_seen (take i list))
+      → u ≡ rename (place_in nat_eq more) (triple_seen t)
+      → new ≡ old ++ u ∷ []
+      → new ≡ map (rename (place_in nat_eq more)) (triples_seen (take (i + 1) list))
+  front_turn old new u a b c =
       let front : map (rename (place_in nat_eq numbers)) (triples_seen (take i list)) ≡ map (rename (place_in nat_eq more)) (triples_seen (take i list)) =
       same_list_by (place_in nat_eq numbers) (place_in nat_eq more) (triples_seen (take i list)) places_stay in
-      c ∙ ap₂ added (a ∙ ap (distinct (same_triple nat_eq)) front) b
-      ∙ graph_grows (map (rename (place_in nat_eq more)) (triples_seen (take i list))) (rename (place_in nat_eq more) (triple_seen t))
-      ∙ ap (distinct (same_triple nat_eq)) (sym (map-append (rename (place_in nat_eq more)) (triples_seen (take i list)) (triple_seen t ∷ [])) ∙ ap (map (rename (place_in nat_eq more))) (sym (seen_more list i t at)))
+      c ∙ ap₂ (λ z w. z ++ w ∷ []) (a ∙ front) b
+      ∙ sym (map-append (rename (place_in nat_eq more)) (triples_seen (take i list)) (triple_seen t ∷ [])) ∙ ap (map (rename (place_in nat_eq more))) (sym (seen_more list i t at))
 
 -- ---- the whole list
 
@@ -184,25 +183,14 @@ module _ (table : List ℕ) where
       let p = ap (λ (x : Triple ℕ). x.predicate) e in
       λ i. record { subject = s i; predicate = p i; object = o i }
 
-pub relabelled : (list : List (Triple ℕ)) → distinct (same_triple nat_eq) list ≡ list
-    → distinct (same_triple nat_eq) (map (rename (place_in nat_eq (distinct nat_eq (blanks list)))) list) ≡ numbered nat_eq list
-relabelled list once =
+-- numbering keeps a list without repeats
+pub numbered_once : (list : List (Triple ℕ)) → distinct (same_triple nat_eq) list ≡ list → distinct (same_triple nat_eq) (numbered nat_eq list) ≡ numbered nat_eq list
+numbered_once list once =
     let table : List ℕ = distinct nat_eq (blanks list) in
     let inside : (t : Triple ℕ) → Among list t → (b : ℕ) → Among (blanks_of t) b → Among table b = λ t m b h. Among_distinct nat_eq exact_numbers (blanks list) b (Among_flat_map blanks_of list t b m h) in
     distinct_apart (same_triple nat_eq) (exact_triples nat_eq exact_numbers) (same_triple nat_eq) (exact_triples nat_eq exact_numbers) (rename (place_in nat_eq table)) list
     (λ t u m n e. triple_apart table t u (inside t m) (inside u n) e)
     ∙ ap (map (rename (place_in nat_eq table))) once
-
--- at the end of the list
-pub relabel_end : (list : List CodeTriple) (i : ℕ) (numbers : List ℕ) (new : List CodeTriple) → length list ≤ i
-    → distinct (same_triple nat_eq) (triples_seen list) ≡ triples_seen list
-    → numbers ≡ distinct nat_eq (blanks (triples_seen (take i list)))
-    → triples_seen new ≡ distinct (same_triple nat_eq) (map (rename (place_in nat_eq numbers)) (triples_seen (take i list)))
-    → triples_seen new ≡ numbered nat_eq (triples_seen list)
-relabel_end list i numbers new all once a b =
-    b ∙ ap (λ z. distinct (same_triple nat_eq) (map (rename (place_in nat_eq z)) (triples_seen (take i list)))) a
-    ∙ ap (λ z. distinct (same_triple nat_eq) (map (rename (place_in nat_eq (distinct nat_eq (blanks (triples_seen z))))) (triples_seen z))) (take_all i list all)
-    ∙ relabelled (triples_seen list) once
 
 -- ---- the place of one that is known
 

@@ -106,13 +106,6 @@ one_more list i a at =
 pub seen_more : (list : List CodeTriple) (i : ℕ) (t : CodeTriple) → slice_get list i ≡ Some t → triples_seen (take (i + 1) list) ≡ triples_seen (take i list) ++ triple_seen t ∷ []
 seen_more list i t at = ap triples_seen (one_more list i t at) ∙ map-append triple_seen (take i list) (t ∷ [])
 
-pub graph_turn : (list : List CodeTriple) (i : ℕ) (t u : CodeTriple) (old new : List CodeTriple) → slice_get list i ≡ Some t → u ≡ t
-    → triples_seen old ≡ distinct (same_triple nat_eq) (triples_seen (take i list))
-    → triples_seen new ≡ added (triples_seen old) (triple_seen u)
-    → triples_seen new ≡ distinct (same_triple nat_eq) (triples_seen (take (i + 1) list))
-graph_turn list i t u old new at same before turn =
-    turn ∙ ap₂ added before (ap triple_seen same) ∙ graph_grows (triples_seen (take i list)) (triple_seen t) ∙ ap (distinct (same_triple nat_eq)) (sym (seen_more list i t at))
-
 pub owned_turn : (list : List CodeTriple) (t : CodeTriple) (old new : List CodeTriple)
     → triples_seen old ≡ distinct (same_triple nat_eq) (triples_seen list)
     → triples_seen new ≡ added (triples_seen old) (triple_seen t)

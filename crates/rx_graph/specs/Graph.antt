@@ -1,5 +1,5 @@
 -- A graph as the list of its triples, each once.
-use Rattle.std.specs.Prelude.{ℕ, List, [], ◌∷◌, ◌++◌, nat_eq, if◌then◌else◌}
+use Rattle.std.specs.Prelude.{ℕ, Bool, not, List, [], ◌∷◌, ◌++◌, nat_eq, if◌then◌else◌}
 use Rattle.rx_model.specs.Sets.{contains}
 use Rattle.rx_model.specs.Terms.{Triple, same_triple}
 
@@ -11,3 +11,12 @@ added list t = if contains (same_triple nat_eq) list t then list else list ++ t 
 abbrev pub added_all : List (Triple ℕ) → List (Triple ℕ) → List (Triple ℕ)
 added_all list [] = list
 added_all list (t ∷ more) = added_all (added list t) more
+
+-- of each triple whether none of these and none before it is alike
+abbrev pub marks_after : List (Triple ℕ) → List (Triple ℕ) → List Bool
+marks_after list [] = []
+marks_after list (t ∷ more) = not (contains (same_triple nat_eq) list t) ∷ marks_after (added list t) more
+
+-- of each triple whether it is the first of its kind
+abbrev pub first_marks : List (Triple ℕ) → List Bool
+first_marks list = marks_after [] list

@@ -1,4 +1,5 @@
 pub mod Graph
+pub mod Lent
 pub mod Numbering
 pub mod Resources
 pub mod Rows

@@ -5,6 +5,7 @@ ghost use Rattle.rx_model.specs.Copied.{copied};
 ghost use Rattle.rx_model.specs.Seen.{triples_seen};
 ghost use Rattle.rx_graph.specs.Patterns.{copies};
 
+use crate::gathering::Gathering;
 use crate::graphs::Graph;
 use crate::patterns::Patterns;
 use crate::vocabulary::copies;
@@ -19,11 +20,11 @@ pub fn copy_patterns(alloc: Global, triples: &TripleList) -> Result<Graph, NoMem
     ensures { IfOk result (λ graph. triples_seen graph ≡ copied nat_eq (triples_seen triples.now)) }
 {
     let patterns = Patterns::of(alloc, triples)?;
-    let mut graph = Graph::new(alloc);
+    let mut gathering = Gathering::new(alloc);
     for i in 0..triples.len() {
-        patterns.treat(alloc, triples.at(i), &mut graph)?;
+        patterns.treat(alloc, triples.at(i), &mut gathering)?;
     }
-    Ok(graph)
+    gathering.into_graph(alloc)
 }
 
 /// The same of a list that is handed over: no triple is copied where none has the predicate rdfa:copy.

@@ -1,33 +1,34 @@
 //! A graph.
-ghost use Rattle.std.specs.Prelude.{◌≡◌, ◌<◌, [], length, IfOk, OnOk, OnErr, Some, slice_get, ◌==◌, nat_eq};
+ghost use Rattle.std.specs.Prelude.{◌≡◌, ◌<◌, [], ◌∷◌, ◌++◌, length, IfOk, OnOk, Some, slice_get, ◌==◌, nat_eq, if◌then◌else◌};
 ghost use Rattle.rx_model.specs.Sets.{distinct};
 ghost use Rattle.rx_model.specs.Terms.{same_triple};
-ghost use Rattle.rx_model.specs.Seen.{triple_seen, triples_seen};
-ghost use Rattle.rx_graph.specs.Graph.{added};
+ghost use Rattle.rx_model.specs.Seen.{triples_seen};
+ghost use Rattle.rx_graph.specs.Graph.{first_marks};
 
-use indexmap::IndexSet;
+use crate::firsts::first_marks;
 use rx_terms::{NoMemory, Triple, TripleList};
 use std::alloc::Global;
-use std::hash::{BuildHasherDefault, DefaultHasher};
 use std::marker::Model;
-
-// Pages choose the triples, so one that makes their hashes equal must be hard to write.
-type Triples = IndexSet<Triple, BuildHasherDefault<DefaultHasher>>;
 
 /// An RDF graph (RDF 1.1 Concepts, section 3): a set of triples, kept in order of first appearance. A contract sees
 /// the list of its triples, each once.
 #[derive(Debug, Drop)]
 pub struct Graph {
-    triples: Triples,
+    triples: Vec<Triple>,
 }
 
 impl Model for Graph {
-    ghost use Rattle.std.specs.Prelude.{List};
+    ghost use Rattle.std.specs.Prelude.{◌≡◌, List, nat_eq};
     ghost use Rattle.rx_terms.specs.declared.triples.Triple.{Triple};
+    ghost use Rattle.rx_model.specs.Sets.{distinct};
+    ghost use Rattle.rx_model.specs.Terms.{same_triple};
+    ghost use Rattle.rx_model.specs.Seen.{triples_seen};
 
     ghost Value = { List Triple };
 
-    ghost view = { λ graph. graph.triples.keys };
+    ghost view = { λ graph. graph.triples.items };
+
+    ghost invariant = { λ graph. distinct (same_triple nat_eq) (triples_seen graph.triples.items) ≡ triples_seen graph.triples.items };
 }
 
 impl Graph {
@@ -35,49 +36,25 @@ impl Graph {
     pub fn of(alloc: Global, triples: &TripleList) -> Result<Graph, NoMemory>
         ensures { IfOk result (λ graph. triples_seen graph ≡ distinct (same_triple nat_eq) (triples_seen triples.now)) }
     {
-        let mut graph = Graph::new(alloc);
-        for i in 0..triples.len() {
-            graph.add(triples.at(i).try_clone()?)?;
-        }
-        Ok(graph)
+        Graph::of_owned(alloc, copied(alloc, triples)?)
     }
 
     /// The same of a list that is handed over, so that no triple is copied.
     pub fn of_owned(alloc: Global, triples: TripleList) -> Result<Graph, NoMemory>
         ensures { IfOk result (λ graph. triples_seen graph ≡ distinct (same_triple nat_eq) (triples_seen triples)) }
     {
-        let mut graph = Graph::with_capacity(alloc, triples.len())?;
-        for triple in triples.into_vec() {
-            graph.add(triple)?;
-        }
-        Ok(graph)
-    }
-
-    /// The empty graph.
-    pub(crate) fn new(alloc: Global) -> Graph
-        ensures { result ≡ [] }
-    {
-        Graph {
-            triples: Triples::with_hasher(alloc, BuildHasherDefault::new()),
+        match first_marks(alloc, &triples)? {
+            None => Ok(Graph::of_distinct(triples.into_vec())),
+            Some(marks) => Ok(Graph::of_distinct(marked(alloc, triples, &marks)?)),
         }
     }
 
-    /// The empty graph, with room for so many triples.
-    fn with_capacity(alloc: Global, count: usize) -> Result<Graph, NoMemory>
-        ensures { IfOk result (λ graph. graph ≡ []) }
+    /// The graph of triples of which none are alike.
+    pub(crate) fn of_distinct(triples: Vec<Triple>) -> Graph
+        requires { distinct (same_triple nat_eq) (triples_seen triples.items) ≡ triples_seen triples.items }
+        ensures { result ≡ triples.items }
     {
-        let triples = Triples::with_capacity_and_hasher(alloc, count, BuildHasherDefault::new())?;
-        Ok(Graph { triples })
-    }
-
-    /// Adds the triple at the end, where it isn't there yet.
-    pub(crate) fn add(&mut self, triple: Triple) -> Result<(), NoMemory>
-        ensures { OnOk result (triples_seen self.new ≡ added (triples_seen self.old) (triple_seen triple)) }
-    {
-        if self.triples.insert(triple).is_err() {
-            return Err(NoMemory);
-        }
-        Ok(())
+        Graph { triples }
     }
 
     /// How many triples there are.
@@ -102,4 +79,62 @@ impl Graph {
     {
         &self.triples[i]
     }
+
+    /// An equal graph.
+    pub(crate) fn try_clone(&self, alloc: Global) -> Result<Graph, NoMemory>
+        ensures { IfOk result (λ graph. graph ≡ self.now) }
+    {
+        let mut triples = Vec::with_capacity(alloc, self.len())?;
+        for i in 0..self.len() {
+            let Ok(()) = triples.push(self.at(i).try_clone()?) else {
+                return Err(NoMemory);
+            };
+        }
+        Ok(Graph::of_distinct(triples))
+    }
+
+    /// The triples themselves, in order, without a copy.
+    pub(crate) fn into_vec(self) -> Vec<Triple>
+        ensures items { result.items ≡ self }
+        ensures each_once { distinct (same_triple nat_eq) (triples_seen result.items) ≡ triples_seen result.items }
+    {
+        self.triples
+    }
+}
+
+/// An equal list.
+fn copied(alloc: Global, triples: &TripleList) -> Result<TripleList, NoMemory>
+    ensures { IfOk result (λ copied. copied ≡ triples.now) }
+{
+    let mut copied = TripleList::new(alloc);
+    for i in 0..triples.len() {
+        copied.push(triples.at(i).try_clone()?)?;
+    }
+    Ok(copied)
+}
+
+/// The triples that are the first of their kind, as the marks tell.
+fn marked(alloc: Global, triples: TripleList, marks: &[bool]) -> Result<Vec<Triple>, NoMemory>
+    requires { marks.now ≡ first_marks (triples_seen triples) }
+    ensures { IfOk result (λ marked. triples_seen marked.items ≡ distinct (same_triple nat_eq) (triples_seen triples)) }
+{
+    let mut marked = Vec::with_capacity(alloc, triples.len())?;
+    let mut place = 0;
+    for triple in triples.into_vec() {
+        push_first(&mut marked, triple, marks[place])?;
+        place += 1;
+    }
+    Ok(marked)
+}
+
+fn push_first(marked: &mut Vec<Triple>, triple: Triple, is_first: bool) -> Result<(), NoMemory>
+    ensures { OnOk result (marked.new.items ≡ (if is_first then marked.old.items ++ triple ∷ [] else marked.old.items)) }
+{
+    if !is_first {
+        return Ok(());
+    }
+    let Ok(()) = marked.push(triple) else {
+        return Err(NoMemory);
+    };
+    Ok(())
 }

@@ -5,6 +5,8 @@
 #![tactic(auto)]
 
 mod copying;
+mod firsts;
+mod gathering;
 mod graphs;
 mod numbering;
 mod patterns;

@@ -9,6 +9,7 @@ use crate::graphs::Graph;
 use indexmap::IndexSet;
 use rx_terms::{Blank, NoMemory, Node, Term, Triple};
 use std::alloc::Global;
+use std::hash::{BuildHasherDefault, DefaultHasher};
 use std::marker::Model;
 
 /// The graph with its blank nodes numbered 0, 1, 2 in order of first occurrence, the subject of a triple before its
@@ -17,23 +18,22 @@ pub fn relabel(alloc: Global, graph: &Graph) -> Result<Graph, NoMemory>
     ensures numbered { IfOk result (λ relabelled. triples_seen relabelled ≡ numbered nat_eq (triples_seen graph.now)) }
     ensures renamed { IfOk result (λ relabelled. Renamed (set_of (triples_seen graph.now)) (set_of (triples_seen relabelled))) }
 {
-    let mut numbers = Numbers::new(alloc);
-    let mut relabelled = Graph::new(alloc);
-    for i in 0..graph.len() {
-        relabelled.add(numbers.triple(graph.at(i))?)?;
-    }
-    Ok(relabelled)
+    relabel_owned(alloc, graph.try_clone(alloc)?)
 }
 
-/// The same of a graph that is handed over, which is given back as it is where its blank nodes have these numbers already:
-/// no triple is copied then.
+/// The same of a graph that is handed over, so that no triple is copied.
 pub fn relabel_owned(alloc: Global, graph: Graph) -> Result<Graph, NoMemory>
     ensures numbered { IfOk result (λ relabelled. triples_seen relabelled ≡ numbered nat_eq (triples_seen graph)) }
 {
     if is_numbered(&graph) {
         return Ok(graph);
     }
-    relabel(alloc, &graph)
+    let mut triples = graph.into_vec();
+    let mut numbers = Numbers::new(alloc);
+    for i in 0..triples.len() {
+        numbers.give(&mut triples[i])?;
+    }
+    Ok(Graph::of_distinct(triples))
 }
 
 /// Whether the blank nodes are 0, 1, 2 in order of first occurrence.
@@ -92,10 +92,13 @@ fn next_after_blank(blank: Blank, next: u64) -> Option<u64>
     Some(next + 1)
 }
 
+// A page chooses in part which numbers these have. SipHash makes it hard to choose many with one hash.
+type Blanks = IndexSet<Blank, BuildHasherDefault<DefaultHasher>>;
+
 /// Blank nodes in order of first occurrence. The number of each is its place.
 #[derive(Drop)]
 struct Numbers {
-    blanks: IndexSet<Blank>,
+    blanks: Blanks,
 }
 
 impl Model for Numbers {
@@ -111,7 +114,7 @@ impl Numbers {
         ensures { result ≡ [] }
     {
         Numbers {
-            blanks: IndexSet::new(alloc),
+            blanks: Blanks::with_hasher(alloc, BuildHasherDefault::new()),
         }
     }
 
@@ -125,36 +128,35 @@ impl Numbers {
         Ok(Blank(place as u64))
     }
 
-    fn node(&mut self, node: &Node) -> Result<Node, NoMemory>
-        ensures known { OnOk result (self.new ≡ known self.old (blank_of_node (node_seen node.now))) }
-        ensures renamed { IfOk result (λ renamed. node_seen renamed ≡ rename_node (place_in nat_eq self.new) (node_seen node.now)) }
+    /// Puts its number in place of the blank node that the node may be.
+    fn give_node(&mut self, node: &mut Node) -> Result<(), NoMemory>
+        ensures known { OnOk result (self.new ≡ known self.old (blank_of_node (node_seen node.old))) }
+        ensures renamed { OnOk result (node_seen node.new ≡ rename_node (place_in nat_eq self.new) (node_seen node.old)) }
     {
-        match node {
-            Node::Iri(iri) => Ok(Node::Iri(iri.try_clone()?)),
-            Node::Blank(blank) => Ok(Node::Blank(self.blank(*blank)?)),
+        if let Node::Blank(blank) = node {
+            *blank = self.blank(*blank)?;
         }
+        Ok(())
     }
 
-    fn term(&mut self, term: &Term) -> Result<Term, NoMemory>
-        ensures known { OnOk result (self.new ≡ known self.old (blank_of_term (term_seen term.now))) }
-        ensures renamed { IfOk result (λ renamed. term_seen renamed ≡ rename_term (place_in nat_eq self.new) (term_seen term.now)) }
+    /// Puts its number in place of the blank node that the term may be.
+    fn give_term(&mut self, term: &mut Term) -> Result<(), NoMemory>
+        ensures known { OnOk result (self.new ≡ known self.old (blank_of_term (term_seen term.old))) }
+        ensures renamed { OnOk result (term_seen term.new ≡ rename_term (place_in nat_eq self.new) (term_seen term.old)) }
     {
-        match term {
-            Term::Iri(iri) => Ok(Term::Iri(iri.try_clone()?)),
-            Term::Blank(blank) => Ok(Term::Blank(self.blank(*blank)?)),
-            Term::Literal(literal) => Ok(Term::Literal(literal.try_clone()?)),
+        if let Term::Blank(blank) = term {
+            *blank = self.blank(*blank)?;
         }
+        Ok(())
     }
 
-    /// The triple with its blank nodes numbered, and those that are new after those that were seen.
-    fn triple(&mut self, triple: &Triple) -> Result<Triple, NoMemory>
-        ensures known { OnOk result (self.new ≡ known self.old (blanks_of (triple_seen triple.now))) }
-        ensures renamed { IfOk result (λ renamed. triple_seen renamed ≡ rename (place_in nat_eq self.new) (triple_seen triple.now)) }
+    /// Puts their numbers in place of the triple's blank nodes. Those that are new come after those that were seen.
+    fn give(&mut self, triple: &mut Triple) -> Result<(), NoMemory>
+        ensures known { OnOk result (self.new ≡ known self.old (blanks_of (triple_seen triple.old))) }
+        ensures renamed { OnOk result (triple_seen triple.new ≡ rename (place_in nat_eq self.new) (triple_seen triple.old)) }
     {
-        Ok(Triple {
-            subject: self.node(&triple.subject)?,
-            predicate: triple.predicate.try_clone()?,
-            object: self.term(&triple.object)?,
-        })
+        self.give_node(&mut triple.subject)?;
+        self.give_term(&mut triple.object)?;
+        Ok(())
     }
 }

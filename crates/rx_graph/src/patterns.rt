@@ -7,7 +7,7 @@ ghost use Rattle.rx_graph.specs.Resources.{resource_seen};
 ghost use Rattle.rx_graph.specs.Patterns.{ArePatterns, OnlyPatterns, AreReferenced, IsReach, Grows, edges_by, places_of, places_in, given_one};
 ghost use Rattle.rx_graph.specs.Rows.{empty_rows};
 
-use crate::graphs::Graph;
+use crate::gathering::Gathering;
 use crate::resources::{Nodes, Resource};
 use crate::rows::Rows;
 use crate::vocabulary::says_pattern;
@@ -54,59 +54,59 @@ impl<'a> Patterns<'a> {
         })
     }
 
-    /// Adds to the graph what stands in place of a triple of the list.
+    /// Adds what stands in place of a triple of the list.
     pub(crate) fn treat(
         &self,
         alloc: Global,
         triple: &'a Triple,
-        graph: &mut Graph,
+        gathering: &mut Gathering,
     ) -> Result<(), NoMemory>
-        ensures { OnOk result (triples_seen graph.new ≡ added_all (triples_seen graph.old)
+        ensures { OnOk result (triples_seen gathering.new ≡ added_all (triples_seen gathering.old)
             (treated nat_eq (triples_seen self.now) (edges nat_eq (triples_seen self.now)) (triple_seen triple.now))) }
     {
         if self.referenced.contains(Resource::of_node(&triple.subject)) {
             return Ok(());
         }
         match self.nodes.live(triple) {
-            None => graph.add(triple.try_clone()?),
-            Some(pattern) => self.give(alloc, &triple.subject, pattern, graph),
+            None => gathering.add(triple.try_clone()?),
+            Some(pattern) => self.give(alloc, &triple.subject, pattern, gathering),
         }
     }
 
-    /// Adds to the graph what the subject gets by copying the pattern.
+    /// Adds what the subject gets by copying the pattern.
     fn give(
         &self,
         alloc: Global,
         subject: &Node,
         pattern: Resource<'a>,
-        graph: &mut Graph,
+        gathering: &mut Gathering,
     ) -> Result<(), NoMemory>
         requires { is_pattern nat_eq (triples_seen self.now) (resource_seen pattern) ≡ true }
-        ensures { OnOk result (triples_seen graph.new ≡ added_all (triples_seen graph.old)
+        ensures { OnOk result (triples_seen gathering.new ≡ added_all (triples_seen gathering.old)
             (filter_map (given nat_eq (triples_seen self.now) (edges nat_eq (triples_seen self.now)) (node_seen subject.now) (resource_seen pattern.entry)) (triples_seen self.now))) }
     {
         let reached = self.reach(alloc, pattern)?;
         let places = self.all_places(alloc, &reached)?;
         for place in &places {
-            self.give_one(subject, self.triples.at(*place), graph)?;
+            self.give_one(subject, self.triples.at(*place), gathering)?;
         }
         Ok(())
     }
 
-    /// Adds to the graph what the subject gets by a triple of a pattern that it copies.
+    /// Adds what the subject gets by a triple of a pattern that it copies.
     fn give_one(
         &self,
         subject: &Node,
         triple: &'a Triple,
-        graph: &mut Graph,
+        gathering: &mut Gathering,
     ) -> Result<(), NoMemory>
-        ensures { OnOk result (triples_seen graph.new ≡ added_all (triples_seen graph.old)
+        ensures { OnOk result (triples_seen gathering.new ≡ added_all (triples_seen gathering.old)
             (option_to_list (given_one (triples_seen self.now) (node_seen subject.now) (triple_seen triple.now)))) }
     {
         if says_pattern(triple) || self.nodes.live(triple).is_some() {
             return Ok(());
         }
-        graph.add(Triple {
+        gathering.add(Triple {
             subject: subject.try_clone()?,
             predicate: triple.predicate.try_clone()?,
             object: triple.object.try_clone()?,

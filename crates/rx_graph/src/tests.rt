@@ -48,6 +48,23 @@ fn repeats_vanish(rt: HostRuntime) -> Result<(), Fail> {
 }
 
 #[test]
+fn a_list_without_repeats_is_its_graph(rt: HostRuntime) -> Result<(), Fail> {
+    let alloc = rt.alloc();
+    let mut triples = TripleList::new(alloc);
+    for i in 0u64..1_000 {
+        let subject = Node::Blank(Blank(i));
+        let object = Node::Blank(Blank(1_000 - i));
+        triples.push(link(alloc, subject, "http://v.example/p", object)?)?;
+    }
+    let graph = Graph::of_owned(alloc, triples)?;
+    assert_eq!(rt; graph.len(), 1_000);
+    let numbered = relabel_owned(alloc, graph)?;
+    assert_eq!(rt; numbered.at(1).subject == Node::Blank(Blank(2)), true);
+    assert_eq!(rt; numbered.at(999).object == Term::Blank(Blank(2)), true);
+    Ok(())
+}
+
+#[test]
 fn a_long_chain_is_copied(rt: HostRuntime) -> Result<(), Fail> {
     let alloc = rt.alloc();
     let mut triples = TripleList::new(alloc);

@@ -5,4 +5,4 @@ use Rattle.rx_graph.specs.Graph.{added_all}
 use Rattle.rx_graph.proofs.copying.copy_patterns.Given as goal
 
 abbrev pub invariant-loop-i : goal.invariant-loop-i
-invariant-loop-i l = triples_seen l.graph ≡ added_all [] (flat_map (treated nat_eq (triples_seen l.triples) (edges nat_eq (triples_seen l.triples))) (triples_seen (take l.i l.triples)))
+invariant-loop-i l = triples_seen l.gathering ≡ added_all [] (flat_map (treated nat_eq (triples_seen l.triples) (edges nat_eq (triples_seen l.triples))) (triples_seen (take l.i l.triples)))

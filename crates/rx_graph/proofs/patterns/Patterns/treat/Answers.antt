@@ -20,7 +20,7 @@ returns-in_ok-try_clone-in-None c =
     let none : live nat_eq (triples_seen list) (triple_seen c.args.triple.now).predicate (triple_seen c.args.triple.now).object ≡ None =
     sym (live_is (triples_seen list) c.self.inside.nodes c.self.invariant.patterns (triple_seen c.args.triple.now)) ∙ sym c.live.ensures ∙ ap (option_map resource_seen) c.in-None.is in
     on_ok_weaker c.add.result
-    (λ h. rw (← c.self.view_is) (treated_kept (triples_seen list) (triple_seen c.args.triple.now) _ _ kept none (h ∙ ap (λ t. added (triples_seen c.args.graph.now) (triple_seen t)) c.in_ok-try_clone-in-None.ensures)))
+    (λ h. rw (← c.self.view_is) (treated_kept (triples_seen list) (triple_seen c.args.triple.now) _ _ kept none (h ∙ ap (λ t. added (triples_seen c.args.gathering.now) (triple_seen t)) c.in_ok-try_clone-in-None.ensures)))
     c.add.ensures
 
 pub returns-in-Some : goal.returns-in-Some

@@ -2,7 +2,7 @@ use Rattle.std.proofs.Common.{◌∙◌, ap, sym}
 use Rattle.rx_model.specs.Seen.{triples_seen}
 use Rattle.rx_graph.proofs.SetLemmas.{added_seen, of_ok}
 use Rattle.rx_graph.proofs.CodeEq.{code_eq, exact_code}
-use Rattle.rx_graph.proofs.graphs.Graph.add.Goals as goal
+use Rattle.rx_graph.proofs.gathering.Gathering.add.Goals as goal
 
 pub returns : goal.returns
 returns c = ap triples_seen (of_ok c.insert.result (sym c.is_err.ensures.value ∙ c.if-is_err.false) c.insert.ensures.keys)

@@ -1,0 +1,86 @@
+-- A list in which blank nodes are given their numbers from left to right, in place.
+use Rattle.std.proofs.Common.{◌≡◌, ℕ, zero, suc, ◌+◌, ◌<◌, ◌≤◌, List, [], ◌∷◌, ◌++◌, map, length, take, drop, get_or, slice_get, slice_set, Some, refl, sym, ap, ◌∙◌, nat_eq, Result, Ok, Err, IfOk, arith}
+use Rattle.std.proofs.lemmas.List.{map-append, take_all}
+use Rattle.std.proofs.lemmas.Option.{slice_get-get_or}
+use Rattle.rx_terms.specs.declared.triples.Triple.{Triple as CodeTriple}
+use Rattle.rx_model.specs.Sets.{distinct}
+use Rattle.rx_model.specs.Terms.{same_triple, set_of}
+use Rattle.rx_model.specs.Numbered.{blanks_of, blanks, place_in, rename, numbered, Renamed}
+use Rattle.rx_model.specs.Seen.{triple_seen, triples_seen}
+use Rattle.rx_model.proofs.Numbered.{numbers_one_to_one}
+use Rattle.rx_model.proofs.Exact.{exact_numbers}
+use Rattle.rx_graph.specs.Numbering.{known}
+use Rattle.rx_graph.proofs.NumberLemmas.{numbers_turn, front_turn, numbered_once}
+
+-- ---- one element of a list is set
+
+module _ {A : Type 0} where
+  set_length : (xs : List A) (i : ℕ) (x : A) → length (slice_set xs i x) ≡ length xs
+  set_length [] i x = refl
+  set_length (y ∷ xs) zero x = refl
+  set_length (y ∷ xs) (suc i) x = ap suc (set_length xs i x)
+
+  set_front : (xs : List A) (i : ℕ) (x : A) → i < length xs → take (suc i) (slice_set xs i x) ≡ take i xs ++ x ∷ []
+  set_front [] i x h = absurd (omega arith)
+  set_front (y ∷ xs) zero x h = refl
+  set_front (y ∷ xs) (suc i) x h = ap (λ z. y ∷ z) (set_front xs i x (omega arith))
+
+  set_rest : (xs : List A) (i : ℕ) (x : A) → drop (suc i) (slice_set xs i x) ≡ drop (suc i) xs
+  set_rest [] i x = refl
+  set_rest (y ∷ xs) zero x = refl
+  set_rest (y ∷ xs) (suc i) x = set_rest xs i x
+
+  drop_one : (xs : List A) (i : ℕ) → drop (suc i) xs ≡ drop 1 (drop i xs)
+  drop_one [] zero = refl
+  drop_one [] (suc i) = refl
+  drop_one (x ∷ xs) zero = refl
+  drop_one (x ∷ xs) (suc i) = drop_one xs i
+
+  get_first : (xs : List A) (i : ℕ) (d : A) → get_or xs i d ≡ get_or (drop i xs) 0 d
+  get_first [] zero d = refl
+  get_first [] (suc i) d = refl
+  get_first (x ∷ xs) zero d = refl
+  get_first (x ∷ xs) (suc i) d = get_first xs i d
+
+one_up : (n : ℕ) → n + 1 ≡ suc n
+one_up n = omega arith
+
+-- ---- as far as a place
+
+pub record Given (list now : List CodeTriple) (i : ℕ) (numbers : List ℕ) : Type 0 where
+  pub size : length now ≡ length list
+  pub known : numbers ≡ distinct nat_eq (blanks (triples_seen (take i list)))
+  pub front : triples_seen (take i now) ≡ map (rename (place_in nat_eq numbers)) (triples_seen (take i list))
+  pub rest : drop i now ≡ drop i list
+
+pub given_start : (list : List CodeTriple) (numbers : List ℕ) → numbers ≡ [] → Given list list 0 numbers
+given_start list numbers e = record { size = refl; known = e; front = refl; rest = refl }
+
+pub given_turn : (list now : List CodeTriple) (i : ℕ) (numbers more : List ℕ) (d t u : CodeTriple) → Given list now i numbers → i < length list → t ≡ get_or now i d
+    → more ≡ known numbers (blanks_of (triple_seen t)) → triple_seen u ≡ rename (place_in nat_eq more) (triple_seen t)
+    → Given list (slice_set now i u) (i + 1) more
+given_turn list now i numbers more d t u g within is grows renamed =
+    let here : get_or list i d ≡ t = get_first list i d ∙ ap (λ z. get_or z 0 d) (sym g.rest) ∙ sym (get_first now i d) ∙ sym is in
+    let at : slice_get list i ≡ Some t = slice_get-get_or list i d within ∙ ap Some here in
+    record {
+      size = set_length now i u ∙ g.size;
+      known = numbers_turn list i t at numbers more g.known grows;
+      front = front_turn list i t at numbers more g.known grows (triples_seen (take i now)) _ (triple_seen u) g.front renamed
+          (ap (λ n. triples_seen (take n (slice_set now i u))) (one_up i) ∙ ap triples_seen (set_front now i u (omega (arith, within, g.size))) ∙ map-append triple_seen (take i now) (u ∷ []));
+      rest = ap (λ n. drop n (slice_set now i u)) (one_up i) ∙ set_rest now i u ∙ drop_one now i ∙ ap (drop 1) g.rest ∙ sym (drop_one list i) ∙ ap (λ n. drop n list) (sym (one_up i));
+    }
+
+pub given_end : (list now : List CodeTriple) (i : ℕ) (numbers : List ℕ) → Given list now i numbers → length list ≤ i → triples_seen now ≡ numbered nat_eq (triples_seen list)
+given_end list now i numbers g past =
+    ap triples_seen (sym (take_all i now (omega (arith, past, g.size)))) ∙ g.front
+    ∙ ap (λ z. map (rename (place_in nat_eq z)) (triples_seen (take i list))) g.known
+    ∙ ap (λ z. numbered nat_eq (triples_seen z)) (take_all i list past)
+
+pub given_once : (list now : List CodeTriple) → distinct (same_triple nat_eq) (triples_seen list) ≡ triples_seen list → triples_seen now ≡ numbered nat_eq (triples_seen list)
+    → distinct (same_triple nat_eq) (triples_seen now) ≡ triples_seen now
+given_once list now once is = rw is (numbered_once (triples_seen list) once)
+
+pub renamed_by : {E : Type 0} (list copy : List CodeTriple) (r : Result (List CodeTriple) E) → copy ≡ list → IfOk r (λ g. triples_seen g ≡ numbered nat_eq (triples_seen copy))
+    → IfOk r (λ g. Renamed (set_of (triples_seen list)) (set_of (triples_seen g)))
+renamed_by list copy (Ok g) same is = rw (is ∙ ap (λ z. numbered nat_eq (triples_seen z)) same) (numbers_one_to_one nat_eq exact_numbers (triples_seen list))
+renamed_by list copy (Err e) same is = is

@@ -1,8 +1,0 @@
-use Rattle.std.proofs.Common.{◌≡◌, take, nat_eq}
-use Rattle.rx_model.specs.Sets.{distinct}
-use Rattle.rx_model.specs.Terms.{same_triple}
-use Rattle.rx_model.specs.Seen.{triples_seen}
-use Rattle.rx_graph.proofs.graphs.Graph.of.Given as goal
-
-abbrev pub invariant-loop-i : goal.invariant-loop-i
-invariant-loop-i l = triples_seen l.graph ≡ distinct (same_triple nat_eq) (triples_seen (take l.i l.triples))

@@ -1,0 +1,6 @@
+use Rattle.std.proofs.Common.{◌∙◌, ◌++◌, ◌∷◌, [], ap₂, sym}
+use Rattle.rx_graph.proofs.SetLemmas.{one_more}
+use Rattle.rx_graph.proofs.graphs.copied.Goals as goal
+
+pub loop-i-preserved : goal.loop-i-preserved
+loop-i-preserved c = c.in_ok-push.ensures.ok ∙ ap₂ (λ xs x. xs ++ x ∷ []) c.loop-i.invariant c.in_ok-try_clone.ensures ∙ sym (one_more c.args.triples.now c.loop-i.i _ c.at.ensures)
