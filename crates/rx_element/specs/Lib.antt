@@ -6,6 +6,7 @@ pub mod Places
 pub mod Found
 pub mod TextRules
 pub mod Triples
+pub mod Iris
 pub mod Starts
 pub mod Blanks
 pub mod Placing

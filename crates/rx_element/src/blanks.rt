@@ -5,7 +5,6 @@ ghost use Rattle.rx_element.specs.Blanks.{is_blank, has_blank, number_after};
 ghost use Rattle.rx_element.specs.Found.{found_seen};
 
 use crate::resources::Found;
-use crate::shared::Shared;
 use rx_terms::Node;
 
 /// Whether the node is the blank node of the number.
@@ -23,7 +22,7 @@ pub(crate) fn number_after(found: &Found, fresh: u64) -> u64
     requires { fresh + 1 < 2 ^ 64 }
     ensures { result ≡ number_after (found_seen found.now) fresh }
 {
-    if is_blank(found.subject.node(), fresh)
+    if is_blank(&found.subject, fresh)
         || has_blank(&found.typed, fresh)
         || has_blank(&found.object, fresh)
     {
@@ -32,11 +31,11 @@ pub(crate) fn number_after(found: &Found, fresh: u64) -> u64
     fresh
 }
 
-fn has_blank(node: &Option<Shared>, number: u64) -> bool
+fn has_blank(node: &Option<Node>, number: u64) -> bool
     ensures { result ≡ has_blank (option_map node_seen node.now) number }
 {
     match node {
-        Some(node) => is_blank(node.node(), number),
+        Some(node) => is_blank(node, number),
         None => false,
     }
 }

@@ -1,9 +1,8 @@
 //! What an element hands on to its children (RDFa Core 1.1, section 7.5).
 ghost use Rattle.std.specs.Prelude.{◌≡◌, IfOk};
 
-use crate::shared::Shared;
 use rx_lists::Owner;
-use rx_terms::{Iri, NoMemory};
+use rx_terms::{Iri, NoMemory, Node};
 use std::alloc::Global;
 use std::marker::Model;
 use std::rc::Rc;
@@ -20,8 +19,8 @@ pub enum Waiting {
     InList(Owner, Iri),
 }
 
-/// The triples that wait, shared by those who hand them on. Where none waits no memory is taken, as at most elements. A
-/// contract sees the list.
+/// The triples that wait, shared by those who hand them on. Where none waits, as is so at most elements, no memory is
+/// taken. A contract sees the list.
 #[derive(Drop)]
 pub struct Hangings {
     list: Option<Rc<Vec<Waiting>>>,
@@ -78,8 +77,8 @@ impl Hangings {
 /// object, the triples that wait, and the owner of lists.
 #[derive(Drop)]
 pub struct Context {
-    pub subject: Shared,
-    pub object: Shared,
+    pub subject: Node,
+    pub object: Node,
     pub hanging: Hangings,
     pub owner: Owner,
 }
@@ -90,8 +89,8 @@ impl Context {
         ensures { IfOk result (λ context. context ≡ self.now) }
     {
         Ok(Context {
-            subject: self.subject.share()?,
-            object: self.object.share()?,
+            subject: self.subject.try_clone()?,
+            object: self.object.try_clone()?,
             hanging: self.hanging.share()?,
             owner: self.owner,
         })

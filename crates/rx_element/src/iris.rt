@@ -9,23 +9,52 @@ ghost use Rattle.rx_values.specs.Kinds.{kind_name};
 use rx_terms::{Iri, NoMemory, Text};
 use rx_values::TimeKind;
 use std::alloc::Global;
+use std::marker::Model;
 
 const TYPE: &str = "http://www.w3.org/1999/02/22-rdf-syntax-ns#type";
 
 const USES_VOCABULARY: &str = "http://www.w3.org/ns/rdfa#usesVocabulary";
 
-/// rdf:type.
-pub(crate) fn rdf_type(alloc: Global) -> Result<Iri, NoMemory>
-    ensures { IfOk result (λ iri. iri ≡ rdf_type) }
-{
-    iri(alloc, TYPE)
+/// The IRIs that any element's start may need, made once for a page. A contract sees nothing of the value, for it is always
+/// the same.
+#[derive(Debug, Drop)]
+pub struct OwnIris {
+    rdf_type: Iri,
+    uses_vocabulary: Iri,
 }
 
-/// rdfa:usesVocabulary.
-pub(crate) fn uses_vocabulary(alloc: Global) -> Result<Iri, NoMemory>
-    ensures { IfOk result (λ iri. iri ≡ uses_vocabulary) }
-{
-    iri(alloc, USES_VOCABULARY)
+impl Model for OwnIris {
+    ghost use Rattle.rx_element.specs.Iris.{AreOwn};
+
+    ghost Value = { Unit {0} };
+
+    ghost view = { λ iris. tt };
+
+    ghost invariant = { λ iris. AreOwn iris.rdf_type iris.uses_vocabulary };
+}
+
+impl OwnIris {
+    /// Makes the IRIs.
+    pub fn new(alloc: Global) -> Result<OwnIris, NoMemory> {
+        Ok(OwnIris {
+            rdf_type: iri(alloc, TYPE)?,
+            uses_vocabulary: iri(alloc, USES_VOCABULARY)?,
+        })
+    }
+
+    /// rdf:type.
+    pub fn rdf_type(&self) -> &Iri
+        ensures { result.now ≡ rdf_type }
+    {
+        &self.rdf_type
+    }
+
+    /// rdfa:usesVocabulary.
+    pub fn uses_vocabulary(&self) -> &Iri
+        ensures { result.now ≡ uses_vocabulary }
+    {
+        &self.uses_vocabulary
+    }
 }
 
 /// The datatype of a form of times.

@@ -10,7 +10,7 @@ use std::alloc::Global;
 use std::hash::{BuildHasherDefault, DefaultHasher};
 use std::marker::Model;
 
-// Pages choose the labels, so one that makes their hashes equal must be hard to write.
+// A page chooses these labels. SipHash makes it hard to choose many with one hash.
 type LabelSet = IndexSet<String, BuildHasherDefault<DefaultHasher>>;
 
 /// The numbers of the blank nodes that authors name by labels. A contract sees the labels with their numbers.

@@ -16,8 +16,7 @@ use crate::contexts::{Context, Hangings};
 use crate::drawing::draw_labels;
 use crate::labels::Labels;
 use crate::places::{Place, level_at};
-use crate::resources::Found;
-use crate::shared::Shared;
+use crate::resources::{Found, clone_option};
 use crate::values::{TextRule, value_now};
 use rx_curie::Facts;
 use rx_lists::Owner;
@@ -35,31 +34,13 @@ pub struct Placed {
     pub next_blank: u64,
 }
 
-fn clone_option(node: &Option<Shared>) -> Result<Option<Node>, NoMemory>
-    ensures { IfOk result (λ copy. copy ≡ node.now) }
-{
-    match node {
-        Some(node) => Ok(Some(node.node().try_clone()?)),
-        None => Ok(None),
-    }
-}
-
-fn share_option(alloc: Global, node: &Option<Node>) -> Result<Option<Shared>, NoMemory>
-    ensures { IfOk result (λ copy. copy ≡ node.now) }
-{
-    match node {
-        Some(node) => Ok(Some(Shared::new(alloc, node.try_clone()?)?)),
-        None => Ok(None),
-    }
-}
-
 /// A context of which only the subject and the object are known.
 fn plain_context(alloc: Global, subject: &Node, object: &Node) -> Result<Context, NoMemory>
     ensures { IfOk result (λ context. context_seen context ≡ plain_context (node_seen subject.now) (node_seen object.now)) }
 {
     Ok(Context {
-        subject: Shared::new(alloc, subject.try_clone()?)?,
-        object: Shared::new(alloc, object.try_clone()?)?,
+        subject: subject.try_clone()?,
+        object: object.try_clone()?,
         hanging: Hangings::of(alloc, Vec::new(alloc))?,
         owner: Owner(0),
     })
@@ -95,22 +76,23 @@ impl Placed {
             fresh,
         };
         let found = place.find(facts)?;
+        let next_blank = number_after(&found, fresh);
         Ok(Placed {
-            subject: found.subject.node().try_clone()?,
-            typed: clone_option(&found.typed)?,
-            object: clone_option(&found.object)?,
+            subject: found.subject,
+            typed: found.typed,
+            object: found.object,
             skipped: found.skipped,
-            next_blank: number_after(&found, fresh),
+            next_blank,
         })
     }
 
-    fn found(&self, alloc: Global) -> Result<Found, NoMemory>
+    fn found(&self) -> Result<Found, NoMemory>
         ensures { IfOk result (λ found. found_seen found ≡ placed_seen self.now) }
     {
         Ok(Found {
-            subject: Shared::new(alloc, self.subject.try_clone()?)?,
-            typed: share_option(alloc, &self.typed)?,
-            object: share_option(alloc, &self.object)?,
+            subject: self.subject.try_clone()?,
+            typed: clone_option(&self.typed)?,
+            object: clone_option(&self.object)?,
             skipped: self.skipped,
         })
     }
@@ -128,7 +110,7 @@ pub fn value_of(
 ) -> Result<Term, NoMemory>
     ensures { IfOk result (λ term. term_seen term ≡ value (rule (moment labels.now 0 0 0) base.now (facts_seen facts.now) (placed_seen placed.now)) (facts_seen facts.now) (chars text.now)) }
 {
-    let found = placed.found(alloc)?;
+    let found = placed.found()?;
     let value = value_now(alloc, base, labels, facts, &found)?;
     match value {
         Some(value) => Ok(value),

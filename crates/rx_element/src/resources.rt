@@ -7,7 +7,6 @@ ghost use Rattle.rx_element.specs.Found.{linked_ref, fresh_node, page_node, prop
 ghost use Rattle.rx_element.specs.Places.{path_at, standing, naming};
 
 use crate::places::{Level, Place, named};
-use crate::shared::{Shared, share_option};
 use rx_curie::{ElementKind, Facts, Ref};
 use rx_terms::{Blank, NoMemory, Node};
 
@@ -15,13 +14,23 @@ use rx_terms::{Blank, NoMemory, Node};
 #[derive(Drop)]
 pub struct Found {
     /// The new subject.
-    pub subject: Shared,
+    pub subject: Node,
     /// The typed resource.
-    pub typed: Option<Shared>,
+    pub typed: Option<Node>,
     /// The current object resource.
-    pub object: Option<Shared>,
+    pub object: Option<Node>,
     /// Whether nothing is said of the element, which then hands on what it inherits.
     pub skipped: bool,
+}
+
+/// The node again, if there is one.
+pub fn clone_option(node: &Option<Node>) -> Result<Option<Node>, NoMemory>
+    ensures { IfOk result (λ copy. copy ≡ node.now) }
+{
+    match node {
+        Some(node) => Ok(Some(node.try_clone()?)),
+        None => Ok(None),
+    }
 }
 
 /// Whether there is `rel` or `rev`.
@@ -53,22 +62,21 @@ pub(crate) fn linked_ref(facts: &Facts) -> Option<&Ref>
 
 impl<'a> Place<'a> {
     /// The resource that is named.
-    fn named(&self, name: &Ref) -> Result<Shared, NoMemory>
+    fn named(&self, name: &Ref) -> Result<Node, NoMemory>
         ensures { IfOk result (λ node. node_seen node ≡ resource_named (naming self.now) self.now.base.now (ref_seen name.now)) }
     {
-        let node = named(self.alloc, self.base, self.labels, name)?;
-        Shared::new(self.alloc, node)
+        named(self.alloc, self.base, self.labels, name)
     }
 
     /// The element's new node.
-    pub fn fresh(&self) -> Result<Shared, NoMemory>
-        ensures { IfOk result (λ node. node_seen node ≡ fresh_node self.now) }
+    pub fn fresh(&self) -> Node
+        ensures { node_seen result ≡ fresh_node self.now }
     {
-        Shared::new(self.alloc, Node::Blank(Blank(self.fresh)))
+        Node::Blank(Blank(self.fresh))
     }
 
     /// The resource of the first present of `resource`, `href` and `src`.
-    fn linked(&self, facts: &Facts) -> Result<Option<Shared>, NoMemory>
+    fn linked(&self, facts: &Facts) -> Result<Option<Node>, NoMemory>
         ensures { IfOk result (λ node. option_map node_seen node ≡ linked_resource (naming self.now) self.now.base.now (standing self.now (facts_seen facts.now))) }
     {
         match linked_ref(facts) {
@@ -78,7 +86,7 @@ impl<'a> Place<'a> {
     }
 
     /// The subject of an element with a link or a plain property.
-    fn default_subject(&self, facts: &Facts) -> Result<Shared, NoMemory>
+    fn default_subject(&self, facts: &Facts) -> Result<Node, NoMemory>
         ensures { IfOk result (λ node. node_seen node ≡ default_subject (naming self.now) self.now.base.now (standing self.now (facts_seen facts.now))) }
     {
         if let Some(about) = &facts.about {
@@ -87,14 +95,14 @@ impl<'a> Place<'a> {
         if self.level == Level::Root {
             return self.page();
         }
-        self.around.object.share()
+        self.around.object.try_clone()
     }
 
     /// The base as a node.
-    fn page(&self) -> Result<Shared, NoMemory>
+    fn page(&self) -> Result<Node, NoMemory>
         ensures { IfOk result (λ node. node_seen node ≡ page_node self.now.base.now) }
     {
-        Shared::new(self.alloc, Node::Iri(self.base.try_clone()?))
+        Ok(Node::Iri(self.base.try_clone()?))
     }
 
     /// Whether it is the head or the body of the page.
@@ -114,9 +122,9 @@ impl<'a> Place<'a> {
         let typed = if facts.types.is_none() {
             None
         } else if facts.about.is_some() {
-            Some(subject.share()?)
+            Some(subject.try_clone()?)
         } else {
-            share_option(&object)?
+            clone_option(&object)?
         };
         Ok(Found {
             subject,
@@ -127,14 +135,14 @@ impl<'a> Place<'a> {
     }
 
     /// The object of an element with `rel` or `rev`.
-    fn link_object(&self, facts: &Facts) -> Result<Option<Shared>, NoMemory>
+    fn link_object(&self, facts: &Facts) -> Result<Option<Node>, NoMemory>
         ensures { IfOk result (λ object. option_map node_seen object ≡ (of_link (naming self.now) self.now.base.now (standing self.now (facts_seen facts.now))).object) }
     {
         let linked = self.linked(facts)?;
         if linked.is_some() || facts.types.is_none() || facts.about.is_some() {
             return Ok(linked);
         }
-        Ok(Some(self.fresh()?))
+        Ok(Some(self.fresh()))
     }
 
     /// The resources of an element with `property` and neither `content` nor `datatype`.
@@ -153,14 +161,14 @@ impl<'a> Place<'a> {
         let typed = self.property_type(facts)?;
         Ok(Found {
             subject,
-            typed: Some(typed.share()?),
+            typed: Some(typed.try_clone()?),
             object: Some(typed),
             skipped: false,
         })
     }
 
     /// The typed resource of an element with `property`.
-    fn property_type(&self, facts: &Facts) -> Result<Shared, NoMemory>
+    fn property_type(&self, facts: &Facts) -> Result<Node, NoMemory>
         ensures { IfOk result (λ typed. node_seen typed ≡ property_type (naming self.now) self.now.base.now (standing self.now (facts_seen facts.now))) }
     {
         if let Some(about) = &facts.about {
@@ -173,13 +181,13 @@ impl<'a> Place<'a> {
             return self.named(linked);
         }
         if self.is_head_or_body(facts) {
-            return self.around.object.share();
+            return self.around.object.try_clone();
         }
-        self.fresh()
+        Ok(self.fresh())
     }
 
     /// The subject of an element with neither `rel` nor `rev`.
-    fn no_link_subject(&self, facts: &Facts) -> Result<Shared, NoMemory>
+    fn no_link_subject(&self, facts: &Facts) -> Result<Node, NoMemory>
         ensures { IfOk result (λ subject. node_seen subject ≡ (of_no_link (naming self.now) self.now.base.now (standing self.now (facts_seen facts.now))).subject) }
     {
         if let Some(about) = &facts.about {
@@ -192,9 +200,9 @@ impl<'a> Place<'a> {
             return self.page();
         }
         if self.is_head_or_body(facts) || facts.types.is_none() {
-            return self.around.object.share();
+            return self.around.object.try_clone();
         }
-        self.fresh()
+        Ok(self.fresh())
     }
 
     /// The resources of an element with neither `rel` nor `rev`, and no plain property.
@@ -203,7 +211,7 @@ impl<'a> Place<'a> {
     {
         let subject = self.no_link_subject(facts)?;
         let typed = if facts.types.is_some() {
-            Some(subject.share()?)
+            Some(subject.try_clone()?)
         } else {
             None
         };

@@ -13,14 +13,13 @@ ghost use Rattle.rx_element.specs.TextRules.{resource_term};
 ghost use Rattle.rx_element.specs.Places.{named, naming, standing};
 ghost use Rattle.rx_element.specs.Starts.{vocabulary_by, types_of, properties_of, links_of, values_of, found_by, start_by};
 
-use crate::iris::{rdf_type, uses_vocabulary};
+use crate::iris::OwnIris;
 use crate::places::{Place, named};
 use crate::resources::Found;
-use crate::triples::{push, push_completed, push_each};
+use crate::triples::{push_completed, push_each};
 use crate::values::{into_term, node_term, value_now};
 use rx_curie::{Facts, Nodes2, Ref};
 use rx_terms::{Iri, Iris, NoMemory, Node, Term, Triple, TripleList};
-use std::alloc::Global;
 
 /// What the start of an element finds: its resources, and the value of its property where that isn't its text.
 #[derive(Drop)]
@@ -31,19 +30,19 @@ pub struct Started {
 
 /// Adds the vocabulary that the element uses.
 fn push_vocabulary(
-    alloc: Global,
     out: &mut TripleList,
+    iris: &OwnIris,
     base: &Iri,
     vocab: &Option<Iri>,
 ) -> Result<(), NoMemory>
     ensures { OnOk result (triples_seen out.new ≡ triples_seen out.old ++ vocabulary_by base.now vocab.now) }
 {
     match vocab {
-        Some(vocab) => {
-            let page = Node::Iri(base.try_clone()?);
-            let predicate = uses_vocabulary(alloc)?;
-            push(out, &page, &predicate, Term::Iri(vocab.try_clone()?))
-        }
+        Some(vocab) => out.push(Triple {
+            subject: Node::Iri(base.try_clone()?),
+            predicate: iris.uses_vocabulary().try_clone()?,
+            object: Term::Iri(vocab.try_clone()?),
+        }),
         None => Ok(()),
     }
 }
@@ -114,14 +113,19 @@ fn push_properties(
 impl<'a> Place<'a> {
     /// The start of the element: finds its resources and its value, and adds its triples. After want of memory some may
     /// have been added.
-    pub fn start(&self, facts: &Facts, out: &mut TripleList) -> Result<Started, NoMemory>
+    pub fn start(
+        &self,
+        facts: &Facts,
+        iris: &OwnIris,
+        out: &mut TripleList,
+    ) -> Result<Started, NoMemory>
         ensures triples { OnOk result (triples_seen out.new ≡ triples_seen out.old ++ start_of (naming self.now) self.now.base.now (standing self.now (facts_seen facts.now))) }
         ensures found { IfOk result (λ started. found_seen started.found ≡ resources (naming self.now) self.now.base.now (standing self.now (facts_seen facts.now))) }
         ensures value { IfOk result (λ started. option_map term_seen started.value ≡ value_now (rule (naming self.now) self.now.base.now (facts_seen facts.now) (found_seen started.found)) (facts_seen facts.now)) }
     {
         let found = self.find(facts)?;
         let value = value_now(self.alloc, self.base, self.labels, facts, &found)?;
-        self.push_start(out, facts, &found, &value)?;
+        self.push_start(out, iris, facts, &found, &value)?;
         Ok(Started { found, value })
     }
 
@@ -129,32 +133,39 @@ impl<'a> Place<'a> {
     fn push_start(
         &self,
         out: &mut TripleList,
+        iris: &OwnIris,
         facts: &Facts,
         found: &Found,
         value: &Option<Term>,
     ) -> Result<(), NoMemory>
         ensures { OnOk result (triples_seen out.new ≡ triples_seen out.old ++ start_by (naming self.now) self.now.base.now (facts_seen facts.now) (found_seen found.now) (option_map term_seen value.now) (node_seen self.now.around.now.subject) self.now.around.now.hanging) }
     {
-        push_vocabulary(self.alloc, out, self.base, &facts.vocab)?;
+        push_vocabulary(out, iris, self.base, &facts.vocab)?;
         if found.skipped {
             return Ok(());
         }
-        let subject = found.subject.node();
-        self.push_found(out, facts, found)?;
+        let subject = &found.subject;
+        self.push_found(out, iris, facts, found)?;
         push_properties(out, facts, subject, value)?;
         let waiting = self.around.hanging.as_slice();
-        push_completed(out, waiting, self.around.subject.node(), subject)
+        push_completed(out, waiting, &self.around.subject, subject)
     }
 
     /// Adds the types and the links of the element.
-    fn push_found(&self, out: &mut TripleList, facts: &Facts, found: &Found) -> Result<(), NoMemory>
+    fn push_found(
+        &self,
+        out: &mut TripleList,
+        iris: &OwnIris,
+        facts: &Facts,
+        found: &Found,
+    ) -> Result<(), NoMemory>
         ensures { OnOk result (triples_seen out.new ≡ triples_seen out.old ++ found_by (naming self.now) self.now.base.now (facts_seen facts.now) (found_seen found.now)) }
     {
         if let Some(typed) = &found.typed {
-            self.push_all_types(out, typed.node(), &facts.types)?;
+            self.push_all_types(out, iris, typed, &facts.types)?;
         }
         match &found.object {
-            Some(object) => push_links(out, facts, found.subject.node(), object.node()),
+            Some(object) => push_links(out, facts, &found.subject, object),
             None => Ok(()),
         }
     }
@@ -162,34 +173,48 @@ impl<'a> Place<'a> {
     fn push_all_types(
         &self,
         out: &mut TripleList,
+        iris: &OwnIris,
         typed: &Node,
         types: &Option<Nodes2>,
     ) -> Result<(), NoMemory>
         ensures { OnOk result (triples_seen out.new ≡ triples_seen out.old ++ types_of (naming self.now) self.now.base.now (node_seen typed.now) (listed (option_map refs_seen types.now))) }
     {
         match types {
-            Some(types) => self.push_types(out, typed, types),
+            Some(types) => self.push_types(out, iris, typed, types),
             None => Ok(()),
         }
     }
 
     /// Adds the types of a node.
-    fn push_types(&self, out: &mut TripleList, typed: &Node, types: &Nodes2) -> Result<(), NoMemory>
+    fn push_types(
+        &self,
+        out: &mut TripleList,
+        iris: &OwnIris,
+        typed: &Node,
+        types: &Nodes2,
+    ) -> Result<(), NoMemory>
         ensures { OnOk result (triples_seen out.new ≡ triples_seen out.old ++ types_of (naming self.now) self.now.base.now (node_seen typed.now) (refs_seen types.now)) }
     {
         for i in 0..types.len() {
-            self.push_type(out, typed, types.at(i))?;
+            self.push_type(out, iris, typed, types.at(i))?;
         }
         Ok(())
     }
 
-    fn push_type(&self, out: &mut TripleList, typed: &Node, name: &Ref) -> Result<(), NoMemory>
+    /// Adds one type of a node.
+    fn push_type(
+        &self,
+        out: &mut TripleList,
+        iris: &OwnIris,
+        typed: &Node,
+        name: &Ref,
+    ) -> Result<(), NoMemory>
         ensures { OnOk result (triples_seen out.new ≡ triples_seen out.old ++ spo (node_seen typed.now) rdf_type (resource_term (named self.now.labels.now self.now.base.now (ref_seen name.now))) ∷ []) }
     {
         let node = named(self.alloc, self.base, self.labels, name)?;
         out.push(Triple {
             subject: typed.try_clone()?,
-            predicate: rdf_type(self.alloc)?,
+            predicate: iris.rdf_type().try_clone()?,
             object: into_term(node),
         })
     }

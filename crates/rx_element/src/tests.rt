@@ -42,3 +42,17 @@ fn a_text_about_a_label(rt: HostRuntime) -> Result<(), Fail> {
     assert_eq!(rt; text.as_str(), "Hi");
     Ok(())
 }
+
+#[test]
+fn the_own_iris(rt: HostRuntime) -> Result<(), Fail> {
+    let iris = OwnIris::new(rt.alloc())?;
+    assert_eq!(rt;
+        iris.rdf_type().as_str(),
+        "http://www.w3.org/1999/02/22-rdf-syntax-ns#type"
+    );
+    assert_eq!(rt;
+        iris.uses_vocabulary().as_str(),
+        "http://www.w3.org/ns/rdfa#usesVocabulary"
+    );
+    Ok(())
+}

@@ -182,14 +182,14 @@ fn value_of_resource(
     if !has_link(facts) {
         if let Some(linked) = linked_ref(facts) {
             let node = named(alloc, base, labels, linked)?;
-            return Ok(Some(node_term(&node)?));
+            return Ok(Some(into_term(node)));
         }
     }
     if facts.types.is_none() || facts.about.is_some() {
         return Ok(None);
     }
     match &found.typed {
-        Some(typed) => Ok(Some(node_term(typed.node())?)),
+        Some(typed) => Ok(Some(node_term(typed)?)),
         None => Ok(None),
     }
 }
