@@ -2,6 +2,8 @@
 //!
 //! [`read_term`] and [`read_resource`] are the readings of RDFa Core 1.1, section 7.4, and lend slices. [`Facts::of`] reads all
 //! attributes of a tag, and refuses a vocabulary without a scheme and literals that are markup.
+//!
+//! An [`IriMaker`] makes the IRIs of a page's tags, and shares those that it made lately.
 #![tactic(auto)]
 
 ghost use Rattle.rx_curie.specs.Seen.{SeenOneToOne};
