@@ -1,18 +1,20 @@
 -- Characters added to a text, one part after another.
-use Rattle.std.proofs.Common.{◌≡◌, ◌∙◌, ℕ, ◌<◌, ◌^◌, true, false, ◌||◌, ◌==◌, List, [], ◌∷◌, ◌++◌, sym, ap, ap₂, refl, subst, append_assoc, append-nil, Result, Ok, Err, OnOk, IsAscii, suc, codes, arith}
+use Rattle.std.proofs.Common.{◌≡◌, ◌∙◌, ℕ, ◌<◌, ◌^◌, true, false, ◌||◌, ◌==◌, List, [], ◌∷◌, ◌++◌, sym, ap, ap₂, refl, subst, append_assoc, append-nil, Result, Ok, Err, OnOk, IsAscii, suc, codes, Bool, ◌+◌, ◌/◌, ◌%◌, ◌≤◌, encode_utf8, Option, arith}
 use Rattle.std.proofs.lemmas.Bool.{and_from, or_parts}
 use Rattle.std.proofs.lemmas.Bool.Decides.{nat_tests}
 use Rattle.std.specs.Str.{chars, IsUtf8, encode_utf8_all}
 use Rattle.std.specs.Fmt.{decimal}
 use Rattle.std.specs.List.{list_all, list_any}
-use Rattle.std.proofs.lemmas.Str.{encodes-append, scalars-chars}
-use Rattle.std.proofs.lemmas.Fmt.{IsAscii-decimal}
+use Rattle.std.proofs.lemmas.Str.{encodes-append, encodes-chars, encode_ascii, scalars-chars}
+use Rattle.std.proofs.lemmas.List.Folds.{list_any-append}
+use Rattle.std.proofs.lemmas.Fmt.{decimal_digit, decimal_step}
 use Rattle.rx_terms.specs.Ascii.{is_ascii, line_feed, carriage_return, quotation_mark, reverse_solidus}
 use Rattle.rx_terms.specs.Text.{Chars}
 use Rattle.rx_terms.specs.Iri.{IsIri}
 use Rattle.rx_terms.specs.Lang.{is_lang}
 use Rattle.rx_terms.proofs.CharLemmas.{ascii-chars, ascii-same}
-use Rattle.rx_nquads.specs.Writing.{is_escaped, escaped_char, escaped_text}
+use Rattle.rx_model.specs.Terms.{Triple}
+use Rattle.rx_nquads.specs.Writing.{is_escaped, escaped_char, escaped_text, iri_text, node_text, term_text, graph_text, line_text}
 use Rattle.rx_nquads.specs.Writable.{Adds, WritableText, WritableIri, WritableTag}
 
 pub if_ok : {A E P Q : Type 0} (r : Result A E) → (P → Q) → OnOk r P → OnOk r Q
@@ -64,8 +66,45 @@ pub all_ascii : (bs : List ℕ) → IsAscii bs → list_all is_ascii bs ≡ true
 all_ascii [] h = refl
 all_ascii (b ∷ bs) h = let low : b < 128 = h 0 in and_from _ _ (grind (arith, nat_tests, low)) (all_ascii bs (λ i. h (suc i)))
 
-pub adds_blank : (a b : List ℕ) (number : ℕ) → number < 2 ^ 64 → b ≡ a ++ (codes "_:b" ++ decimal number) → Adds a b (codes "_:b" ++ decimal number)
-adds_blank a b number h e = ascii_bytes a b (codes "_:b" ++ decimal number) (all_ascii (decimal number) (IsAscii-decimal number h)) e
+-- ---- a number, digit by digit
+
+pub adds_digit : (a b : List ℕ) (digit : ℕ) → digit < 10 → b ≡ a ++ ((48 + digit) ∷ []) → Adds a b (decimal digit)
+adds_digit a b digit small e = adds_by (sym (decimal_digit digit small)) (ascii_bytes a b ((48 + digit) ∷ []) (and_from _ _ (grind (arith, nat_tests, small)) refl) e)
+
+pub adds_number : {a b c : List ℕ} (number : ℕ) → 10 ≤ number → number < 2 ^ 64 → Adds a b (decimal (number / 10)) → Adds b c (decimal (number % 10)) → Adds a c (decimal number)
+adds_number number large fits h k =
+    adds_by (ap (λ z. decimal (number / 10) ++ z) (decimal_digit (number % 10) (omega arith)) ∙ sym (decimal_step number large fits)) (adds_then h k)
+
+-- ---- terms with a space behind
+
+pub iri_spaced : (iri : Chars) → codes "<" ++ (iri ++ codes "> ") ≡ iri_text iri ++ codes " "
+iri_spaced iri = ap (λ z. codes "<" ++ z) (sym (append_assoc iri (codes ">") (codes " ")))
+
+pub literal_spaced : (text kind : Chars) → (codes "\"" ++ text) ++ (codes "\"" ++ (kind ++ codes " ")) ≡ ((codes "\"" ++ (text ++ codes "\"")) ++ kind) ++ codes " "
+literal_spaced text kind = ap (λ z. codes "\"" ++ z) (sym (append_assoc (text ++ codes "\"") kind (codes " ") ∙ append_assoc text (codes "\"") (kind ++ codes " ")))
+
+pub line_spaced : (name : Option Chars) (t : Triple ℕ)
+    → (node_text t.subject ++ codes " ") ++ ((iri_text t.predicate ++ codes " ") ++ ((term_text t.object ++ codes " ") ++ (graph_text name ++ codes ".\n"))) ≡ line_text name t
+line_spaced name t =
+    append_assoc (node_text t.subject) (codes " ") _ ∙ ap (λ z. node_text t.subject ++ (codes " " ++ z)) (append_assoc (iri_text t.predicate) (codes " ") _
+    ∙ ap (λ z. iri_text t.predicate ++ (codes " " ++ z)) (append_assoc (term_text t.object) (codes " ") (graph_text name ++ codes ".\n")))
+
+-- ---- what has an escape
+
+none_by_bytes : (cs : Chars) → list_any is_escaped (encode_utf8_all cs) ≡ false → list_any is_escaped cs ≡ false
+none_by_bytes [] h = refl
+none_by_bytes (c ∷ cs) h =
+    let parts = or_parts (list_any is_escaped (encode_utf8 c)) (list_any is_escaped (encode_utf8_all cs)) (sym (list_any-append is_escaped (encode_utf8 c) (encode_utf8_all cs)) ∙ h) in
+    ap₂ ◌||◌ (go (is_escaped c) refl parts.0) (none_by_bytes cs parts.1)
+  where
+    go : (b : Bool) → is_escaped c ≡ b → list_any is_escaped (encode_utf8 c) ≡ false → is_escaped c ≡ false
+    go false e k = e
+    go true e k =
+        let small : c < 128 = grind (arith, nat_tests) in
+        (or_parts (is_escaped c) false (sym (ap (list_any is_escaped) (encode_ascii c small)) ∙ k)).0
+
+pub none_escaped : (bs : List ℕ) → IsUtf8 bs → list_any is_escaped bs ≡ false → list_any is_escaped (chars bs) ≡ false
+none_escaped bs u h = none_by_bytes (chars bs) (ap (list_any is_escaped) (encodes-chars bs u) ∙ h)
 
 -- ---- a string, character by character
 

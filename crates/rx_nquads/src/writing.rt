@@ -12,13 +12,16 @@ use rx_graph::Graph;
 use rx_terms::{Iri, NoMemory, Triple};
 use std::alloc::Global;
 
+/// The room in bytes that is taken for each line at first.
+const LINE: usize = 64;
+
 /// The graph's text in N-Quads: a line for each triple, in the graph's order, each quad in the graph of this name where
 /// one is given. The bytes are UTF-8.
 pub fn text(alloc: Global, graph: &Graph, name: Option<&Iri>) -> Result<Vec<u8>, NoMemory>
     ensures bytes { IfOk result (λ bytes. bytes.items ≡ encode_utf8_all (nquads (triples_seen graph.now) (option_map (λ iri. iri.now) name.entry))) }
     ensures denotes { IfOk result (λ bytes. Nquads (chars bytes.items) (quads (triples_seen graph.now) (option_map (λ iri. iri.now) name.entry))) }
 {
-    let mut out = String::new(alloc);
+    let mut out = String::with_capacity(alloc, graph.len().saturating_mul(LINE))?;
     for i in 0..graph.len() {
         push_line(&mut out, graph.at(i), name)?;
     }
@@ -31,11 +34,8 @@ fn push_line(out: &mut String, triple: &Triple, name: Option<&Iri>) -> Result<()
     ensures writable { OnOk result (WritableTriple (option_map (λ iri. iri.now) name.entry) (triple_seen triple.now)) }
 {
     push_node(out, &triple.subject)?;
-    push(out, " ")?;
     push_iri(out, &triple.predicate)?;
-    push(out, " ")?;
     push_term(out, &triple.object)?;
-    push(out, " ")?;
     push_name(out, name)?;
     push(out, ".\n")
 }
@@ -46,9 +46,6 @@ fn push_name(out: &mut String, name: Option<&Iri>) -> Result<(), NoMemory>
 {
     match name {
         None => Ok(()),
-        Some(iri) => {
-            push_iri(out, iri)?;
-            push(out, " ")
-        }
+        Some(iri) => push_iri(out, iri),
     }
 }

@@ -1,6 +1,6 @@
-use Rattle.std.proofs.Common.{string_bytes, rules}
-use Rattle.rx_nquads.proofs.Adding.{adds_blank}
+use Rattle.std.proofs.Common.{codes, refl}
+use Rattle.rx_nquads.proofs.Adding.{if_ok, adds_then, literal}
 use Rattle.rx_nquads.proofs.terms.push_blank.Goals as goal
 
 pub returns-clause-adds : goal.returns-clause-adds
-returns-clause-adds c = adds_blank (string_bytes c.args.out.now) (string_bytes c.write.new.self) c.args.blank.0 (search rules) c.in_ok-write.ensures.bytes
+returns-clause-adds c = if_ok c.push-2.result (λ h. adds_then (literal (codes "_:b") refl c.in_ok-push.ensures) (adds_then c.in_ok-push_number.ensures (literal (codes " ") refl h))) c.push-2.ensures

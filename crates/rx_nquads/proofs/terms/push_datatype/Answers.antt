@@ -3,4 +3,4 @@ use Rattle.rx_nquads.proofs.Adding.{if_ok, adds_then, literal}
 use Rattle.rx_nquads.proofs.terms.push_datatype.Goals as goal
 
 pub returns-clause-adds : goal.returns-clause-adds
-returns-clause-adds c = if_ok c.push_iri.result (λ h. adds_then (literal (codes "^^") refl c.in_ok-push.ensures) h) c.push_iri.ensures.adds
+returns-clause-adds c = if_ok c.push_iri.result (λ h. adds_then (literal (codes "\"^^") refl c.in_ok-push.ensures) h) c.push_iri.ensures.adds
