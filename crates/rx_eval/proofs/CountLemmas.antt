@@ -1,9 +1,9 @@
 -- The labels of types are counted one after another.
-use Rattle.std.proofs.Common.{◌≡◌, ◌∙◌, ℕ, suc, ◌+◌, List, [], ◌∷◌, ◌++◌, length, drop, flat_map, Some, slice_get, sym, ap, arith, length-append}
+use Rattle.std.proofs.Common.{◌≡◌, ◌∙◌, ℕ, suc, ◌+◌, List, length, drop, flat_map, Some, slice_get, ap, arith, length-append}
 use Rattle.rx_rdfa.specs.Renaming.{label_of}
 use Rattle.rx_curie.specs.declared.refs.Ref.{Ref as CodeRef}
 use Rattle.rx_curie.specs.Seen.{ref_seen, refs_seen}
-use Rattle.rx_element.proofs.DrawLemmas.{drop_at, nothing_left}
+use Rattle.rx_element.proofs.DrawLemmas.{drop_at}
 
 abbrev pub labels_in : List CodeRef → ℕ
 labels_in types = length (flat_map label_of (refs_seen types))

@@ -1,5 +1,5 @@
 -- Lists that grow by one after another of another list.
-use Rattle.std.proofs.Common.{◌≡◌, ◌∙◌, ℕ, suc, ◌+◌, List, [], ◌∷◌, ◌++◌, map, drop, Some, slice_get, sym, ap, append_assoc, add-one}
+use Rattle.std.proofs.Common.{◌≡◌, ◌∙◌, ℕ, suc, ◌+◌, List, [], ◌∷◌, ◌++◌, map, drop, Some, slice_get, refl, sym, ap, append_assoc, add-one}
 use Rattle.std.proofs.lemmas.List.{map-append}
 use Rattle.rx_element.proofs.DrawLemmas.{drop_at}
 
@@ -26,3 +26,10 @@ one_copied xs i x now more whole y g e m w =
 
 pub mapped_more : {A B : Type 0} (f : A → B) (xs ys : List A) (x : A) → ys ≡ xs ++ x ∷ [] → map f ys ≡ map f xs ++ f x ∷ []
 mapped_more f xs ys x e = ap (map f) e ∙ map-append f xs (x ∷ [])
+
+-- one more was handed over and added
+pub one_yielded : {A B : Type 0} (f : A → B) (start : List B) (yielded out more : List A) (x : A) → map f out ≡ start ++ map f yielded → more ≡ out ++ x ∷ []
+    → map f more ≡ start ++ map f (yielded ++ x ∷ [])
+one_yielded f start yielded out more x w m =
+    mapped_more f out more x m ∙ ap (λ (l : List _). l ++ f x ∷ []) w ∙ append_assoc start (map f yielded) (f x ∷ [])
+    ∙ ap (λ (l : List _). start ++ l) (sym (mapped_more f yielded (yielded ++ x ∷ []) x refl))

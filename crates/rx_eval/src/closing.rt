@@ -38,7 +38,7 @@ fn put_value(
     ensures filled { OnOk result (owners_seen lists.new ≡ fill_all (slots_in gathered.now.target) (term_seen value) (owners_seen lists.old)) }
 {
     match &gathered.target {
-        Target::Said(predicates) => push_each(out, gathered.subject.node(), predicates, value),
+        Target::Said(predicates) => push_each(out, &gathered.subject, predicates, value),
         Target::Listed(slots) => fill_each(lists, slots.as_slice(), &value),
     }
 }
@@ -74,10 +74,18 @@ pub(crate) fn end_lists(
         return Err(NoMemory);
     }
     let finished = lists.finish(owner, next)?;
-    for i in 0..finished.triples.len() {
-        out.push(finished.triples.at(i).try_clone()?)?;
-    }
+    push_all(out, finished.triples)?;
     Ok(finished.next_blank)
+}
+
+/// Adds the triples themselves, in order.
+fn push_all(out: &mut TripleList, triples: TripleList) -> Result<(), NoMemory>
+    ensures { OnOk result (triples_seen out.new ≡ triples_seen out.old ++ triples_seen triples) }
+{
+    for triple in triples.into_vec() {
+        out.push(triple)?;
+    }
+    Ok(())
 }
 
 /// The same of an owner, if there is one.

@@ -18,7 +18,7 @@ use crate::frames::{Frame, Gathered, Target, clone_iris, waiting_of};
 use crate::handing::{begin, hangs, object_below};
 use crate::listing::put_all;
 use rx_curie::Facts;
-use rx_element::{Context, Found, Hangings, Place, Shared, TextRule};
+use rx_element::{Context, Found, Hangings, OwnIris, Place, TextRule};
 use rx_lists::{Lists, Owner, SlotId};
 use rx_terms::{Iris, NoMemory, Node, Term, TripleList};
 use std::alloc::Global;
@@ -36,14 +36,14 @@ fn owner_or(owner: Option<Owner>, other: Owner) -> Owner
 /// A new owner of lists for the children, where they have an object that isn't the subject.
 fn begin_below(
     lists: &mut Lists,
-    object: &Option<Shared>,
+    object: &Option<Node>,
     subject: &Node,
 ) -> Result<Option<Owner>, NoMemory>
     ensures lists { OnOk result (lists.new ≡ begun_below object.now subject.now lists.old) }
     ensures owner { IfOk result (λ owner. owner ≡ begun_below_number object.now subject.now (length lists.old)) }
 {
     match object {
-        Some(object) => begin(lists, object.node(), subject),
+        Some(object) => begin(lists, object, subject),
         None => Ok(None),
     }
 }
@@ -68,7 +68,7 @@ fn gathered(
     }
     let target = target(alloc, facts, property, slots)?;
     Ok(Some(Gathered {
-        subject: found.subject.share()?,
+        subject: found.subject.try_clone()?,
         rule: TextRule::of(facts)?,
         target,
         mark,
@@ -109,6 +109,7 @@ fn skipped(around: &Context) -> Result<Frame, NoMemory>
 pub(crate) fn enter(
     place: &Place<'_>,
     facts: &Facts,
+    iris: &OwnIris,
     lists: &mut Lists,
     out: &mut TripleList,
     mark: usize,
@@ -121,7 +122,7 @@ pub(crate) fn enter(
     ensures own { IfOk result (λ frame. option_map owner_seen frame.own ≡ at_place own_at place.now (facts_seen facts.now) (length lists.old)) }
     ensures below { IfOk result (λ frame. option_map owner_seen frame.below ≡ at_place below_own_at place.now (facts_seen facts.now) (length lists.old)) }
 {
-    let started = place.start(facts, out)?;
+    let started = place.start(facts, iris, out)?;
     if started.found.skipped {
         return skipped(place.around);
     }
@@ -147,8 +148,8 @@ fn enter_found(
 {
     let around = place.around;
     let object = object_below(place, facts, found)?;
-    let subject = found.subject.node();
-    let own = begin(lists, subject, around.object.node())?;
+    let subject = &found.subject;
+    let own = begin(lists, subject, &around.object)?;
     let below = begin_below(lists, &object, subject)?;
     let owner = owner_or(own, around.owner);
     let waiting = around.hanging.as_slice();
@@ -175,7 +176,7 @@ fn hand(
     alloc: Global,
     facts: &Facts,
     found: &Found,
-    object: Option<Shared>,
+    object: Option<Node>,
     own: Owner,
     below: Owner,
 ) -> Result<Context, NoMemory>
@@ -189,10 +190,10 @@ fn hand(
     let hanging = Hangings::of(alloc, waiting)?;
     let object = match object {
         Some(object) => object,
-        None => found.subject.share()?,
+        None => found.subject.try_clone()?,
     };
     Ok(Context {
-        subject: found.subject.share()?,
+        subject: found.subject.try_clone()?,
         object,
         hanging,
         owner: below,

@@ -21,7 +21,7 @@ use crate::inherited::Inherited;
 use crate::numbers::label_count;
 use crate::opening::{around, next_number};
 use rx_curie::Facts;
-use rx_element::{Context, Hangings, Labels, Place, Shared, draw_labels, level_at};
+use rx_element::{Context, Hangings, Labels, OwnIris, Place, draw_labels, level_at};
 use rx_lists::{Lists, Owner};
 use rx_terms::{Iri, NoMemory, Node, TripleList};
 use rx_values::TextStore;
@@ -40,6 +40,7 @@ const CELLS: u64 = 1 << 61;
 pub struct Eval {
     alloc: Global,
     base: Iri,
+    iris: OwnIris,
     levels: u32,
     page: Context,
     frames: Vec<Frame>,
@@ -88,8 +89,8 @@ impl Eval {
     {
         let context = around(&self.page, self.frames.as_slice());
         Inherited {
-            subject: context.subject.node(),
-            object: context.object.node(),
+            subject: &context.subject,
+            object: &context.object,
             waiting: context.hanging.as_slice(),
         }
     }
@@ -99,11 +100,11 @@ impl Eval {
         ensures ok { IfOk result (λ eval. eval ≡ begun_state base levels) }
         ensures stands { IfOk result (λ eval. Stands no_numbers [] eval) }
     {
-        let page = Shared::new(alloc, Node::Iri(base.try_clone()?))?;
+        let page = Node::Iri(base.try_clone()?);
         let mut lists = Lists::new(alloc)?;
-        let owner = lists.start(page.node().try_clone()?)?;
+        let owner = lists.start(page.try_clone()?)?;
         let page = Context {
-            subject: page.share()?,
+            subject: page.try_clone()?,
             object: page,
             hanging: Hangings::of(alloc, Vec::new(alloc))?,
             owner,
@@ -111,6 +112,7 @@ impl Eval {
         Ok(Eval {
             alloc,
             base,
+            iris: OwnIris::new(alloc)?,
             levels,
             page,
             frames: Vec::with_capacity(alloc, levels as usize)?,
@@ -258,7 +260,14 @@ impl Eval {
             fresh,
         };
         let mark = self.text.mark();
-        let frame = enter(&place, facts, &mut self.lists, &mut self.out, mark)?;
+        let frame = enter(
+            &place,
+            facts,
+            &self.iris,
+            &mut self.lists,
+            &mut self.out,
+            mark,
+        )?;
         let drawn = next_number(&frame.context, fresh);
         let gathers = frame.gathered.is_some();
         let Ok(()) = self.frames.push(frame) else {

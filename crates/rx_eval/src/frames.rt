@@ -5,9 +5,9 @@ ghost use Rattle.rx_element.specs.Contexts.{waiting_seen};
 ghost use Rattle.rx_eval.specs.Frames.{forward_by, reverse_by, hanging_by};
 
 use rx_curie::Facts;
-use rx_element::{Context, Shared, TextRule, Waiting};
+use rx_element::{Context, TextRule, Waiting};
 use rx_lists::{Owner, SlotId};
-use rx_terms::{Iri, Iris, NoMemory};
+use rx_terms::{Iri, Iris, NoMemory, Node};
 use std::alloc::Global;
 
 /// Where the value of an element's text goes.
@@ -22,7 +22,7 @@ pub(crate) enum Target {
 /// What is known of the value of an element that gathers its text.
 #[derive(Drop)]
 pub(crate) struct Gathered {
-    pub(crate) subject: Shared,
+    pub(crate) subject: Node,
     pub(crate) rule: TextRule,
     pub(crate) target: Target,
     /// Where the element's text begins in the text that is kept.

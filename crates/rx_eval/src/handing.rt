@@ -9,7 +9,7 @@ ghost use Rattle.rx_element.specs.Places.{naming, standing};
 ghost use Rattle.rx_eval.specs.Handing.{begun, begun_number};
 
 use rx_curie::Facts;
-use rx_element::{Found, Place, Shared, share_option};
+use rx_element::{Found, Place, clone_option};
 use rx_lists::{Lists, Owner};
 use rx_terms::{Iris, NoMemory, Node};
 
@@ -44,13 +44,13 @@ pub(crate) fn object_below(
     place: &Place<'_>,
     facts: &Facts,
     found: &Found,
-) -> Result<Option<Shared>, NoMemory>
+) -> Result<Option<Node>, NoMemory>
     ensures { IfOk result (λ object. option_map node_seen object ≡ object_below (naming place.now) (standing place.now (facts_seen facts.now)) (found_seen found.now)) }
 {
     if hangs(facts, found) {
-        return Ok(Some(place.fresh()?));
+        return Ok(Some(place.fresh()));
     }
-    share_option(&found.object)
+    clone_option(&found.object)
 }
 
 /// A new owner of lists with the subject, where that isn't the other node.

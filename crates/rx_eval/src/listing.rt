@@ -11,7 +11,7 @@ ghost use Rattle.rx_eval.specs.Listing.{entries_for, linked_entries, touched_ent
 use crate::entries::{add_awaited, add_each, slot_each, touch_each};
 use crate::handing::hangs;
 use rx_curie::Facts;
-use rx_element::{Found, Shared, Waiting, node_term};
+use rx_element::{Found, Waiting, node_term};
 use rx_lists::{Lists, Owner, SlotId};
 use rx_terms::{Iris, NoMemory, Node, Term};
 use std::alloc::Global;
@@ -21,7 +21,7 @@ fn put_linked(
     lists: &mut Lists,
     owner: Owner,
     rel: &Option<Iris>,
-    object: &Option<Shared>,
+    object: &Option<Node>,
 ) -> Result<(), NoMemory>
     ensures { OnOk result (owners_seen lists.new ≡ put_entries (linked_entries owner.0 rel.now (option_map node_seen object.now)) (owners_seen lists.old)) }
 {
@@ -29,7 +29,7 @@ fn put_linked(
         return Ok(());
     };
     match rel {
-        Some(rel) => add_each(lists, owner, rel, &node_term(object.node())?),
+        Some(rel) => add_each(lists, owner, rel, &node_term(object)?),
         None => Ok(()),
     }
 }
@@ -113,7 +113,7 @@ pub(crate) fn put_all(
     ensures slots { IfOk result (λ slots. slots.items ≡ (if facts.now.inlist then (if is_none value.now then own_places owner.0 (facts_seen facts.now) (found_seen found.now) (owners_seen lists.old) else []) else [])) }
 {
     let slots = put_listed(alloc, lists, owner, facts, found, value)?;
-    put_awaited(lists, waiting, found.subject.node())?;
+    put_awaited(lists, waiting, &found.subject)?;
     Ok(slots)
 }
 

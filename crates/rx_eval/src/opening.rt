@@ -21,7 +21,7 @@ pub(crate) fn next_number(context: &Context, fresh: u64) -> u64
     requires { fresh + 1 < 2 ^ 64 }
     ensures { result ≡ drawn_after (context_seen context.now) fresh }
 {
-    if is_blank(context.subject.node(), fresh) || is_blank(context.object.node(), fresh) {
+    if is_blank(&context.subject, fresh) || is_blank(&context.object, fresh) {
         return fresh + 1;
     }
     fresh

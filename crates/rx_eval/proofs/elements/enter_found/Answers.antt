@@ -17,8 +17,8 @@ use Rattle.rx_eval.proofs.elements.enter_found.Goals as goal
 
 pub returns-clause-context : goal.returns-clause-context
 returns-clause-context c =
-    handed_is c.args.place.now.labels.now c.args.place.now.fresh (standing c.args.place.now (facts_seen c.args.facts.now)) (found_seen c.args.found.now) c.node-subject.result.now c.node.result.now c.in_ok-object.object
-    c.in_ok-own.own c.in_ok-below.below c.args.place.now.around.now.owner (context_seen c.in_ok-context.context) c.args.lists.now c.begin.new.lists c.requires (ap node_seen c.node-subject.ensures) (ap node_seen c.node.ensures) refl
+    handed_is c.args.place.now.labels.now c.args.place.now.fresh (standing c.args.place.now (facts_seen c.args.facts.now)) (found_seen c.args.found.now) c.args.found.now.subject c.args.place.now.around.now.object c.in_ok-object.object
+    c.in_ok-own.own c.in_ok-below.below c.args.place.now.around.now.owner (context_seen c.in_ok-context.context) c.args.lists.now c.begin.new.lists c.requires refl refl refl
     c.in_ok-object.ensures c.in_ok-own.ensures.owner c.in_ok-own.ensures.lists c.in_ok-below.ensures.owner
     (c.in_ok-context.ensures
     ∙ ap₂ (λ (x y : Owner). handed_by (facts_seen c.args.facts.now) (found_seen c.args.found.now) (option_map node_seen c.in_ok-object.object) x.0 y.0) c.owner_or-owner.ensures
@@ -31,22 +31,22 @@ returns-clause-lists c =
     c.in_ok-slots.ensures.lists
     ∙ ap (λ (n : ℕ). put_entries (entries_in n (facts_seen c.args.facts.now) here (option_map term_seen c.args.value.now) (map waiting_seen c.as_slice-waiting.result.now)) (owners_seen c.begin_below.new.lists))
     (ap (λ (o : Owner). o.0) c.owner_or-owner.ensures
-    ∙ own_is (naming c.args.place.now) at here c.node-subject.result.now c.node.result.now c.in_ok-object.object (ap node_seen c.node-subject.ensures) (ap node_seen c.node.ensures) c.in_ok-own.own
+    ∙ own_is (naming c.args.place.now) at here c.args.found.now.subject c.args.place.now.around.now.object c.in_ok-object.object refl refl c.in_ok-own.own
     c.args.place.now.around.now.owner (length c.args.lists.now) refl c.in_ok-own.ensures.owner)
     ∙ ap₂ (λ (w : List Waiting) (l : List (Option Owning)). put_entries (entries_in (own_number at here (length c.args.lists.now)) (facts_seen c.args.facts.now) here (option_map term_seen c.args.value.now) (map waiting_seen w)) l)
     c.as_slice-waiting.ensures
-    (owners_are (naming c.args.place.now) at here c.node-subject.result.now c.node.result.now c.in_ok-object.object (ap node_seen c.node-subject.ensures) (ap node_seen c.node.ensures) c.args.lists.now c.begin.new.lists
+    (owners_are (naming c.args.place.now) at here c.args.found.now.subject c.args.place.now.around.now.object c.in_ok-object.object refl refl c.args.lists.now c.begin.new.lists
     c.begin_below.new.lists c.in_ok-object.ensures c.in_ok-own.ensures.lists c.in_ok-below.ensures.lists)
 
 pub returns-clause-own : goal.returns-clause-own
 returns-clause-own c =
-    own_seen (naming c.args.place.now) (standing c.args.place.now (facts_seen c.args.facts.now)) (found_seen c.args.found.now) c.node-subject.result.now c.node.result.now c.in_ok-object.object
-    (ap node_seen c.node-subject.ensures) (ap node_seen c.node.ensures) c.in_ok-own.own (length c.args.lists.now) c.in_ok-own.ensures.owner
+    own_seen (naming c.args.place.now) (standing c.args.place.now (facts_seen c.args.facts.now)) (found_seen c.args.found.now) c.args.found.now.subject c.args.place.now.around.now.object c.in_ok-object.object
+    refl refl c.in_ok-own.own (length c.args.lists.now) c.in_ok-own.ensures.owner
 
 pub returns-clause-below : goal.returns-clause-below
 returns-clause-below c =
-    below_seen (naming c.args.place.now) (standing c.args.place.now (facts_seen c.args.facts.now)) (found_seen c.args.found.now) c.node-subject.result.now c.node.result.now c.in_ok-object.object
-    (ap node_seen c.node-subject.ensures) (ap node_seen c.node.ensures) c.in_ok-below.below c.args.lists.now c.begin.new.lists c.in_ok-object.ensures c.in_ok-own.ensures.lists c.in_ok-below.ensures.owner
+    below_seen (naming c.args.place.now) (standing c.args.place.now (facts_seen c.args.facts.now)) (found_seen c.args.found.now) c.args.found.now.subject c.args.place.now.around.now.object c.in_ok-object.object
+    refl refl c.in_ok-below.below c.args.lists.now c.begin.new.lists c.in_ok-object.ensures c.in_ok-own.ensures.lists c.in_ok-below.ensures.owner
 
 pub returns-clause-text : goal.returns-clause-text
 returns-clause-text c =
@@ -55,8 +55,8 @@ returns-clause-text c =
     gathers_places (naming_by c.args.place.now.labels.now c.args.place.now.fresh at here (length c.args.lists.now)) at here c.owner_or-owner.result.0 c.args.mark (is_some c.args.facts.now.property)
     (is_none c.args.value.now) c.in_ok-slots.slots.items (owners_seen c.begin_below.new.lists) _ c.in_ok-gathered.gathered
     (ap (λ (o : Owner). o.0) c.owner_or-owner.ensures
-    ∙ own_is (naming c.args.place.now) at here c.node-subject.result.now c.node.result.now c.in_ok-object.object (ap node_seen c.node-subject.ensures) (ap node_seen c.node.ensures) c.in_ok-own.own
+    ∙ own_is (naming c.args.place.now) at here c.args.found.now.subject c.args.place.now.around.now.object c.in_ok-object.object refl refl c.in_ok-own.own
     c.args.place.now.around.now.owner (length c.args.lists.now) refl c.in_ok-own.ensures.owner)
-    (owners_are (naming c.args.place.now) at here c.node-subject.result.now c.node.result.now c.in_ok-object.object (ap node_seen c.node-subject.ensures) (ap node_seen c.node.ensures) c.args.lists.now c.begin.new.lists
+    (owners_are (naming c.args.place.now) at here c.args.found.now.subject c.args.place.now.around.now.object c.in_ok-object.object refl refl c.args.lists.now c.begin.new.lists
     c.begin_below.new.lists c.in_ok-object.ensures c.in_ok-own.ensures.lists c.in_ok-below.ensures.lists)
     c.in_ok-gathered.ensures.some c.in_ok-slots.ensures.slots c.in_ok-gathered.ensures.what

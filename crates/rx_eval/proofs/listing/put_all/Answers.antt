@@ -1,11 +1,10 @@
-use Rattle.rx_terms.specs.declared.triples.Node.{Node as CodeNode}
-use Rattle.std.proofs.Common.{◌∙◌, ap, filter_map, map, option_map, []}
+use Rattle.std.proofs.Common.{filter_map, map, option_map, []}
 use Rattle.std.specs.Prelude.{if◌then◌else◌}
 use Rattle.rx_model.specs.Seen.{node_seen, term_seen}
 use Rattle.rx_curie.specs.Seen.{facts_seen}
 use Rattle.rx_element.specs.Found.{found_seen}
 use Rattle.rx_element.specs.Contexts.{waiting_seen}
-use Rattle.rx_eval.specs.OwnersSeen.{owners_seen, put_entries}
+use Rattle.rx_eval.specs.OwnersSeen.{owners_seen}
 use Rattle.rx_eval.specs.Listing.{own_entries, awaited_entry}
 use Rattle.rx_eval.proofs.SeenLemmas.{two_put}
 use Rattle.rx_eval.proofs.listing.put_all.Goals as goal
@@ -15,6 +14,4 @@ returns-clause-lists c =
     two_put
     (if c.args.facts.now.inlist then own_entries c.args.owner.0 (facts_seen c.args.facts.now) (found_seen c.args.found.now) (option_map term_seen c.args.value.now) else [])
     (filter_map (awaited_entry (node_seen c.args.found.now.subject)) (map waiting_seen c.args.waiting.now)) (owners_seen c.args.lists.now) (owners_seen c.put_listed.new.lists)
-    (owners_seen c.put_awaited.new.lists) c.in_ok-slots.ensures.lists
-    (c.in_ok-put_awaited.ensures
-    ∙ ap (λ (n : CodeNode). put_entries (filter_map (awaited_entry (node_seen n)) (map waiting_seen c.args.waiting.now)) (owners_seen c.put_listed.new.lists)) c.node.ensures)
+    (owners_seen c.put_awaited.new.lists) c.in_ok-slots.ensures.lists c.in_ok-put_awaited.ensures

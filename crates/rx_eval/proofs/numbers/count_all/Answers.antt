@@ -1,4 +1,4 @@
-use Rattle.std.proofs.Common.{◌≡◌, ◌+◌, suc, add-one, subst, sym, arith, drop, ℕ}
+use Rattle.std.proofs.Common.{◌≡◌, ◌+◌, add-one, subst, sym, arith, drop, ℕ}
 use Rattle.rx_eval.proofs.CountLemmas.{labels_in, one_counted}
 use Rattle.rx_eval.proofs.numbers.count_all.Goals as goal
 

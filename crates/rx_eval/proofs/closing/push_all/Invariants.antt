@@ -1,0 +1,6 @@
+use Rattle.std.proofs.Common.{◌≡◌, ◌++◌}
+use Rattle.rx_model.specs.Seen.{triples_seen}
+use Rattle.rx_eval.proofs.closing.push_all.Given as goal
+
+abbrev pub invariant-loop-triple : goal.invariant-loop-triple
+invariant-loop-triple l = triples_seen l.out ≡ triples_seen l.initial.out ++ triples_seen l.yielded
