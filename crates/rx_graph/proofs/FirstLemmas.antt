@@ -1,6 +1,16 @@
 -- Which triples of a list are the first of their kind.
-use Rattle.std.proofs.Common.{◌≡◌, ℕ, suc, ◌+◌, ◌<◌, ◌≤◌, Bool, true, false, not, List, [], ◌∷◌, ◌++◌, map, filter, length, take, get_or, slice_get, Some, refl, sym, ap, ap₂, ◌∙◌, if◌then◌else◌, nat_eq, true≢false, length-append, arith}
-use Rattle.std.proofs.lemmas.List.{map-append, take_all}
+use Rattle.std.proofs.Common.{◌≡◌, ℕ, suc, ◌+◌, ◌<◌, ◌≤◌, Bool, true, false, not, List, [], ◌∷◌, ◌++◌, map, length, take, get_or, slice_get, Some, refl, sym, ap, ap₂, ◌∙◌, if◌then◌else◌, nat_eq, true≢false, length-append, arith}
+use Rattle.std.proofs.Common.{◌||◌, ◌&&◌, ⊎_elim, option_map}
+use Rattle.std.proofs.lemmas.List.{map-append, take_all, take-map}
+use Rattle.std.proofs.Math.Bool.{or-false}
+use Rattle.std.proofs.lemmas.Option.{slice_get-map, get_or_from_slice_get}
+use Rattle.rx_model.specs.Sets.{IsExact}
+use Rattle.rx_model.proofs.Sets.{Among-contains, Among_by_contains, Among_distinct, Among_of_distinct, or_cases, or_left, or_right, and_left, and_right, not_true, false_unless}
+use Rattle.rx_model.proofs.Exact.{exact_numbers, exact_triples}
+use Rattle.rx_model.proofs.Seen.{triple_tells}
+use Rattle.rx_graph.specs.Bits.{has_bit}
+use Rattle.rx_graph.specs.Keys.{key_of, TellsRepeats}
+use Rattle.rx_graph.proofs.KeyLemmas.{contains_more}
 use Rattle.indexmap.specs.IndexSet.{insert_key}
 use Rattle.rx_terms.specs.declared.triples.Triple.{Triple as CodeTriple}
 use Rattle.rx_model.specs.Sets.{contains, distinct}
@@ -10,42 +20,85 @@ use Rattle.rx_graph.specs.declared.firsts.Lent.{Lent}
 use Rattle.rx_graph.specs.Lent.{lent_seen}
 use Rattle.rx_graph.specs.Graph.{added, added_all, marks_after, first_marks}
 use Rattle.rx_graph.proofs.CodeEq.{lent_eq, lents_agree_back}
-use Rattle.rx_graph.proofs.SetLemmas.{insert_seen, graph_grows, seen_more, owned_turn}
+use Rattle.rx_graph.proofs.SetLemmas.{insert_seen, graph_grows, seen_more, owned_turn, same_truth}
 use Rattle.rx_graph.proofs.PlaceLemmas.{added_distinct}
 
 pub lent_added : (list : List Lent) (t : Lent) → map lent_seen (insert_key lent_eq list t) ≡ added (map lent_seen list) (lent_seen t)
 lent_added list t = insert_seen lent_seen lent_eq (same_triple nat_eq) lents_agree_back list t
 
--- ---- a list that is as long without repeats has none
+-- ---- which triples may repeat
 
-module _ {A : Type 0} (p : A → Bool) where
-  filter_short : (xs : List A) → length (filter p xs) ≤ length xs
-  filter_short [] = omega arith
-  filter_short (x ∷ xs) = go (p x) (filter_short xs)
+module _ {A : Type 0} (same : A → A → Bool) (exact : IsExact same) where
+  contains_distinct : (xs : List A) (a : A) → contains same (distinct same xs) a ≡ contains same xs a
+  contains_distinct xs a = same_truth (contains same (distinct same xs) a) (contains same xs a)
+      (λ h. Among-contains same exact xs a (Among_of_distinct same xs a (Among_by_contains same exact (distinct same xs) a h)))
+      (λ h. Among-contains same exact (distinct same xs) a (Among_distinct same exact xs a (Among_by_contains same exact xs a h)))
+
+exact_here : IsExact (same_triple nat_eq)
+exact_here = exact_triples nat_eq exact_numbers
+
+alike : (t u : CodeTriple) → same_triple nat_eq (triple_seen t) (triple_seen u) ≡ true → t ≡ u
+alike t u h = triple_tells t u ((exact_here (triple_seen t) (triple_seen u)).0 h)
+
+-- alike triples have one key
+key_there : (xs : List CodeTriple) (t : CodeTriple) → contains (same_triple nat_eq) (triples_seen xs) (triple_seen t) ≡ true → contains nat_eq (map key_of xs) (key_of t) ≡ true
+key_there [] t h = absurd (true≢false (sym h))
+key_there (x ∷ xs) t h =
+    ⊎_elim (λ k. or_left (nat_eq (key_of x) (key_of t)) (contains nat_eq (map key_of xs) (key_of t)) ((exact_numbers (key_of x) (key_of t)).1 (ap key_of (alike x t k))))
+    (λ k. or_right (nat_eq (key_of x) (key_of t)) (contains nat_eq (map key_of xs) (key_of t)) (key_there xs t k))
+    (or_cases (same_triple nat_eq (triple_seen x) (triple_seen t)) (contains (same_triple nat_eq) (triples_seen xs) (triple_seen t)) h)
+
+contains_added : (list : List (Triple ℕ)) (x t : Triple ℕ) → contains (same_triple nat_eq) (added list x) t ≡ (contains (same_triple nat_eq) list t || same_triple nat_eq x t)
+contains_added list x t = go (contains (same_triple nat_eq) list x) refl (same_triple nat_eq x t) refl
+  where
+    go : (b : Bool) → contains (same_triple nat_eq) list x ≡ b → (c : Bool) → same_triple nat_eq x t ≡ c
+        → contains (same_triple nat_eq) (if b then list else list ++ x ∷ []) t ≡ (contains (same_triple nat_eq) list t || same_triple nat_eq x t)
+    go false e c f = contains_more (same_triple nat_eq) list x t
+    go true e true f = there ∙ sym (ap (λ b. b || same_triple nat_eq x t) there)
+      where
+        there : contains (same_triple nat_eq) list t ≡ true
+        there = ap (contains (same_triple nat_eq) list) (sym ((exact_here x t).0 f)) ∙ e
+    go true e false f = sym (ap (λ b. contains (same_triple nat_eq) list t || b) f ∙ or-false (contains (same_triple nat_eq) list t))
+
+-- of a triple whose bit is set, firsts tell whether it is in the list
+pub record Knows (bits : List ℕ) (firsts : List (Triple ℕ)) (list : List CodeTriple) : Type 0 where
+  pub each : (t : CodeTriple) → has_bit bits (key_of t) ≡ true → contains (same_triple nat_eq) firsts (triple_seen t) ≡ contains (same_triple nat_eq) (triples_seen list) (triple_seen t)
+
+pub knows_none : (bits : List ℕ) (list : List CodeTriple) → Knows bits [] (take 0 list)
+knows_none bits list = record { each = λ t h. refl }
+
+pub key_at : (keys : List ℕ) (list : List CodeTriple) (i : ℕ) (x : CodeTriple) → keys ≡ map key_of list → slice_get list i ≡ Some x → get_or keys i 0 ≡ key_of x
+key_at keys list i x are at = get_or_from_slice_get keys i (key_of x) 0 (ap (λ z. slice_get z i) are ∙ slice_get-map key_of list i ∙ ap (option_map key_of) at)
+
+-- one triple more
+module _ (bits keys : List ℕ) (list : List CodeTriple) (tells : TellsRepeats bits keys) (are : keys ≡ map key_of list) (i : ℕ) (x : CodeTriple) (at : slice_get list i ≡ Some x) (firsts : List (Triple ℕ))
+    (knows : Knows bits firsts (take i list)) (may : Bool) (may_is : may ≡ has_bit bits (key_of x)) where
+  one_in : (t : CodeTriple) → contains (same_triple nat_eq) (triples_seen (take (i + 1) list)) (triple_seen t) ≡ (contains (same_triple nat_eq) (triples_seen (take i list)) (triple_seen t) || same_triple nat_eq (triple_seen x) (triple_seen t))
+  one_in t = ap (λ z. contains (same_triple nat_eq) z (triple_seen t)) (seen_more list i x at) ∙ contains_more (same_triple nat_eq) (triples_seen (take i list)) (triple_seen x) (triple_seen t)
+
+  -- a triple that may repeat isn't alike to one that may not
+  unlike : may ≡ false → (t : CodeTriple) → has_bit bits (key_of t) ≡ true → same_triple nat_eq (triple_seen x) (triple_seen t) ≡ false
+  unlike e t h = false_unless (same_triple nat_eq (triple_seen x) (triple_seen t)) (λ k. true≢false (sym h ∙ ap (λ u. has_bit bits (key_of u)) (sym (alike x t k)) ∙ sym may_is ∙ e))
+
+  pub knows_turn : (new : List (Triple ℕ)) → new ≡ (if may then added firsts (triple_seen x) else firsts) → Knows bits new (take (i + 1) list)
+  knows_turn new turn = record { each = λ t h. ap (λ z. contains (same_triple nat_eq) z (triple_seen t)) turn ∙ go may refl t h ∙ sym (one_in t) }
     where
-      go : (b : Bool) → length (filter p xs) ≤ length xs → length (if b then x ∷ filter p xs else filter p xs) ≤ suc (length xs)
-      go true h = omega (arith, h)
-      go false h = omega (arith, h)
+      go : (b : Bool) → may ≡ b → (t : CodeTriple) → has_bit bits (key_of t) ≡ true → contains (same_triple nat_eq) (if b then added firsts (triple_seen x) else firsts) (triple_seen t)
+          ≡ (contains (same_triple nat_eq) (triples_seen (take i list)) (triple_seen t) || same_triple nat_eq (triple_seen x) (triple_seen t))
+      go true e t h = contains_added firsts (triple_seen x) (triple_seen t) ∙ ap (λ b. b || same_triple nat_eq (triple_seen x) (triple_seen t)) (knows.each t h)
+      go false e t h = knows.each t h ∙ sym (ap (λ b. contains (same_triple nat_eq) (triples_seen (take i list)) (triple_seen t) || b) (unlike e t h) ∙ or-false (contains (same_triple nat_eq) (triples_seen (take i list)) (triple_seen t)))
 
-  filter_all : (xs : List A) → length (filter p xs) ≡ length xs → filter p xs ≡ xs
-  filter_all [] h = refl
-  filter_all (x ∷ xs) h = go (p x) h (filter_all xs)
+  alone : has_bit bits (key_of x) ≡ false → contains (same_triple nat_eq) (triples_seen (take i list)) (triple_seen x) ≡ false
+  alone h = false_unless (contains (same_triple nat_eq) (triples_seen (take i list)) (triple_seen x))
+      (λ k. true≢false (sym (ap (λ z. contains nat_eq z (key_of x)) (ap (take i) are ∙ take-map key_of i list) ∙ key_there (take i list) x k)
+      ∙ tells.each i (key_of x) (ap (λ z. slice_get z i) are ∙ slice_get-map key_of list i ∙ ap (option_map key_of) at) h))
+
+  pub mark_is_known : (mark : Bool) → mark ≡ (not may || not (contains (same_triple nat_eq) firsts (triple_seen x))) → mark ≡ not (contains (same_triple nat_eq) (triples_seen (take i list)) (triple_seen x))
+  mark_is_known mark is = is ∙ go may refl
     where
-      go : (b : Bool) → length (if b then x ∷ filter p xs else filter p xs) ≡ suc (length xs) → (length (filter p xs) ≡ length xs → filter p xs ≡ xs) → (if b then x ∷ filter p xs else filter p xs) ≡ x ∷ xs
-      go true h on = ap (λ z. x ∷ z) (on (omega (arith, h)))
-      go false h on = absurd (omega (arith, h, filter_short xs))
-
-module _ {A : Type 0} (same : A → A → Bool) where
-  distinct_short : (xs : List A) → length (distinct same xs) ≤ length xs
-  distinct_short [] = omega arith
-  distinct_short (x ∷ xs) = omega (arith, filter_short (λ y. not (same x y)) (distinct same xs), distinct_short xs)
-
-  pub distinct_all : (xs : List A) → length (distinct same xs) ≡ length xs → distinct same xs ≡ xs
-  distinct_all [] h = refl
-  distinct_all (x ∷ xs) h =
-      let fewer = filter_short (λ y. not (same x y)) (distinct same xs) in
-      let few = distinct_short xs in
-      ap (λ z. x ∷ z) (filter_all (λ y. not (same x y)) (distinct same xs) (omega (arith, h, fewer, few)) ∙ distinct_all xs (omega (arith, h, fewer, few)))
+      go : (b : Bool) → may ≡ b → (not b || not (contains (same_triple nat_eq) firsts (triple_seen x))) ≡ not (contains (same_triple nat_eq) (triples_seen (take i list)) (triple_seen x))
+      go true e = ap not (knows.each x (sym may_is ∙ e))
+      go false e = sym (ap not (alone (sym may_is ∙ e)))
 
 -- ---- the marks
 
@@ -62,26 +115,30 @@ mark_at start [] t rest d = refl
 mark_at start (x ∷ xs) t rest d = mark_at (added start x) xs t rest d
 
 -- one triple more
-module _ (list : List CodeTriple) (i : ℕ) (t : CodeTriple) (at : slice_get list i ≡ Some t) (firsts : List (Triple ℕ)) (before : firsts ≡ distinct (same_triple nat_eq) (triples_seen (take i list))) where
-  pub firsts_turn : (more : List (Triple ℕ)) → more ≡ added firsts (triple_seen t) → more ≡ distinct (same_triple nat_eq) (triples_seen (take (i + 1) list))
-  firsts_turn more turn = turn ∙ ap (λ z. added z (triple_seen t)) before ∙ graph_grows (triples_seen (take i list)) (triple_seen t) ∙ ap (distinct (same_triple nat_eq)) (sym (seen_more list i t at))
-
-  pub marks_turn : (marks more : List Bool) (mark : Bool) → marks ≡ first_marks (triples_seen (take i list)) → mark ≡ not (contains (same_triple nat_eq) firsts (triple_seen t)) → more ≡ marks ++ mark ∷ []
-      → more ≡ first_marks (triples_seen (take (i + 1) list))
-  marks_turn marks more mark old is turn =
-      turn ∙ ap₂ (λ z b. z ++ b ∷ []) old (is ∙ ap (λ z. not (contains (same_triple nat_eq) z (triple_seen t))) (before ∙ sym (added_distinct [] (triples_seen (take i list)))))
+module _ (list : List CodeTriple) (i : ℕ) (t : CodeTriple) (at : slice_get list i ≡ Some t) (mark : Bool) (is : mark ≡ not (contains (same_triple nat_eq) (triples_seen (take i list)) (triple_seen t))) where
+  pub marks_turn : (marks more : List Bool) → marks ≡ first_marks (triples_seen (take i list)) → more ≡ marks ++ mark ∷ [] → more ≡ first_marks (triples_seen (take (i + 1) list))
+  marks_turn marks more old turn =
+      turn
+      ∙ ap₂ (λ z b. z ++ b ∷ []) old
+      (is ∙ sym (ap not (ap (λ z. contains (same_triple nat_eq) z (triple_seen t)) (added_distinct [] (triples_seen (take i list))) ∙ contains_distinct (same_triple nat_eq) exact_here (triples_seen (take i list)) (triple_seen t))))
       ∙ sym (marks_more [] (triples_seen (take i list)) (triple_seen t)) ∙ ap first_marks (sym (seen_more list i t at))
+
+  pub all_turn : (all more : Bool) → (all ≡ true → distinct (same_triple nat_eq) (triples_seen (take i list)) ≡ triples_seen (take i list)) → more ≡ (all && mark) → more ≡ true
+      → distinct (same_triple nat_eq) (triples_seen (take (i + 1) list)) ≡ triples_seen (take (i + 1) list)
+  all_turn all more before turn h =
+      let both : (all && mark) ≡ true = sym turn ∙ h in
+      let once : distinct (same_triple nat_eq) (triples_seen (take i list)) ≡ triples_seen (take i list) = before (and_left all mark both) in
+      let new : contains (same_triple nat_eq) (triples_seen (take i list)) (triple_seen t) ≡ false = not_true (contains (same_triple nat_eq) (triples_seen (take i list)) (triple_seen t)) (sym is ∙ and_right all mark both) in
+      ap (distinct (same_triple nat_eq)) (seen_more list i t at) ∙ sym (graph_grows (triples_seen (take i list)) (triple_seen t)) ∙ ap (λ z. added z (triple_seen t)) once
+      ∙ ap (λ b. if b then triples_seen (take i list) else triples_seen (take i list) ++ triple_seen t ∷ []) new ∙ sym (seen_more list i t at)
 
 length_seen : (ts : List CodeTriple) → length (triples_seen ts) ≡ length ts
 length_seen [] = refl
 length_seen (x ∷ ts) = ap suc (length_seen ts)
 
 -- at the end of the list
-pub none_repeated : (list : List CodeTriple) (i : ℕ) (firsts : List (Triple ℕ)) → length list ≤ i → firsts ≡ distinct (same_triple nat_eq) (triples_seen (take i list)) → length firsts ≡ length list
-    → distinct (same_triple nat_eq) (triples_seen list) ≡ triples_seen list
-none_repeated list i firsts past is as_long =
-    let whole : firsts ≡ distinct (same_triple nat_eq) (triples_seen list) = is ∙ ap (λ z. distinct (same_triple nat_eq) (triples_seen z)) (take_all i list past) in
-    distinct_all (same_triple nat_eq) (triples_seen list) (ap length (sym whole) ∙ as_long ∙ sym (length_seen list))
+pub all_end : (list : List CodeTriple) (i : ℕ) → length list ≤ i → distinct (same_triple nat_eq) (triples_seen (take i list)) ≡ triples_seen (take i list) → distinct (same_triple nat_eq) (triples_seen list) ≡ triples_seen list
+all_end list i past h = ap (λ z. distinct (same_triple nat_eq) (triples_seen z)) (sym (take_all i list past)) ∙ h ∙ ap triples_seen (take_all i list past)
 
 pub marks_end : (list : List CodeTriple) (i : ℕ) (marks : List Bool) → length list ≤ i → marks ≡ first_marks (triples_seen (take i list)) → marks ≡ first_marks (triples_seen list)
 marks_end list i marks past is = is ∙ ap (λ z. first_marks (triples_seen z)) (take_all i list past)

@@ -1,3 +1,5 @@
+pub mod BitLemmas
+pub mod KeyLemmas
 pub mod SetLemmas
 pub mod CodeEq
 pub mod NumberLemmas

@@ -1,4 +1,6 @@
+pub mod Bits
 pub mod Graph
+pub mod Keys
 pub mod Lent
 pub mod Numbering
 pub mod Resources

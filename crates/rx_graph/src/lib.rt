@@ -4,10 +4,12 @@
 //! What each call gives is exactly what `rx_model` defines.
 #![tactic(auto)]
 
+mod bits;
 mod copying;
 mod firsts;
 mod gathering;
 mod graphs;
+mod keys;
 mod numbering;
 mod patterns;
 mod resources;
