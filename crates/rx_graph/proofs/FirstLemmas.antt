@@ -8,7 +8,7 @@ use Rattle.rx_model.specs.Sets.{IsExact}
 use Rattle.rx_model.proofs.Sets.{Among-contains, Among_by_contains, Among_distinct, Among_of_distinct, or_cases, or_left, or_right, and_left, and_right, not_true, false_unless}
 use Rattle.rx_model.proofs.Exact.{exact_numbers, exact_triples}
 use Rattle.rx_model.proofs.Seen.{triple_tells}
-use Rattle.rx_graph.specs.Bits.{has_bit}
+use Rattle.rx_graph.specs.Bits.{has_bits}
 use Rattle.rx_graph.specs.Keys.{key_of, TellsRepeats}
 use Rattle.rx_graph.proofs.KeyLemmas.{contains_more}
 use Rattle.indexmap.specs.IndexSet.{insert_key}
@@ -62,7 +62,7 @@ contains_added list x t = go (contains (same_triple nat_eq) list x) refl (same_t
 
 -- of a triple whose bit is set, firsts tell whether it is in the list
 pub record Knows (bits : List ℕ) (firsts : List (Triple ℕ)) (list : List CodeTriple) : Type 0 where
-  pub each : (t : CodeTriple) → has_bit bits (key_of t) ≡ true → contains (same_triple nat_eq) firsts (triple_seen t) ≡ contains (same_triple nat_eq) (triples_seen list) (triple_seen t)
+  pub each : (t : CodeTriple) → has_bits bits (key_of t) ≡ true → contains (same_triple nat_eq) firsts (triple_seen t) ≡ contains (same_triple nat_eq) (triples_seen list) (triple_seen t)
 
 pub knows_none : (bits : List ℕ) (list : List CodeTriple) → Knows bits [] (take 0 list)
 knows_none bits list = record { each = λ t h. refl }
@@ -72,23 +72,23 @@ key_at keys list i x are at = get_or_from_slice_get keys i (key_of x) 0 (ap (λ 
 
 -- one triple more
 module _ (bits keys : List ℕ) (list : List CodeTriple) (tells : TellsRepeats bits keys) (are : keys ≡ map key_of list) (i : ℕ) (x : CodeTriple) (at : slice_get list i ≡ Some x) (firsts : List (Triple ℕ))
-    (knows : Knows bits firsts (take i list)) (may : Bool) (may_is : may ≡ has_bit bits (key_of x)) where
+    (knows : Knows bits firsts (take i list)) (may : Bool) (may_is : may ≡ has_bits bits (key_of x)) where
   one_in : (t : CodeTriple) → contains (same_triple nat_eq) (triples_seen (take (i + 1) list)) (triple_seen t) ≡ (contains (same_triple nat_eq) (triples_seen (take i list)) (triple_seen t) || same_triple nat_eq (triple_seen x) (triple_seen t))
   one_in t = ap (λ z. contains (same_triple nat_eq) z (triple_seen t)) (seen_more list i x at) ∙ contains_more (same_triple nat_eq) (triples_seen (take i list)) (triple_seen x) (triple_seen t)
 
   -- a triple that may repeat isn't alike to one that may not
-  unlike : may ≡ false → (t : CodeTriple) → has_bit bits (key_of t) ≡ true → same_triple nat_eq (triple_seen x) (triple_seen t) ≡ false
-  unlike e t h = false_unless (same_triple nat_eq (triple_seen x) (triple_seen t)) (λ k. true≢false (sym h ∙ ap (λ u. has_bit bits (key_of u)) (sym (alike x t k)) ∙ sym may_is ∙ e))
+  unlike : may ≡ false → (t : CodeTriple) → has_bits bits (key_of t) ≡ true → same_triple nat_eq (triple_seen x) (triple_seen t) ≡ false
+  unlike e t h = false_unless (same_triple nat_eq (triple_seen x) (triple_seen t)) (λ k. true≢false (sym h ∙ ap (λ u. has_bits bits (key_of u)) (sym (alike x t k)) ∙ sym may_is ∙ e))
 
   pub knows_turn : (new : List (Triple ℕ)) → new ≡ (if may then added firsts (triple_seen x) else firsts) → Knows bits new (take (i + 1) list)
   knows_turn new turn = record { each = λ t h. ap (λ z. contains (same_triple nat_eq) z (triple_seen t)) turn ∙ go may refl t h ∙ sym (one_in t) }
     where
-      go : (b : Bool) → may ≡ b → (t : CodeTriple) → has_bit bits (key_of t) ≡ true → contains (same_triple nat_eq) (if b then added firsts (triple_seen x) else firsts) (triple_seen t)
+      go : (b : Bool) → may ≡ b → (t : CodeTriple) → has_bits bits (key_of t) ≡ true → contains (same_triple nat_eq) (if b then added firsts (triple_seen x) else firsts) (triple_seen t)
           ≡ (contains (same_triple nat_eq) (triples_seen (take i list)) (triple_seen t) || same_triple nat_eq (triple_seen x) (triple_seen t))
       go true e t h = contains_added firsts (triple_seen x) (triple_seen t) ∙ ap (λ b. b || same_triple nat_eq (triple_seen x) (triple_seen t)) (knows.each t h)
       go false e t h = knows.each t h ∙ sym (ap (λ b. contains (same_triple nat_eq) (triples_seen (take i list)) (triple_seen t) || b) (unlike e t h) ∙ or-false (contains (same_triple nat_eq) (triples_seen (take i list)) (triple_seen t)))
 
-  alone : has_bit bits (key_of x) ≡ false → contains (same_triple nat_eq) (triples_seen (take i list)) (triple_seen x) ≡ false
+  alone : has_bits bits (key_of x) ≡ false → contains (same_triple nat_eq) (triples_seen (take i list)) (triple_seen x) ≡ false
   alone h = false_unless (contains (same_triple nat_eq) (triples_seen (take i list)) (triple_seen x))
       (λ k. true≢false (sym (ap (λ z. contains nat_eq z (key_of x)) (ap (take i) are ∙ take-map key_of i list) ∙ key_there (take i list) x k)
       ∙ tells.each i (key_of x) (ap (λ z. slice_get z i) are ∙ slice_get-map key_of list i ∙ ap (option_map key_of) at) h))

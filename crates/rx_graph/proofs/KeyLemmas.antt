@@ -7,7 +7,7 @@ use Rattle.rx_terms.specs.declared.triples.Triple.{Triple as CodeTriple}
 use Rattle.rx_model.specs.Sets.{contains}
 use Rattle.rx_model.proofs.Sets.{or_cases, false_unless}
 use Rattle.rx_model.proofs.Exact.{exact_numbers}
-use Rattle.rx_graph.specs.Bits.{has_bit, Adds}
+use Rattle.rx_graph.specs.Bits.{has_bits, Adds}
 use Rattle.rx_graph.specs.Keys.{key_of, Keeps, TellsRepeats}
 use Rattle.rx_graph.proofs.SetLemmas.{one_more}
 
@@ -32,31 +32,31 @@ keys_turn list i t old new key at before is turn =
 
 -- the bits of these keys are set
 pub record Has (bits keys : List ℕ) : Type 0 where
-  pub each : (k : ℕ) → contains nat_eq keys k ≡ true → has_bit bits k ≡ true
+  pub each : (k : ℕ) → contains nat_eq keys k ≡ true → has_bits bits k ≡ true
 
 -- of the keys before a place, those whose bits aren't set have none alike before them
 pub record TellsBefore (bits keys : List ℕ) (i : ℕ) : Type 0 where
-  pub each : (j k : ℕ) → j < i → slice_get keys j ≡ Some k → has_bit bits k ≡ false → contains nat_eq (take j keys) k ≡ false
+  pub each : (j k : ℕ) → j < i → slice_get keys j ≡ Some k → has_bits bits k ≡ false → contains nat_eq (take j keys) k ≡ false
 
 module _ (keys : List ℕ) (i key : ℕ) (at : slice_get keys i ≡ Some key) (seen now : List ℕ) (adds : Adds seen key now) (before : Has seen (take i keys)) where
   pub has_turn : Has now (take (i + 1) keys)
   has_turn = record {
-    each = λ k h. ⊎_elim (λ l. adds.keeps k (before.each k l)) (λ l. ap (has_bit now) (sym ((exact_numbers key k).0 l)) ∙ adds.has)
+    each = λ k h. ⊎_elim (λ l. adds.keeps k (before.each k l)) (λ l. ap (has_bits now) (sym ((exact_numbers key k).0 l)) ∙ adds.has)
         (or_cases (contains nat_eq (take i keys) k) (nat_eq key k) (sym (contains_more nat_eq (take i keys) key k) ∙ ap (λ z. contains nat_eq z k) (sym (one_more keys i key at)) ∙ h));
   }
 
-  module _ (old new : List ℕ) (again : has_bit seen key ≡ true → has_bit new key ≡ true) (keeps : Keeps old new) (told : TellsBefore old keys i) where
-    earlier : (k : ℕ) → has_bit new k ≡ false → has_bit old k ≡ false
-    earlier k h = false_unless (has_bit old k) (λ e. true≢false (sym (keeps.keeps k e) ∙ h))
+  module _ (old new : List ℕ) (again : has_bits seen key ≡ true → has_bits new key ≡ true) (keeps : Keeps old new) (told : TellsBefore old keys i) where
+    earlier : (k : ℕ) → has_bits new k ≡ false → has_bits old k ≡ false
+    earlier k h = false_unless (has_bits old k) (λ e. true≢false (sym (keeps.keeps k e) ∙ h))
 
-    here : has_bit new key ≡ false → contains nat_eq (take i keys) key ≡ false
+    here : has_bits new key ≡ false → contains nat_eq (take i keys) key ≡ false
     here h = false_unless (contains nat_eq (take i keys) key) (λ e. true≢false (sym (again (before.each key e)) ∙ h))
 
-    at_end : (j k : ℕ) → j < i + 1 → i ≤ j → slice_get keys j ≡ Some k → has_bit new k ≡ false → contains nat_eq (take j keys) k ≡ false
+    at_end : (j k : ℕ) → j < i + 1 → i ≤ j → slice_get keys j ≡ Some k → has_bits new k ≡ false → contains nat_eq (take j keys) k ≡ false
     at_end j k l m is h =
         let place : j ≡ i = omega arith in
         let same : k ≡ key = some_same (sym is ∙ ap (slice_get keys) place ∙ at) in
-        ap (λ n. contains nat_eq (take n keys) k) place ∙ ap (contains nat_eq (take i keys)) same ∙ here (ap (has_bit new) (sym same) ∙ h)
+        ap (λ n. contains nat_eq (take n keys) k) place ∙ ap (contains nat_eq (take i keys)) same ∙ here (ap (has_bits new) (sym same) ∙ h)
       where
         some_same : {A : Type 0} {a b : A} → Some a ≡ Some b → a ≡ b
         some_same e = cc

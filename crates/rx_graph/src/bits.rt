@@ -1,13 +1,13 @@
-//! Sets of keys, a bit for each.
+//! Sets of keys, a few bits for each.
 ghost use Rattle.std.specs.Prelude.{◌≡◌, ◌<◌, length};
-ghost use Rattle.rx_graph.specs.Bits.{word_of, has_bit, Adds};
+ghost use Rattle.rx_graph.specs.Bits.{word_of, mask_of, has_bits, Adds};
 
 use rx_terms::NoMemory;
 use std::alloc::Global;
 use std::marker::Model;
 
-/// A set of keys that forgets none. Of some that were never put in it says that they are there: those that share a bit
-/// with one that was. A contract sees its words.
+/// A set of keys that forgets none. Of a few that were never put in it says that they are there: those whose bits were set
+/// by others. A contract sees its words.
 #[derive(Drop)]
 pub(crate) struct Bits {
     words: Vec<u64>,
@@ -30,29 +30,37 @@ impl Bits {
         Ok(Bits { words })
     }
 
-    /// The place of the word that the key's bit is in.
+    /// The place of the word that the key's bits are in.
     fn word_of(&self, key: u64) -> usize
         ensures place { result ≡ word_of self.now key }
         ensures within { result < length self.now }
     {
-        (key / 64) as usize & (self.words.len() - 1)
+        (key >> 32) as usize & (self.words.len() - 1)
     }
 
-    /// Whether the key's bit is set.
+    /// Whether the key's bits are set.
     pub(crate) fn has(&self, key: u64) -> bool
-        ensures { result ≡ has_bit self.now key }
+        ensures { result ≡ has_bits self.now key }
     {
-        (self.words[self.word_of(key)] >> (key % 64)) % 2 == 1
+        let mask = mask_of(key);
+        self.words[self.word_of(key)] & mask == mask
     }
 
-    /// Sets the key's bit. Tells whether it was set.
+    /// Sets the key's bits. Tells whether they were set.
     pub(crate) fn insert(&mut self, key: u64) -> bool
-        ensures told { result ≡ has_bit self.old key }
+        ensures told { result ≡ has_bits self.old key }
         ensures added { Adds self.old key self.new }
     {
         let was_there = self.has(key);
         let place = self.word_of(key);
-        self.words[place] |= 1 << (key % 64);
+        self.words[place] |= mask_of(key);
         was_there
     }
+}
+
+/// The key's bits in its word, up to three. They come from the key's lower half, and the word's place from the upper.
+fn mask_of(key: u64) -> u64
+    ensures { result ≡ mask_of key }
+{
+    1 << (key % 64) | 1 << (key / 64 % 64) | 1 << (key / 4096 % 64)
 }

@@ -1,6 +1,6 @@
 //! Numbers by which alike triples are found.
 ghost use Rattle.std.specs.Prelude.{◌≡◌, map, true, IfOk};
-ghost use Rattle.rx_graph.specs.Bits.{has_bit, Adds};
+ghost use Rattle.rx_graph.specs.Bits.{has_bits, Adds};
 ghost use Rattle.rx_graph.specs.Keys.{key_of, Keeps, TellsRepeats};
 
 use crate::bits::Bits;
@@ -45,7 +45,7 @@ pub(crate) fn repeated(alloc: Global, keys: &[u64]) -> Result<Bits, NoMemory>
 
 fn see(seen: &mut Bits, seen_again: &mut Bits, key: u64)
     ensures seen { Adds seen.old key seen.new }
-    ensures again { has_bit seen.old key ≡ true → has_bit seen_again.new key ≡ true }
+    ensures again { has_bits seen.old key ≡ true → has_bits seen_again.new key ≡ true }
     ensures keeps { Keeps seen_again.old seen_again.new }
 {
     if seen.insert(key) {
