@@ -1,5 +1,5 @@
 -- Lists that grow by what they lack.
-use Rattle.std.proofs.Common.{◌≡◌, Bool, true, false, not, ◌||◌, List, [], ◌∷◌, ◌++◌, map, filter, refl, sym, ap, ap₂, ◌∙◌, inl, inr, true≢false, if◌then◌else◌, nat_eq, ℕ, append-nil, Result, Ok, Err, is_err, is_ok, IfOk, suc, ◌+◌, take, length, slice_get, slice_set, get_or, zero, ◌<◌, Some, arith}
+use Rattle.std.proofs.Common.{◌≡◌, Bool, true, false, not, ◌||◌, List, [], ◌∷◌, ◌++◌, map, filter, refl, sym, ap, ap₂, ◌∙◌, inl, inr, true≢false, if◌then◌else◌, nat_eq, ℕ, append-nil, Result, Ok, Err, is_err, is_ok, IfOk, suc, ◌+◌, take, length, slice_get, slice_set, get_or, zero, ◌<◌, Option, None, Some, IfSome, arith}
 use Rattle.std.proofs.Math.Seq.{take-suc}
 use Rattle.std.proofs.lemmas.Option.{slice_get_within, get_or_from_slice_get}
 use Rattle.std.specs.List.{IsDistinct, AllByRecursion}
@@ -93,6 +93,11 @@ graph_grows list t = sym (distinct_grows (same_triple nat_eq) (exact_triples nat
 pub of_ok : {A E P : Type 0} (r : Result A E) → is_err r ≡ false → IfOk r (λ a. P) → P
 of_ok (Ok a) e h = h
 of_ok (Err x) e h = absurd (true≢false e)
+
+-- what holds of an option that is something
+pub of_some : {A P : Type 0} (o : Option A) (a : A) → o ≡ Some a → IfSome o (λ x. P) → P
+of_some None a e h = absurd (cc)
+of_some (Some x) a e h = h
 
 -- ---- a list as far as a place
 

@@ -1,14 +1,12 @@
 //! Property copying (HTML+RDFa 1.1, section 3.5).
-ghost use Rattle.std.specs.Prelude.{◌≡◌, IfOk, false, nat_eq};
-ghost use Rattle.std.specs.List.{list_any};
+ghost use Rattle.std.specs.Prelude.{◌≡◌, IfOk, nat_eq};
 ghost use Rattle.rx_model.specs.Copied.{copied};
 ghost use Rattle.rx_model.specs.Seen.{triples_seen};
-ghost use Rattle.rx_graph.specs.Patterns.{copies};
 
 use crate::gathering::Gathering;
 use crate::graphs::Graph;
+use crate::keys::keys_without_copy;
 use crate::patterns::Patterns;
-use crate::vocabulary::copies;
 use rx_terms::{NoMemory, TripleList};
 use std::alloc::Global;
 
@@ -31,20 +29,8 @@ pub fn copy_patterns(alloc: Global, triples: &TripleList) -> Result<Graph, NoMem
 pub fn copy_patterns_owned(alloc: Global, triples: TripleList) -> Result<Graph, NoMemory>
     ensures { IfOk result (λ graph. triples_seen graph ≡ copied nat_eq (triples_seen triples)) }
 {
-    if has_copy(&triples) {
-        return copy_patterns(alloc, &triples);
+    match keys_without_copy(alloc, &triples)? {
+        Some(keys) => Graph::of_keyed(alloc, triples, &keys),
+        None => copy_patterns(alloc, &triples),
     }
-    Graph::of_owned(alloc, triples)
-}
-
-/// Whether some triple has the predicate rdfa:copy.
-fn has_copy(triples: &TripleList) -> bool
-    ensures { result ≡ false → list_any copies (triples_seen triples.now) ≡ false }
-{
-    for i in 0..triples.len() {
-        if copies(triples.at(i)) {
-            return true;
-        }
-    }
-    false
 }

@@ -7,7 +7,7 @@ ghost use Rattle.rx_graph.specs.Graph.{added, first_marks};
 ghost use Rattle.rx_graph.specs.Keys.{key_of, TellsRepeats};
 
 use crate::bits::Bits;
-use crate::keys::{keys_of, repeated};
+use crate::keys::repeated;
 use indexmap::IndexSet;
 use rx_terms::{NoMemory, Triple, TripleList};
 use std::alloc::Global;
@@ -70,21 +70,23 @@ impl<'a> Firsts<'a> {
 }
 
 /// For each triple of the list whether none before it is alike. Nothing where that is so of all.
+/// The keys are theirs.
 ///
 /// Most triples of a page have a key of their own, and are new for that. Only the others are looked up in a set.
 pub(crate) fn first_marks(
     alloc: Global,
     triples: &TripleList,
+    keys: &[u64],
 ) -> Result<Option<Vec<bool>>, NoMemory>
+    requires { keys.now ≡ map key_of triples.now }
     ensures all { IfOk result (λ found. found ≡ None → distinct (same_triple nat_eq) (triples_seen triples.now) ≡ triples_seen triples.now) }
     ensures marks { IfOk result (λ found. IfSome found (λ marks. marks.items ≡ first_marks (triples_seen triples.now))) }
 {
-    let keys = keys_of(alloc, triples)?;
-    let repeated = repeated(alloc, &keys)?;
-    marks_by(alloc, triples, &keys, &repeated)
+    let repeated = repeated(alloc, keys)?;
+    marks_by(alloc, triples, keys, &repeated)
 }
 
-/// The same by the triples' keys, and by those that stand among them more than once.
+/// The same by those keys that stand among them more than once.
 fn marks_by(
     alloc: Global,
     triples: &TripleList,

@@ -1,11 +1,13 @@
 //! A graph.
-ghost use Rattle.std.specs.Prelude.{◌≡◌, ◌<◌, [], ◌∷◌, ◌++◌, length, IfOk, OnOk, Some, slice_get, ◌==◌, nat_eq, if◌then◌else◌};
+ghost use Rattle.std.specs.Prelude.{◌≡◌, ◌<◌, [], ◌∷◌, ◌++◌, length, IfOk, OnOk, Some, slice_get, ◌==◌, map, nat_eq, if◌then◌else◌};
 ghost use Rattle.rx_model.specs.Sets.{distinct};
 ghost use Rattle.rx_model.specs.Terms.{same_triple};
 ghost use Rattle.rx_model.specs.Seen.{triples_seen};
 ghost use Rattle.rx_graph.specs.Graph.{first_marks};
+ghost use Rattle.rx_graph.specs.Keys.{key_of};
 
 use crate::firsts::first_marks;
+use crate::keys::keys_of;
 use rx_terms::{NoMemory, Triple, TripleList};
 use std::alloc::Global;
 use std::marker::Model;
@@ -43,7 +45,20 @@ impl Graph {
     pub fn of_owned(alloc: Global, triples: TripleList) -> Result<Graph, NoMemory>
         ensures { IfOk result (λ graph. triples_seen graph ≡ distinct (same_triple nat_eq) (triples_seen triples)) }
     {
-        match first_marks(alloc, &triples)? {
+        let keys = keys_of(alloc, &triples)?;
+        Graph::of_keyed(alloc, triples, &keys)
+    }
+
+    /// The same where the keys of the triples are at hand.
+    pub(crate) fn of_keyed(
+        alloc: Global,
+        triples: TripleList,
+        keys: &[u64],
+    ) -> Result<Graph, NoMemory>
+        requires { keys.now ≡ map key_of triples }
+        ensures { IfOk result (λ graph. triples_seen graph ≡ distinct (same_triple nat_eq) (triples_seen triples)) }
+    {
+        match first_marks(alloc, &triples, keys)? {
             None => Ok(Graph::of_distinct(triples.into_vec())),
             Some(marks) => Ok(Graph::of_distinct(marked(alloc, triples, &marks)?)),
         }

@@ -1,5 +1,6 @@
 use Rattle.rx_graph.proofs.PatternLemmas.{nothing_copied}
+use Rattle.rx_graph.proofs.SetLemmas.{of_some}
 use Rattle.rx_graph.proofs.copying.copy_patterns_owned.Goals as goal
 
-pub returns : goal.returns
-returns c = rw (nothing_copied _ (c.has_copy.ensures c.if-has_copy.false)) c.of_owned.ensures
+pub returns-in-Some : goal.returns-in-Some
+returns-in-Some c = rw (nothing_copied _ (of_some c.in_ok-keys.field-0 c.in-Some.keys c.in-Some.is c.in_ok-keys.ensures.none)) c.of_keyed.ensures
