@@ -1,6 +1,6 @@
 //! Large graphs, and each call once.
 use super::*;
-use rx_terms::{Blank, Iri, Node, Term, Triple, TripleList};
+use rx_terms::{Blank, Iri, Literal, LiteralKind, Node, Term, Text, Triple, TripleList};
 use std::alloc::Global;
 use std::test::Fail;
 
@@ -14,6 +14,13 @@ fn link(alloc: Global, subject: Node, predicate: &str, object: Node) -> Result<T
         predicate: Iri::of(alloc, predicate)?,
         object,
     })
+}
+
+fn named(alloc: Global, text: &str) -> Result<Term, Fail> {
+    Ok(Term::Literal(Literal {
+        kind: LiteralKind::Plain,
+        lexical: Text::of(alloc, text)?,
+    }))
 }
 
 #[test]
@@ -61,6 +68,44 @@ fn a_list_without_repeats_is_its_graph(rt: HostRuntime) -> Result<(), Fail> {
     let numbered = relabel_owned(alloc, graph)?;
     assert_eq!(rt; numbered.at(1).subject == Node::Blank(Blank(2)), true);
     assert_eq!(rt; numbered.at(999).object == Term::Blank(Blank(2)), true);
+    Ok(())
+}
+
+#[test]
+fn the_first_of_each_kind_stays_in_order(rt: HostRuntime) -> Result<(), Fail> {
+    let alloc = rt.alloc();
+    let mut triples = TripleList::new(alloc);
+    for text in ["c", "a", "c", "b", "a", "a", "d"] {
+        triples.push(Triple {
+            subject: Node::Iri(Iri::of(alloc, "http://v.example/s")?),
+            predicate: Iri::of(alloc, "http://v.example/p")?,
+            object: named(alloc, text)?,
+        })?;
+    }
+    let graph = copy_patterns_owned(alloc, triples)?;
+    assert_eq!(rt; graph.len(), 4);
+    assert_eq!(rt; graph.at(0).object == named(alloc, "c")?, true);
+    assert_eq!(rt; graph.at(1).object == named(alloc, "a")?, true);
+    assert_eq!(rt; graph.at(2).object == named(alloc, "b")?, true);
+    assert_eq!(rt; graph.at(3).object == named(alloc, "d")?, true);
+    Ok(())
+}
+
+#[test]
+fn repeats_are_found_among_many(rt: HostRuntime) -> Result<(), Fail> {
+    let alloc = rt.alloc();
+    let mut triples = TripleList::new(alloc);
+    // So many that some that aren't alike share their keys' bits.
+    for i in 0u64..12_000 {
+        let subject = Node::Blank(Blank(i % 10_000));
+        let object = Node::Blank(Blank(i % 5_000));
+        triples.push(link(alloc, subject, "http://v.example/p", object)?)?;
+    }
+    let graph = copy_patterns_owned(alloc, triples)?;
+    assert_eq!(rt; graph.len(), 10_000);
+    assert_eq!(rt; graph.at(2_000).subject == Node::Blank(Blank(2_000)), true);
+    assert_eq!(rt; graph.at(9_999).subject == Node::Blank(Blank(9_999)), true);
+    assert_eq!(rt; graph.at(9_999).object == Term::Blank(Blank(4_999)), true);
     Ok(())
 }
 
