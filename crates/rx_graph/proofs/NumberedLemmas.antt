@@ -1,5 +1,5 @@
 -- Blank nodes that have their numbers already.
-use Rattle.std.proofs.Common.{◌≡◌, ◌∙◌, ℕ, zero, suc, ◌<◌, ◌≤◌, Bool, true, false, ◌||◌, List, [], ◌∷◌, ◌++◌, map, length, refl, sym, ap, ap₂, true≢false, if◌then◌else◌, nat_eq, arith, length-append}
+use Rattle.std.proofs.Common.{◌≡◌, ◌∙◌, ℕ, zero, suc, ◌<◌, ◌≤◌, Bool, true, false, ◌||◌, List, [], ◌∷◌, ◌++◌, map, length, refl, sym, ap, ap₂, true≢false, if◌then◌else◌, nat_eq, arith, length-append, ◌+◌, take, take_all, slice_get, Option, Some, None, IfSome, MatchOption, is_some}
 use Rattle.std.proofs.lemmas.Bool.{cases_lt}
 use Rattle.std.proofs.lemmas.Bool.Decides.{nat_tests}
 use Rattle.std.proofs.Common.{⊎_elim}
@@ -7,8 +7,11 @@ use Rattle.rx_model.specs.Sets.{Among, contains, distinct}
 use Rattle.rx_model.specs.Terms.{Node, Iri, Blank, Term, Resource, Literal, Triple}
 use Rattle.rx_model.specs.Numbered.{blanks, place_in, rename_node, rename_term, rename, numbered}
 use Rattle.rx_model.proofs.Exact.{exact_numbers}
-use Rattle.rx_graph.specs.Numbering.{known_one, numbers_to}
-use Rattle.rx_graph.proofs.NumberLemmas.{contains_append, place_append, contains_last, all_in_distinct, same_list_by}
+use Rattle.rx_terms.specs.declared.triples.Triple.{Triple as CodeTriple}
+use Rattle.rx_model.specs.Numbered.{blanks_of}
+use Rattle.rx_model.specs.Seen.{triple_seen, triples_seen}
+use Rattle.rx_graph.specs.Numbering.{known_one, known, numbers_to}
+use Rattle.rx_graph.proofs.NumberLemmas.{contains_append, place_append, contains_last, all_in_distinct, same_list_by, numbers_turn}
 
 differ : (n b : ℕ) → n < b → nat_eq n b ≡ false
 differ n b l = grind (arith, nat_tests)
@@ -80,3 +83,18 @@ numbered_already list n e = same_list_by (place_in nat_eq (distinct nat_eq (blan
 
     places : (b : ℕ) → Among (blanks list) b → place_in nat_eq (distinct nat_eq (blanks list)) b ≡ b
     places b m = ap (λ xs. place_in nat_eq xs b) (sym e) ∙ own_place n b (in_numbers b (ap (λ xs. contains nat_eq xs b) e ∙ all_in_distinct (blanks list) b m))
+
+-- ---- a walk through a list, which may have lost count
+
+pub next_turn : (list : List CodeTriple) (i : ℕ) (t : CodeTriple) → slice_get list i ≡ Some t → (before after : Option ℕ)
+    → IfSome before (λ n. numbers_to n ≡ distinct nat_eq (blanks (triples_seen (take i list))))
+    → IfSome after (λ m. MatchOption before ⊥ (λ n. known (numbers_to n) (blanks_of (triple_seen t)) ≡ numbers_to m))
+    → IfSome after (λ n. numbers_to n ≡ distinct nat_eq (blanks (triples_seen (take (i + 1) list))))
+next_turn list i t at before None h k = k
+next_turn list i t at None (Some m) h k = absurd k
+next_turn list i t at (Some n) (Some m) h k = numbers_turn list i t at (numbers_to n) (numbers_to m) h (sym k)
+
+pub next_end : (list : List CodeTriple) (i : ℕ) (next : Option ℕ) → length list ≤ i → IfSome next (λ n. numbers_to n ≡ distinct nat_eq (blanks (triples_seen (take i list)))) → is_some next ≡ true
+    → numbered nat_eq (triples_seen list) ≡ triples_seen list
+next_end list i None past h e = absurd (true≢false (sym e))
+next_end list i (Some n) past h e = numbered_already (triples_seen list) n (h ∙ ap (λ ts. distinct nat_eq (blanks (triples_seen ts))) (take_all i list past))

@@ -1,7 +1,10 @@
 -- A graph as the list of its triples, each once.
-use Rattle.std.specs.Prelude.{ℕ, Bool, not, List, [], ◌∷◌, ◌++◌, nat_eq, if◌then◌else◌}
-use Rattle.rx_model.specs.Sets.{contains}
+use Rattle.std.specs.Prelude.{◌≡◌, ℕ, Bool, true, not, List, [], ◌∷◌, ◌++◌, nat_eq, if◌then◌else◌}
+use Rattle.rx_terms.specs.declared.triples.Triple.{Triple as CodeTriple}
+use Rattle.rx_model.specs.Sets.{contains, distinct}
 use Rattle.rx_model.specs.Terms.{Triple, same_triple}
+use Rattle.rx_model.specs.Numbered.{numbered}
+use Rattle.rx_model.specs.Seen.{triples_seen}
 
 -- the triple last, where it isn't there yet
 abbrev pub added : List (Triple ℕ) → Triple ℕ → List (Triple ℕ)
@@ -20,3 +23,8 @@ marks_after list (t ∷ more) = not (contains (same_triple nat_eq) list t) ∷ m
 -- of each triple whether it is the first of its kind
 abbrev pub first_marks : List (Triple ℕ) → List Bool
 first_marks list = marks_after [] list
+
+-- no two are alike; and the blank nodes are numbered, where that is said
+pub record IsGraph (list : List CodeTriple) (is_numbered : Bool) : Type 0 where
+  pub each_once : distinct (same_triple nat_eq) (triples_seen list) ≡ triples_seen list
+  pub numbered_if : is_numbered ≡ true → numbered nat_eq (triples_seen list) ≡ triples_seen list

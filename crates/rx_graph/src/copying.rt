@@ -5,8 +5,8 @@ ghost use Rattle.rx_model.specs.Seen.{triples_seen};
 
 use crate::gathering::Gathering;
 use crate::graphs::Graph;
-use crate::keys::keys_without_copy;
 use crate::patterns::Patterns;
+use crate::walked::walk;
 use rx_terms::{NoMemory, TripleList};
 use std::alloc::Global;
 
@@ -29,8 +29,8 @@ pub fn copy_patterns(alloc: Global, triples: &TripleList) -> Result<Graph, NoMem
 pub fn copy_patterns_owned(alloc: Global, triples: TripleList) -> Result<Graph, NoMemory>
     ensures { IfOk result (λ graph. triples_seen graph ≡ copied nat_eq (triples_seen triples)) }
 {
-    match keys_without_copy(alloc, &triples)? {
-        Some(keys) => Graph::of_keyed(alloc, triples, &keys),
+    match walk(alloc, &triples)? {
+        Some(walked) => Graph::of_keyed(alloc, triples, &walked.keys, walked.is_numbered),
         None => copy_patterns(alloc, &triples),
     }
 }

@@ -1,7 +1,8 @@
 //! A graph.
-ghost use Rattle.std.specs.Prelude.{◌≡◌, ◌<◌, [], ◌∷◌, ◌++◌, length, IfOk, OnOk, Some, slice_get, ◌==◌, map, nat_eq, if◌then◌else◌};
+ghost use Rattle.std.specs.Prelude.{◌≡◌, ◌<◌, [], ◌∷◌, ◌++◌, length, IfOk, OnOk, Some, slice_get, ◌==◌, map, nat_eq, true, if◌then◌else◌};
 ghost use Rattle.rx_model.specs.Sets.{distinct};
 ghost use Rattle.rx_model.specs.Terms.{same_triple};
+ghost use Rattle.rx_model.specs.Numbered.{numbered};
 ghost use Rattle.rx_model.specs.Seen.{triples_seen};
 ghost use Rattle.rx_graph.specs.Graph.{first_marks};
 ghost use Rattle.rx_graph.specs.Keys.{key_of};
@@ -17,20 +18,20 @@ use std::marker::Model;
 #[derive(Debug, Drop)]
 pub struct Graph {
     triples: Vec<Triple>,
+    /// Whether it is known that the blank nodes are 0, 1, 2 in order of first occurrence.
+    is_numbered: bool,
 }
 
 impl Model for Graph {
-    ghost use Rattle.std.specs.Prelude.{◌≡◌, List, nat_eq};
+    ghost use Rattle.std.specs.Prelude.{List};
     ghost use Rattle.rx_terms.specs.declared.triples.Triple.{Triple};
-    ghost use Rattle.rx_model.specs.Sets.{distinct};
-    ghost use Rattle.rx_model.specs.Terms.{same_triple};
-    ghost use Rattle.rx_model.specs.Seen.{triples_seen};
+    ghost use Rattle.rx_graph.specs.Graph.{IsGraph};
 
     ghost Value = { List Triple };
 
     ghost view = { λ graph. graph.triples.items };
 
-    ghost invariant = { λ graph. distinct (same_triple nat_eq) (triples_seen graph.triples.items) ≡ triples_seen graph.triples.items };
+    ghost invariant = { λ graph. IsGraph graph.triples.items graph.is_numbered };
 }
 
 impl Graph {
@@ -46,20 +47,28 @@ impl Graph {
         ensures { IfOk result (λ graph. triples_seen graph ≡ distinct (same_triple nat_eq) (triples_seen triples)) }
     {
         let keys = keys_of(alloc, &triples)?;
-        Graph::of_keyed(alloc, triples, &keys)
+        Graph::of_keyed(alloc, triples, &keys, false)
     }
 
-    /// The same where the keys of the triples are at hand.
+    /// The same where the keys of the triples are at hand, and maybe that their blank nodes are numbered.
     pub(crate) fn of_keyed(
         alloc: Global,
         triples: TripleList,
         keys: &[u64],
+        is_numbered: bool,
     ) -> Result<Graph, NoMemory>
-        requires { keys.now ≡ map key_of triples }
+        requires keys { keys.now ≡ map key_of triples }
+        requires numbered { is_numbered ≡ true → numbered nat_eq (triples_seen triples) ≡ triples_seen triples }
         ensures { IfOk result (λ graph. triples_seen graph ≡ distinct (same_triple nat_eq) (triples_seen triples)) }
     {
         match first_marks(alloc, &triples, keys)? {
-            None => Ok(Graph::of_distinct(triples.into_vec())),
+            None => {
+                let triples = triples.into_vec();
+                Ok(Graph {
+                    triples,
+                    is_numbered,
+                })
+            }
             Some(marks) => Ok(Graph::of_distinct(marked(alloc, triples, &marks)?)),
         }
     }
@@ -69,7 +78,17 @@ impl Graph {
         requires { distinct (same_triple nat_eq) (triples_seen triples.items) ≡ triples_seen triples.items }
         ensures { result ≡ triples.items }
     {
-        Graph { triples }
+        Graph {
+            triples,
+            is_numbered: false,
+        }
+    }
+
+    /// Whether it is known, and so without a walk, that the blank nodes are 0, 1, 2 in order of first occurrence.
+    pub(crate) fn is_known_numbered(&self) -> bool
+        ensures { result ≡ true → numbered nat_eq (triples_seen self.now) ≡ triples_seen self.now }
+    {
+        self.is_numbered
     }
 
     /// How many triples there are.

@@ -15,6 +15,7 @@ mod patterns;
 mod resources;
 mod rows;
 mod vocabulary;
+mod walked;
 
 pub use copying::{copy_patterns, copy_patterns_owned};
 pub use graphs::Graph;

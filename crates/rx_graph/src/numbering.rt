@@ -1,5 +1,5 @@
 //! The numbering of blank nodes.
-ghost use Rattle.std.specs.Prelude.{◌≡◌, [], true, IfOk, IfSome, OnOk, nat_eq};
+ghost use Rattle.std.specs.Prelude.{◌≡◌, [], true, IfOk, IfSome, MatchOption, OnOk, nat_eq};
 ghost use Rattle.rx_model.specs.Terms.{set_of};
 ghost use Rattle.rx_model.specs.Numbered.{blank_of_node, blank_of_term, blanks_of, place_in, rename_node, rename_term, rename, numbered, Renamed};
 ghost use Rattle.rx_model.specs.Seen.{node_seen, term_seen, triple_seen, triples_seen};
@@ -40,6 +40,9 @@ pub fn relabel_owned(alloc: Global, graph: Graph) -> Result<Graph, NoMemory>
 fn is_numbered(graph: &Graph) -> bool
     ensures { result ≡ true → numbered nat_eq (triples_seen graph.now) ≡ triples_seen graph.now }
 {
+    if graph.is_known_numbered() {
+        return true;
+    }
     let mut next = 0;
     for i in 0..graph.len() {
         match next_after(graph.at(i), next) {
@@ -48,6 +51,16 @@ fn is_numbered(graph: &Graph) -> bool
         }
     }
     true
+}
+
+/// The same where there may be no such number before the triple. Then there is none behind it.
+pub(crate) fn next_behind(triple: &Triple, next: Option<u64>) -> Option<u64>
+    ensures { IfSome result (λ after. MatchOption next ⊥ (λ before. known (numbers_to before) (blanks_of (triple_seen triple.now)) ≡ numbers_to after)) }
+{
+    match next {
+        Some(next) => next_after(triple, next),
+        None => None,
+    }
 }
 
 /// The number that a new blank node has behind the triple, where `next` is that before it; none where one of its blank nodes

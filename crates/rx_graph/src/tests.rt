@@ -110,6 +110,24 @@ fn repeats_are_found_among_many(rt: HostRuntime) -> Result<(), Fail> {
 }
 
 #[test]
+fn numbers_that_are_right_stay(rt: HostRuntime) -> Result<(), Fail> {
+    let alloc = rt.alloc();
+    for first in 0u64..2 {
+        let mut triples = TripleList::new(alloc);
+        for i in 0u64..100 {
+            let subject = Node::Blank(Blank(first + i));
+            let object = Node::Blank(Blank(first + i + 1));
+            triples.push(link(alloc, subject, "http://v.example/p", object)?)?;
+        }
+        let graph = relabel_owned(alloc, copy_patterns_owned(alloc, triples)?)?;
+        assert_eq!(rt; graph.len(), 100);
+        assert_eq!(rt; graph.at(0).subject == Node::Blank(Blank(0)), true);
+        assert_eq!(rt; graph.at(99).object == Term::Blank(Blank(100)), true);
+    }
+    Ok(())
+}
+
+#[test]
 fn a_long_chain_is_copied(rt: HostRuntime) -> Result<(), Fail> {
     let alloc = rt.alloc();
     let mut triples = TripleList::new(alloc);
