@@ -36,7 +36,8 @@ pub(crate) fn repeated(alloc: Global, keys: &[u64]) -> Result<Bits, NoMemory>
     ensures { IfOk result (λ bits. TellsRepeats bits keys.now) }
 {
     let mut seen = Bits::new(alloc, keys.len())?;
-    let mut seen_again = Bits::new(alloc, keys.len())?;
+    // Few come again. Where many do, this set says of more that they do, which costs time and changes no answer.
+    let mut seen_again = Bits::new(alloc, keys.len() / 8)?;
     for i in 0..keys.len() {
         see(&mut seen, &mut seen_again, keys[i]);
     }
