@@ -10,10 +10,13 @@ use rx_grammar::Content;
 use rx_marks::Mark;
 
 // A character that means nothing but itself in each content that has text, where no line feed is dropped and no CR stands
-// before it.
+// before it. Most are letters, which are told first.
 fn is_plain(byte: u8) -> bool
     ensures { result ≡ is_plain byte }
 {
+    if byte > b'>' {
+        return byte <= b'~' && byte != b']';
+    }
     matches!(byte, b' '..=b'~' | b'\t' | b'\n') && !matches!(byte, b'&' | b'<' | b'>' | b']')
 }
 
@@ -145,7 +148,10 @@ impl Reader {
         if !has_text(self.setting.inside) || self.setting.drops || self.place.after_return {
             return 0;
         }
-        plain_length(bytes, self.front_limit())
+        match bytes.first() {
+            Some(first) if is_plain(*first) => plain_length(bytes, self.front_limit()),
+            _ => 0,
+        }
     }
 
     // Takes the plain text at the front, as far as it has room, and tells how many bytes it has.
