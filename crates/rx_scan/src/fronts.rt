@@ -17,7 +17,10 @@ fn is_plain(byte: u8) -> bool
     if byte > b'>' {
         return byte <= b'~' && byte != b']';
     }
-    matches!(byte, b' '..=b'~' | b'\t' | b'\n') && !matches!(byte, b'&' | b'<' | b'>' | b']')
+    if byte < b' ' {
+        return matches!(byte, b'\t' | b'\n');
+    }
+    !matches!(byte, b'&' | b'<' | b'>')
 }
 
 // Outside the root white space alone is text.
@@ -28,6 +31,7 @@ fn has_text(inside: Content) -> bool
 }
 
 // How many bytes at the front are plain, but no more than `most`.
+#[inline(always)]
 fn plain_length(bytes: &[u8], most: usize) -> usize
     ensures most { result ≤ most }
     ensures fits { result ≤ length bytes.now }
@@ -131,15 +135,17 @@ impl Reader {
         at_most(left_of(self.setting.limits.page, self.place.at), room)
     }
 
-    // How many bytes at the front are text that is told at once.
+    // How many bytes at the front are text that is told at once. Where a tag comes next, which is often, nothing else is
+    // looked at.
     fn front(&self, bytes: &[u8]) -> usize
-        requires { self.now.text.size + 4 ≤ ROOM }
+        requires between { self.now.pending.mark ≡ Mark.Nothing }
+        requires size { self.now.text.size + 4 ≤ ROOM }
         ensures fits { result ≤ length bytes.now }
         ensures room { (self.now.text.size + result) + 4 ≤ ROOM }
         ensures may { 0 < result → IsFront self.now (take result bytes.now) }
         ensures place { 0 < result → self.now.place.at + result < 2 ^ 64 }
     {
-        if self.pending.mark() != Mark::Nothing {
+        if matches!(bytes.first(), None | Some(b'<')) {
             return 0;
         }
         if !self.utf8.is_whole() {
@@ -148,15 +154,13 @@ impl Reader {
         if !has_text(self.setting.inside) || self.setting.drops || self.place.after_return {
             return 0;
         }
-        match bytes.first() {
-            Some(first) if is_plain(*first) => plain_length(bytes, self.front_limit()),
-            _ => 0,
-        }
+        plain_length(bytes, self.front_limit())
     }
 
     // Takes the plain text at the front, as far as it has room, and tells how many bytes it has.
     #[inline(never)]
     fn say_front(&mut self, bytes: &[u8]) -> usize
+        requires between { self.old.pending.mark ≡ Mark.Nothing }
         requires size { self.old.text.size + 4 ≤ ROOM }
         requires room { ROOM ≤ self.old.text.room }
         ensures fits { result ≤ length bytes.now }
