@@ -3,6 +3,7 @@ ghost use Rattle.std.specs.Prelude.{◌≡◌, option_map, codes, [], ◌∷◌,
 ghost use Rattle.rx_grammar.specs.Names.{same, is_among};
 ghost use Rattle.rx_grammar.specs.Names as names;
 ghost use Rattle.rx_grammar.specs.Contents as contents;
+ghost use Rattle.rx_nest.specs.Ordinary.{ordinary_names};
 ghost use Rattle.rx_nest.specs.Rows.{row_seen};
 
 use crate::places::Place;
@@ -125,6 +126,16 @@ fn is_late_void(name: &str) -> bool
     matches!(
         name,
         "input" | "link" | "meta" | "param" | "source" | "track" | "wbr"
+    )
+}
+
+/// Whether the name is one of those that stand in no table here and that most pages have most often.
+pub(crate) fn is_ordinary(name: &str) -> bool
+    ensures { result ≡ is_among ordinary_names name.now }
+{
+    matches!(
+        name,
+        "a" | "b" | "i" | "ul" | "h1" | "h2" | "h3" | "em" | "div" | "span" | "strong"
     )
 }
 
