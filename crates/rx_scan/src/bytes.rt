@@ -41,11 +41,10 @@ fn is_mark(c: char) -> What
 fn is_of_tag(mark: Mark, c: char) -> bool
     ensures { result ≡ true → (setting : Setting) → bytes.IsOfTag setting mark c }
 {
-    match mark {
-        Mark::Tag => matches!(c, ' '..='~'),
-        Mark::LessThan => c == '/' || is_letter(c),
-        _ => false,
+    if matches!(mark, Mark::Tag) {
+        return matches!(c, ' '..='~');
     }
+    matches!(mark, Mark::LessThan) && (c == '/' || is_letter(c))
 }
 
 // Whether the byte is a character of its own.
@@ -218,7 +217,7 @@ impl Reader {
             return Err(Stop::Fault(self.fault_at(Kind::PageTooLong)));
         }
         if let Some(c) = alone(&self.utf8, byte) {
-            if c == '<' && self.pending.mark() == Mark::Nothing {
+            if c == '<' && matches!(self.pending.mark(), Mark::Nothing) {
                 return self.read_less_than();
             }
             if self.is_in_tag(c) {
