@@ -1,6 +1,7 @@
 pub mod LevelLemmas
 pub mod LineLemmas
 pub mod NameLemmas
+pub mod OrdinaryLemmas
 pub mod RowLemmas
 pub mod Takes
 pub mod TextSteps

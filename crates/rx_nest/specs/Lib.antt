@@ -1,5 +1,6 @@
 pub mod Follows
 pub mod Levels
+pub mod Ordinary
 pub mod Lines
 pub mod Rows
 pub mod Signs

@@ -81,6 +81,14 @@ BeginGives old t (Err (Fault kind)) new =
     first_row (start_refusals old t) ≡ Some kind ⊎ (first_row (start_refusals old t) ≡ None × is_room old t ≡ false × kind ≡ TooDeep)
 BeginGives old t (Err NoMemory) new = Unit {0}
 
+-- the tag's own element begins, after so many others ended
+abbrev pub OwnGives : ℕ → Lines → Tag → Result Told Refused → Lines → Type 0
+OwnGives ends old t (Ok told) new =
+    (told ≡ record { ends = ends; own = own_of_start old.syntax t old.levels; drops = drops_under old.syntax t old.levels })
+    × (new ≡ record { syntax = old.syntax; depth = old.depth; begun = true; levels = begun_under old.syntax t old.levels })
+OwnGives ends old t (Err (Fault kind)) new = ⊥
+OwnGives ends old t (Err NoMemory) new = Unit {0}
+
 -- an end tag: it ends elements whose end tags are omitted, and the one of its name
 abbrev pub is_named : Chars → Levels → Bool
 is_named name [] = false

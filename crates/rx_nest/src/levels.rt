@@ -45,6 +45,7 @@ impl Model for Level {
 }
 
 impl Level {
+    ghost use Rattle.rx_grammar.specs.Omission.{has_row};
     ghost use Rattle.rx_nest.specs.Levels.{level_of};
 
     fn new(alloc: Global) -> Level {
@@ -63,10 +64,28 @@ impl Level {
     fn set(&mut self, name: &str, traits: Traits) -> Result<(), NoMemory>
         ensures { OnOk result (self.new ≡ level_of (chars name.now) traits) }
     {
-        self.name.clear();
-        self.name.push_str(name)?;
+        self.rename(name)?;
         self.traits = traits;
         Ok(())
+    }
+
+    // Where elements come again, as in lists and tables, the name is there already.
+    fn rename(&mut self, name: &str) -> Result<(), NoMemory>
+        ensures { OnOk result (self.new.name ≡ chars name.now) }
+    {
+        if names::is_same(&self.name, name) {
+            return Ok(());
+        }
+        self.name.clear();
+        self.name.push_str(name)?;
+        Ok(())
+    }
+
+    // Whether another tag than its own may end the element.
+    fn is_omissible(&self) -> bool
+        ensures { result ≡ has_row self.now.row }
+    {
+        self.traits.row.is_some()
     }
 
     // Whether a start tag of this name, or an end tag, ends the element.
@@ -205,8 +224,26 @@ impl Levels {
         }
     }
 
-    /// Ends the elements that a start tag of this name ends, or an end tag, and counts those in the tree.
+    /// Ends the elements that a start tag of this name ends, or an end tag, and counts those in the tree. Most often the
+    /// innermost element is one that no other tag ends, which is told first.
+    #[inline(always)]
     pub(crate) fn end_by(&mut self, closing: bool, name: &str) -> usize
+        ensures levels { self.new.levels ≡ levels.kept (levels.ends_by closing (chars name.now)) self.old.levels }
+        ensures ended { result ≡ levels.ended (levels.ends_by closing (chars name.now)) self.old.levels }
+        ensures room { self.new.room ≡ self.old.room }
+    {
+        let Some(level) = self.top() else {
+            return 0;
+        };
+        if !level.is_omissible() {
+            return 0;
+        }
+        self.end_omissible(closing, name)
+    }
+
+    // The same, one after another. It is rare, and stands apart so that what is common stays short.
+    #[inline(never)]
+    fn end_omissible(&mut self, closing: bool, name: &str) -> usize
         ensures levels { self.new.levels ≡ levels.kept (levels.ends_by closing (chars name.now)) self.old.levels }
         ensures ended { result ≡ levels.ended (levels.ends_by closing (chars name.now)) self.old.levels }
         ensures room { self.new.room ≡ self.old.room }

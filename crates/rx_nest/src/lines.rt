@@ -5,9 +5,11 @@ ghost use Rattle.rx_grammar.specs.PageFaults.{first_row};
 ghost use Rattle.rx_tags.specs.Seen.{tag_seen};
 ghost use Rattle.rx_nest.specs.Levels as levels;
 ghost use Rattle.rx_nest.specs.Lines as lines;
+ghost use Rattle.rx_nest.specs.Ordinary.{IsOrdinaryUnder};
 
 use crate::levels::{Levels, Traits};
 use crate::names;
+use crate::places::Place;
 use rx_chars::Syntax;
 use rx_grammar::{Content, Kind};
 use rx_tags::Tag;
@@ -158,6 +160,53 @@ impl Line {
         if self.is_full() {
             return Err(Refused::Fault(Kind::TooDeep));
         }
+        if self.is_ordinary(tag) {
+            self.begin_ordinary(tag, ends)
+        } else {
+            self.begin_own(tag, ends)
+        }
+    }
+
+    // Whether an element begins of which the tables say nothing.
+    fn is_ordinary(&self, tag: &Tag<'_>) -> bool
+        ensures { result ≡ true → IsOrdinaryUnder self.now.syntax self.now.levels (tag_seen tag.now).name }
+    {
+        self.syntax == Syntax::Html
+            && self.levels.place().is_html()
+            && names::is_ordinary(tag.name())
+    }
+
+    // What `begin_own` does, without a look at the tables. Most elements of a page are such.
+    fn begin_ordinary(&mut self, tag: &Tag<'_>, ends: usize) -> Result<Told, Refused>
+        requires room { nat_le self.old.depth (length self.old.levels) ≡ false }
+        requires ordinary { IsOrdinaryUnder self.old.syntax self.old.levels (tag_seen tag.now).name }
+        ensures { lines.OwnGives ends self.old (tag_seen tag.now) result self.new }
+    {
+        let own = self.own_of_start(false);
+        let hidden = self.levels.hides();
+        let traits = Traits {
+            inside: Place::of(Content::Html),
+            row: None,
+            held: false,
+            shown: !hidden,
+            hides: hidden,
+        };
+        self.begun = true;
+        match self.levels.push(tag.name(), traits) {
+            Ok(()) => Ok(Told {
+                ends,
+                own,
+                drops: false,
+            }),
+            Err(NoMemory) => Err(Refused::NoMemory),
+        }
+    }
+
+    // The tag's own element begins.
+    fn begin_own(&mut self, tag: &Tag<'_>, ends: usize) -> Result<Told, Refused>
+        requires room { nat_le self.old.depth (length self.old.levels) ≡ false }
+        ensures { lines.OwnGives ends self.old (tag_seen tag.now) result self.new }
+    {
         let alone = self.levels.place().is_alone(self.syntax, tag);
         let own = self.own_of_start(alone);
         let drops = self.drops_line_feed(tag, alone);

@@ -1,5 +1,5 @@
 //! What the grammar says of the names of elements.
-ghost use Rattle.std.specs.Prelude.{◌≡◌, ◌==◌, option_map, codes, [], ◌∷◌};
+ghost use Rattle.std.specs.Prelude.{◌≡◌, ◌==◌, true, option_map, codes, [], ◌∷◌};
 ghost use Rattle.std.specs.List.{list_any};
 ghost use Rattle.rx_terms.specs.Ascii.{hyphen};
 ghost use Rattle.std.specs.Str.{chars};
@@ -7,6 +7,7 @@ ghost use Rattle.rx_grammar.specs.Names.{same, is_among};
 ghost use Rattle.rx_grammar.specs.Names as the_names;
 ghost use Rattle.rx_grammar.specs.Contents as contents;
 ghost use Rattle.rx_grammar.specs.Omission as omission;
+ghost use Rattle.rx_nest.specs.Ordinary.{IsOrdinary};
 ghost use Rattle.rx_nest.specs.Rows.{row_seen};
 
 use crate::places::Place;
@@ -25,6 +26,13 @@ pub(crate) fn is_void(name: &str) -> bool
     ensures { result ≡ contents.is_void (chars name.now) }
 {
     tables::is_void(name)
+}
+
+/// Whether the name surely stands in none of the tables. It is told in one comparison for all of them.
+pub(crate) fn is_ordinary(name: &str) -> bool
+    ensures { result ≡ true → IsOrdinary (chars name.now) }
+{
+    tables::is_ordinary(name)
 }
 
 /// The row of the name, where its end tag may be omitted (HTML, 13.1.2.4).

@@ -1,8 +1,9 @@
 //! The tables of names, on the bytes of a name.
-ghost use Rattle.std.specs.Prelude.{◌≡◌, option_map, codes, [], ◌∷◌};
+ghost use Rattle.std.specs.Prelude.{◌≡◌, option_map, codes, [], ◌∷◌, take, drop};
 ghost use Rattle.rx_grammar.specs.Names.{same, is_among};
 ghost use Rattle.rx_grammar.specs.Names as names;
 ghost use Rattle.rx_grammar.specs.Contents as contents;
+ghost use Rattle.rx_nest.specs.Ordinary.{ordinary_names};
 ghost use Rattle.rx_nest.specs.Rows.{row_seen};
 
 use crate::places::Place;
@@ -103,25 +104,38 @@ pub(crate) fn has(row: Row, name: &str) -> bool
     }
 }
 
+// The void names in two parts, of which each is short enough to be compared in place.
 pub(crate) fn is_void(name: &str) -> bool
     ensures { result ≡ is_among names.void_names name.now }
 {
+    is_early_void(name) || is_late_void(name)
+}
+
+fn is_early_void(name: &str) -> bool
+    ensures { result ≡ is_among (take 7 names.void_names) name.now }
+{
     matches!(
         name,
-        "area"
-            | "base"
-            | "br"
-            | "col"
-            | "embed"
-            | "hr"
-            | "img"
-            | "input"
-            | "link"
-            | "meta"
-            | "param"
-            | "source"
-            | "track"
-            | "wbr"
+        "area" | "base" | "br" | "col" | "embed" | "hr" | "img"
+    )
+}
+
+fn is_late_void(name: &str) -> bool
+    ensures { result ≡ is_among (drop 7 names.void_names) name.now }
+{
+    matches!(
+        name,
+        "input" | "link" | "meta" | "param" | "source" | "track" | "wbr"
+    )
+}
+
+/// Whether the name is one of those that stand in no table here and that most pages have most often.
+pub(crate) fn is_ordinary(name: &str) -> bool
+    ensures { result ≡ is_among ordinary_names name.now }
+{
+    matches!(
+        name,
+        "a" | "b" | "i" | "ul" | "h1" | "h2" | "h3" | "em" | "div" | "span" | "strong"
     )
 }
 

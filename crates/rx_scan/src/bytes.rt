@@ -1,5 +1,5 @@
 //! What the scanner does with one byte.
-ghost use Rattle.std.specs.Prelude.{◌≡◌, ◌+◌, ◌<◌, ◌^◌, true, [], ◌∷◌, ◌++◌};
+ghost use Rattle.std.specs.Prelude.{◌≡◌, ◌+◌, ◌<◌, ◌^◌, true, [], ◌∷◌, ◌++◌, IfSome};
 ghost use Rattle.rx_chars.specs.Characters as characters;
 ghost use Rattle.rx_chars.specs.Utf8.{answer_of};
 ghost use Rattle.rx_scan.specs.Bytes as bytes;
@@ -41,11 +41,10 @@ fn is_mark(c: char) -> What
 fn is_of_tag(mark: Mark, c: char) -> bool
     ensures { result ≡ true → (setting : Setting) → bytes.IsOfTag setting mark c }
 {
-    match mark {
-        Mark::Tag => matches!(c, ' '..='~'),
-        Mark::LessThan => c == '/' || is_letter(c),
-        _ => false,
+    if matches!(mark, Mark::Tag) {
+        return matches!(c, ' '..='~');
     }
+    matches!(mark, Mark::LessThan) && (c == '/' || is_letter(c))
 }
 
 // Whether the byte is a character of its own.
@@ -55,15 +54,15 @@ fn is_alone(utf8: &Utf8, byte: u8) -> bool
     byte.is_ascii() && utf8.is_whole()
 }
 
-// What the next byte makes of those before it. Most bytes are ASCII, which is told at once.
+// The character that the byte is by itself. Most bytes are one.
 #[inline(always)]
-fn peek(utf8: &Utf8, byte: u8) -> Utf8Step
-    ensures { result ≡ answer_of (utf8.now ++ byte ∷ []) }
+fn alone(utf8: &Utf8, byte: u8) -> Option<char>
+    ensures { IfSome result (λ c. Utf8Step.Char c ≡ answer_of (utf8.now ++ byte ∷ [])) }
 {
     if is_alone(utf8, byte) {
-        return Utf8Step::Char(char::from(byte));
+        return Some(char::from(byte));
     }
-    utf8.peek(byte)
+    None
 }
 
 fn hold_byte(utf8: &mut Utf8, byte: u8)
@@ -116,6 +115,7 @@ impl Reader {
     }
 
     // A character of a tag that is no CR and no NUL.
+    #[inline(always)]
     fn read_of_tag(&mut self, c: char) -> Result<What, Stop>
         requires may_step { MayStep self.old.pending.tag }
         requires room { self.old.place.at + 1 < 2 ^ 64 }
@@ -129,21 +129,17 @@ impl Reader {
         self.tag_on(c, false)
     }
 
-    // Most characters that are read one by one are of tags, and are told first.
-    fn read_whole(&mut self, c: char) -> Result<What, Stop>
+    // A `<` between tokens.
+    #[inline(always)]
+    fn read_less_than(&mut self) -> Result<What, Stop>
         requires may_step { MayStep self.old.pending.tag }
+        requires nothing { self.old.pending.mark ≡ Mark.Nothing }
         requires room { self.old.place.at + 1 < 2 ^ 64 }
-        ensures reads { entries.ReadsAnswer self.old [] (Utf8Step.Char c) result self.new }
-        ensures between { self.old.pending.mark ≡ Mark.Nothing → entries.Between self.old result self.new }
+        ensures reads { entries.ReadsAnswer self.old [] (Utf8Step.Char 60) result self.new }
+        ensures between { entries.Between self.old result self.new }
         ensures ready { entries.IsReady self.old result self.new }
     {
-        if c == '<' && self.pending.mark() == Mark::Nothing {
-            return self.read_first(c, false);
-        }
-        if self.is_in_tag(c) {
-            return self.read_of_tag(c);
-        }
-        self.read_any(c)
+        self.read_first('<', false)
     }
 
     fn read_any(&mut self, c: char) -> Result<What, Stop>
@@ -178,7 +174,39 @@ impl Reader {
         Ok(What::Nothing)
     }
 
-    /// Reads one more byte. At a fault nothing is changed where no token is begun.
+    // Any byte, where the page may have one more.
+    #[inline(never)]
+    fn read_rare(&mut self, byte: u8) -> Result<What, Stop>
+        requires may_step { MayStep self.old.pending.tag }
+        requires room { self.old.place.at + 1 < 2 ^ 64 }
+        ensures reads { entries.ReadsAnswer self.old (self.old.held ++ byte ∷ []) (answer_of (self.old.held ++ byte ∷ [])) result self.new }
+        ensures between { self.old.pending.mark ≡ Mark.Nothing → entries.Between self.old result self.new }
+        ensures ready { entries.IsReady self.old result self.new }
+    {
+        match self.utf8.peek(byte) {
+            Utf8Step::Bad => Err(Stop::Fault(self.fault_at(Kind::NotUtf8))),
+            Utf8Step::Char(c) => self.read_any(c),
+            Utf8Step::More => self.hold(byte),
+        }
+    }
+
+    // The same. What is rare is called apart, and its answer is made again, so that what is common stays in registers.
+    #[inline(always)]
+    fn read_apart(&mut self, byte: u8) -> Result<What, Stop>
+        requires may_step { MayStep self.old.pending.tag }
+        requires room { self.old.place.at + 1 < 2 ^ 64 }
+        ensures reads { entries.ReadsAnswer self.old (self.old.held ++ byte ∷ []) (answer_of (self.old.held ++ byte ∷ [])) result self.new }
+        ensures between { self.old.pending.mark ≡ Mark.Nothing → entries.Between self.old result self.new }
+        ensures ready { entries.IsReady self.old result self.new }
+    {
+        match self.read_rare(byte) {
+            Ok(what) => Ok(what),
+            Err(stop) => Err(stop),
+        }
+    }
+
+    /// Reads one more byte. At a fault nothing is changed where no token is begun. Most bytes that are read one by one are
+    /// of tags, and are told first.
     pub(crate) fn read(&mut self, byte: u8) -> Result<What, Stop>
         requires { MayStep self.old.pending.tag }
         ensures reads { entries.Reads self.old byte result self.new }
@@ -188,10 +216,14 @@ impl Reader {
         if self.place.at >= self.setting.limits.page {
             return Err(Stop::Fault(self.fault_at(Kind::PageTooLong)));
         }
-        match peek(&self.utf8, byte) {
-            Utf8Step::Bad => Err(Stop::Fault(self.fault_at(Kind::NotUtf8))),
-            Utf8Step::Char(c) => self.read_whole(c),
-            Utf8Step::More => self.hold(byte),
+        if let Some(c) = alone(&self.utf8, byte) {
+            if c == '<' && matches!(self.pending.mark(), Mark::Nothing) {
+                return self.read_less_than();
+            }
+            if self.is_in_tag(c) {
+                return self.read_of_tag(c);
+            }
         }
+        self.read_apart(byte)
     }
 }

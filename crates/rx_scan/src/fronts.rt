@@ -10,11 +10,17 @@ use rx_grammar::Content;
 use rx_marks::Mark;
 
 // A character that means nothing but itself in each content that has text, where no line feed is dropped and no CR stands
-// before it.
+// before it. Most are letters, which are told first.
 fn is_plain(byte: u8) -> bool
     ensures { result ≡ is_plain byte }
 {
-    matches!(byte, b' '..=b'~' | b'\t' | b'\n') && !matches!(byte, b'&' | b'<' | b'>' | b']')
+    if byte > b'>' {
+        return byte <= b'~' && byte != b']';
+    }
+    if byte < b' ' {
+        return matches!(byte, b'\t' | b'\n');
+    }
+    !matches!(byte, b'&' | b'<' | b'>')
 }
 
 // Outside the root white space alone is text.
@@ -25,6 +31,7 @@ fn has_text(inside: Content) -> bool
 }
 
 // How many bytes at the front are plain, but no more than `most`.
+#[inline(always)]
 fn plain_length(bytes: &[u8], most: usize) -> usize
     ensures most { result ≤ most }
     ensures fits { result ≤ length bytes.now }
@@ -128,15 +135,17 @@ impl Reader {
         at_most(left_of(self.setting.limits.page, self.place.at), room)
     }
 
-    // How many bytes at the front are text that is told at once.
+    // How many bytes at the front are text that is told at once. Where a tag comes next, which is often, nothing else is
+    // looked at.
     fn front(&self, bytes: &[u8]) -> usize
-        requires { self.now.text.size + 4 ≤ ROOM }
+        requires between { self.now.pending.mark ≡ Mark.Nothing }
+        requires size { self.now.text.size + 4 ≤ ROOM }
         ensures fits { result ≤ length bytes.now }
         ensures room { (self.now.text.size + result) + 4 ≤ ROOM }
         ensures may { 0 < result → IsFront self.now (take result bytes.now) }
         ensures place { 0 < result → self.now.place.at + result < 2 ^ 64 }
     {
-        if self.pending.mark() != Mark::Nothing {
+        if matches!(bytes.first(), None | Some(b'<')) {
             return 0;
         }
         if !self.utf8.is_whole() {
@@ -151,6 +160,7 @@ impl Reader {
     // Takes the plain text at the front, as far as it has room, and tells how many bytes it has.
     #[inline(never)]
     fn say_front(&mut self, bytes: &[u8]) -> usize
+        requires between { self.old.pending.mark ≡ Mark.Nothing }
         requires size { self.old.text.size + 4 ≤ ROOM }
         requires room { ROOM ≤ self.old.text.room }
         ensures fits { result ≤ length bytes.now }

@@ -155,8 +155,8 @@ impl Place {
 pub(crate) fn reaches(first: u64, limit: u64, at: u64) -> bool
     ensures { result ≡ nat_le (first + limit) at }
 {
-    match first.checked_add(limit) {
-        Some(past) => past <= at,
+    match at.checked_sub(first) {
+        Some(before) => before >= limit,
         None => false,
     }
 }

@@ -1,7 +1,7 @@
 use Rattle.std.proofs.Common.{◌≡◌, ◌≤◌, ◌+◌, length}
 use Rattle.std.specs.Str.{chars}
 use Rattle.rx_nest.specs.Levels as levels
-use Rattle.rx_nest.proofs.levels.Levels.end_by.Given as goal
+use Rattle.rx_nest.proofs.levels.Levels.end_omissible.Given as goal
 
 abbrev pub invariant-loop : goal.invariant-loop
 invariant-loop l =
