@@ -1,9 +1,10 @@
 //! What says how a literal is meant: datatype, vocabulary and language.
-ghost use Rattle.std.specs.Prelude.{◌≡◌, List, false, IfOk, option_map, bytes_eq, true};
+ghost use Rattle.std.specs.Prelude.{◌≡◌, ◌++◌, List, false, IfOk, option_map, bytes_eq, true};
 ghost use Rattle.std.specs.List.{list_all};
 ghost use Rattle.std.specs.Str.{chars};
 ghost use Rattle.rx_terms.specs.Ascii.{is_ascii};
-ghost use Rattle.rx_terms.specs.Text.{trimmed};
+ghost use Rattle.rx_terms.specs.Iri.{has_scheme};
+ghost use Rattle.rx_terms.specs.Text.{Chars, trimmed};
 ghost use Rattle.rx_refs.specs.Resolve.{cleaned};
 ghost use Rattle.rx_refs.specs.Views.{seen_slice};
 ghost use Rattle.rx_rdfa.specs.Tree.{Tag as StartTag};
@@ -23,7 +24,7 @@ use rx_names::{NamesView, attribute};
 use rx_refs::has_scheme;
 use rx_tags::Tag;
 use rx_terms::{Iri, Lang, NoMemory};
-use rx_words::{is_empty, trim};
+use rx_words::{behind, is_empty, trim};
 use std::alloc::Global;
 
 /// The datatype, where the attribute is there. It is read as one token; one that can't be read, and rdf:langString, count as
@@ -94,9 +95,24 @@ pub(crate) fn is_relative(vocabulary: Option<&str>) -> bool
     ensures { result ≡ is_relative (seen_slice vocabulary.entry) }
 {
     match vocabulary {
-        Some(vocabulary) => !has_scheme(vocabulary),
+        Some(vocabulary) => !is_absolute(vocabulary),
         None => false,
     }
+}
+
+/// Whether the text has a scheme. Most vocabularies begin with the scheme of HTTP, which is told without a search.
+fn is_absolute(text: &str) -> bool
+    ensures { result ≡ has_scheme (chars text.now) }
+{
+    begins_with(text, "https:") || begins_with(text, "http:") || has_scheme(text)
+}
+
+/// Whether the text begins with this scheme and its colon.
+fn begins_with(text: &str, scheme: &str) -> bool
+    requires { (rest : Chars) → has_scheme (chars scheme.now ++ rest) ≡ true }
+    ensures { result ≡ true → has_scheme (chars text.now) ≡ true }
+{
+    behind(text, scheme).is_some()
 }
 
 /// The IRI of the vocabulary that the tag declares, where there is one.

@@ -15,6 +15,9 @@ const PLACES: usize = 256;
 /// An odd number whose bits are mixed (2^64 through the golden ratio): each byte of a text moves the highest bits.
 const MIXER: u64 = 0x9E37_79B9_7F4A_7C15;
 
+/// How many of a text's last bytes tell its place. IRIs of one page mostly differ at their ends.
+const TOLD: usize = 8;
+
 /// Makes the IRIs of readings, and keeps those that it made lately, so that one that comes again is shared. An IRI that is
 /// shared is the one that would be made, so what is kept is no part of any contract.
 #[derive(Drop)]
@@ -89,10 +92,13 @@ fn is_joined(iri: &Iri, front: &str, more: &str) -> bool
     are_text(front, more, iri.as_str())
 }
 
-/// The place of the IRI of these two parts. Texts may share one, so that only the last of them is kept.
+/// The place of the IRI of these two parts, by their length and their last bytes. Texts may share one, so that only the last
+/// of them is kept.
 fn place_of(front: &str, more: &str) -> usize {
-    let mut number = front.len() as u64;
-    for byte in more.as_bytes() {
+    let bytes = more.as_bytes();
+    let told = &bytes[bytes.len().saturating_sub(TOLD)..];
+    let mut number = (front.len() as u64).wrapping_add(bytes.len() as u64);
+    for byte in told {
         number = number.wrapping_add(u64::from(*byte)).wrapping_mul(MIXER);
     }
     // the highest eight bits

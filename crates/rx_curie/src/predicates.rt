@@ -27,9 +27,23 @@ pub(crate) fn link(
     ensures { IfOk result (λ iris. (line : List Tag) → Stands (names_seen names.now) line
         → iris ≡ option_and_then (the.link (names_seen names.now).context line beside_property) (seen_slice value.entry)) }
 {
-    let Some(value) = value else {
-        return Ok(None);
-    };
+    match value {
+        Some(value) => link_of(maker, names, value, beside_property),
+        None => Ok(None),
+    }
+}
+
+/// The predicates that the value keeps. Most tags have no such attribute, and don't come here.
+fn link_of(
+    maker: &mut IriMaker,
+    names: &NamesView<'_>,
+    value: &str,
+    beside_property: bool,
+) -> Result<Option<Iris>, NoMemory>
+    requires { is_relative (vocabulary_of (names_seen names.now)) ≡ false }
+    ensures { IfOk result (λ iris. (line : List Tag) → Stands (names_seen names.now) line
+        → iris ≡ the.link (names_seen names.now).context line beside_property (chars value.now)) }
+{
     if beside_property {
         return kept_predicates(maker, names, value);
     }

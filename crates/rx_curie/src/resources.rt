@@ -1,5 +1,6 @@
 //! What `about`, `resource`, `href` and `src` name.
 ghost use Rattle.std.specs.Prelude.{◌≡◌, List, IfOk, option_map, option_and_then};
+ghost use Rattle.std.specs.Str.{chars};
 ghost use Rattle.rx_refs.specs.Views.{seen_slice};
 ghost use Rattle.rx_rdfa.specs.Tree.{Tag};
 ghost use Rattle.rx_rdfa.specs.Facts as the;
@@ -25,9 +26,21 @@ pub(crate) fn resource(
     ensures { IfOk result (λ made. (line : List Tag) → Stands (names_seen names.now) line
         → option_map ref_seen made ≡ option_and_then (the.resource_of (names_seen names.now).context line) (seen_slice value.entry)) }
 {
-    let Some(value) = value else {
-        return Ok(None);
-    };
+    match value {
+        Some(value) => resource_of(maker, names, value),
+        None => Ok(None),
+    }
+}
+
+/// The resource that the value names. Most tags have no such attribute, and don't come here.
+fn resource_of(
+    maker: &mut IriMaker,
+    names: &NamesView<'_>,
+    value: &str,
+) -> Result<Option<Ref>, NoMemory>
+    ensures { IfOk result (λ made. (line : List Tag) → Stands (names_seen names.now) line
+        → option_map ref_seen made ≡ the.resource_of (names_seen names.now).context line (chars value.now)) }
+{
     let Some(reading) = read_resource(names, value) else {
         return Ok(None);
     };

@@ -49,5 +49,12 @@ fn are_nc(text: &str) -> bool
 fn are_nc_or_slash(text: &str) -> bool
     ensures { result ≡ list_all (λ c. nc.is_nc c || c == solidus) (chars text.now) }
 {
-    text.chars().all(|c| is_nc(c) || c == '/')
+    text.chars().all(|c| stands_in_term(c))
+}
+
+/// Whether a term may hold the character. Most are ASCII, and those are told before the table is asked.
+fn stands_in_term(c: char) -> bool
+    ensures { result ≡ (nc.is_nc c || c == solidus) }
+{
+    matches!(c, 'a'..='z' | 'A'..='Z' | '/' | '0'..='9' | '-' | '.' | '_') || is_nc(c)
 }
