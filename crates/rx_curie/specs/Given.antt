@@ -3,7 +3,7 @@ use Rattle.std.specs.Prelude.{◌≡◌, Bool, true, false, List, Option, Some, 
 use Rattle.rx_terms.specs.Text.{Chars, trimmed}
 use Rattle.rx_rdfa.specs.Tree.{Tag, attribute}
 use Rattle.rx_rdfa.specs.Names.{unless_empty, vocab}
-use Rattle.rx_rdfa.specs.Facts.{Facts}
+use Rattle.rx_rdfa.specs.Facts.{Facts, Other}
 use Rattle.rx_rdfa.specs.Refusals.{Refusal, RelativeVocab, XmlLiteral, HtmlLiteral, refusal}
 use Rattle.rx_grammar.specs.declared.faults.Kind.{Kind}
 use Rattle.rx_grammar.specs.declared.faults.Kind.TheVariants as kind
@@ -34,6 +34,39 @@ RefusesFor error.NoMemory refused = Unit {0}
 -- these facts where nothing is to be refused in them, else the first refusal that holds
 abbrev pub Gives : Result CodeFacts FactsError → Facts → Type 0
 Gives result facts = MatchResult result (λ made. (facts_seen made ≡ facts) × (refusal facts ≡ None)) (λ why. RefusesFor why (refusal facts))
+
+-- the same of a value into which the tag was read
+abbrev pub GivesIn : Result (Unit {0}) FactsError → CodeFacts → Facts → Type 0
+GivesIn result made facts = MatchResult result (λ done. (facts_seen made ≡ facts) × (refusal facts ≡ None)) (λ why. RefusesFor why (refusal facts))
+
+-- the error is that of a refusal
+abbrev pub IsMeaning : FactsError → Type 0
+IsMeaning (error.Meaning k) = Unit {0}
+IsMeaning error.NoMemory = ⊥
+
+-- the tag is refused for what it means
+abbrev pub IsRefused : Result (Unit {0}) FactsError → Type 0
+IsRefused result = MatchResult result (λ done. ⊥) IsMeaning
+
+-- what no attribute says, of an element that the rules don't name
+abbrev pub no_facts : Facts
+no_facts = record {
+  kind = Other;
+  about = None;
+  resource = None;
+  href = None;
+  src = None;
+  rel = None;
+  rev = None;
+  property = None;
+  types = None;
+  content = None;
+  datetime = None;
+  datatype = None;
+  inlist = false;
+  vocab = None;
+  lang = None;
+}
 
 -- the error's kind is that of a refusal
 abbrev pub is_refusal_kind : Kind → Bool

@@ -4,18 +4,18 @@ ghost use Rattle.std.specs.Str.{chars};
 ghost use Rattle.rx_rdfa.specs.Facts as the;
 ghost use Rattle.rx_curie.specs.Seen.{kind_seen};
 
-use crate::literals::{is_word, language, own_vocabulary, vocabulary};
+use crate::literals::{datatype, is_word, language, own_vocabulary, vocabulary};
 use crate::makers::IriMaker;
 use crate::nodes::Nodes2;
-use crate::parts::{Content, Links, Resources};
+use crate::predicates::{link, properties};
 use crate::refs::Ref;
-use crate::refusals::refusal_of;
+use crate::refusals::refusal_by;
+use crate::resources::{reference, resource, text};
 use crate::types::types;
 use rx_grammar::Kind;
-use rx_names::{NamesView, attribute};
+use rx_names::{Attributes, NamesView};
 use rx_tags::Tag;
 use rx_terms::{Iri, Iris, Lang, NoMemory, Text};
-use std::alloc::Global;
 
 /// The elements of which the rules speak by name (HTML+RDFa 1.1, section 3.1).
 #[derive(Clone, Copy, Debug, PartialEq, Eq)]
@@ -92,7 +92,7 @@ impl Facts {
     ghost use Rattle.rx_names.specs.Tags.{tag_of};
     ghost use Rattle.rx_names.specs.Lines.{Stands, vocabulary_of};
     ghost use Rattle.rx_names.specs.Views.{names_seen};
-    ghost use Rattle.rx_curie.specs.Given.{own_vocabulary, vocabulary_from, Gives, is_for_meaning};
+    ghost use Rattle.rx_curie.specs.Given.{own_vocabulary, vocabulary_from, no_facts, Gives, GivesIn, IsRefused, is_for_meaning};
     ghost use Rattle.rx_curie.specs.Seen.{facts_seen};
 
     /// What the tag says under these names, which have its own declarations already. The first refusal that holds is
@@ -112,59 +112,20 @@ impl Facts {
         ensures absolute { OnOk result (is_relative (vocabulary_of (names_seen names.now)) ≡ false) }
         ensures kinds { IfErr result (λ why. is_for_meaning why ≡ true) }
     {
-        match refusal_of(tag, names) {
-            Some(kind) => Err(FactsError::Meaning(kind)),
-            None => match Facts::read(maker, tag, names) {
-                Ok(facts) => Ok(facts),
-                Err(NoMemory) => Err(FactsError::NoMemory),
-            },
+        let mut facts = Facts::none();
+        match facts.renew(maker, tag, names) {
+            Ok(()) => Ok(facts),
+            Err(error) => Err(error),
         }
     }
 
-    /// What the tag says under these names.
-    fn read(maker: &mut IriMaker, tag: &Tag<'_>, names: &NamesView<'_>) -> Result<Facts, NoMemory>
-        requires own { is_relative (own_vocabulary (tag_of tag.now)) ≡ false }
-        requires vocabulary { is_relative (vocabulary_of (names_seen names.now)) ≡ false }
-        ensures { IfOk result (λ facts. (line : List StartTag) → Stands (names_seen names.now) line
-            → facts_seen facts ≡ the.facts_of (names_seen names.now).context line (tag_of tag.now)) }
+    /// What a tag without attributes says, whose element the rules don't name and which is in no language: the facts into
+    /// which a first tag is read.
+    pub fn none() -> Facts
+        ensures { facts_seen result ≡ no_facts }
     {
-        if tag.count() == 0 {
-            return Facts::bare(maker.alloc, tag, names);
-        }
-        let resources = Resources::of(maker, tag, names)?;
-        let links = Links::of(maker, tag, names)?;
-        let types = types(maker, names, attribute(tag, "typeof"))?;
-        let content = Content::of(maker, tag, names)?;
-        let vocab = vocabulary(maker, own_vocabulary(tag))?;
-        let lang = language(maker.alloc, names)?;
-        Ok(Facts {
-            element: kind_of(tag.name()),
-            about: resources.about,
-            resource: resources.resource,
-            href: resources.href,
-            src: resources.src,
-            rel: links.rel,
-            rev: links.rev,
-            property: links.property,
-            types,
-            content: content.content,
-            datetime: content.datetime,
-            datatype: content.datatype,
-            inlist: attribute(tag, "inlist").is_some(),
-            vocab,
-            lang,
-        })
-    }
-
-    /// What the tag says, which has no attributes.
-    fn bare(alloc: Global, tag: &Tag<'_>, names: &NamesView<'_>) -> Result<Facts, NoMemory>
-        requires { length (tag_of tag.now).attributes ≡ 0 }
-        ensures { IfOk result (λ facts. (line : List StartTag) → Stands (names_seen names.now) line
-            → facts_seen facts ≡ the.facts_of (names_seen names.now).context line (tag_of tag.now)) }
-    {
-        let lang = language(alloc, names)?;
-        Ok(Facts {
-            element: kind_of(tag.name()),
+        Facts {
+            element: ElementKind::Other,
             about: None,
             resource: None,
             href: None,
@@ -178,8 +139,69 @@ impl Facts {
             datatype: None,
             inlist: false,
             vocab: None,
-            lang,
-        })
+            lang: None,
+        }
+    }
+
+    /// Reads what the tag says into these facts, in place of what they were, and answers as [`Facts::of`] does. So a page's
+    /// tags are read into one value, which isn't moved. After want of memory nothing is said of the facts.
+    pub fn renew(
+        &mut self,
+        maker: &mut IriMaker,
+        tag: &Tag<'_>,
+        names: &NamesView<'_>,
+    ) -> Result<(), FactsError>
+        ensures line { (above : List StartTag) → Stands (names_seen names.now) (tag_of tag.now ∷ above)
+            → is_relative (vocabulary_from above (tag_of tag.now)) ≡ false
+            → GivesIn result self.new (the.facts (names_seen names.now).context above (tag_of tag.now)) }
+        ensures relative { is_relative (vocabulary_of (names_seen names.now)) ≡ true
+            → IsErrOf result (FactsError.Meaning Kind.RelativeVocab) }
+        ensures absolute { OnOk result (is_relative (vocabulary_of (names_seen names.now)) ≡ false) }
+        ensures kinds { IfErr result (λ why. is_for_meaning why ≡ true) }
+        ensures refused { IsRefused result → self.new ≡ self.old }
+    {
+        let attributes = Attributes::of(tag);
+        if let Some(kind) = refusal_by(&attributes, names) {
+            return Err(FactsError::Meaning(kind));
+        }
+        match self.read(maker, tag.name(), &attributes, names) {
+            Ok(()) => Ok(()),
+            Err(NoMemory) => Err(FactsError::NoMemory),
+        }
+    }
+
+    /// Reads what a tag of this name says, which has these attributes.
+    fn read(
+        &mut self,
+        maker: &mut IriMaker,
+        name: &str,
+        attributes: &Attributes<'_>,
+        names: &NamesView<'_>,
+    ) -> Result<(), NoMemory>
+        requires name { chars name.now ≡ attributes.now.name }
+        requires own { is_relative (own_vocabulary attributes.now) ≡ false }
+        requires vocabulary { is_relative (vocabulary_of (names_seen names.now)) ≡ false }
+        ensures { OnOk result ((line : List StartTag) → Stands (names_seen names.now) line
+            → facts_seen self.new ≡ the.facts_of (names_seen names.now).context line attributes.now) }
+    {
+        let property = attributes.value("property");
+        let beside_property = property.is_some();
+        self.element = kind_of(name);
+        self.about = resource(maker, names, attributes.value("about"))?;
+        self.resource = resource(maker, names, attributes.value("resource"))?;
+        self.href = reference(maker.alloc, attributes.value("href"))?;
+        self.src = reference(maker.alloc, attributes.value("src"))?;
+        self.rel = link(maker, names, attributes.value("rel"), beside_property)?;
+        self.rev = link(maker, names, attributes.value("rev"), beside_property)?;
+        self.property = properties(maker, names, property)?;
+        self.types = types(maker, names, attributes.value("typeof"))?;
+        self.content = text(maker.alloc, attributes.value("content"))?;
+        self.datetime = text(maker.alloc, attributes.value("datetime"))?;
+        self.datatype = datatype(maker, names, attributes.value("datatype"))?;
+        self.inlist = attributes.value("inlist").is_some();
+        self.vocab = vocabulary(maker, own_vocabulary(attributes))?;
+        self.lang = language(maker.alloc, names)?;
+        Ok(())
     }
 }
 

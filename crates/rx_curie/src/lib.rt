@@ -14,7 +14,6 @@ mod literals;
 mod made;
 mod makers;
 mod nodes;
-mod parts;
 mod predicates;
 mod readings;
 mod refs;

@@ -11,7 +11,6 @@ ghost use Rattle.rx_rdfa.specs.Tree.{Tag as StartTag};
 ghost use Rattle.rx_rdfa.specs.Names.{language, unless_empty};
 ghost use Rattle.rx_rdfa.specs.Refusals.{is_relative};
 ghost use Rattle.rx_rdfa.specs.Facts as the;
-ghost use Rattle.rx_names.specs.Tags.{tag_of};
 ghost use Rattle.rx_names.specs.Lines.{Stands, vocabulary_of};
 ghost use Rattle.rx_names.specs.Views.{names_seen};
 ghost use Rattle.rx_curie.specs.Given.{own_vocabulary};
@@ -20,9 +19,8 @@ ghost use Rattle.rx_curie.specs.Seen.{datatype_seen};
 use crate::facts::Datatype;
 use crate::makers::IriMaker;
 use crate::predicates::predicate;
-use rx_names::{NamesView, attribute};
+use rx_names::{Attributes, NamesView};
 use rx_refs::has_scheme;
-use rx_tags::Tag;
 use rx_terms::{Iri, Lang, NoMemory};
 use rx_words::{behind, is_empty, trim};
 use std::alloc::Global;
@@ -71,11 +69,11 @@ pub(crate) fn is_word(text: &str, word: &str) -> bool
     text == word
 }
 
-/// The vocabulary that the tag declares, where that isn't empty.
-pub(crate) fn own_vocabulary<'a>(tag: &Tag<'a>) -> Option<&'a str>
-    ensures { seen_slice result ≡ own_vocabulary (tag_of tag.now) }
+/// The vocabulary that a tag with these attributes declares, where that isn't empty.
+pub(crate) fn own_vocabulary<'a>(attributes: &Attributes<'a>) -> Option<&'a str>
+    ensures { seen_slice result ≡ own_vocabulary attributes.now }
 {
-    match attribute(tag, "vocab") {
+    match attributes.value("vocab") {
         Some(value) => unless_empty(trim(value)),
         None => None,
     }

@@ -19,7 +19,7 @@ use crate::comparisons::are_text;
 use crate::literals::{is_relative, is_word, own_vocabulary};
 use crate::readings::{Reading, read_term};
 use rx_grammar::Kind;
-use rx_names::{NamesView, attribute};
+use rx_names::{Attributes, NamesView};
 use rx_tags::Tag;
 use rx_words::trim;
 
@@ -36,14 +36,27 @@ pub fn refusal_of(tag: &Tag<'_>, names: &NamesView<'_>) -> Option<Kind>
     ensures absolute { result ≡ None → is_relative (vocabulary_of (names_seen names.now)) ≡ false }
     ensures kinds { kind_or_none result ≡ true }
 {
-    if is_relative(own_vocabulary(tag)) {
+    refusal_by(&Attributes::of(tag), names)
+}
+
+/// The same by the tag's attributes.
+pub(crate) fn refusal_by(attributes: &Attributes<'_>, names: &NamesView<'_>) -> Option<Kind>
+    ensures line { (above : List StartTag) → Stands (names_seen names.now) (attributes.now ∷ above)
+        → is_relative (vocabulary_from above attributes.now) ≡ false
+        → result ≡ option_map kind_of (refusal (the.facts (names_seen names.now).context above attributes.now)) }
+    ensures relative { is_relative (vocabulary_of (names_seen names.now)) ≡ true → result ≡ Some Kind.RelativeVocab }
+    ensures own { result ≡ None → is_relative (own_vocabulary attributes.now) ≡ false }
+    ensures absolute { result ≡ None → is_relative (vocabulary_of (names_seen names.now)) ≡ false }
+    ensures kinds { kind_or_none result ≡ true }
+{
+    if is_relative(own_vocabulary(attributes)) {
         return Some(Kind::RelativeVocab);
     }
     if is_relative(names.vocab()) {
         return Some(Kind::RelativeVocab);
     }
-    match attribute(tag, "property") {
-        Some(_property) => markup_of(names, attribute(tag, "datatype")),
+    match attributes.value("property") {
+        Some(_property) => markup_of(names, attributes.value("datatype")),
         None => None,
     }
 }

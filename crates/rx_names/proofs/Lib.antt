@@ -8,3 +8,4 @@ pub mod PutLemmas
 pub mod GivenLemmas
 pub mod LineLemmas
 pub mod FileLemmas
+pub mod MarkLemmas

@@ -9,7 +9,7 @@ ghost use Rattle.rx_refs.specs.Views.{seen_slice};
 ghost use Rattle.rx_names.specs.Tags.{tag_of};
 ghost use Rattle.rx_names.specs.Rows.{rows_of, mapping_rows, vocabulary_rows, language_rows, language_attribute};
 
-use crate::attributes::attribute;
+use crate::attributes::Attributes;
 use crate::rows::{Row, Rows};
 use crate::words::{is_low_line, is_nc_name};
 use rx_tags::Tag;
@@ -25,19 +25,20 @@ pub(crate) fn push_declarations(
 ) -> Result<(), NoMemory>
     ensures ok { OnOk result (rows.new ≡ rows.old ++ rows_of (tag_of tag.now)) }
 {
+    let attributes = Attributes::of(tag);
     push_namespaces(alloc, rows, tag)?;
-    push_prefixes(alloc, rows, attribute(tag, "prefix"))?;
-    push_vocabulary(alloc, rows, attribute(tag, "vocab"))?;
-    push_language(alloc, rows, language_attribute(tag))
+    push_prefixes(alloc, rows, attributes.value("prefix"))?;
+    push_vocabulary(alloc, rows, attributes.value("vocab"))?;
+    push_language(alloc, rows, language_attribute(&attributes))
 }
 
 /// The attribute that says the language: `xml:lang`, or else `lang`.
-fn language_attribute<'a>(tag: &Tag<'a>) -> Option<&'a str>
-    ensures value { seen_slice result ≡ language_attribute (tag_of tag.now) }
+fn language_attribute<'a>(attributes: &Attributes<'a>) -> Option<&'a str>
+    ensures value { seen_slice result ≡ language_attribute attributes.now }
 {
-    match attribute(tag, "xml:lang") {
+    match attributes.value("xml:lang") {
         Some(value) => Some(value),
-        None => attribute(tag, "lang"),
+        None => attributes.value("lang"),
     }
 }
 

@@ -19,7 +19,7 @@ mod standard;
 mod tables;
 mod words;
 
-pub use attributes::attribute;
+pub use attributes::{Attributes, attribute};
 pub use context_files::ContextError;
 pub use contexts::Context;
 pub use names::{Names, NamesView};

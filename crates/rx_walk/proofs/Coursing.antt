@@ -133,13 +133,13 @@ module _ (context : Context) (address : Chars) (levels : ℕ) (old new : Course)
   begin_context : (kept : Kept) → kept.context ≡ old.names.context → kept.context ≡ context
   begin_context kept c = c ∙ r.context_is
 
-  pub begin_refused : (kept : Kept) (t : StartTag) (why : Stop) → kept.context ≡ old.names.context → FactsGive kept.context (line_of [] signs) t (Err why) → Hears context address levels signs (begun t ∷ []) (Err why) new
-  begin_refused kept t (stop.Fault fault) c g = refused_next t fault (subst (λ x. refused_at x (line_of [] signs) (begun t) ≡ Some fault) (begin_context kept c) g)
-  begin_refused kept t stop.NoMemory c g = tt
+  pub begin_refused : (kept : Kept) (t : StartTag) (made : CodeFacts) (why : Stop) → kept.context ≡ old.names.context → FactsGive kept.context (line_of [] signs) t made (Err why) → Hears context address levels signs (begun t ∷ []) (Err why) new
+  begin_refused kept t made (stop.Fault fault) c g = refused_next t fault (subst (λ x. refused_at x (line_of [] signs) (begun t) ≡ Some fault) (begin_context kept c) g)
+  begin_refused kept t made stop.NoMemory c g = tt
 
-  pub begin_facts : (kept : Kept) (t : StartTag) (made : CodeFacts) → kept.context ≡ old.names.context → FactsGive kept.context (line_of [] signs) t (Ok made)
+  pub begin_facts : (kept : Kept) (t : StartTag) (made : CodeFacts) → kept.context ≡ old.names.context → FactsGive kept.context (line_of [] signs) t made (Ok tt)
       → (facts_seen made ≡ facts context (line_of [] signs) (read_tag t)) × (refused_at context (line_of [] signs) (begun t) ≡ None)
-  begin_facts kept t made c g = subst (λ x. FactsGive x (line_of [] signs) t (Ok made)) (begin_context kept c) g
+  begin_facts kept t made c g = subst (λ x. FactsGive x (line_of [] signs) t made (Ok tt)) (begin_context kept c) g
 
   pub absolute_left : AllAbsolute (around (line_of [] signs))
   absolute_left = absolute_around (line_of [] signs) r.absolute

@@ -47,11 +47,11 @@ pub record MayHear (course : Course) (more : List Sign) : Type 0 where
   pub runs : Runs context address levels course signs
   pub front : IsFront levels (signs ++ more)
 
--- what the facts of a start tag below a line are, or why it is refused
-abbrev pub FactsGive : Context → List Tag → StartTag → Result CodeFacts Stop → Type 0
-FactsGive context above t (Ok made) = (facts_seen made ≡ facts context above (read_tag t)) × (refused_at context above (begun t) ≡ None)
-FactsGive context above t (Err (stop.Fault fault)) = refused_at context above (begun t) ≡ Some fault
-FactsGive context above t (Err stop.NoMemory) = Unit {0}
+-- what the facts of a start tag below a line are, which was read into these, or why it is refused
+abbrev pub FactsGive : Context → List Tag → StartTag → CodeFacts → Result (Unit {0}) Stop → Type 0
+FactsGive context above t made (Ok done) = (facts_seen made ≡ facts context above (read_tag t)) × (refused_at context above (begun t) ≡ None)
+FactsGive context above t made (Err (stop.Fault fault)) = refused_at context above (begun t) ≡ Some fault
+FactsGive context above t made (Err stop.NoMemory) = Unit {0}
 
 -- what becomes of the course with these signs, or which of them is refused
 abbrev pub Hears : Context → Chars → ℕ → List Sign → List Sign → Result (Unit {0}) Stop → Course → Type 0

@@ -30,18 +30,25 @@ pub(crate) struct Course {
     pub(crate) names: Names,
     /// Makes the IRIs of all tags, so that those that come often are kept once.
     pub(crate) maker: IriMaker,
+    /// What the last start tag said, unless that is kept elsewhere. All tags are read into this one value.
+    pub(crate) facts: Facts,
     /// How many elements are open.
     pub(crate) count: u32,
     pub(crate) stage: Stage,
 }
 
-/// What the start tag says, or the fault for which it is refused.
-fn facts_of(maker: &mut IriMaker, tag: &Tag<'_>, names: &Names) -> Result<Facts, Stop>
-    ensures line { (above : List StartTag) → lines.Stands names.now (tag_of tag.now ∷ above) → is_relative (vocabulary_from above (tag_of tag.now)) ≡ false → FactsGive names.now.context above (tag_shown tag.now) result }
+/// Reads what the start tag says into these facts, or answers the fault for which it is refused.
+fn read_facts(
+    facts: &mut Facts,
+    maker: &mut IriMaker,
+    tag: &Tag<'_>,
+    names: &Names,
+) -> Result<(), Stop>
+    ensures line { (above : List StartTag) → lines.Stands names.now (tag_of tag.now ∷ above) → is_relative (vocabulary_from above (tag_of tag.now)) ≡ false → FactsGive names.now.context above (tag_shown tag.now) facts.new result }
     ensures absolute { OnOk result (is_relative (lines.vocabulary_of names.now) ≡ false) }
 {
-    match Facts::of(maker, tag, &names.view()) {
-        Ok(facts) => Ok(facts),
+    match facts.renew(maker, tag, &names.view()) {
+        Ok(()) => Ok(()),
         Err(FactsError::Meaning(kind)) => Err(Stop::Fault(Fault {
             kind,
             token: tag.token,
@@ -79,6 +86,7 @@ impl Course {
             },
             names,
             maker,
+            facts: Facts::none(),
             count: 0,
             stage: Stage::Seeking(Head {
                 sought: Sought::FirstChild,
@@ -108,11 +116,13 @@ impl Course {
         let Ok(()) = self.names.push(tag) else {
             return Err(Stop::NoMemory);
         };
-        let facts = match facts_of(&mut self.maker, tag, &self.names) {
-            Ok(facts) => facts,
-            Err(stop) => return Err(stop),
-        };
-        let Ok(()) = self.stage.begin(&self.origin, self.count, tag, facts) else {
+        if let Err(stop) = read_facts(&mut self.facts, &mut self.maker, tag, &self.names) {
+            return Err(stop);
+        }
+        let Ok(()) = self
+            .stage
+            .begin(&self.origin, self.count, tag, &mut self.facts)
+        else {
             return Err(Stop::NoMemory);
         };
         self.count = one_more(self.count, self.origin.levels);

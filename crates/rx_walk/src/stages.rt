@@ -17,6 +17,7 @@ use rx_curie::Facts;
 use rx_eval::Eval;
 use rx_nest::Tag;
 use rx_terms::{NoMemory, Text};
+use std::mem;
 
 /// What is looked for, and what was told so far.
 #[derive(Debug, Drop)]
@@ -48,12 +49,14 @@ impl Head {
         origin: &Origin,
         count: u32,
         tag: &Tag<'_>,
-        facts: Facts,
+        facts: &mut Facts,
     ) -> Result<Option<Eval>, NoMemory>
-        requires { MayBe origin.now.levels (queue_seen self.old.queue.items ++ Enter (facts_seen facts) ∷ []) }
-        ensures { IfOk result (λ eval. HeadGives origin.now (seek_begun count (sought_seen self.old.sought) (tag_of tag.now)) (queue_seen self.old.queue.items ++ Enter (facts_seen facts) ∷ []) eval self.new) }
+        requires { MayBe origin.now.levels (queue_seen self.old.queue.items ++ Enter (facts_seen facts.old) ∷ []) }
+        ensures { IfOk result (λ eval. HeadGives origin.now (seek_begun count (sought_seen self.old.sought) (tag_of tag.now)) (queue_seen self.old.queue.items ++ Enter (facts_seen facts.old) ∷ []) eval self.new) }
     {
-        self.push(Call::Enter(facts))?;
+        // The queue keeps them, and the next tag is read into others.
+        let kept = mem::replace(facts, Facts::none());
+        self.push(Call::Enter(kept))?;
         match self.sought.begun(count, tag) {
             Clue::Seeks(sought) => {
                 self.sought = sought;
@@ -80,19 +83,19 @@ impl Head {
 }
 
 impl Stage {
-    /// An element begins inside so many that are open.
+    /// An element with these facts begins inside so many that are open.
     pub(crate) fn begin(
         &mut self,
         origin: &Origin,
         count: u32,
         tag: &Tag<'_>,
-        facts: Facts,
+        facts: &mut Facts,
     ) -> Result<(), NoMemory>
-        requires { MayTake origin.now.levels (Enter (facts_seen facts) ∷ []) self.old }
-        ensures { OnOk result (Tells origin.now (λ seeking. seek_begun count seeking (tag_of tag.now)) (Enter (facts_seen facts) ∷ []) self.old self.new) }
+        requires { MayTake origin.now.levels (Enter (facts_seen facts.old) ∷ []) self.old }
+        ensures { OnOk result (Tells origin.now (λ seeking. seek_begun count seeking (tag_of tag.now)) (Enter (facts_seen facts.old) ∷ []) self.old self.new) }
     {
         let known = match self {
-            Stage::Found(eval) => return enter(eval, &facts),
+            Stage::Found(eval) => return enter(eval, facts),
             Stage::Seeking(head) => head.begin(origin, count, tag, facts)?,
         };
         if let Some(eval) = known {

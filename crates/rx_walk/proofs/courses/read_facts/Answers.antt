@@ -7,7 +7,7 @@ use Rattle.rx_curie.specs.Given.{RefusesFor}
 use Rattle.rx_curie.specs.declared.facts.FactsError.TheVariants as error
 use Rattle.rx_nest.specs.Nests.{tag_shown}
 use Rattle.rx_walk.proofs.Coursing.{refused_is}
-use Rattle.rx_walk.proofs.courses.facts_of.Goals as goal
+use Rattle.rx_walk.proofs.courses.read_facts.Goals as goal
 
 pub returns-in-Err-Meaning-clause-line : goal.returns-in-Err-Meaning-clause-line
 returns-in-Err-Meaning-clause-line c above stands free =

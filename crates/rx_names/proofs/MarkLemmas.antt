@@ -1,0 +1,68 @@
+-- Marks of names.
+use Rattle.std.proofs.Common.{◌≡◌, ◌∙◌, ℕ, ◌/◌, ◌==◌, true, false, Bool, List, [], ◌∷◌, ◌++◌, Option, Some, None, take, length, get_or, ◌+◌, ◌<◌, bit_and, bit_or, bytes_eq, cond, sym, ap, subst, refl, arith}
+use Rattle.std.specs.Str.{chars, IsUtf8, encode_utf8_all}
+use Rattle.std.proofs.lemmas.Bool.Decides.{nat_tests}
+use Rattle.std.proofs.lemmas.List.{take_more}
+use Rattle.std.proofs.lemmas.Nat.{and_or_self, or_shr}
+use Rattle.std.proofs.lemmas.Slice.Eq.{bytes_eq-Decides}
+use Rattle.std.proofs.lemmas.Str.{encodes-chars}
+use Rattle.std.proofs.Math.Arith.{bin_ind}
+use Rattle.std.specs.Int.Bits.{and_zero_r, and_step, or_step}
+use Rattle.rx_terms.specs.Text.{Chars}
+use Rattle.rx_rdfa.specs.Tree.{value_of_first}
+use Rattle.rx_names.specs.Marks.{mark_of, name_mark, has_mark, Marked}
+
+-- bits that are set stay so where others are set
+stay_set : (mask word more : ℕ) → bit_and word mask ≡ mask → bit_and (bit_or word more) mask ≡ mask
+stay_set =
+    bin_ind (λ (m : ℕ). (a n : ℕ) → bit_and a m ≡ m → bit_and (bit_or a n) m ≡ m) (λ a n h. and_zero_r (bit_or a n))
+    (λ m ih a n h.
+    let rest : bit_and (a / 2) (m / 2) ≡ m / 2 = omega (arith, and_step a m, h) in
+    let p : bit_and (bit_or a n / 2) (m / 2) ≡ m / 2 = ap (λ x. bit_and x (m / 2)) (or_shr a n 1) ∙ ih (a / 2) (n / 2) rest in
+    omega (arith, and_step (bit_or a n) m, p, or_step a n, and_step a m, h))
+
+or_keeps : (word more mask : ℕ) → (bit_and word mask == mask) ≡ true → (bit_and (bit_or word more) mask == mask) ≡ true
+or_keeps word more mask h = let set : bit_and word mask ≡ mask = grind (arith, nat_tests) in grind (arith, nat_tests, stay_set mask word more set)
+
+or_has : (word mask : ℕ) → (bit_and (bit_or word mask) mask == mask) ≡ true
+or_has word mask = grind (arith, nat_tests, and_or_self mask word)
+
+pub mark_of_chars : (bytes : List ℕ) → IsUtf8 bytes → mark_of bytes ≡ name_mark (chars bytes)
+mark_of_chars bytes u = ap mark_of (sym (encodes-chars bytes u))
+
+pub none_marked : (marks : ℕ) → Marked marks []
+none_marked marks name h = refl
+
+-- a value behind others
+behind_first : (b : Bool) (some more most : Option Chars) → (more ≡ None → most ≡ None) → cond b some more ≡ None → cond b some most ≡ None
+behind_first true some more most f e = e
+behind_first false some more most f e = f e
+
+last_value : (attributes : List (Chars × Chars)) (name key value : Chars) → bytes_eq key name ≡ false → value_of_first attributes name ≡ None → value_of_first (attributes ++ (key, value) ∷ []) name ≡ None
+last_value [] name key value d h = ap (λ b. cond b (Some value) None) d
+last_value (a ∷ more) name key value d h =
+    behind_first (bytes_eq a.0 name) (Some a.1) (value_of_first more name) (value_of_first (more ++ (key, value) ∷ []) name) (last_value more name key value d) h
+
+pub one_more : (marks : ℕ) (attributes : List (Chars × Chars)) (key value : Chars) → Marked marks attributes → Marked (bit_or marks (name_mark key)) (attributes ++ (key, value) ∷ [])
+one_more marks attributes key value m name h = last_value attributes name key value other (m name before) where
+  before : has_mark marks name ≡ false
+  before = by (has_mark marks name) refl where
+    by : (b : Bool) → b ≡ has_mark marks name → b ≡ false
+    by false e = refl
+    by true e = absurd (cc (or_keeps marks (name_mark key) (name_mark name) (sym e), h))
+
+  other : bytes_eq key name ≡ false
+  other = by (bytes_eq key name) refl where
+    by : (b : Bool) → b ≡ bytes_eq key name → b ≡ false
+    by false e = refl
+    by true e =
+        let same : key ≡ name = (bytes_eq-Decides key name).0 (sym e) in
+        let has : has_mark (bit_or marks (name_mark key)) name ≡ true = subst (λ n. has_mark (bit_or marks (name_mark key)) n ≡ true) same (or_has marks (name_mark key)) in
+        absurd (cc (has, h))
+
+-- one attribute more of those at the front
+pub one_taken : (attributes : List (Chars × Chars)) (i marks mark : ℕ) (a : Chars × Chars) → i < length attributes → get_or attributes i a ≡ a → mark ≡ name_mark a.0 → Marked marks (take i attributes)
+    → Marked (bit_or marks mark) (take (i + 1) attributes)
+one_taken attributes i marks mark a within at is m =
+    let more : take (i + 1) attributes ≡ take i attributes ++ a ∷ [] = take_more attributes i a within ∙ ap (λ x. take i attributes ++ x ∷ []) at in
+    subst (λ n. Marked (bit_or marks n) (take (i + 1) attributes)) (sym is) (subst (λ l. Marked (bit_or marks (name_mark a.0)) l) (sym more) (one_more marks (take i attributes) a.0 a.1 m))

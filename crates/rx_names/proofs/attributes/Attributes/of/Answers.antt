@@ -1,0 +1,24 @@
+use Rattle.std.proofs.Common.{◌≡◌, ◌<◌, take, length, subst, arith}
+use Rattle.std.specs.Str.{chars}
+use Rattle.std.proofs.lemmas.List.{take_all}
+use Rattle.std.proofs.lemmas.Option.{get_or_from_slice_get}
+use Rattle.rx_terms.specs.Text.{Chars}
+use Rattle.rx_names.specs.Marks.{Marked}
+use Rattle.rx_names.specs.Tags.{tag_of}
+use Rattle.rx_names.proofs.MarkLemmas.{none_marked, one_taken}
+use Rattle.rx_names.proofs.attributes.Attributes.of.Goals as goal
+
+pub loop-i-init : goal.loop-i-init
+loop-i-init c = none_marked 0
+
+pub loop-i-preserved : goal.loop-i-preserved
+loop-i-preserved c =
+    let attributes = (tag_of c.args.tag.now).attributes in
+    let a : Chars × Chars = (chars c.attr_at.result.0.now, chars c.attr_at.result.1.now) in
+    let within : c.loop-i.i < length attributes = omega (arith, c.count-i-end.ensures, c.loop-i-test.true) in
+    one_taken attributes c.loop-i.i c.loop-i.marks c.mark_of-marks.result a within (get_or_from_slice_get attributes c.loop-i.i a a c.attr_at.ensures) c.mark_of-marks.ensures.characters c.loop-i.invariant
+
+pub invariant_of-result : goal.invariant_of-result
+invariant_of-result c =
+    let attributes = (tag_of c.args.tag.now).attributes in
+    subst (λ l. Marked c.loop-i.marks l) (take_all c.loop-i.i attributes (omega (arith, c.count-i-end.ensures, c.loop-i-test.false))) c.loop-i.invariant
