@@ -18,6 +18,8 @@ use Rattle.rx_terms.specs.Literal.{rdf_lang_string}
 use Rattle.rx_rdfa.specs.Facts.{Facts, Datatype, Empty, Is, facts, predicate, predicates, datatype_of}
 use Rattle.rx_rdfa.specs.Refusals.{Refusal, RelativeVocab, XmlLiteral, HtmlLiteral, is_relative, is_datatype, refusal, rdf_xml_literal, rdf_html}
 use Rattle.rx_grammar.specs.declared.faults.Kind.{Kind}
+use Rattle.rx_names.specs.Lines.{Kept, Stands}
+use Rattle.rx_grammar.specs.declared.faults.Kind.{Kind}
 use Rattle.rx_curie.specs.declared.facts.FactsError.TheVariants as error
 use Rattle.rx_curie.specs.Given.{own_vocabulary, vocabulary_from, kind_of, RefusesFor}
 use Rattle.rx_curie.specs.Refusing.{is_iri, markup, markup_of}
@@ -158,3 +160,9 @@ refuses-for k (Some refused) e = cc
 pub refuses-none : (r : Option Refusal) → None ≡ option_map kind_of r → r ≡ None
 refuses-none None e = refl
 refuses-none (Some refused) e = absurd (cc)
+
+-- what is told of the refusal of a tag's attributes, told of the tag
+pub refused-line : (kept : Kept) (attributes tag : Tag) (told : Option Kind) → attributes ≡ tag
+    → ((above : List Tag) → Stands kept (attributes ∷ above) → is_relative (vocabulary_from above attributes) ≡ false → told ≡ option_map kind_of (refusal (facts kept.context above attributes)))
+    → (above : List Tag) → Stands kept (tag ∷ above) → is_relative (vocabulary_from above tag) ≡ false → told ≡ option_map kind_of (refusal (facts kept.context above tag))
+refused-line kept attributes tag told e line = subst (λ t. (above : List Tag) → Stands kept (t ∷ above) → is_relative (vocabulary_from above t) ≡ false → told ≡ option_map kind_of (refusal (facts kept.context above t))) e line

@@ -3,5 +3,4 @@ pub mod Seen
 pub mod Absolute
 pub mod Brackets
 pub mod Given
-pub mod Parts
 pub mod Refusing

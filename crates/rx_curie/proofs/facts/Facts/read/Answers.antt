@@ -1,35 +1,44 @@
 use Rattle.std.proofs.Common.{◌∙◌, ap, option_map}
-use Rattle.std.specs.Prelude.{is_some}
+use Rattle.std.specs.Prelude.{is_some, option_and_then}
+use Rattle.rx_terms.specs.Text.{trimmed}
 use Rattle.rx_refs.specs.Resolve.{cleaned}
 use Rattle.rx_rdfa.specs.Facts as the
 use Rattle.rx_names.specs.Views.{names_seen}
-use Rattle.rx_curie.proofs.FactLemmas.{is_some-seen}
+use Rattle.rx_curie.proofs.FactLemmas.{is_some-seen, link-is}
 use Rattle.rx_curie.proofs.facts.Facts.read.Goals as goal
 
 pub returns : goal.returns
 returns c = λ line stands.
     let context = (names_seen c.args.names.now).context in
-    let resources = c.in_ok-resources.ensures line stands in
-    let links = c.in_ok-links.ensures line stands in
-    let content = c.in_ok-content.ensures line stands in
-    let kind = c.kind_of.ensures ∙ ap the.kind_of c.name.ensures in
-    let types = c.in_ok-types.ensures line stands ∙ ap (option_map (the.types_of context line)) c.attribute.ensures in
-    let inlist = c.is_some.ensures ∙ is_some-seen c.attribute-2.result ∙ ap is_some c.attribute-2.ensures in
-    let vocab = c.in_ok-vocab.ensures ∙ ap (option_map cleaned) c.own_vocabulary.ensures in
-    let lang = c.in_ok-lang.ensures line stands in
+    let beside = c.is_some-beside_property.ensures ∙ is_some-seen c.value-property.result ∙ ap is_some c.value-property.ensures in
+    let kind = c.kind_of-self.ensures ∙ ap the.kind_of c.requires.name in
+    let about = c.in_ok-self.ensures line stands ∙ ap (option_and_then (the.resource_of context line)) c.value.ensures in
+    let resource = c.in_ok-self-2.ensures line stands ∙ ap (option_and_then (the.resource_of context line)) c.value-2.ensures in
+    let href = c.in_ok-self-3.ensures ∙ ap (option_map the.RelativeRef) c.value-3.ensures in
+    let src = c.in_ok-self-4.ensures ∙ ap (option_map the.RelativeRef) c.value-4.ensures in
+    let rel = link-is context line _ _ _ _ _ (c.in_ok-self-5.ensures line stands) beside c.value-5.ensures in
+    let rev = link-is context line _ _ _ _ _ (c.in_ok-self-6.ensures line stands) beside c.value-6.ensures in
+    let property = c.in_ok-self-7.ensures line stands ∙ ap (option_map (the.predicates context line)) c.value-property.ensures in
+    let types = c.in_ok-self-8.ensures line stands ∙ ap (option_map (the.types_of context line)) c.value-7.ensures in
+    let content = c.in_ok-self-9.ensures ∙ c.value-8.ensures in
+    let datetime = c.in_ok-self-10.ensures ∙ c.value-9.ensures in
+    let datatype = c.in_ok-self-11.ensures line stands ∙ ap (option_map (λ value. the.datatype_of (the.predicate context line (trimmed value)))) c.value-10.ensures in
+    let inlist = c.is_some-self.ensures ∙ is_some-seen c.value-11.result ∙ ap is_some c.value-11.ensures in
+    let vocab = c.in_ok-self-12.ensures ∙ ap (option_map cleaned) c.own_vocabulary.ensures in
+    let lang = c.in_ok-self-13.ensures line stands in
     λ i. record {
       kind = kind i;
-      about = resources.about_is i;
-      resource = resources.resource_is i;
-      href = resources.href_is i;
-      src = resources.src_is i;
-      rel = links.rel_is i;
-      rev = links.rev_is i;
-      property = links.property_is i;
+      about = about i;
+      resource = resource i;
+      href = href i;
+      src = src i;
+      rel = rel i;
+      rev = rev i;
+      property = property i;
       types = types i;
-      content = content.content_is i;
-      datetime = content.datetime_is i;
-      datatype = content.datatype_is i;
+      content = content i;
+      datetime = datetime i;
+      datatype = datatype i;
       inlist = inlist i;
       vocab = vocab i;
       lang = lang i;

@@ -1,0 +1,23 @@
+use Rattle.std.proofs.Common.{◌≡◌, ◌∙◌, ◌∷◌, List, Option, false, option_map, ap, sym, subst}
+use Rattle.rx_rdfa.specs.Tree.{Tag}
+use Rattle.rx_rdfa.specs.Facts.{facts, facts_of}
+use Rattle.rx_rdfa.specs.Refusals.{is_relative, refusal}
+use Rattle.rx_names.specs.Lines.{Stands}
+use Rattle.rx_names.specs.Tags.{tag_of}
+use Rattle.rx_names.specs.Views.{names_seen}
+use Rattle.rx_grammar.specs.declared.faults.Kind.{Kind}
+use Rattle.rx_curie.specs.Given.{kind_of, vocabulary_from}
+use Rattle.rx_curie.proofs.RefusalLemmas.{refuses-for, refuses-none, refused-line}
+use Rattle.rx_curie.proofs.facts.Facts.renew.Goals as goal
+
+pub returns-in-Some-clause-line : goal.returns-in-Some-clause-line
+returns-in-Some-clause-line c = λ above stands absolute.
+    refuses-for c.in-Some.kind (refusal (facts (names_seen c.args.names.now).context above (tag_of c.args.tag.now)))
+    (sym c.in-Some.is ∙ refused-line (names_seen c.args.names.now) c.of-attributes.result (tag_of c.args.tag.now) c.refusal_by.result c.of-attributes.ensures c.refusal_by.ensures.line above stands absolute)
+
+pub returns-in-Ok-clause-line : goal.returns-in-Ok-clause-line
+returns-in-Ok-clause-line c = λ above stands absolute. (
+  c.in-Ok.ensures (tag_of c.args.tag.now ∷ above) stands ∙ ap (λ t. facts_of (names_seen c.args.names.now).context (tag_of c.args.tag.now ∷ above) t) c.of-attributes.ensures,
+  refuses-none (refusal (facts (names_seen c.args.names.now).context above (tag_of c.args.tag.now)))
+      (sym c.in_default.is ∙ refused-line (names_seen c.args.names.now) c.of-attributes.result (tag_of c.args.tag.now) c.refusal_by.result c.of-attributes.ensures c.refusal_by.ensures.line above stands absolute),
+)
