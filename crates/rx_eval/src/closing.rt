@@ -59,7 +59,9 @@ pub(crate) fn end_text(
 }
 
 /// Adds the triples of an owner's lists, whose cells are numbered from `next` on, and gives the next number. Where no
-/// number is left for a cell there is no memory for one either.
+/// number is left for a cell there is no memory for one either. Most elements have no owner of their own, so that this
+/// stands apart from their way.
+#[inline(never)]
 pub(crate) fn end_lists(
     out: &mut TripleList,
     lists: &mut Lists,
@@ -89,6 +91,7 @@ fn push_all(out: &mut TripleList, triples: TripleList) -> Result<(), NoMemory>
 }
 
 /// The same of an owner, if there is one.
+#[inline(always)]
 pub(crate) fn end_owner(
     out: &mut TripleList,
     lists: &mut Lists,

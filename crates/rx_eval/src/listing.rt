@@ -92,10 +92,13 @@ fn put_own(
     put_valued(alloc, lists, owner, &facts.property, value)
 }
 
-/// Adds the subject to the lists that wait.
+/// Adds the subject to the lists that wait. Where nothing waits, no copy of it is made.
 fn put_awaited(lists: &mut Lists, waiting: &[Waiting], subject: &Node) -> Result<(), NoMemory>
     ensures { OnOk result (owners_seen lists.new ≡ put_entries (filter_map (awaited_entry (node_seen subject.now)) (map waiting_seen waiting.now)) (owners_seen lists.old)) }
 {
+    if waiting.is_empty() {
+        return Ok(());
+    }
     add_awaited(lists, waiting, &node_term(subject)?)
 }
 
