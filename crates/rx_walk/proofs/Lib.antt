@@ -25,3 +25,4 @@ pub mod AlikeStates
 pub mod StandsAlike
 pub mod GrownNumbers
 pub mod PlaceLaws
+pub mod Stopping

@@ -20,3 +20,6 @@ turns-preserved c =
           none_quiet syntax limits context address bytes c.args.piece.now c.in-Ok-Took-eq0.field-0-0 c.step.new.nest c.step.new.course c.in-Ok-Took-eq0.field-0-0-test
           (quiets syntax limits context address bytes (c.turns.invariant.quiet syntax limits context address bytes g q) q);
     }
+
+pub returns-in-Err-clause-gives : goal.returns-in-Err-clause-gives
+returns-in-Err-clause-gives c = λ syntax limits context address bytes g. c.in-Err.ensures.gives syntax limits context address bytes (c.turns.invariant.on syntax limits context address bytes g)

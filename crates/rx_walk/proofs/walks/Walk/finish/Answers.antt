@@ -1,5 +1,8 @@
-use Rattle.std.proofs.Common.{sym, subst}
-use Rattle.rx_walk.specs.Walks.{Stands}
+use Rattle.std.proofs.Common.{List, Err, sym, subst}
+use Rattle.rx_terms.specs.declared.triples.Triple.{Triple}
+use Rattle.rx_walk.specs.Falling.{MayAnswer}
+use Rattle.rx_walk.specs.Walks.{Stands, Walked}
+use Rattle.rx_walk.proofs.Stopping.{may_stop}
 use Rattle.rx_walk.proofs.Wholes.{ends_whole, whole_of, ended_of, end_stops, end_wants_none, no_fault}
 use Rattle.rx_walk.proofs.walks.Walk.finish.Goals as goal
 
@@ -25,3 +28,8 @@ pub returns-clause-memory : goal.returns-clause-memory
 returns-clause-memory c is =
     let s = (c.self.invariant (no_fault c.self.inside.failed c.in_default.not-Some) c.if-spent.false).0 in
     absurd (end_wants_none s.syntax s.limits s.bytes s.goes.signs c.self.inside.nest c.end.new.self c.in-Err.stop (c.in-Err.ensures.ends s.syntax s.limits s.bytes s.goes.signs s.goes.shown) is)
+
+pub returns-clause-asked : goal.returns-clause-asked
+returns-clause-asked c =
+    subst (λ (v : Walked). MayAnswer {A = List Triple} v.failed v.spent (Err c.in-Err.stop)) c.self.view_is
+    (may_stop (List Triple) c.self.inside.failed c.self.inside.spent c.in-Err.stop (no_fault c.self.inside.failed c.in_default.not-Some) c.if-spent.false)
