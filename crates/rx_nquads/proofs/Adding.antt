@@ -1,13 +1,13 @@
 -- Characters added to a text, one part after another.
-use Rattle.std.proofs.Common.{◌≡◌, ◌∙◌, ℕ, ◌<◌, ◌^◌, true, false, ◌||◌, ◌==◌, List, [], ◌∷◌, ◌++◌, sym, ap, ap₂, refl, subst, append_assoc, append-nil, Result, Ok, Err, OnOk, IsAscii, suc, codes, Bool, ◌+◌, ◌/◌, ◌%◌, ◌≤◌, encode_utf8, Option, arith}
-use Rattle.std.proofs.lemmas.Bool.{and_from, or_parts}
+use Rattle.std.proofs.Common.{◌≡◌, ◌∙◌, ℕ, ◌<◌, ◌^◌, true, false, ◌||◌, ◌==◌, List, [], ◌∷◌, ◌++◌, sym, ap, ap₂, refl, subst, append_assoc, append-nil, Result, Ok, Err, OnOk, IsAscii, suc, codes, Bool, encode_utf8, Option, arith}
+use Rattle.std.proofs.lemmas.Bool.{and_from, and_parts, or_parts}
 use Rattle.std.proofs.lemmas.Bool.Decides.{nat_tests}
 use Rattle.std.specs.Str.{chars, IsUtf8, encode_utf8_all}
 use Rattle.std.specs.Fmt.{decimal}
 use Rattle.std.specs.List.{list_all, list_any}
 use Rattle.std.proofs.lemmas.Str.{encodes-append, encodes-chars, encode_ascii, scalars-chars}
 use Rattle.std.proofs.lemmas.List.Folds.{list_any-append}
-use Rattle.std.proofs.lemmas.Fmt.{decimal_digit, decimal_step}
+use Rattle.std.proofs.lemmas.Fmt.{IsAscii-decimal}
 use Rattle.rx_terms.specs.Ascii.{is_ascii, line_feed, carriage_return, quotation_mark, reverse_solidus}
 use Rattle.rx_terms.specs.Text.{Chars}
 use Rattle.rx_terms.specs.Iri.{IsIri}
@@ -66,14 +66,15 @@ pub all_ascii : (bs : List ℕ) → IsAscii bs → list_all is_ascii bs ≡ true
 all_ascii [] h = refl
 all_ascii (b ∷ bs) h = let low : b < 128 = h 0 in and_from _ _ (grind (arith, nat_tests, low)) (all_ascii bs (λ i. h (suc i)))
 
--- ---- a number, digit by digit
+-- ---- a number, and the space behind it
 
-pub adds_digit : (a b : List ℕ) (digit : ℕ) → digit < 10 → b ≡ a ++ ((48 + digit) ∷ []) → Adds a b (decimal digit)
-adds_digit a b digit small e = adds_by (sym (decimal_digit digit small)) (ascii_bytes a b ((48 + digit) ∷ []) (and_from _ _ (grind (arith, nat_tests, small)) refl) e)
+ascii_both : (xs ys : List ℕ) → list_all is_ascii xs ≡ true → list_all is_ascii ys ≡ true → list_all is_ascii (xs ++ ys) ≡ true
+ascii_both [] ys p q = q
+ascii_both (x ∷ xs) ys p q = let parts = and_parts _ _ p in and_from _ _ parts.0 (ascii_both xs ys parts.1 q)
 
-pub adds_number : {a b c : List ℕ} (number : ℕ) → 10 ≤ number → number < 2 ^ 64 → Adds a b (decimal (number / 10)) → Adds b c (decimal (number % 10)) → Adds a c (decimal number)
-adds_number number large fits h k =
-    adds_by (ap (λ z. decimal (number / 10) ++ z) (decimal_digit (number % 10) (omega arith)) ∙ sym (decimal_step number large fits)) (adds_then h k)
+pub adds_number : (a b text : List ℕ) (number : ℕ) → number < 2 ^ 64 → b ≡ a ++ text → text ≡ decimal number ++ codes " " → Adds a b (decimal number ++ codes " ")
+adds_number a b text number fits e spelled =
+    ascii_bytes a b (decimal number ++ codes " ") (ascii_both (decimal number) (codes " ") (all_ascii (decimal number) (IsAscii-decimal number fits)) refl) (e ∙ ap (λ z. a ++ z) spelled)
 
 -- ---- terms with a space behind
 

@@ -1,5 +1,5 @@
 //! How terms are written. Each is written with the space that stands behind it in a line.
-ghost use Rattle.std.specs.Prelude.{◌≡◌, ◌<◌, ◌^◌, ◌++◌, ℕ, OnOk, string_bytes, flat_map, codes};
+ghost use Rattle.std.specs.Prelude.{◌≡◌, ◌<◌, ◌^◌, ◌++◌, ℕ, OnOk, flat_map, codes};
 ghost use Rattle.std.specs.Fmt.{decimal};
 ghost use Rattle.std.specs.List.{list_any};
 ghost use Rattle.std.specs.Str.{chars};
@@ -7,17 +7,21 @@ ghost use Rattle.rx_model.specs.Seen.{kind_seen, node_seen, term_seen};
 ghost use Rattle.rx_nquads.specs.Writing.{is_escaped, escaped_char, escaped_text, iri_text, blank_text, node_text, kind_text, term_text};
 ghost use Rattle.rx_nquads.specs.Writable.{Adds, WritableText, WritableIri, WritableTag, WritableNode, WritableKind, WritableTerm};
 
+use itoa::write_digits;
 use rx_terms::{Blank, Iri, Lang, LiteralKind, NoMemory, Node, Term, Text};
 
-pub(crate) fn push(out: &mut String, text: &str) -> Result<(), NoMemory>
-    ensures { OnOk result (Adds (string_bytes out.old) (string_bytes out.new) (chars text.now)) }
+/// The most digits that a number has.
+const DIGITS: usize = 20;
+
+pub(crate) fn push(out: &mut Vec<u8>, text: &str) -> Result<(), NoMemory>
+    ensures { OnOk result (Adds out.old.items out.new.items (chars text.now)) }
 {
-    out.push_str(text)?;
+    out.extend_from_slice(text.as_bytes())?;
     Ok(())
 }
 
-pub(crate) fn push_iri(out: &mut String, iri: &Iri) -> Result<(), NoMemory>
-    ensures adds { OnOk result (Adds (string_bytes out.old) (string_bytes out.new) (iri_text iri.now ++ codes " ")) }
+pub(crate) fn push_iri(out: &mut Vec<u8>, iri: &Iri) -> Result<(), NoMemory>
+    ensures adds { OnOk result (Adds out.old.items out.new.items (iri_text iri.now ++ codes " ")) }
     ensures writable { OnOk result (WritableIri iri.now) }
 {
     push(out, "<")?;
@@ -25,36 +29,20 @@ pub(crate) fn push_iri(out: &mut String, iri: &Iri) -> Result<(), NoMemory>
     push(out, "> ")
 }
 
-fn push_blank(out: &mut String, blank: Blank) -> Result<(), NoMemory>
-    ensures adds { OnOk result (Adds (string_bytes out.old) (string_bytes out.new) (blank_text blank.0 ++ codes " ")) }
+/// Adds a label and a space. The digits are made at once, so that few pieces are added.
+fn push_blank(out: &mut Vec<u8>, blank: Blank) -> Result<(), NoMemory>
+    ensures adds { OnOk result (Adds out.old.items out.new.items (blank_text blank.0 ++ codes " ")) }
     ensures writable { OnOk result (blank.0 < 2 ^ 64) }
 {
+    let mut digits = [b' '; DIGITS + 1];
+    let start = write_digits(blank.0, &mut digits, DIGITS);
     push(out, "_:b")?;
-    push_number(out, blank.0)?;
-    push(out, " ")
-}
-
-/// Adds the number in decimal.
-fn push_number(out: &mut String, number: u64) -> Result<(), NoMemory>
-    ensures { OnOk result (Adds (string_bytes out.old) (string_bytes out.new) (decimal number)) }
-{
-    if number < 10 {
-        return push_digit(out, number);
-    }
-    push_number(out, number / 10)?;
-    push_digit(out, number % 10)
-}
-
-fn push_digit(out: &mut String, digit: u64) -> Result<(), NoMemory>
-    requires { digit < 10 }
-    ensures { OnOk result (Adds (string_bytes out.old) (string_bytes out.new) (decimal digit)) }
-{
-    out.push(char::from(b'0' + digit as u8))?;
+    out.extend_from_slice(&digits[start..])?;
     Ok(())
 }
 
-pub(crate) fn push_node(out: &mut String, node: &Node) -> Result<(), NoMemory>
-    ensures adds { OnOk result (Adds (string_bytes out.old) (string_bytes out.new) (node_text (node_seen node.now) ++ codes " ")) }
+pub(crate) fn push_node(out: &mut Vec<u8>, node: &Node) -> Result<(), NoMemory>
+    ensures adds { OnOk result (Adds out.old.items out.new.items (node_text (node_seen node.now) ++ codes " ")) }
     ensures writable { OnOk result (WritableNode (node_seen node.now)) }
 {
     match node {
@@ -64,8 +52,8 @@ pub(crate) fn push_node(out: &mut String, node: &Node) -> Result<(), NoMemory>
 }
 
 /// Adds what ends a literal: the quotation mark behind its text, what it has beside the text, and a space.
-fn push_kind(out: &mut String, kind: &LiteralKind) -> Result<(), NoMemory>
-    ensures adds { OnOk result (Adds (string_bytes out.old) (string_bytes out.new) (codes "\"" ++ (kind_text (kind_seen kind.now) ++ codes " "))) }
+fn push_kind(out: &mut Vec<u8>, kind: &LiteralKind) -> Result<(), NoMemory>
+    ensures adds { OnOk result (Adds out.old.items out.new.items (codes "\"" ++ (kind_text (kind_seen kind.now) ++ codes " "))) }
     ensures writable { OnOk result (WritableKind (kind_seen kind.now)) }
 {
     match kind {
@@ -75,8 +63,8 @@ fn push_kind(out: &mut String, kind: &LiteralKind) -> Result<(), NoMemory>
     }
 }
 
-fn push_tag(out: &mut String, tag: &Lang) -> Result<(), NoMemory>
-    ensures adds { OnOk result (Adds (string_bytes out.old) (string_bytes out.new) (codes "\"" ++ (kind_text (kind_seen (LiteralKind.Tagged tag.now)) ++ codes " "))) }
+fn push_tag(out: &mut Vec<u8>, tag: &Lang) -> Result<(), NoMemory>
+    ensures adds { OnOk result (Adds out.old.items out.new.items (codes "\"" ++ (kind_text (kind_seen (LiteralKind.Tagged tag.now)) ++ codes " "))) }
     ensures writable { OnOk result (WritableTag tag.now) }
 {
     push(out, "\"@")?;
@@ -84,23 +72,24 @@ fn push_tag(out: &mut String, tag: &Lang) -> Result<(), NoMemory>
     push(out, " ")
 }
 
-fn push_datatype(out: &mut String, datatype: &Iri) -> Result<(), NoMemory>
-    ensures adds { OnOk result (Adds (string_bytes out.old) (string_bytes out.new) (codes "\"" ++ (kind_text (kind_seen (LiteralKind.Typed datatype.now)) ++ codes " "))) }
+fn push_datatype(out: &mut Vec<u8>, datatype: &Iri) -> Result<(), NoMemory>
+    ensures adds { OnOk result (Adds out.old.items out.new.items (codes "\"" ++ (kind_text (kind_seen (LiteralKind.Typed datatype.now)) ++ codes " "))) }
     ensures writable { OnOk result (WritableIri datatype.now) }
 {
     push(out, "\"^^")?;
     push_iri(out, datatype)
 }
 
-fn push_char(out: &mut String, c: char) -> Result<(), NoMemory>
-    ensures { OnOk result (Adds (string_bytes out.old) (string_bytes out.new) (escaped_char c)) }
+/// Adds a character of a literal, or its escape.
+fn push_char(out: &mut Vec<u8>, c: char) -> Result<(), NoMemory>
+    ensures { OnOk result (Adds out.old.items out.new.items (escaped_char c)) }
 {
     match c {
-        '"' => out.push_str("\\\"")?,
-        '\\' => out.push_str("\\\\")?,
-        '\n' => out.push_str("\\n")?,
-        '\r' => out.push_str("\\r")?,
-        _ => out.push(c)?,
+        '"' => out.extend_from_slice(b"\\\"")?,
+        '\\' => out.extend_from_slice(b"\\\\")?,
+        '\n' => out.extend_from_slice(b"\\n")?,
+        '\r' => out.extend_from_slice(b"\\r")?,
+        _ => out.extend_from_slice(c.encode_utf8(&mut [0; 4]).as_bytes())?,
     }
     Ok(())
 }
@@ -119,8 +108,8 @@ fn has_escaped(text: &str) -> bool
 }
 
 /// Most texts have nothing to escape, and are written at once.
-fn push_escaped(out: &mut String, text: &str) -> Result<(), NoMemory>
-    ensures { OnOk result (Adds (string_bytes out.old) (string_bytes out.new) (escaped_text (chars text.now))) }
+fn push_escaped(out: &mut Vec<u8>, text: &str) -> Result<(), NoMemory>
+    ensures { OnOk result (Adds out.old.items out.new.items (escaped_text (chars text.now))) }
 {
     if has_escaped(text) {
         return push_escaping(out, text);
@@ -128,8 +117,8 @@ fn push_escaped(out: &mut String, text: &str) -> Result<(), NoMemory>
     push(out, text)
 }
 
-fn push_escaping(out: &mut String, text: &str) -> Result<(), NoMemory>
-    ensures { OnOk result (Adds (string_bytes out.old) (string_bytes out.new) (escaped_text (chars text.now))) }
+fn push_escaping(out: &mut Vec<u8>, text: &str) -> Result<(), NoMemory>
+    ensures { OnOk result (Adds out.old.items out.new.items (escaped_text (chars text.now))) }
 {
     for c in text.chars() {
         push_char(out, c)?;
@@ -138,16 +127,16 @@ fn push_escaping(out: &mut String, text: &str) -> Result<(), NoMemory>
 }
 
 /// Adds a literal's text, and the quotation mark before it.
-fn push_text(out: &mut String, text: &Text) -> Result<(), NoMemory>
-    ensures adds { OnOk result (Adds (string_bytes out.old) (string_bytes out.new) (codes "\"" ++ escaped_text text.now)) }
+fn push_text(out: &mut Vec<u8>, text: &Text) -> Result<(), NoMemory>
+    ensures adds { OnOk result (Adds out.old.items out.new.items (codes "\"" ++ escaped_text text.now)) }
     ensures writable { OnOk result (WritableText text.now) }
 {
     push(out, "\"")?;
     push_escaped(out, text.as_str())
 }
 
-pub(crate) fn push_term(out: &mut String, term: &Term) -> Result<(), NoMemory>
-    ensures adds { OnOk result (Adds (string_bytes out.old) (string_bytes out.new) (term_text (term_seen term.now) ++ codes " ")) }
+pub(crate) fn push_term(out: &mut Vec<u8>, term: &Term) -> Result<(), NoMemory>
+    ensures adds { OnOk result (Adds out.old.items out.new.items (term_text (term_seen term.now) ++ codes " ")) }
     ensures writable { OnOk result (WritableTerm (term_seen term.now)) }
 {
     match term {
