@@ -1,18 +1,28 @@
-//! How terms are written. Each is written with the space that stands behind it in a line.
-ghost use Rattle.std.specs.Prelude.{◌≡◌, ◌<◌, ◌^◌, ◌++◌, ℕ, OnOk, flat_map, codes};
+//! How terms are written. Each is written with what stands beside it in a line, so that few pieces are added. The small
+//! functions are marked to be built into the loop over the lines, since each runs for every line.
+ghost use Rattle.std.specs.Prelude.{◌≡◌, ◌≤◌, ◌<◌, ◌^◌, ◌++◌, ℕ, true, length, drop, OnOk, flat_map, codes};
 ghost use Rattle.std.specs.Fmt.{decimal};
-ghost use Rattle.std.specs.List.{list_any};
+ghost use Rattle.std.specs.List.{list_all, list_any};
 ghost use Rattle.std.specs.Str.{chars};
+ghost use Rattle.rx_terms.specs.Ascii.{is_ascii};
 ghost use Rattle.rx_model.specs.Seen.{kind_seen, node_seen, term_seen};
 ghost use Rattle.rx_nquads.specs.Writing.{is_escaped, escaped_char, escaped_text, iri_text, blank_text, node_text, kind_text, term_text};
 ghost use Rattle.rx_nquads.specs.Writable.{Adds, WritableText, WritableIri, WritableTag, WritableNode, WritableKind, WritableTerm};
 
 use itoa::write_digits;
-use rx_terms::{Blank, Iri, Lang, LiteralKind, NoMemory, Node, Term, Text};
+use rx_terms::{Blank, Iri, Lang, Literal, LiteralKind, NoMemory, Node, Term, Text};
 
-/// The most digits that a number has.
-const DIGITS: usize = 20;
+/// The most bytes of a label: `_:b`, and the digits of a number.
+const LABEL: usize = 23;
 
+/// The room for a label that is a subject, and what stands behind it.
+const SUBJECT: [u8; LABEL + 2] = *b"                        <";
+
+/// The room for a label that is an object, and the space behind it.
+const OBJECT: [u8; LABEL + 1] = [b' '; LABEL + 1];
+
+/// Adds the characters of a text.
+#[inline(always)]
 pub(crate) fn push(out: &mut Vec<u8>, text: &str) -> Result<(), NoMemory>
     ensures { OnOk result (Adds out.old.items out.new.items (chars text.now)) }
 {
@@ -20,38 +30,75 @@ pub(crate) fn push(out: &mut Vec<u8>, text: &str) -> Result<(), NoMemory>
     Ok(())
 }
 
+/// Adds the characters of an IRI without the brackets around it.
+#[inline(always)]
 pub(crate) fn push_iri(out: &mut Vec<u8>, iri: &Iri) -> Result<(), NoMemory>
-    ensures adds { OnOk result (Adds out.old.items out.new.items (iri_text iri.now ++ codes " ")) }
+    ensures adds { OnOk result (Adds out.old.items out.new.items iri.now) }
     ensures writable { OnOk result (WritableIri iri.now) }
 {
-    push(out, "<")?;
-    push(out, iri.as_str())?;
-    push(out, "> ")
+    push(out, iri.as_str())
 }
 
-/// Adds a label and a space. The digits are made at once, so that few pieces are added.
-fn push_blank(out: &mut Vec<u8>, blank: Blank) -> Result<(), NoMemory>
-    ensures adds { OnOk result (Adds out.old.items out.new.items (blank_text blank.0 ++ codes " ")) }
+/// Adds an IRI between two words, which have its brackets and what stands beside them.
+#[inline(always)]
+pub(crate) fn push_between(
+    out: &mut Vec<u8>,
+    front: &str,
+    iri: &Iri,
+    behind: &str,
+) -> Result<(), NoMemory>
+    ensures adds { OnOk result (Adds out.old.items out.new.items (chars front.now ++ (iri.now ++ chars behind.now))) }
+    ensures writable { OnOk result (WritableIri iri.now) }
+{
+    push(out, front)?;
+    push_iri(out, iri)?;
+    push(out, behind)
+}
+
+/// Adds a label, and what stands at the end of `text`, behind the room for a label.
+#[inline(always)]
+fn push_label(out: &mut Vec<u8>, blank: Blank, text: &mut [u8]) -> Result<(), NoMemory>
+    requires room { 23 ≤ length text.old }
+    requires ascii { list_all is_ascii (drop 23 text.old) ≡ true }
+    ensures adds { OnOk result (Adds out.old.items out.new.items (blank_text blank.0 ++ drop 23 text.old)) }
     ensures writable { OnOk result (blank.0 < 2 ^ 64) }
 {
-    let mut digits = [b' '; DIGITS + 1];
-    let start = write_digits(blank.0, &mut digits, DIGITS);
-    push(out, "_:b")?;
-    out.extend_from_slice(&digits[start..])?;
+    let start = put_label(blank.0, text);
+    out.extend_from_slice(&text[start..])?;
     Ok(())
 }
 
-pub(crate) fn push_node(out: &mut Vec<u8>, node: &Node) -> Result<(), NoMemory>
-    ensures adds { OnOk result (Adds out.old.items out.new.items (node_text (node_seen node.now) ++ codes " ")) }
-    ensures writable { OnOk result (WritableNode (node_seen node.now)) }
+/// Puts the label of this number at the end of the room for it, and answers where it begins.
+#[inline(always)]
+fn put_label(number: u64, text: &mut [u8]) -> usize
+    requires { 23 ≤ length text.old }
+    ensures within { result ≤ 23 }
+    ensures written { drop result text.new ≡ codes "_:b" ++ (decimal number ++ drop 23 text.old) }
 {
-    match node {
-        Node::Iri(iri) => push_iri(out, iri),
-        Node::Blank(blank) => push_blank(out, *blank),
+    let start = write_digits(number, text, LABEL);
+    text[start - 1] = b'b';
+    text[start - 2] = b':';
+    text[start - 3] = b'_';
+    start - 3
+}
+
+/// Adds the subject of a line, the space behind it, and the bracket before the predicate.
+#[inline(always)]
+pub(crate) fn push_subject(out: &mut Vec<u8>, subject: &Node) -> Result<(), NoMemory>
+    ensures adds { OnOk result (Adds out.old.items out.new.items (node_text (node_seen subject.now) ++ codes " <")) }
+    ensures writable { OnOk result (WritableNode (node_seen subject.now)) }
+{
+    match subject {
+        Node::Iri(iri) => push_between(out, "<", iri, "> <"),
+        Node::Blank(blank) => {
+            let mut text = SUBJECT;
+            push_label(out, *blank, &mut text)
+        }
     }
 }
 
 /// Adds what ends a literal: the quotation mark behind its text, what it has beside the text, and a space.
+#[inline(always)]
 fn push_kind(out: &mut Vec<u8>, kind: &LiteralKind) -> Result<(), NoMemory>
     ensures adds { OnOk result (Adds out.old.items out.new.items (codes "\"" ++ (kind_text (kind_seen kind.now) ++ codes " "))) }
     ensures writable { OnOk result (WritableKind (kind_seen kind.now)) }
@@ -76,8 +123,7 @@ fn push_datatype(out: &mut Vec<u8>, datatype: &Iri) -> Result<(), NoMemory>
     ensures adds { OnOk result (Adds out.old.items out.new.items (codes "\"" ++ (kind_text (kind_seen (LiteralKind.Typed datatype.now)) ++ codes " "))) }
     ensures writable { OnOk result (WritableIri datatype.now) }
 {
-    push(out, "\"^^")?;
-    push_iri(out, datatype)
+    push_between(out, "\"^^<", datatype, "> ")
 }
 
 /// Adds a character of a literal, or its escape.
@@ -126,25 +172,45 @@ fn push_escaping(out: &mut Vec<u8>, text: &str) -> Result<(), NoMemory>
     Ok(())
 }
 
-/// Adds a literal's text, and the quotation mark before it.
+/// Adds a literal, and what stands before it behind the predicate.
+#[inline(always)]
+fn push_literal(out: &mut Vec<u8>, literal: &Literal) -> Result<(), NoMemory>
+    ensures adds { OnOk result (Adds out.old.items out.new.items (codes "> " ++ (term_text (term_seen (Term.Literal literal.now)) ++ codes " "))) }
+    ensures writable { OnOk result (WritableTerm (term_seen (Term.Literal literal.now))) }
+{
+    push_text(out, &literal.lexical)?;
+    push_kind(out, &literal.kind)
+}
+
+/// Adds a literal's text, and what stands before it behind the predicate.
 fn push_text(out: &mut Vec<u8>, text: &Text) -> Result<(), NoMemory>
-    ensures adds { OnOk result (Adds out.old.items out.new.items (codes "\"" ++ escaped_text text.now)) }
+    ensures adds { OnOk result (Adds out.old.items out.new.items (codes "> \"" ++ escaped_text text.now)) }
     ensures writable { OnOk result (WritableText text.now) }
 {
-    push(out, "\"")?;
+    push(out, "> \"")?;
     push_escaped(out, text.as_str())
 }
 
-pub(crate) fn push_term(out: &mut Vec<u8>, term: &Term) -> Result<(), NoMemory>
-    ensures adds { OnOk result (Adds out.old.items out.new.items (term_text (term_seen term.now) ++ codes " ")) }
-    ensures writable { OnOk result (WritableTerm (term_seen term.now)) }
+/// Adds a blank node, and what stands before it behind the predicate.
+#[inline(always)]
+fn push_blank(out: &mut Vec<u8>, blank: Blank) -> Result<(), NoMemory>
+    ensures adds { OnOk result (Adds out.old.items out.new.items (codes "> " ++ (blank_text blank.0 ++ codes " "))) }
+    ensures writable { OnOk result (blank.0 < 2 ^ 64) }
 {
-    match term {
-        Term::Iri(iri) => push_iri(out, iri),
+    push(out, "> ")?;
+    let mut text = OBJECT;
+    push_label(out, blank, &mut text)
+}
+
+/// Adds the object of a line with a space behind it, and before it the bracket behind the predicate and a space.
+#[inline(always)]
+pub(crate) fn push_object(out: &mut Vec<u8>, object: &Term) -> Result<(), NoMemory>
+    ensures adds { OnOk result (Adds out.old.items out.new.items (codes "> " ++ (term_text (term_seen object.now) ++ codes " "))) }
+    ensures writable { OnOk result (WritableTerm (term_seen object.now)) }
+{
+    match object {
+        Term::Iri(iri) => push_between(out, "> <", iri, "> "),
         Term::Blank(blank) => push_blank(out, *blank),
-        Term::Literal(literal) => {
-            push_text(out, &literal.lexical)?;
-            push_kind(out, &literal.kind)
-        }
+        Term::Literal(literal) => push_literal(out, literal),
     }
 }

@@ -7,7 +7,7 @@ ghost use Rattle.rx_nquads.specs.Document.{Nquads};
 ghost use Rattle.rx_nquads.specs.Writing.{graph_text, line_text, nquads};
 ghost use Rattle.rx_nquads.specs.Writable.{Adds, WritableName, WritableTriple};
 
-use crate::terms::{push, push_iri, push_node, push_term};
+use crate::terms::{push, push_between, push_iri, push_object, push_subject};
 use rx_graph::Graph;
 use rx_terms::{Iri, NoMemory, Triple};
 use std::alloc::Global;
@@ -29,23 +29,26 @@ pub fn text(alloc: Global, graph: &Graph, name: Option<&Iri>) -> Result<Vec<u8>,
 }
 
 /// Adds the line of a triple in the graph of this name.
+#[inline(always)]
 fn push_line(out: &mut Vec<u8>, triple: &Triple, name: Option<&Iri>) -> Result<(), NoMemory>
     ensures adds { OnOk result (Adds out.old.items out.new.items (line_text (option_map (λ iri. iri.now) name.entry) (triple_seen triple.now))) }
     ensures writable { OnOk result (WritableTriple (option_map (λ iri. iri.now) name.entry) (triple_seen triple.now)) }
 {
-    push_node(out, &triple.subject)?;
+    push_subject(out, &triple.subject)?;
     push_iri(out, &triple.predicate)?;
-    push_term(out, &triple.object)?;
+    push_object(out, &triple.object)?;
     push_name(out, name)?;
     push(out, ".\n")
 }
 
+/// Adds the graph name and a space, where there is a name.
+#[inline(always)]
 fn push_name(out: &mut Vec<u8>, name: Option<&Iri>) -> Result<(), NoMemory>
     ensures adds { OnOk result (Adds out.old.items out.new.items (graph_text (option_map (λ iri. iri.now) name.entry))) }
     ensures writable { OnOk result (WritableName (option_map (λ iri. iri.now) name.entry)) }
 {
     match name {
         None => Ok(()),
-        Some(iri) => push_iri(out, iri),
+        Some(iri) => push_between(out, "<", iri, "> "),
     }
 }
