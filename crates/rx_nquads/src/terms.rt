@@ -1,6 +1,6 @@
 //! How terms are written. Each is written with what stands beside it in a line, so that few pieces are added. The small
 //! functions are marked to be built into the loop over the lines, since each runs for every line.
-ghost use Rattle.std.specs.Prelude.{◌≡◌, ◌≤◌, ◌<◌, ◌^◌, ◌++◌, ℕ, true, length, drop, OnOk, flat_map, codes};
+ghost use Rattle.std.specs.Prelude.{◌≡◌, ◌+◌, ◌≤◌, ◌<◌, ◌^◌, ◌++◌, ℕ, true, length, drop, OnOk, flat_map, codes};
 ghost use Rattle.std.specs.Fmt.{decimal};
 ghost use Rattle.std.specs.List.{list_all, list_any};
 ghost use Rattle.std.specs.Str.{chars};
@@ -9,7 +9,6 @@ ghost use Rattle.rx_model.specs.Seen.{kind_seen, node_seen, term_seen};
 ghost use Rattle.rx_nquads.specs.Writing.{is_escaped, escaped_char, escaped_text, iri_text, blank_text, node_text, kind_text, term_text};
 ghost use Rattle.rx_nquads.specs.Writable.{Adds, WritableText, WritableIri, WritableTag, WritableNode, WritableKind, WritableTerm};
 
-use itoa::write_digits;
 use rx_terms::{Blank, Iri, Lang, Literal, LiteralKind, NoMemory, Node, Term, Text};
 
 /// The most bytes of a label: `_:b`, and the digits of a number.
@@ -80,6 +79,20 @@ fn put_label(number: u64, text: &mut [u8]) -> usize
     text[start - 2] = b':';
     text[start - 3] = b'_';
     start - 3
+}
+
+/// Puts the digits of the number in decimal before the place `end`, and answers where they begin.
+fn write_digits(number: u64, text: &mut [u8], end: usize) -> usize
+    requires { (length (decimal number) ≤ end) × (end ≤ length text.old) }
+    ensures start { result + length (decimal number) ≡ end }
+    ensures written { drop result text.new ≡ decimal number ++ drop end text.old }
+{
+    let place = end - 1;
+    text[place] = b'0' + (number % 10) as u8;
+    if number < 10 {
+        return place;
+    }
+    write_digits(number / 10, text, place)
 }
 
 /// Adds the subject of a line, the space behind it, and the bracket before the predicate.

@@ -26,4 +26,4 @@ overflow_sub-result c = omega (arith, c.write_digits-start.ensures.start, few c.
 pub returns-clause-written : goal.returns-clause-written
 returns-clause-written c =
     let w = c.write_digits-start in
-    labelled w.new.buf _ w.result (omega (arith, w.ensures.start, few c.args.number c.ranges.number.fits)) (omega (arith, w.ensures.start, c.requires)) w.ensures.written
+    labelled w.new.text _ w.result (omega (arith, w.ensures.start, few c.args.number c.ranges.number.fits)) (omega (arith, w.ensures.start, c.requires)) w.ensures.written
