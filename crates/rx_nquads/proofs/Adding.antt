@@ -1,20 +1,21 @@
 -- Characters added to a text, one part after another.
-use Rattle.std.proofs.Common.{◌≡◌, ◌∙◌, ℕ, ◌<◌, ◌^◌, true, false, ◌||◌, ◌==◌, List, [], ◌∷◌, ◌++◌, sym, ap, ap₂, refl, subst, append_assoc, append-nil, Result, Ok, Err, OnOk, IsAscii, suc, codes, Bool, ◌+◌, ◌/◌, ◌%◌, ◌≤◌, encode_utf8, Option, arith}
-use Rattle.std.proofs.lemmas.Bool.{and_from, or_parts}
+use Rattle.std.proofs.Common.{◌≡◌, ◌∙◌, ℕ, ◌<◌, ◌≤◌, ◌^◌, true, false, ◌||◌, ◌==◌, List, [], ◌∷◌, ◌++◌, sym, ap, ap₂, refl, subst, append_assoc, append-nil, Result, Ok, Err, OnOk, IsAscii, suc, codes, Bool, encode_utf8, Option, arith, ◌-◌, length, drop, set, length-set, ◌+◌}
+use Rattle.std.proofs.lemmas.Bool.{and_from, and_parts, or_parts}
 use Rattle.std.proofs.lemmas.Bool.Decides.{nat_tests}
 use Rattle.std.specs.Str.{chars, IsUtf8, encode_utf8_all}
 use Rattle.std.specs.Fmt.{decimal}
 use Rattle.std.specs.List.{list_all, list_any}
 use Rattle.std.proofs.lemmas.Str.{encodes-append, encodes-chars, encode_ascii, scalars-chars}
+use Rattle.std.proofs.lemmas.List.{drop-set}
 use Rattle.std.proofs.lemmas.List.Folds.{list_any-append}
-use Rattle.std.proofs.lemmas.Fmt.{decimal_digit, decimal_step}
+use Rattle.std.proofs.lemmas.Fmt.{IsAscii-decimal}
 use Rattle.rx_terms.specs.Ascii.{is_ascii, line_feed, carriage_return, quotation_mark, reverse_solidus}
 use Rattle.rx_terms.specs.Text.{Chars}
 use Rattle.rx_terms.specs.Iri.{IsIri}
 use Rattle.rx_terms.specs.Lang.{is_lang}
 use Rattle.rx_terms.proofs.CharLemmas.{ascii-chars, ascii-same}
 use Rattle.rx_model.specs.Terms.{Triple}
-use Rattle.rx_nquads.specs.Writing.{is_escaped, escaped_char, escaped_text, iri_text, node_text, term_text, graph_text, line_text}
+use Rattle.rx_nquads.specs.Writing.{is_escaped, escaped_char, escaped_text, iri_text, blank_text, node_text, term_text, graph_text, line_text}
 use Rattle.rx_nquads.specs.Writable.{Adds, WritableText, WritableIri, WritableTag}
 
 pub if_ok : {A E P Q : Type 0} (r : Result A E) → (P → Q) → OnOk r P → OnOk r Q
@@ -66,28 +67,64 @@ pub all_ascii : (bs : List ℕ) → IsAscii bs → list_all is_ascii bs ≡ true
 all_ascii [] h = refl
 all_ascii (b ∷ bs) h = let low : b < 128 = h 0 in and_from _ _ (grind (arith, nat_tests, low)) (all_ascii bs (λ i. h (suc i)))
 
--- ---- a number, digit by digit
+-- ---- a label, and what stands behind it
 
-pub adds_digit : (a b : List ℕ) (digit : ℕ) → digit < 10 → b ≡ a ++ ((48 + digit) ∷ []) → Adds a b (decimal digit)
-adds_digit a b digit small e = adds_by (sym (decimal_digit digit small)) (ascii_bytes a b ((48 + digit) ∷ []) (and_from _ _ (grind (arith, nat_tests, small)) refl) e)
+ascii_both : (xs ys : List ℕ) → list_all is_ascii xs ≡ true → list_all is_ascii ys ≡ true → list_all is_ascii (xs ++ ys) ≡ true
+ascii_both [] ys p q = q
+ascii_both (x ∷ xs) ys p q = let parts = and_parts _ _ p in and_from _ _ parts.0 (ascii_both xs ys parts.1 q)
 
-pub adds_number : {a b c : List ℕ} (number : ℕ) → 10 ≤ number → number < 2 ^ 64 → Adds a b (decimal (number / 10)) → Adds b c (decimal (number % 10)) → Adds a c (decimal number)
-adds_number number large fits h k =
-    adds_by (ap (λ z. decimal (number / 10) ++ z) (decimal_digit (number % 10) (omega arith)) ∙ sym (decimal_step number large fits)) (adds_then h k)
+pub adds_label : (a b text : List ℕ) (number : ℕ) (behind : List ℕ) → number < 2 ^ 64 → list_all is_ascii behind ≡ true → b ≡ a ++ text → text ≡ codes "_:b" ++ (decimal number ++ behind) → Adds a b (blank_text number ++ behind)
+adds_label a b text number behind fits plain e spelled =
+    let all : list_all is_ascii (codes "_:b" ++ (decimal number ++ behind)) ≡ true = ascii_both (decimal number) behind (all_ascii (decimal number) (IsAscii-decimal number fits)) plain in
+    ascii_bytes a b (codes "_:b" ++ (decimal number ++ behind)) all (e ∙ ap (λ z. a ++ z) spelled)
 
--- ---- terms with a space behind
+-- the three bytes before the digits
+pub labelled : (text digits : List ℕ) (start : ℕ) → 3 ≤ start → start ≤ length text → drop start text ≡ digits
+    → drop (start - 3) (set (set (set text (start - 1) 98) (start - 2) 58) (start - 3) 95) ≡ codes "_:b" ++ digits
+labelled text digits start low high e =
+    let first : List ℕ = set text (start - 1) 98 in
+    let second : List ℕ = set first (start - 2) 58 in
+    let one : length first ≡ length text = length-set text (start - 1) 98 in
+    let two : length second ≡ length first = length-set first (start - 2) 58 in
+    let at : start - 1 + 1 ≡ start = omega (arith, low) in
+    let next : start - 2 + 1 ≡ start - 1 = omega (arith, low) in
+    let last : start - 3 + 1 ≡ start - 2 = omega (arith, low) in
+    drop-set second (start - 3) 95 (omega (arith, low, high, one, two))
+    ∙ ap (λ n. 95 ∷ drop n second) last ∙ ap (λ z. 95 ∷ z) (drop-set first (start - 2) 58 (omega (arith, low, high, one)))
+    ∙ ap (λ n. 95 ∷ 58 ∷ drop n first) next ∙ ap (λ z. 95 ∷ 58 ∷ z) (drop-set text (start - 1) 98 (omega (arith, low, high)))
+    ∙ ap (λ n. 95 ∷ 58 ∷ 98 ∷ drop n text) at ∙ ap (λ z. 95 ∷ 58 ∷ 98 ∷ z) e
 
-pub iri_spaced : (iri : Chars) → codes "<" ++ (iri ++ codes "> ") ≡ iri_text iri ++ codes " "
-iri_spaced iri = ap (λ z. codes "<" ++ z) (sym (append_assoc iri (codes ">") (codes " ")))
+-- ---- terms with what stands beside them
 
-pub literal_spaced : (text kind : Chars) → (codes "\"" ++ text) ++ (codes "\"" ++ (kind ++ codes " ")) ≡ ((codes "\"" ++ (text ++ codes "\"")) ++ kind) ++ codes " "
-literal_spaced text kind = ap (λ z. codes "\"" ++ z) (sym (append_assoc (text ++ codes "\"") kind (codes " ") ∙ append_assoc text (codes "\"") (kind ++ codes " ")))
+iri_before : (iri rest : Chars) → codes "<" ++ (iri ++ (codes ">" ++ rest)) ≡ iri_text iri ++ rest
+iri_before iri rest = ap (λ z. codes "<" ++ z) (sym (append_assoc iri (codes ">") rest))
+
+-- words of ASCII around an IRI
+between : {a b : List ℕ} (front iri behind : List ℕ) → list_all is_ascii front ≡ true → list_all is_ascii behind ≡ true → Adds a b (chars front ++ (iri ++ chars behind)) → Adds a b (front ++ (iri ++ behind))
+between front iri behind p q h = adds_by (ap₂ (λ x y. x ++ (iri ++ y)) (ascii-chars front p) (ascii-chars behind q)) h
+
+pub iri_subject : {a b : List ℕ} (iri : Chars) → Adds a b (chars (codes "<") ++ (iri ++ chars (codes "> <"))) → Adds a b (iri_text iri ++ codes " <")
+iri_subject iri h = adds_by (iri_before iri (codes " <")) (between (codes "<") iri (codes "> <") refl refl h)
+
+pub iri_object : {a b : List ℕ} (iri : Chars) → Adds a b (chars (codes "> <") ++ (iri ++ chars (codes "> "))) → Adds a b (codes "> " ++ (iri_text iri ++ codes " "))
+iri_object iri h = adds_by (ap (λ z. codes "> " ++ z) (iri_before iri (codes " "))) (between (codes "> <") iri (codes "> ") refl refl h)
+
+pub iri_datatype : {a b : List ℕ} (iri : Chars) → Adds a b (chars (codes "\"^^<") ++ (iri ++ chars (codes "> "))) → Adds a b (codes "\"" ++ ((codes "^^" ++ iri_text iri) ++ codes " "))
+iri_datatype iri h = adds_by (ap (λ z. codes "\"^^" ++ z) (iri_before iri (codes " "))) (between (codes "\"^^<") iri (codes "> ") refl refl h)
+
+pub iri_name : {a b : List ℕ} (iri : Chars) → Adds a b (chars (codes "<") ++ (iri ++ chars (codes "> "))) → Adds a b (iri_text iri ++ codes " ")
+iri_name iri h = adds_by (iri_before iri (codes " ")) (between (codes "<") iri (codes "> ") refl refl h)
+
+pub literal_object : (text kind : Chars) → (codes "> \"" ++ text) ++ (codes "\"" ++ (kind ++ codes " ")) ≡ codes "> " ++ (((codes "\"" ++ (text ++ codes "\"")) ++ kind) ++ codes " ")
+literal_object text kind = ap (λ z. codes "> \"" ++ z) (sym (append_assoc (text ++ codes "\"") kind (codes " ") ∙ append_assoc text (codes "\"") (kind ++ codes " ")))
 
 pub line_spaced : (name : Option Chars) (t : Triple ℕ)
-    → (node_text t.subject ++ codes " ") ++ ((iri_text t.predicate ++ codes " ") ++ ((term_text t.object ++ codes " ") ++ (graph_text name ++ codes ".\n"))) ≡ line_text name t
+    → (node_text t.subject ++ codes " <") ++ (t.predicate ++ ((codes "> " ++ (term_text t.object ++ codes " ")) ++ (graph_text name ++ codes ".\n"))) ≡ line_text name t
 line_spaced name t =
-    append_assoc (node_text t.subject) (codes " ") _ ∙ ap (λ z. node_text t.subject ++ (codes " " ++ z)) (append_assoc (iri_text t.predicate) (codes " ") _
-    ∙ ap (λ z. iri_text t.predicate ++ (codes " " ++ z)) (append_assoc (term_text t.object) (codes " ") (graph_text name ++ codes ".\n")))
+    let end : Chars = graph_text name ++ codes ".\n" in
+    append_assoc (node_text t.subject) (codes " <") _
+    ∙ ap (λ z. node_text t.subject ++ (codes " <" ++ (t.predicate ++ (codes "> " ++ z)))) (append_assoc (term_text t.object) (codes " ") end)
+    ∙ ap (λ z. node_text t.subject ++ (codes " " ++ z)) (iri_before t.predicate (codes " " ++ (term_text t.object ++ (codes " " ++ end))))
 
 -- ---- what has an escape
 

@@ -1,71 +1,119 @@
-//! How terms are written. Each is written with the space that stands behind it in a line.
-ghost use Rattle.std.specs.Prelude.{◌≡◌, ◌<◌, ◌^◌, ◌++◌, ℕ, OnOk, string_bytes, flat_map, codes};
+//! How terms are written. Each is written with what stands beside it in a line, so that few pieces are added. The small
+//! functions are marked to be built into the loop over the lines, since each runs for every line.
+ghost use Rattle.std.specs.Prelude.{◌≡◌, ◌+◌, ◌≤◌, ◌<◌, ◌^◌, ◌++◌, ℕ, true, length, drop, OnOk, flat_map, codes};
 ghost use Rattle.std.specs.Fmt.{decimal};
-ghost use Rattle.std.specs.List.{list_any};
+ghost use Rattle.std.specs.List.{list_all, list_any};
 ghost use Rattle.std.specs.Str.{chars};
+ghost use Rattle.rx_terms.specs.Ascii.{is_ascii};
 ghost use Rattle.rx_model.specs.Seen.{kind_seen, node_seen, term_seen};
 ghost use Rattle.rx_nquads.specs.Writing.{is_escaped, escaped_char, escaped_text, iri_text, blank_text, node_text, kind_text, term_text};
 ghost use Rattle.rx_nquads.specs.Writable.{Adds, WritableText, WritableIri, WritableTag, WritableNode, WritableKind, WritableTerm};
 
-use rx_terms::{Blank, Iri, Lang, LiteralKind, NoMemory, Node, Term, Text};
+use rx_terms::{Blank, Iri, Lang, Literal, LiteralKind, NoMemory, Node, Term, Text};
 
-pub(crate) fn push(out: &mut String, text: &str) -> Result<(), NoMemory>
-    ensures { OnOk result (Adds (string_bytes out.old) (string_bytes out.new) (chars text.now)) }
+/// The most bytes of a label: `_:b`, and the digits of a number.
+const LABEL: usize = 23;
+
+/// The room for a label that is a subject, and what stands behind it.
+const SUBJECT: [u8; LABEL + 2] = *b"                        <";
+
+/// The room for a label that is an object, and the space behind it.
+const OBJECT: [u8; LABEL + 1] = [b' '; LABEL + 1];
+
+/// Adds the characters of a text.
+#[inline(always)]
+pub(crate) fn push(out: &mut Vec<u8>, text: &str) -> Result<(), NoMemory>
+    ensures { OnOk result (Adds out.old.items out.new.items (chars text.now)) }
 {
-    out.push_str(text)?;
+    out.extend_from_slice(text.as_bytes())?;
     Ok(())
 }
 
-pub(crate) fn push_iri(out: &mut String, iri: &Iri) -> Result<(), NoMemory>
-    ensures adds { OnOk result (Adds (string_bytes out.old) (string_bytes out.new) (iri_text iri.now ++ codes " ")) }
+/// Adds the characters of an IRI without the brackets around it.
+#[inline(always)]
+pub(crate) fn push_iri(out: &mut Vec<u8>, iri: &Iri) -> Result<(), NoMemory>
+    ensures adds { OnOk result (Adds out.old.items out.new.items iri.now) }
     ensures writable { OnOk result (WritableIri iri.now) }
 {
-    push(out, "<")?;
-    push(out, iri.as_str())?;
-    push(out, "> ")
+    push(out, iri.as_str())
 }
 
-fn push_blank(out: &mut String, blank: Blank) -> Result<(), NoMemory>
-    ensures adds { OnOk result (Adds (string_bytes out.old) (string_bytes out.new) (blank_text blank.0 ++ codes " ")) }
+/// Adds an IRI between two words, which have its brackets and what stands beside them.
+#[inline(always)]
+pub(crate) fn push_between(
+    out: &mut Vec<u8>,
+    front: &str,
+    iri: &Iri,
+    behind: &str,
+) -> Result<(), NoMemory>
+    ensures adds { OnOk result (Adds out.old.items out.new.items (chars front.now ++ (iri.now ++ chars behind.now))) }
+    ensures writable { OnOk result (WritableIri iri.now) }
+{
+    push(out, front)?;
+    push_iri(out, iri)?;
+    push(out, behind)
+}
+
+/// Adds a label, and what stands at the end of `text`, behind the room for a label.
+#[inline(always)]
+fn push_label(out: &mut Vec<u8>, blank: Blank, text: &mut [u8]) -> Result<(), NoMemory>
+    requires room { 23 ≤ length text.old }
+    requires ascii { list_all is_ascii (drop 23 text.old) ≡ true }
+    ensures adds { OnOk result (Adds out.old.items out.new.items (blank_text blank.0 ++ drop 23 text.old)) }
     ensures writable { OnOk result (blank.0 < 2 ^ 64) }
 {
-    push(out, "_:b")?;
-    push_number(out, blank.0)?;
-    push(out, " ")
-}
-
-/// Adds the number in decimal.
-fn push_number(out: &mut String, number: u64) -> Result<(), NoMemory>
-    ensures { OnOk result (Adds (string_bytes out.old) (string_bytes out.new) (decimal number)) }
-{
-    if number < 10 {
-        return push_digit(out, number);
-    }
-    push_number(out, number / 10)?;
-    push_digit(out, number % 10)
-}
-
-fn push_digit(out: &mut String, digit: u64) -> Result<(), NoMemory>
-    requires { digit < 10 }
-    ensures { OnOk result (Adds (string_bytes out.old) (string_bytes out.new) (decimal digit)) }
-{
-    out.push(char::from(b'0' + digit as u8))?;
+    let start = put_label(blank.0, text);
+    out.extend_from_slice(&text[start..])?;
     Ok(())
 }
 
-pub(crate) fn push_node(out: &mut String, node: &Node) -> Result<(), NoMemory>
-    ensures adds { OnOk result (Adds (string_bytes out.old) (string_bytes out.new) (node_text (node_seen node.now) ++ codes " ")) }
-    ensures writable { OnOk result (WritableNode (node_seen node.now)) }
+/// Puts the label of this number at the end of the room for it, and answers where it begins.
+#[inline(always)]
+fn put_label(number: u64, text: &mut [u8]) -> usize
+    requires { 23 ≤ length text.old }
+    ensures within { result ≤ 23 }
+    ensures written { drop result text.new ≡ codes "_:b" ++ (decimal number ++ drop 23 text.old) }
 {
-    match node {
-        Node::Iri(iri) => push_iri(out, iri),
-        Node::Blank(blank) => push_blank(out, *blank),
+    let start = write_digits(number, text, LABEL);
+    text[start - 1] = b'b';
+    text[start - 2] = b':';
+    text[start - 3] = b'_';
+    start - 3
+}
+
+/// Puts the digits of the number in decimal before the place `end`, and answers where they begin.
+fn write_digits(number: u64, text: &mut [u8], end: usize) -> usize
+    requires { (length (decimal number) ≤ end) × (end ≤ length text.old) }
+    ensures start { result + length (decimal number) ≡ end }
+    ensures written { drop result text.new ≡ decimal number ++ drop end text.old }
+{
+    let place = end - 1;
+    text[place] = b'0' + (number % 10) as u8;
+    if number < 10 {
+        return place;
+    }
+    write_digits(number / 10, text, place)
+}
+
+/// Adds the subject of a line, the space behind it, and the bracket before the predicate.
+#[inline(always)]
+pub(crate) fn push_subject(out: &mut Vec<u8>, subject: &Node) -> Result<(), NoMemory>
+    ensures adds { OnOk result (Adds out.old.items out.new.items (node_text (node_seen subject.now) ++ codes " <")) }
+    ensures writable { OnOk result (WritableNode (node_seen subject.now)) }
+{
+    match subject {
+        Node::Iri(iri) => push_between(out, "<", iri, "> <"),
+        Node::Blank(blank) => {
+            let mut text = SUBJECT;
+            push_label(out, *blank, &mut text)
+        }
     }
 }
 
 /// Adds what ends a literal: the quotation mark behind its text, what it has beside the text, and a space.
-fn push_kind(out: &mut String, kind: &LiteralKind) -> Result<(), NoMemory>
-    ensures adds { OnOk result (Adds (string_bytes out.old) (string_bytes out.new) (codes "\"" ++ (kind_text (kind_seen kind.now) ++ codes " "))) }
+#[inline(always)]
+fn push_kind(out: &mut Vec<u8>, kind: &LiteralKind) -> Result<(), NoMemory>
+    ensures adds { OnOk result (Adds out.old.items out.new.items (codes "\"" ++ (kind_text (kind_seen kind.now) ++ codes " "))) }
     ensures writable { OnOk result (WritableKind (kind_seen kind.now)) }
 {
     match kind {
@@ -75,8 +123,8 @@ fn push_kind(out: &mut String, kind: &LiteralKind) -> Result<(), NoMemory>
     }
 }
 
-fn push_tag(out: &mut String, tag: &Lang) -> Result<(), NoMemory>
-    ensures adds { OnOk result (Adds (string_bytes out.old) (string_bytes out.new) (codes "\"" ++ (kind_text (kind_seen (LiteralKind.Tagged tag.now)) ++ codes " "))) }
+fn push_tag(out: &mut Vec<u8>, tag: &Lang) -> Result<(), NoMemory>
+    ensures adds { OnOk result (Adds out.old.items out.new.items (codes "\"" ++ (kind_text (kind_seen (LiteralKind.Tagged tag.now)) ++ codes " "))) }
     ensures writable { OnOk result (WritableTag tag.now) }
 {
     push(out, "\"@")?;
@@ -84,23 +132,23 @@ fn push_tag(out: &mut String, tag: &Lang) -> Result<(), NoMemory>
     push(out, " ")
 }
 
-fn push_datatype(out: &mut String, datatype: &Iri) -> Result<(), NoMemory>
-    ensures adds { OnOk result (Adds (string_bytes out.old) (string_bytes out.new) (codes "\"" ++ (kind_text (kind_seen (LiteralKind.Typed datatype.now)) ++ codes " "))) }
+fn push_datatype(out: &mut Vec<u8>, datatype: &Iri) -> Result<(), NoMemory>
+    ensures adds { OnOk result (Adds out.old.items out.new.items (codes "\"" ++ (kind_text (kind_seen (LiteralKind.Typed datatype.now)) ++ codes " "))) }
     ensures writable { OnOk result (WritableIri datatype.now) }
 {
-    push(out, "\"^^")?;
-    push_iri(out, datatype)
+    push_between(out, "\"^^<", datatype, "> ")
 }
 
-fn push_char(out: &mut String, c: char) -> Result<(), NoMemory>
-    ensures { OnOk result (Adds (string_bytes out.old) (string_bytes out.new) (escaped_char c)) }
+/// Adds a character of a literal, or its escape.
+fn push_char(out: &mut Vec<u8>, c: char) -> Result<(), NoMemory>
+    ensures { OnOk result (Adds out.old.items out.new.items (escaped_char c)) }
 {
     match c {
-        '"' => out.push_str("\\\"")?,
-        '\\' => out.push_str("\\\\")?,
-        '\n' => out.push_str("\\n")?,
-        '\r' => out.push_str("\\r")?,
-        _ => out.push(c)?,
+        '"' => out.extend_from_slice(b"\\\"")?,
+        '\\' => out.extend_from_slice(b"\\\\")?,
+        '\n' => out.extend_from_slice(b"\\n")?,
+        '\r' => out.extend_from_slice(b"\\r")?,
+        _ => out.extend_from_slice(c.encode_utf8(&mut [0; 4]).as_bytes())?,
     }
     Ok(())
 }
@@ -119,8 +167,8 @@ fn has_escaped(text: &str) -> bool
 }
 
 /// Most texts have nothing to escape, and are written at once.
-fn push_escaped(out: &mut String, text: &str) -> Result<(), NoMemory>
-    ensures { OnOk result (Adds (string_bytes out.old) (string_bytes out.new) (escaped_text (chars text.now))) }
+fn push_escaped(out: &mut Vec<u8>, text: &str) -> Result<(), NoMemory>
+    ensures { OnOk result (Adds out.old.items out.new.items (escaped_text (chars text.now))) }
 {
     if has_escaped(text) {
         return push_escaping(out, text);
@@ -128,8 +176,8 @@ fn push_escaped(out: &mut String, text: &str) -> Result<(), NoMemory>
     push(out, text)
 }
 
-fn push_escaping(out: &mut String, text: &str) -> Result<(), NoMemory>
-    ensures { OnOk result (Adds (string_bytes out.old) (string_bytes out.new) (escaped_text (chars text.now))) }
+fn push_escaping(out: &mut Vec<u8>, text: &str) -> Result<(), NoMemory>
+    ensures { OnOk result (Adds out.old.items out.new.items (escaped_text (chars text.now))) }
 {
     for c in text.chars() {
         push_char(out, c)?;
@@ -137,25 +185,45 @@ fn push_escaping(out: &mut String, text: &str) -> Result<(), NoMemory>
     Ok(())
 }
 
-/// Adds a literal's text, and the quotation mark before it.
-fn push_text(out: &mut String, text: &Text) -> Result<(), NoMemory>
-    ensures adds { OnOk result (Adds (string_bytes out.old) (string_bytes out.new) (codes "\"" ++ escaped_text text.now)) }
+/// Adds a literal, and what stands before it behind the predicate.
+#[inline(always)]
+fn push_literal(out: &mut Vec<u8>, literal: &Literal) -> Result<(), NoMemory>
+    ensures adds { OnOk result (Adds out.old.items out.new.items (codes "> " ++ (term_text (term_seen (Term.Literal literal.now)) ++ codes " "))) }
+    ensures writable { OnOk result (WritableTerm (term_seen (Term.Literal literal.now))) }
+{
+    push_text(out, &literal.lexical)?;
+    push_kind(out, &literal.kind)
+}
+
+/// Adds a literal's text, and what stands before it behind the predicate.
+fn push_text(out: &mut Vec<u8>, text: &Text) -> Result<(), NoMemory>
+    ensures adds { OnOk result (Adds out.old.items out.new.items (codes "> \"" ++ escaped_text text.now)) }
     ensures writable { OnOk result (WritableText text.now) }
 {
-    push(out, "\"")?;
+    push(out, "> \"")?;
     push_escaped(out, text.as_str())
 }
 
-pub(crate) fn push_term(out: &mut String, term: &Term) -> Result<(), NoMemory>
-    ensures adds { OnOk result (Adds (string_bytes out.old) (string_bytes out.new) (term_text (term_seen term.now) ++ codes " ")) }
-    ensures writable { OnOk result (WritableTerm (term_seen term.now)) }
+/// Adds a blank node, and what stands before it behind the predicate.
+#[inline(always)]
+fn push_blank(out: &mut Vec<u8>, blank: Blank) -> Result<(), NoMemory>
+    ensures adds { OnOk result (Adds out.old.items out.new.items (codes "> " ++ (blank_text blank.0 ++ codes " "))) }
+    ensures writable { OnOk result (blank.0 < 2 ^ 64) }
 {
-    match term {
-        Term::Iri(iri) => push_iri(out, iri),
+    push(out, "> ")?;
+    let mut text = OBJECT;
+    push_label(out, blank, &mut text)
+}
+
+/// Adds the object of a line with a space behind it, and before it the bracket behind the predicate and a space.
+#[inline(always)]
+pub(crate) fn push_object(out: &mut Vec<u8>, object: &Term) -> Result<(), NoMemory>
+    ensures adds { OnOk result (Adds out.old.items out.new.items (codes "> " ++ (term_text (term_seen object.now) ++ codes " "))) }
+    ensures writable { OnOk result (WritableTerm (term_seen object.now)) }
+{
+    match object {
+        Term::Iri(iri) => push_between(out, "> <", iri, "> "),
         Term::Blank(blank) => push_blank(out, *blank),
-        Term::Literal(literal) => {
-            push_text(out, &literal.lexical)?;
-            push_kind(out, &literal.kind)
-        }
+        Term::Literal(literal) => push_literal(out, literal),
     }
 }

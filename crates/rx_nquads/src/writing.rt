@@ -1,5 +1,5 @@
 //! The text of a graph.
-ghost use Rattle.std.specs.Prelude.{◌≡◌, IfOk, OnOk, string_bytes, encode_utf8_all, option_map};
+ghost use Rattle.std.specs.Prelude.{◌≡◌, IfOk, OnOk, encode_utf8_all, option_map};
 ghost use Rattle.std.specs.Str.{chars};
 ghost use Rattle.rx_model.specs.Seen.{triple_seen, triples_seen};
 ghost use Rattle.rx_nquads.specs.Quads.{quads};
@@ -7,7 +7,7 @@ ghost use Rattle.rx_nquads.specs.Document.{Nquads};
 ghost use Rattle.rx_nquads.specs.Writing.{graph_text, line_text, nquads};
 ghost use Rattle.rx_nquads.specs.Writable.{Adds, WritableName, WritableTriple};
 
-use crate::terms::{push, push_iri, push_node, push_term};
+use crate::terms::{push, push_between, push_iri, push_object, push_subject};
 use rx_graph::Graph;
 use rx_terms::{Iri, NoMemory, Triple};
 use std::alloc::Global;
@@ -21,31 +21,34 @@ pub fn text(alloc: Global, graph: &Graph, name: Option<&Iri>) -> Result<Vec<u8>,
     ensures bytes { IfOk result (λ bytes. bytes.items ≡ encode_utf8_all (nquads (triples_seen graph.now) (option_map (λ iri. iri.now) name.entry))) }
     ensures denotes { IfOk result (λ bytes. Nquads (chars bytes.items) (quads (triples_seen graph.now) (option_map (λ iri. iri.now) name.entry))) }
 {
-    let mut out = String::with_capacity(alloc, graph.len().saturating_mul(LINE))?;
+    let mut out = Vec::with_capacity(alloc, graph.len().saturating_mul(LINE))?;
     for i in 0..graph.len() {
         push_line(&mut out, graph.at(i), name)?;
     }
-    Ok(out.into_bytes())
+    Ok(out)
 }
 
 /// Adds the line of a triple in the graph of this name.
-fn push_line(out: &mut String, triple: &Triple, name: Option<&Iri>) -> Result<(), NoMemory>
-    ensures adds { OnOk result (Adds (string_bytes out.old) (string_bytes out.new) (line_text (option_map (λ iri. iri.now) name.entry) (triple_seen triple.now))) }
+#[inline(always)]
+fn push_line(out: &mut Vec<u8>, triple: &Triple, name: Option<&Iri>) -> Result<(), NoMemory>
+    ensures adds { OnOk result (Adds out.old.items out.new.items (line_text (option_map (λ iri. iri.now) name.entry) (triple_seen triple.now))) }
     ensures writable { OnOk result (WritableTriple (option_map (λ iri. iri.now) name.entry) (triple_seen triple.now)) }
 {
-    push_node(out, &triple.subject)?;
+    push_subject(out, &triple.subject)?;
     push_iri(out, &triple.predicate)?;
-    push_term(out, &triple.object)?;
+    push_object(out, &triple.object)?;
     push_name(out, name)?;
     push(out, ".\n")
 }
 
-fn push_name(out: &mut String, name: Option<&Iri>) -> Result<(), NoMemory>
-    ensures adds { OnOk result (Adds (string_bytes out.old) (string_bytes out.new) (graph_text (option_map (λ iri. iri.now) name.entry))) }
+/// Adds the graph name and a space, where there is a name.
+#[inline(always)]
+fn push_name(out: &mut Vec<u8>, name: Option<&Iri>) -> Result<(), NoMemory>
+    ensures adds { OnOk result (Adds out.old.items out.new.items (graph_text (option_map (λ iri. iri.now) name.entry))) }
     ensures writable { OnOk result (WritableName (option_map (λ iri. iri.now) name.entry)) }
 {
     match name {
         None => Ok(()),
-        Some(iri) => push_iri(out, iri),
+        Some(iri) => push_between(out, "<", iri, "> "),
     }
 }

@@ -1,6 +1,5 @@
-use Rattle.std.proofs.Common.{codes, refl}
-use Rattle.rx_nquads.proofs.Adding.{if_ok, adds_then, literal}
+use Rattle.rx_nquads.proofs.Adding.{if_ok, iri_datatype}
 use Rattle.rx_nquads.proofs.terms.push_datatype.Goals as goal
 
 pub returns-clause-adds : goal.returns-clause-adds
-returns-clause-adds c = if_ok c.push_iri.result (λ h. adds_then (literal (codes "\"^^") refl c.in_ok-push.ensures) h) c.push_iri.ensures.adds
+returns-clause-adds c = if_ok c.push_between.result (λ h. iri_datatype _ h) c.push_between.ensures.adds

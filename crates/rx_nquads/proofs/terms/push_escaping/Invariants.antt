@@ -1,4 +1,3 @@
-use Rattle.std.proofs.Common.{string_bytes}
 use Rattle.std.specs.Str.{chars, IsUtf8}
 use Rattle.std.specs.Str.Iter.{chars_rest}
 use Rattle.rx_nquads.proofs.Adding.{Left}
@@ -9,5 +8,5 @@ invariant-loop-c l = record {
   can_next : (goal.iterator-loop-c).can_next l.c-iterator;
   finite : (goal.iterator-loop-c).is_finite l.c-iterator;
   utf8 : IsUtf8 (chars_rest l.c-iterator);
-  left : Left (string_bytes l.fn.out) (string_bytes l.out) (chars l.text) (chars (chars_rest l.c-iterator));
+  left : Left l.fn.out.items l.out.items (chars l.text) (chars (chars_rest l.c-iterator));
 }

@@ -5,7 +5,7 @@ use Rattle.rx_nquads.proofs.terms.push_text.Goals as goal
 
 pub returns-clause-adds : goal.returns-clause-adds
 returns-clause-adds c = if_ok c.push_escaped.result
-    (λ h. adds_then (literal (codes "\"") refl c.in_ok-push.ensures) (adds_by (ap escaped_text c.as_str.ensures.characters) h))
+    (λ h. adds_then (literal (codes "> \"") refl c.in_ok-push.ensures) (adds_by (ap escaped_text c.as_str.ensures.characters) h))
     c.push_escaped.ensures
 
 pub returns-clause-writable : goal.returns-clause-writable

@@ -6,5 +6,5 @@ use Rattle.rx_nquads.proofs.writing.push_line.Goals as goal
 pub returns-clause-adds : goal.returns-clause-adds
 returns-clause-adds c = if_ok c.push.result
     (λ h. adds_by (line_spaced (option_map (λ iri. iri.now) c.args.name) (triple_seen c.args.triple.now))
-    (adds_then c.in_ok-push_node.ensures.adds (adds_then c.in_ok-push_iri.ensures.adds (adds_then c.in_ok-push_term.ensures.adds (adds_then c.in_ok-push_name.ensures.adds (literal (codes ".\n") refl h))))))
+    (adds_then c.in_ok-push_subject.ensures.adds (adds_then c.in_ok-push_iri.ensures.adds (adds_then c.in_ok-push_object.ensures.adds (adds_then c.in_ok-push_name.ensures.adds (literal (codes ".\n") refl h))))))
     c.push.ensures

@@ -1,4 +1,4 @@
-use Rattle.std.proofs.Common.{arith, option_map, string_bytes}
+use Rattle.std.proofs.Common.{arith, option_map}
 use Rattle.std.specs.Str.{chars}
 use Rattle.rx_model.specs.Seen.{triples_seen}
 use Rattle.rx_nquads.specs.Quads.{quads}
@@ -11,6 +11,6 @@ loop-i-preserved c = written_more c.args.graph.now c.loop-i.i _ c.at.ensures c.l
 
 pub returns-clause-denotes : goal.returns-clause-denotes
 returns-clause-denotes c =
-    let all : Nquads (chars (string_bytes c.loop-i.out)) (quads (triples_seen c.args.graph.now) (option_map (λ iri. iri.now) c.args.name)) =
+    let all : Nquads (chars c.loop-i.out.items) (quads (triples_seen c.args.graph.now) (option_map (λ iri. iri.now) c.args.name)) =
     denotes_end _ _ _ _ (omega (arith, c.loop-i-test.false, c.len-i-end.ensures.len)) c.loop-i.invariant in
-    rw c.into_bytes.ensures.value all
+    all

@@ -1,0 +1,9 @@
+use Rattle.std.proofs.Common.{◌∙◌, ◌-◌, length, rules, arith, drop, take_all, length-drop}
+use Rattle.rx_nquads.proofs.Adding.{adds_label}
+use Rattle.rx_nquads.proofs.terms.push_label.Goals as goal
+
+pub returns-clause-adds : goal.returns-clause-adds
+returns-clause-adds c =
+    let w = c.put_label-start in
+    adds_label _ _ _ c.args.blank.0 (drop 23 c.args.text.now) (search rules) c.requires.ascii c.in_ok-extend_from_slice.ensures.items
+    (take_all (length w.new.text - w.result) (drop w.result w.new.text) (omega (arith, length-drop w.result w.new.text)) ∙ w.ensures.written)
