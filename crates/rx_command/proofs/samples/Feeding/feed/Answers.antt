@@ -1,4 +1,5 @@
-use Rattle.std.proofs.Common.{◌≡◌, ◌∙◌, ap, arith}
+use Rattle.std.proofs.Common.{◌≡◌, ◌∙◌, ℕ, ◌+◌, suc, ap, subst, arith}
+use Rattle.rx_command.specs.Feeding.{FedTo}
 use Rattle.rx_command.specs.Samples.{deepest_in, items_to}
 use Rattle.rx_command.specs.declared.samples.Feeding.{Feeding}
 use Rattle.rx_command.proofs.SampleLemmas.{whole_due, if_whole, tail_due}
@@ -17,3 +18,8 @@ returns c =
     let due : Feeding = record { walk = c.loop-number.self.walk; piece = c.extend_from_slice.new.self; size = c.loop-number.self.size; depth = c.loop-number.self.depth } in
     if_whole c.args.count i.bytes due c.take.new.self c.take.result (tail_due c.args.count i.bytes c.loop-number.self.piece.items _ (i.due ∙ ap items_to all) c.in-Ok.ensures.items) (i.depth ∙ ap deepest_in all)
     (c.take.ensures i.bytes (record { stands = i.fed.stands; size = i.fed.size }))
+
+pub loop-number-preserved : goal.loop-number-preserved
+loop-number-preserved c =
+    let next : suc c.loop-number.number ≡ c.loop-number.number + 1 = omega arith in
+    subst (λ (n : ℕ). FedTo n c.item.new.self) next c.in_ok-item.ensures
