@@ -21,7 +21,7 @@ use Rattle.rx_nquads.specs.Writing.{nquads}
 use Rattle.rx_rdfa.specs.Whole.{written}
 use Rattle.rx_rdfa.proofs.Whole.{written_denotes}
 use Rattle.rx_rdfa.specs.Names.{Context}
-use Rattle.rx_command.specs.Words.{Asked, Task, Extraction, extracts, checks}
+use Rattle.rx_job.specs.Words.{Asked, Task, Extraction, extracts, checks}
 use Rattle.rx_walk.specs.Faults.{Refuses}
 use Rattle.rx_command.specs.declared.errors.InputError.{InputError}
 use Rattle.rx_command.specs.declared.errors.InputError.TheVariants as error
@@ -33,6 +33,9 @@ use Rattle.rx_command.specs.Inputs.{PageText, PageRefused, JobText, JobRefused, 
 use Rattle.rx_command.specs.Outcome.{IsAccepted, IsLacking, IsRight, base_in, facts_in, way_in, ok_line}
 use Rattle.rx_command.specs.Runs.{TakesFiles, StopsCleanly, page_limit}
 use Rattle.rx_command.specs.Ways.{way_of, extraction_of}
+use Rattle.rx_command.specs.Written.{text_of, Denoted}
+use Rattle.rx_command.specs.declared.outcomes.Outcome.{Outcome}
+use Rattle.rx_command.specs.declared.outcomes.Outcome.TheVariants as found
 use Rattle.rx_command.specs.declared.pages.Approach.{Approach}
 use Rattle.rx_command.proofs.MadeLemmas.{list_written}
 use denote.Ref.{Bor}
@@ -126,8 +129,8 @@ takes_both asked file limit e l x y z t p =
 there_before : (asked : Asked) (file : Option (List ℕ)) (context : Context) (bytes : List ℕ) (x y : Told) → ReadsContext file context x y → file_of y.files (encode_utf8_all asked.page) ≡ Some bytes → file_of x.files (encode_utf8_all asked.page) ≡ Some bytes
 there_before asked file context bytes x y c h = sym (ap (λ f. file_of f (encode_utf8_all asked.page)) c.takes.files) ∙ h
 
-pub job_text : (asked : Asked) (file : Option (List ℕ)) (context : Context) (text : List ℕ) → file ≡ asked.context → (x y z : Told) → ReadsContext file context x y → PageText asked.task context (encode_utf8_all asked.page) text y z → JobText asked text x z
-job_text asked file context text e x y z c p =
+pub job_text : (asked : Asked) (file : Option (List ℕ)) (context : Context) (outcome : Outcome) → file ≡ asked.context → (x y z : Told) → ReadsContext file context x y → PageText asked.task context (encode_utf8_all asked.page) outcome y z → JobText asked outcome x z
+job_text asked file context outcome e x y z c p =
     record {
       context = context;
       holds = subst (λ f. IsContext f x context) e c.is;
@@ -148,38 +151,30 @@ job_refused asked file context fault e x y z c p =
 
 -- ---- what a page is
 
-pub page_right : (way : Way) (name named text : List ℕ) → named ≡ name → text ≡ ok_line → (x y : Told) → ReadsRight way named x y → PageText (checks way.syntax) way.context name text x y
-page_right way name named text e t x y c =
-    let right : IsRight way.syntax way.context c.bytes text = record { tree = c.right.tree; is = record { page = c.right.page; accepted = c.right.accepted }; spelled = t } in
-    record { bytes = c.bytes; file = sym (ap (λ n. file_of x.files n) e) ∙ c.file; gives = right; graph = right; left = c.left }
+pub page_right : (way : Way) (name named : List ℕ) → named ≡ name → (x y : Told) → ReadsRight way named x y → PageText (checks way.syntax) way.context name found.Right x y
+page_right way name named e x y c =
+    let right : IsRight way.syntax way.context c.bytes ok_line = record { tree = c.right.tree; is = record { page = c.right.page; accepted = c.right.accepted }; spelled = refl } in
+    record { bytes = c.bytes; file = sym (ap (λ n. file_of x.files n) e) ∙ c.file; gives = right; graph = λ read. right; left = c.left }
 
-pub page_text : (e : Extraction) (context : Context) (name named text : List ℕ) (list : List CodeTriple) → named ≡ name
-    → text ≡ encode_utf8_all (nquads (numbered nat_eq (copied nat_eq (triples_seen list))) e.graph) → Nquads (chars text) (quads (numbered nat_eq (copied nat_eq (triples_seen list))) e.graph)
-    → (x y : Told) → ReadsPage (way_in (extracts e) context) e.address named list x y → PageText (extracts e) context name text x y
-page_text e context name named text list n spelled denotes x y c =
+pub page_text : (e : Extraction) (context : Context) (name named : List ℕ) (outcome : Outcome) (list : List CodeTriple) → named ≡ name
+    → text_of outcome ≡ encode_utf8_all (nquads (numbered nat_eq (copied nat_eq (triples_seen list))) e.graph) → (Denoted outcome → Nquads (chars (text_of outcome)) (quads (numbered nat_eq (copied nat_eq (triples_seen list))) e.graph))
+    → (x y : Told) → ReadsPage (way_in (extracts e) context) e.address named list x y → PageText (extracts e) context name outcome x y
+page_text e context name named outcome list n spelled denotes x y c =
     let made = list_written e.address context c.ended.tree list c.ended.made in
     let is : IsAccepted e.syntax context c.bytes c.ended.tree = record { page = c.ended.page; accepted = c.ended.accepted } in
     record {
       bytes = c.bytes;
       file = sym (ap (λ n. file_of x.files n) n) ∙ c.file;
       gives = record { tree = c.ended.tree; is = is; spelled = spelled ∙ ap (λ ts. encode_utf8_all (nquads ts e.graph)) made };
-      graph = record {
+      graph = λ read. record {
         tree = c.ended.tree;
         is = is;
         triples = written (base_in e.address c.ended.tree) (facts_in context c.ended.tree);
-        denotes = subst (λ ts. Nquads (chars text) (quads ts e.graph)) made denotes;
+        denotes = subst (λ ts. Nquads (chars (text_of outcome)) (quads ts e.graph)) made (denotes read);
         renamed = written_denotes (base_in e.address c.ended.tree) (facts_in context c.ended.tree);
       };
       left = c.left;
     }
-
-pub if_text : {V E : Type 0} (items : V → List ℕ) (r : Result V E) (approach : Approach) (graph : Option (Bor Chars)) (name named : List ℕ) (list : List CodeTriple) (told now : Option Told) → named ≡ name
-    → IfOk r (λ text. items text ≡ encode_utf8_all (nquads (numbered nat_eq (copied nat_eq (triples_seen list))) (option_map (λ iri. iri.now) graph)))
-    → IfOk r (λ text. Nquads (chars (items text)) (quads (numbered nat_eq (copied nat_eq (triples_seen list))) (option_map (λ iri. iri.now) graph)))
-    → Moves (ReadsPage (way_of approach) approach.address named list) told now → IfOk r (λ text. Moves (PageText (extracts (extraction_of approach graph)) approach.context name (items text)) told now)
-if_text items (Ok text) approach graph name named list told now e s d m =
-    moves_weaker (PageText (extracts (extraction_of approach graph)) approach.context name (items text)) (λ x y c. page_text (extraction_of approach graph) approach.context name named (items text) list e s d x y c) m
-if_text items (Err error) approach graph name named list told now e s d m = tt
 
 -- of a job that is known to be an extraction, or a check
 pub for_extraction : (holds : Task → Context → List ℕ → Type 0) (asked : Asked) (approach : Approach) (graph : Option (Bor Chars)) (e : Extraction) (file : Option Chars) (page : Chars)
@@ -209,15 +204,10 @@ fails_no_context way name e told now g is = subst (λ x. PageFails way name x to
 
 -- what a call gives
 
-pub if_right : {V E : Type 0} (items : V → List ℕ) (r : Result V E) (way : Way) (name named : List ℕ) (told now : Option Told) → named ≡ name → IfOk r (λ text. items text ≡ ok_line) → Moves (ReadsRight way named) told now
-    → IfOk r (λ text. Moves (PageText (checks way.syntax) way.context name (items text)) told now)
-if_right items (Ok text) way name named told now e t m = moves_weaker (PageText (checks way.syntax) way.context name (items text)) (λ x y c. page_right way name named (items text) e t x y c) m
-if_right items (Err error) way name named told now e t m = tt
-
-pub if_job : {V E : Type 0} (items : V → List ℕ) (r : Result V E) (asked : Asked) (file : Option (List ℕ)) (context : Context) (told mid now : Option Told) → file ≡ asked.context → Moves (ReadsContext file context) told mid
-    → IfOk r (λ text. Moves (PageText asked.task context (encode_utf8_all asked.page) (items text)) mid now) → IfOk r (λ text. Moves (JobText asked (items text)) told now)
-if_job items (Ok text) asked file context told mid now e m p = moves_then (JobText asked (items text)) (λ x y z c t. job_text asked file context (items text) e x y z c t) m p
-if_job items (Err error) asked file context told mid now e m p = tt
+pub if_job : (r : Result Outcome InputError) (asked : Asked) (file : Option (List ℕ)) (context : Context) (told mid now : Option Told) → file ≡ asked.context → Moves (ReadsContext file context) told mid
+    → IfOk r (λ outcome. Moves (PageText asked.task context (encode_utf8_all asked.page) outcome) mid now) → IfOk r (λ outcome. Moves (JobText asked outcome) told now)
+if_job (Ok outcome) asked file context told mid now e m p = moves_then (JobText asked outcome) (λ x y z c t. job_text asked file context outcome e x y z c t) m p
+if_job (Err error) asked file context told mid now e m p = tt
 
 pub rose_before : (a b c : ℕ) → a ≤ b → Rose b c → Rose a c
 rose_before a b c low rose = omega (arith, low, rose)

@@ -1,12 +1,10 @@
 pub mod FileLemmas
-pub mod WordLemmas
 pub mod InputLemmas
 pub mod RunLemmas
 pub mod FaultLemmas
 pub mod ReadLemmas
 pub mod MadeLemmas
 pub mod SampleLemmas
-pub mod NumberLemmas
 pub mod WrittenTokens
 pub mod WrittenNodes
 pub mod SampleTokens

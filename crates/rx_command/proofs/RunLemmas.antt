@@ -8,30 +8,32 @@ use Rattle.rx_ports.proofs.MoveLemmas.{moves_at, moves_weaker}
 use Rattle.rx_grammar.specs.declared.faults.Fault.{Fault}
 use Rattle.rx_rdfa.specs.Names.{Context}
 use Rattle.rx_reader.proofs.Bools.{split}
-use Rattle.rx_command.specs.declared.jobs.Job.{Job as CodeJob}
-use Rattle.rx_command.specs.Jobs.{asked_by, page_by, ReadsPage}
-use Rattle.rx_command.specs.Words.{Asked, Job, Task, extracts, checks, reads, samples, count_of, sampling, extraction, checking, given, is_word, most_items, job, page_in, page_asked}
+use Rattle.rx_job.specs.declared.jobs.Job.{Job as CodeJob}
+use Rattle.rx_job.specs.Jobs.{asked_by, page_by, ReadsPage}
+use Rattle.rx_job.specs.Words.{Asked, Job, Task, extracts, checks, reads, samples, count_of, sampling, extraction, checking, given, is_word, most_items, job, page_in, page_asked}
 use Rattle.rx_command.specs.Reading.{standard}
 use Rattle.rx_command.proofs.FaultLemmas.{one_first, page_has_none}
-use Rattle.rx_command.proofs.NumberLemmas.{few_counted}
+use Rattle.rx_job.proofs.NumberLemmas.{few_counted}
 use Rattle.rx_command.specs.Contexts.{IsContext, HasContext, HasOther, LacksContext, is_context}
 use Rattle.rx_command.proofs.InputLemmas.{has_context, one_context}
 use Rattle.rx_command.specs.Outcome.{TaskGives, TaskRefuses, way_in, NamesPage, HasPageFault, Meets, IsLacking, LacksFile, HasBadContext}
 use Rattle.rx_command.specs.Samples.{Yields, YieldsGraph}
 use Rattle.rx_command.specs.Inputs.{JobText, JobRefused, TellsThat}
+use Rattle.rx_command.specs.Written.{text_of, Denoted}
+use Rattle.rx_command.specs.declared.outcomes.Outcome.{Outcome}
 use Rattle.rx_command.specs.declared.statuses.Status.{Status}
 use Rattle.rx_command.specs.declared.statuses.Status.TheVariants as status
 use Rattle.rx_command.specs.Runs.{SampleEnds, ReadCause, TakesFiles, TakesToFault, StopsCleanly, IsAtEnd}
 
-pub yields : (words : List (List ℕ)) (told now : Option Told) (asked : Asked) (text : List ℕ) (t : Told) → page_asked words ≡ Some asked → Moves (JobText asked text) told now → told ≡ Some t → Yields words told text
-yields words told now asked text t a m e =
+pub yields : (words : List (List ℕ)) (told now : Option Told) (asked : Asked) (found : Outcome) (t : Told) → page_asked words ≡ Some asked → Moves (JobText asked found) told now → told ≡ Some t → Yields words told (text_of found)
+yields words told now asked found t a m e =
     let r = moves_at t m e in
     inl (record { bytes = (r.1).page.bytes; page = record { asked = asked; shelf = t; context = (r.1).context; asks = a; tells = e; holds = (r.1).holds; file = (r.1).page.file }; has_text = (r.1).page.gives })
 
-pub yields_graph : (words : List (List ℕ)) (told now : Option Told) (asked : Asked) (text : List ℕ) (t : Told) → page_asked words ≡ Some asked → Moves (JobText asked text) told now → told ≡ Some t → YieldsGraph words told text
-yields_graph words told now asked text t a m e =
+pub yields_graph : (words : List (List ℕ)) (told now : Option Told) (asked : Asked) (found : Outcome) (t : Told) → page_asked words ≡ Some asked → Moves (JobText asked found) told now → Denoted found → told ≡ Some t → YieldsGraph words told (text_of found)
+yields_graph words told now asked found t a m read e =
     let r = moves_at t m e in
-    inl (record { bytes = (r.1).page.bytes; page = record { asked = asked; shelf = t; context = (r.1).context; asks = a; tells = e; holds = (r.1).holds; file = (r.1).page.file }; graph = (r.1).page.graph })
+    inl (record { bytes = (r.1).page.bytes; page = record { asked = asked; shelf = t; context = (r.1).context; asks = a; tells = e; holds = (r.1).holds; file = (r.1).page.file }; graph = (r.1).page.graph read })
 
 pub refuses : (words : List (List ℕ)) (told now : Option Told) (asked : Asked) (fault : Fault) (t : Told) → page_asked words ≡ Some asked → Moves (JobRefused asked fault) told now → told ≡ Some t → HasPageFault words told fault
 refuses words told now asked fault t a m e =
@@ -92,8 +94,8 @@ pub asks_page : (words : List (List ℕ)) (j : CodeJob) → job words ≡ Some (
 asks_page words j e r = ap page_in (e ∙ ap Some r.asks)
 
 -- a page that was read has one outcome
-pub text_not_refused : (words : List (List ℕ)) (told now : Option Told) (asked : Asked) (text : List ℕ) (fault : Fault) → page_asked words ≡ Some asked → Moves (JobText asked text) told now → HasPageFault words told fault → ⊥
-text_not_refused words told now asked text fault a m r = not_both words told text fault (yields words told now asked text r.page.shelf a m r.page.tells) r
+pub text_not_refused : (words : List (List ℕ)) (told now : Option Told) (asked : Asked) (found : Outcome) (fault : Fault) → page_asked words ≡ Some asked → Moves (JobText asked found) told now → HasPageFault words told fault → ⊥
+text_not_refused words told now asked found fault a m r = not_both words told (text_of found) fault (yields words told now asked found r.page.shelf a m r.page.tells) r
 
 pub refused_no_text : (words : List (List ℕ)) (told now : Option Told) (asked : Asked) (text : List ℕ) (fault : Fault) → page_asked words ≡ Some asked → Moves (JobRefused asked fault) told now → Yields words told text → ⊥
 refused_no_text words told now asked text fault a m (inl y) = not_both words told text fault (inl y) (refuses words told now asked fault y.page.shelf a m y.page.tells)
@@ -179,7 +181,7 @@ meets words None asked fact a h = absurd h
 meets words (Some t) asked fact a h = record { asked = asked; shelf = t; asks = a; tells = refl; holds = h }
 
 -- files that were read are there
-pub not_lacking : (words : List (List ℕ)) (told now : Option Told) (asked : Asked) (text : List ℕ) → page_asked words ≡ Some asked → Moves (JobText asked text) told now → LacksFile words told → ⊥
+pub not_lacking : (words : List (List ℕ)) (told now : Option Told) (asked : Asked) (found : Outcome) → page_asked words ≡ Some asked → Moves (JobText asked found) told now → LacksFile words told → ⊥
 not_lacking words None now asked text a m l = let e = l.tells in absurd (cc)
 not_lacking words (Some t) now asked text a m l = let r = moves_at t m refl in not_lack asked (r.1).page.bytes t (has_context asked.context t (r.1).context (r.1).holds) (r.1).page.file (met words (Some t) asked IsLacking a l)
 
@@ -191,7 +193,7 @@ refused_not_lacking words (Some t) now asked fault a m l = let r = moves_at t m 
 not_bad_one : (asked : Asked) (t : Told) → HasContext asked.context t → HasOther asked.context t → ⊥
 not_bad_one asked t c o = not_other asked.context t c o
 
-pub not_bad : (words : List (List ℕ)) (told now : Option Told) (asked : Asked) (text : List ℕ) → page_asked words ≡ Some asked → Moves (JobText asked text) told now → HasBadContext words told → ⊥
+pub not_bad : (words : List (List ℕ)) (told now : Option Told) (asked : Asked) (found : Outcome) → page_asked words ≡ Some asked → Moves (JobText asked found) told now → HasBadContext words told → ⊥
 not_bad words None now asked text a m l = let e = l.tells in absurd (cc)
 not_bad words (Some t) now asked text a m l = let r = moves_at t m refl in not_bad_one asked t (has_context asked.context t (r.1).context (r.1).holds) (met words (Some t) asked (λ asked shelf. HasOther asked.context shelf) a l)
 
@@ -205,12 +207,12 @@ read_cause words told asked before now a (inr lacks) = record { asked = asked; a
 
 -- ---- how much was taken
 
-at_end_of : (asked : Asked) (text : List ℕ) (told now : Option Told) → Moves (JobText asked text) told now → IsAtEnd (Some asked) now
+at_end_of : (asked : Asked) (found : Outcome) (told now : Option Told) → Moves (JobText asked found) told now → IsAtEnd (Some asked) now
 at_end_of asked text told None m = tt
 at_end_of asked text None (Some now) m = let e = m.same in absurd (cc)
 at_end_of asked text (Some told) (Some now) m = (m.taken told now refl refl).page.left
 
-pub at_end : (words : List (List ℕ)) (asked : Asked) (text : List ℕ) (told now : Option Told) → page_asked words ≡ Some asked → Moves (JobText asked text) told now → IsAtEnd (page_asked words) now
+pub at_end : (words : List (List ℕ)) (asked : Asked) (found : Outcome) (told now : Option Told) → page_asked words ≡ Some asked → Moves (JobText asked found) told now → IsAtEnd (page_asked words) now
 at_end words asked text told now a m = subst (λ k. IsAtEnd k now) (sym a) (at_end_of asked text told now m)
 
 pub to_fault : (words : List (List ℕ)) (asked : Asked) (fault : Fault) (old new : Option Told) → page_asked words ≡ Some asked → Moves (JobRefused asked fault) old new → Moves (TakesToFault (page_asked words) fault) old new

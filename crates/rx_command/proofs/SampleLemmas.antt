@@ -16,7 +16,7 @@ use Rattle.rx_nest.specs.Signs.{sees, nothing_seen}
 use Rattle.rx_walk.specs.Lines.{line_of}
 use Rattle.rx_walk.specs.Walks.{Walked, Stands, Ended, open_line}
 use Rattle.rx_command.specs.Reading.{standard, Way}
-use Rattle.rx_command.specs.Words.{most_items}
+use Rattle.rx_job.specs.Words.{most_items}
 use Rattle.rx_command.specs.Samples.{head, item_before, item_behind, items_to, cut_in, sample_page, tail, depth_at, open_after, larger, deepest, deepest_in, sample_address, triples_in, line_with, line_for, IsSample}
 use Rattle.rx_walk.specs.Faults.{Refuses, Stops}
 use Rattle.rx_command.specs.declared.readers.Reader.TheVariants as reader

@@ -16,9 +16,9 @@ use Rattle.rx_grammar.specs.Tokens.{Attribute, Tag, character, doctype}
 use Rattle.rx_grammar.specs.Spelling.{a_character, a_doctype}
 use Rattle.rx_reader.proofs.TagLaws.{spells_each}
 use Rattle.rx_command.specs.Reading.{standard}
-use Rattle.rx_command.specs.Words.{most_items}
+use Rattle.rx_job.specs.Words.{most_items}
 use Rattle.rx_command.specs.Samples.{head, item_before, item_behind, items_to, tail, sample_page}
-use Rattle.rx_command.proofs.NumberLemmas.{tells}
+use Rattle.rx_job.proofs.NumberLemmas.{tells}
 use Rattle.rx_command.proofs.WrittenTokens.{Written, chars_in, letter, letters, tag_token, start_token, end_tag, end_run, end_token, is_text_char, IsWritten, AreWritten, tag_written, letters_written}
 
 -- ---- the tokens

@@ -6,7 +6,7 @@ use Rattle.rx_walk.specs.Walks.{Stands}
 use Rattle.rx_command.specs.declared.samples.Feeding.{Feeding}
 use Rattle.rx_command.specs.Reading.{standard}
 use Rattle.rx_command.specs.Samples.{items_to, sample_page, sample_address, larger, deepest_in, deepest, depth_at}
-use Rattle.rx_command.specs.Words.{most_items}
+use Rattle.rx_job.specs.Words.{most_items}
 
 -- the walk stands behind these bytes, which are counted
 pub record Fed (bytes : List ℕ) (s : Feeding) : Type 0 where

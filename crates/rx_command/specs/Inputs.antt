@@ -4,17 +4,19 @@ use Rattle.rx_ports.specs.Files.{file_of}
 use Rattle.rx_ports.specs.Told.{Told}
 use Rattle.rx_rdfa.specs.Names.{Context}
 use Rattle.rx_grammar.specs.declared.faults.Fault.{Fault}
-use Rattle.rx_command.specs.Words.{Asked, Task}
+use Rattle.rx_job.specs.Words.{Asked, Task}
 use Rattle.rx_command.specs.Reading.{largest_piece, IsClean}
 use Rattle.rx_command.specs.Contexts.{IsContext, context_size}
 use Rattle.rx_command.specs.Outcome.{TaskGives, TaskDenotes, TaskRefuses, way_in}
+use Rattle.rx_command.specs.Written.{text_of, Denoted}
+use Rattle.rx_command.specs.declared.outcomes.Outcome.{Outcome}
 
--- the page of this name is there, and the task makes this text of it; it was read to its end
-pub record PageText (task : Task) (context : Context) (name text : List ℕ) (old new : Told) : Type 0 where
+-- the page of this name is there, and what it gives has the text that the task makes of it; it was read to its end
+pub record PageText (task : Task) (context : Context) (name : List ℕ) (outcome : Outcome) (old new : Told) : Type 0 where
   pub bytes : List ℕ
   pub file : file_of old.files name ≡ Some bytes
-  pub gives : TaskGives task context bytes text
-  pub graph : TaskDenotes task context bytes text
+  pub gives : TaskGives task context bytes (text_of outcome)
+  pub graph : Denoted outcome → TaskDenotes task context bytes (text_of outcome)
   pub left : new.left ≡ []
 
 -- it is there, and the task refuses it with this fault, past which no more than a piece was read
@@ -24,11 +26,11 @@ pub record PageRefused (task : Task) (context : Context) (name : List ℕ) (faul
   pub refused : TaskRefuses task context bytes fault
   pub reads : new.taken ≤ old.taken + (fault.at + largest_piece)
 
--- a context holds, and under it the page has this text
-pub record JobText (asked : Asked) (text : List ℕ) (old new : Told) : Type 0 where
+-- a context holds, and under it the page gives this
+pub record JobText (asked : Asked) (outcome : Outcome) (old new : Told) : Type 0 where
   pub context : Context
   pub holds : IsContext asked.context old context
-  pub page : PageText asked.task context (encode_utf8_all asked.page) text old new
+  pub page : PageText asked.task context (encode_utf8_all asked.page) outcome old new
 
 -- or this fault
 pub record JobRefused (asked : Asked) (fault : Fault) (old new : Told) : Type 0 where

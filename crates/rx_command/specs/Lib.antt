@@ -1,12 +1,10 @@
-pub mod Words
 pub mod Reading
 pub mod Ways
-pub mod Jobs
 pub mod Files
 pub mod Contexts
 pub mod Outcome
+pub mod Written
 pub mod Inputs
 pub mod Runs
-pub mod Options
 pub mod Samples
 pub mod Feeding

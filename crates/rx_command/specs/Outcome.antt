@@ -21,7 +21,7 @@ use Rattle.rx_walk.specs.Refused.{refused_in}
 use Rattle.rx_nquads.specs.Quads.{quads}
 use Rattle.rx_nquads.specs.Document.{Nquads}
 use Rattle.rx_nquads.specs.Writing.{nquads}
-use Rattle.rx_command.specs.Words.{Asked, Task, Extraction, extracts, checks, page_asked}
+use Rattle.rx_job.specs.Words.{Asked, Task, Extraction, extracts, checks, page_asked}
 use Rattle.rx_command.specs.Contexts.{IsContext, HasContext, HasOther, LacksContext}
 use Rattle.rx_command.specs.Reading.{standard, Way, HasFirst}
 

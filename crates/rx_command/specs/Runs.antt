@@ -5,7 +5,7 @@ use Rattle.rx_ports.specs.Counts.{Rose}
 use Rattle.rx_ports.specs.Files.{file_of}
 use Rattle.rx_ports.specs.Told.{Told, Moves, GrowsBy, GrowsByPart, Stays}
 use Rattle.rx_terms.specs.Text.{Chars}
-use Rattle.rx_command.specs.Words.{Asked, page_asked}
+use Rattle.rx_job.specs.Words.{Asked, page_asked}
 use Rattle.rx_command.specs.Files.{size_of}
 use Rattle.rx_command.specs.Contexts.{context_size, context_limit}
 use Rattle.rx_command.specs.Outcome.{LacksFile}

@@ -14,7 +14,7 @@ use Rattle.rx_nquads.specs.Writing.{nquads}
 use Rattle.rx_walk.specs.Lines.{line_of}
 use Rattle.rx_command.specs.Reading.{standard}
 use Rattle.rx_ports.specs.Told.{Told}
-use Rattle.rx_command.specs.Words.{job, samples, most_items}
+use Rattle.rx_job.specs.Words.{job, samples, most_items}
 use Rattle.rx_command.specs.Outcome.{IsAccepted, base_in, facts_in, HasPageText, HasPageGraph}
 
 -- what stands before the items

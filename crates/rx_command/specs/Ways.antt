@@ -1,7 +1,7 @@
 -- How a page is read whose triples are wanted, of what the code is given.
 use Rattle.std.specs.Prelude.{Option, option_map}
 use Rattle.rx_terms.specs.Text.{Chars}
-use Rattle.rx_command.specs.Words.{Extraction}
+use Rattle.rx_job.specs.Words.{Extraction}
 use Rattle.rx_command.specs.Reading.{Way}
 use Rattle.rx_command.specs.declared.pages.Approach.{Approach}
 use denote.Ref.{Bor}

@@ -1,22 +1,22 @@
 //! Doing a job: its context file is read, and then its page.
-ghost use Rattle.std.specs.Prelude.{◌≡◌, ◌⊎◌, ◌≤◌, IfOk, IsErrOf, OnErr, Err, Some, codes, encode_utf8_all, is_some, true, false};
+ghost use Rattle.std.specs.Prelude.{◌≡◌, ◌⊎◌, ◌≤◌, IfOk, IsErrOf, Err, Some, codes, encode_utf8_all, is_some, true, false};
 ghost use Rattle.rx_ports.specs.Counts.{Rose};
 ghost use Rattle.rx_ports.specs.Told.{Moves, Lacks};
-ghost use Rattle.rx_command.specs.Words.{extracts, checks};
-ghost use Rattle.rx_command.specs.Jobs.{page_by, reads_page, text_in};
+ghost use Rattle.rx_job.specs.Words.{extracts, checks};
+ghost use Rattle.rx_job.specs.Jobs.{page_by, reads_page, text_in};
 ghost use Rattle.rx_command.specs.Files.{TakesOf};
 ghost use Rattle.rx_command.specs.Reading.{ReadsClean};
 ghost use Rattle.rx_command.specs.Ways.{way_of, extraction_of};
 ghost use Rattle.rx_command.specs.Contexts.{IsContextFile, IsFileOf, ReadsContext, TakesContext, LacksContext, HasOther};
-ghost use Rattle.rx_command.specs.Outcome.{IsLacking, ok_line};
+ghost use Rattle.rx_command.specs.Outcome.{IsLacking};
 ghost use Rattle.rx_command.specs.Inputs.{PageText, PageRefused, JobText, JobRefused, TellsThat, WhereTold};
 ghost use Rattle.rx_command.specs.Runs.{TakesFiles, StopsCleanly};
 
 use crate::errors::InputError;
-use crate::extract::text_of;
 use crate::files::{ReadError, read_file};
-use crate::jobs::Job;
+use crate::outcomes::Outcome;
 use crate::pages::{Approach, check_page, read_page};
+use rx_job::Job;
 use rx_names::{Context, ContextError};
 use rx_ports::Shelf;
 use rx_terms::{Iri, NoMemory, Text};
@@ -26,14 +26,14 @@ use std::alloc::Global;
 /// The most bytes that a context file has.
 const LARGEST_CONTEXT: usize = 65_536;
 
-/// The text that the job makes of its page, which is read after the context file, where one is named.
-pub(crate) fn text_of_job<F: Shelf>(
+/// What the job's page gives, which is read after the context file, where one is named.
+pub(crate) fn outcome_of_job<F: Shelf>(
     alloc: Global,
     shelf: &mut F,
     job: &Job,
-) -> Result<Vec<u8>, InputError>
+) -> Result<Outcome, InputError>
     requires { reads_page job.now ≡ true }
-    ensures ok { IfOk result (λ text. Moves (JobText (page_by job.now) text.items) (F.told shelf.old) (F.told shelf.new)) }
+    ensures ok { IfOk result (λ outcome. Moves (JobText (page_by job.now) outcome) (F.told shelf.old) (F.told shelf.new)) }
     ensures refused { (fault : Fault) → result ≡ Err (InputError.Refused fault) → Moves (JobRefused (page_by job.now) fault) (F.told shelf.old) (F.told shelf.new) }
     ensures takes { Moves (TakesFiles (Some (page_by job.now))) (F.told shelf.old) (F.told shelf.new) }
     ensures bad { IsErrOf result InputError.BadContext → WhereTold (HasOther (page_by job.now).context) (F.told shelf.old) }
@@ -70,15 +70,15 @@ pub(crate) fn text_of_job<F: Shelf>(
     }
 }
 
-/// The text of a page's triples, in the graph of this name, or in none.
+/// The graph of a page's triples, which has this name, or none.
 fn extract<F: Shelf>(
     alloc: Global,
     shelf: &mut F,
     page: &Text,
     approach: Approach,
     graph: Option<&Iri>,
-) -> Result<Vec<u8>, InputError>
-    ensures ok { IfOk result (λ text. Moves (PageText (extracts (extraction_of approach graph.entry)) approach.context (encode_utf8_all page.now) text.items) (F.told shelf.old) (F.told shelf.new)) }
+) -> Result<Outcome, InputError>
+    ensures ok { IfOk result (λ outcome. Moves (PageText (extracts (extraction_of approach graph.entry)) approach.context (encode_utf8_all page.now) outcome) (F.told shelf.old) (F.told shelf.new)) }
     ensures refused { (fault : Fault) → result ≡ Err (InputError.Refused fault) → Moves (PageRefused (extracts (extraction_of approach graph.entry)) approach.context (encode_utf8_all page.now) fault) (F.told shelf.old) (F.told shelf.new) }
     ensures takes { Moves (TakesOf (encode_utf8_all page.now) 1073807359) (F.told shelf.old) (F.told shelf.new) }
     ensures context { IsErrOf result InputError.BadContext → ⊥ }
@@ -90,21 +90,21 @@ fn extract<F: Shelf>(
         Ok(list) => list,
         Err(error) => return Err(error),
     };
-    match text_of(alloc, list, graph) {
-        Ok(text) => Ok(text),
+    match Outcome::of(alloc, list, graph) {
+        Ok(outcome) => Ok(outcome),
         Err(NoMemory) => Err(InputError::NoMemory),
     }
 }
 
-/// The text that says that a page is one.
+/// Reads a page for its faults.
 fn check<F: Shelf>(
     alloc: Global,
     shelf: &mut F,
     page: &Text,
     syntax: Syntax,
     context: Context,
-) -> Result<Vec<u8>, InputError>
-    ensures ok { IfOk result (λ text. Moves (PageText (checks syntax) context (encode_utf8_all page.now) text.items) (F.told shelf.old) (F.told shelf.new)) }
+) -> Result<Outcome, InputError>
+    ensures ok { IfOk result (λ outcome. Moves (PageText (checks syntax) context (encode_utf8_all page.now) outcome) (F.told shelf.old) (F.told shelf.new)) }
     ensures refused { (fault : Fault) → result ≡ Err (InputError.Refused fault) → Moves (PageRefused (checks syntax) context (encode_utf8_all page.now) fault) (F.told shelf.old) (F.told shelf.new) }
     ensures takes { Moves (TakesOf (encode_utf8_all page.now) 1073807359) (F.told shelf.old) (F.told shelf.new) }
     ensures no_context { IsErrOf result InputError.BadContext → ⊥ }
@@ -113,19 +113,8 @@ fn check<F: Shelf>(
     ensures later { F.faults shelf.old ≤ F.faults shelf.new }
 {
     match check_page(alloc, shelf, page.as_str(), syntax, context) {
-        Ok(()) => ok_text(alloc),
+        Ok(()) => Ok(Outcome::Right),
         Err(error) => Err(error),
-    }
-}
-
-fn ok_text(alloc: Global) -> Result<Vec<u8>, InputError>
-    ensures ok { IfOk result (λ text. text.items ≡ ok_line) }
-    ensures memory { OnErr result (result ≡ Err InputError.NoMemory) }
-{
-    let mut text = Vec::new(alloc);
-    match text.extend_from_slice(b"ok\n") {
-        Ok(()) => Ok(text),
-        Err(_) => Err(InputError::NoMemory),
     }
 }
 

@@ -7,13 +7,10 @@
 
 ghost use Rattle.rx_command.specs.Samples.{SamplesArePages};
 
-mod arguments;
 mod errors;
-mod extract;
 mod files;
 mod inputs;
-mod jobs;
-mod options;
+mod outcomes;
 mod pages;
 mod readers;
 mod samples;
@@ -21,9 +18,8 @@ mod statuses;
 #[cfg(test)]
 mod tests;
 mod top;
-mod words;
 
-pub use jobs::{Job, JobError};
+pub use rx_job::{Job, JobError};
 pub use rx_walk::{Fault, Kind};
 pub use statuses::Status;
 pub use top::run;

@@ -4,11 +4,11 @@ ghost use Rattle.rx_model.specs.Copied.{copied};
 ghost use Rattle.rx_model.specs.Numbered.{numbered};
 ghost use Rattle.rx_model.specs.Seen.{triples_seen};
 ghost use Rattle.rx_nquads.specs.Writing.{nquads};
-ghost use Rattle.rx_command.specs.Words.{most_items};
+ghost use Rattle.rx_job.specs.Words.{most_items};
 ghost use Rattle.rx_command.specs.Samples.{IsSample, item_before, larger, line_with, sample_address};
 ghost use Rattle.rx_command.specs.Feeding.{Fed, FedTo, FedWhole, IsDue, TakesPiece};
 
-use crate::extract::graph_of;
+use crate::outcomes::graph_of;
 use rx_names::Context;
 use rx_nquads::text;
 use rx_terms::{Iri, IriError, NoMemory, TripleList};

@@ -3,17 +3,18 @@ ghost use Rattle.std.specs.Prelude.{◌≡◌, ◌≢◌, ◌≤◌, ◌⊎◌, 
 ghost use Rattle.std.specs.Fmt.{decimal};
 ghost use Rattle.rx_ports.specs.Counts.{Rose};
 ghost use Rattle.rx_ports.specs.Told.{Told, Moves, GrowsBy, GrowsByPart, Stays};
-ghost use Rattle.rx_command.specs.Words.{job, most_items, page_asked, samples};
+ghost use Rattle.rx_job.specs.Words.{job, most_items, page_asked, samples};
 ghost use Rattle.rx_command.specs.Contexts.{TakesContext};
 ghost use Rattle.rx_command.specs.Outcome.{HasBadContext, HasPageFault, LacksFile, NamesContext};
 ghost use Rattle.rx_command.specs.Samples.{Yields, YieldsGraph};
 ghost use Rattle.rx_command.specs.Runs.{ReadCause, TakesFiles, TakesToFault, StopsCleanly, IsAtEnd, SampleEnds, Says, usage_line, refused_line, context_line, context_named};
 
 use crate::errors::InputError;
-use crate::inputs::text_of_job;
-use crate::jobs::{Job, JobError};
+use crate::inputs::outcome_of_job;
 use crate::samples::sample;
 use crate::statuses::{Status, name_of};
+use rx_job::{Job, JobError};
+use rx_nquads::WriteError;
 use rx_ports::{Shelf, Sink, put_all};
 use rx_terms::{NoMemory, Text};
 use rx_walk::Fault;
@@ -113,10 +114,11 @@ pub fn run<F: Shelf, O: Sink, E: Sink>(
         Some(count) => return run_sample(alloc, count, out),
         None => {}
     }
-    match text_of_job(alloc, shelf, &job) {
-        Ok(text) => match put_all(out, text.as_slice()) {
+    match outcome_of_job(alloc, shelf, &job) {
+        Ok(outcome) => match outcome.write(alloc, out) {
             Ok(()) => Status::Done,
-            Err(_failed) => Status::WriteFault,
+            Err(WriteError::Failed) => Status::WriteFault,
+            Err(WriteError::NoMemory) => Status::Memory,
         },
         Err(InputError::Failed) => Status::ReadFault,
         Err(InputError::BadContext) => {

@@ -10,7 +10,7 @@ ghost use Rattle.rx_nquads.specs.Quads.{ProperStays};
 mod terms;
 mod writing;
 
-pub use writing::text;
+pub use writing::{WriteError, text, write};
 
 /// A line states at most one quad.
 pub fn a_line_states_one()

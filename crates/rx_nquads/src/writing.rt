@@ -1,5 +1,7 @@
 //! The text of a graph.
-ghost use Rattle.std.specs.Prelude.{◌≡◌, IfOk, OnOk, encode_utf8_all, option_map};
+ghost use Rattle.rx_ports.specs.Counts.{Rose};
+ghost use Rattle.rx_ports.specs.Told.{Moves, GrowsBy, GrowsByPart};
+ghost use Rattle.std.specs.Prelude.{◌≡◌, ◌≤◌, IsErrOf, IfOk, OnOk, encode_utf8_all, option_map};
 ghost use Rattle.std.specs.Str.{chars};
 ghost use Rattle.rx_model.specs.Seen.{triple_seen, triples_seen};
 ghost use Rattle.rx_nquads.specs.Quads.{quads};
@@ -9,6 +11,7 @@ ghost use Rattle.rx_nquads.specs.Writable.{Adds, WritableName, WritableTriple};
 
 use crate::terms::{push, push_between, push_iri, push_object, push_subject};
 use rx_graph::Graph;
+use rx_ports::{Sink, put_all};
 use rx_terms::{Iri, NoMemory, Triple};
 use std::alloc::Global;
 
@@ -26,6 +29,34 @@ pub fn text(alloc: Global, graph: &Graph, name: Option<&Iri>) -> Result<Vec<u8>,
         push_line(&mut out, graph.at(i), name)?;
     }
     Ok(out)
+}
+
+/// Why a text wasn't written whole.
+#[derive(Clone, Copy, Debug, PartialEq, Eq)]
+pub enum WriteError {
+    /// The sink failed.
+    Failed,
+    /// There was no memory, and nothing was written.
+    NoMemory,
+}
+
+/// Writes the graph's text.
+pub fn write<S: Sink>(alloc: Global, graph: &Graph, name: Option<&Iri>, sink: &mut S) -> Result<(), WriteError>
+    ensures ok { OnOk result (Moves (GrowsBy (encode_utf8_all (nquads (triples_seen graph.now) (option_map (λ iri. iri.now) name.entry)))) (S.held sink.old) (S.held sink.new)) }
+    ensures denotes { OnOk result (Nquads (chars (encode_utf8_all (nquads (triples_seen graph.now) (option_map (λ iri. iri.now) name.entry)))) (quads (triples_seen graph.now) (option_map (λ iri. iri.now) name.entry))) }
+    ensures partly { IsErrOf result WriteError.Failed → Moves (GrowsByPart (encode_utf8_all (nquads (triples_seen graph.now) (option_map (λ iri. iri.now) name.entry)))) (S.held sink.old) (S.held sink.new) }
+    ensures cause { IsErrOf result WriteError.Failed → Rose (S.faults sink.old) (S.faults sink.new) }
+    ensures untouched { IsErrOf result WriteError.NoMemory → sink.new ≡ sink.old }
+    ensures later { S.faults sink.old ≤ S.faults sink.new }
+{
+    let bytes = match text(alloc, graph, name) {
+        Ok(bytes) => bytes,
+        Err(NoMemory) => return Err(WriteError::NoMemory),
+    };
+    match put_all(sink, bytes.as_slice()) {
+        Ok(()) => Ok(()),
+        Err(_failed) => Err(WriteError::Failed),
+    }
 }
 
 /// Adds the line of a triple in the graph of this name.

@@ -1,14 +1,17 @@
 use Rattle.std.proofs.Common.{◌≡◌, encode_utf8_all}
 use Rattle.rx_ports.proofs.MoveLemmas.{moves_weaker}
 use Rattle.rx_command.specs.declared.errors.InputError.TheVariants as error
-use Rattle.rx_command.specs.Words.{checks}
+use Rattle.rx_job.specs.Words.{checks}
 use Rattle.rx_command.specs.Reading.{Way}
-use Rattle.rx_command.specs.Inputs.{PageRefused}
-use Rattle.rx_command.proofs.InputLemmas.{if_right, page_found, fails_refused, fails_clean, fails_no_context}
+use Rattle.rx_command.specs.Inputs.{PageText, PageRefused}
+use Rattle.rx_command.specs.declared.outcomes.Outcome.TheVariants.{Right}
+use Rattle.rx_command.proofs.InputLemmas.{page_right, page_found, fails_refused, fails_clean, fails_no_context}
 use Rattle.rx_command.proofs.inputs.check.Goals as goal
 
 pub returns-in-Ok-clause-ok : goal.returns-in-Ok-clause-ok
-returns-in-Ok-clause-ok g c = if_right (λ text. text.items) c.ok_text.result (record { syntax = c.args.syntax; context = c.args.context }) _ _ _ _ c.as_str.ensures.bytes c.ok_text.ensures.ok c.in-Ok.ensures.gives
+returns-in-Ok-clause-ok g c =
+    let way : Way = record { syntax = c.args.syntax; context = c.args.context } in
+    moves_weaker (PageText (checks c.args.syntax) c.args.context (encode_utf8_all c.args.page.now) Right) (λ x y r. page_right way _ _ c.as_str.ensures.bytes x y r) c.in-Ok.ensures.gives
 
 pub returns-in-Err-clause-refused : goal.returns-in-Err-clause-refused
 returns-in-Err-clause-refused g c fault is =

@@ -1,17 +1,17 @@
 use Rattle.std.proofs.Common.{◌≡◌, encode_utf8_all}
 use Rattle.rx_ports.proofs.MoveLemmas.{moves_weaker}
 use Rattle.rx_command.specs.declared.errors.InputError.TheVariants as error
-use Rattle.rx_command.specs.Words.{extracts}
+use Rattle.rx_job.specs.Words.{extracts}
 use Rattle.rx_command.specs.Ways.{way_of, extraction_of}
 use Rattle.rx_command.specs.Inputs.{PageText, PageRefused}
 use Rattle.rx_command.proofs.InputLemmas.{page_text, page_found, fails_refused, fails_clean, fails_no_context}
 use Rattle.rx_command.proofs.inputs.extract.Goals as goal
 
-pub returns-in-Ok-text_of-clause-ok : goal.returns-in-Ok-text_of-clause-ok
-returns-in-Ok-text_of-clause-ok g c =
+pub returns-in-Ok-of-clause-ok : goal.returns-in-Ok-of-clause-ok
+returns-in-Ok-of-clause-ok g c =
     let e = extraction_of c.args.approach c.args.graph in
-    moves_weaker (PageText (extracts e) c.args.approach.context (encode_utf8_all c.args.page.now) c.in-Ok-text_of.text.items)
-    (λ x y r. page_text e c.args.approach.context _ _ c.in-Ok-text_of.text.items c.in-Ok.list c.as_str.ensures.bytes c.in-Ok-text_of.ensures.spelled c.in-Ok-text_of.ensures.denotes x y r)
+    moves_weaker (PageText (extracts e) c.args.approach.context (encode_utf8_all c.args.page.now) c.in-Ok-of.outcome)
+    (λ x y r. page_text e c.args.approach.context _ _ c.in-Ok-of.outcome c.in-Ok.list c.as_str.ensures.bytes c.in-Ok-of.ensures.spelled c.in-Ok-of.ensures.denoted x y r)
     c.in-Ok.ensures.gives
 
 pub returns-in-Err-clause-refused : goal.returns-in-Err-clause-refused

@@ -1,49 +1,49 @@
 use Rattle.std.proofs.Common.{◌≡◌, ◌∙◌, inl, subst, List, ℕ, ap, Some, Err}
 use Rattle.rx_ports.specs.Told.{Moves, GrowsBy, GrowsByPart}
 use Rattle.rx_command.specs.Outcome.{HasPageFault}
-use Rattle.rx_command.specs.Jobs.{page_by}
+use Rattle.rx_job.specs.Jobs.{page_by}
 use Rattle.rx_command.specs.Runs.{TakesToFault}
-use Rattle.rx_command.specs.Words.{page_asked}
+use Rattle.rx_job.specs.Words.{page_asked}
 use Rattle.rx_grammar.specs.declared.faults.Fault.{Fault}
 use Rattle.rx_command.specs.declared.statuses.Status.TheVariants.{Refused}
 use Rattle.rx_command.proofs.RunLemmas.{asks_page, yields, yields_graph, refuses, text_not_refused, refused_no_text, refused_so, not_sample, few_asked, sample_nothing, sample_completes, not_lacking, refused_not_lacking, not_bad, refused_not_bad, read_cause, at_end, to_fault, stops_cleanly}
 use Rattle.rx_command.proofs.top.run.Goals as goal
 
-pub returns-in-Ok-put_all-clause-done : goal.returns-in-Ok-put_all-clause-done
-returns-in-Ok-put_all-clause-done g c =
-    let Grown : List ℕ → Type 0 = λ text. Moves (GrowsBy text) (g.O.Sink.held c.args.out.now) (g.O.Sink.held c.put_all.new.sink) in
-    λ is told e. (c.in-Ok-text_of_job.text.items, yields c.args.words.now _ _ _ _ told (asks_page c.args.words.now c.in-Ok.job c.in-Ok.ensures c.in-None.ensures) c.in-Ok-text_of_job.ensures.ok e, subst Grown c.as_slice.ensures.value c.in-Ok-put_all.ensures.ok)
+pub returns-in-Ok-write-clause-done : goal.returns-in-Ok-write-clause-done
+returns-in-Ok-write-clause-done g c =
+    let Grown : List ℕ → Type 0 = λ text. Moves (GrowsBy text) (g.O.Sink.held c.args.out.now) (g.O.Sink.held c.write.new.out) in
+    λ is told e. (text_of c.in-Ok-outcome_of_job.outcome, yields c.args.words.now _ _ _ _ told (asks_page c.args.words.now c.in-Ok.job c.in-Ok.ensures c.in-None.ensures) c.in-Ok-outcome_of_job.ensures.ok e, c.in-Ok-write.ensures.ok)
 
-pub returns-in-Ok-put_all-clause-denotes : goal.returns-in-Ok-put_all-clause-denotes
-returns-in-Ok-put_all-clause-denotes g c =
-    let Grown : List ℕ → Type 0 = λ text. Moves (GrowsBy text) (g.O.Sink.held c.args.out.now) (g.O.Sink.held c.put_all.new.sink) in
-    λ is told e. (c.in-Ok-text_of_job.text.items, yields_graph c.args.words.now _ _ _ _ told (asks_page c.args.words.now c.in-Ok.job c.in-Ok.ensures c.in-None.ensures) c.in-Ok-text_of_job.ensures.ok e, subst Grown c.as_slice.ensures.value c.in-Ok-put_all.ensures.ok)
+pub returns-in-Ok-write-clause-denotes : goal.returns-in-Ok-write-clause-denotes
+returns-in-Ok-write-clause-denotes g c =
+    let Grown : List ℕ → Type 0 = λ text. Moves (GrowsBy text) (g.O.Sink.held c.args.out.now) (g.O.Sink.held c.write.new.out) in
+    λ is told e. (text_of c.in-Ok-outcome_of_job.outcome, yields_graph c.args.words.now _ _ _ _ told (asks_page c.args.words.now c.in-Ok.job c.in-Ok.ensures c.in-None.ensures) c.in-Ok-outcome_of_job.ensures.ok e, c.in-Ok-write.ensures.ok)
 
-pub returns-in-Ok-put_all-clause-to_end : goal.returns-in-Ok-put_all-clause-to_end
-returns-in-Ok-put_all-clause-to_end g c = λ is. at_end c.args.words.now (page_by c.in-Ok.job) _ _ _ (asks_page c.args.words.now c.in-Ok.job c.in-Ok.ensures c.in-None.ensures) c.in-Ok-text_of_job.ensures.ok
+pub returns-in-Ok-write-clause-to_end : goal.returns-in-Ok-write-clause-to_end
+returns-in-Ok-write-clause-to_end g c = λ is. at_end c.args.words.now (page_by c.in-Ok.job) _ _ _ (asks_page c.args.words.now c.in-Ok.job c.in-Ok.ensures c.in-None.ensures) c.in-Ok-outcome_of_job.ensures.ok
 
-pub returns-in-Ok-put_all-clause-lacking : goal.returns-in-Ok-put_all-clause-lacking
-returns-in-Ok-put_all-clause-lacking g c = λ lacks. absurd (not_lacking c.args.words.now _ _ _ _ (asks_page c.args.words.now c.in-Ok.job c.in-Ok.ensures c.in-None.ensures) c.in-Ok-text_of_job.ensures.ok lacks)
+pub returns-in-Ok-write-clause-lacking : goal.returns-in-Ok-write-clause-lacking
+returns-in-Ok-write-clause-lacking g c = λ lacks. absurd (not_lacking c.args.words.now _ _ _ _ (asks_page c.args.words.now c.in-Ok.job c.in-Ok.ensures c.in-None.ensures) c.in-Ok-outcome_of_job.ensures.ok lacks)
 
-pub returns-in-Ok-put_all-clause-refuses_context : goal.returns-in-Ok-put_all-clause-refuses_context
-returns-in-Ok-put_all-clause-refuses_context g c = λ bad quiet. absurd (not_bad c.args.words.now _ _ _ _ (asks_page c.args.words.now c.in-Ok.job c.in-Ok.ensures c.in-None.ensures) c.in-Ok-text_of_job.ensures.ok bad)
+pub returns-in-Ok-write-clause-refuses_context : goal.returns-in-Ok-write-clause-refuses_context
+returns-in-Ok-write-clause-refuses_context g c = λ bad quiet. absurd (not_bad c.args.words.now _ _ _ _ (asks_page c.args.words.now c.in-Ok.job c.in-Ok.ensures c.in-None.ensures) c.in-Ok-outcome_of_job.ensures.ok bad)
 
-pub returns-in-Ok-put_all-clause-refuses : goal.returns-in-Ok-put_all-clause-refuses
-returns-in-Ok-put_all-clause-refuses g c = λ fault r quiet. absurd (text_not_refused c.args.words.now _ _ _ _ fault (asks_page c.args.words.now c.in-Ok.job c.in-Ok.ensures c.in-None.ensures) c.in-Ok-text_of_job.ensures.ok r)
+pub returns-in-Ok-write-clause-refuses : goal.returns-in-Ok-write-clause-refuses
+returns-in-Ok-write-clause-refuses g c = λ fault r quiet. absurd (text_not_refused c.args.words.now _ _ _ _ fault (asks_page c.args.words.now c.in-Ok.job c.in-Ok.ensures c.in-None.ensures) c.in-Ok-outcome_of_job.ensures.ok r)
 
-pub returns-in-Ok-text_of_job-clause-lacking : goal.returns-in-Ok-text_of_job-clause-lacking
-returns-in-Ok-text_of_job-clause-lacking g c = λ lacks. absurd (not_lacking c.args.words.now _ _ _ _ (asks_page c.args.words.now c.in-Ok.job c.in-Ok.ensures c.in-None.ensures) c.in-Ok-text_of_job.ensures.ok lacks)
+pub returns-in-Ok-outcome_of_job-clause-lacking : goal.returns-in-Ok-outcome_of_job-clause-lacking
+returns-in-Ok-outcome_of_job-clause-lacking g c = λ lacks. absurd (not_lacking c.args.words.now _ _ _ _ (asks_page c.args.words.now c.in-Ok.job c.in-Ok.ensures c.in-None.ensures) c.in-Ok-outcome_of_job.ensures.ok lacks)
 
-pub returns-in-Ok-text_of_job-clause-partly : goal.returns-in-Ok-text_of_job-clause-partly
-returns-in-Ok-text_of_job-clause-partly g c =
-    let Grown : List ℕ → Type 0 = λ text. Moves (GrowsByPart text) (g.O.Sink.held c.args.out.now) (g.O.Sink.held c.put_all.new.sink) in
-    λ is told e. (c.in-Ok-text_of_job.text.items, yields c.args.words.now _ _ _ _ told (asks_page c.args.words.now c.in-Ok.job c.in-Ok.ensures c.in-None.ensures) c.in-Ok-text_of_job.ensures.ok e, subst Grown c.as_slice.ensures.value c.in-Err.ensures.err)
+pub returns-in-Ok-outcome_of_job-clause-partly : goal.returns-in-Ok-outcome_of_job-clause-partly
+returns-in-Ok-outcome_of_job-clause-partly g c =
+    let Grown : List ℕ → Type 0 = λ text. Moves (GrowsByPart text) (g.O.Sink.held c.args.out.now) (g.O.Sink.held c.write.new.out) in
+    λ is told e. (text_of c.in-Ok-outcome_of_job.outcome, yields c.args.words.now _ _ _ _ told (asks_page c.args.words.now c.in-Ok.job c.in-Ok.ensures c.in-None.ensures) c.in-Ok-outcome_of_job.ensures.ok e, subst Grown c.as_slice.ensures.value c.in-Err.ensures.err)
 
-pub returns-in-Ok-text_of_job-clause-refuses_context : goal.returns-in-Ok-text_of_job-clause-refuses_context
-returns-in-Ok-text_of_job-clause-refuses_context g c = λ bad quiet. absurd (not_bad c.args.words.now _ _ _ _ (asks_page c.args.words.now c.in-Ok.job c.in-Ok.ensures c.in-None.ensures) c.in-Ok-text_of_job.ensures.ok bad)
+pub returns-in-Ok-outcome_of_job-clause-refuses_context : goal.returns-in-Ok-outcome_of_job-clause-refuses_context
+returns-in-Ok-outcome_of_job-clause-refuses_context g c = λ bad quiet. absurd (not_bad c.args.words.now _ _ _ _ (asks_page c.args.words.now c.in-Ok.job c.in-Ok.ensures c.in-None.ensures) c.in-Ok-outcome_of_job.ensures.ok bad)
 
-pub returns-in-Ok-text_of_job-clause-refuses : goal.returns-in-Ok-text_of_job-clause-refuses
-returns-in-Ok-text_of_job-clause-refuses g c = λ fault r quiet. absurd (text_not_refused c.args.words.now _ _ _ _ fault (asks_page c.args.words.now c.in-Ok.job c.in-Ok.ensures c.in-None.ensures) c.in-Ok-text_of_job.ensures.ok r)
+pub returns-in-Ok-outcome_of_job-clause-refuses : goal.returns-in-Ok-outcome_of_job-clause-refuses
+returns-in-Ok-outcome_of_job-clause-refuses g c = λ fault r quiet. absurd (text_not_refused c.args.words.now _ _ _ _ fault (asks_page c.args.words.now c.in-Ok.job c.in-Ok.ensures c.in-None.ensures) c.in-Ok-outcome_of_job.ensures.ok r)
 
 pub returns-in-Err-Failed-clause-read_fault : goal.returns-in-Err-Failed-clause-read_fault
 returns-in-Err-Failed-clause-read_fault g c = λ is. read_cause c.args.words.now _ (page_by c.in-Ok.job) _ _ (asks_page c.args.words.now c.in-Ok.job c.in-Ok.ensures c.in-None.ensures) (c.in-Err-Failed.ensures.failed (ap Err c.in-Err-Failed.field-0-is))
@@ -56,7 +56,7 @@ returns-in-Ok-line_of-clause-refused g c =
 pub returns-in-Ok-line_of-clause-refused_takes : goal.returns-in-Ok-line_of-clause-refused_takes
 returns-in-Ok-line_of-clause-refused_takes g c =
     let m = c.in-Err-Refused.ensures.refused c.in-Err-Refused.fault (ap Err c.in-Err-Refused.field-0-is) in
-    λ fault is. let same : c.in-Err-Refused.fault ≡ fault = (cc) in subst (λ (f : Fault). Moves (TakesToFault (page_asked c.args.words.now) f) (g.F.Shelf.told c.args.shelf.now) (g.F.Shelf.told c.text_of_job.new.shelf)) same (to_fault c.args.words.now _ c.in-Err-Refused.fault _ _ (asks_page c.args.words.now c.in-Ok.job c.in-Ok.ensures c.in-None.ensures) m)
+    λ fault is. let same : c.in-Err-Refused.fault ≡ fault = (cc) in subst (λ (f : Fault). Moves (TakesToFault (page_asked c.args.words.now) f) (g.F.Shelf.told c.args.shelf.now) (g.F.Shelf.told c.outcome_of_job.new.shelf)) same (to_fault c.args.words.now _ c.in-Err-Refused.fault _ _ (asks_page c.args.words.now c.in-Ok.job c.in-Ok.ensures c.in-None.ensures) m)
 
 pub returns-in-Ok-line_of-clause-lacking : goal.returns-in-Ok-line_of-clause-lacking
 returns-in-Ok-line_of-clause-lacking g c =

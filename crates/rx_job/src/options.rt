@@ -1,8 +1,8 @@
 //! The options of a command, and their values.
 ghost use Rattle.std.specs.Prelude.{◌≡◌, option_map};
 ghost use Rattle.rx_terms.specs.Text.{Chars};
-ghost use Rattle.rx_command.specs.Jobs.{options_seen, text_in};
-ghost use Rattle.rx_command.specs.Options.{named, put, value_of, with_value};
+ghost use Rattle.rx_job.specs.Jobs.{options_seen, text_in};
+ghost use Rattle.rx_job.specs.Options.{named, put, value_of, with_value};
 
 use crate::words::is_word;
 use rx_terms::Text;

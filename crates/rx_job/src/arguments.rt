@@ -1,7 +1,7 @@
 //! The options and the last word behind a task.
 ghost use Rattle.std.specs.Prelude.{◌≡◌, ◌<◌, ◌∷◌, MatchOption, length, None, Some};
-ghost use Rattle.rx_command.specs.Words.{given};
-ghost use Rattle.rx_command.specs.Jobs.{given_seen};
+ghost use Rattle.rx_job.specs.Words.{given};
+ghost use Rattle.rx_job.specs.Jobs.{given_seen};
 
 use crate::options::Options;
 use rx_terms::Text;

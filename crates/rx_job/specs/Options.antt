@@ -1,9 +1,9 @@
 -- Options, as they are read one after another.
 use Rattle.std.specs.Prelude.{Option, Some, None, is_some, if◌then◌else◌}
 use Rattle.rx_terms.specs.Text.{Chars}
-use Rattle.rx_command.specs.Words.{Given, is_word, syntax_word, format_word, graph_word, context_word, base_word}
-use Rattle.rx_command.specs.declared.options.Name.{Name}
-use Rattle.rx_command.specs.declared.options.Name.TheVariants as name
+use Rattle.rx_job.specs.Words.{Given, is_word, syntax_word, format_word, graph_word, context_word, base_word}
+use Rattle.rx_job.specs.declared.options.Name.{Name}
+use Rattle.rx_job.specs.declared.options.Name.TheVariants as name
 
 abbrev pub word_of : Name → Chars
 word_of name.Syntax = syntax_word

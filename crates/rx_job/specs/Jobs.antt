@@ -2,13 +2,13 @@
 use Rattle.std.specs.Prelude.{◌≡◌, Bool, true, false, [], Option, None, option_map}
 use Rattle.rx_terms.specs.Text.{Chars}
 use Rattle.rx_chars.specs.declared.syntax.Syntax.TheVariants.{Html}
-use Rattle.rx_command.specs.Words.{Asked, Given, Job, reads, samples, extracts, checks, is_graph}
-use Rattle.rx_command.specs.declared.arguments.Arguments.{Arguments as Lent}
-use Rattle.rx_command.specs.declared.options.Options.{Options}
-use Rattle.rx_command.specs.declared.jobs.Job.{Job as CodeJob}
-use Rattle.rx_command.specs.declared.jobs.Job.TheVariants.{Extract, Check, Sample}
-use Rattle.rx_command.specs.declared.jobs.JobError.{JobError}
-use Rattle.rx_command.specs.declared.jobs.JobError.TheVariants as error
+use Rattle.rx_job.specs.Words.{Asked, Given, Job, reads, samples, extracts, checks, is_graph}
+use Rattle.rx_job.specs.declared.arguments.Arguments.{Arguments as Lent}
+use Rattle.rx_job.specs.declared.options.Options.{Options}
+use Rattle.rx_job.specs.declared.jobs.Job.{Job as CodeJob}
+use Rattle.rx_job.specs.declared.jobs.Job.TheVariants.{Extract, Check, Sample}
+use Rattle.rx_job.specs.declared.jobs.JobError.{JobError}
+use Rattle.rx_job.specs.declared.jobs.JobError.TheVariants as error
 use denote.Ref.{Bor}
 
 abbrev pub asked_by : CodeJob → Job

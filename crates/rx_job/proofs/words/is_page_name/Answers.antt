@@ -1,7 +1,7 @@
 use Rattle.std.proofs.Common.{◌≡◌, ◌∙◌, ℕ, List, [], ◌∷◌, Some, None, false, not, ◌==◌, refl, ap, slice_get}
 use Rattle.std.specs.Str.{chars}
-use Rattle.rx_command.specs.Words.{is_page_name}
-use Rattle.rx_command.proofs.words.is_page_name.Goals as goal
+use Rattle.rx_job.specs.Words.{is_page_name}
+use Rattle.rx_job.proofs.words.is_page_name.Goals as goal
 
 at_none : (cs : List ℕ) → None ≡ slice_get cs 0 → false ≡ is_page_name cs
 at_none [] e = refl

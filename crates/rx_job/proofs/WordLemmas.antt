@@ -3,10 +3,10 @@ use Rattle.std.proofs.Common.{◌≡◌, ◌∙◌, ◌<◌, length, arith, is_s
 use Rattle.std.specs.Cmp.Lexicographic.{bytes_decides}
 use Rattle.rx_terms.specs.Text.{Chars}
 use Rattle.rx_reader.proofs.Bools.{by_test}
-use Rattle.rx_command.specs.declared.options.Name.{Name}
-use Rattle.rx_command.specs.declared.options.Name.TheVariants as name
-use Rattle.rx_command.specs.Options.{word_of, named, put, put_named, value_of, with_value, none_given}
-use Rattle.rx_command.specs.Words.{Arguments, Given, arguments, with_option, values, is_option, are_options, at_most_one, all_given, given, given_of, given_with, is_word, syntax_word, format_word, graph_word, context_word, base_word}
+use Rattle.rx_job.specs.declared.options.Name.{Name}
+use Rattle.rx_job.specs.declared.options.Name.TheVariants as name
+use Rattle.rx_job.specs.Options.{word_of, named, put, put_named, value_of, with_value, none_given}
+use Rattle.rx_job.specs.Words.{Arguments, Given, arguments, with_option, values, is_option, are_options, at_most_one, all_given, given, given_of, given_with, is_word, syntax_word, format_word, graph_word, context_word, base_word}
 
 -- what is given where these options stood before the words that are left
 abbrev given_after : List (Chars × Chars) → Option Arguments → Option Given

@@ -1,7 +1,7 @@
 //! What the words of the command line ask for.
 ghost use Rattle.std.specs.Prelude.{◌≡◌, MatchResult, MatchOption, IfOk, Some, true, option_map};
-ghost use Rattle.rx_command.specs.Words.{job, reads, samples, extraction, checking, sampling, syntax_of, is_nquads, is_graph};
-ghost use Rattle.rx_command.specs.Jobs.{asked_by, page_by, given_seen, text_in, FailsJob, FailsGraph, ReadsPage};
+ghost use Rattle.rx_job.specs.Words.{job, reads, samples, extraction, checking, sampling, syntax_of, is_nquads, is_graph};
+ghost use Rattle.rx_job.specs.Jobs.{asked_by, page_by, given_seen, text_in, FailsJob, FailsGraph, ReadsPage};
 
 use crate::arguments::{Arguments, arguments_of};
 use crate::words::{are_names, count_of, is_word};
@@ -153,8 +153,8 @@ impl Job {
         }
     }
 
-    /// How many items the sample page has; none where a page is to be read.
-    pub(crate) fn sample_count(&self) -> Option<u32>
+    /// How many items the sample page has, from 1 to 100,000; None exactly where a page is to be read.
+    pub fn sample_count(&self) -> Option<u32>
         ensures { MatchOption result (ReadsPage self.now) (λ count. asked_by self.now ≡ samples count) }
     {
         match self {
@@ -163,8 +163,8 @@ impl Job {
         }
     }
 
-    /// The name of the context file.
-    pub(crate) fn context(&self) -> Option<&Text>
+    /// The name of the context file, where one is named. A sample has none.
+    pub fn context(&self) -> Option<&Text>
         ensures { text_in result ≡ (page_by self.now).context }
     {
         match self {

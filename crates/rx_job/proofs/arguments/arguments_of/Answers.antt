@@ -1,8 +1,8 @@
 use Rattle.std.proofs.Common.{[], ◌∙◌, sym, ap}
 use Rattle.std.specs.Prelude.{option_map}
-use Rattle.rx_command.specs.Jobs.{options_seen}
-use Rattle.rx_command.proofs.WordLemmas.{reads_all, puts, puts_none, no_word, one_word}
-use Rattle.rx_command.proofs.arguments.arguments_of.Goals as goal
+use Rattle.rx_job.specs.Jobs.{options_seen}
+use Rattle.rx_job.proofs.WordLemmas.{reads_all, puts, puts_none, no_word, one_word}
+use Rattle.rx_job.proofs.arguments.arguments_of.Goals as goal
 
 pub loop-word-init : goal.loop-word-init
 loop-word-init c = reads_all c.args.words.now []

@@ -1,7 +1,7 @@
 use Rattle.std.proofs.Common.{length, []}
-use Rattle.rx_command.specs.Jobs.{text_in}
-use Rattle.rx_command.proofs.WordLemmas.{Reads}
-use Rattle.rx_command.proofs.arguments.arguments_of.Given as goal
+use Rattle.rx_job.specs.Jobs.{text_in}
+use Rattle.rx_job.proofs.WordLemmas.{Reads}
+use Rattle.rx_job.proofs.arguments.arguments_of.Given as goal
 
 abbrev pub invariant-loop-word : goal.invariant-loop-word
 invariant-loop-word l =

@@ -3,15 +3,15 @@ use Rattle.rx_ports.specs.Counts.{Rose}
 use Rattle.rx_ports.specs.Told.{Moves, Lacks}
 use Rattle.rx_ports.proofs.MoveLemmas.{moves_weaker, moves_then}
 use Rattle.rx_rdfa.specs.Names.{Context}
-use Rattle.rx_command.specs.Words.{Asked, Task, Extraction}
-use Rattle.rx_command.specs.Jobs.{page_by}
+use Rattle.rx_job.specs.Words.{Asked, Task, Extraction}
+use Rattle.rx_job.specs.Jobs.{page_by}
 use Rattle.rx_command.specs.Files.{TakesOf}
 use Rattle.rx_command.specs.Reading.{Way, ReadsClean}
 use Rattle.rx_command.specs.Outcome.{way_in}
 use Rattle.rx_command.specs.Inputs.{PageText, PageRefused, JobRefused}
 use Rattle.rx_command.specs.Runs.{TakesFiles, StopsCleanly}
 use Rattle.rx_command.proofs.InputLemmas.{takes_before, takes_both, if_job, job_refused, page_failed, context_stops, page_stops, for_extraction, for_check}
-use Rattle.rx_command.proofs.inputs.text_of_job.Goals as goal
+use Rattle.rx_command.proofs.inputs.outcome_of_job.Goals as goal
 
 pub returns-in-Err-clause-takes : goal.returns-in-Err-clause-takes
 returns-in-Err-clause-takes g c = moves_weaker (TakesFiles (Some (page_by c.args.job.now))) (λ x y t. takes_before (page_by c.args.job.now) _ c.context.ensures x y t) c.read_context.ensures.takes
@@ -26,8 +26,8 @@ pub returns-in-Ok-try_clone-clause-ok : goal.returns-in-Ok-try_clone-clause-ok
 returns-in-Ok-try_clone-clause-ok g c =
     let asked : Asked = page_by c.args.job.now in
     let e : Extraction = record { syntax = c.in-Extract.syntax; graph = c.in-Extract.graph; address = c.in-Extract.address } in
-    if_job (λ text. text.items) c.extract.result asked _ c.in-Ok.context _ _ _ c.context.ensures c.in-Ok.ensures.ok
-    (for_extraction (λ (task : Task) (context : Context) (name : List ℕ). IfOk c.extract.result (λ text. Moves (PageText task context name text.items) (g.F.Shelf.told c.read_context.new.shelf) (g.F.Shelf.told c.extract.new.shelf)))
+    if_job c.extract.result asked _ c.in-Ok.context _ _ _ c.context.ensures c.in-Ok.ensures.ok
+    (for_extraction (λ (task : Task) (context : Context) (name : List ℕ). IfOk c.extract.result (λ outcome. Moves (PageText task context name outcome) (g.F.Shelf.told c.read_context.new.shelf) (g.F.Shelf.told c.extract.new.shelf)))
     asked (record { syntax = c.in-Extract.syntax; context = c.in-Ok.context; address = c.in-Ok-try_clone.address }) c.as_ref.result e c.in-Extract.context c.in-Extract.page (ap page_by c.in-Extract.is) refl c.in-Ok-try_clone.ensures c.as_ref.ensures.value c.extract.ensures.ok)
 
 pub returns-in-Ok-try_clone-clause-refused : goal.returns-in-Ok-try_clone-clause-refused
@@ -60,8 +60,8 @@ returns-in-Ok-try_clone-clause-cleanly g c is =
 pub returns-in-Check-clause-ok : goal.returns-in-Check-clause-ok
 returns-in-Check-clause-ok g c =
     let asked : Asked = page_by c.args.job.now in
-    if_job (λ text. text.items) c.check.result asked _ c.in-Ok.context _ _ _ c.context.ensures c.in-Ok.ensures.ok
-    (for_check (λ (task : Task) (context : Context) (name : List ℕ). IfOk c.check.result (λ text. Moves (PageText task context name text.items) (g.F.Shelf.told c.read_context.new.shelf) (g.F.Shelf.told c.check.new.shelf)))
+    if_job c.check.result asked _ c.in-Ok.context _ _ _ c.context.ensures c.in-Ok.ensures.ok
+    (for_check (λ (task : Task) (context : Context) (name : List ℕ). IfOk c.check.result (λ outcome. Moves (PageText task context name outcome) (g.F.Shelf.told c.read_context.new.shelf) (g.F.Shelf.told c.check.new.shelf)))
     asked c.in-Check.syntax c.in-Check.context c.in-Check.page c.in-Ok.context (ap page_by c.in-Check.is) c.check.ensures.ok)
 
 pub returns-in-Check-clause-refused : goal.returns-in-Check-clause-refused

@@ -5,8 +5,8 @@ ghost use Rattle.std.specs.List.{list_all};
 ghost use Rattle.std.specs.Char.{is_ascii_digit};
 ghost use Rattle.std.specs.Str.{chars};
 ghost use Rattle.rx_terms.specs.Ascii.{is_ascii};
-ghost use Rattle.rx_command.specs.Words.{are_names, count_of, is_file_name, is_number, is_page_name};
-ghost use Rattle.rx_command.specs.Jobs.{text_in};
+ghost use Rattle.rx_job.specs.Words.{are_names, count_of, is_file_name, is_number, is_page_name};
+ghost use Rattle.rx_job.specs.Jobs.{text_in};
 
 use rx_terms::Text;
 
