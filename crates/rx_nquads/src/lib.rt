@@ -7,6 +7,7 @@
 ghost use Rattle.rx_nquads.specs.Document.{StatesOne, DenotesOne};
 ghost use Rattle.rx_nquads.specs.Quads.{ProperStays};
 
+mod pieces;
 mod terms;
 mod writing;
 
