@@ -27,10 +27,10 @@ all_sent waiting text x y z (sent, e, f) g =
 
 part_sent : (waiting text x y z : List ℕ) → SentBut false waiting text x y → GrowsByPart waiting y z → GrowsByPart text x z
 part_sent waiting text x y z (sent, e, f) (n, below, g) = (
-      length sent + n,
-      omega (arith, below, ap length f, length-append sent waiting),
-      g ∙ ap (λ h. h ++ take n waiting) e ∙ append_assoc x sent (take n waiting) ∙ ap (λ h. x ++ h) (sym (ap (take (length sent + n)) f ∙ take_past sent waiting n)),
-    )
+  length sent + n,
+  omega (arith, below, ap length f, length-append sent waiting),
+  g ∙ ap (λ h. h ++ take n waiting) e ∙ append_assoc x sent (take n waiting) ∙ ap (λ h. x ++ h) (sym (ap (take (length sent + n)) f ∙ take_past sent waiting n)),
+)
 
 -- ---- counts of faults
 
@@ -52,26 +52,32 @@ pub bytes_by : {a b : Delivery} {x y : List ℕ} → x ≡ y → AddsBytes a b x
 bytes_by {a} {b} e h = subst (AddsBytes a b) e h
 
 pub kept : (old new : Underway) (held : Option (List ℕ)) (faults : ℕ) (bytes : List ℕ) → new ≡ keeps old bytes → AddsBytes (delivery old held faults) (delivery new held faults) bytes
-kept old new held faults bytes e = subst (λ (u : Underway). AddsBytes (delivery old held faults) (delivery u held faults) bytes) (sym e) (record { stands = λ start before text s. record {
-  told = moves_weaker _ (more_waits old.failed old.waiting text bytes) s.told;
-  later = s.later;
-  cause = s.cause;
-} })
+kept old new held faults bytes e = subst (λ (u : Underway). AddsBytes (delivery old held faults) (delivery u held faults) bytes) (sym e) (record {
+  stands = λ start before text s. record {
+    told = moves_weaker _ (more_waits old.failed old.waiting text bytes) s.told;
+    later = s.later;
+    cause = s.cause;
+  };
+})
 
 module _ (now : Underway) (held next : Option (List ℕ)) (faults after : ℕ) (fine : now.failed ≡ false) (later : faults ≤ after) where
   sent_whole : Moves (GrowsBy now.waiting) held next → AddsBytes (delivery now held faults) (delivery (nothing_waits false) next after) []
-  sent_whole moves = record { stands = λ start before text s. stands_by (sym (append-nil text)) (record {
-    told = moves_then _ (λ x y z p q. all_sent now.waiting text x y z (subst (λ (b : Bool). SentBut b now.waiting text x y) fine p) q) s.told moves;
-    later = omega (arith, s.later, later);
-    cause = λ e. absurd (cc);
-  }) }
+  sent_whole moves = record {
+    stands = λ start before text s. stands_by (sym (append-nil text)) (record {
+      told = moves_then _ (λ x y z p q. all_sent now.waiting text x y z (subst (λ (b : Bool). SentBut b now.waiting text x y) fine p) q) s.told moves;
+      later = omega (arith, s.later, later);
+      cause = λ e. absurd (cc);
+    });
+  }
 
   sent_part : Moves (GrowsByPart now.waiting) held next → Rose faults after → AddsBytes (delivery now held faults) (delivery (nothing_waits true) next after) []
-  sent_part moves rose = record { stands = λ start before text s. stands_by (sym (append-nil text)) (record {
-    told = moves_then _ (λ x y z p q. part_sent now.waiting text x y z (subst (λ (b : Bool). SentBut b now.waiting text x y) fine p) q) s.told moves;
-    later = omega (arith, s.later, later);
-    cause = λ _. later_rose before faults after s.later rose;
-  }) }
+  sent_part moves rose = record {
+    stands = λ start before text s. stands_by (sym (append-nil text)) (record {
+      told = moves_then _ (λ x y z p q. part_sent now.waiting text x y z (subst (λ (b : Bool). SentBut b now.waiting text x y) fine p) q) s.told moves;
+      later = omega (arith, s.later, later);
+      cause = λ _. later_rose before faults after s.later rose;
+    });
+  }
 
   -- what waited was given to the sink
   pub sent : (r : Result (Unit {0}) Failed) → OnOk r (Moves (GrowsBy now.waiting) held next) → OnErr r (Moves (GrowsByPart now.waiting) held next) → OnErr r (Rose faults after)
@@ -81,11 +87,13 @@ module _ (now : Underway) (held next : Option (List ℕ)) (faults after : ℕ) (
 
 -- a sink that failed is given nothing
 pub sent_nothing : (now : Underway) (held : Option (List ℕ)) (faults : ℕ) → now.failed ≡ true → AddsBytes (delivery now held faults) (delivery (nothing_waits true) held faults) []
-sent_nothing now held faults failed = record { stands = λ start before text s. stands_by (sym (append-nil text)) (record {
-  told = subst (λ (b : Bool). Moves (SentBut b now.waiting text) start held) failed s.told;
-  later = s.later;
-  cause = λ _. s.cause failed;
-}) }
+sent_nothing now held faults failed = record {
+  stands = λ start before text s. stands_by (sym (append-nil text)) (record {
+    told = subst (λ (b : Bool). Moves (SentBut b now.waiting text) start held) failed s.told;
+    later = s.later;
+    cause = λ _. s.cause failed;
+  });
+}
 
 -- ---- bytes of which pieces are made
 

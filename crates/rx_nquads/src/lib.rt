@@ -9,9 +9,10 @@ ghost use Rattle.rx_nquads.specs.Quads.{ProperStays};
 
 mod pieces;
 mod terms;
+mod whole;
 mod writing;
 
-pub use writing::text;
+pub use writing::{WriteError, text, write};
 
 /// A line states at most one quad.
 pub fn a_line_states_one()

@@ -3,7 +3,7 @@ use Rattle.rx_nquads.proofs.Adding.{adds_label}
 use Rattle.rx_nquads.proofs.terms.push_label.Goals as goal
 
 pub returns-clause-adds : goal.returns-clause-adds
-returns-clause-adds c =
+returns-clause-adds g c =
     let w = c.put_label-start in
-    adds_label _ _ _ c.args.blank.0 (drop 23 c.args.text.now) (search rules) c.requires.ascii c.in_ok-extend_from_slice.ensures.items
+    adds_label _ c.args.blank.0 (drop 23 c.args.text.now) (search rules) c.requires.ascii c.add.ensures
     (take_all (length w.new.text - w.result) (drop w.result w.new.text) (omega (arith, length-drop w.result w.new.text)) ∙ w.ensures.written)
