@@ -18,7 +18,7 @@ use Rattle.rx_model.specs.Terms.{Triple}
 use Rattle.rx_nquads.specs.Writing.{is_escaped, escaped_char, escaped_text, iri_text, blank_text, node_text, term_text, graph_text, line_text}
 use Rattle.rx_nquads.specs.Underway.{Delivery, AddsBytes}
 use Rattle.rx_nquads.specs.Writable.{Adds, WritableText, WritableIri, WritableTag}
-use Rattle.rx_nquads.proofs.Sending.{bytes_then, bytes_nothing, bytes_by}
+use Rattle.rx_nquads.proofs.Sending.{bytes_then, bytes_nothing, bytes_by, bytes_failed}
 
 pub adds_then : {a b c : Delivery} {x y : Chars} → Adds a b x → Adds b c y → Adds a c (x ++ y)
 adds_then {x = x} {y = y} h k = record { bytes = bytes_by (sym (encodes-append x y)) (bytes_then h.bytes k.bytes) }
@@ -28,6 +28,10 @@ adds_nothing a = record { bytes = bytes_nothing a }
 
 pub adds_by : {a b : Delivery} {x y : Chars} → x ≡ y → Adds a b x → Adds a b y
 adds_by e h = record { bytes = bytes_by (ap encode_utf8_all e) h.bytes }
+
+-- where the sink failed, anything more may be said to be handed over
+pub adds_failed : {a b : Delivery} {x : Chars} (y : Chars) → b.underway.failed ≡ true → Adds a b x → Adds a b (x ++ y)
+adds_failed {x = x} y failed h = record { bytes = bytes_by (sym (encodes-append x y)) (bytes_failed (encode_utf8_all y) failed h.bytes) }
 
 -- where nothing is escaped
 plain_char : (c : ℕ) → is_escaped c ≡ false → escaped_char c ≡ c ∷ []

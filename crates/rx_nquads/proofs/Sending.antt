@@ -1,5 +1,5 @@
 -- Bytes handed over to a sink, one part after another.
-use Rattle.std.proofs.Common.{◌≡◌, ◌∙◌, ℕ, ◌+◌, ◌<◌, ◌≤◌, Bool, true, false, List, [], ◌∷◌, ◌++◌, length, take, drop, Option, refl, sym, ap, ap₂, subst, append_assoc, append-nil, length-append, take-append-drop, Result, Ok, Err, OnOk, OnErr, is_err, take-add, arith}
+use Rattle.std.proofs.Common.{◌≡◌, ◌∙◌, ℕ, ◌+◌, ◌<◌, ◌≤◌, Bool, true, false, List, [], ◌∷◌, ◌++◌, length, take, drop, Option, refl, sym, ap, ap₂, subst, append_assoc, append-nil, length-append, take-append-drop, Result, Ok, Err, OnOk, OnErr, is_err, take-add, Some, arith}
 use Rattle.std.proofs.lemmas.List.{take_at, drop_at, take-append-le}
 use Rattle.rx_ports.specs.Counts.{Rose}
 use Rattle.rx_ports.specs.Told.{Moves, GrowsBy, GrowsByPart}
@@ -50,6 +50,19 @@ bytes_nothing a = record { stands = λ start before text s. stands_by (sym (appe
 
 pub bytes_by : {a b : Delivery} {x y : List ℕ} → x ≡ y → AddsBytes a b x → AddsBytes a b y
 bytes_by {a} {b} e h = subst (AddsBytes a b) e h
+
+lost : {start : Option (List ℕ)} {before : ℕ} {text : List ℕ} {now : Delivery} (more : List ℕ) → now.underway.failed ≡ true → Stands start before text now → Stands start before (text ++ more) now
+lost {start} {before} {text} {now} more failed s = record {
+  told = moves_weaker _ (λ x y p.
+      let part : GrowsByPart text x y = subst (λ (b : Bool). SentBut b now.underway.waiting text x y) failed p in
+      subst (λ (b : Bool). SentBut b now.underway.waiting (text ++ more) x y) (sym failed) (part_longer text more x y part)) s.told;
+  later = s.later;
+  cause = s.cause;
+}
+
+-- where the sink failed, anything more may be said to be handed over
+pub bytes_failed : {a b : Delivery} {x : List ℕ} (y : List ℕ) → b.underway.failed ≡ true → AddsBytes a b x → AddsBytes a b (x ++ y)
+bytes_failed {x = x} y failed h = record { stands = λ start before text s. stands_by (append_assoc text x y) (lost y failed (h.stands start before text s)) }
 
 pub kept : (old new : Underway) (held : Option (List ℕ)) (faults : ℕ) (bytes : List ℕ) → new ≡ keeps old bytes → AddsBytes (delivery old held faults) (delivery new held faults) bytes
 kept old new held faults bytes e = subst (λ (u : Underway). AddsBytes (delivery old held faults) (delivery u held faults) bytes) (sym e) (record {
@@ -118,3 +131,25 @@ all_over h k = bytes_by (sym h.whole) (bytes_then h.adds k)
 
 pub cut_at : (n : ℕ) (rest front behind : List ℕ) → front ≡ take n rest → behind ≡ drop n rest → rest ≡ front ++ behind
 cut_at n rest front behind e f = sym (ap₂ ◌++◌ e f ∙ take-append-drop n rest)
+
+-- ---- the end
+
+-- nothing was handed over yet
+start_stands : (first : Underway) (held : Option (List ℕ)) (faults : ℕ) → first ≡ nothing_waits false → Stands held faults [] (delivery first held faults)
+start_stands first held faults e = subst (λ (u : Underway). Stands held faults [] (delivery u held faults)) (sym e) (record {
+  told = moves_same _ (λ x. ([], sym (append-nil x), refl)) held;
+  later = omega arith;
+  cause = λ f. absurd (cc);
+})
+
+-- a text was handed over, and then all was sent that waited
+pub end_stands : {first : Underway} {held : Option (List ℕ)} {faults : ℕ} {text : List ℕ} {filled last : Delivery} → first ≡ nothing_waits false → AddsBytes (delivery first held faults) filled text → AddsBytes filled last []
+    → Stands held faults text last
+end_stands {first} {held} {faults} {text} e h k = stands_by (append-nil text) ((bytes_then h k).stands held faults [] (start_stands first held faults e))
+
+pub whole_sent : {held next : Option (List ℕ)} {faults after : ℕ} (text : List ℕ) → Stands held faults text (delivery (nothing_waits false) next after) → Moves (GrowsBy text) held next
+whole_sent text s = moves_weaker _ (λ x y (sent, e, f). e ∙ ap (λ z. x ++ z) (sym (f ∙ append-nil sent))) s.told
+
+-- a sink that held nothing, and tells what it holds, holds the text
+pub holds_text : (x y text : List ℕ) → x ≡ [] → Moves (GrowsBy text) (Some x) (Some y) → y ≡ text
+holds_text x y text e m = m.taken x y refl refl ∙ ap (λ z. z ++ text) e
