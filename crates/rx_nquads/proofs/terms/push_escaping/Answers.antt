@@ -3,6 +3,7 @@ use Rattle.std.specs.Str.{chars}
 use Rattle.std.specs.Str.Iter.{chars_rest}
 use Rattle.std.proofs.lemmas.Str.{chars_past_char, IsUtf8-past_char}
 use Rattle.rx_terms.proofs.CharLemmas.{chars-end}
+use Rattle.rx_nquads.specs.Underway.{delivery}
 use Rattle.rx_nquads.proofs.Adding.{left_start, left_less, left_none}
 use Rattle.rx_nquads.proofs.terms.push_escaping.Goals as goal
 
@@ -18,12 +19,14 @@ loop-c-init g c =
 
 pub loop-c-preserved : goal.loop-c-preserved
 loop-c-preserved g c =
-    let next = chars_past_char _ _ _ c.loop-c.invariant.utf8 c.in-Some.ensures.steps.0 in
+    let behind = chars_past_char _ _ _ c.loop-c.invariant.utf8 c.in-Some.ensures.steps.0 in
+    let p = c.push_char in
     record {
       can_next = tt;
       finite = tt;
       utf8 = IsUtf8-past_char _ _ _ c.loop-c.invariant.utf8 c.in-Some.ensures.steps.0;
-      left = left_less c.in-Some.c _ c.loop-c.invariant.left next c.push_char.ensures;
+      left = left_less {start = delivery c.args.out.now (g.S.Sink.held c.args.sink.now) (g.S.Sink.faults c.args.sink.now)} {next = delivery p.new.out (g.S.Sink.held p.new.sink) (g.S.Sink.faults p.new.sink)} c.in-Some.c _
+          c.loop-c.invariant.left behind p.ensures;
     }
 
 pub returns : goal.returns

@@ -1,5 +1,4 @@
-use Rattle.std.proofs.Common.{◌∙◌, ap}
-use Rattle.std.specs.Str.{chars}
+use Rattle.std.proofs.Common.{◌∙◌}
 use Rattle.rx_nquads.proofs.Sending.{holds_text}
 use Rattle.rx_nquads.proofs.writing.text.Goals as goal
 
