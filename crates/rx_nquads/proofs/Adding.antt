@@ -1,5 +1,5 @@
 -- Characters added to a text, one part after another.
-use Rattle.std.proofs.Common.{◌≡◌, ◌∙◌, ℕ, ◌<◌, ◌≤◌, ◌^◌, true, false, ◌||◌, ◌==◌, List, [], ◌∷◌, ◌++◌, sym, ap, ap₂, refl, subst, append_assoc, append-nil, Result, Ok, Err, OnOk, IsAscii, suc, codes, Bool, encode_utf8, Option, arith, ◌-◌, length, drop, set, length-set, ◌+◌}
+use Rattle.std.proofs.Common.{◌≡◌, ◌∙◌, ℕ, ◌<◌, ◌≤◌, ◌^◌, true, false, ◌||◌, ◌==◌, List, [], ◌∷◌, ◌++◌, sym, ap, ap₂, refl, subst, append_assoc, append-nil, IsAscii, suc, codes, Bool, encode_utf8, Option, arith, ◌-◌, length, drop, set, length-set, ◌+◌}
 use Rattle.std.proofs.lemmas.Bool.{and_from, and_parts, or_parts}
 use Rattle.std.proofs.lemmas.Bool.Decides.{nat_tests}
 use Rattle.std.specs.Str.{chars, IsUtf8, encode_utf8_all}
@@ -16,22 +16,22 @@ use Rattle.rx_terms.specs.Lang.{is_lang}
 use Rattle.rx_terms.proofs.CharLemmas.{ascii-chars, ascii-same}
 use Rattle.rx_model.specs.Terms.{Triple}
 use Rattle.rx_nquads.specs.Writing.{is_escaped, escaped_char, escaped_text, iri_text, blank_text, node_text, term_text, graph_text, line_text}
+use Rattle.rx_nquads.specs.Underway.{Delivery, AddsBytes}
 use Rattle.rx_nquads.specs.Writable.{Adds, WritableText, WritableIri, WritableTag}
+use Rattle.rx_nquads.proofs.Sending.{bytes_then, bytes_nothing, bytes_by, bytes_failed}
 
-pub if_ok : {A E P Q : Type 0} (r : Result A E) → (P → Q) → OnOk r P → OnOk r Q
-if_ok (Ok a) f h = f h
-if_ok (Err e) f h = h
+pub adds_then : {a b c : Delivery} {x y : Chars} → Adds a b x → Adds b c y → Adds a c (x ++ y)
+adds_then {x = x} {y = y} h k = record { bytes = bytes_by (sym (encodes-append x y)) (bytes_then h.bytes k.bytes) }
 
-pub adds_then : {a b c : List ℕ} {x y : Chars} → Adds a b x → Adds b c y → Adds a c (x ++ y)
-adds_then {a} {b} {c} {x} {y} h k = record {
-  bytes = k.bytes ∙ ap (λ z. z ++ encode_utf8_all y) h.bytes ∙ append_assoc a (encode_utf8_all x) (encode_utf8_all y) ∙ ap (λ z. a ++ z) (sym (encodes-append x y));
-}
+pub adds_nothing : (a : Delivery) → Adds a a []
+adds_nothing a = record { bytes = bytes_nothing a }
 
-pub adds_nothing : (a : List ℕ) → Adds a a []
-adds_nothing a = record { bytes = sym (append-nil a) }
+pub adds_by : {a b : Delivery} {x y : Chars} → x ≡ y → Adds a b x → Adds a b y
+adds_by e h = record { bytes = bytes_by (ap encode_utf8_all e) h.bytes }
 
-pub adds_by : {a b : List ℕ} {x y : Chars} → x ≡ y → Adds a b x → Adds a b y
-adds_by {a} e h = record { bytes = h.bytes ∙ ap (λ z. a ++ encode_utf8_all z) e }
+-- where the sink failed, anything more may be said to be handed over
+pub adds_failed : {a b : Delivery} {x : Chars} (y : Chars) → b.underway.failed ≡ true → Adds a b x → Adds a b (x ++ y)
+adds_failed {x = x} y failed h = record { bytes = bytes_by (sym (encodes-append x y)) (bytes_failed (encode_utf8_all y) failed h.bytes) }
 
 -- where nothing is escaped
 plain_char : (c : ℕ) → is_escaped c ≡ false → escaped_char c ≡ c ∷ []
@@ -48,11 +48,16 @@ plain_text (c ∷ text) h =
     ap₂ ◌++◌ (plain_char c none.0) (plain_text text none.1)
 
 -- a literal of ASCII is its own characters
-pub literal : {a b : List ℕ} (text : List ℕ) → list_all is_ascii text ≡ true → Adds a b (chars text) → Adds a b text
+pub literal : {a b : Delivery} (text : List ℕ) → list_all is_ascii text ≡ true → Adds a b (chars text) → Adds a b text
 literal text h k = adds_by (ascii-chars text h) k
 
-pub ascii_bytes : (a b text : List ℕ) → list_all is_ascii text ≡ true → b ≡ a ++ text → Adds a b text
-ascii_bytes a b text h k = record { bytes = k ∙ ap (λ z. a ++ z) (sym (ascii-same text h).0) }
+-- bytes that are ASCII are their characters
+pub ascii_bytes : {a b : Delivery} (text : List ℕ) → list_all is_ascii text ≡ true → AddsBytes a b text → Adds a b text
+ascii_bytes text h k = record { bytes = bytes_by (sym (ascii-same text h).0) k }
+
+-- bytes that are UTF-8 are those of their characters
+pub utf8_bytes : {a b : Delivery} (text : List ℕ) → IsUtf8 text → AddsBytes a b text → Adds a b (chars text)
+utf8_bytes text u k = record { bytes = bytes_by (sym (encodes-chars text u)) k }
 
 pub text_of : (bs : List ℕ) (text : Chars) → IsUtf8 bs → chars bs ≡ text → WritableText text
 text_of bs text u e = subst WritableText e (record { scalars = scalars-chars bs u })
@@ -73,10 +78,10 @@ ascii_both : (xs ys : List ℕ) → list_all is_ascii xs ≡ true → list_all i
 ascii_both [] ys p q = q
 ascii_both (x ∷ xs) ys p q = let parts = and_parts _ _ p in and_from _ _ parts.0 (ascii_both xs ys parts.1 q)
 
-pub adds_label : (a b text : List ℕ) (number : ℕ) (behind : List ℕ) → number < 2 ^ 64 → list_all is_ascii behind ≡ true → b ≡ a ++ text → text ≡ codes "_:b" ++ (decimal number ++ behind) → Adds a b (blank_text number ++ behind)
-adds_label a b text number behind fits plain e spelled =
+pub adds_label : {a b : Delivery} (text : List ℕ) (number : ℕ) (behind : List ℕ) → number < 2 ^ 64 → list_all is_ascii behind ≡ true → AddsBytes a b text → text ≡ codes "_:b" ++ (decimal number ++ behind) → Adds a b (blank_text number ++ behind)
+adds_label text number behind fits plain h spelled =
     let all : list_all is_ascii (codes "_:b" ++ (decimal number ++ behind)) ≡ true = ascii_both (decimal number) behind (all_ascii (decimal number) (IsAscii-decimal number fits)) plain in
-    ascii_bytes a b (codes "_:b" ++ (decimal number ++ behind)) all (e ∙ ap (λ z. a ++ z) spelled)
+    ascii_bytes (codes "_:b" ++ (decimal number ++ behind)) all (bytes_by spelled h)
 
 -- the three bytes before the digits
 pub labelled : (text digits : List ℕ) (start : ℕ) → 3 ≤ start → start ≤ length text → drop start text ≡ digits
@@ -100,19 +105,19 @@ iri_before : (iri rest : Chars) → codes "<" ++ (iri ++ (codes ">" ++ rest)) �
 iri_before iri rest = ap (λ z. codes "<" ++ z) (sym (append_assoc iri (codes ">") rest))
 
 -- words of ASCII around an IRI
-between : {a b : List ℕ} (front iri behind : List ℕ) → list_all is_ascii front ≡ true → list_all is_ascii behind ≡ true → Adds a b (chars front ++ (iri ++ chars behind)) → Adds a b (front ++ (iri ++ behind))
+between : {a b : Delivery} (front iri behind : List ℕ) → list_all is_ascii front ≡ true → list_all is_ascii behind ≡ true → Adds a b (chars front ++ (iri ++ chars behind)) → Adds a b (front ++ (iri ++ behind))
 between front iri behind p q h = adds_by (ap₂ (λ x y. x ++ (iri ++ y)) (ascii-chars front p) (ascii-chars behind q)) h
 
-pub iri_subject : {a b : List ℕ} (iri : Chars) → Adds a b (chars (codes "<") ++ (iri ++ chars (codes "> <"))) → Adds a b (iri_text iri ++ codes " <")
+pub iri_subject : {a b : Delivery} (iri : Chars) → Adds a b (chars (codes "<") ++ (iri ++ chars (codes "> <"))) → Adds a b (iri_text iri ++ codes " <")
 iri_subject iri h = adds_by (iri_before iri (codes " <")) (between (codes "<") iri (codes "> <") refl refl h)
 
-pub iri_object : {a b : List ℕ} (iri : Chars) → Adds a b (chars (codes "> <") ++ (iri ++ chars (codes "> "))) → Adds a b (codes "> " ++ (iri_text iri ++ codes " "))
+pub iri_object : {a b : Delivery} (iri : Chars) → Adds a b (chars (codes "> <") ++ (iri ++ chars (codes "> "))) → Adds a b (codes "> " ++ (iri_text iri ++ codes " "))
 iri_object iri h = adds_by (ap (λ z. codes "> " ++ z) (iri_before iri (codes " "))) (between (codes "> <") iri (codes "> ") refl refl h)
 
-pub iri_datatype : {a b : List ℕ} (iri : Chars) → Adds a b (chars (codes "\"^^<") ++ (iri ++ chars (codes "> "))) → Adds a b (codes "\"" ++ ((codes "^^" ++ iri_text iri) ++ codes " "))
+pub iri_datatype : {a b : Delivery} (iri : Chars) → Adds a b (chars (codes "\"^^<") ++ (iri ++ chars (codes "> "))) → Adds a b (codes "\"" ++ ((codes "^^" ++ iri_text iri) ++ codes " "))
 iri_datatype iri h = adds_by (ap (λ z. codes "\"^^" ++ z) (iri_before iri (codes " "))) (between (codes "\"^^<") iri (codes "> ") refl refl h)
 
-pub iri_name : {a b : List ℕ} (iri : Chars) → Adds a b (chars (codes "<") ++ (iri ++ chars (codes "> "))) → Adds a b (iri_text iri ++ codes " ")
+pub iri_name : {a b : Delivery} (iri : Chars) → Adds a b (chars (codes "<") ++ (iri ++ chars (codes "> "))) → Adds a b (iri_text iri ++ codes " ")
 iri_name iri h = adds_by (iri_before iri (codes " ")) (between (codes "<") iri (codes "> ") refl refl h)
 
 pub literal_object : (text kind : Chars) → (codes "> \"" ++ text) ++ (codes "\"" ++ (kind ++ codes " ")) ≡ codes "> " ++ (((codes "\"" ++ (text ++ codes "\"")) ++ kind) ++ codes " ")
@@ -145,18 +150,25 @@ none_escaped bs u h = none_by_bytes (chars bs) (ap (list_any is_escaped) (encode
 
 -- ---- a string, character by character
 
--- with what is left of the text
-pub record Left (start out : List ℕ) (whole left : Chars) : Type 0 where
-  pub bytes : start ++ encode_utf8_all (escaped_text whole) ≡ out ++ encode_utf8_all (escaped_text left)
+escaped_one_more : (text : Chars) (c : ℕ) → escaped_text (text ++ c ∷ []) ≡ escaped_text text ++ escaped_char c
+escaped_one_more [] c = append-nil (escaped_char c)
+escaped_one_more (d ∷ text) c = ap (λ z. escaped_char d ++ z) (escaped_one_more text c) ∙ sym (append_assoc (escaped_char d) (escaped_text text) (escaped_char c))
 
-pub left_start : (start : List ℕ) (whole left : Chars) → left ≡ whole → Left start start whole left
-left_start start whole left e = record { bytes = ap (λ z. start ++ encode_utf8_all (escaped_text z)) (sym e) }
+-- a front of the text is written, and this is left
+pub record Left (start now : Delivery) (whole left : Chars) : Type 0 where
+  pub front : Chars
+  pub adds : Adds start now (escaped_text front)
+  pub both : whole ≡ front ++ left
 
-pub left_less : {start out next : List ℕ} {whole left : Chars} (c : ℕ) (rest : Chars) → Left start out whole left → left ≡ c ∷ rest → Adds out next (escaped_char c) → Left start next whole rest
-left_less {start} {out} {next} c rest h e k = record {
-  bytes = h.bytes ∙ ap (λ z. out ++ encode_utf8_all (escaped_text z)) e ∙ ap (λ z. out ++ z) (encodes-append (escaped_char c) (escaped_text rest))
-      ∙ sym (append_assoc out (encode_utf8_all (escaped_char c)) (encode_utf8_all (escaped_text rest))) ∙ ap (λ z. z ++ encode_utf8_all (escaped_text rest)) (sym k.bytes);
+pub left_start : (start : Delivery) (whole left : Chars) → left ≡ whole → Left start start whole left
+left_start start whole left e = record { front = []; adds = adds_nothing start; both = sym e }
+
+pub left_less : {start now next : Delivery} {whole left : Chars} (c : ℕ) (rest : Chars) → Left start now whole left → left ≡ c ∷ rest → Adds now next (escaped_char c) → Left start next whole rest
+left_less c rest h e k = record {
+  front = h.front ++ c ∷ [];
+  adds = adds_by (sym (escaped_one_more h.front c)) (adds_then h.adds k);
+  both = h.both ∙ ap (λ z. h.front ++ z) e ∙ sym (append_assoc h.front (c ∷ []) rest);
 }
 
-pub left_none : {start out : List ℕ} {whole left : Chars} → Left start out whole left → left ≡ [] → Adds start out (escaped_text whole)
-left_none {start} {out} h e = record { bytes = sym (h.bytes ∙ ap (λ z. out ++ encode_utf8_all (escaped_text z)) e ∙ append-nil out) }
+pub left_none : {start now : Delivery} {whole left : Chars} → Left start now whole left → left ≡ [] → Adds start now (escaped_text whole)
+left_none h e = adds_by (ap escaped_text (sym (h.both ∙ ap (λ z. h.front ++ z) e ∙ append-nil h.front))) h.adds

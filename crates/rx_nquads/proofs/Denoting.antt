@@ -1,5 +1,5 @@
 -- What the text of a graph denotes.
-use Rattle.std.proofs.Common.{◌≡◌, ◌⊎◌, ℕ, ◌+◌, ◌<◌, ◌≤◌, ◌^◌, Bool, true, false, not, ◌==◌, List, [], ◌∷◌, ◌++◌, map, length, take, slice_get, get_or, codes, Option, Some, None, refl, sym, ap, ap₂, ◌∙◌, inl, inr, subst, arith, append_assoc, append-nil}
+use Rattle.std.proofs.Common.{◌≡◌, ◌⊎◌, ℕ, ◌+◌, ◌<◌, ◌≤◌, ◌^◌, Bool, true, false, not, ◌==◌, List, [], ◌∷◌, ◌++◌, map, length, take, slice_get, get_or, codes, Option, Some, None, refl, sym, ap, ap₂, ◌∙◌, inl, inr, subst, arith, append_assoc, append-nil, take-append-drop, drop}
 use Rattle.std.specs.Str.{chars, encode_utf8_all, all_scalars}
 use Rattle.std.specs.Fmt.{decimal}
 use Rattle.std.specs.List.{list_all}
@@ -8,7 +8,7 @@ use Rattle.std.proofs.lemmas.Bool.{and_parts, and_from}
 use Rattle.std.proofs.lemmas.Bool.Decides.{nat_tests}
 use Rattle.std.proofs.lemmas.Fmt.{decimal_is_IsNumeral, decimal_digit, first_decimal, IsAscii-decimal}
 use Rattle.std.proofs.lemmas.Str.{chars-encodes}
-use Rattle.std.proofs.lemmas.List.{take_all}
+use Rattle.std.proofs.lemmas.List.{take_all, map-append}
 use Rattle.rx_terms.specs.Ascii.{line_feed, carriage_return, space, quotation_mark, reverse_solidus, full_stop, is_ascii}
 use Rattle.rx_terms.specs.Text.{Chars}
 use Rattle.rx_terms.proofs.CharLemmas.{ascii-same}
@@ -22,10 +22,11 @@ use Rattle.rx_nquads.specs.Quads.{proper_kind, proper_term, quad_of, quads}
 use Rattle.rx_nquads.specs.Spelling.{SpellsIri, SpellsLabel, SpellsNode, has_leading_zero, escape, SpellsString, nothing, itself, escaped, SpellsKind, plain, tagged, typed, SpellsTerm}
 use Rattle.rx_nquads.specs.Document.{SpellsGraph, States, Nquads, joined_lines}
 use Rattle.rx_nquads.specs.Writing.{escaped_char, escaped_text, string_text, iri_text, blank_text, node_text, kind_text, term_text, graph_text, line_text, nquads}
+use Rattle.rx_nquads.specs.Underway.{Delivery}
 use Rattle.rx_nquads.specs.Writable.{Adds, WritableText, WritableIri, WritableNode, WritableKind, WritableTerm, WritableName, WritableTriple}
 use Rattle.rx_nquads.proofs.Cuts.{lacks, differs, lacks_append}
 use Rattle.rx_nquads.proofs.OneMeaning.{line_feed_marks, iri_lacks, node_lacks, kind_lacks, states_one}
-use Rattle.rx_nquads.proofs.Adding.{adds_then, adds_by, all_ascii}
+use Rattle.rx_nquads.proofs.Adding.{adds_then, adds_by, adds_failed, all_ascii}
 
 -- ---- terms are spelled
 
@@ -230,7 +231,7 @@ text_writable name (t ∷ list) w = joined (line_writable name t (w t (inl refl)
 -- ---- the loop over the triples
 
 -- the lines of the first triples are written, and these are writable
-pub record Written (start out : List ℕ) (name : Option Chars) (list : List CodeTriple) (i : ℕ) : Type 0 where
+pub record Written (start out : Delivery) (name : Option Chars) (list : List CodeTriple) (i : ℕ) : Type 0 where
   pub adds : Adds start out (nquads (triples_seen (take i list)) name)
   pub writable : (t : Triple ℕ) → Among (triples_seen (take i list)) t → WritableTriple name t
 
@@ -241,7 +242,7 @@ nquads_more (u ∷ list) t name = ap (λ z. line_text name u ++ z) (nquads_more 
 among_last : (list : List (Triple ℕ)) (t u : Triple ℕ) → Among (list ++ t ∷ []) u → Among list u ⊎ (t ≡ u)
 among_last list t u m = elim (Among_cases list (t ∷ []) u m) [ inl h ↦ inl h | inr h ↦ elim h [ inl e ↦ inr e | inr n ↦ absurd n ] ]
 
-pub written_more : {start out next : List ℕ} {name : Option Chars} (list : List CodeTriple) (i : ℕ) (t : CodeTriple) → slice_get list i ≡ Some t
+pub written_more : {start out next : Delivery} {name : Option Chars} (list : List CodeTriple) (i : ℕ) (t : CodeTriple) → slice_get list i ≡ Some t
     → Written start out name list i → Adds out next (line_text name (triple_seen t)) → WritableTriple name (triple_seen t) → Written start next name list (i + 1)
 written_more {name = name} list i t at w adds writable =
     let more = seen_more list i t at in
@@ -250,15 +251,26 @@ written_more {name = name} list i t at w adds writable =
       writable = λ u m. elim (among_last (triples_seen (take i list)) (triple_seen t) u (subst (λ (z : List (Triple ℕ)). Among z u) more m)) [ inl h ↦ w.writable u h | inr e ↦ subst (WritableTriple name) e writable ];
     }
 
-module _ (out : List ℕ) (name : Option Chars) (list : List CodeTriple) (i : ℕ) (all : length list ≤ i) (w : Written [] out name list i) where
-  all_written : out ≡ encode_utf8_all (nquads (triples_seen list) name)
-  all_written = w.adds.bytes ∙ ap (λ z. encode_utf8_all (nquads (triples_seen z) name)) (take_all i list all)
+nquads_both : (xs ys : List (Triple ℕ)) (name : Option Chars) → nquads (xs ++ ys) name ≡ nquads xs name ++ nquads ys name
+nquads_both [] ys name = refl
+nquads_both (x ∷ xs) ys name = ap (λ z. line_text name x ++ z) (nquads_both xs ys name) ∙ sym (append_assoc (line_text name x) (nquads xs name) (nquads ys name))
 
-  all_writable : (t : Triple ℕ) → Among (triples_seen list) t → WritableTriple name t
-  all_writable t m = w.writable t (subst (λ (z : List CodeTriple). Among (triples_seen z) t) (sym (take_all i list all)) m)
+nquads_cut : (list : List CodeTriple) (i : ℕ) (name : Option Chars) → nquads (triples_seen (take i list)) name ++ nquads (triples_seen (drop i list)) name ≡ nquads (triples_seen list) name
+nquads_cut list i name =
+    sym (nquads_both (triples_seen (take i list)) (triples_seen (drop i list)) name) ∙ ap (λ z. nquads z name) (sym (map-append triple_seen (take i list) (drop i list)) ∙ ap triples_seen (take-append-drop i list))
 
-  pub written_end : out ≡ encode_utf8_all (nquads (triples_seen list) name)
-  written_end = all_written
+module _ {start out : Delivery} (name : Option Chars) (list : List CodeTriple) (i : ℕ) (w : Written start out name list i) where
+  -- the sink failed, and no more is written
+  pub written_failed : out.underway.failed ≡ true → Adds start out (nquads (triples_seen list) name)
+  written_failed failed = adds_by (nquads_cut list i name) (adds_failed _ failed w.adds)
 
-  pub denotes_end : Nquads (chars out) (quads (triples_seen list) name)
-  denotes_end = subst (λ (z : Chars). Nquads z (quads (triples_seen list) name)) (sym (ap chars all_written ∙ chars-encodes (nquads (triples_seen list) name) (text_writable name (triples_seen list) all_writable).scalars)) (denotes name (triples_seen list) all_writable)
+  pub written_end : length list ≤ i → Adds start out (nquads (triples_seen list) name)
+  written_end all = adds_by (ap (λ z. nquads (triples_seen z) name) (take_all i list all)) w.adds
+
+  all_writable : length list ≤ i → (t : Triple ℕ) → Among (triples_seen list) t → WritableTriple name t
+  all_writable all t m = w.writable t (subst (λ (z : List CodeTriple). Among (triples_seen z) t) (sym (take_all i list all)) m)
+
+  pub denotes_end : length list ≤ i → Nquads (chars (encode_utf8_all (nquads (triples_seen list) name))) (quads (triples_seen list) name)
+  denotes_end all =
+      let whole : Chars = nquads (triples_seen list) name in
+      subst (λ (z : Chars). Nquads z (quads (triples_seen list) name)) (sym (chars-encodes whole (text_writable name (triples_seen list) (all_writable all)).scalars)) (denotes name (triples_seen list) (all_writable all))

@@ -1,15 +1,16 @@
 -- What every value of the code is: its texts are of Unicode scalar values, its IRIs are IRIs, its language tags have
 -- their form, and the numbers of its blank nodes are below 2 ^ 64. The writer says so of what it has written.
-use Rattle.std.specs.Prelude.{◌≡◌, ℕ, ◌<◌, ◌^◌, ◌++◌, true, Option, Some, None, encode_utf8_all, List}
+use Rattle.std.specs.Prelude.{◌≡◌, ℕ, ◌<◌, ◌^◌, true, Option, Some, None, encode_utf8_all}
 use Rattle.std.specs.Str.{all_scalars}
 use Rattle.rx_terms.specs.Text.{Chars}
 use Rattle.rx_terms.specs.Iri.{IsIri}
 use Rattle.rx_terms.specs.Lang.{is_lang}
+use Rattle.rx_nquads.specs.Underway.{Delivery, AddsBytes}
 use Rattle.rx_model.specs.Terms.{Kind, Plain, Tagged, Typed, Node, Iri, Blank, Term, Resource, Literal, Triple}
 
--- the bytes after the characters were added
-pub record Adds (old new : List ℕ) (text : Chars) : Type 0 where
-  pub bytes : new ≡ old ++ encode_utf8_all text
+-- the characters were handed over, whatever was before
+pub record Adds (old new : Delivery) (text : Chars) : Type 0 where
+  pub bytes : AddsBytes old new (encode_utf8_all text)
 
 pub record WritableText (text : Chars) : Type 0 where
   pub scalars : all_scalars text ≡ true

@@ -1,13 +1,17 @@
 //! N-Quads: the text of a graph, and what a text denotes.
 //!
-//! [`text`] gives exactly the text that `specs/Writing.antt` defines. By the relation of `specs/Document.antt`, which is
-//! stated of whole texts and apart from the writer, that text denotes exactly the graph's quads.
+//! [`write()`] sends exactly the text that `specs/Writing.antt` defines to a sink, in pieces, so that the text is never
+//! whole in memory; [`text`] gives it as bytes, for where it is small or is wanted whole. By the relation of
+//! `specs/Document.antt`, which is stated of whole texts and apart from the writer, that text denotes exactly the graph's
+//! quads.
 #![tactic(auto)]
 
 ghost use Rattle.rx_nquads.specs.Document.{StatesOne, DenotesOne};
 ghost use Rattle.rx_nquads.specs.Quads.{ProperStays};
 
+mod pieces;
 mod terms;
+mod whole;
 mod writing;
 
 pub use writing::{WriteError, text, write};

@@ -1,15 +1,18 @@
 //! How terms are written. Each is written with what stands beside it in a line, so that few pieces are added. The small
 //! functions are marked to be built into the loop over the lines, since each runs for every line.
-ghost use Rattle.std.specs.Prelude.{◌≡◌, ◌+◌, ◌≤◌, ◌<◌, ◌^◌, ◌++◌, ℕ, true, length, drop, OnOk, flat_map, codes};
+ghost use Rattle.std.specs.Prelude.{◌≡◌, ◌+◌, ◌≤◌, ◌<◌, ◌^◌, ◌++◌, true, length, drop, flat_map, codes};
 ghost use Rattle.std.specs.Fmt.{decimal};
 ghost use Rattle.std.specs.List.{list_all, list_any};
 ghost use Rattle.std.specs.Str.{chars};
 ghost use Rattle.rx_terms.specs.Ascii.{is_ascii};
 ghost use Rattle.rx_model.specs.Seen.{kind_seen, node_seen, term_seen};
 ghost use Rattle.rx_nquads.specs.Writing.{is_escaped, escaped_char, escaped_text, iri_text, blank_text, node_text, kind_text, term_text};
+ghost use Rattle.rx_nquads.specs.Underway.{delivery};
 ghost use Rattle.rx_nquads.specs.Writable.{Adds, WritableText, WritableIri, WritableTag, WritableNode, WritableKind, WritableTerm};
 
-use rx_terms::{Blank, Iri, Lang, Literal, LiteralKind, NoMemory, Node, Term, Text};
+use crate::pieces::Pieces;
+use rx_ports::Sink;
+use rx_terms::{Blank, Iri, Lang, Literal, LiteralKind, Node, Term, Text};
 
 /// The most bytes of a label: `_:b`, and the digits of a number.
 const LABEL: usize = 23;
@@ -22,49 +25,48 @@ const OBJECT: [u8; LABEL + 1] = [b' '; LABEL + 1];
 
 /// Adds the characters of a text.
 #[inline(always)]
-pub(crate) fn push(out: &mut Vec<u8>, text: &str) -> Result<(), NoMemory>
-    ensures { OnOk result (Adds out.old.items out.new.items (chars text.now)) }
+pub(crate) fn push<S: Sink>(out: &mut Pieces, sink: &mut S, text: &str)
+    ensures { Adds (delivery out.old (S.held sink.old) (S.faults sink.old)) (delivery out.new (S.held sink.new) (S.faults sink.new)) (chars text.now) }
 {
-    out.extend_from_slice(text.as_bytes())?;
-    Ok(())
+    out.add(sink, text.as_bytes());
 }
 
 /// Adds the characters of an IRI without the brackets around it.
 #[inline(always)]
-pub(crate) fn push_iri(out: &mut Vec<u8>, iri: &Iri) -> Result<(), NoMemory>
-    ensures adds { OnOk result (Adds out.old.items out.new.items iri.now) }
-    ensures writable { OnOk result (WritableIri iri.now) }
+pub(crate) fn push_iri<S: Sink>(out: &mut Pieces, sink: &mut S, iri: &Iri)
+    ensures adds { Adds (delivery out.old (S.held sink.old) (S.faults sink.old)) (delivery out.new (S.held sink.new) (S.faults sink.new)) iri.now }
+    ensures writable { WritableIri iri.now }
 {
-    push(out, iri.as_str())
+    push(out, sink, iri.as_str());
 }
 
 /// Adds an IRI between two words, which have its brackets and what stands beside them.
 #[inline(always)]
-pub(crate) fn push_between(
-    out: &mut Vec<u8>,
+pub(crate) fn push_between<S: Sink>(
+    out: &mut Pieces,
+    sink: &mut S,
     front: &str,
     iri: &Iri,
     behind: &str,
-) -> Result<(), NoMemory>
-    ensures adds { OnOk result (Adds out.old.items out.new.items (chars front.now ++ (iri.now ++ chars behind.now))) }
-    ensures writable { OnOk result (WritableIri iri.now) }
+)
+    ensures adds { Adds (delivery out.old (S.held sink.old) (S.faults sink.old)) (delivery out.new (S.held sink.new) (S.faults sink.new)) (chars front.now ++ (iri.now ++ chars behind.now)) }
+    ensures writable { WritableIri iri.now }
 {
-    push(out, front)?;
-    push_iri(out, iri)?;
-    push(out, behind)
+    push(out, sink, front);
+    push_iri(out, sink, iri);
+    push(out, sink, behind);
 }
 
 /// Adds a label, and what stands at the end of `text`, behind the room for a label.
 #[inline(always)]
-fn push_label(out: &mut Vec<u8>, blank: Blank, text: &mut [u8]) -> Result<(), NoMemory>
+fn push_label<S: Sink>(out: &mut Pieces, sink: &mut S, blank: Blank, text: &mut [u8])
     requires room { 23 ≤ length text.old }
     requires ascii { list_all is_ascii (drop 23 text.old) ≡ true }
-    ensures adds { OnOk result (Adds out.old.items out.new.items (blank_text blank.0 ++ drop 23 text.old)) }
-    ensures writable { OnOk result (blank.0 < 2 ^ 64) }
+    ensures adds { Adds (delivery out.old (S.held sink.old) (S.faults sink.old)) (delivery out.new (S.held sink.new) (S.faults sink.new)) (blank_text blank.0 ++ drop 23 text.old) }
+    ensures writable { blank.0 < 2 ^ 64 }
 {
     let start = put_label(blank.0, text);
-    out.extend_from_slice(&text[start..])?;
-    Ok(())
+    out.add(sink, &text[start..]);
 }
 
 /// Puts the label of this number at the end of the room for it, and answers where it begins.
@@ -97,60 +99,59 @@ fn write_digits(number: u64, text: &mut [u8], end: usize) -> usize
 
 /// Adds the subject of a line, the space behind it, and the bracket before the predicate.
 #[inline(always)]
-pub(crate) fn push_subject(out: &mut Vec<u8>, subject: &Node) -> Result<(), NoMemory>
-    ensures adds { OnOk result (Adds out.old.items out.new.items (node_text (node_seen subject.now) ++ codes " <")) }
-    ensures writable { OnOk result (WritableNode (node_seen subject.now)) }
+pub(crate) fn push_subject<S: Sink>(out: &mut Pieces, sink: &mut S, subject: &Node)
+    ensures adds { Adds (delivery out.old (S.held sink.old) (S.faults sink.old)) (delivery out.new (S.held sink.new) (S.faults sink.new)) (node_text (node_seen subject.now) ++ codes " <") }
+    ensures writable { WritableNode (node_seen subject.now) }
 {
     match subject {
-        Node::Iri(iri) => push_between(out, "<", iri, "> <"),
+        Node::Iri(iri) => push_between(out, sink, "<", iri, "> <"),
         Node::Blank(blank) => {
             let mut text = SUBJECT;
-            push_label(out, *blank, &mut text)
+            push_label(out, sink, *blank, &mut text)
         }
     }
 }
 
 /// Adds what ends a literal: the quotation mark behind its text, what it has beside the text, and a space.
 #[inline(always)]
-fn push_kind(out: &mut Vec<u8>, kind: &LiteralKind) -> Result<(), NoMemory>
-    ensures adds { OnOk result (Adds out.old.items out.new.items (codes "\"" ++ (kind_text (kind_seen kind.now) ++ codes " "))) }
-    ensures writable { OnOk result (WritableKind (kind_seen kind.now)) }
+fn push_kind<S: Sink>(out: &mut Pieces, sink: &mut S, kind: &LiteralKind)
+    ensures adds { Adds (delivery out.old (S.held sink.old) (S.faults sink.old)) (delivery out.new (S.held sink.new) (S.faults sink.new)) (codes "\"" ++ (kind_text (kind_seen kind.now) ++ codes " ")) }
+    ensures writable { WritableKind (kind_seen kind.now) }
 {
     match kind {
-        LiteralKind::Plain => push(out, "\" "),
-        LiteralKind::Tagged(tag) => push_tag(out, tag),
-        LiteralKind::Typed(datatype) => push_datatype(out, datatype),
+        LiteralKind::Plain => push(out, sink, "\" "),
+        LiteralKind::Tagged(tag) => push_tag(out, sink, tag),
+        LiteralKind::Typed(datatype) => push_datatype(out, sink, datatype),
     }
 }
 
-fn push_tag(out: &mut Vec<u8>, tag: &Lang) -> Result<(), NoMemory>
-    ensures adds { OnOk result (Adds out.old.items out.new.items (codes "\"" ++ (kind_text (kind_seen (LiteralKind.Tagged tag.now)) ++ codes " "))) }
-    ensures writable { OnOk result (WritableTag tag.now) }
+fn push_tag<S: Sink>(out: &mut Pieces, sink: &mut S, tag: &Lang)
+    ensures adds { Adds (delivery out.old (S.held sink.old) (S.faults sink.old)) (delivery out.new (S.held sink.new) (S.faults sink.new)) (codes "\"" ++ (kind_text (kind_seen (LiteralKind.Tagged tag.now)) ++ codes " ")) }
+    ensures writable { WritableTag tag.now }
 {
-    push(out, "\"@")?;
-    push(out, tag.as_str())?;
-    push(out, " ")
+    push(out, sink, "\"@");
+    push(out, sink, tag.as_str());
+    push(out, sink, " ");
 }
 
-fn push_datatype(out: &mut Vec<u8>, datatype: &Iri) -> Result<(), NoMemory>
-    ensures adds { OnOk result (Adds out.old.items out.new.items (codes "\"" ++ (kind_text (kind_seen (LiteralKind.Typed datatype.now)) ++ codes " "))) }
-    ensures writable { OnOk result (WritableIri datatype.now) }
+fn push_datatype<S: Sink>(out: &mut Pieces, sink: &mut S, datatype: &Iri)
+    ensures adds { Adds (delivery out.old (S.held sink.old) (S.faults sink.old)) (delivery out.new (S.held sink.new) (S.faults sink.new)) (codes "\"" ++ (kind_text (kind_seen (LiteralKind.Typed datatype.now)) ++ codes " ")) }
+    ensures writable { WritableIri datatype.now }
 {
-    push_between(out, "\"^^<", datatype, "> ")
+    push_between(out, sink, "\"^^<", datatype, "> ");
 }
 
 /// Adds a character of a literal, or its escape.
-fn push_char(out: &mut Vec<u8>, c: char) -> Result<(), NoMemory>
-    ensures { OnOk result (Adds out.old.items out.new.items (escaped_char c)) }
+fn push_char<S: Sink>(out: &mut Pieces, sink: &mut S, c: char)
+    ensures { Adds (delivery out.old (S.held sink.old) (S.faults sink.old)) (delivery out.new (S.held sink.new) (S.faults sink.new)) (escaped_char c) }
 {
     match c {
-        '"' => out.extend_from_slice(b"\\\"")?,
-        '\\' => out.extend_from_slice(b"\\\\")?,
-        '\n' => out.extend_from_slice(b"\\n")?,
-        '\r' => out.extend_from_slice(b"\\r")?,
-        _ => out.extend_from_slice(c.encode_utf8(&mut [0; 4]).as_bytes())?,
+        '"' => out.add(sink, b"\\\""),
+        '\\' => out.add(sink, b"\\\\"),
+        '\n' => out.add(sink, b"\\n"),
+        '\r' => out.add(sink, b"\\r"),
+        _ => out.add(sink, c.encode_utf8(&mut [0; 4]).as_bytes()),
     }
-    Ok(())
 }
 
 /// Whether the byte is a character that has an escape of its own. These are ASCII.
@@ -167,63 +168,62 @@ fn has_escaped(text: &str) -> bool
 }
 
 /// Most texts have nothing to escape, and are written at once.
-fn push_escaped(out: &mut Vec<u8>, text: &str) -> Result<(), NoMemory>
-    ensures { OnOk result (Adds out.old.items out.new.items (escaped_text (chars text.now))) }
+fn push_escaped<S: Sink>(out: &mut Pieces, sink: &mut S, text: &str)
+    ensures { Adds (delivery out.old (S.held sink.old) (S.faults sink.old)) (delivery out.new (S.held sink.new) (S.faults sink.new)) (escaped_text (chars text.now)) }
 {
     if has_escaped(text) {
-        return push_escaping(out, text);
+        return push_escaping(out, sink, text);
     }
-    push(out, text)
+    push(out, sink, text);
 }
 
-fn push_escaping(out: &mut Vec<u8>, text: &str) -> Result<(), NoMemory>
-    ensures { OnOk result (Adds out.old.items out.new.items (escaped_text (chars text.now))) }
+fn push_escaping<S: Sink>(out: &mut Pieces, sink: &mut S, text: &str)
+    ensures { Adds (delivery out.old (S.held sink.old) (S.faults sink.old)) (delivery out.new (S.held sink.new) (S.faults sink.new)) (escaped_text (chars text.now)) }
 {
     for c in text.chars() {
-        push_char(out, c)?;
+        push_char(out, sink, c);
     }
-    Ok(())
 }
 
 /// Adds a literal, and what stands before it behind the predicate.
 #[inline(always)]
-fn push_literal(out: &mut Vec<u8>, literal: &Literal) -> Result<(), NoMemory>
-    ensures adds { OnOk result (Adds out.old.items out.new.items (codes "> " ++ (term_text (term_seen (Term.Literal literal.now)) ++ codes " "))) }
-    ensures writable { OnOk result (WritableTerm (term_seen (Term.Literal literal.now))) }
+fn push_literal<S: Sink>(out: &mut Pieces, sink: &mut S, literal: &Literal)
+    ensures adds { Adds (delivery out.old (S.held sink.old) (S.faults sink.old)) (delivery out.new (S.held sink.new) (S.faults sink.new)) (codes "> " ++ (term_text (term_seen (Term.Literal literal.now)) ++ codes " ")) }
+    ensures writable { WritableTerm (term_seen (Term.Literal literal.now)) }
 {
-    push_text(out, &literal.lexical)?;
-    push_kind(out, &literal.kind)
+    push_text(out, sink, &literal.lexical);
+    push_kind(out, sink, &literal.kind);
 }
 
 /// Adds a literal's text, and what stands before it behind the predicate.
-fn push_text(out: &mut Vec<u8>, text: &Text) -> Result<(), NoMemory>
-    ensures adds { OnOk result (Adds out.old.items out.new.items (codes "> \"" ++ escaped_text text.now)) }
-    ensures writable { OnOk result (WritableText text.now) }
+fn push_text<S: Sink>(out: &mut Pieces, sink: &mut S, text: &Text)
+    ensures adds { Adds (delivery out.old (S.held sink.old) (S.faults sink.old)) (delivery out.new (S.held sink.new) (S.faults sink.new)) (codes "> \"" ++ escaped_text text.now) }
+    ensures writable { WritableText text.now }
 {
-    push(out, "> \"")?;
-    push_escaped(out, text.as_str())
+    push(out, sink, "> \"");
+    push_escaped(out, sink, text.as_str());
 }
 
 /// Adds a blank node, and what stands before it behind the predicate.
 #[inline(always)]
-fn push_blank(out: &mut Vec<u8>, blank: Blank) -> Result<(), NoMemory>
-    ensures adds { OnOk result (Adds out.old.items out.new.items (codes "> " ++ (blank_text blank.0 ++ codes " "))) }
-    ensures writable { OnOk result (blank.0 < 2 ^ 64) }
+fn push_blank<S: Sink>(out: &mut Pieces, sink: &mut S, blank: Blank)
+    ensures adds { Adds (delivery out.old (S.held sink.old) (S.faults sink.old)) (delivery out.new (S.held sink.new) (S.faults sink.new)) (codes "> " ++ (blank_text blank.0 ++ codes " ")) }
+    ensures writable { blank.0 < 2 ^ 64 }
 {
-    push(out, "> ")?;
+    push(out, sink, "> ");
     let mut text = OBJECT;
-    push_label(out, blank, &mut text)
+    push_label(out, sink, blank, &mut text);
 }
 
 /// Adds the object of a line with a space behind it, and before it the bracket behind the predicate and a space.
 #[inline(always)]
-pub(crate) fn push_object(out: &mut Vec<u8>, object: &Term) -> Result<(), NoMemory>
-    ensures adds { OnOk result (Adds out.old.items out.new.items (codes "> " ++ (term_text (term_seen object.now) ++ codes " "))) }
-    ensures writable { OnOk result (WritableTerm (term_seen object.now)) }
+pub(crate) fn push_object<S: Sink>(out: &mut Pieces, sink: &mut S, object: &Term)
+    ensures adds { Adds (delivery out.old (S.held sink.old) (S.faults sink.old)) (delivery out.new (S.held sink.new) (S.faults sink.new)) (codes "> " ++ (term_text (term_seen object.now) ++ codes " ")) }
+    ensures writable { WritableTerm (term_seen object.now) }
 {
     match object {
-        Term::Iri(iri) => push_between(out, "> <", iri, "> "),
-        Term::Blank(blank) => push_blank(out, *blank),
-        Term::Literal(literal) => push_literal(out, literal),
+        Term::Iri(iri) => push_between(out, sink, "> <", iri, "> "),
+        Term::Blank(blank) => push_blank(out, sink, *blank),
+        Term::Literal(literal) => push_literal(out, sink, literal),
     }
 }

@@ -1,6 +1,7 @@
 //! Worked rows: lists of triples, and the text of the graph that copying and numbering give.
 use super::*;
-use rx_graph::{copy_patterns, relabel};
+use rx_graph::{Graph, copy_patterns, relabel};
+use rx_ports::MemSink;
 use rx_terms::{Blank, Iri, Lang, Literal, LiteralKind, Node, Term, Text, Triple, TripleList};
 use std::alloc::Global;
 use std::test::Fail;
@@ -50,11 +51,15 @@ fn says(
     })
 }
 
-/// The text of what copying and numbering make of the list.
-fn written(alloc: Global, triples: &TripleList, name: Option<&Iri>) -> Result<Vec<u8>, Fail> {
+/// What copying and numbering make of the list.
+fn graph(alloc: Global, triples: &TripleList) -> Result<Graph, Fail> {
     let copied = copy_patterns(alloc, triples)?;
-    let graph = relabel(alloc, &copied)?;
-    Ok(text(alloc, &graph, name)?)
+    Ok(relabel(alloc, &copied)?)
+}
+
+/// The text of that graph.
+fn written(alloc: Global, triples: &TripleList, name: Option<&Iri>) -> Result<Vec<u8>, Fail> {
+    Ok(text(alloc, &graph(alloc, triples)?, name)?)
 }
 
 /// The list of two patterns, the first of which copies the second, and of a subject that copies the first.
@@ -158,5 +163,37 @@ fn literals_are_escaped(rt: HostRuntime) -> Result<(), Fail> {
     let want =
         "<x:s> <x:p> \"a\\\"b\\\\c\" .\n<x:s> <x:p> \"one\\ntwo\\r\\n\" .\n<x:s> <x:p> \"\té€😀\" .\n<x:s> <x:p> \"\" .\n<x:s> <x:p> \"x\"@de-CH .\n<x:s> <x:p> \"7\"^^<http://www.w3.org/2001/XMLSchema#int> .\n";
     assert_eq!(rt; written(alloc, &triples, None)?.as_slice(), want.as_bytes());
+    Ok(())
+}
+
+/// A list of one literal of `count` letters, which a line holds with 17 bytes beside it.
+fn letters(alloc: Global, count: usize) -> Result<TripleList, Fail> {
+    let letters = String::from_utf8(vec![in alloc; b'a'; count]?)?;
+    let mut triples = TripleList::new(alloc);
+    triples.push(says(alloc, "x:s", "x:p", letters.as_str(), LiteralKind::Plain)?)?;
+    Ok(triples)
+}
+
+#[test]
+fn a_long_text_is_written(rt: HostRuntime) -> Result<(), Fail> {
+    let alloc = rt.alloc();
+    let graph = graph(alloc, &letters(alloc, 200_000)?)?;
+    let mut sink = MemSink::with_room(alloc, 300_000, 50_000, Vec::new(alloc))?;
+    assert_eq!(rt; write(alloc, &graph, None, &mut sink), Ok(()));
+    assert_eq!(rt; sink.held().len(), 200_017);
+    assert_eq!(rt; sink.held(), text(alloc, &graph, None)?.as_slice());
+    Ok(())
+}
+
+#[test]
+fn a_sink_that_fails_is_told_of(rt: HostRuntime) -> Result<(), Fail> {
+    let alloc = rt.alloc();
+    let graph = graph(alloc, &letters(alloc, 200_000)?)?;
+    let mut sink = MemSink::with_room(alloc, 100_000, 100_000, Vec::new(alloc))?;
+    assert_eq!(rt;
+        write(alloc, &graph, None, &mut sink),
+        Err(WriteError::Failed)
+    );
+    assert_eq!(rt; sink.held().len(), 100_000);
     Ok(())
 }

@@ -1,47 +1,46 @@
 //! The text of a graph.
+ghost use Rattle.std.specs.Prelude.{◌≡◌, ◌≤◌, Err, IfOk, IsErrOf, OnOk, encode_utf8_all, option_map, false};
+ghost use Rattle.std.specs.Str.{chars};
 ghost use Rattle.rx_ports.specs.Counts.{Rose};
 ghost use Rattle.rx_ports.specs.Told.{Moves, GrowsBy, GrowsByPart};
-ghost use Rattle.std.specs.Prelude.{◌≡◌, ◌≤◌, IsErrOf, IfOk, OnOk, encode_utf8_all, option_map};
-ghost use Rattle.std.specs.Str.{chars};
 ghost use Rattle.rx_model.specs.Seen.{triple_seen, triples_seen};
 ghost use Rattle.rx_nquads.specs.Quads.{quads};
 ghost use Rattle.rx_nquads.specs.Document.{Nquads};
 ghost use Rattle.rx_nquads.specs.Writing.{graph_text, line_text, nquads};
+ghost use Rattle.rx_nquads.specs.Underway.{delivery};
 ghost use Rattle.rx_nquads.specs.Writable.{Adds, WritableName, WritableTriple};
 
+use crate::pieces::Pieces;
 use crate::terms::{push, push_between, push_iri, push_object, push_subject};
+use crate::whole::Whole;
 use rx_graph::Graph;
-use rx_ports::{Sink, put_all};
+use rx_ports::Sink;
 use rx_terms::{Iri, NoMemory, Triple};
 use std::alloc::Global;
 
 /// The room in bytes that is taken for each line at first.
 const LINE: usize = 64;
 
-/// The graph's text in N-Quads: a line for each triple, in the graph's order, each quad in the graph of this name where
-/// one is given. The bytes are UTF-8.
-pub fn text(alloc: Global, graph: &Graph, name: Option<&Iri>) -> Result<Vec<u8>, NoMemory>
-    ensures bytes { IfOk result (λ bytes. bytes.items ≡ encode_utf8_all (nquads (triples_seen graph.now) (option_map (λ iri. iri.now) name.entry))) }
-    ensures denotes { IfOk result (λ bytes. Nquads (chars bytes.items) (quads (triples_seen graph.now) (option_map (λ iri. iri.now) name.entry))) }
-{
-    let mut out = Vec::with_capacity(alloc, graph.len().saturating_mul(LINE))?;
-    for i in 0..graph.len() {
-        push_line(&mut out, graph.at(i), name)?;
-    }
-    Ok(out)
-}
-
 /// Why a text wasn't written whole.
 #[derive(Clone, Copy, Debug, PartialEq, Eq)]
 pub enum WriteError {
-    /// The sink failed.
+    /// The sink failed. It holds a proper front of the text more than before, and was given nothing after its failure.
     Failed,
-    /// There was no memory, and nothing was written.
+    /// There was no memory. The sink is as it was.
     NoMemory,
 }
 
-/// Writes the graph's text.
-pub fn write<S: Sink>(alloc: Global, graph: &Graph, name: Option<&Iri>, sink: &mut S) -> Result<(), WriteError>
+/// Writes the graph's text in N-Quads to the sink: a line for each triple, in the graph's order, each quad in the graph
+/// of this name where one is given. The bytes are UTF-8.
+///
+/// They are sent in pieces of 65,536 bytes, the last of which may have fewer. The memory of a piece is taken before the
+/// first byte is written, and no more, however large the graph is.
+pub fn write<S: Sink>(
+    alloc: Global,
+    graph: &Graph,
+    name: Option<&Iri>,
+    sink: &mut S,
+) -> Result<(), WriteError>
     ensures ok { OnOk result (Moves (GrowsBy (encode_utf8_all (nquads (triples_seen graph.now) (option_map (λ iri. iri.now) name.entry)))) (S.held sink.old) (S.held sink.new)) }
     ensures denotes { OnOk result (Nquads (chars (encode_utf8_all (nquads (triples_seen graph.now) (option_map (λ iri. iri.now) name.entry)))) (quads (triples_seen graph.now) (option_map (λ iri. iri.now) name.entry))) }
     ensures partly { IsErrOf result WriteError.Failed → Moves (GrowsByPart (encode_utf8_all (nquads (triples_seen graph.now) (option_map (λ iri. iri.now) name.entry)))) (S.held sink.old) (S.held sink.new) }
@@ -49,37 +48,62 @@ pub fn write<S: Sink>(alloc: Global, graph: &Graph, name: Option<&Iri>, sink: &m
     ensures untouched { IsErrOf result WriteError.NoMemory → sink.new ≡ sink.old }
     ensures later { S.faults sink.old ≤ S.faults sink.new }
 {
-    let bytes = match text(alloc, graph, name) {
-        Ok(bytes) => bytes,
-        Err(NoMemory) => return Err(WriteError::NoMemory),
+    let Ok(mut pieces) = Pieces::new(alloc) else {
+        return Err(WriteError::NoMemory);
     };
-    match put_all(sink, bytes.as_slice()) {
+    push_lines(&mut pieces, sink, graph, name);
+    match pieces.send(sink) {
         Ok(()) => Ok(()),
         Err(_failed) => Err(WriteError::Failed),
     }
 }
 
+/// The graph's text in N-Quads, as `write` writes it.
+pub fn text(alloc: Global, graph: &Graph, name: Option<&Iri>) -> Result<Vec<u8>, NoMemory>
+    ensures bytes { IfOk result (λ bytes. bytes.items ≡ encode_utf8_all (nquads (triples_seen graph.now) (option_map (λ iri. iri.now) name.entry))) }
+    ensures denotes { IfOk result (λ bytes. Nquads (chars bytes.items) (quads (triples_seen graph.now) (option_map (λ iri. iri.now) name.entry))) }
+{
+    let mut whole = Whole::with_room(alloc, graph.len().saturating_mul(LINE))?;
+    match write(alloc, graph, name, &mut whole) {
+        Ok(()) => Ok(whole.into_bytes()),
+        Err(_error) => Err(NoMemory),
+    }
+}
+
+/// Adds the lines of all triples. Once the sink has failed, the rest isn't made.
+fn push_lines<S: Sink>(out: &mut Pieces, sink: &mut S, graph: &Graph, name: Option<&Iri>)
+    ensures adds { Adds (delivery out.old (S.held sink.old) (S.faults sink.old)) (delivery out.new (S.held sink.new) (S.faults sink.new)) (nquads (triples_seen graph.now) (option_map (λ iri. iri.now) name.entry)) }
+    ensures denotes { out.new.failed ≡ false → Nquads (chars (encode_utf8_all (nquads (triples_seen graph.now) (option_map (λ iri. iri.now) name.entry)))) (quads (triples_seen graph.now) (option_map (λ iri. iri.now) name.entry)) }
+{
+    for i in 0..graph.len() {
+        if out.has_failed() {
+            return;
+        }
+        push_line(out, sink, graph.at(i), name);
+    }
+}
+
 /// Adds the line of a triple in the graph of this name.
 #[inline(always)]
-fn push_line(out: &mut Vec<u8>, triple: &Triple, name: Option<&Iri>) -> Result<(), NoMemory>
-    ensures adds { OnOk result (Adds out.old.items out.new.items (line_text (option_map (λ iri. iri.now) name.entry) (triple_seen triple.now))) }
-    ensures writable { OnOk result (WritableTriple (option_map (λ iri. iri.now) name.entry) (triple_seen triple.now)) }
+fn push_line<S: Sink>(out: &mut Pieces, sink: &mut S, triple: &Triple, name: Option<&Iri>)
+    ensures adds { Adds (delivery out.old (S.held sink.old) (S.faults sink.old)) (delivery out.new (S.held sink.new) (S.faults sink.new)) (line_text (option_map (λ iri. iri.now) name.entry) (triple_seen triple.now)) }
+    ensures writable { WritableTriple (option_map (λ iri. iri.now) name.entry) (triple_seen triple.now) }
 {
-    push_subject(out, &triple.subject)?;
-    push_iri(out, &triple.predicate)?;
-    push_object(out, &triple.object)?;
-    push_name(out, name)?;
-    push(out, ".\n")
+    push_subject(out, sink, &triple.subject);
+    push_iri(out, sink, &triple.predicate);
+    push_object(out, sink, &triple.object);
+    push_name(out, sink, name);
+    push(out, sink, ".\n");
 }
 
 /// Adds the graph name and a space, where there is a name.
 #[inline(always)]
-fn push_name(out: &mut Vec<u8>, name: Option<&Iri>) -> Result<(), NoMemory>
-    ensures adds { OnOk result (Adds out.old.items out.new.items (graph_text (option_map (λ iri. iri.now) name.entry))) }
-    ensures writable { OnOk result (WritableName (option_map (λ iri. iri.now) name.entry)) }
+fn push_name<S: Sink>(out: &mut Pieces, sink: &mut S, name: Option<&Iri>)
+    ensures adds { Adds (delivery out.old (S.held sink.old) (S.faults sink.old)) (delivery out.new (S.held sink.new) (S.faults sink.new)) (graph_text (option_map (λ iri. iri.now) name.entry)) }
+    ensures writable { WritableName (option_map (λ iri. iri.now) name.entry) }
 {
     match name {
-        None => Ok(()),
-        Some(iri) => push_between(out, "<", iri, "> "),
+        None => {}
+        Some(iri) => push_between(out, sink, "<", iri, "> "),
     }
 }

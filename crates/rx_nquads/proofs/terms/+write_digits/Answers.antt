@@ -1,4 +1,4 @@
-use Rattle.std.proofs.Common.{◌≡◌, ◌∙◌, ◌+◌, ◌-◌, ◌%◌, ◌<◌, ◌≤◌, length, arith}
+use Rattle.std.proofs.Common.{◌∙◌, ◌+◌, ◌-◌, ◌%◌, ◌≤◌, arith}
 use Rattle.std.proofs.lemmas.List.{length-set}
 use Rattle.rx_nquads.proofs.Digits.{some, one_long, one_digit, one_longer, one_more}
 use Rattle.rx_nquads.proofs.terms.+write_digits.Goals as goal

@@ -1,5 +1,5 @@
-use Rattle.rx_nquads.proofs.Adding.{if_ok, iri_datatype}
+use Rattle.rx_nquads.proofs.Adding.{iri_datatype}
 use Rattle.rx_nquads.proofs.terms.push_datatype.Goals as goal
 
 pub returns-clause-adds : goal.returns-clause-adds
-returns-clause-adds c = if_ok c.push_between.result (λ h. iri_datatype _ h) c.push_between.ensures.adds
+returns-clause-adds g c = iri_datatype _ c.push_between.ensures.adds

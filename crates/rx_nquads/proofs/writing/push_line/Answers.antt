@@ -1,10 +1,9 @@
 use Rattle.std.proofs.Common.{codes, refl, option_map}
 use Rattle.rx_model.specs.Seen.{triple_seen}
-use Rattle.rx_nquads.proofs.Adding.{if_ok, adds_then, adds_by, literal, line_spaced}
+use Rattle.rx_nquads.proofs.Adding.{adds_then, adds_by, literal, line_spaced}
 use Rattle.rx_nquads.proofs.writing.push_line.Goals as goal
 
 pub returns-clause-adds : goal.returns-clause-adds
-returns-clause-adds c = if_ok c.push.result
-    (λ h. adds_by (line_spaced (option_map (λ iri. iri.now) c.args.name) (triple_seen c.args.triple.now))
-    (adds_then c.in_ok-push_subject.ensures.adds (adds_then c.in_ok-push_iri.ensures.adds (adds_then c.in_ok-push_object.ensures.adds (adds_then c.in_ok-push_name.ensures.adds (literal (codes ".\n") refl h))))))
-    c.push.ensures
+returns-clause-adds g c =
+    adds_by (line_spaced (option_map (λ iri. iri.now) c.args.name) (triple_seen c.args.triple.now))
+    (adds_then c.push_subject.ensures.adds (adds_then c.push_iri.ensures.adds (adds_then c.push_object.ensures.adds (adds_then c.push_name.ensures.adds (literal (codes ".\n") refl c.push.ensures)))))
