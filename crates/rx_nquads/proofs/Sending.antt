@@ -51,6 +51,7 @@ bytes_nothing a = record { stands = λ start before text s. stands_by (sym (appe
 pub bytes_by : {a b : Delivery} {x y : List ℕ} → x ≡ y → AddsBytes a b x → AddsBytes a b y
 bytes_by {a} {b} e h = subst (AddsBytes a b) e h
 
+-- what is added once the sink failed is lost
 lost : {start : Option (List ℕ)} {before : ℕ} {text : List ℕ} {now : Delivery} (more : List ℕ) → now.underway.failed ≡ true → Stands start before text now → Stands start before (text ++ more) now
 lost {start} {before} {text} {now} more failed s = record {
   told = moves_weaker _ (λ x y p.
@@ -64,6 +65,7 @@ lost {start} {before} {text} {now} more failed s = record {
 pub bytes_failed : {a b : Delivery} {x : List ℕ} (y : List ℕ) → b.underway.failed ≡ true → AddsBytes a b x → AddsBytes a b (x ++ y)
 bytes_failed {x = x} y failed h = record { stands = λ start before text s. stands_by (append_assoc text x y) (lost y failed (h.stands start before text s)) }
 
+-- bytes that wait too
 pub kept : (old new : Underway) (held : Option (List ℕ)) (faults : ℕ) (bytes : List ℕ) → new ≡ keeps old bytes → AddsBytes (delivery old held faults) (delivery new held faults) bytes
 kept old new held faults bytes e = subst (λ (u : Underway). AddsBytes (delivery old held faults) (delivery u held faults) bytes) (sym e) (record {
   stands = λ start before text s. record {
@@ -115,9 +117,6 @@ pub record HandedOver (old now : Delivery) (bytes rest : List ℕ) : Type 0 wher
   pub front : List ℕ
   pub adds : AddsBytes old now front
   pub whole : bytes ≡ front ++ rest
-
-pub none_over : (old : Delivery) (bytes : List ℕ) → HandedOver old old bytes bytes
-none_over old bytes = record { front = []; adds = bytes_nothing old; whole = refl }
 
 pub more_over : {old now filled next : Delivery} {bytes rest front behind : List ℕ} → HandedOver old now bytes rest → rest ≡ front ++ behind → AddsBytes now filled front → AddsBytes filled next [] → HandedOver old next bytes behind
 more_over {front = front} {behind = behind} h e k s = record {
