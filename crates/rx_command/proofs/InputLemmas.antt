@@ -6,7 +6,7 @@ use Rattle.std.proofs.lemmas.Bool.Decides.{nat_tests}
 use Rattle.rx_ports.specs.Counts.{Rose}
 use Rattle.rx_ports.specs.Files.{file_of}
 use Rattle.rx_ports.specs.Told.{Told, Moves, Lacks}
-use Rattle.rx_ports.proofs.MoveLemmas.{moves_at, moves_weaker, moves_then}
+use Rattle.rx_ports.proofs.MoveLemmas.{moves_at, moves_then}
 use Rattle.rx_names.specs.ContextFiles.{context_of}
 use Rattle.rx_chars.specs.declared.syntax.Syntax.{Syntax}
 use Rattle.rx_grammar.specs.declared.faults.Fault.{Fault}
@@ -32,7 +32,7 @@ use Rattle.rx_command.specs.Contexts.{IsContextFile, IsFileOf, IsContext, HasCon
 use Rattle.rx_command.specs.Inputs.{PageText, PageRefused, JobText, JobRefused, TellsThat, WhereTold}
 use Rattle.rx_command.specs.Outcome.{IsAccepted, IsLacking, IsRight, base_in, facts_in, way_in, ok_line}
 use Rattle.rx_command.specs.Runs.{TakesFiles, StopsCleanly, page_limit}
-use Rattle.rx_command.specs.Ways.{way_of, extraction_of}
+use Rattle.rx_command.specs.Ways.{extraction_of}
 use Rattle.rx_command.specs.Written.{text_of, Denoted}
 use Rattle.rx_command.specs.declared.outcomes.Outcome.{Outcome}
 use Rattle.rx_command.specs.declared.outcomes.Outcome.TheVariants as found

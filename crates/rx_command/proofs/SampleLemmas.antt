@@ -1,5 +1,5 @@
 -- The sample page as it is fed.
-use Rattle.std.proofs.Common.{◌≡◌, ◌∙◌, ℕ, zero, suc, nat_eq, ◌+◌, ◌≤◌, ◌<◌, List, [], ◌++◌, length, sym, ap, subst, arith, None, Result, Ok, Err, IfOk, OnOk, encode_utf8_all, append_assoc, append-nil, length-append}
+use Rattle.std.proofs.Common.{◌≡◌, ◌∙◌, ℕ, suc, nat_eq, ◌+◌, ◌≤◌, ◌<◌, List, [], ◌++◌, length, sym, ap, subst, arith, None, Result, Ok, Err, IfOk, OnOk, encode_utf8_all, append_assoc, append-nil, length-append}
 use Rattle.rx_chars.specs.declared.syntax.Syntax.TheVariants.{Html}
 use Rattle.rx_terms.specs.Text.{Chars}
 use Rattle.rx_terms.specs.declared.triples.Triple.{Triple as CodeTriple}

@@ -1,8 +1,9 @@
-use Rattle.std.proofs.Common.{◌≡◌, ◌∙◌, inl, subst, List, ℕ, ap, Some, Err}
-use Rattle.rx_ports.specs.Told.{Moves, GrowsBy, GrowsByPart}
+use Rattle.std.proofs.Common.{◌≡◌, ◌∙◌, inl, subst, ap, Some, Err}
+use Rattle.rx_ports.specs.Told.{Moves}
 use Rattle.rx_command.specs.Outcome.{HasPageFault}
 use Rattle.rx_job.specs.Jobs.{page_by}
 use Rattle.rx_command.specs.Runs.{TakesToFault}
+use Rattle.rx_command.specs.Written.{text_of}
 use Rattle.rx_job.specs.Words.{page_asked}
 use Rattle.rx_grammar.specs.declared.faults.Fault.{Fault}
 use Rattle.rx_command.specs.declared.statuses.Status.TheVariants.{Refused}
@@ -11,13 +12,11 @@ use Rattle.rx_command.proofs.top.run.Goals as goal
 
 pub returns-in-Ok-write-clause-done : goal.returns-in-Ok-write-clause-done
 returns-in-Ok-write-clause-done g c =
-    let Grown : List ℕ → Type 0 = λ text. Moves (GrowsBy text) (g.O.Sink.held c.args.out.now) (g.O.Sink.held c.write.new.out) in
     λ is told e. (text_of c.in-Ok-outcome_of_job.outcome, yields c.args.words.now _ _ _ _ told (asks_page c.args.words.now c.in-Ok.job c.in-Ok.ensures c.in-None.ensures) c.in-Ok-outcome_of_job.ensures.ok e, c.in-Ok-write.ensures.ok)
 
 pub returns-in-Ok-write-clause-denotes : goal.returns-in-Ok-write-clause-denotes
 returns-in-Ok-write-clause-denotes g c =
-    let Grown : List ℕ → Type 0 = λ text. Moves (GrowsBy text) (g.O.Sink.held c.args.out.now) (g.O.Sink.held c.write.new.out) in
-    λ is told e. (text_of c.in-Ok-outcome_of_job.outcome, yields_graph c.args.words.now _ _ _ _ told (asks_page c.args.words.now c.in-Ok.job c.in-Ok.ensures c.in-None.ensures) c.in-Ok-outcome_of_job.ensures.ok e, c.in-Ok-write.ensures.ok)
+    λ is told e. (text_of c.in-Ok-outcome_of_job.outcome, yields_graph c.args.words.now _ _ _ _ told (asks_page c.args.words.now c.in-Ok.job c.in-Ok.ensures c.in-None.ensures) c.in-Ok-outcome_of_job.ensures.ok c.in-Ok-write.ensures.denoted e, c.in-Ok-write.ensures.ok)
 
 pub returns-in-Ok-write-clause-to_end : goal.returns-in-Ok-write-clause-to_end
 returns-in-Ok-write-clause-to_end g c = λ is. at_end c.args.words.now (page_by c.in-Ok.job) _ _ _ (asks_page c.args.words.now c.in-Ok.job c.in-Ok.ensures c.in-None.ensures) c.in-Ok-outcome_of_job.ensures.ok
@@ -31,19 +30,18 @@ returns-in-Ok-write-clause-refuses_context g c = λ bad quiet. absurd (not_bad c
 pub returns-in-Ok-write-clause-refuses : goal.returns-in-Ok-write-clause-refuses
 returns-in-Ok-write-clause-refuses g c = λ fault r quiet. absurd (text_not_refused c.args.words.now _ _ _ _ fault (asks_page c.args.words.now c.in-Ok.job c.in-Ok.ensures c.in-None.ensures) c.in-Ok-outcome_of_job.ensures.ok r)
 
-pub returns-in-Ok-outcome_of_job-clause-lacking : goal.returns-in-Ok-outcome_of_job-clause-lacking
-returns-in-Ok-outcome_of_job-clause-lacking g c = λ lacks. absurd (not_lacking c.args.words.now _ _ _ _ (asks_page c.args.words.now c.in-Ok.job c.in-Ok.ensures c.in-None.ensures) c.in-Ok-outcome_of_job.ensures.ok lacks)
+pub returns-in-Err-Failed-write-clause-lacking : goal.returns-in-Err-Failed-write-clause-lacking
+returns-in-Err-Failed-write-clause-lacking g c = λ lacks. absurd (not_lacking c.args.words.now _ _ _ _ (asks_page c.args.words.now c.in-Ok.job c.in-Ok.ensures c.in-None.ensures) c.in-Ok-outcome_of_job.ensures.ok lacks)
 
-pub returns-in-Ok-outcome_of_job-clause-partly : goal.returns-in-Ok-outcome_of_job-clause-partly
-returns-in-Ok-outcome_of_job-clause-partly g c =
-    let Grown : List ℕ → Type 0 = λ text. Moves (GrowsByPart text) (g.O.Sink.held c.args.out.now) (g.O.Sink.held c.write.new.out) in
-    λ is told e. (text_of c.in-Ok-outcome_of_job.outcome, yields c.args.words.now _ _ _ _ told (asks_page c.args.words.now c.in-Ok.job c.in-Ok.ensures c.in-None.ensures) c.in-Ok-outcome_of_job.ensures.ok e, subst Grown c.as_slice.ensures.value c.in-Err.ensures.err)
+pub returns-in-Err-Failed-write-clause-partly : goal.returns-in-Err-Failed-write-clause-partly
+returns-in-Err-Failed-write-clause-partly g c =
+    λ is told e. (text_of c.in-Ok-outcome_of_job.outcome, yields c.args.words.now _ _ _ _ told (asks_page c.args.words.now c.in-Ok.job c.in-Ok.ensures c.in-None.ensures) c.in-Ok-outcome_of_job.ensures.ok e, c.in-Err-Failed-write.ensures.partly (ap Err c.in-Err-Failed-write.field-0-is))
 
-pub returns-in-Ok-outcome_of_job-clause-refuses_context : goal.returns-in-Ok-outcome_of_job-clause-refuses_context
-returns-in-Ok-outcome_of_job-clause-refuses_context g c = λ bad quiet. absurd (not_bad c.args.words.now _ _ _ _ (asks_page c.args.words.now c.in-Ok.job c.in-Ok.ensures c.in-None.ensures) c.in-Ok-outcome_of_job.ensures.ok bad)
+pub returns-in-Err-Failed-write-clause-refuses_context : goal.returns-in-Err-Failed-write-clause-refuses_context
+returns-in-Err-Failed-write-clause-refuses_context g c = λ bad quiet. absurd (not_bad c.args.words.now _ _ _ _ (asks_page c.args.words.now c.in-Ok.job c.in-Ok.ensures c.in-None.ensures) c.in-Ok-outcome_of_job.ensures.ok bad)
 
-pub returns-in-Ok-outcome_of_job-clause-refuses : goal.returns-in-Ok-outcome_of_job-clause-refuses
-returns-in-Ok-outcome_of_job-clause-refuses g c = λ fault r quiet. absurd (text_not_refused c.args.words.now _ _ _ _ fault (asks_page c.args.words.now c.in-Ok.job c.in-Ok.ensures c.in-None.ensures) c.in-Ok-outcome_of_job.ensures.ok r)
+pub returns-in-Err-Failed-write-clause-refuses : goal.returns-in-Err-Failed-write-clause-refuses
+returns-in-Err-Failed-write-clause-refuses g c = λ fault r quiet. absurd (text_not_refused c.args.words.now _ _ _ _ fault (asks_page c.args.words.now c.in-Ok.job c.in-Ok.ensures c.in-None.ensures) c.in-Ok-outcome_of_job.ensures.ok r)
 
 pub returns-in-Err-Failed-clause-read_fault : goal.returns-in-Err-Failed-clause-read_fault
 returns-in-Err-Failed-clause-read_fault g c = λ is. read_cause c.args.words.now _ (page_by c.in-Ok.job) _ _ (asks_page c.args.words.now c.in-Ok.job c.in-Ok.ensures c.in-None.ensures) (c.in-Err-Failed.ensures.failed (ap Err c.in-Err-Failed.field-0-is))
