@@ -4,14 +4,14 @@ ghost use Rattle.std.specs.Str.{chars};
 ghost use Rattle.rx_rdfa.specs.Facts as the;
 ghost use Rattle.rx_curie.specs.Seen.{kind_seen};
 
-use crate::literals::{datatype, is_word, language, own_vocabulary, vocabulary};
+use crate::literals::{is_word, own_vocabulary, put_datatype, put_language, put_vocabulary};
 use crate::makers::IriMaker;
 use crate::nodes::Nodes2;
-use crate::predicates::{link, properties};
+use crate::predicates::{put_link, put_properties};
 use crate::refs::Ref;
 use crate::refusals::refusal_by;
-use crate::resources::{reference, resource, text};
-use crate::types::types;
+use crate::resources::{put_reference, put_resource, put_text};
+use crate::types::put_types;
 use rx_grammar::Kind;
 use rx_names::{Attributes, NamesView};
 use rx_tags::Tag;
@@ -187,20 +187,20 @@ impl Facts {
         let property = attributes.value("property");
         let beside_property = property.is_some();
         self.element = kind_of(name);
-        self.about = resource(maker, names, attributes.value("about"))?;
-        self.resource = resource(maker, names, attributes.value("resource"))?;
-        self.href = reference(maker.alloc, attributes.value("href"))?;
-        self.src = reference(maker.alloc, attributes.value("src"))?;
-        self.rel = link(maker, names, attributes.value("rel"), beside_property)?;
-        self.rev = link(maker, names, attributes.value("rev"), beside_property)?;
-        self.property = properties(maker, names, property)?;
-        self.types = types(maker, names, attributes.value("typeof"))?;
-        self.content = text(maker.alloc, attributes.value("content"))?;
-        self.datetime = text(maker.alloc, attributes.value("datetime"))?;
-        self.datatype = datatype(maker, names, attributes.value("datatype"))?;
+        put_resource(&mut self.about, maker, names, attributes.value("about"))?;
+        put_resource(&mut self.resource, maker, names, attributes.value("resource"))?;
+        put_reference(&mut self.href, maker.alloc, attributes.value("href"))?;
+        put_reference(&mut self.src, maker.alloc, attributes.value("src"))?;
+        put_link(&mut self.rel, maker, names, attributes.value("rel"), beside_property)?;
+        put_link(&mut self.rev, maker, names, attributes.value("rev"), beside_property)?;
+        put_properties(&mut self.property, maker, names, property)?;
+        put_types(&mut self.types, maker, names, attributes.value("typeof"))?;
+        put_text(&mut self.content, maker.alloc, attributes.value("content"))?;
+        put_text(&mut self.datetime, maker.alloc, attributes.value("datetime"))?;
+        put_datatype(&mut self.datatype, maker, names, attributes.value("datatype"))?;
         self.inlist = attributes.value("inlist").is_some();
-        self.vocab = vocabulary(maker, own_vocabulary(attributes))?;
-        self.lang = language(maker.alloc, names)?;
+        put_vocabulary(&mut self.vocab, maker, own_vocabulary(attributes))?;
+        put_language(&mut self.lang, maker.alloc, names)?;
         Ok(())
     }
 }

@@ -10,6 +10,7 @@ ghost use Rattle.rx_curie.specs.Seen.{SeenOneToOne};
 
 mod comparisons;
 mod facts;
+mod fields;
 mod literals;
 mod made;
 mod makers;

@@ -1,5 +1,5 @@
 //! What says how a literal is meant: datatype, vocabulary and language.
-ghost use Rattle.std.specs.Prelude.{◌≡◌, ◌++◌, List, false, IfOk, option_map, bytes_eq, true};
+ghost use Rattle.std.specs.Prelude.{◌≡◌, ◌++◌, List, false, OnOk, option_map, bytes_eq, true};
 ghost use Rattle.std.specs.List.{list_all};
 ghost use Rattle.std.specs.Str.{chars};
 ghost use Rattle.rx_terms.specs.Ascii.{is_ascii};
@@ -17,6 +17,7 @@ ghost use Rattle.rx_curie.specs.Given.{own_vocabulary};
 ghost use Rattle.rx_curie.specs.Seen.{datatype_seen};
 
 use crate::facts::Datatype;
+use crate::fields::empty;
 use crate::makers::IriMaker;
 use crate::predicates::predicate;
 use rx_names::{Attributes, NamesView};
@@ -25,23 +26,27 @@ use rx_terms::{Iri, Lang, NoMemory};
 use rx_words::{behind, is_empty, trim};
 use std::alloc::Global;
 
-/// The datatype, where the attribute is there. It is read as one token; one that can't be read, and rdf:langString, count as
-/// the empty one.
-pub(crate) fn datatype(
+/// Puts the datatype into the field, where the attribute is there. It is read as one token; one that can't be read, and
+/// rdf:langString, count as the empty one.
+#[inline(always)]
+pub(crate) fn put_datatype(
+    field: &mut Option<Datatype>,
     maker: &mut IriMaker,
     names: &NamesView<'_>,
     value: Option<&str>,
-) -> Result<Option<Datatype>, NoMemory>
+) -> Result<(), NoMemory>
     requires { is_relative (vocabulary_of (names_seen names.now)) ≡ false }
-    ensures { IfOk result (λ datatype. (line : List StartTag) → Stands (names_seen names.now) line
-        → option_map datatype_seen datatype ≡
+    ensures { OnOk result ((line : List StartTag) → Stands (names_seen names.now) line
+        → option_map datatype_seen field.new ≡
         option_map (λ value. the.datatype_of (the.predicate (names_seen names.now).context line (trimmed value))) (seen_slice value.entry)) }
 {
     let Some(value) = value else {
-        return Ok(None);
+        empty(field);
+        return Ok(());
     };
     let datatype = predicate(maker, names, trim(value))?;
-    Ok(Some(datatype_of(datatype)))
+    *field = Some(datatype_of(datatype));
+    Ok(())
 }
 
 fn datatype_of(iri: Option<Iri>) -> Datatype
@@ -113,27 +118,38 @@ fn begins_with(text: &str, scheme: &str) -> bool
     behind(text, scheme).is_some()
 }
 
-/// The IRI of the vocabulary that the tag declares, where there is one.
-pub(crate) fn vocabulary(
+/// Puts the IRI of the vocabulary that the tag declares into the field, where there is one.
+#[inline(always)]
+pub(crate) fn put_vocabulary(
+    field: &mut Option<Iri>,
     maker: &mut IriMaker,
     declared: Option<&str>,
-) -> Result<Option<Iri>, NoMemory>
+) -> Result<(), NoMemory>
     requires { is_relative (seen_slice declared) ≡ false }
-    ensures { IfOk result (λ iri. iri ≡ option_map cleaned (seen_slice declared.entry)) }
+    ensures { OnOk result (field.new ≡ option_map cleaned (seen_slice declared.entry)) }
 {
     let Some(declared) = declared else {
-        return Ok(None);
+        empty(field);
+        return Ok(());
     };
     let iri = maker.cleaned(declared)?;
-    Ok(Some(iri))
+    *field = Some(iri);
+    Ok(())
 }
 
-/// The current language.
-pub(crate) fn language(alloc: Global, names: &NamesView<'_>) -> Result<Option<Lang>, NoMemory>
-    ensures { IfOk result (λ lang. (line : List StartTag) → Stands (names_seen names.now) line → lang ≡ language line) }
+/// Puts the current language into the field.
+#[inline(always)]
+pub(crate) fn put_language(
+    field: &mut Option<Lang>,
+    alloc: Global,
+    names: &NamesView<'_>,
+) -> Result<(), NoMemory>
+    ensures { OnOk result ((line : List StartTag) → Stands (names_seen names.now) line → field.new ≡ language line) }
 {
-    match names.lang() {
-        Some(language) => Lang::of(alloc, language),
-        None => Ok(None),
-    }
+    let Some(language) = names.lang() else {
+        empty(field);
+        return Ok(());
+    };
+    *field = Lang::of(alloc, language)?;
+    Ok(())
 }

@@ -12,7 +12,8 @@ use std::alloc::Global;
 /// How many IRIs a maker keeps.
 const PLACES: usize = 256;
 
-/// An odd number whose bits are mixed (2^64 through the golden ratio): each byte of a text moves the highest bits.
+/// An odd number whose bits are mixed (2^64 through the golden ratio): each bit of a number moves the highest bits of the
+/// product.
 const MIXER: u64 = 0x9E37_79B9_7F4A_7C15;
 
 /// How many of a text's last bytes tell its place. IRIs of one page mostly differ at their ends.
@@ -97,12 +98,14 @@ fn is_joined(iri: &Iri, front: &str, more: &str) -> bool
 fn place_of(front: &str, more: &str) -> usize {
     let bytes = more.as_bytes();
     let told = &bytes[bytes.len().saturating_sub(TOLD)..];
-    let mut number = (front.len() as u64).wrapping_add(bytes.len() as u64);
+    let mut number = 0;
     for byte in told {
-        number = number.wrapping_add(u64::from(*byte)).wrapping_mul(MIXER);
+        number = number << 8 | u64::from(*byte);
     }
+    let length = (front.len() as u64).wrapping_add(bytes.len() as u64);
+    let mixed = number.wrapping_add(length).wrapping_mul(MIXER);
     // the highest eight bits
-    (number >> 56) as usize
+    (mixed >> 56) as usize
 }
 
 /// A new IRI, with escapes for the characters that no IRI may have.

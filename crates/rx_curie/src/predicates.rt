@@ -8,6 +8,7 @@ ghost use Rattle.rx_rdfa.specs.Facts as the;
 ghost use Rattle.rx_names.specs.Lines.{Stands, vocabulary_of};
 ghost use Rattle.rx_names.specs.Views.{names_seen};
 
+use crate::fields::empty;
 use crate::made::iri_of;
 use crate::makers::IriMaker;
 use crate::readings::{read_no_term, read_term};
@@ -15,25 +16,30 @@ use rx_names::{NamesView, is_term};
 use rx_terms::{Iri, Iris, NoMemory};
 use rx_words::first_token;
 
-/// The predicates of `rel` or `rev` where the attribute counts as present. Beside `property` only CURIEs and texts with a
-/// scheme are kept, and an attribute that keeps none counts as absent (HTML+RDFa 1.1, section 3.1).
-pub(crate) fn link(
+/// Puts the predicates of `rel` or `rev` into the field, where the attribute counts as present. Beside `property` only CURIEs
+/// and texts with a scheme are kept, and an attribute that keeps none counts as absent (HTML+RDFa 1.1, section 3.1).
+#[inline(always)]
+pub(crate) fn put_link(
+    field: &mut Option<Iris>,
     maker: &mut IriMaker,
     names: &NamesView<'_>,
     value: Option<&str>,
     beside_property: bool,
-) -> Result<Option<Iris>, NoMemory>
+) -> Result<(), NoMemory>
     requires { is_relative (vocabulary_of (names_seen names.now)) ≡ false }
-    ensures { IfOk result (λ iris. (line : List Tag) → Stands (names_seen names.now) line
-        → iris ≡ option_and_then (the.link (names_seen names.now).context line beside_property) (seen_slice value.entry)) }
+    ensures { OnOk result ((line : List Tag) → Stands (names_seen names.now) line
+        → field.new ≡ option_and_then (the.link (names_seen names.now).context line beside_property) (seen_slice value.entry)) }
 {
-    match value {
-        Some(value) => link_of(maker, names, value, beside_property),
-        None => Ok(None),
-    }
+    let Some(value) = value else {
+        empty(field);
+        return Ok(());
+    };
+    *field = link_of(maker, names, value, beside_property)?;
+    Ok(())
 }
 
 /// The predicates that the value keeps. Most tags have no such attribute, and don't come here.
+#[inline(never)]
 fn link_of(
     maker: &mut IriMaker,
     names: &NamesView<'_>,
@@ -51,21 +57,25 @@ fn link_of(
     Ok(Some(iris))
 }
 
-/// The predicates of `property`, where the attribute is there.
-pub(crate) fn properties(
+/// Puts the predicates of `property` into the field, where the attribute is there.
+#[inline(always)]
+pub(crate) fn put_properties(
+    field: &mut Option<Iris>,
     maker: &mut IriMaker,
     names: &NamesView<'_>,
     value: Option<&str>,
-) -> Result<Option<Iris>, NoMemory>
+) -> Result<(), NoMemory>
     requires { is_relative (vocabulary_of (names_seen names.now)) ≡ false }
-    ensures { IfOk result (λ iris. (line : List Tag) → Stands (names_seen names.now) line
-        → iris ≡ option_map (the.predicates (names_seen names.now).context line) (seen_slice value.entry)) }
+    ensures { OnOk result ((line : List Tag) → Stands (names_seen names.now) line
+        → field.new ≡ option_map (the.predicates (names_seen names.now).context line) (seen_slice value.entry)) }
 {
     let Some(value) = value else {
-        return Ok(None);
+        empty(field);
+        return Ok(());
     };
     let iris = predicates(maker, names, value)?;
-    Ok(Some(iris))
+    *field = Some(iris);
+    Ok(())
 }
 
 /// The predicates that the tokens name, in order.

@@ -1,5 +1,5 @@
 //! What `about`, `resource`, `href` and `src` name.
-ghost use Rattle.std.specs.Prelude.{◌≡◌, List, IfOk, option_map, option_and_then};
+ghost use Rattle.std.specs.Prelude.{◌≡◌, List, IfOk, OnOk, option_map, option_and_then};
 ghost use Rattle.std.specs.Str.{chars};
 ghost use Rattle.rx_refs.specs.Views.{seen_slice};
 ghost use Rattle.rx_rdfa.specs.Tree.{Tag};
@@ -8,6 +8,7 @@ ghost use Rattle.rx_names.specs.Lines.{Stands};
 ghost use Rattle.rx_names.specs.Views.{names_seen};
 ghost use Rattle.rx_curie.specs.Seen.{ref_seen};
 
+use crate::fields::empty;
 use crate::made::ref_of;
 use crate::makers::IriMaker;
 use crate::readings::read_resource;
@@ -16,23 +17,28 @@ use rx_names::NamesView;
 use rx_terms::{NoMemory, Text};
 use std::alloc::Global;
 
-/// The resource of `about` or `resource`, where the attribute counts as present: brackets without a CURIE inside make it
-/// absent.
-pub(crate) fn resource(
+/// Puts the resource of `about` or `resource` into the field, where the attribute counts as present: brackets without a
+/// CURIE inside make it absent.
+#[inline(always)]
+pub(crate) fn put_resource(
+    field: &mut Option<Ref>,
     maker: &mut IriMaker,
     names: &NamesView<'_>,
     value: Option<&str>,
-) -> Result<Option<Ref>, NoMemory>
-    ensures { IfOk result (λ made. (line : List Tag) → Stands (names_seen names.now) line
-        → option_map ref_seen made ≡ option_and_then (the.resource_of (names_seen names.now).context line) (seen_slice value.entry)) }
+) -> Result<(), NoMemory>
+    ensures { OnOk result ((line : List Tag) → Stands (names_seen names.now) line
+        → option_map ref_seen field.new ≡ option_and_then (the.resource_of (names_seen names.now).context line) (seen_slice value.entry)) }
 {
-    match value {
-        Some(value) => resource_of(maker, names, value),
-        None => Ok(None),
-    }
+    let Some(value) = value else {
+        empty(field);
+        return Ok(());
+    };
+    *field = resource_of(maker, names, value)?;
+    Ok(())
 }
 
 /// The resource that the value names. Most tags have no such attribute, and don't come here.
+#[inline(never)]
 fn resource_of(
     maker: &mut IriMaker,
     names: &NamesView<'_>,
@@ -48,24 +54,38 @@ fn resource_of(
     Ok(Some(resource))
 }
 
-/// The reference of `href` or `src`, where the attribute is there.
-pub(crate) fn reference(alloc: Global, value: Option<&str>) -> Result<Option<Ref>, NoMemory>
-    ensures { IfOk result (λ made. option_map ref_seen made ≡ option_map the.RelativeRef (seen_slice value.entry)) }
+/// Puts the reference of `href` or `src` into the field, where the attribute is there.
+#[inline(always)]
+pub(crate) fn put_reference(
+    field: &mut Option<Ref>,
+    alloc: Global,
+    value: Option<&str>,
+) -> Result<(), NoMemory>
+    ensures { OnOk result (option_map ref_seen field.new ≡ option_map the.RelativeRef (seen_slice value.entry)) }
 {
     let Some(value) = value else {
-        return Ok(None);
+        empty(field);
+        return Ok(());
     };
     let reference = Text::of(alloc, value)?;
-    Ok(Some(Ref::Relative(reference)))
+    *field = Some(Ref::Relative(reference));
+    Ok(())
 }
 
-/// The text, where there is one.
-pub(crate) fn text(alloc: Global, value: Option<&str>) -> Result<Option<Text>, NoMemory>
-    ensures { IfOk result (λ text. text ≡ seen_slice value.entry) }
+/// Puts the text into the field, where there is one.
+#[inline(always)]
+pub(crate) fn put_text(
+    field: &mut Option<Text>,
+    alloc: Global,
+    value: Option<&str>,
+) -> Result<(), NoMemory>
+    ensures { OnOk result (field.new ≡ seen_slice value.entry) }
 {
     let Some(value) = value else {
-        return Ok(None);
+        empty(field);
+        return Ok(());
     };
     let text = Text::of(alloc, value)?;
-    Ok(Some(text))
+    *field = Some(text);
+    Ok(())
 }

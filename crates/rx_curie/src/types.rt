@@ -10,6 +10,7 @@ ghost use Rattle.rx_names.specs.Lines.{Stands, vocabulary_of};
 ghost use Rattle.rx_names.specs.Views.{names_seen};
 ghost use Rattle.rx_curie.specs.Seen.{refs_seen};
 
+use crate::fields::empty;
 use crate::made::ref_of;
 use crate::makers::IriMaker;
 use crate::nodes::Nodes2;
@@ -18,21 +19,25 @@ use rx_names::NamesView;
 use rx_terms::NoMemory;
 use rx_words::first_token;
 
-/// The types, where the attribute is there.
-pub(crate) fn types(
+/// Puts the types into the field, where the attribute is there.
+#[inline(always)]
+pub(crate) fn put_types(
+    field: &mut Option<Nodes2>,
     maker: &mut IriMaker,
     names: &NamesView<'_>,
     value: Option<&str>,
-) -> Result<Option<Nodes2>, NoMemory>
+) -> Result<(), NoMemory>
     requires { is_relative (vocabulary_of (names_seen names.now)) ≡ false }
-    ensures { IfOk result (λ types. (line : List Tag) → Stands (names_seen names.now) line
-        → option_map refs_seen types ≡ option_map (the.types_of (names_seen names.now).context line) (seen_slice value.entry)) }
+    ensures { OnOk result ((line : List Tag) → Stands (names_seen names.now) line
+        → option_map refs_seen field.new ≡ option_map (the.types_of (names_seen names.now).context line) (seen_slice value.entry)) }
 {
     let Some(value) = value else {
-        return Ok(None);
+        empty(field);
+        return Ok(());
     };
     let types = types_of(maker, names, value)?;
-    Ok(Some(types))
+    *field = Some(types);
+    Ok(())
 }
 
 /// The types that the tokens name, in order.

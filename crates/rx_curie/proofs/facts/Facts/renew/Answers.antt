@@ -1,12 +1,8 @@
-use Rattle.std.proofs.Common.{◌≡◌, ◌∙◌, ◌∷◌, List, Option, false, option_map, ap, sym, subst}
-use Rattle.rx_rdfa.specs.Tree.{Tag}
+use Rattle.std.proofs.Common.{◌∙◌, ◌∷◌, ap, sym}
 use Rattle.rx_rdfa.specs.Facts.{facts, facts_of}
-use Rattle.rx_rdfa.specs.Refusals.{is_relative, refusal}
-use Rattle.rx_names.specs.Lines.{Stands}
+use Rattle.rx_rdfa.specs.Refusals.{refusal}
 use Rattle.rx_names.specs.Tags.{tag_of}
 use Rattle.rx_names.specs.Views.{names_seen}
-use Rattle.rx_grammar.specs.declared.faults.Kind.{Kind}
-use Rattle.rx_curie.specs.Given.{kind_of, vocabulary_from}
 use Rattle.rx_curie.proofs.RefusalLemmas.{refuses-for, refuses-none, refused-line}
 use Rattle.rx_curie.proofs.facts.Facts.renew.Goals as goal
 
