@@ -84,7 +84,27 @@ impl Head {
 
 impl Stage {
     /// An element with these facts begins inside so many that are open.
+    #[inline(always)]
     pub(crate) fn begin(
+        &mut self,
+        origin: &Origin,
+        count: u32,
+        tag: &Tag<'_>,
+        facts: &mut Facts,
+    ) -> Result<(), NoMemory>
+        requires { MayTake origin.now.levels (Enter (facts_seen facts.old) ∷ []) self.old }
+        ensures { OnOk result (Tells origin.now (λ seeking. seek_begun count seeking (tag_of tag.now)) (Enter (facts_seen facts.old) ∷ []) self.old self.new) }
+    {
+        match self {
+            Stage::Found(eval) => enter(eval, facts),
+            Stage::Seeking(_head) => self.begin_seeking(origin, count, tag, facts),
+        }
+    }
+
+    /// The same, where the base is mostly looked for still. That is so at a few elements of a page, and an evaluator that is
+    /// made here is large, so that this stands apart.
+    #[inline(never)]
+    fn begin_seeking(
         &mut self,
         origin: &Origin,
         count: u32,
@@ -119,7 +139,20 @@ impl Stage {
     }
 
     /// The innermost of so many elements ends.
+    #[inline(always)]
     pub(crate) fn finish(&mut self, origin: &Origin, count: u32) -> Result<(), NoMemory>
+        requires { MayTake origin.now.levels (Leave ∷ []) self.old }
+        ensures { OnOk result (Tells origin.now (seek_finished count) (Leave ∷ []) self.old self.new) }
+    {
+        match self {
+            Stage::Found(eval) => eval.leave(),
+            Stage::Seeking(_head) => self.finish_seeking(origin, count),
+        }
+    }
+
+    /// The same, where the base is mostly looked for still.
+    #[inline(never)]
+    fn finish_seeking(&mut self, origin: &Origin, count: u32) -> Result<(), NoMemory>
         requires { MayTake origin.now.levels (Leave ∷ []) self.old }
         ensures { OnOk result (Tells origin.now (seek_finished count) (Leave ∷ []) self.old self.new) }
     {
