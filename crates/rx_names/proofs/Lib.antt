@@ -9,3 +9,4 @@ pub mod GivenLemmas
 pub mod LineLemmas
 pub mod FileLemmas
 pub mod MarkLemmas
+pub mod WordLemmas

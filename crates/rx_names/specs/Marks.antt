@@ -1,5 +1,5 @@
 -- Marks of names, by which most names that a tag doesn't have are told at once.
-use Rattle.std.specs.Prelude.{◌≡◌, ℕ, ◌+◌, ◌*◌, ◌%◌, ◌^◌, ◌==◌, Bool, false, List, Option, None, length, get_or, bit_and}
+use Rattle.std.specs.Prelude.{◌≡◌, ℕ, ◌+◌, ◌*◌, ◌%◌, ◌^◌, ◌==◌, Bool, false, List, None, length, get_or, bit_and}
 use Rattle.std.specs.Str.{encode_utf8_all}
 use Rattle.rx_terms.specs.Text.{Chars}
 use Rattle.rx_rdfa.specs.Tree.{value_of_first}

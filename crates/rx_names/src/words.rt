@@ -6,7 +6,7 @@ ghost use Rattle.rx_terms.specs.Ascii.{solidus};
 ghost use Rattle.rx_rdfa.specs.Names.{is_nc_name};
 ghost use Rattle.rx_rdfa.specs.Readings.{is_term};
 ghost use Rattle.rx_chars.specs.NcName as nc;
-ghost use Rattle.rx_names.specs.Words.{begins_name};
+ghost use Rattle.rx_names.specs.Words.{begins_name, is_term_byte};
 
 use rx_chars::{is_nc, is_nc_start};
 
@@ -31,6 +31,7 @@ pub fn is_low_line(text: &str) -> bool
     text == "_"
 }
 
+#[inline(always)]
 fn begins_name(text: &str) -> bool
     ensures { result ≡ begins_name (chars text.now) }
 {
@@ -49,12 +50,27 @@ fn are_nc(text: &str) -> bool
 fn are_nc_or_slash(text: &str) -> bool
     ensures { result ≡ list_all (λ c. nc.is_nc c || c == solidus) (chars text.now) }
 {
-    text.chars().all(|c| stands_in_term(c))
+    if are_term_bytes(text) {
+        return true;
+    }
+    stand_in_term(text)
 }
 
-/// Whether a term may hold the character. Most are ASCII, and those are told before the table is asked.
-fn stands_in_term(c: char) -> bool
-    ensures { result ≡ (nc.is_nc c || c == solidus) }
+/// Whether all bytes are characters of ASCII that stand in a term, as those of nearly all terms are.
+fn are_term_bytes(text: &str) -> bool
+    ensures { result ≡ list_all is_term_byte text.now }
 {
-    matches!(c, 'a'..='z' | 'A'..='Z' | '/' | '0'..='9' | '-' | '.' | '_') || is_nc(c)
+    text.bytes().all(|byte| is_term_byte(byte))
+}
+
+fn is_term_byte(byte: u8) -> bool
+    ensures { result ≡ is_term_byte byte }
+{
+    byte.is_ascii_alphabetic() || matches!(byte, b'-'..=b'9' | b'_')
+}
+
+fn stand_in_term(text: &str) -> bool
+    ensures { result ≡ list_all (λ c. nc.is_nc c || c == solidus) (chars text.now) }
+{
+    text.chars().all(|c| is_nc(c) || c == '/')
 }

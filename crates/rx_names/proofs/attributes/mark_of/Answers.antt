@@ -1,4 +1,4 @@
-use Rattle.std.proofs.Common.{◌≡◌, ◌∙◌, ℕ, ◌+◌, ◌*◌, ◌%◌, ◌^◌, length, ap}
+use Rattle.std.proofs.Common.{◌∙◌, ℕ, ◌+◌, ◌*◌, ◌%◌, ◌^◌, length, ap}
 use Rattle.rx_names.specs.Marks.{mark_of}
 use Rattle.rx_names.proofs.MarkLemmas.{mark_of_chars}
 use Rattle.rx_names.proofs.attributes.mark_of.Goals as goal
