@@ -1,5 +1,5 @@
 //! What an element hands on to its children (RDFa Core 1.1, section 7.5).
-ghost use Rattle.std.specs.Prelude.{◌≡◌, IfOk};
+ghost use Rattle.std.specs.Prelude.{◌≡◌, [], IfOk};
 
 use rx_lists::Owner;
 use rx_terms::{Iri, NoMemory, Node};
@@ -37,6 +37,13 @@ impl Model for Hangings {
 }
 
 impl Hangings {
+    /// The list where nothing waits.
+    pub fn none() -> Hangings
+        ensures { result ≡ [] }
+    {
+        Hangings { list: None }
+    }
+
     /// The list, to be shared.
     pub fn of(alloc: Global, list: Vec<Waiting>) -> Result<Hangings, NoMemory>
         ensures { IfOk result (λ hangings. hangings ≡ list.items) }

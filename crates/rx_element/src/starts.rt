@@ -124,13 +124,40 @@ impl<'a> Place<'a> {
         ensures value { IfOk result (λ started. option_map term_seen started.value ≡ value_now (rule (naming self.now) self.now.base.now (facts_seen facts.now) (found_seen started.found)) (facts_seen facts.now)) }
     {
         let found = self.find(facts)?;
-        let value = value_now(self.alloc, self.base, self.labels, facts, &found)?;
+        let value = self.value(facts, &found)?;
         self.push_start(out, iris, facts, &found, &value)?;
         Ok(Started { found, value })
     }
 
-    /// Adds the triples of the element's start, with its resources and its value.
-    fn push_start(
+    /// The value of the element's property, with its resources, and None where that is the element's text.
+    #[inline(always)]
+    pub fn value(&self, facts: &Facts, found: &Found) -> Result<Option<Term>, NoMemory>
+        ensures { IfOk result (λ value. option_map term_seen value ≡ value_now (rule (naming self.now) self.now.base.now (facts_seen facts.now) (found_seen found.now)) (facts_seen facts.now)) }
+    {
+        value_now(self.alloc, self.base, self.labels, facts, found)
+    }
+
+    /// Adds the triples of the element's start, with its resources and its value, so that they need not be moved. After
+    /// want of memory some may have been added.
+    #[inline(always)]
+    pub fn push_start(
+        &self,
+        out: &mut TripleList,
+        iris: &OwnIris,
+        facts: &Facts,
+        found: &Found,
+        value: &Option<Term>,
+    ) -> Result<(), NoMemory>
+        requires found { found_seen found.now ≡ resources (naming self.now) self.now.base.now (standing self.now (facts_seen facts.now)) }
+        requires value { option_map term_seen value.now ≡ value_now (rule (naming self.now) self.now.base.now (facts_seen facts.now) (found_seen found.now)) (facts_seen facts.now) }
+        ensures { OnOk result (triples_seen out.new ≡ triples_seen out.old ++ start_of (naming self.now) self.now.base.now (standing self.now (facts_seen facts.now))) }
+    {
+        self.push_parts(out, iris, facts, found, value)
+    }
+
+    /// The same, part by part.
+    #[inline(always)]
+    fn push_parts(
         &self,
         out: &mut TripleList,
         iris: &OwnIris,

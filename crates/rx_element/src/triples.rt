@@ -44,6 +44,7 @@ fn push_first(
     Ok(())
 }
 
+#[inline(always)]
 fn push(out: &mut TripleList, subject: &Node, predicate: &Iri, object: Term) -> Result<(), NoMemory>
     ensures { OnOk result (triples_seen out.new ≡ triples_seen out.old ++ spo (node_seen subject.now) predicate.now (term_seen object) ∷ []) }
 {

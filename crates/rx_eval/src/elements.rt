@@ -1,12 +1,13 @@
 //! The start of an element (RDFa Core 1.1, section 7.5).
 ghost use Rattle.std.specs.Prelude.{◌≡◌, ◌&&◌, [], ◌++◌, false, OnOk, IfOk, IfSome, Some, None, is_some, is_none, length, map, option_map, if◌then◌else◌};
 ghost use Rattle.rx_model.specs.Seen.{node_seen, term_seen, triples_seen};
-ghost use Rattle.rx_rdfa.specs.Inherited.{handed, object_below};
+ghost use Rattle.rx_rdfa.specs.Inherited.{handed, hangs, object_below};
 ghost use Rattle.rx_curie.specs.Seen.{facts_seen};
 ghost use Rattle.rx_element.specs.Contexts.{context_seen, waiting_seen};
 ghost use Rattle.rx_element.specs.Found.{found_seen};
 ghost use Rattle.rx_element.specs.Places.{naming, standing};
 ghost use Rattle.rx_eval.specs.OwnersSeen.{owners_seen, put_entries};
+ghost use Rattle.rx_eval.specs.Frames.{hanging_by};
 ghost use Rattle.rx_eval.specs.Listing.{entries_in};
 ghost use Rattle.rx_eval.specs.Gathering.{target_seen};
 ghost use Rattle.rx_eval.specs.Closing.{slots_in};
@@ -122,11 +123,13 @@ pub(crate) fn enter(
     ensures own { IfOk result (λ frame. option_map owner_seen frame.own ≡ at_place own_at place.now (facts_seen facts.now) (length lists.old)) }
     ensures below { IfOk result (λ frame. option_map owner_seen frame.below ≡ at_place below_own_at place.now (facts_seen facts.now) (length lists.old)) }
 {
-    let started = place.start(facts, iris, out)?;
-    if started.found.skipped {
+    let found = place.find(facts)?;
+    let value = place.value(facts, &found)?;
+    place.push_start(out, iris, facts, &found, &value)?;
+    if found.skipped {
         return skipped(place.around);
     }
-    enter_found(place, facts, &started.found, &started.value, lists, mark)
+    enter_found(place, facts, &found, &value, lists, mark)
 }
 
 /// The same of an element that isn't skipped, but for its triples.
@@ -171,7 +174,34 @@ fn enter_found(
     })
 }
 
+/// What waits for the children of an element that isn't skipped. At most elements that is nothing, for which no list is
+/// made.
+#[inline(always)]
+fn waiting_below(
+    alloc: Global,
+    facts: &Facts,
+    found: &Found,
+    own: Owner,
+) -> Result<Hangings, NoMemory>
+    ensures { IfOk result (λ hangings. map waiting_seen hangings ≡ (if hangs (facts_seen facts.now) (found_seen found.now) then hanging_by (facts_seen facts.now) own.0 else [])) }
+{
+    if !hangs(facts, found) {
+        return Ok(Hangings::none());
+    }
+    shared_waiting(alloc, facts, own)
+}
+
+/// The triples of `rel` and `rev` that wait, to be shared; apart from the way of most elements.
+#[inline(never)]
+fn shared_waiting(alloc: Global, facts: &Facts, own: Owner) -> Result<Hangings, NoMemory>
+    ensures { IfOk result (λ hangings. map waiting_seen hangings ≡ hanging_by (facts_seen facts.now) own.0) }
+{
+    let waiting = waiting_of(alloc, facts, own)?;
+    Hangings::of(alloc, waiting)
+}
+
 /// What the children of an element that isn't skipped inherit.
+#[inline(always)]
 fn hand(
     alloc: Global,
     facts: &Facts,
@@ -182,12 +212,7 @@ fn hand(
 ) -> Result<Context, NoMemory>
     ensures { IfOk result (λ context. context_seen context ≡ handed_by (facts_seen facts.now) (found_seen found.now) (option_map node_seen object) own.0 below.0) }
 {
-    let waiting = if hangs(facts, found) {
-        waiting_of(alloc, facts, own)?
-    } else {
-        Vec::new(alloc)
-    };
-    let hanging = Hangings::of(alloc, waiting)?;
+    let hanging = waiting_below(alloc, facts, found, own)?;
     let object = match object {
         Some(object) => object,
         None => found.subject.try_clone()?,

@@ -1,11 +1,12 @@
 //! What an element begins and hands on (RDFa Core 1.1, section 7.5, steps 8, 10 and 13).
-ghost use Rattle.std.specs.Prelude.{◌≡◌, OnOk, IfOk, nat_eq, option_map, length};
+ghost use Rattle.std.specs.Prelude.{◌≡◌, [], ◌∷◌, ◌++◌, Some, OnOk, IfOk, nat_eq, option_map, length};
 ghost use Rattle.rx_model.specs.Terms.{same_node};
 ghost use Rattle.rx_model.specs.Seen.{node_seen};
 ghost use Rattle.rx_rdfa.specs.Inherited.{hangs, holds_some, listed, object_below};
 ghost use Rattle.rx_curie.specs.Seen.{facts_seen};
 ghost use Rattle.rx_element.specs.Found.{found_seen};
 ghost use Rattle.rx_element.specs.Places.{naming, standing};
+ghost use Rattle.rx_lists.specs.Owners.{owned};
 ghost use Rattle.rx_eval.specs.Handing.{begun, begun_number};
 
 use rx_curie::Facts;
@@ -54,6 +55,7 @@ pub(crate) fn object_below(
 }
 
 /// A new owner of lists with the subject, where that isn't the other node.
+#[inline(always)]
 pub(crate) fn begin(
     lists: &mut Lists,
     subject: &Node,
@@ -65,5 +67,14 @@ pub(crate) fn begin(
     if is_same(subject, other) {
         return Ok(None);
     }
-    Ok(Some(lists.start(subject.try_clone()?)?))
+    Ok(Some(start(lists, subject)?))
+}
+
+/// A new owner of lists with the subject; apart from the way of most elements, which begin none.
+#[inline(never)]
+fn start(lists: &mut Lists, subject: &Node) -> Result<Owner, NoMemory>
+    ensures lists { OnOk result (lists.new ≡ lists.old ++ Some (owned subject.now []) ∷ []) }
+    ensures owner { IfOk result (λ owner. owner.0 ≡ length lists.old) }
+{
+    lists.start(subject.try_clone()?)
 }
