@@ -23,6 +23,7 @@ pub fn draw_labels(labels: &mut Labels, facts: &Facts, next: u64) -> Result<u64,
     draw_all_types(labels, &facts.types, next)
 }
 
+#[inline(always)]
 fn draw_all_types(labels: &mut Labels, types: &Option<Nodes2>, next: u64) -> Result<u64, NoMemory>
     requires { next + length (flat_map label_of (listed (option_map refs_seen types.now))) < 2 ^ 64 }
     ensures ok { IfOk result (λ after. Drawn labels.old next (flat_map label_of (listed (option_map refs_seen types.now))) labels.new after) }
@@ -34,6 +35,7 @@ fn draw_all_types(labels: &mut Labels, types: &Option<Nodes2>, next: u64) -> Res
     }
 }
 
+#[inline(always)]
 fn draw_option(labels: &mut Labels, name: &Option<Ref>, next: u64) -> Result<u64, NoMemory>
     requires { next + length (label_of_option (option_map ref_seen name.now)) < 2 ^ 64 }
     ensures ok { IfOk result (λ after. Drawn labels.old next (label_of_option (option_map ref_seen name.now)) labels.new after) }
@@ -45,6 +47,7 @@ fn draw_option(labels: &mut Labels, name: &Option<Ref>, next: u64) -> Result<u64
     }
 }
 
+#[inline(always)]
 fn draw_ref(labels: &mut Labels, name: &Ref, next: u64) -> Result<u64, NoMemory>
     requires { next + length (label_of (ref_seen name.now)) < 2 ^ 64 }
     ensures ok { IfOk result (λ after. Drawn labels.old next (label_of (ref_seen name.now)) labels.new after) }
@@ -57,6 +60,7 @@ fn draw_ref(labels: &mut Labels, name: &Ref, next: u64) -> Result<u64, NoMemory>
     }
 }
 
+#[inline(never)]
 fn draw_types(labels: &mut Labels, types: &Nodes2, next: u64) -> Result<u64, NoMemory>
     requires { next + length (flat_map label_of (refs_seen types.now)) < 2 ^ 64 }
     ensures ok { IfOk result (λ after. Drawn labels.old next (flat_map label_of (refs_seen types.now)) labels.new after) }

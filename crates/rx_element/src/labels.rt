@@ -76,7 +76,9 @@ impl Labels {
         add_row(&mut self.labels, &mut self.numbers, key, number)
     }
 
-    /// Gives the label the next number where it has none, and answers the number that comes next then.
+    /// Gives the label the next number where it has none, and answers the number that comes next then. Most elements have
+    /// no label, so that this stands apart from their way.
+    #[inline(never)]
     pub(crate) fn draw(&mut self, label: &Text, next: u64) -> Result<u64, NoMemory>
         requires { next + 1 < 2 ^ 64 }
         ensures ok { IfOk result (λ after. Drawn self.old next (label.now ∷ []) self.new after) }

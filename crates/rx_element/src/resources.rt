@@ -86,6 +86,7 @@ impl<'a> Place<'a> {
     }
 
     /// The subject of an element with a link or a plain property.
+    #[inline(always)]
     fn default_subject(&self, facts: &Facts) -> Result<Node, NoMemory>
         ensures { IfOk result (λ node. node_seen node ≡ default_subject (naming self.now) self.now.base.now (standing self.now (facts_seen facts.now))) }
     {
