@@ -1,5 +1,5 @@
 -- Triples that are added one after another.
-use Rattle.std.proofs.Common.{◌≡◌, ◌∙◌, ℕ, ◌+◌, ◌≤◌, List, [], ◌∷◌, ◌++◌, map, length, drop, Some, slice_get, refl, sym, ap, append_assoc, append-nil, add-one, Result, Ok, Err}
+use Rattle.std.proofs.Common.{◌≡◌, ◌∙◌, ℕ, zero, suc, ◌+◌, ◌≤◌, arith, List, [], ◌∷◌, ◌++◌, map, length, drop, Some, slice_get, refl, sym, ap, append_assoc, append-nil, add-one, Result, Ok, Err}
 use Rattle.std.specs.Prelude.{OnOk}
 use Rattle.rx_terms.specs.Text.{Chars}
 use Rattle.rx_model.specs.Terms.{Node, Term, Triple}
@@ -39,6 +39,19 @@ pub last_pushed : {A E : Type 0} (r : Result (Unit {0}) E) (f : A → Triple ℕ
     → OnOk r (more ≡ out ++ f x ∷ []) → ToCome out (map f (drop i xs)) whole → OnOk r (more ≡ whole)
 last_pushed (Ok done) f xs i x out more whole g h m w = last_came f xs i x out more whole g h m w
 last_pushed (Err error) f xs i x out more whole g h m w = m
+
+-- the only one
+all_left : {A : Type 0} (xs : List A) → drop 0 xs ≡ xs
+all_left [] = refl
+all_left (x ∷ xs) = refl
+
+only_to_come : {A : Type 0} (f : A → Triple ℕ) (xs : List A) (i : ℕ) (out : List (Triple ℕ)) → i ≡ 0 → ToCome out (map f (drop i xs)) (out ++ map f xs)
+only_to_come f xs zero out z = record { path = ap (λ (l : List _). out ++ map f l) (all_left xs) }
+only_to_come f xs (suc i) out z = absurd (omega (arith, z))
+
+pub only_pushed : {A E : Type 0} (r : Result (Unit {0}) E) (f : A → Triple ℕ) (xs : List A) (i : ℕ) (x : A) (out more : List (Triple ℕ)) → i ≡ 0 → slice_get xs i ≡ Some x → length xs ≤ i + 1
+    → OnOk r (more ≡ out ++ f x ∷ []) → OnOk r (more ≡ out ++ map f xs)
+only_pushed r f xs i x out more z g h m = last_pushed r f xs i x out more (out ++ map f xs) g h m (only_to_come f xs i out z)
 
 -- a type more
 same_named : (labels : Numbered) (f : ℕ) (base : Chars) (r : Ref) → resource_named (moment labels 0 0 0) base r ≡ resource_named (moment labels f 0 0) base r

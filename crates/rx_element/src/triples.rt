@@ -1,5 +1,5 @@
 //! The triples of an element's start (RDFa Core 1.1, section 7.5, steps 2, 7, 9, 11 and 12).
-ghost use Rattle.std.specs.Prelude.{◌≡◌, ◌≤◌, ◌∷◌, [], ◌++◌, OnOk, drop, length, map, filter_map};
+ghost use Rattle.std.specs.Prelude.{◌≡◌, ◌≤◌, ◌+◌, ◌∷◌, [], ◌++◌, OnOk, drop, length, map, filter_map};
 ghost use Rattle.rx_model.specs.Seen.{node_seen, term_seen, triples_seen};
 ghost use Rattle.rx_model.specs.Copied.{spo};
 ghost use Rattle.rx_rdfa.specs.Inherited.{listed};
@@ -22,6 +22,24 @@ pub fn push_each(
     let Some(last) = predicates.len().checked_sub(1) else {
         return Ok(());
     };
+    if last == 0 {
+        return push(out, subject, predicates.at(last), object);
+    }
+    push_several(out, subject, predicates, last, object)
+}
+
+/// The same for several predicates, the last one at a place; apart from the way of one, where the object isn't lent.
+#[inline(never)]
+fn push_several(
+    out: &mut TripleList,
+    subject: &Node,
+    predicates: &Iris,
+    last: usize,
+    object: Term,
+) -> Result<(), NoMemory>
+    requires { last + 1 ≡ length predicates.now }
+    ensures { OnOk result (triples_seen out.new ≡ triples_seen out.old ++ map (λ p. spo (node_seen subject.now) p (term_seen object)) predicates.now) }
+{
     push_first(out, subject, predicates, last, &object)?;
     push(out, subject, predicates.at(last), object)
 }

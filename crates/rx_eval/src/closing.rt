@@ -27,6 +27,14 @@ fn fill_each(lists: &mut Lists, slots: &[SlotId], value: &Term) -> Result<(), No
     Ok(())
 }
 
+/// Puts a value into each of the places that nothing else wants; apart from the way of triples.
+#[inline(never)]
+fn fill_last(lists: &mut Lists, slots: &[SlotId], value: Term) -> Result<(), NoMemory>
+    ensures { OnOk result (owners_seen lists.new ≡ fill_all slots.now (term_seen value) (owners_seen lists.old)) }
+{
+    fill_each(lists, slots, &value)
+}
+
 /// The value that the text is goes where it is wanted: into triples, or into the places in lists.
 fn put_value(
     out: &mut TripleList,
@@ -39,7 +47,7 @@ fn put_value(
 {
     match &gathered.target {
         Target::Said(predicates) => push_each(out, &gathered.subject, predicates, value),
-        Target::Listed(slots) => fill_each(lists, slots.as_slice(), &value),
+        Target::Listed(slots) => fill_last(lists, slots.as_slice(), value),
     }
 }
 

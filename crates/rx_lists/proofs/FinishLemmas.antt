@@ -1,5 +1,5 @@
 -- The triples of an owner's lists, list by list.
-use Rattle.std.proofs.Common.{◌≡◌, ◌∙◌, ℕ, zero, suc, ◌+◌, ◌≤◌, ◌<◌, ◌^◌, List, [], ◌∷◌, ◌++◌, filter_map, length, drop, get_or, Option, Some, None, refl, sym, ap, ap₂, subst, arith, append_assoc, append-nil, drop-cons, add-one, slice_get, true, false, ◌-◌, take, option_to_list, length-append}
+use Rattle.std.proofs.Common.{◌≡◌, ◌∙◌, ℕ, zero, suc, ◌+◌, ◌≤◌, ◌<◌, ◌^◌, List, [], ◌∷◌, ◌++◌, filter_map, length, drop, get_or, Option, Some, None, refl, sym, ap, ap₂, subst, arith, append_assoc, append-nil, drop-cons, add-one, slice_get, slice_set, true, false, ◌-◌, take, option_to_list, length-append}
 use Rattle.std.proofs.Math.Seq.{take-append_seam}
 use Rattle.std.proofs.lemmas.List.{length-map}
 use Rattle.rx_terms.specs.declared.triples.Term.{Term as CodeTerm}
@@ -102,6 +102,17 @@ trim_popped xs ys None h e = ap trimmed (sym (append-nil ys) ∙ sym e)
 trim_popped xs ys (Some p) h e =
     let n : length xs - 1 ≡ length ys = omega (arith, ap length e, length-append ys (p ∷ [])) in
     trim_turn xs ys h (sym (take-append_seam ys (p ∷ [])) ∙ ap (take (length ys)) (sym e) ∙ ap (λ (k : ℕ). take k xs) (sym n))
+
+-- the last owner, cut off or finished
+last_gone : (xs : Owners) (n : ℕ) → suc n ≡ length xs → trimmed (take n xs) ≡ trimmed (slice_set xs n None)
+last_gone [] n e = absurd (omega arith)
+last_gone (o ∷ []) zero e = refl
+last_gone (o ∷ []) (suc n) e = absurd (omega arith)
+last_gone (o ∷ p ∷ more) zero e = absurd (omega arith)
+last_gone (o ∷ p ∷ more) (suc n) e = ap (trimmed_by o) (last_gone (p ∷ more) n (omega arith))
+
+pub cut_last : (xs ys : Owners) (n : ℕ) → n + 1 ≡ length xs → ys ≡ take n xs → trimmed ys ≡ trimmed (slice_set xs n None)
+cut_last xs ys n e h = ap trimmed h ∙ last_gone xs n (omega (arith, e))
 
 -- as many numbers are left as the lists that are left may take
 pub record Fitting (numbers next : ℕ) (left lists : Slots) : Type 0 where

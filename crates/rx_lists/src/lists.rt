@@ -141,9 +141,7 @@ impl Lists {
         ensures err { OnErr result (self.new ≡ self.old) }
     {
         let finished = self.finished(owner, next_blank)?;
-        if owner.0 < self.owners.len() {
-            self.owners[owner.0] = None;
-        }
+        drop_owner(&mut self.owners, owner.0);
         trim(&mut self.owners);
         Ok(finished)
     }
@@ -182,6 +180,20 @@ fn nothing(alloc: Global, next_blank: u64) -> Finished
         triples: TripleList::new(alloc),
         next_blank,
     }
+}
+
+/// Drops an owner. It is mostly the last one, which is dropped where it lies, with no empty one written over it.
+fn drop_owner(owners: &mut Vec<Option<OwnerLists>>, number: usize)
+    ensures { trimmed owners.new.items ≡ trimmed (slice_set owners.old.items number None) }
+{
+    if number >= owners.len() {
+        return;
+    }
+    if number + 1 == owners.len() {
+        owners.truncate(number);
+        return;
+    }
+    owners[number] = None;
 }
 
 /// Drops the finished owners at the end.
