@@ -175,31 +175,31 @@ impl Facts {
         &mut self,
         maker: &mut IriMaker,
         name: &str,
-        attributes: &Attributes<'_>,
+        tag: &Attributes<'_>,
         names: &NamesView<'_>,
     ) -> Result<(), NoMemory>
-        requires name { chars name.now ≡ attributes.now.name }
-        requires own { is_relative (own_vocabulary attributes.now) ≡ false }
+        requires name { chars name.now ≡ tag.now.name }
+        requires own { is_relative (own_vocabulary tag.now) ≡ false }
         requires vocabulary { is_relative (vocabulary_of (names_seen names.now)) ≡ false }
         ensures { OnOk result ((line : List StartTag) → Stands (names_seen names.now) line
-            → facts_seen self.new ≡ the.facts_of (names_seen names.now).context line attributes.now) }
+            → facts_seen self.new ≡ the.facts_of (names_seen names.now).context line tag.now) }
     {
-        let property = attributes.value("property");
-        let beside_property = property.is_some();
+        let property = tag.value("property");
+        let beside = property.is_some();
         self.element = kind_of(name);
-        put_resource(&mut self.about, maker, names, attributes.value("about"))?;
-        put_resource(&mut self.resource, maker, names, attributes.value("resource"))?;
-        put_reference(&mut self.href, maker.alloc, attributes.value("href"))?;
-        put_reference(&mut self.src, maker.alloc, attributes.value("src"))?;
-        put_link(&mut self.rel, maker, names, attributes.value("rel"), beside_property)?;
-        put_link(&mut self.rev, maker, names, attributes.value("rev"), beside_property)?;
+        put_resource(&mut self.about, maker, names, tag.value("about"))?;
+        put_resource(&mut self.resource, maker, names, tag.value("resource"))?;
+        put_reference(&mut self.href, maker.alloc, tag.value("href"))?;
+        put_reference(&mut self.src, maker.alloc, tag.value("src"))?;
+        put_link(&mut self.rel, maker, names, tag.value("rel"), beside)?;
+        put_link(&mut self.rev, maker, names, tag.value("rev"), beside)?;
         put_properties(&mut self.property, maker, names, property)?;
-        put_types(&mut self.types, maker, names, attributes.value("typeof"))?;
-        put_text(&mut self.content, maker.alloc, attributes.value("content"))?;
-        put_text(&mut self.datetime, maker.alloc, attributes.value("datetime"))?;
-        put_datatype(&mut self.datatype, maker, names, attributes.value("datatype"))?;
-        self.inlist = attributes.value("inlist").is_some();
-        put_vocabulary(&mut self.vocab, maker, own_vocabulary(attributes))?;
+        put_types(&mut self.types, maker, names, tag.value("typeof"))?;
+        put_text(&mut self.content, maker.alloc, tag.value("content"))?;
+        put_text(&mut self.datetime, maker.alloc, tag.value("datetime"))?;
+        put_datatype(&mut self.datatype, maker, names, tag.value("datatype"))?;
+        self.inlist = tag.value("inlist").is_some();
+        put_vocabulary(&mut self.vocab, maker, own_vocabulary(tag))?;
         put_language(&mut self.lang, maker.alloc, names)?;
         Ok(())
     }
