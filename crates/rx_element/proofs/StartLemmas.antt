@@ -1,6 +1,6 @@
 -- The triples of an element's start: what its parts come to is what the rules say.
-use Rattle.std.proofs.Common.{◌≡◌, ◌∙◌, ℕ, List, [], ◌∷◌, ◌++◌, map, filter_map, Option, Some, None, option_map, option_to_list, refl, sym, ap, ap₂, append_assoc, Result, Ok, Err}
-use Rattle.std.specs.Prelude.{if◌then◌else◌, OnOk}
+use Rattle.std.proofs.Common.{◌≡◌, ◌∙◌, ℕ, List, [], ◌∷◌, ◌++◌, map, filter_map, Option, Some, None, option_map, option_to_list, refl, sym, ap, ap₂, append_assoc}
+use Rattle.std.specs.Prelude.{if◌then◌else◌}
 use Rattle.rx_terms.specs.Text.{Chars}
 use Rattle.rx_model.specs.Terms.{Node, Iri, Term, Triple}
 use Rattle.rx_rdfa.specs.Iris.{uses_vocabulary}
@@ -66,8 +66,3 @@ module _ (N : Naming ℕ ℕ) (base : Chars) (S : Standing ℕ ℕ) where
       parts =
           ap₂ (λ (a b : List (Triple ℕ)). a ++ b) (ap₂ (λ (a b : List (Triple ℕ)). a ++ b) (types H.typed) (links H H.object)) rest
           ∙ sym (append_assoc (types_by N base S H.typed ++ links_by N base S H H.object) (properties_by N base S H (value_now (rule N base S.facts H) S.facts)) C)
-
--- what was added, in other words
-pub pushed_as : {E : Type 0} (r : Result (Unit {0}) E) (out new a b : List (Triple ℕ)) → a ≡ b → OnOk r (new ≡ out ++ a) → OnOk r (new ≡ out ++ b)
-pushed_as (Ok done) out new a b e h = h ∙ ap (λ (l : List (Triple ℕ)). out ++ l) e
-pushed_as (Err error) out new a b e h = h

@@ -2,8 +2,8 @@
 //! value of its property, and the triples of its start.
 //!
 //! An element stands at a [`Place`], inside a [`Context`]; its [`rx_curie::Facts`] are what its start tag says.
-//! [`Place::find`] gives its resources and [`Place::value`] its value; with these [`Place::push_start`] adds its triples.
-//! [`TextRule`] says the value of an element whose value is its text. [`Labels`] keeps the numbers of the blank nodes that authors name. [`Placed::of`] and
+//! [`Place::start`] gives its resources and its value, and adds its triples. [`TextRule`] says the value of an element
+//! whose value is its text. [`Labels`] keeps the numbers of the blank nodes that authors name. [`Placed::of`] and
 //! [`value_of`] are the same rules for one element by itself.
 #![tactic(auto)]
 
@@ -27,6 +27,7 @@ pub use labels::Labels;
 pub use placed::{Placed, value_of};
 pub use places::{Level, Place, level_at};
 pub use resources::{Found, clone_option};
+pub use starts::Started;
 pub use triples::push_each;
 pub use values::{TextRule, node_term};
 

@@ -86,7 +86,6 @@ impl<'a> Place<'a> {
     }
 
     /// The subject of an element with a link or a plain property.
-    #[inline(always)]
     fn default_subject(&self, facts: &Facts) -> Result<Node, NoMemory>
         ensures { IfOk result (λ node. node_seen node ≡ default_subject (naming self.now) self.now.base.now (standing self.now (facts_seen facts.now))) }
     {
@@ -234,9 +233,9 @@ impl<'a> Place<'a> {
         self.level != Level::Root && facts.types.is_none()
     }
 
-    /// The resources of the element (RDFa Core 1.1, section 7.5, steps 5 and 6).
+    /// The resources of the element.
     #[tactic(auto, unfolding(rx_rdfa::specs::Resources::resources))]
-    pub fn find(&self, facts: &Facts) -> Result<Found, NoMemory>
+    pub(crate) fn find(&self, facts: &Facts) -> Result<Found, NoMemory>
         ensures { IfOk result (λ found. found_seen found ≡ resources (naming self.now) self.now.base.now (standing self.now (facts_seen facts.now))) }
     {
         if has_link(facts) {

@@ -21,6 +21,13 @@ use crate::values::{into_term, node_term, value_now};
 use rx_curie::{Facts, Nodes2, Ref};
 use rx_terms::{Iri, Iris, NoMemory, Node, Term, Triple, TripleList};
 
+/// What the start of an element finds: its resources, and the value of its property where that isn't its text.
+#[derive(Drop)]
+pub struct Started {
+    pub found: Found,
+    pub value: Option<Term>,
+}
+
 /// Adds the vocabulary that the element uses.
 fn push_vocabulary(
     out: &mut TripleList,
@@ -104,36 +111,26 @@ fn push_properties(
 }
 
 impl<'a> Place<'a> {
-    /// The value of the property of an element with these resources, and None where that is the element's text (RDFa Core
-    /// 1.1, section 7.5, step 11).
-    #[inline(always)]
-    pub fn value(&self, facts: &Facts, found: &Found) -> Result<Option<Term>, NoMemory>
-        ensures { IfOk result (λ value. option_map term_seen value ≡ value_now (rule (naming self.now) self.now.base.now (facts_seen facts.now) (found_seen found.now)) (facts_seen facts.now)) }
-    {
-        value_now(self.alloc, self.base, self.labels, facts, found)
-    }
-
-    /// Adds the triples of the start of the element, whose resources and value these are (RDFa Core 1.1, section 7.5, steps 2,
-    /// 7, 9, 11 and 12). After want of memory some may have been added.
-    #[inline(always)]
-    pub fn push_start(
+    /// The start of the element: finds its resources and its value, and adds its triples. After want of memory some may
+    /// have been added.
+    pub fn start(
         &self,
-        out: &mut TripleList,
-        iris: &OwnIris,
         facts: &Facts,
-        found: &Found,
-        value: &Option<Term>,
-    ) -> Result<(), NoMemory>
-        requires found { found_seen found.now ≡ resources (naming self.now) self.now.base.now (standing self.now (facts_seen facts.now)) }
-        requires value { option_map term_seen value.now ≡ value_now (rule (naming self.now) self.now.base.now (facts_seen facts.now) (found_seen found.now)) (facts_seen facts.now) }
-        ensures { OnOk result (triples_seen out.new ≡ triples_seen out.old ++ start_of (naming self.now) self.now.base.now (standing self.now (facts_seen facts.now))) }
+        iris: &OwnIris,
+        out: &mut TripleList,
+    ) -> Result<Started, NoMemory>
+        ensures triples { OnOk result (triples_seen out.new ≡ triples_seen out.old ++ start_of (naming self.now) self.now.base.now (standing self.now (facts_seen facts.now))) }
+        ensures found { IfOk result (λ started. found_seen started.found ≡ resources (naming self.now) self.now.base.now (standing self.now (facts_seen facts.now))) }
+        ensures value { IfOk result (λ started. option_map term_seen started.value ≡ value_now (rule (naming self.now) self.now.base.now (facts_seen facts.now) (found_seen started.found)) (facts_seen facts.now)) }
     {
-        self.push_parts(out, iris, facts, found, value)
+        let found = self.find(facts)?;
+        let value = value_now(self.alloc, self.base, self.labels, facts, &found)?;
+        self.push_start(out, iris, facts, &found, &value)?;
+        Ok(Started { found, value })
     }
 
-    /// The same, part by part.
-    #[inline(always)]
-    fn push_parts(
+    /// Adds the triples of the element's start, with its resources and its value.
+    fn push_start(
         &self,
         out: &mut TripleList,
         iris: &OwnIris,

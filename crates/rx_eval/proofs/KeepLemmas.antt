@@ -1,5 +1,5 @@
 -- Which text is kept.
-use Rattle.std.proofs.Common.{◌≡◌, ◌∙◌, ℕ, zero, suc, ◌-◌, take, get_or, ◌<◌, Bool, true, false, List, [], ◌∷◌, ◌++◌, map, length, Option, Some, None, option_map, is_some, refl, sym, ap, arith, length-append}
+use Rattle.std.proofs.Common.{◌≡◌, ◌∙◌, ℕ, suc, ◌<◌, Bool, true, false, List, [], ◌∷◌, ◌++◌, map, length, Option, Some, None, option_map, is_some, refl, sym, ap, arith, length-append}
 use Rattle.std.specs.Prelude.{◌||◌, ◌==◌, if◌then◌else◌}
 use Rattle.std.proofs.lemmas.Bool.Decides.{nat_tests}
 use Rattle.rx_terms.specs.Text.{Chars}
@@ -81,20 +81,6 @@ module _ (levels n : ℕ) (old fs : List CodeFrame) (f : CodeFrame) (place : Opt
     first = o ∙ first_left;
     quiet = λ z. h ∙ quiet_by was place kept s.quiet (sym o ∙ z);
   }
-
--- of a list that isn't empty, the last one and those before it
-last_one : {A : Type 0} (xs : List A) (n : ℕ) (x : A) → suc n ≡ length xs → x ≡ get_or xs n x → xs ≡ take n xs ++ x ∷ []
-last_one [] n x e h = absurd (omega arith)
-last_one (y ∷ []) zero x e h = ap (λ z. z ∷ []) (sym h)
-last_one (y ∷ []) (suc n) x e h = absurd (omega arith)
-last_one (y ∷ z ∷ more) zero x e h = absurd (omega arith)
-last_one (y ∷ z ∷ more) (suc n) x e h = ap (λ l. y ∷ l) (last_one (z ∷ more) n x (omega arith) h)
-
-pub last_cut : {A : Type 0} (xs shown ys : List A) (x : A) → shown ≡ xs → 0 < length xs → x ≡ get_or xs (length shown - 1) x → ys ≡ take (length shown - 1) xs → xs ≡ ys ++ x ∷ []
-last_cut xs shown ys x s p h t = last_one xs (length shown - 1) x (omega (arith, ap length s, p)) h ∙ ap (λ l. l ++ x ∷ []) (sym t)
-
-pub cut_length : {A : Type 0} (xs shown ys : List A) (x : A) → shown ≡ xs → xs ≡ ys ++ x ∷ [] → length shown - 1 ≡ length ys
-cut_length xs shown ys x s e = omega (arith, ap length s, ap length e, length-append ys (x ∷ []))
 
 was_none : (old : Option ℕ) (b : Bool) (n : ℕ) → first_of old b n ≡ None → old ≡ None
 was_none None b n e = refl

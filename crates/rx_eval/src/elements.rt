@@ -123,13 +123,11 @@ pub(crate) fn enter(
     ensures own { IfOk result (λ frame. option_map owner_seen frame.own ≡ at_place own_at place.now (facts_seen facts.now) (length lists.old)) }
     ensures below { IfOk result (λ frame. option_map owner_seen frame.below ≡ at_place below_own_at place.now (facts_seen facts.now) (length lists.old)) }
 {
-    let found = place.find(facts)?;
-    let value = place.value(facts, &found)?;
-    place.push_start(out, iris, facts, &found, &value)?;
-    if found.skipped {
+    let started = place.start(facts, iris, out)?;
+    if started.found.skipped {
         return skipped(place.around);
     }
-    enter_found(place, facts, &found, &value, lists, mark)
+    enter_found(place, facts, &started.found, &started.value, lists, mark)
 }
 
 /// The same of an element that isn't skipped, but for its triples.
@@ -201,7 +199,7 @@ fn shared_waiting(alloc: Global, facts: &Facts, own: Owner) -> Result<Hangings, 
 }
 
 /// What the children of an element that isn't skipped inherit.
-#[inline(always)]
+#[inline(never)]
 fn hand(
     alloc: Global,
     facts: &Facts,

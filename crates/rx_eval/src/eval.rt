@@ -220,18 +220,20 @@ impl Eval {
         requires { 0 < length self.old.frames }
         ensures { OnOk result (Closes self.old self.new) }
     {
-        let depth = self.frames.as_slice().len() - 1;
+        let Some(frame) = self.frames.pop() else {
+            unreachable!();
+        };
+        let depth = self.frames.as_slice().len();
         let was_outermost = is_place(self.outermost, depth);
         self.outermost = without(self.outermost, was_outermost);
         let cells = end_frame(
             self.alloc,
             &mut self.out,
             &mut self.lists,
-            &self.frames[depth],
+            &frame,
             &self.text,
             self.cells,
         );
-        self.frames.truncate(depth);
         forget(&mut self.text, was_outermost);
         let page = page_owner(depth, self.page.owner);
         self.cells = end_owner(&mut self.out, &mut self.lists, page, cells?)?;

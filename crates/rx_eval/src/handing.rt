@@ -15,6 +15,7 @@ use rx_lists::{Lists, Owner};
 use rx_terms::{Iris, NoMemory, Node};
 
 /// Whether the two are one node.
+#[inline(always)]
 pub(crate) fn is_same(a: &Node, b: &Node) -> bool
     ensures { result ≡ same_node nat_eq (node_seen a.now) (node_seen b.now) }
 {
@@ -55,7 +56,7 @@ pub(crate) fn object_below(
 }
 
 /// A new owner of lists with the subject, where that isn't the other node.
-#[inline(always)]
+#[inline(never)]
 pub(crate) fn begin(
     lists: &mut Lists,
     subject: &Node,
