@@ -7,24 +7,22 @@ use rx_terms::NoMemory;
 use std::alloc::Global;
 use std::marker::Model;
 
-/// A list of IRIs and authors' blank nodes that only grows, in the order of its pushes. Most lists have one, which takes no
-/// memory. A contract sees the list.
+/// A list of IRIs and authors' blank nodes that only grows, in the order of its pushes. A contract sees the list.
 #[derive(Debug, Drop)]
 pub struct Nodes2 {
-    first: Option<Ref>,
-    others: Vec<Ref>,
+    nodes: Vec<Ref>,
 }
 
 impl Model for Nodes2 {
     ghost use Rattle.std.specs.Prelude.{◌≡◌, List, true};
     ghost use Rattle.rx_curie.specs.declared.refs.Ref.{Ref};
-    ghost use Rattle.rx_curie.specs.Nodes.{are_nodes, first_with, IsFilled};
+    ghost use Rattle.rx_curie.specs.Nodes.{are_nodes};
 
     ghost Value = { List Ref };
 
-    ghost view = { λ list. first_with list.first list.others.items };
+    ghost view = { λ list. list.nodes.items };
 
-    ghost invariant = { λ list. IsFilled list.first list.others.items × (are_nodes (first_with list.first list.others.items) ≡ true) };
+    ghost invariant = { λ list. are_nodes list.nodes.items ≡ true };
 }
 
 impl Nodes2 {
@@ -33,8 +31,7 @@ impl Nodes2 {
         ensures empty { result ≡ [] }
     {
         Nodes2 {
-            first: None,
-            others: Vec::new(alloc),
+            nodes: Vec::new(alloc),
         }
     }
 
@@ -44,11 +41,7 @@ impl Nodes2 {
         ensures ok { OnOk result (self.new ≡ self.old ++ node ∷ []) }
         ensures err { OnErr result (self.new ≡ self.old) }
     {
-        if self.first.is_none() {
-            self.first = Some(node);
-            return Ok(());
-        }
-        match self.others.push(node) {
+        match self.nodes.push(node) {
             Ok(()) => Ok(()),
             Err(_refused) => Err(NoMemory),
         }
@@ -58,17 +51,14 @@ impl Nodes2 {
     pub fn len(&self) -> usize
         ensures length { result ≡ length self.now }
     {
-        match self.first {
-            Some(_) => 1 + self.others.len(),
-            None => 0,
-        }
+        self.nodes.len()
     }
 
     /// Whether there is none.
     pub fn is_empty(&self) -> bool
         ensures none { result ≡ (length self.now == 0) }
     {
-        self.first.is_none()
+        self.nodes.is_empty()
     }
 
     /// The node at a place below `len`, from 0.
@@ -77,9 +67,6 @@ impl Nodes2 {
         ensures node { slice_get self.now i ≡ Some result.now }
         ensures kind { are_nodes self.now ≡ true }
     {
-        match &self.first {
-            Some(node) if i == 0 => node,
-            _ => &self.others[i - 1],
-        }
+        &self.nodes[i]
     }
 }
