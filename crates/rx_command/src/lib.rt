@@ -15,8 +15,6 @@ mod pages;
 mod readers;
 mod samples;
 mod statuses;
-#[cfg(test)]
-mod tests;
 mod top;
 
 pub use rx_job::{Job, JobError};

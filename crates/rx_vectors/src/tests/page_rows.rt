@@ -1,6 +1,6 @@
 //! Worked pages, and how they are read: in pieces of several sizes.
-use crate::run;
 use crate::tests::words_of;
+use rx_command::run;
 use rx_ports::{FileList, MemShelf, MemSink};
 use std::alloc::Global;
 use std::process::Abort;

@@ -1,5 +1,5 @@
 //! The worked examples of the top call, over shelves and sinks in memory.
-use crate::{Fault, Kind, Status, run};
+use rx_command::{Fault, Kind, Status, run};
 use rx_ports::{FileList, MemShelf, MemSink};
 use rx_terms::Text;
 use std::alloc::Global;
