@@ -18,6 +18,7 @@ mod omitted_ends;
 mod page_rows;
 mod references;
 mod values;
+mod walks;
 mod words;
 mod xhtml;
 
