@@ -11,6 +11,7 @@ mod contexts;
 mod copying;
 mod faults;
 mod hanging;
+mod large;
 mod lists;
 mod literals;
 mod names;

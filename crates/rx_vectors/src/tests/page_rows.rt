@@ -21,6 +21,17 @@ fn check_page(rt: &impl Abort, alloc: Global, row: &PageRow, piece: usize) -> Re
     for (name, bytes) in row.files {
         files.push(*name, *bytes)?;
     }
+    check_run(rt, alloc, row, files, piece)
+}
+
+/// The row over these files, which come in pieces of this size.
+pub(crate) fn check_run(
+    rt: &impl Abort,
+    alloc: Global,
+    row: &PageRow,
+    files: FileList,
+    piece: usize,
+) -> Result<(), Fail> {
     let mut shelf = MemShelf::new(files, piece.max(1), Vec::new(alloc));
     let mut out = MemSink::with_room(alloc, 10_000, 10_000, Vec::new(alloc))?;
     let mut err = MemSink::with_room(alloc, 1000, 1000, Vec::new(alloc))?;
