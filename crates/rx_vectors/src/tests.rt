@@ -429,6 +429,14 @@ fn sample_pages(rt: HostRuntime) -> Result<(), Fail> {
             &["sample", "2"],
             b"sample 2: 273 bytes, 8 triples, 565 output bytes, depth 4\n",
         ),
+        sampled(
+            &["sample", "1000"],
+            b"sample 1000: 92981 bytes, 3002 triples, 196747 output bytes, depth 4\n",
+        ),
+        sampled(
+            &["sample", "100000"],
+            b"sample 100000: 9488981 bytes, 300002 triples, 20455747 output bytes, depth 4\n",
+        ),
         no_sample(&["sample"]),
         no_sample(&["sample", "0"]),
         no_sample(&["sample", "01"]),
