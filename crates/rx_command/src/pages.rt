@@ -53,7 +53,10 @@ pub(crate) fn read_page<F: Shelf>(
     let mut reader = Reader::Walks(walk);
     match feed_file(alloc, shelf, name, &mut reader) {
         Ok(()) => list_of(reader),
-        Err(error) => Err(error),
+        Err(error) => {
+            drop(reader);
+            Err(error)
+        }
     }
 }
 
@@ -76,7 +79,10 @@ pub(crate) fn check_page<F: Shelf>(
     let mut reader = Reader::Checks(check);
     match feed_file(alloc, shelf, name, &mut reader) {
         Ok(()) => checked(reader),
-        Err(error) => Err(error),
+        Err(error) => {
+            drop(reader);
+            Err(error)
+        }
     }
 }
 

@@ -38,13 +38,20 @@ pub(crate) fn sample(alloc: Global, count: u32) -> Result<Vec<u8>, NoMemory>
     ensures { IfOk result (λ line. IsSample count line.items) }
 {
     let mut feeding = Feeding::new(alloc)?;
-    feeding.feed(alloc, count)?;
+    match feeding.feed(alloc, count) {
+        Ok(()) => {}
+        Err(error) => {
+            drop(feeding);
+            return Err(error);
+        }
+    }
     let Feeding {
         walk,
+        piece,
         size,
         depth,
-        ..
     } = feeding;
+    drop(piece);
     let list = match walk.finish() {
         Ok(list) => list,
         Err(Stop::Fault(_fault)) => unreachable!(),
@@ -63,6 +70,7 @@ impl Feeding {
         let walk = Walk::new(alloc, Syntax::Html, context, address, Limits::standard())?;
         let mut piece = Vec::new(alloc);
         let Ok(()) = piece.extend_from_slice(HEAD) else {
+            drop(walk);
             return Err(NoMemory);
         };
         Ok(Feeding {

@@ -111,28 +111,54 @@ pub fn run<F: Shelf, O: Sink, E: Sink>(
         Err(JobError::NoMemory) => return Status::Memory,
     };
     match job.sample_count() {
-        Some(count) => return run_sample(alloc, count, out),
+        Some(count) => {
+            drop(job);
+            return run_sample(alloc, count, out);
+        }
         None => {}
     }
     match outcome_of_job(alloc, shelf, &job) {
         Ok(outcome) => match outcome.write(alloc, out) {
-            Ok(()) => Status::Done,
-            Err(WriteError::Failed) => Status::WriteFault,
-            Err(WriteError::NoMemory) => Status::Memory,
+            Ok(()) => {
+                drop(outcome);
+                drop(job);
+                Status::Done
+            }
+            Err(WriteError::Failed) => {
+                drop(outcome);
+                drop(job);
+                Status::WriteFault
+            }
+            Err(WriteError::NoMemory) => {
+                drop(outcome);
+                drop(job);
+                Status::Memory
+            }
         },
-        Err(InputError::Failed) => Status::ReadFault,
+        Err(InputError::Failed) => {
+            drop(job);
+            Status::ReadFault
+        }
         Err(InputError::BadContext) => {
+            drop(job);
             say(err, BAD_CONTEXT);
             Status::BadContext
         }
-        Err(InputError::Refused(fault)) => match line_of(alloc, fault) {
-            Ok(line) => {
-                say(err, line.as_bytes());
-                Status::Refused(fault)
+        Err(InputError::Refused(fault)) => {
+            drop(job);
+            match line_of(alloc, fault) {
+                Ok(line) => {
+                    say(err, line.as_bytes());
+                    drop(line);
+                    Status::Refused(fault)
+                }
+                Err(_no_memory) => Status::Memory,
             }
-            Err(_no_memory) => Status::Memory,
-        },
-        Err(InputError::NoMemory) => Status::Memory,
+        }
+        Err(InputError::NoMemory) => {
+            drop(job);
+            Status::Memory
+        }
     }
 }
 

@@ -203,6 +203,7 @@ impl Eval {
         ensures spent { IsErr result ↔ (self.spent ≡ true) }
     {
         if self.spent {
+            drop(self);
             return Err(NoMemory);
         }
         Ok(self.out)
@@ -234,6 +235,7 @@ impl Eval {
             &self.text,
             self.cells,
         );
+        drop(frame);
         forget(&mut self.text, was_outermost);
         let page = page_owner(depth, self.page.owner);
         self.cells = end_owner(&mut self.out, &mut self.lists, page, cells?)?;

@@ -42,8 +42,15 @@ fn is_part(name: &str) -> bool
     matches!(name, "thead" | "tbody" | "tfoot")
 }
 
+// The names in parts, since the check of a match takes time with the square of its length.
 fn ends_paragraph(name: &str) -> bool
     ensures { result ≡ is_among names.paragraph_enders name.now }
+{
+    ends_paragraph_early(name) || ends_paragraph_amid(name) || ends_paragraph_late(name)
+}
+
+fn ends_paragraph_early(name: &str) -> bool
+    ensures { result ≡ is_among (take 13 names.paragraph_enders) name.now }
 {
     matches!(
         name,
@@ -60,7 +67,15 @@ fn ends_paragraph(name: &str) -> bool
             | "figcaption"
             | "figure"
             | "footer"
-            | "form"
+    )
+}
+
+fn ends_paragraph_amid(name: &str) -> bool
+    ensures { result ≡ is_among (take 13 (drop 13 names.paragraph_enders)) name.now }
+{
+    matches!(
+        name,
+        "form"
             | "h1"
             | "h2"
             | "h3"
@@ -73,7 +88,15 @@ fn ends_paragraph(name: &str) -> bool
             | "li"
             | "main"
             | "menu"
-            | "nav"
+    )
+}
+
+fn ends_paragraph_late(name: &str) -> bool
+    ensures { result ≡ is_among (drop 26 names.paragraph_enders) name.now }
+{
+    matches!(
+        name,
+        "nav"
             | "ol"
             | "p"
             | "pre"

@@ -164,7 +164,10 @@ impl Check {
         ensures { IfOk result (λ check. checks.Stands syntax limits context check []) }
     {
         let nest = Nest::new(alloc, syntax, limits)?;
-        let names = Names::new(alloc, context, limits.depth)?;
+        let Ok(names) = Names::new(alloc, context, limits.depth) else {
+            drop(nest);
+            return Err(NoMemory);
+        };
         Ok(Check {
             nest,
             names,
@@ -209,14 +212,17 @@ impl Check {
     {
         let Check {
             mut nest,
+            names,
             failed,
             spent,
-            ..
         } = self;
+        drop(names);
         if spent {
+            drop(nest);
             return Err(Stop::NoMemory);
         }
         if let Some(fault) = failed {
+            drop(nest);
             return Err(Stop::Fault(fault));
         }
         nest.end()

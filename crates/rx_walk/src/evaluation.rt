@@ -75,6 +75,11 @@ pub(crate) fn evaluated(
 {
     let base = base(origin, href)?;
     let mut eval = Eval::new(origin.alloc, base, origin.levels)?;
-    replay(&mut eval, queue)?;
-    Ok(eval)
+    match replay(&mut eval, queue) {
+        Ok(()) => Ok(eval),
+        Err(error) => {
+            drop(eval);
+            Err(error)
+        }
+    }
 }

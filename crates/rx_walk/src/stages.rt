@@ -40,7 +40,10 @@ impl Head {
     {
         match self.queue.push(call) {
             Ok(()) => Ok(()),
-            Err(_refused) => Err(NoMemory),
+            Err(refused) => {
+                drop(refused);
+                Err(NoMemory)
+            }
         }
     }
 
@@ -119,7 +122,7 @@ impl Stage {
             Stage::Seeking(head) => head.begin(origin, count, tag, facts)?,
         };
         if let Some(eval) = known {
-            *self = Stage::Found(eval);
+            drop(mem::replace(self, Stage::Found(eval)));
         }
         Ok(())
     }
@@ -161,7 +164,7 @@ impl Stage {
             Stage::Seeking(head) => head.finish(origin, count)?,
         };
         if let Some(eval) = known {
-            *self = Stage::Found(eval);
+            drop(mem::replace(self, Stage::Found(eval)));
         }
         Ok(())
     }

@@ -107,7 +107,16 @@ fn list_of(course: Course) -> TripleList
     requires { walks.IsWhole course }
     ensures { (context : RulesContext) (address : Chars) (levels : ℕ) (root : StartTag) (inside : Tree) → Runs context address levels course (signs_of (element root inside end)) → walks.Lists context address levels (element root inside end) result }
 {
-    let Course { stage, .. } = course;
+    let Course {
+        names,
+        maker,
+        facts,
+        stage,
+        ..
+    } = course;
+    drop(names);
+    drop(maker);
+    drop(facts);
     match stage {
         Stage::Found(eval) => match eval.finish() {
             Ok(list) => list,
@@ -130,7 +139,10 @@ impl Walk {
         ensures { IfOk result (λ walk. walks.Stands syntax limits context address walk []) }
     {
         let nest = Nest::new(alloc, syntax, limits)?;
-        let course = Course::new(alloc, context, address, limits.depth)?;
+        let Ok(course) = Course::new(alloc, context, address, limits.depth) else {
+            drop(nest);
+            return Err(NoMemory);
+        };
         Ok(Walk {
             nest,
             course,
@@ -181,14 +193,25 @@ impl Walk {
             spent,
         } = self;
         if spent {
+            drop(nest);
+            drop(course);
             return Err(Stop::NoMemory);
         }
         if let Some(fault) = failed {
+            drop(nest);
+            drop(course);
             return Err(Stop::Fault(fault));
         }
         match nest.end() {
-            Ok(()) => Ok(list_of(course)),
-            Err(stop) => Err(stop),
+            Ok(()) => {
+                drop(nest);
+                Ok(list_of(course))
+            }
+            Err(stop) => {
+                drop(nest);
+                drop(course);
+                Err(stop)
+            }
         }
     }
 

@@ -10,14 +10,14 @@ invariant_of-result c unfailed unspent = (
     limits = c.args.limits;
     context = c.args.context;
     bytes = [];
-    goes = record { signs = []; shown = c.in_ok-nest.ensures.stands; accepts = accepts_none c.args.context c.in_ok-names.names c.in_ok-names.ensures.none c.in_ok-names.ensures.line };
+    goes = record { signs = []; shown = c.in_ok-nest.ensures.stands; accepts = accepts_none c.args.context c.in-Ok.names c.in-Ok.ensures.none c.in-Ok.ensures.line };
   },
   new_paid c.args.syntax c.args.limits c.in_ok-nest.nest c.in_ok-nest.ensures.stands,
 )
 
 pub returns : goal.returns
 returns c = record {
-  goes = record { signs = []; shown = c.in_ok-nest.ensures.stands; accepts = accepts_none c.args.context c.in_ok-names.names c.in_ok-names.ensures.none c.in_ok-names.ensures.line };
+  goes = record { signs = []; shown = c.in_ok-nest.ensures.stands; accepts = accepts_none c.args.context c.in-Ok.names c.in-Ok.ensures.none c.in-Ok.ensures.line };
   paid = new_paid c.args.syntax c.args.limits c.in_ok-nest.nest c.in_ok-nest.ensures.stands;
   unfailed = refl;
   unspent = refl;

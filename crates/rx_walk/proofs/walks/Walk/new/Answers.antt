@@ -10,14 +10,14 @@ invariant_of-result c unfailed unspent = (
     context = c.args.context;
     address = c.args.address;
     bytes = [];
-    goes = record { signs = []; shown = c.in_ok-nest.ensures.stands; runs = c.in_ok-course.ensures };
+    goes = record { signs = []; shown = c.in_ok-nest.ensures.stands; runs = c.in-Ok.ensures };
   },
   new_paid c.args.syntax c.args.limits c.in_ok-nest.nest c.in_ok-nest.ensures.stands,
 )
 
 pub returns : goal.returns
 returns c = record {
-  goes = record { signs = []; shown = c.in_ok-nest.ensures.stands; runs = c.in_ok-course.ensures };
+  goes = record { signs = []; shown = c.in_ok-nest.ensures.stands; runs = c.in-Ok.ensures };
   paid = new_paid c.args.syntax c.args.limits c.in_ok-nest.nest c.in_ok-nest.ensures.stands;
   unfailed = refl;
   unspent = refl;
