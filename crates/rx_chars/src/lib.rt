@@ -64,6 +64,3 @@ pub fn enters_normal()
 pub fn normal_grows()
     ensures { NormalGrows }
 {}
-
-#[cfg(test)]
-mod tests;

@@ -34,6 +34,3 @@ pub use rx_grammar::Kind;
 pub fn seen_one_to_one()
     ensures { SeenOneToOne }
 {}
-
-#[cfg(test)]
-mod tests;

@@ -30,6 +30,3 @@ pub use resources::{Found, clone_option};
 pub use starts::Started;
 pub use triples::push_each;
 pub use values::{TextRule, node_term};
-
-#[cfg(test)]
-mod tests;

@@ -26,6 +26,3 @@ pub use rx_element::{Labels, Placed, value_of};
 pub fn reserved_are_filled()
     ensures { ReservedAreFilled }
 {}
-
-#[cfg(test)]
-mod tests;

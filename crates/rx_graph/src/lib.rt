@@ -20,6 +20,3 @@ mod walked;
 pub use copying::{copy_patterns, copy_patterns_owned};
 pub use graphs::Graph;
 pub use numbering::{relabel, relabel_owned};
-
-#[cfg(test)]
-mod tests;

@@ -10,6 +10,3 @@ mod owner_lists;
 mod slot_rows;
 
 pub use lists::{Finished, Lists, Owner, SlotId};
-
-#[cfg(test)]
-mod tests;

@@ -24,6 +24,3 @@ pub use context_files::ContextError;
 pub use contexts::Context;
 pub use names::{Names, NamesView};
 pub use words::{is_low_line, is_nc_name, is_term};
-
-#[cfg(test)]
-mod tests;

@@ -27,6 +27,3 @@ pub fn shows_one_element()
 pub fn tags_lie_in_their_bytes()
     ensures { TagsLieInTheirBytes }
 {}
-
-#[cfg(test)]
-mod tests;

@@ -30,6 +30,3 @@ pub fn a_text_denotes_one()
 pub fn proper_triples_stay()
     ensures { ProperStays }
 {}
-
-#[cfg(test)]
-mod tests;

@@ -15,8 +15,6 @@ mod puts;
 mod shelf;
 mod sink;
 mod std_sink;
-#[cfg(test)]
-mod tests;
 
 pub use file_list::FileList;
 pub use file_shelf::FileShelf;

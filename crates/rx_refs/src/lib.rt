@@ -46,6 +46,3 @@ pub fn resolved_is_iri()
 pub fn examples_hold()
     ensures { ExamplesHold }
 {}
-
-#[cfg(test)]
-mod tests;

@@ -28,6 +28,3 @@ pub use rx_chars::Syntax;
 pub use rx_grammar::{Content, Fault, Kind, Limits, RawName};
 pub use rx_tags::{Stop, Tag};
 pub use scans::Scan;
-
-#[cfg(test)]
-mod tests;

@@ -29,6 +29,3 @@ pub use tag_buf::TagBuf;
 pub use tag_text::TagStep;
 pub use tags::Tag;
 pub use values::{cased, no_meaning};
-
-#[cfg(test)]
-mod tests;

@@ -11,8 +11,6 @@ mod iri_list;
 mod iris;
 mod langs;
 mod literals;
-#[cfg(test)]
-mod tests;
 mod texts;
 mod triple_list;
 mod triples;

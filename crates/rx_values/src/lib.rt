@@ -14,6 +14,3 @@ mod zones;
 
 pub use patterns::{TimeKind, pattern};
 pub use text_store::TextStore;
-
-#[cfg(test)]
-mod tests;

@@ -64,6 +64,3 @@ pub fn numbers_grow()
 pub fn lists_are_numbered()
     ensures { ListIsNumbered }
 {}
-
-#[cfg(test)]
-mod tests;
