@@ -28,9 +28,8 @@ const BAD_CONTEXT: &[u8] = b"refused: context file\n";
 /// and the page from the shelf, writes the page's text to `out`, and says on `err` why there is none.
 ///
 /// What is said of the files' bytes is said of a shelf that tells its files, and what is said of the bytes written of
-/// a sink that tells what it holds. The first text that a run meets decides: the words, then the context file, then
-/// the page, then writing.
-/// Want of memory may come at any place before the first byte is written.
+/// a sink that tells what it holds. What a run meets first decides: the words, then the context file, then the page,
+/// then writing. Want of memory may come in place of any other answer, at any place before the first byte is written.
 pub fn run<F: Shelf, O: Sink, E: Sink>(
     alloc: Global,
     words: &[Text],
@@ -38,7 +37,8 @@ pub fn run<F: Shelf, O: Sink, E: Sink>(
     out: &mut O,
     err: &mut E,
 ) -> Status
-    // Usage comes exactly where the words ask for nothing, and then nothing is read.
+    // Usage comes only where the words ask for nothing, and then nothing is read. Where they ask for nothing there is no
+    // other answer but want of memory.
     ensures usage { result ≡ Status.Usage → job words.now ≡ None }
     ensures only_usage { job words.now ≡ None → (result ≡ Status.Usage) ⊎ (result ≡ Status.Memory) }
     ensures untouched { result ≡ Status.Usage → Moves Stays (F.told shelf.old) (F.told shelf.new) }
@@ -58,7 +58,7 @@ pub fn run<F: Shelf, O: Sink, E: Sink>(
     ensures refused_takes { (fault : Fault) → result ≡ Status.Refused fault → Moves (TakesToFault (page_asked words.now) fault) (F.told shelf.old) (F.told shelf.new) }
 
     // ReadFault comes only where the shelf failed, or lacks the context file, or lacks the page where the context file is
-    // a context; and where it lacks one of them there is no other answer.
+    // a context; and where it lacks one of them there is no other answer but want of memory.
     ensures read_fault { result ≡ Status.ReadFault → ReadCause words.now (F.told shelf.old) (F.faults shelf.old) (F.faults shelf.new) }
     // What was read of the page, where it is there, holds no fault then but that it ends.
     ensures cleanly { result ≡ Status.ReadFault → Moves (StopsCleanly (page_asked words.now)) (F.told shelf.old) (F.told shelf.new) }
@@ -73,7 +73,7 @@ pub fn run<F: Shelf, O: Sink, E: Sink>(
     ensures nothing_written { result ≢ Status.Done → result ≢ Status.WriteFault → Moves Stays (O.held out.old) (O.held out.new) }
 
     // BadContext comes only where the words name a context file, which is there and has another shape or is too long; and
-    // then there is no other answer, where nothing failed. No other file is read then.
+    // then, where nothing failed, there is no other answer but want of memory. No more is read than that file has.
     ensures names_context { result ≡ Status.BadContext → NamesContext words.now }
     ensures bad_context { result ≡ Status.BadContext → (told : Told) → F.told shelf.old ≡ Some told → HasBadContext words.now (F.told shelf.old) }
     ensures refuses_context { HasBadContext words.now (F.told shelf.old) → ¬ Rose (F.faults shelf.old) (F.faults shelf.new)
@@ -87,16 +87,18 @@ pub fn run<F: Shelf, O: Sink, E: Sink>(
     ensures says_context { result ≡ Status.BadContext → Says context_line (E.held err.old) (E.held err.new) (E.faults err.old) (E.faults err.new) }
     ensures says_nothing { result ≢ Status.Usage → result ≢ Status.BadContext → ((fault : Fault) → result ≢ Status.Refused fault) → Moves Stays (E.held err.old) (E.held err.new) }
 
-    // How much is read: no more than the named files have, nor more than the limit of the page and, where a context file
-    // is named, one byte past the largest of these.
+    // How much is read: no more than the named files have together, nor more than a piece past the limit of the page and,
+    // where a context file is named, one byte past the largest of these.
     ensures takes { Moves (TakesFiles (page_asked words.now)) (F.told shelf.old) (F.told shelf.new) }
 
-    // A sample reads nothing, and answers its line, whatever the shelf and the sinks tell: no page of a sample is refused.
+    // A sample reads nothing, and ends with its line written, or a front of it where out failed, or in want of memory,
+    // whatever the shelf and the sinks tell: no page of a sample is refused.
     ensures sample { (count : ℕ) → job words.now ≡ Some (samples count) →
         SampleEnds count result (O.held out.old) (O.held out.new) (O.faults out.old) (O.faults out.new) }
     ensures sample_reads { (count : ℕ) → job words.now ≡ Some (samples count) → Moves Stays (F.told shelf.old) (F.told shelf.new) }
 
-    // Where nothing failed, a page that has a text is done, and one that has a fault is refused.
+    // Where nothing failed, a page that has a text, or a sample, is done, and a page that has a fault is refused, unless
+    // memory runs out.
     ensures completes { (text : List ℕ) → Yields words.now (F.told shelf.old) text → ¬ Rose (F.faults shelf.old) (F.faults shelf.new)
         → ¬ Rose (O.faults out.old) (O.faults out.new) → (result ≡ Status.Done) ⊎ (result ≡ Status.Memory) }
     ensures refuses { (fault : Fault) → HasPageFault words.now (F.told shelf.old) fault → ¬ Rose (F.faults shelf.old) (F.faults shelf.new)
