@@ -30,7 +30,7 @@ use Rattle.rx_nquads.proofs.Adding.{adds_then, adds_by, adds_failed, all_ascii}
 
 -- ---- terms are spelled
 
-iri_spelled : (iri : Chars) → WritableIri iri → SpellsIri (iri_text iri) iri
+pub iri_spelled : (iri : Chars) → WritableIri iri → SpellsIri (iri_text iri) iri
 iri_spelled iri w = record { is_iri = w.is_iri; spelled = refl }
 
 above_zero : (digits : Chars) → 48 < get_or digits 0 0 → has_leading_zero digits ≡ false
@@ -45,7 +45,7 @@ shortest number h = go (number == 0) refl
     go true e = let none : number ≡ 0 = grind (arith, nat_tests, e) in ap (λ n. has_leading_zero (decimal n)) none ∙ ap has_leading_zero (decimal_digit 0 (omega arith))
     go false e = let some : 0 < number = grind (arith, nat_tests, e) in above_zero (decimal number) (first_decimal number some h)
 
-label_spelled : (number : ℕ) → number < 2 ^ 64 → SpellsLabel (blank_text number) number
+pub label_spelled : (number : ℕ) → number < 2 ^ 64 → SpellsLabel (blank_text number) number
 label_spelled number h = let d = decimal_is_IsNumeral number h in record { digits = decimal number; numeral = d.0; shortest = shortest number h; value = d.1; spelled = refl }
 
 pub node_spelled : (node : Node ℕ) → WritableNode node → SpellsNode (node_text node) node
@@ -66,7 +66,7 @@ char_spelled c spelling text s = go (c == quotation_mark) refl (c == reverse_sol
     go false e false f false g true h = rw (e, f, g, h) (escaped 114 c (ap Some (sym (is carriage_return h))) s)
     go false e false f false g false h = rw (e, f, g, h) (itself c (rw (e, f, g, h) refl) s)
 
-string_spelled : (text : Chars) → SpellsString (escaped_text text) text
+pub string_spelled : (text : Chars) → SpellsString (escaped_text text) text
 string_spelled [] = nothing
 string_spelled (c ∷ text) = char_spelled c (escaped_text text) text (string_spelled text)
 

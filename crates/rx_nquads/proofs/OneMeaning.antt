@@ -111,7 +111,7 @@ one_iri s r a b e h k =
     let both : less_than_sign ∷ (a ++ greater_than_sign ∷ []) ≡ less_than_sign ∷ (b ++ greater_than_sign ∷ []) = sym h.spelled ∙ e ∙ k.spelled in
     (cut greater_than_sign a b [] [] (lacks_any is_forbidden greater_than_sign refl a h.is_iri.clean) (lacks_any is_forbidden greater_than_sign refl b k.is_iri.clean) (cc)).0
 
-one_label : (s r : Chars) (a b : ℕ) → s ≡ r → SpellsLabel s a → SpellsLabel r b → a ≡ b
+pub one_label : (s r : Chars) (a b : ℕ) → s ≡ r → SpellsLabel s a → SpellsLabel r b → a ≡ b
 one_label s r a b e h k =
     let both : 95 ∷ 58 ∷ 98 ∷ h.digits ≡ 95 ∷ 58 ∷ 98 ∷ k.digits = sym h.spelled ∙ e ∙ k.spelled in
     let digits : h.digits ≡ k.digits = append_cancel_left (95 ∷ 58 ∷ 98 ∷ []) h.digits k.digits both in
@@ -140,7 +140,7 @@ one_kind _ _ _ _ e (typed s a h p) (tagged b k) = let heads : circumflex_accent 
 
 -- ---- a term at the front of a text
 
-one_string : (a b t u x y : Chars) → SpellsString a t → SpellsString b u → a ++ quotation_mark ∷ x ≡ b ++ quotation_mark ∷ y → (t ≡ u) × (x ≡ y)
+pub one_string : (a b t u x y : Chars) → SpellsString a t → SpellsString b u → a ++ quotation_mark ∷ x ≡ b ++ quotation_mark ∷ y → (t ≡ u) × (x ≡ y)
 one_string _ _ _ _ x y nothing nothing e = (refl, cc)
 one_string _ _ _ _ x y nothing (itself c h s) e =
     let same : quotation_mark ≡ c = cc in absurd (true≢false (sym h ∙ ap stands_for_itself (sym same)))

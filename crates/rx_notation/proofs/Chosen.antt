@@ -1,0 +1,179 @@
+-- The prefixes that a text uses.
+use Rattle.std.proofs.Common.{◌≡◌, ◌∙◌, ◌⊎◌, ℕ, Bool, true, false, not, cond, ◌==◌, List, [], ◌∷◌, ◌++◌, map, filter, flat_map, length, drop, Option, Some, None, bytes_eq, refl, sym, ap, ap₂, inl, inr, subst, true≢false, arith}
+use Rattle.std.proofs.lemmas.Bool.{and_parts, and_from}
+use Rattle.std.proofs.lemmas.Bool.Decides.{nat_tests}
+use Rattle.rx_terms.specs.Text.{Chars, begins_with}
+use Rattle.rx_model.specs.Sets.{Among, IsExact, contains}
+use Rattle.rx_model.specs.Terms.{Triple}
+use Rattle.rx_model.proofs.Sets.{Among_filter, Among_of_filter, Among_filter_map, Among_of_filter_map, Among-contains, Among_by_contains, Among_map, Among_of_map, false_unless, or_left, or_right}
+use Rattle.rx_model.proofs.Exact.{exact_texts}
+use Rattle.rx_notation.specs.Short.{Prefix, Prefixes, is_before, is_prefix_name, is_local_name, local_name, shortens, is_preferred, preferred, best, prefix_of}
+use Rattle.rx_notation.specs.Layout.{iris_of, used, same_prefix, those_among, placed, in_byte_order, prefixes_used}
+use Rattle.rx_notation.specs.Spelling.{names_differ}
+use Rattle.rx_notation.specs.Meaning.{iri_at, is_known}
+use Rattle.rx_notation.specs.Syntax.{Short}
+
+-- ---- the prefix that is taken
+
+best_among : (ps : Prefixes) (p : Prefix) → best ps ≡ Some p → Among ps p
+best_among [] p e = cc
+best_among (q ∷ more) p e = go (best more) refl (best_among more) e
+  where
+    pick : (b : Bool) (r : Prefix) → Among more r → Some (cond b r q) ≡ Some p → (q ≡ p) ⊎ Among more p
+    pick true r m f = inr (subst (Among more) (cc) m)
+    pick false r m f = inl (cc)
+
+    go : (o : Option Prefix) → best more ≡ o → ((r : Prefix) → best more ≡ Some r → Among more r) → Some (preferred q o) ≡ Some p → (q ≡ p) ⊎ Among more p
+    go None f ih g = inl (cc)
+    go (Some r) f ih g = pick (is_preferred r q) r (ih r f) g
+
+pub record Fits (context : Prefixes) (iri : Chars) (p : Prefix) : Type 0 where
+  pub there : Among context p
+  pub is_name : is_prefix_name p.0 ≡ true
+  pub begins : begins_with p.1 iri ≡ true
+  pub is_local : is_local_name (local_name p iri) ≡ true
+
+pub prefix_fits : (context : Prefixes) (iri : Chars) (p : Prefix) → prefix_of context iri ≡ Some p → Fits context iri p
+prefix_fits context iri p e =
+    let found = Among_of_filter (shortens iri) context p (best_among (filter (shortens iri) context) p e) in
+    let parts = and_parts _ _ found.1 in
+    let more = and_parts _ _ parts.1 in
+    record { there = found.0; is_name = parts.0; begins = more.0; is_local = more.1 }
+
+pub front_and_rest : (front text : Chars) → begins_with front text ≡ true → front ++ drop (length front) text ≡ text
+front_and_rest [] text h = refl
+front_and_rest (c ∷ front) [] h = absurd (true≢false (sym h))
+front_and_rest (c ∷ front) (d ∷ text) h =
+    let first : (c == d) ≡ true = (and_parts _ _ h).0 in
+    let same : c ≡ d = grind (arith, nat_tests, first) in
+    ap₂ ◌∷◌ same (front_and_rest front text (and_parts _ _ h).1)
+
+-- ---- prefixes of different names
+
+abbrev pub Apart : Prefixes → Type 0
+Apart [] = Unit {0}
+Apart (p ∷ ps) = ((q : Prefix) → Among ps q → p.0 ≡ q.0 → ⊥) × Apart ps
+
+abbrev name_of : Prefix → Chars
+name_of p = p.0
+
+pub names_apart : (ps : Prefixes) → names_differ (map (λ (p : Prefix). p.0) ps) ≡ true → Apart ps
+names_apart [] h = tt
+names_apart (p ∷ ps) h = (differs, names_apart ps (and_parts _ _ h).1)
+  where
+    differs : (q : Prefix) → Among ps q → p.0 ≡ q.0 → ⊥
+    differs q m e =
+        let there : contains bytes_eq (map name_of ps) p.0 ≡ true = Among-contains bytes_eq exact_texts (map name_of ps) p.0 (subst (Among (map name_of ps)) (sym e) (Among_map name_of ps q m)) in
+        true≢false (sym (and_parts _ _ h).0 ∙ ap not there)
+
+pub apart_names : (ps : Prefixes) → Apart ps → names_differ (map (λ (p : Prefix). p.0) ps) ≡ true
+apart_names [] h = refl
+apart_names (p ∷ ps) h = and_from _ _ (ap not (false_unless (contains bytes_eq (map name_of ps) p.0) twice)) (apart_names ps h.1)
+  where
+    twice : contains bytes_eq (map name_of ps) p.0 ≡ true → ⊥
+    twice c = let found = Among_of_map name_of ps p.0 (Among_by_contains bytes_eq exact_texts (map name_of ps) p.0 c) in h.0 found.0 found.1 (sym found.2)
+
+apart_filter : (test : Prefix → Bool) (ps : Prefixes) → Apart ps → Apart (filter test ps)
+apart_filter test [] h = tt
+apart_filter test (p ∷ ps) h = go (test p) (apart_filter test ps h.1)
+  where
+    go : (b : Bool) → Apart (filter test ps) → Apart (cond b (p ∷ filter test ps) (filter test ps))
+    go true k = (λ q m. h.0 q (Among_of_filter test ps q m).0, k)
+    go false k = k
+
+-- ---- prefixes in order
+
+of_placed : (p : Prefix) (ps : Prefixes) (q : Prefix) → Among (placed p ps) q → (p ≡ q) ⊎ Among ps q
+of_placed p [] q (inl e) = inl e
+of_placed p [] q (inr h) = absurd h
+of_placed p (first ∷ more) q h = go (is_before first.0 p.0) h (of_placed p more q)
+  where
+    go : (b : Bool) → Among (cond b (first ∷ placed p more) (p ∷ first ∷ more)) q → (Among (placed p more) q → (p ≡ q) ⊎ Among more q) → (p ≡ q) ⊎ Among (first ∷ more) q
+    go true (inl e) ih = inr (inl e)
+    go true (inr k) ih = elim (ih k) [ inl e ↦ inl e | inr m ↦ inr (inr m) ]
+    go false k ih = k
+
+placed_there : (p : Prefix) (ps : Prefixes) (q : Prefix) → (p ≡ q) ⊎ Among ps q → Among (placed p ps) q
+placed_there p [] q h = h
+placed_there p (first ∷ more) q h = go (is_before first.0 p.0) h (placed_there p more q)
+  where
+    go : (b : Bool) → (p ≡ q) ⊎ Among (first ∷ more) q → ((p ≡ q) ⊎ Among more q → Among (placed p more) q) → Among (cond b (first ∷ placed p more) (p ∷ first ∷ more)) q
+    go true (inl e) ih = inr (ih (inl e))
+    go true (inr (inl e)) ih = inl e
+    go true (inr (inr m)) ih = inr (ih (inr m))
+    go false k ih = k
+
+apart_placed : (p : Prefix) (ps : Prefixes) → ((q : Prefix) → Among ps q → p.0 ≡ q.0 → ⊥) → Apart ps → Apart (placed p ps)
+apart_placed p [] h k = (h, tt)
+apart_placed p (first ∷ more) h k = go (is_before first.0 p.0) (apart_placed p more (λ q m. h q (inr m)) k.1)
+  where
+    from_first : (q : Prefix) → Among (placed p more) q → first.0 ≡ q.0 → ⊥
+    from_first q m e = elim (of_placed p more q m) [ inl f ↦ h first (inl refl) (ap (λ (z : Prefix). z.0) f ∙ sym e) | inr n ↦ k.0 q n e ]
+
+    go : (b : Bool) → Apart (placed p more) → Apart (cond b (first ∷ placed p more) (p ∷ first ∷ more))
+    go true ih = (from_first, ih)
+    go false ih = (h, k)
+
+pub of_ordered : (ps : Prefixes) (q : Prefix) → Among (in_byte_order ps) q → Among ps q
+of_ordered [] q h = h
+of_ordered (p ∷ ps) q h = elim (of_placed p (in_byte_order ps) q h) [ inl e ↦ inl e | inr m ↦ inr (of_ordered ps q m) ]
+
+pub ordered_there : (ps : Prefixes) (q : Prefix) → Among ps q → Among (in_byte_order ps) q
+ordered_there [] q h = h
+ordered_there (p ∷ ps) q (inl e) = placed_there p (in_byte_order ps) q (inl e)
+ordered_there (p ∷ ps) q (inr m) = placed_there p (in_byte_order ps) q (inr (ordered_there ps q m))
+
+apart_ordered : (ps : Prefixes) → Apart ps → Apart (in_byte_order ps)
+apart_ordered [] h = tt
+apart_ordered (p ∷ ps) h = apart_placed p (in_byte_order ps) (λ q m. h.0 q (of_ordered ps q m)) (apart_ordered ps h.1)
+
+-- ---- the prefixes of a text
+
+exact_prefixes : IsExact same_prefix
+exact_prefixes a b = (
+  λ h. let parts = and_parts _ _ h in let name = (exact_texts a.0 b.0).0 parts.0 in let iri = (exact_texts a.1 b.1).0 parts.1 in λ i. (name i, iri i),
+  λ e. and_from _ _ ((exact_texts a.0 b.0).1 (ap (λ (z : Prefix). z.0) e)) ((exact_texts a.1 b.1).1 (ap (λ (z : Prefix). z.1) e)),
+)
+
+module _ (context : Prefixes) (list : List (Triple ℕ)) where
+  pub used_apart : Apart context → Apart (prefixes_used context list)
+  used_apart h = apart_ordered (those_among (used context list) context) (apart_filter (contains same_prefix (used context list)) context h)
+
+  pub used_of : (p : Prefix) → Among (prefixes_used context list) p → Among context p
+  used_of p m = (Among_of_filter (contains same_prefix (used context list)) context p (of_ordered (those_among (used context list) context) p m)).0
+
+  -- a prefix that is used makes a short form
+  pub used_fits : (p : Prefix) → Among (prefixes_used context list) p → (iri : Chars) × Fits context iri p
+  used_fits p m =
+      let found = Among_of_filter (contains same_prefix (used context list)) context p (of_ordered (those_among (used context list) context) p m) in
+      let iri = Among_of_filter_map (prefix_of context) (flat_map iris_of list) p (Among_by_contains same_prefix exact_prefixes (used context list) p found.1) in
+      (iri.0, prefix_fits context iri.0 p iri.2)
+
+  pub used_there : (iri : Chars) (p : Prefix) → Among (flat_map iris_of list) iri → prefix_of context iri ≡ Some p → Among (prefixes_used context list) p
+  used_there iri p m e =
+      let among : Among (used context list) p = Among_filter_map (prefix_of context) (flat_map iris_of list) iri p m e in
+      let there : Among (those_among (used context list) context) p = Among_filter (contains same_prefix (used context list)) context p (prefix_fits context iri p e).there (Among-contains same_prefix exact_prefixes (used context list) p among) in
+      ordered_there (those_among (used context list) context) p there
+
+-- what stands among prefixes of different names is declared, and its IRI is found
+pub iri_found : (ps : Prefixes) (p : Prefix) → Apart ps → Among ps p → iri_at ps p.0 ≡ p.1
+iri_found [] p a h = absurd h
+iri_found (q ∷ ps) p a (inl e) = rw ((exact_texts q.0 p.0).1 (ap (λ (z : Prefix). z.0) e)) (ap (λ (z : Prefix). z.1) e)
+iri_found (q ∷ ps) p a (inr m) = go (bytes_eq q.0 p.0) refl (iri_found ps p a.1 m)
+  where
+    go : (b : Bool) → bytes_eq q.0 p.0 ≡ b → iri_at ps p.0 ≡ p.1 → cond b q.1 (iri_at ps p.0) ≡ p.1
+    go true e ih = absurd (a.0 p m ((exact_texts q.0 p.0).0 e))
+    go false e ih = ih
+
+pub known_there : (ps : Prefixes) (p : Prefix) (local : Chars) → Among ps p → is_known ps (Short p.0 local) ≡ true
+known_there [] p local h = absurd h
+known_there (q ∷ ps) p local (inl e) = or_left (bytes_eq q.0 p.0) _ ((exact_texts q.0 p.0).1 (ap (λ (z : Prefix). z.0) e))
+known_there (q ∷ ps) p local (inr m) = or_right (bytes_eq q.0 p.0) _ (known_there ps p local m)
+
+-- a text of nothing uses none
+pub none_used : (context : Prefixes) → prefixes_used context [] ≡ []
+none_used context = ap in_byte_order (go context)
+  where
+    go : (ps : Prefixes) → those_among [] ps ≡ []
+    go [] = refl
+    go (p ∷ ps) = go ps

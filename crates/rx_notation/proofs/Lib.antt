@@ -1,0 +1,11 @@
+pub mod OneDocument
+pub mod OneText
+pub mod Renamings
+pub mod OneMeaning
+pub mod Chosen
+pub mod Joining
+pub mod LaidOut
+pub mod Grouped
+pub mod LayoutMeaning
+pub mod Ordered
+pub mod Naming

@@ -1,0 +1,9 @@
+pub mod Short
+pub mod Layout
+pub mod Rows
+pub mod Syntax
+pub mod Grammar
+pub mod Spelling
+pub mod Meaning
+pub mod Laws
+pub mod Texts
