@@ -1,0 +1,102 @@
+-- What Microdata reads of an element: HTML, 5.2.
+use Rattle.std.specs.Prelude.{ℕ, Bool, List, [], ◌∷◌, ◌++◌, Option, Some, None, option_map, unwrap_or, is_some, codes, if◌then◌else◌}
+use Prim.Native.String.{String}
+use Rattle.rx_terms.specs.Text.{Chars, tokens}
+use Rattle.rx_refs.specs.Resolve.{resolved}
+use Rattle.rx_grammar.specs.Names.{same, is_among}
+use Rattle.rx_grammar.specs.Tokens.{value_of}
+use Rattle.rx_grammar.specs.Trees.{StartTag, Tree, end, element, text}
+
+-- a value as it is written, or a reference from which it is resolved
+pub data Value : Type 0 where
+  Written : Chars → Value
+  Reference : Chars → Value
+
+pub record Facts : Type 0 where
+  pub token : ℕ  -- the offset of the start tag's `<`
+  pub at : ℕ  -- that of its `>`
+  pub is_item : Bool
+  pub types : List Chars
+  pub item_id : Option Chars
+  pub references : List Chars
+  pub names : Option (List Chars)  -- none where there is no itemprop
+  pub id : Option Chars
+  pub value : Value  -- of an element that is no item
+
+abbrev pub attribute : StartTag → String → Option Chars
+attribute tag name = value_of tag.attributes (codes name)
+
+abbrev pub given : StartTag → String → Chars
+given tag name = unwrap_or (attribute tag name) []
+
+-- the texts, without those that stood before
+abbrev pub without_repeats_of : List Chars → List Chars → List Chars
+without_repeats_of seen [] = []
+without_repeats_of seen (token ∷ more) =
+    if is_among seen token then without_repeats_of seen more else token ∷ without_repeats_of (token ∷ seen) more
+
+-- the tokens of a text, each once
+abbrev pub distinct_tokens : Chars → List Chars
+distinct_tokens chars = without_repeats_of [] (tokens chars)
+
+-- HTML, 5.2.2: an item is an element with itemscope
+abbrev pub begins_item : StartTag → Bool
+begins_item tag = is_some (attribute tag "itemscope")
+
+-- DOM, 4.11: the descendant text content
+abbrev pub all_text : Tree → Chars
+all_text end = []
+all_text (element tag inner more) = all_text inner ++ all_text more
+all_text (text chars more) = chars ++ all_text more
+
+-- DOM, 4.11: the child text content
+abbrev pub own_text : Tree → Chars
+own_text end = []
+own_text (element tag inner more) = own_text more
+own_text (text chars more) = chars ++ own_text more
+
+-- HTML, 5.2.4: the names of elements whose value is in src, in href, and in value
+abbrev pub embedding_names : List Chars
+embedding_names =
+    codes "audio" ∷ codes "embed" ∷ codes "iframe" ∷ codes "img" ∷ codes "source" ∷ codes "track" ∷ codes "video" ∷ []
+
+abbrev pub linking_names : List Chars
+linking_names = codes "a" ∷ codes "area" ∷ codes "link" ∷ []
+
+abbrev pub valued_names : List Chars
+valued_names = codes "data" ∷ codes "meter" ∷ []
+
+-- an absent reference is the empty text, and one that is empty is resolved
+abbrev pub referred : Option Chars → Value
+referred None = Written []
+referred (Some reference) = Reference reference
+
+-- HTML, 5.2.4: the value of an element that is no item, by the first line that applies
+abbrev pub value_of_element : StartTag → Tree → Value
+value_of_element tag inner =
+    if same tag.name (codes "meta") then Written (given tag "content")
+    else if is_among embedding_names tag.name then referred (attribute tag "src")
+    else if is_among linking_names tag.name then referred (attribute tag "href")
+    else if same tag.name (codes "object") then referred (attribute tag "data")
+    else if is_among valued_names tag.name then Written (given tag "value")
+    else if same tag.name (codes "time") then Written (unwrap_or (attribute tag "datetime") (own_text inner))
+    else Written (all_text inner)
+
+-- the characters of a value
+abbrev pub said : Chars → Value → Chars
+said base (Written chars) = chars
+said base (Reference reference) = resolved base reference
+
+-- HTML, 5.2.2, 5.2.3; own rule: an item's types lose repeats
+abbrev pub facts_of : StartTag → Tree → Facts
+facts_of tag inner = record {
+  token = tag.token;
+  at = tag.at;
+  is_item = begins_item tag;
+  types = distinct_tokens (given tag "itemtype");
+  item_id = attribute tag "itemid";
+  references = tokens (given tag "itemref");
+  names = option_map distinct_tokens (attribute tag "itemprop");
+  id = attribute tag "id";
+  value = value_of_element tag inner;
+}
