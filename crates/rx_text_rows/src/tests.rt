@@ -4,5 +4,6 @@ mod graphs;
 mod lists;
 mod nquads;
 mod references;
+mod shapes;
 mod terms;
 mod times;

@@ -6,20 +6,21 @@ use rx_terms::{Blank, Iri, Lang, Literal, LiteralKind, Node, Term, Text, Triple,
 use std::alloc::Global;
 use std::test::Fail;
 
-/// An object as rows tell it: an IRI, or the characters of a literal.
+/// An object as rows tell it: an IRI, the number of a blank node, or the characters of a literal.
 #[derive(Clone, Copy)]
-enum Object {
+pub(crate) enum Object {
     Iri(&'static str),
+    Blank(u64),
     Plain(&'static str),
     Tagged(&'static str, &'static str),
     Typed(&'static str, &'static str),
 }
 
 /// A triple as rows tell it. A subject that is a number is a blank node.
-type Row = (Subject, &'static str, Object);
+pub(crate) type Row = (Subject, &'static str, Object);
 
 #[derive(Clone, Copy)]
-enum Subject {
+pub(crate) enum Subject {
     Iri(&'static str),
     Blank(u64),
 }
@@ -56,6 +57,7 @@ fn literal(alloc: Global, object: Object, text: &str) -> Result<Term, Fail> {
 fn term(alloc: Global, object: Object) -> Result<Term, Fail> {
     match object {
         Object::Iri(iri) => Ok(Term::Iri(Iri::of(alloc, iri)?)),
+        Object::Blank(number) => Ok(Term::Blank(Blank(number))),
         Object::Plain(text) => literal(alloc, object, text),
         Object::Tagged(text, _tag) => literal(alloc, object, text),
         Object::Typed(text, _datatype) => literal(alloc, object, text),
@@ -100,7 +102,7 @@ fn push_all(alloc: Global, triples: &mut TripleList, rows: &[Row]) -> Result<(),
     Ok(())
 }
 
-fn list(alloc: Global, rows: &[Row]) -> Result<TripleList, Fail> {
+pub(crate) fn list(alloc: Global, rows: &[Row]) -> Result<TripleList, Fail> {
     let mut triples = TripleList::new(alloc);
     match push_all(alloc, &mut triples, rows) {
         Ok(()) => Ok(triples),

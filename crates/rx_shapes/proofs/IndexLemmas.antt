@@ -1,0 +1,179 @@
+-- Nodes by number.
+use Rattle.std.proofs.Common.{◌≡◌, ℕ, suc, zero, ◌+◌, ◌<◌, ◌≤◌, Bool, true, false, ◌||◌, nat_eq, nat_lt, List, [], ◌∷◌, ◌++◌, map, length, take, position, slice_get, Option, Some, None, option_map, refl, sym, ap, subst, ◌∙◌, inl, inr, true≢false, arith, rules, if◌then◌else◌, ◌↔◌}
+use Rattle.std.specs.List.{position_or_len}
+use Rattle.std.proofs.lemmas.Bool.Decides.{nat_tests}
+use Rattle.std.proofs.lemmas.Option.{slice_get_within}
+use Rattle.std.proofs.lemmas.List.{take_all}
+use Rattle.indexmap.specs.IndexSet.{insert_key}
+use Rattle.rx_terms.specs.declared.triples.Node.{Node as CodeNode}
+use Rattle.rx_terms.specs.declared.triples.Triple.{Triple as CodeTriple}
+use Rattle.rx_terms.specs.contracts.triples.NodePartialEq.TheImpl as node_impl
+use Rattle.rx_model.specs.Sets.{contains}
+use Rattle.rx_model.specs.Terms.{Node, Iri, Blank, Term, Resource, Literal, Triple, same_node}
+use Rattle.rx_model.specs.Seen.{node_seen, triple_seen, triples_seen}
+use Rattle.rx_model.proofs.Exact.{exact_numbers, exact_nodes}
+use Rattle.rx_model.proofs.Seen.{node_tells}
+use Rattle.rx_model.proofs.Sets.{false_unless, or_left, or_right, Among_cases}
+use Rattle.rx_graph.specs.Resources.{node_added, number_in}
+use Rattle.rx_graph.proofs.SetLemmas.{same_truth, insert_seen, seen_more}
+use Rattle.rx_graph.proofs.PatternLemmas.{contains_added}
+use Rattle.rx_shapes.specs.Rows.{is_number}
+use Rattle.rx_shapes.specs.Links.{object_number, object_added, triple_added, HasNodes}
+use Rattle.rx_shapes.proofs.RowLemmas.{is_number_true, true_number, same_some}
+
+-- ---- the code's test
+
+abbrev pub node_eq : CodeNode → CodeNode → Bool
+node_eq = (node_impl.ghosts).eq
+
+exact_code_node : (a b : CodeNode) → (node_eq a b ≡ true) ↔ (a ≡ b)
+exact_code_node a b = search rules
+
+pub nodes_agree_back : (a b : CodeNode) → node_eq a b ≡ same_node nat_eq (node_seen b) (node_seen a)
+nodes_agree_back a b =
+    let model = exact_nodes nat_eq exact_numbers (node_seen b) (node_seen a) in
+    same_truth (node_eq a b) (same_node nat_eq (node_seen b) (node_seen a))
+    (λ h. model.1 (ap node_seen (sym ((exact_code_node a b).0 h))))
+    (λ h. (exact_code_node a b).1 (sym (node_tells b a (model.0 h))))
+
+pub node_added_seen : (list : List CodeNode) (n : CodeNode) → map node_seen (insert_key node_eq list n) ≡ node_added (map node_seen list) (node_seen n)
+node_added_seen list n = insert_seen node_seen node_eq (same_node nat_eq) nodes_agree_back list n
+
+position_more : (p : CodeNode → Bool) (x : CodeNode) (list : List CodeNode) → position p (x ∷ list) ≡ (if p x then Some 0 else option_map suc (position p list))
+position_more p x list = go (p x) refl (nat_lt (position_or_len p list) (length list)) refl
+  where
+    go : (b : Bool) → p x ≡ b → (t : Bool) → nat_lt (position_or_len p list) (length list) ≡ t → position p (x ∷ list) ≡ (if p x then Some 0 else option_map suc (position p list))
+    go true e t f =
+        let some : nat_lt 0 (suc (length list)) ≡ true = grind (arith, nat_tests) in
+        rw (e, some) refl
+    go false e true f =
+        let more : nat_lt (1 + position_or_len p list) (suc (length list)) ≡ true = grind (arith, nat_tests, f) in
+        let next : 1 + position_or_len p list ≡ suc (position_or_len p list) = omega arith in
+        rw (e, f, more) (ap Some next)
+    go false e false f =
+        let more : nat_lt (1 + position_or_len p list) (suc (length list)) ≡ false = grind (arith, nat_tests, f) in
+        rw (e, f, more) refl
+
+pub number_seen : (list : List CodeNode) (n : CodeNode) → position (node_eq n) list ≡ number_in (map node_seen list) (node_seen n)
+number_seen [] n = refl
+number_seen (x ∷ list) n = position_more (node_eq n) x list ∙ rw (nodes_agree_back n x, number_seen list n) refl
+
+-- ---- a node's number
+
+pub number_get : (nodes : List (Node ℕ)) (s : Node ℕ) (k : ℕ) → number_in nodes s ≡ Some k → slice_get nodes k ≡ Some s
+number_get [] s k h = absurd (cc)
+number_get (t ∷ nodes) s k h = go (same_node nat_eq t s) refl (number_in nodes s) refl h (λ m. number_get nodes s m)
+  where
+    go : (b : Bool) → same_node nat_eq t s ≡ b → (o : Option ℕ) → number_in nodes s ≡ o → (if b then Some 0 else option_map suc o) ≡ Some k → ((m : ℕ) → number_in nodes s ≡ Some m → slice_get nodes m ≡ Some s) → slice_get (t ∷ nodes) k ≡ Some s
+    go true e o q r ih = let first : 0 ≡ k = cc in ap (slice_get (t ∷ nodes)) (sym first) ∙ ap Some ((exact_nodes nat_eq exact_numbers t s).0 e)
+    go false e (Some m) q r ih = let next : suc m ≡ k = cc in ap (slice_get (t ∷ nodes)) (sym next) ∙ ih m q
+    go false e None q r ih = cc
+
+pub number_within : (nodes : List (Node ℕ)) (s : Node ℕ) (k : ℕ) → number_in nodes s ≡ Some k → k < length nodes
+number_within nodes s k h = slice_get_within nodes k s (number_get nodes s k h)
+
+-- one number is that of one node
+pub number_one : (nodes : List (Node ℕ)) (s t : Node ℕ) (k : ℕ) → number_in nodes s ≡ Some k → number_in nodes t ≡ Some k → s ≡ t
+number_one nodes s t k h i = same_some (slice_get nodes k) s t (number_get nodes s k h) (number_get nodes t k i)
+
+none_there : (nodes : List (Node ℕ)) (s : Node ℕ) → number_in nodes s ≡ None → contains (same_node nat_eq) nodes s ≡ false
+none_there [] s h = refl
+none_there (t ∷ nodes) s h = go (same_node nat_eq t s) refl (number_in nodes s) refl h (none_there nodes s)
+  where
+    go : (b : Bool) → same_node nat_eq t s ≡ b → (o : Option ℕ) → number_in nodes s ≡ o → (if b then Some 0 else option_map suc o) ≡ None → (number_in nodes s ≡ None → contains (same_node nat_eq) nodes s ≡ false) → (same_node nat_eq t s || contains (same_node nat_eq) nodes s) ≡ false
+    go true e o q k ih = cc
+    go false e None q k ih = rw e (ih q)
+    go false e (Some m) q k ih = cc
+
+pub number_found : (nodes : List (Node ℕ)) (s : Node ℕ) → contains (same_node nat_eq) nodes s ≡ true → (k : ℕ) × (number_in nodes s ≡ Some k)
+number_found nodes s h = go (number_in nodes s) refl
+  where
+    go : (o : Option ℕ) → number_in nodes s ≡ o → (k : ℕ) × (number_in nodes s ≡ Some k)
+    go (Some k) e = (k, e)
+    go None e = absurd (true≢false (sym h ∙ none_there nodes s e))
+
+pub number_test : (nodes : List (Node ℕ)) (n : Node ℕ) (k : ℕ) → number_in nodes n ≡ Some k → (s : Node ℕ) → is_number k (number_in nodes s) ≡ same_node nat_eq n s
+number_test nodes n k e s =
+    let model = exact_nodes nat_eq exact_numbers n s in
+    same_truth (is_number k (number_in nodes s)) (same_node nat_eq n s)
+    (λ h. model.1 (number_one nodes n s k e (is_number_true k (number_in nodes s) h)))
+    (λ h. true_number k (number_in nodes s) (ap (number_in nodes) (sym (model.0 h)) ∙ e))
+
+-- ---- an object's number
+
+pub object_is : (nodes : List (Node ℕ)) (b k : ℕ) → number_in nodes (Blank b) ≡ Some k → (o : Term ℕ) → is_number k (object_number nodes o) ≡ true → o ≡ Resource (Blank b)
+object_is nodes b k e (Resource (Iri iri)) h = absurd (true≢false (sym h))
+object_is nodes b k e (Resource (Blank c)) h = ap Resource (number_one nodes (Blank c) (Blank b) k (is_number_true k (number_in nodes (Blank c)) h) e)
+object_is nodes b k e (Literal text kind) h = absurd (true≢false (sym h))
+
+pub is_object : (nodes : List (Node ℕ)) (b k : ℕ) → number_in nodes (Blank b) ≡ Some k → (o : Term ℕ) → o ≡ Resource (Blank b) → is_number k (object_number nodes o) ≡ true
+is_object nodes b k e o q = subst (λ (z : Term ℕ). is_number k (object_number nodes z) ≡ true) (sym q) (true_number k (number_in nodes (Blank b)) e)
+
+pub no_object : (nodes : List (Node ℕ)) (iri : List ℕ) (k : ℕ) → number_in nodes (Iri iri) ≡ Some k → (o : Term ℕ) → is_number k (object_number nodes o) ≡ false
+no_object nodes iri k e (Resource (Iri other)) = refl
+no_object nodes iri k e (Resource (Blank c)) = false_unless (is_number k (number_in nodes (Blank c))) (λ h. unlike_nodes c (number_one nodes (Blank c) (Iri iri) k (is_number_true k (number_in nodes (Blank c)) h) e))
+  where
+    unlike_nodes : (c : ℕ) → Blank c ≡ Iri iri → ⊥
+    unlike_nodes c q = cc
+no_object nodes iri k e (Literal text kind) = refl
+
+-- ---- the nodes of a list
+
+keeps_node : (nodes : List (Node ℕ)) (s t : Node ℕ) → contains (same_node nat_eq) nodes t ≡ true → contains (same_node nat_eq) (node_added nodes s) t ≡ true
+keeps_node nodes s t h = contains_added nodes s t ∙ or_left (contains (same_node nat_eq) nodes t) (same_node nat_eq s t) h
+
+has_node : (nodes : List (Node ℕ)) (s t : Node ℕ) → s ≡ t → contains (same_node nat_eq) (node_added nodes s) t ≡ true
+has_node nodes s t e = contains_added nodes s t ∙ or_right (contains (same_node nat_eq) nodes t) (same_node nat_eq s t) ((exact_nodes nat_eq exact_numbers s t).1 e)
+
+keeps_object : (nodes : List (Node ℕ)) (o : Term ℕ) (t : Node ℕ) → contains (same_node nat_eq) nodes t ≡ true → contains (same_node nat_eq) (object_added nodes o) t ≡ true
+keeps_object nodes (Resource (Iri iri)) t h = h
+keeps_object nodes (Resource (Blank b)) t h = keeps_node nodes (Blank b) t h
+keeps_object nodes (Literal text kind) t h = h
+
+has_object : (nodes : List (Node ℕ)) (o : Term ℕ) (b : ℕ) → o ≡ Resource (Blank b) → contains (same_node nat_eq) (object_added nodes o) (Blank b) ≡ true
+has_object nodes o b e = subst (λ (z : Term ℕ). contains (same_node nat_eq) (object_added nodes z) (Blank b) ≡ true) (sym e) (has_node nodes (Blank b) (Blank b) refl)
+
+keeps_triple : (nodes : List (Node ℕ)) (t : Triple ℕ) (s : Node ℕ) → contains (same_node nat_eq) nodes s ≡ true → contains (same_node nat_eq) (triple_added nodes t) s ≡ true
+keeps_triple nodes t s h = keeps_object (node_added nodes t.subject) t.object s (keeps_node nodes t.subject s h)
+
+pub has_none : (nodes : List (Node ℕ)) → HasNodes [] nodes
+has_none nodes = record { subjects = λ t m. absurd m; objects = λ t b m. absurd m }
+
+nodes_more : (list : List (Triple ℕ)) (t : Triple ℕ) (nodes : List (Node ℕ)) → HasNodes list nodes → HasNodes (list ++ t ∷ []) (triple_added nodes t)
+nodes_more list t nodes h = record {
+  subjects = λ u m. elim (Among_cases list (t ∷ []) u m) [
+    | inl k ↦ keeps_triple nodes t u.subject (h.subjects u k)
+    | inr k ↦ elim k [
+      | inl e ↦ keeps_object (node_added nodes t.subject) t.object u.subject (has_node nodes t.subject u.subject (ap (λ (z : Triple ℕ). z.subject) e))
+      | inr z ↦ absurd z
+    ]
+  ];
+  objects = λ u b m q. elim (Among_cases list (t ∷ []) u m) [
+    | inl k ↦ keeps_triple nodes t (Blank b) (h.objects u b k q)
+    | inr k ↦ elim k [
+      | inl e ↦ has_object (node_added nodes t.subject) t.object b (ap (λ (z : Triple ℕ). z.object) e ∙ q)
+      | inr z ↦ absurd z
+    ]
+  ];
+}
+
+pub nodes_turn : (list : List CodeTriple) (i : ℕ) (t : CodeTriple) (old new : List (Node ℕ)) → slice_get list i ≡ Some t → new ≡ triple_added old (triple_seen t)
+    → HasNodes (triples_seen (take i list)) old → HasNodes (triples_seen (take (i + 1) list)) new
+nodes_turn list i t old new at is h =
+    subst (HasNodes (triples_seen (take (i + 1) list))) (sym is)
+    (subst (λ (z : List (Triple ℕ)). HasNodes z (triple_added old (triple_seen t))) (sym (seen_more list i t at)) (nodes_more (triples_seen (take i list)) (triple_seen t) old h))
+
+pub nodes_end : (list : List CodeTriple) (i : ℕ) (nodes : List (Node ℕ)) → length list ≤ i → HasNodes (triples_seen (take i list)) nodes → HasNodes (triples_seen list) nodes
+nodes_end list i nodes past h = subst (λ (z : List CodeTriple). HasNodes (triples_seen z) nodes) (take_all i list past) h
+
+-- ---- a triple in the graph
+
+pub seen_at : (list : List CodeTriple) (i : ℕ) (t : CodeTriple) → slice_get list i ≡ Some t → slice_get (triples_seen list) i ≡ Some (triple_seen t)
+seen_at [] i t h = cc
+seen_at (x ∷ list) zero t h = let e : x ≡ t = cc in ap (λ z. Some (triple_seen z)) e
+seen_at (x ∷ list) (suc i) t h = seen_at list i t h
+
+pub seen_outside : (list : List CodeTriple) (i : ℕ) → length list ≤ i → slice_get (triples_seen list) i ≡ None
+seen_outside [] i h = refl
+seen_outside (x ∷ list) zero h = absurd (omega (arith, h))
+seen_outside (x ∷ list) (suc i) h = let past : length list ≤ i = omega (arith, h) in seen_outside list i past

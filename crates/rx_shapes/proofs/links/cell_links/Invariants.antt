@@ -1,0 +1,7 @@
+use Rattle.std.proofs.Common.{◌≡◌}
+use Rattle.rx_model.specs.Seen.{triples_seen}
+use Rattle.rx_shapes.specs.Links.{cell_links}
+use Rattle.rx_shapes.proofs.links.cell_links.Given as goal
+
+abbrev pub invariant-loop-i : goal.invariant-loop-i
+invariant-loop-i l = l.links.items ≡ cell_links (triples_seen l.graph) l.index l.inner l.places l.i

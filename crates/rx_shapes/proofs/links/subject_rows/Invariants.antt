@@ -1,0 +1,9 @@
+use Rattle.std.proofs.Common.{◌≡◌, ℕ, length, take}
+use Rattle.rx_model.specs.Terms.{Triple}
+use Rattle.rx_model.specs.Seen.{triples_seen}
+use Rattle.rx_graph.specs.Resources.{number_in}
+use Rattle.rx_shapes.specs.Rows.{filed, table}
+use Rattle.rx_shapes.proofs.links.subject_rows.Given as goal
+
+abbrev pub invariant-loop-i : goal.invariant-loop-i
+invariant-loop-i l = l.rows ≡ table (filed (λ (t : Triple ℕ). number_in l.index t.subject) (take l.i (triples_seen l.graph))) 0 (length l.index)

@@ -1,0 +1,14 @@
+use Rattle.std.proofs.Common.{◌∙◌, sym, subst, ap₂}
+use Rattle.rx_model.specs.Seen.{triples_seen}
+use Rattle.rx_shapes.specs.Links.{AreInner, shapes_by}
+use Rattle.rx_shapes.proofs.ShapeLemmas.{shapes_of_index}
+use Rattle.rx_shapes.proofs.shapes.shapes_of.Goals as goal
+
+pub cell_nodes-requires-clause-inner : goal.cell_nodes-requires-clause-inner
+cell_nodes-requires-clause-inner c = subst (AreInner (triples_seen c.args.graph.now) c.args.nodes.now) (sym c.deref.ensures.value) c.in_ok-inner.ensures
+
+pub returns : goal.returns
+returns c = shapes_of_index (triples_seen c.args.graph.now) c.args.nodes.now c.requires.nodes c.deref-2.result.now
+    (subst (AreInner (triples_seen c.args.graph.now) c.args.nodes.now) (sym c.deref-2.ensures.value) c.in_ok-inner.ensures)
+    c.in_ok-cells.cells.items c.in_ok-shapes.shapes.items c.in_ok-cells.ensures
+    (c.in_ok-shapes.ensures ∙ ap₂ (λ cells n. shapes_by c.deref-2.result.now cells n) c.deref-3.ensures.value c.len.ensures)

@@ -1,0 +1,9 @@
+pub mod Shapes
+pub mod Places
+pub mod Rows
+pub mod Reach
+pub mod Chains
+pub mod Links
+pub mod Table
+pub mod Examples
+pub mod Laws

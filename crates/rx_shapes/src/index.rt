@@ -1,0 +1,101 @@
+//! Nodes by number.
+ghost use Rattle.std.specs.Prelude.{◌≡◌, [], length, IfOk, OnOk};
+ghost use Rattle.rx_model.specs.Seen.{node_seen, term_seen, triple_seen, triples_seen};
+ghost use Rattle.rx_graph.specs.Resources.{node_added, number_in};
+ghost use Rattle.rx_shapes.specs.Links.{object_number, triple_added, IsIndex};
+
+use indexmap::IndexSet;
+use rx_graph::Graph;
+use rx_terms::{NoMemory, Node, Term, Triple};
+use std::alloc::Global;
+use std::hash::{BuildHasherDefault, DefaultHasher};
+use std::marker::Model;
+
+/// Nodes in order of first appearance, each once. The number of each is its place. A contract sees the list.
+#[derive(Drop)]
+pub(crate) struct Index {
+    // A page chooses these nodes. SipHash makes it hard to choose many with one hash.
+    nodes: IndexSet<Node, BuildHasherDefault<DefaultHasher>>,
+}
+
+impl Model for Index {
+    ghost use Rattle.std.specs.Prelude.{ℕ, List, map};
+    ghost use Rattle.rx_model.specs.Terms.{Node};
+    ghost use Rattle.rx_model.specs.Seen.{node_seen};
+
+    ghost Value = { List (Node ℕ) };
+
+    ghost view = { λ index. map node_seen index.nodes.keys };
+}
+
+impl Index {
+    fn new(alloc: Global) -> Index
+        ensures { result ≡ [] }
+    {
+        Index {
+            nodes: IndexSet::with_hasher(alloc, BuildHasherDefault::new()),
+        }
+    }
+
+    /// The subjects of the graph, and its blank nodes.
+    pub(crate) fn of(alloc: Global, graph: &Graph) -> Result<Index, NoMemory>
+        ensures { IfOk result (λ nodes. IsIndex (triples_seen graph.now) nodes) }
+    {
+        let mut index = Index::new(alloc);
+        index.add_all(graph)?;
+        Ok(index)
+    }
+
+    fn add_all(&mut self, graph: &Graph) -> Result<(), NoMemory>
+        ensures { OnOk result (IsIndex (triples_seen graph.now) self.new) }
+    {
+        for i in 0..graph.len() {
+            self.add_triple(graph.at(i))?;
+        }
+        Ok(())
+    }
+
+    fn add_triple(&mut self, triple: &Triple) -> Result<(), NoMemory>
+        ensures { OnOk result (self.new ≡ triple_added self.old (triple_seen triple.now)) }
+    {
+        self.add(triple.subject.try_clone()?)?;
+        if let Term::Blank(blank) = &triple.object {
+            self.add(Node::Blank(*blank))?;
+        }
+        Ok(())
+    }
+
+    /// Adds the node at the end, where it isn't there yet.
+    fn add(&mut self, node: Node) -> Result<(), NoMemory>
+        ensures { OnOk result (self.new ≡ node_added self.old (node_seen node)) }
+    {
+        if self.nodes.insert(node).is_err() {
+            return Err(NoMemory);
+        }
+        Ok(())
+    }
+
+    pub(crate) fn len(&self) -> usize
+        ensures { result ≡ length self.now }
+    {
+        self.nodes.len()
+    }
+
+    /// The number of the node, if it is there.
+    pub(crate) fn number(&self, node: &Node) -> Option<usize>
+        ensures { result ≡ number_in self.now (node_seen node.now) }
+    {
+        self.nodes.get_index_of(node)
+    }
+
+    /// The number of the term, where it is a blank node and is there.
+    pub(crate) fn object_number(&self, term: &Term) -> Option<usize>
+        ensures { result ≡ object_number self.now (term_seen term.now) }
+    {
+        match term {
+            Term::Iri(_iri) => None,
+            Term::Blank(blank) => self.number(&Node::Blank(*blank)),
+            Term::Literal(_literal) => None,
+        }
+    }
+}
