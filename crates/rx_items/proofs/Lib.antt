@@ -1,0 +1,11 @@
+pub mod Alike
+pub mod RankLemmas
+pub mod RowLaws
+pub mod AttributeLemmas
+pub mod SpanLemmas
+pub mod RuleLemmas
+pub mod ListLemmas
+pub mod SaidLemmas
+pub mod ShowLemmas
+pub mod TakenLemmas
+pub mod TableLaws
