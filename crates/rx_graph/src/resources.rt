@@ -14,13 +14,14 @@ use std::marker::Model;
 
 /// A node, borrowed from a triple's subject or object.
 #[derive(Clone, Copy, PartialEq, Eq, Hash)]
-pub(crate) enum Resource<'a> {
+pub enum Resource<'a> {
     Iri(&'a Iri),
     Blank(Blank),
 }
 
 impl<'a> Resource<'a> {
-    pub(crate) fn of_node(node: &'a Node) -> Resource<'a>
+    /// The node itself, borrowed.
+    pub fn of_node(node: &'a Node) -> Resource<'a>
         ensures { resource_seen result ≡ node_seen node.now }
     {
         match node {
@@ -30,7 +31,7 @@ impl<'a> Resource<'a> {
     }
 
     /// The node that the term is, if it is no literal.
-    pub(crate) fn of_term(term: &'a Term) -> Option<Resource<'a>>
+    pub fn of_term(term: &'a Term) -> Option<Resource<'a>>
         ensures { option_map resource_seen result ≡ resource_of (term_seen term.now) }
     {
         match term {
@@ -43,7 +44,7 @@ impl<'a> Resource<'a> {
 
 /// Borrowed nodes in order of first appearance, each once. The number of each is its place. A contract sees the list.
 #[derive(Drop)]
-pub(crate) struct Nodes<'a> {
+pub struct Nodes<'a> {
     nodes: IndexSet<Resource<'a>, BuildHasherDefault<DefaultHasher>>,
 }
 
@@ -58,7 +59,8 @@ impl<'a> Model for Nodes<'a> {
 }
 
 impl<'a> Nodes<'a> {
-    pub(crate) fn new(alloc: Global) -> Nodes<'a>
+    /// No node.
+    pub fn new(alloc: Global) -> Nodes<'a>
         ensures { result ≡ [] }
     {
         Nodes {
@@ -67,7 +69,7 @@ impl<'a> Nodes<'a> {
     }
 
     /// Adds the node at the end, where it isn't there yet.
-    pub(crate) fn add(&mut self, node: Resource<'a>) -> Result<(), NoMemory>
+    pub fn add(&mut self, node: Resource<'a>) -> Result<(), NoMemory>
         ensures { OnOk result (self.new ≡ node_added self.old (resource_seen node.entry)) }
     {
         if self.nodes.insert(node).is_err() {
@@ -76,14 +78,16 @@ impl<'a> Nodes<'a> {
         Ok(())
     }
 
-    pub(crate) fn len(&self) -> usize
+    /// How many nodes there are.
+    pub fn len(&self) -> usize
         ensures len { result ≡ length self.now }
         ensures each_once { AreDistinct self.now }
     {
         self.nodes.len()
     }
 
-    pub(crate) fn at(&self, number: usize) -> Resource<'a>
+    /// The node of this number.
+    pub fn at(&self, number: usize) -> Resource<'a>
         requires { number < length self.now }
         ensures { slice_get self.now number ≡ Some (resource_seen result) }
     {
@@ -91,13 +95,14 @@ impl<'a> Nodes<'a> {
     }
 
     /// The number of the node, if it is there.
-    pub(crate) fn number(&self, node: Resource<'a>) -> Option<usize>
+    pub fn number(&self, node: Resource<'a>) -> Option<usize>
         ensures { result ≡ number_in self.now (resource_seen node.entry) }
     {
         self.nodes.get_index_of(&node)
     }
 
-    pub(crate) fn contains(&self, node: Resource<'a>) -> bool
+    /// Whether the node is there.
+    pub fn contains(&self, node: Resource<'a>) -> bool
         ensures { result ≡ contains (same_node nat_eq) self.now (resource_seen node.entry) }
     {
         self.nodes.contains(&node)

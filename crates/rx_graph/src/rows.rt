@@ -8,7 +8,7 @@ use std::marker::Model;
 
 /// A list of lists of numbers, each of which grows at its end. A contract sees the lists.
 #[derive(Drop)]
-pub(crate) struct Rows {
+pub struct Rows {
     rows: Vec<Vec<usize>>,
 }
 
@@ -21,7 +21,8 @@ impl Model for Rows {
 }
 
 impl Rows {
-    pub(crate) fn new(alloc: Global) -> Rows
+    /// No row.
+    pub fn new(alloc: Global) -> Rows
         ensures { result ≡ [] }
     {
         Rows {
@@ -29,8 +30,15 @@ impl Rows {
         }
     }
 
+    /// How many rows there are.
+    pub fn len(&self) -> usize
+        ensures { result ≡ length self.now }
+    {
+        self.rows.len()
+    }
+
     /// Adds an empty row.
-    pub(crate) fn add(&mut self, alloc: Global) -> Result<(), NoMemory>
+    pub fn add(&mut self, alloc: Global) -> Result<(), NoMemory>
         ensures { OnOk result (self.new ≡ self.old ++ [] ∷ []) }
     {
         if self.rows.push(Vec::new(alloc)).is_err() {
@@ -40,7 +48,7 @@ impl Rows {
     }
 
     /// Adds the number at the end of a row.
-    pub(crate) fn push(&mut self, row: usize, number: usize) -> Result<(), NoMemory>
+    pub fn push(&mut self, row: usize, number: usize) -> Result<(), NoMemory>
         requires { row < length self.old }
         ensures { OnOk result (self.new ≡ pushed self.old row number) }
     {
@@ -51,7 +59,7 @@ impl Rows {
     }
 
     /// The numbers of a row.
-    pub(crate) fn row(&self, row: usize) -> &[usize]
+    pub fn row(&self, row: usize) -> &[usize]
         requires { row < length self.now }
         ensures { slice_get self.now row ≡ Some result.now }
     {

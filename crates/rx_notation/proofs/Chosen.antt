@@ -15,7 +15,7 @@ use Rattle.rx_notation.specs.Syntax.{Short}
 
 -- ---- the prefix that is taken
 
-best_among : (ps : Prefixes) (p : Prefix) → best ps ≡ Some p → Among ps p
+pub best_among : (ps : Prefixes) (p : Prefix) → best ps ≡ Some p → Among ps p
 best_among [] p e = cc
 best_among (q ∷ more) p e = go (best more) refl (best_among more) e
   where
@@ -129,7 +129,7 @@ apart_ordered (p ∷ ps) h = apart_placed p (in_byte_order ps) (λ q m. h.0 q (o
 
 -- ---- the prefixes of a text
 
-exact_prefixes : IsExact same_prefix
+pub exact_prefixes : IsExact same_prefix
 exact_prefixes a b = (
   λ h. let parts = and_parts _ _ h in let name = (exact_texts a.0 b.0).0 parts.0 in let iri = (exact_texts a.1 b.1).0 parts.1 in λ i. (name i, iri i),
   λ e. and_from _ _ ((exact_texts a.0 b.0).1 (ap (λ (z : Prefix). z.0) e)) ((exact_texts a.1 b.1).1 (ap (λ (z : Prefix). z.1) e)),

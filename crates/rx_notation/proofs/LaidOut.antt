@@ -8,7 +8,7 @@ use Rattle.rx_terms.specs.Lang.{is_lang}
 use Rattle.rx_model.specs.Sets.{Among}
 use Rattle.rx_model.specs.Terms.{Kind, Plain, Tagged, Typed, Node, Iri, Blank, Term, Resource, Literal, Triple}
 use Rattle.rx_model.specs.Copied.{rdf_type}
-use Rattle.rx_nquads.specs.Writing.{escaped_text, iri_text}
+use Rattle.rx_pieces.specs.Writing.{escaped_text, iri_text}
 use Rattle.rx_nquads.proofs.Denoting.{label_spelled, string_spelled}
 use Rattle.rx_notation.specs.Short.{Prefix, Prefixes, is_prefix_name, local_name, prefix_of}
 use Rattle.rx_notation.specs.Layout.{iri_by, short_iri, resource_text, verb_text, suffix_text, object_text, objects_of, predicates_of, separated, predicate_text, statement_text, prefix_text, prefixes_text}

@@ -1,26 +1,27 @@
 -- The layout denotes its triples.
 use Rattle.std.proofs.Common.{◌≡◌, ◌∙◌, ◌⊎◌, ◌↔◌, ℕ, ◌+◌, Bool, true, false, cond, List, [], ◌∷◌, ◌++◌, map, flat_map, Option, Some, None, bytes_eq, refl, sym, ap, ap₂, inl, inr, subst, true≢false}
 use Rattle.std.proofs.lemmas.Bool.{and_from}
+use Rattle.std.proofs.lemmas.List.{map-append}
 use Rattle.rx_terms.specs.Text.{Chars}
 use Rattle.rx_terms.specs.Iri.{IsIri}
 use Rattle.rx_model.specs.Sets.{Among}
 use Rattle.rx_model.specs.Terms.{Kind, Plain, Tagged, Typed, Node, Iri, Blank, Term, Resource, Literal, Triple}
 use Rattle.rx_model.specs.Copied.{rdf_type, spo}
-use Rattle.rx_model.proofs.Sets.{Among_left, Among_right, Among_flat_map}
+use Rattle.rx_model.proofs.Sets.{Among_left, Among_right, Among_flat_map, Among_map, Among_of_map}
 use Rattle.rx_model.proofs.Exact.{exact_texts}
-use Rattle.rx_nquads.specs.Quads.{kind_of, IsProper, quad_of}
-use Rattle.rx_nquads.specs.Writable.{WritableNode, WritableKind, WritableTerm}
+use Rattle.rx_nquads.specs.Quads.{kind_of, proper_kind, proper_term, IsProper}
+use Rattle.rx_pieces.specs.Writable.{WritableNode, WritableKind, WritableTerm}
 use Rattle.rx_nquads.proofs.Proper.{proper_stays}
 use Rattle.rx_notation.specs.Short.{Prefix, Prefixes, local_name, prefix_of}
 use Rattle.rx_notation.specs.Layout.{iris_of_node, iris_of_term, iris_of_predicate, iris_of, prefixes_used, prefixes_text, subjects, predicates_of, objects_of, statement_text, turtle}
 use Rattle.rx_notation.specs.Syntax.{By, Type_of, Document, are_flat}
 use Rattle.rx_notation.specs.Grammar.{statement_tokens, prefix_tokens}
 use Rattle.rx_notation.specs.Spelling.{SpellsTokens, Spells}
-use Rattle.rx_notation.specs.Meaning.{iri_of, is_known, is_known_subject, is_known_verb, is_known_suffix, all_known, are_known, predicate_of, kind_by, unlabelled, node_of, term_of, triples, all_triples}
-use Rattle.rx_notation.specs.Laws.{IsContext, IsWritable, LayoutDenotes}
+use Rattle.rx_notation.specs.Meaning.{Turtle, iri_of, is_known, is_known_subject, is_known_verb, is_known_suffix, all_known, are_known, predicate_of, kind_by, unlabelled, node_of, term_of, triples, all_triples}
+use Rattle.rx_notation.specs.Laws.{proper_triple, IsContext, IsWritable, LayoutDenotes}
 use Rattle.rx_notation.proofs.Chosen.{Apart, prefix_fits, front_and_rest, names_apart, apart_names, used_apart, used_of, used_fits, used_there, none_used, iri_found, known_there}
 use Rattle.rx_notation.proofs.LaidOut.{reference_by, reference_for, subject_for, verb_for, suffix_for, object_for, objects_after, objects_for, predicates_after, predicates_for, statement_for, some_predicates_flat, GoodNode, GoodKind, GoodTerm, GoodPredicate, GoodSubject, GoodPrefix, statements_open, prefixes_spelled}
-use Rattle.rx_notation.proofs.Grouped.{subject_says, predicate_says, object_says, said_of, grouped_same}
+use Rattle.rx_notation.proofs.Grouped.{subject_says, predicate_says, object_says, said_of, grouped, grouped_same}
 
 -- ---- references are resolved
 
@@ -49,7 +50,7 @@ module _ (context declared : Prefixes) where
   abbrev ResolvedKind : Kind → Type 0
   ResolvedKind Plain = Unit {0}
   ResolvedKind (Tagged tag) = Unit {0}
-  ResolvedKind (Typed datatype) = Resolved context declared datatype × (kind_of datatype ≡ Typed datatype)
+  ResolvedKind (Typed datatype) = Resolved context declared datatype
 
   abbrev ResolvedTerm : Term ℕ → Type 0
   ResolvedTerm (Resource node) = ResolvedNode node
@@ -67,7 +68,7 @@ module _ (context declared : Prefixes) where
   suffix_known : (kind : Kind) → ResolvedKind kind → is_known_suffix declared (suffix_for context kind) ≡ true
   suffix_known Plain r = refl
   suffix_known (Tagged tag) r = refl
-  suffix_known (Typed datatype) r = r.0.known
+  suffix_known (Typed datatype) r = r.known
 
   verb_known : (p : Chars) → ResolvedPredicate p → is_known_verb declared (verb_for context p) ≡ true
   verb_known p (inl e) = rw e refl
@@ -98,12 +99,12 @@ module _ (context declared : Prefixes) where
   node_is (Iri iri) r = ap Iri r.meant
   node_is (Blank number) r = refl
 
-  kind_is : (kind : Kind) → ResolvedKind kind → kind_by declared (suffix_for context kind) ≡ kind
+  kind_is : (kind : Kind) → ResolvedKind kind → kind_by declared (suffix_for context kind) ≡ proper_kind kind
   kind_is Plain r = refl
   kind_is (Tagged tag) r = refl
-  kind_is (Typed datatype) r = ap kind_of r.0.meant ∙ r.1
+  kind_is (Typed datatype) r = ap kind_of r.meant
 
-  term_is : (o : Term ℕ) (n : ℕ) → ResolvedTerm o → term_of declared label label (object_for context o) n ≡ o
+  term_is : (o : Term ℕ) (n : ℕ) → ResolvedTerm o → term_of declared label label (object_for context o) n ≡ proper_term o
   term_is (Resource node) n r = ap Resource (node_is node r)
   term_is (Literal text kind) n r = ap (Literal text) (kind_is kind r)
 
@@ -120,7 +121,7 @@ module _ (context declared : Prefixes) where
       go false e (inr q) = q.meant
 
   objects_mean : (o : Term ℕ) (more : List (Term ℕ)) (s : Node ℕ) (p : Chars) (n : ℕ) → ((q : Term ℕ) → Among (o ∷ more) q → ResolvedTerm q)
-      → triples declared label label (objects_after context o more) (s, p) n ≡ map (λ (q : Term ℕ). spo s p q) (o ∷ more)
+      → triples declared label label (objects_after context o more) (s, p) n ≡ map (λ (q : Term ℕ). spo s p (proper_term q)) (o ∷ more)
   objects_mean o [] s p n r = ap₂ (λ t rest. spo s p t ∷ rest) (term_is o n (r o (inl refl))) (none_inside o n)
   objects_mean o (next ∷ more) s p n r =
       let first = term_is o n (r o (inl refl)) in
@@ -129,7 +130,7 @@ module _ (context declared : Prefixes) where
       λ i. spo s p (first i) ∷ (inside i ++ rest i)
 
   some_objects_mean : (objects : List (Term ℕ)) (s : Node ℕ) (p : Chars) (n : ℕ) → (o : Term ℕ) → Among objects o → ((q : Term ℕ) → Among objects q → ResolvedTerm q)
-      → triples declared label label (objects_for context objects) (s, p) n ≡ map (λ (q : Term ℕ). spo s p q) objects
+      → triples declared label label (objects_for context objects) (s, p) n ≡ map (λ (q : Term ℕ). spo s p (proper_term q)) objects
   some_objects_mean [] s p n o h r = absurd h
   some_objects_mean (first ∷ more) s p n o h r = objects_mean first more s p n r
 
@@ -151,7 +152,7 @@ module _ (context declared : Prefixes) where
     some_predicates_known (p ∷ more) sound = predicates_known p more sound
 
     abbrev says : Node ℕ → Chars → List (Triple ℕ)
-    says s p = map (λ (q : Term ℕ). spo s p q) (objects p)
+    says s p = map (λ (q : Term ℕ). spo s p (proper_term q)) (objects p)
 
     line_means : (p : Chars) (s : Node ℕ) (n : ℕ) → Sound p → triples declared label label (objects_for context (objects p)) (s, predicate_of declared (verb_for context p)) n ≡ says s p
     line_means p s n sound =
@@ -171,6 +172,27 @@ module _ (context declared : Prefixes) where
 
 -- ---- statements
 
+module _ (list : List (Triple ℕ)) where
+  abbrev properly_said : Node ℕ → Chars → List (Triple ℕ)
+  properly_said s p = map (λ (o : Term ℕ). spo s p (proper_term o)) (objects_of list s p)
+
+  each_said : (s : Node ℕ) (p : Chars) → map proper_triple (said_of list s p) ≡ properly_said s p
+  each_said s p = go (objects_of list s p)
+    where
+      go : (os : List (Term ℕ)) → map proper_triple (map (λ (o : Term ℕ). spo s p o) os) ≡ map (λ (o : Term ℕ). spo s p (proper_term o)) os
+      go [] = refl
+      go (o ∷ os) = ap (λ z. spo s p (proper_term o) ∷ z) (go os)
+
+  each_predicate : (s : Node ℕ) (ps : List Chars) → map proper_triple (flat_map (said_of list s) ps) ≡ flat_map (properly_said s) ps
+  each_predicate s [] = refl
+  each_predicate s (p ∷ ps) = map-append proper_triple (said_of list s p) (flat_map (said_of list s) ps) ∙ ap₂ ◌++◌ (each_said s p) (each_predicate s ps)
+
+  all_said : (nodes : List (Node ℕ)) → map proper_triple (flat_map (λ (s : Node ℕ). flat_map (said_of list s) (predicates_of list s)) nodes) ≡ flat_map (λ (s : Node ℕ). flat_map (properly_said s) (predicates_of list s)) nodes
+  all_said [] = refl
+  all_said (s ∷ nodes) =
+      map-append proper_triple (flat_map (said_of list s) (predicates_of list s)) (flat_map (λ (s : Node ℕ). flat_map (said_of list s) (predicates_of list s)) nodes)
+      ∙ ap₂ ◌++◌ (each_predicate s (predicates_of list s)) (all_said nodes)
+
 module _ (context declared : Prefixes) (list : List (Triple ℕ)) where
   record SoundSubject (s : Node ℕ) : Type 0 where
     node : ResolvedNode context declared s
@@ -186,7 +208,7 @@ module _ (context declared : Prefixes) (list : List (Triple ℕ)) where
       (statements_known nodes (λ r m. sound r (inr m)))
 
   statements_mean : (nodes : List (Node ℕ)) (n : ℕ) → ((s : Node ℕ) → Among nodes s → SoundSubject s)
-      → all_triples declared (label context declared) (label context declared) (map (statement_for context list) nodes) n ≡ flat_map (λ (s : Node ℕ). flat_map (said_of list s) (predicates_of list s)) nodes
+      → all_triples declared (label context declared) (label context declared) (map (statement_for context list) nodes) n ≡ flat_map (λ (s : Node ℕ). flat_map (properly_said list s) (predicates_of list s)) nodes
   statements_mean [] n sound = refl
   statements_mean (s ∷ nodes) n sound =
       let first = sound s (inl refl) in
@@ -233,18 +255,11 @@ module _ (context : Prefixes) (list : List (Triple ℕ)) (c : IsContext context)
   resolved_node (Iri iri) h = h iri (inl refl)
   resolved_node (Blank number) h = tt
 
-  proper : (text : Chars) (kind : Kind) (datatype : Chars) → IsProper (Literal text (Typed datatype)) → kind_of datatype ≡ Typed datatype
-  proper text kind datatype h =
-      let t : Triple ℕ = spo (Blank 0) [] (Literal text (Typed datatype)) in
-      let stays : (quad_of None t).triple ≡ t = proper_stays None t h in
-      let kind_in : Term ℕ → Kind = elim [ Resource node ↦ Plain | Literal lexical k ↦ k ] in
-      ap (λ (z : Triple ℕ). kind_in z.object) stays
-
-  resolved_term : (o : Term ℕ) → IsProper o → ((iri : Chars) → Among (iris_of_term o) iri → Resolved context declared iri) → ResolvedTerm context declared o
-  resolved_term (Resource node) p h = resolved_node node h
-  resolved_term (Literal text Plain) p h = tt
-  resolved_term (Literal text (Tagged tag)) p h = tt
-  resolved_term (Literal text (Typed datatype)) p h = (h datatype (inl refl), proper text Plain datatype p)
+  resolved_term : (o : Term ℕ) → ((iri : Chars) → Among (iris_of_term o) iri → Resolved context declared iri) → ResolvedTerm context declared o
+  resolved_term (Resource node) h = resolved_node node h
+  resolved_term (Literal text Plain) h = tt
+  resolved_term (Literal text (Tagged tag)) h = tt
+  resolved_term (Literal text (Typed datatype)) h = h datatype (inl refl)
 
   resolved_predicate : (p : Chars) → ((iri : Chars) → Among (iris_of_predicate p) iri → Resolved context declared iri) → ResolvedPredicate context declared p
   resolved_predicate p h = go (bytes_eq p rdf_type) refl h
@@ -271,7 +286,7 @@ module _ (context : Prefixes) (list : List (Triple ℕ)) (c : IsContext context)
     predicate_resolved = resolved_predicate t.predicate (λ iri h. resolved_iri t iri m (in_predicate t iri h))
 
     object_resolved : ResolvedTerm context declared t.object
-    object_resolved = resolved_term t.object (w.proper t m) (λ iri h. resolved_iri t iri m (in_object t iri h))
+    object_resolved = resolved_term t.object (λ iri h. resolved_iri t iri m (in_object t iri h))
 
   predicates_good : (s : Node ℕ) (p : Chars) → Among (predicates_of list s) p → GoodPredicate context (objects_of list s) p
   predicates_good s p m =
@@ -318,22 +333,31 @@ module _ (context : Prefixes) (list : List (Triple ℕ)) (c : IsContext context)
   laid_out_spelled : (subjects list ≡ [] → declared ≡ []) → Spells (turtle context list) laid_out
   laid_out_spelled none = record { spelled = text_spelled (subjects list) subjects_good none; once = apart_names declared (used_apart context list apart) }
 
-  laid_out_means : (t : Triple ℕ) → Among list t ↔ Among (all_triples declared (λ number. number) (λ n. n) laid_out.statements 0) t
+  laid_out_means : (t : Triple ℕ) → Among (map proper_triple list) t ↔ Among (all_triples declared (λ number. number) (λ n. n) laid_out.statements 0) t
   laid_out_means t =
-      let same = statements_mean context declared list (subjects list) 0 subjects_sound in (
-        λ m. subst (λ (z : List (Triple ℕ)). Among z t) (sym same) ((grouped_same list t).0 m),
-        λ m. (grouped_same list t).1 (subst (λ (z : List (Triple ℕ)). Among z t) same m),
+      let same : map proper_triple (grouped list) ≡ all_triples declared (λ number. number) (λ n. n) laid_out.statements 0 = all_said list (subjects list) ∙ sym (statements_mean context declared list (subjects list) 0 subjects_sound) in (
+        λ m. let u = Among_of_map proper_triple list t m in
+            subst (λ (z : List (Triple ℕ)). Among z t) same (subst (Among (map proper_triple (grouped list))) u.2 (Among_map proper_triple (grouped list) u.0 ((grouped_same list u.0).0 u.1))),
+        λ m. let u = Among_of_map proper_triple (grouped list) t (subst (λ (z : List (Triple ℕ)). Among z t) (sym same) m) in
+            subst (Among (map proper_triple list)) u.2 (Among_map proper_triple list u.0 ((grouped_same list u.0).1 u.1)),
       )
 
 no_subjects : (context : Prefixes) (list : List (Triple ℕ)) → subjects list ≡ [] → prefixes_used context list ≡ []
 no_subjects context [] e = none_used context
 no_subjects context (t ∷ list) e = absurd (cc)
 
-pub layout_denotes : LayoutDenotes
-layout_denotes context list c w = record {
+layout_means : (context : Prefixes) (list : List (Triple ℕ)) → IsContext context → IsWritable list → Turtle (turtle context list) (map proper_triple list)
+layout_means context list c w = record {
   document = laid_out context list c w;
   spells = laid_out_spelled context list c w (no_subjects context list);
   flat = statements_flat context list c w (subjects list) (subjects_good context list c w);
   known = statements_known context (prefixes_used context list) list (subjects list) (subjects_sound context list c w);
   stated = laid_out_means context list c w;
 }
+
+proper_stay : (list : List (Triple ℕ)) → ((t : Triple ℕ) → Among list t → IsProper t.object) → map proper_triple list ≡ list
+proper_stay [] h = refl
+proper_stay (t ∷ list) h = ap₂ ◌∷◌ (proper_stays None t (h t (inl refl))) (proper_stay list (λ u m. h u (inr m)))
+
+pub layout_denotes : LayoutDenotes
+layout_denotes = record { denotes = layout_means; stays = proper_stay }

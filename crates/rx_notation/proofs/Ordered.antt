@@ -15,7 +15,7 @@ use Rattle.rx_notation.specs.Layout.{used, same_prefix, those_among, placed, in_
 use Rattle.rx_notation.specs.Spelling.{names_differ}
 use Rattle.rx_notation.specs.Laws.{RisingContexts}
 
-not_after : (a b : Chars) → is_before a b ≡ true → is_before b a ≡ false
+pub not_after : (a b : Chars) → is_before a b ≡ true → is_before b a ≡ false
 not_after a b h = ap is_lt (nat_list_cmp_total.antisymm (encode_utf8_all b) (encode_utf8_all a)) ∙ reversed (slice_cmp nat_cmp (encode_utf8_all a) (encode_utf8_all b)) h
   where
     reversed : (o : Ordering) → is_lt o ≡ true → is_lt (ordering_reverse o) ≡ false

@@ -3,8 +3,8 @@ use Rattle.std.specs.Prelude.{◌≡◌, ℕ, true, List, map, None}
 use Rattle.rx_terms.specs.Iri.{IsIri}
 use Rattle.rx_model.specs.Sets.{Among}
 use Rattle.rx_model.specs.Terms.{Triple}
-use Rattle.rx_nquads.specs.Quads.{IsProper}
-use Rattle.rx_nquads.specs.Writable.{WritableTriple}
+use Rattle.rx_nquads.specs.Quads.{proper_term, IsProper}
+use Rattle.rx_pieces.specs.Writable.{WritableTriple}
 use Rattle.rx_notation.specs.Short.{Prefix, Prefixes, names_rise}
 use Rattle.rx_notation.specs.Layout.{used, those_among, prefixes_used, turtle}
 use Rattle.rx_notation.specs.Spelling.{names_differ}
@@ -15,14 +15,19 @@ pub record IsContext (context : Prefixes) : Type 0 where
   pub iris : (prefix : Prefix) → Among context prefix → IsIri prefix.1
   pub once : names_differ (map (λ (prefix : Prefix). prefix.0) context) ≡ true
 
--- what a list of the code's triples is: its parts are what such values are, and no literal is typed xsd:string
+-- what a list of the code's triples is: its parts are what such values are
 pub record IsWritable (list : List (Triple ℕ)) : Type 0 where
   pub parts : (t : Triple ℕ) → Among list t → WritableTriple None t
-  pub proper : (t : Triple ℕ) → Among list t → IsProper t.object
 
--- law: the text of a list denotes the list's set
-abbrev pub LayoutDenotes : Type 0
-LayoutDenotes = (context : Prefixes) (list : List (Triple ℕ)) → IsContext context → IsWritable list → Turtle (turtle context list) list
+-- the triple as it is read: a literal that is typed xsd:string is the plain one (RDF 1.1 Concepts, 3.3)
+abbrev pub proper_triple : Triple ℕ → Triple ℕ
+proper_triple t = record { subject = t.subject; predicate = t.predicate; object = proper_term t.object }
+
+-- law: the text of a list denotes the list's set, its triples as they are read; where no literal is typed xsd:string, they
+-- are the list's
+pub record LayoutDenotes : Type 0 where
+  pub denotes : (context : Prefixes) (list : List (Triple ℕ)) → IsContext context → IsWritable list → Turtle (turtle context list) (map proper_triple list)
+  pub stays : (list : List (Triple ℕ)) → ((t : Triple ℕ) → Among list t → IsProper t.object) → map proper_triple list ≡ list
 
 -- law: where the names of a context rise in byte order, each stands there once, and the prefixes that a text uses are in
 -- the context's order

@@ -5,7 +5,7 @@ use Rattle.rx_terms.specs.Text.{Chars}
 use Rattle.rx_model.specs.Sets.{contains, distinct}
 use Rattle.rx_model.specs.Terms.{Kind, Plain, Tagged, Typed, Node, Iri, Blank, Term, Resource, Literal, Triple, same_node}
 use Rattle.rx_model.specs.Copied.{rdf_type}
-use Rattle.rx_nquads.specs.Writing.{string_text, iri_text, blank_text}
+use Rattle.rx_pieces.specs.Writing.{string_text, iri_text, blank_text}
 use Rattle.rx_notation.specs.Short.{Prefix, Prefixes, is_before, prefix_of, short_text}
 
 -- ---- terms

@@ -45,7 +45,7 @@ pub fn a_flat_text_is_nested()
     ensures { FlatIsNested }
 {}
 
-/// The text of a list denotes the list's set.
+/// The text of a list denotes the list's set, but that a literal that is typed xsd:string is read as the plain one.
 pub fn a_layout_denotes_its_triples()
     ensures { LayoutDenotes }
 {}

@@ -1,17 +1,16 @@
 -- What the text of a graph denotes.
 use Rattle.std.proofs.Common.{◌≡◌, ◌⊎◌, ℕ, ◌+◌, ◌<◌, ◌≤◌, ◌^◌, Bool, true, false, not, ◌==◌, List, [], ◌∷◌, ◌++◌, map, length, take, slice_get, get_or, codes, Option, Some, None, refl, sym, ap, ap₂, ◌∙◌, inl, inr, subst, arith, append_assoc, append-nil, take-append-drop, drop}
-use Rattle.std.specs.Str.{chars, encode_utf8_all, all_scalars}
+use Rattle.std.specs.Str.{chars, encode_utf8_all}
 use Rattle.std.specs.Fmt.{decimal}
 use Rattle.std.specs.List.{list_all}
 use Rattle.std.specs.Option.{option_map}
 use Rattle.std.proofs.lemmas.Bool.{and_parts, and_from}
 use Rattle.std.proofs.lemmas.Bool.Decides.{nat_tests}
-use Rattle.std.proofs.lemmas.Fmt.{decimal_is_IsNumeral, decimal_digit, first_decimal, IsAscii-decimal}
+use Rattle.std.proofs.lemmas.Fmt.{decimal_is_IsNumeral, decimal_digit, first_decimal}
 use Rattle.std.proofs.lemmas.Str.{chars-encodes}
 use Rattle.std.proofs.lemmas.List.{take_all, map-append}
-use Rattle.rx_terms.specs.Ascii.{line_feed, carriage_return, space, quotation_mark, reverse_solidus, full_stop, is_ascii}
+use Rattle.rx_terms.specs.Ascii.{line_feed, carriage_return, space, quotation_mark, reverse_solidus, full_stop}
 use Rattle.rx_terms.specs.Text.{Chars}
-use Rattle.rx_terms.proofs.CharLemmas.{ascii-same}
 use Rattle.rx_terms.specs.declared.triples.Triple.{Triple as CodeTriple}
 use Rattle.rx_model.specs.Sets.{Among}
 use Rattle.rx_model.specs.Seen.{triple_seen, triples_seen}
@@ -21,12 +20,14 @@ use Rattle.rx_graph.proofs.SetLemmas.{seen_more}
 use Rattle.rx_nquads.specs.Quads.{proper_kind, proper_term, quad_of, quads}
 use Rattle.rx_nquads.specs.Spelling.{SpellsIri, SpellsLabel, SpellsNode, has_leading_zero, escape, SpellsString, nothing, itself, escaped, SpellsKind, plain, tagged, typed, SpellsTerm}
 use Rattle.rx_nquads.specs.Document.{SpellsGraph, States, Nquads, joined_lines}
-use Rattle.rx_nquads.specs.Writing.{escaped_char, escaped_text, string_text, iri_text, blank_text, node_text, kind_text, term_text, graph_text, line_text, nquads}
-use Rattle.rx_nquads.specs.Underway.{Delivery}
-use Rattle.rx_nquads.specs.Writable.{Adds, WritableText, WritableIri, WritableNode, WritableKind, WritableTerm, WritableName, WritableTriple}
+use Rattle.rx_nquads.specs.Writing.{node_text, kind_text, term_text, graph_text, line_text, nquads}
+use Rattle.rx_pieces.specs.Writing.{escaped_char, escaped_text, string_text, iri_text, blank_text}
+use Rattle.rx_pieces.specs.Underway.{Delivery}
+use Rattle.rx_pieces.specs.Writable.{Adds, WritableText, WritableIri, WritableNode, WritableKind, WritableTerm, WritableName, WritableTriple}
+use Rattle.rx_pieces.proofs.Adding.{adds_then, adds_by, adds_failed}
+use Rattle.rx_pieces.proofs.Scalars.{joined, literally, string_writable, iri_writable, blank_writable}
 use Rattle.rx_nquads.proofs.Cuts.{lacks, differs, lacks_append}
 use Rattle.rx_nquads.proofs.OneMeaning.{line_feed_marks, iri_lacks, node_lacks, kind_lacks, states_one}
-use Rattle.rx_nquads.proofs.Adding.{adds_then, adds_by, adds_failed, all_ascii}
 
 -- ---- terms are spelled
 
@@ -172,38 +173,9 @@ denotes name list w = record {
 
 -- ---- all characters are Unicode scalar values
 
-scalars_both : (xs ys : Chars) → all_scalars xs ≡ true → all_scalars ys ≡ true → all_scalars (xs ++ ys) ≡ true
-scalars_both [] ys p q = q
-scalars_both (x ∷ xs) ys p q = and_from _ _ (and_parts _ _ p).0 (scalars_both xs ys (and_parts _ _ p).1 q)
-
-joined : {xs ys : Chars} → WritableText xs → WritableText ys → WritableText (xs ++ ys)
-joined {xs} {ys} p q = record { scalars = scalars_both xs ys p.scalars q.scalars }
-
-literally : (xs : Chars) → list_all is_ascii xs ≡ true → WritableText xs
-literally xs h = record { scalars = (ascii-same xs h).1 }
-
-escaped_writable : (c : ℕ) → all_scalars (c ∷ []) ≡ true → all_scalars (escaped_char c) ≡ true
-escaped_writable c w = go (c == quotation_mark) refl (c == reverse_solidus) refl (c == line_feed) refl (c == carriage_return) refl
-  where
-    go : (q : Bool) → (c == quotation_mark) ≡ q → (r : Bool) → (c == reverse_solidus) ≡ r → (l : Bool) → (c == line_feed) ≡ l → (k : Bool) → (c == carriage_return) ≡ k → all_scalars (escaped_char c) ≡ true
-    go true e r f l g k h = rw e refl
-    go false e true f l g k h = rw (e, f) refl
-    go false e false f true g k h = rw (e, f, g) refl
-    go false e false f false g true h = rw (e, f, g, h) refl
-    go false e false f false g false h = rw (e, f, g, h) w
-
-string_writable : (text : Chars) → WritableText text → WritableText (escaped_text text)
-string_writable [] w = record { scalars = refl }
-string_writable (c ∷ text) w =
-    let parts = and_parts _ _ w.scalars in
-    joined (record { scalars = escaped_writable c (and_from _ _ parts.0 refl) }) (string_writable text (record { scalars = parts.1 }))
-
-iri_writable : (iri : Chars) → WritableIri iri → WritableText (iri_text iri)
-iri_writable iri w = joined (literally (codes "<") refl) (joined w.text (literally (codes ">") refl))
-
 node_writable : (node : Node ℕ) → WritableNode node → WritableText (node_text node)
 node_writable (Iri iri) w = iri_writable iri w
-node_writable (Blank number) w = literally (blank_text number) (all_ascii (decimal number) (IsAscii-decimal number w))
+node_writable (Blank number) w = blank_writable number w
 
 kind_writable : (kind : Kind) → WritableKind kind → WritableText (kind_text kind)
 kind_writable Plain w = literally [] refl

@@ -2,5 +2,3 @@ pub mod Quads
 pub mod Spelling
 pub mod Document
 pub mod Writing
-pub mod Underway
-pub mod Writable

@@ -9,12 +9,11 @@
 ghost use Rattle.rx_nquads.specs.Document.{StatesOne, DenotesOne};
 ghost use Rattle.rx_nquads.specs.Quads.{ProperStays};
 
-mod pieces;
 mod terms;
-mod whole;
 mod writing;
 
-pub use writing::{WriteError, text, write};
+pub use rx_pieces::WriteError;
+pub use writing::{text, write};
 
 /// A line states at most one quad.
 pub fn a_line_states_one()

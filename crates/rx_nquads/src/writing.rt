@@ -7,28 +7,18 @@ ghost use Rattle.rx_model.specs.Seen.{triple_seen, triples_seen};
 ghost use Rattle.rx_nquads.specs.Quads.{quads};
 ghost use Rattle.rx_nquads.specs.Document.{Nquads};
 ghost use Rattle.rx_nquads.specs.Writing.{graph_text, line_text, nquads};
-ghost use Rattle.rx_nquads.specs.Underway.{delivery};
-ghost use Rattle.rx_nquads.specs.Writable.{Adds, WritableName, WritableTriple};
+ghost use Rattle.rx_pieces.specs.Underway.{delivery};
+ghost use Rattle.rx_pieces.specs.Writable.{Adds, WritableName, WritableTriple};
 
-use crate::pieces::Pieces;
-use crate::terms::{push, push_between, push_iri, push_object, push_subject};
-use crate::whole::Whole;
+use crate::terms::{push_object, push_subject};
 use rx_graph::Graph;
+use rx_pieces::{Pieces, Whole, WriteError, push, push_between, push_iri};
 use rx_ports::Sink;
 use rx_terms::{Iri, NoMemory, Triple};
 use std::alloc::Global;
 
 /// The room in bytes that is taken for each line at first.
 const LINE: usize = 64;
-
-/// Why a text wasn't written whole.
-#[derive(Clone, Copy, Debug, PartialEq, Eq)]
-pub enum WriteError {
-    /// The sink failed. It holds a proper front of the text more than before, and was given nothing after its failure.
-    Failed,
-    /// There was no memory. The sink is as it was.
-    NoMemory,
-}
 
 /// Writes the graph's text in N-Quads to the sink: a line for each triple, in the graph's order, each quad in the graph
 /// of this name where one is given. The bytes are UTF-8.

@@ -4,7 +4,7 @@ use Rattle.rx_terms.specs.Text.{Chars}
 use Rattle.rx_terms.specs.Iri.{IsIri}
 use Rattle.rx_model.specs.Terms.{Triple}
 use Rattle.rx_nquads.specs.Spelling.{SpellsLabel, SpellsString, nothing, itself, escaped}
-use Rattle.rx_nquads.specs.Writing.{iri_text}
+use Rattle.rx_pieces.specs.Writing.{iri_text}
 use Rattle.rx_nquads.proofs.Denoting.{label_spelled}
 use Rattle.rx_notation.specs.Short.{Prefix, is_prefix_name, is_local_name}
 use Rattle.rx_notation.specs.Syntax.{Full, Short, Named, Labelled, Type_of, Suffix, Bare, Language, Datatype, Noun, Single, Predicate, Done, Document, are_flat}

@@ -1,5 +1,5 @@
 use Rattle.std.proofs.Common.{option_map}
-use Rattle.rx_nquads.specs.Underway.{delivery}
+use Rattle.rx_pieces.specs.Underway.{delivery}
 use Rattle.rx_nquads.proofs.Denoting.{Written}
 use Rattle.rx_nquads.proofs.writing.push_lines.Given as goal
 

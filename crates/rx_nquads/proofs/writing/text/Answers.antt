@@ -1,5 +1,5 @@
 use Rattle.std.proofs.Common.{◌∙◌}
-use Rattle.rx_nquads.proofs.Sending.{holds_text}
+use Rattle.rx_pieces.proofs.Sending.{holds_text}
 use Rattle.rx_nquads.proofs.writing.text.Goals as goal
 
 pub returns-in-Ok-clause-bytes : goal.returns-in-Ok-clause-bytes

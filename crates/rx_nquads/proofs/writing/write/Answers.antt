@@ -1,5 +1,5 @@
 use Rattle.std.proofs.Common.{refl}
-use Rattle.rx_nquads.proofs.Sending.{end_stands, whole_sent}
+use Rattle.rx_pieces.proofs.Sending.{end_stands, whole_sent}
 use Rattle.rx_nquads.proofs.writing.write.Goals as goal
 
 pub returns-in-Ok-send-clause-ok : goal.returns-in-Ok-send-clause-ok

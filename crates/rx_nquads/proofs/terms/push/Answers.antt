@@ -1,5 +1,0 @@
-use Rattle.rx_nquads.proofs.Adding.{utf8_bytes}
-use Rattle.rx_nquads.proofs.terms.push.Goals as goal
-
-pub returns : goal.returns
-returns g c = utf8_bytes _ c.utf8.text (rw c.as_bytes.ensures.value at c.add.ensures)

@@ -1,0 +1,4 @@
+pub mod Sending
+pub mod Adding
+pub mod Digits
+pub mod Scalars

@@ -1,0 +1,45 @@
+-- Texts whose characters are Unicode scalar values.
+use Rattle.std.proofs.Common.{◌≡◌, ℕ, ◌<◌, ◌^◌, Bool, true, false, ◌==◌, List, [], ◌∷◌, ◌++◌, codes, refl}
+use Rattle.std.specs.Str.{all_scalars}
+use Rattle.std.specs.Fmt.{decimal}
+use Rattle.std.specs.List.{list_all}
+use Rattle.std.proofs.lemmas.Bool.{and_parts, and_from}
+use Rattle.std.proofs.lemmas.Fmt.{IsAscii-decimal}
+use Rattle.rx_terms.specs.Ascii.{line_feed, carriage_return, quotation_mark, reverse_solidus, is_ascii}
+use Rattle.rx_terms.specs.Text.{Chars}
+use Rattle.rx_terms.proofs.CharLemmas.{ascii-same}
+use Rattle.rx_pieces.specs.Writing.{escaped_char, escaped_text, iri_text, blank_text}
+use Rattle.rx_pieces.specs.Writable.{WritableText, WritableIri}
+use Rattle.rx_pieces.proofs.Adding.{all_ascii}
+
+scalars_both : (xs ys : Chars) → all_scalars xs ≡ true → all_scalars ys ≡ true → all_scalars (xs ++ ys) ≡ true
+scalars_both [] ys p q = q
+scalars_both (x ∷ xs) ys p q = and_from _ _ (and_parts _ _ p).0 (scalars_both xs ys (and_parts _ _ p).1 q)
+
+pub joined : {xs ys : Chars} → WritableText xs → WritableText ys → WritableText (xs ++ ys)
+joined {xs} {ys} p q = record { scalars = scalars_both xs ys p.scalars q.scalars }
+
+pub literally : (xs : Chars) → list_all is_ascii xs ≡ true → WritableText xs
+literally xs h = record { scalars = (ascii-same xs h).1 }
+
+escaped_writable : (c : ℕ) → all_scalars (c ∷ []) ≡ true → all_scalars (escaped_char c) ≡ true
+escaped_writable c w = go (c == quotation_mark) refl (c == reverse_solidus) refl (c == line_feed) refl (c == carriage_return) refl
+  where
+    go : (q : Bool) → (c == quotation_mark) ≡ q → (r : Bool) → (c == reverse_solidus) ≡ r → (l : Bool) → (c == line_feed) ≡ l → (k : Bool) → (c == carriage_return) ≡ k → all_scalars (escaped_char c) ≡ true
+    go true e r f l g k h = rw e refl
+    go false e true f l g k h = rw (e, f) refl
+    go false e false f true g k h = rw (e, f, g) refl
+    go false e false f false g true h = rw (e, f, g, h) refl
+    go false e false f false g false h = rw (e, f, g, h) w
+
+pub string_writable : (text : Chars) → WritableText text → WritableText (escaped_text text)
+string_writable [] w = record { scalars = refl }
+string_writable (c ∷ text) w =
+    let parts = and_parts _ _ w.scalars in
+    joined (record { scalars = escaped_writable c (and_from _ _ parts.0 refl) }) (string_writable text (record { scalars = parts.1 }))
+
+pub iri_writable : (iri : Chars) → WritableIri iri → WritableText (iri_text iri)
+iri_writable iri w = joined (literally (codes "<") refl) (joined w.text (literally (codes ">") refl))
+
+pub blank_writable : (number : ℕ) → number < 2 ^ 64 → WritableText (blank_text number)
+blank_writable number fits = literally (blank_text number) (all_ascii (decimal number) (IsAscii-decimal number fits))
