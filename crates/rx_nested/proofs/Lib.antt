@@ -1,0 +1,12 @@
+pub mod Spelled
+pub mod Declared
+pub mod Heights
+pub mod Means
+pub mod Nodes
+pub mod Built
+pub mod Bounds
+pub mod Once
+pub mod There
+pub mod NestedMeaning
+pub mod Unfolded
+pub mod Stepping

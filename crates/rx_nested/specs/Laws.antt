@@ -1,0 +1,20 @@
+-- What holds of the nested text.
+use Rattle.std.specs.Prelude.{◌≡◌, ℕ, List, map, nat_eq}
+use Rattle.rx_model.specs.Sets.{distinct}
+use Rattle.rx_model.specs.Terms.{Triple, same_triple, set_of}
+use Rattle.rx_shapes.specs.declared.shapes.Shape.{Shape}
+use Rattle.rx_shapes.specs.Shapes.{IsShape}
+use Rattle.rx_notation.specs.Short.{Prefixes}
+use Rattle.rx_notation.specs.Meaning.{NestedTurtle}
+use Rattle.rx_notation.specs.Laws.{IsContext, IsWritable, proper_triple}
+use Rattle.rx_nested.specs.Nesting.{nested}
+
+-- each blank node has the shape that the list gives it
+abbrev pub HaveShapes : List (Triple ℕ) → (ℕ → Shape) → Type 0
+HaveShapes list shapes = (number : ℕ) → IsShape (set_of list) number (shapes number)
+
+-- law: the nested text of a list in which each triple stands once denotes the list's set, up to the names of blank nodes,
+-- its triples as they are read
+abbrev pub NestedDenotes : Type 0
+NestedDenotes = (context : Prefixes) (list : List (Triple ℕ)) (shapes : ℕ → Shape) → IsContext context → IsWritable list
+    → distinct (same_triple nat_eq) list ≡ list → HaveShapes list shapes → NestedTurtle (nested context list shapes) (map proper_triple list)
