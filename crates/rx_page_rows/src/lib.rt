@@ -1,5 +1,4 @@
-//! Worked rows and first calls of the layers of pages and rules, as tests: tags, tokens, elements, names, facts, the
-//! evaluator and walks, each page in pieces of several sizes.
+//! Worked rows and first calls of the layers of pages, as tests: tags, tokens and elements, each page whole and in pieces.
 #![tactic(auto)]
 
 #[cfg(test)]

@@ -13,11 +13,12 @@ use Rattle.rx_names.specs.Lines as names
 use Rattle.rx_names.specs.Lines.{Kept, no_tags}
 use Rattle.rx_curie.specs.Given.{kind_of}
 use Rattle.rx_nest.specs.Signs.{Sign, begun, said}
-use Rattle.rx_walk.specs.Lines.{around, line_on, line_of}
+use Rattle.rx_base.specs.Lines.{around, line_on, line_of}
 use Rattle.rx_walk.specs.Refused.{fault_of, refused_at, refused_in}
 use Rattle.rx_walk.specs.Courses.{AllAbsolute}
 use Rattle.rx_walk.specs.Accepting.{Accepts}
-use Rattle.rx_walk.proofs.Signed.{line_append, refused_append, said_line, said_refused}
+use Rattle.rx_walk.proofs.Signed.{refused_append, said_refused}
+use Rattle.rx_base.proofs.Lines.{line_append, said_line}
 
 or_none : (o : Option Fault) → option_or o None ≡ o
 or_none None = refl

@@ -19,9 +19,9 @@ use Rattle.rx_nest.specs.Signs.{Sign, begun, said}
 use Rattle.rx_nest.specs.Fronts.{IsFront}
 use Rattle.rx_walk.specs.declared.courses.Course.{Course}
 use Rattle.rx_walk.specs.declared.origins.Origin.{Origin}
-use Rattle.rx_walk.specs.Lines.{read_tag, around, line_on, line_of}
+use Rattle.rx_base.specs.Lines.{read_tag, around, line_on, line_of}
 use Rattle.rx_walk.specs.CallsOf.{call_of, calls_of, singles}
-use Rattle.rx_walk.specs.Seekings.{seek, sought}
+use Rattle.rx_base.specs.Seekings.{seek, sought}
 use Rattle.rx_walk.specs.Refused.{fault_of, refused_at, refused_in}
 use Rattle.rx_walk.specs.Stages.{Staged, MayTake, MayBe, Tells}
 use Rattle.rx_rdfa.specs.Facts.{facts}
@@ -30,7 +30,8 @@ use Rattle.rx_curie.specs.Seen.{facts_seen}
 use Rattle.rx_tags.specs.declared.stops.Stop.{Stop}
 use Rattle.rx_tags.specs.declared.stops.Stop.TheVariants as stop
 use Rattle.rx_walk.specs.Courses.{AllAbsolute, Runs, FactsGive, Hears}
-use Rattle.rx_walk.proofs.Signed.{line_append, calls_append, seeks_append, refused_append, said_line, said_calls, said_seeks, said_refused}
+use Rattle.rx_walk.proofs.Signed.{calls_append, refused_append, said_calls, said_refused}
+use Rattle.rx_base.proofs.Lines.{line_append, seeks_append, said_line, said_seeks}
 use Rattle.rx_walk.proofs.Fronting.{may_more, may_say, front_counts}
 
 or_none : (o : Option Fault) → option_or o None ≡ o

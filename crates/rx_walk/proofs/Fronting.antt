@@ -9,7 +9,7 @@ use Rattle.rx_rdfa.specs.Tree.{Tag}
 use Rattle.rx_grammar.specs.Trees.{StartTag}
 use Rattle.rx_nest.specs.Signs.{Sign, begun, said, finished}
 use Rattle.rx_nest.specs.Fronts.{Front, unbegun, inside, over, levels_of, goes, goes_on, IsFront}
-use Rattle.rx_walk.specs.Lines.{line_on, line_of}
+use Rattle.rx_base.specs.Lines.{line_on, line_of}
 use Rattle.rx_walk.specs.CallsOf.{call_of, calls_of, singles}
 use Rattle.rx_walk.specs.Leading.{moves, within, move_all}
 use Rattle.rx_walk.specs.Stages.{MayBe}

@@ -10,7 +10,6 @@ use Rattle.rx_rdfa.specs.Base.{base_by, base_of, root_href}
 use Rattle.rx_rdfa.specs.Calls.{Call, calls}
 use Rattle.rx_rdfa.specs.Facts.{with_facts}
 use Rattle.rx_rdfa.specs.Machine.{begun}
-use Rattle.rx_rdfa.specs.Names.{Context}
 use Rattle.rx_pages.specs.PageReader.{Progress}
 use Rattle.rx_nest.specs.Signs.{Sign, Sight, sees, nothing_seen, signs_of}
 use Rattle.rx_nest.proofs.TagPlaces.{shows_more}
@@ -22,18 +21,20 @@ use Rattle.rx_eval.proofs.ShownLemmas.{shows_after}
 use Rattle.rx_eval.proofs.StandLemmas.{finish_makes}
 use Rattle.rx_walk.specs.CallsOf.{calls_of}
 use Rattle.rx_walk.specs.Leading.{Leads}
-use Rattle.rx_walk.specs.Lines.{tags_of, line_of}
+use Rattle.rx_base.specs.Lines.{tags_of, line_of}
 use Rattle.rx_walk.specs.Numberings.{NumbersBy, NumbersGrow, ListIsNumbered}
-use Rattle.rx_walk.specs.Seekings.{first_child, known, seeks, sought}
+use Rattle.rx_base.specs.Seekings.{first_child, known, seeks, sought}
+use Rattle.rx_walk.specs.Settings.{Setting}
 use Rattle.rx_walk.specs.Stages.{Known}
 use Rattle.rx_walk.specs.Walks.{Walked, Stands, state_of}
 use Rattle.rx_walk.proofs.AlikeStates.{led_alike}
-use Rattle.rx_walk.proofs.FaultPlacing.{page_shows}
+use Rattle.rx_reading.proofs.FaultPlacing.{page_shows}
 use Rattle.rx_walk.proofs.Alike.{pieces_alike}
-use Rattle.rx_walk.proofs.Found.{known_stays, base_found}
+use Rattle.rx_base.proofs.Found.{known_stays, base_found}
 use Rattle.rx_walk.proofs.Making.{all_on, all_base}
 use Rattle.rx_walk.proofs.NumberedPages.{facts_line}
-use Rattle.rx_walk.proofs.Signed.{calls_append, seeks_append, calls_tree}
+use Rattle.rx_walk.proofs.Signed.{calls_append, calls_tree}
+use Rattle.rx_base.proofs.Lines.{seeks_append}
 use Rattle.rx_walk.proofs.StandsAlike.{stands_alike}
 use Rattle.rx_walk.proofs.Wholes.{known_at}
 
@@ -55,24 +56,24 @@ led_on base levels xs ys old new to first all stands =
     all_on ys xs to p.middle new p.rest (stands_alike to xs old p.middle (led_alike base levels xs old p.middle first p.first) stands)
 
 -- what is shown of more bytes begins with what was shown
-module _ (syntax : Syntax) (limits : Limits) (context : Context) (address : Chars) where
+module _ (setting : Setting) (address : Chars) where
   abbrev IsMore : List Sign → List Sign → Type 0
   IsMore some all = (more : List Sign) × (all ≡ some ++ more)
 
-  shown_all : (walk : Walked) (bytes : List ℕ) (s : Stands syntax limits context address walk bytes) → (sees nothing_seen s.goes.shown.told).signs ≡ s.goes.signs
+  shown_all : (walk : Walked) (bytes : List ℕ) (s : Stands setting address walk bytes) → (sees nothing_seen s.goes.shown.told).signs ≡ s.goes.signs
   shown_all walk bytes s = ap (λ (x : Sight). x.signs) s.goes.shown.sight ∙ (ap (λ x. s.goes.signs ++ x) s.paid ∙ append-nil s.goes.signs)
 
-  abbrev progress : (walk : Walked) (bytes : List ℕ) → Stands syntax limits context address walk bytes → Progress
+  abbrev progress : (walk : Walked) (bytes : List ℕ) → Stands setting address walk bytes → Progress
   progress walk bytes s = record { now = s.goes.shown.at.now; told = s.goes.shown.told }
 
   -- what the evaluator was led by is led on
-  module _ (walk : Walked) (bytes : List ℕ) (s : Stands syntax limits context address walk bytes) (old : State) (is : state_of walk.course.stage ≡ Some old) (to : Numbering)
-      (by : NumbersBy to context s.goes.signs old) (all : List Sign) (m : IsMore s.goes.signs all) where
+  module _ (walk : Walked) (bytes : List ℕ) (s : Stands setting address walk bytes) (old : State) (is : state_of walk.listener.stage ≡ Some old) (to : Numbering)
+      (by : NumbersBy to setting.context s.goes.signs old) (all : List Sign) (m : IsMore s.goes.signs all) where
     abbrev first_calls : List Call
-    first_calls = calls_of context [] s.goes.signs
+    first_calls = calls_of setting.context [] s.goes.signs
 
-    known_now : Known address limits.depth (sought s.goes.signs) first_calls old
-    known_now = known_at address limits.depth (sought s.goes.signs) first_calls walk.course.stage old s.goes.runs.staged is
+    known_now : Known address setting.limits.depth (sought s.goes.signs) first_calls old
+    known_now = known_at address setting.limits.depth (sought s.goes.signs) first_calls walk.listener.stage old s.goes.known.staged is
 
     stays : sought all ≡ known known_now.href
     stays =
@@ -80,27 +81,27 @@ module _ (syntax : Syntax) (limits : Limits) (context : Context) (address : Char
         ∙ (seeks_append [] first_child s.goes.signs m.0
         ∙ (ap (λ x. seeks (line_of [] s.goes.signs) x m.0) known_now.is ∙ known_stays (line_of [] s.goes.signs) known_now.href m.0))
 
-    on : (href : Option Chars) (new : State) → sought all ≡ known href → Leads (calls_of context [] all) (begun_state (base_by href address) limits.depth) new
-        → eval.StandsOn to (calls_of context [] all) new
+    on : (href : Option Chars) (new : State) → sought all ≡ known href → Leads (calls_of setting.context [] all) (begun_state (base_by href address) setting.limits.depth) new
+        → eval.StandsOn to (calls_of setting.context [] all) new
     on href new k l =
         let same : known href ≡ known known_now.href = sym k ∙ stays in
         let one : href ≡ known_now.href = cc in
-        let parts : calls_of context [] all ≡ first_calls ++ calls_of context (line_of [] s.goes.signs) m.0 = ap (calls_of context []) m.1 ∙ calls_append context [] s.goes.signs m.0 in
+        let parts : calls_of setting.context [] all ≡ first_calls ++ calls_of setting.context (line_of [] s.goes.signs) m.0 = ap (calls_of setting.context []) m.1 ∙ calls_append setting.context [] s.goes.signs m.0 in
         subst (λ cs. eval.StandsOn to cs new) (sym parts)
-        (led_on (base_by known_now.href address) limits.depth first_calls (calls_of context (line_of [] s.goes.signs) m.0) old new to known_now.led.leads
-        (subst₂ (λ cs h. Leads cs (begun_state (base_by h address) limits.depth) new) parts one l) by.stands)
+        (led_on (base_by known_now.href address) setting.limits.depth first_calls (calls_of setting.context (line_of [] s.goes.signs) m.0) old new to known_now.led.leads
+        (subst₂ (λ cs h. Leads cs (begun_state (base_by h address) setting.limits.depth) new) parts one l) by.stands)
 
   -- what a walk shows for more bytes
-  walk_more : (before after : Walked) (bytes piece : List ℕ) (s : Stands syntax limits context address before bytes) (t : Stands syntax limits context address after (bytes ++ piece)) → IsMore s.goes.signs t.goes.signs
+  walk_more : (before after : Walked) (bytes piece : List ℕ) (s : Stands setting address before bytes) (t : Stands setting address after (bytes ++ piece)) → IsMore s.goes.signs t.goes.signs
   walk_more before after bytes piece s t =
-      let m = shows_more syntax limits bytes piece (progress before bytes s) (progress after (bytes ++ piece) t) s.goes.shown.at.read t.goes.shown.at.read in
+      let m = shows_more setting.syntax setting.limits bytes piece (progress before bytes s) (progress after (bytes ++ piece) t) s.goes.shown.at.read t.goes.shown.at.read in
       (m.signs, sym (shown_all after (bytes ++ piece) t) ∙ (m.are ∙ ap (λ x. x ++ m.signs) (shown_all before bytes s)))
 
   -- what the tree of a page shows
-  tree_more : (walk : Walked) (bytes piece : List ℕ) (s : Stands syntax limits context address walk bytes) (tree : Tree) → Page syntax limits (bytes ++ piece) tree → IsMore s.goes.signs (signs_of tree)
+  tree_more : (walk : Walked) (bytes piece : List ℕ) (s : Stands setting address walk bytes) (tree : Tree) → Page setting.syntax setting.limits (bytes ++ piece) tree → IsMore s.goes.signs (signs_of tree)
   tree_more walk bytes piece s tree page =
-      let p = page_shows syntax limits (bytes ++ piece) tree page in
-      let m = shows_more syntax limits bytes piece (progress walk bytes s) p.final s.goes.shown.at.read p.read in
+      let p = page_shows setting.syntax setting.limits (bytes ++ piece) tree page in
+      let m = shows_more setting.syntax setting.limits bytes piece (progress walk bytes s) p.final s.goes.shown.at.read p.read in
       (m.signs, sym p.signs_are ∙ (m.are ∙ ap (λ x. x ++ m.signs) (shown_all walk bytes s)))
 
 tree_base : (syntax : Syntax) (limits : Limits) (bytes : List ℕ) (tree : Tree) → Page syntax limits bytes tree → sought (signs_of tree) ≡ known (root_href (tags_of tree))
@@ -109,31 +110,31 @@ tree_base syntax limits bytes tree page =
     subst (λ t. sought (signs_of t) ≡ known (root_href (tags_of t))) (sym d.tree_is) (base_found (start_of d.root d.t) d.inside)
 
 pub numbers_grow : NumbersGrow
-numbers_grow syntax limits context address before after bytes piece s t old new was is to by =
-    let k = known_at address limits.depth (sought t.goes.signs) (calls_of context [] t.goes.signs) after.course.stage new t.goes.runs.staged is in
-    let x = on syntax limits context address before bytes s old was to by t.goes.signs (walk_more syntax limits context address before after bytes piece s t) k.href new k.is k.led.leads in
+numbers_grow setting address before after bytes piece s t old new was is to by =
+    let k = known_at address setting.limits.depth (sought t.goes.signs) (calls_of setting.context [] t.goes.signs) after.listener.stage new t.goes.known.staged is in
+    let x = on setting address before bytes s old was to by t.goes.signs (walk_more setting address before after bytes piece s t) k.href new k.is k.led.leads in
     record {
       to = x.now;
       grown = x.grown;
       by = record {
         stands = x.stands;
-        line = facts_line context t.goes.signs;
-        shows = λ shown h. shows_after x.now (calls_of context [] t.goes.signs) new shown h x.stands;
+        line = facts_line setting.context t.goes.signs;
+        shows = λ shown h. shows_after x.now (calls_of setting.context [] t.goes.signs) new shown h x.stands;
       };
     }
 
 pub list_is_numbered : ListIsNumbered
-list_is_numbered syntax limits context address walk bytes piece s old is to by list e =
+list_is_numbered setting address walk bytes piece s old is to by list e =
     let tree = e.tree in
-    let nodes = with_facts context [] (tags_of tree) in
+    let nodes = with_facts setting.context [] (tags_of tree) in
     let base = base_of (tags_of tree) address in
     let state = e.lists.state in
-    let x = on syntax limits context address walk bytes s old is to by (signs_of tree) (tree_more syntax limits context address walk bytes piece s tree e.page) (root_href (tags_of tree)) state
-    (tree_base syntax limits (bytes ++ piece) tree e.page) e.lists.led.leads in
-    let stands = subst (λ cs. eval.Stands x.now cs state) (calls_tree context [] tree) x.stands in
+    let x = on setting address walk bytes s old is to by (signs_of tree) (tree_more setting address walk bytes piece s tree e.page) (root_href (tags_of tree)) state
+    (tree_base setting.syntax setting.limits (bytes ++ piece) tree e.page) e.lists.led.leads in
+    let stands = subst (λ cs. eval.Stands x.now cs state) (calls_tree setting.context [] tree) x.stands in
     let whole : eval.Stands x.now (calls nodes) state = record { page = stands.page; phase = subst (λ m. eval.Phase state.ended x.now m state) (pieces_alike state.base (calls nodes) begun) stands.phase } in
     record {
       to = x.now;
       grown = x.grown;
-      makes = subst₂ (λ b ts. eval.Makes x.now b nodes ts) (all_base (calls_of context [] (signs_of tree)) (begun_state base limits.depth) state e.lists.led.leads) (sym e.lists.list_is) (finish_makes x.now state nodes whole);
+      makes = subst₂ (λ b ts. eval.Makes x.now b nodes ts) (all_base (calls_of setting.context [] (signs_of tree)) (begun_state base setting.limits.depth) state e.lists.led.leads) (sym e.lists.list_is) (finish_makes x.now state nodes whole);
     }

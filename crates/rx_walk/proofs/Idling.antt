@@ -1,12 +1,18 @@
--- Text that no open element gathers leaves a stage idle.
-use Rattle.std.proofs.Common.{◌≡◌, ◌∙◌, ap, false, Result, Ok, Err}
+-- Where no open element gathers its text a stage is idle, and text leaves it so.
+use Rattle.std.proofs.Common.{◌≡◌, ◌∙◌, ℕ, ap, false, List, [], ◌∷◌, Some, Result, Ok, Err}
 use Rattle.std.specs.Prelude.{IsOk, OnOk}
 use Rattle.rx_terms.specs.Text.{Chars}
 use Rattle.rx_terms.specs.declared.texts.NoMemory.{NoMemory}
+use Rattle.rx_rdfa.specs.Calls.{Call, Enter, Read, Leave}
 use Rattle.rx_eval.specs.Keeping.{gathers_some}
-use Rattle.rx_eval.specs.Opened.{read_text}
+use Rattle.rx_eval.specs.Opened.{begun_state, read_text}
 use Rattle.rx_eval.specs.States.{State}
+use Rattle.rx_walk.specs.declared.stages.Stage.{Stage}
 use Rattle.rx_walk.specs.declared.stages.Stage.TheVariants as stage
+use Rattle.rx_walk.specs.Leading.{Steps, Leads}
+use Rattle.rx_base.specs.Seekings.{Seeking}
+use Rattle.rx_walk.specs.Stages.{Staged}
+use Rattle.rx_walk.specs.Walks.{state_of}
 use Rattle.rx_walk.specs.Quiets.{IsIdle}
 
 read_idle : (chars : Chars) (old new : State) → new ≡ read_text chars old → old.spent ≡ false → gathers_some old.frames ≡ false → IsIdle (stage.Found new)
@@ -15,3 +21,19 @@ read_idle chars old new e s g = (ap (λ (z : State). z.spent) e ∙ s, ap (λ (z
 pub text_idle : (chars : Chars) (r : Result (Unit {0}) NoMemory) (old new : State) → IsOk r → OnOk r (new ≡ read_text chars old) → old.spent ≡ false → gathers_some old.frames ≡ false → IsOk r × IsIdle (stage.Found new)
 text_idle chars (Ok done) old new k e s g = (k, read_idle chars old new e s g)
 text_idle chars (Err why) old new k e s g = absurd (cc)
+
+-- an evaluator that answers has memory
+one_unspent : (call : Call) (old new : State) → Steps call old new → new.spent ≡ old.spent
+one_unspent (Enter facts) old new s = s.1.rest.6
+one_unspent (Read chars) old new s = ap (λ (z : State). z.spent) s
+one_unspent Leave old new s = s.rest.5
+
+pub all_unspent : (list : List Call) (old new : State) → Leads list old new → new.spent ≡ old.spent
+all_unspent [] old new h = ap (λ (z : State). z.spent) h
+all_unspent (call ∷ list) old new h = all_unspent list h.0 new h.2 ∙ one_unspent call old h.0 h.1
+
+pub idle_at : (address : Chars) (levels : ℕ) (seeking : Seeking) (list : List Call) (x : Stage) (state : State) → Staged address levels seeking list x → state_of x ≡ Some state → gathers_some state.frames ≡ false → IsIdle x
+idle_at address levels seeking list (stage.Seeking head) state s e g = absurd (cc)
+idle_at address levels seeking list (stage.Found other) state s e g =
+    let is : other ≡ state = cc in
+    (all_unspent list (begun_state _ levels) other s.led.leads, ap (λ (z : State). gathers_some z.frames) is ∙ g)

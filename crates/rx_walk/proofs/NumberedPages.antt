@@ -11,9 +11,9 @@ use Rattle.rx_eval.specs.Opened.{begun_state}
 use Rattle.rx_eval.proofs.ShownLemmas.{shows_after}
 use Rattle.rx_eval.proofs.StandLemmas.{begun_stands}
 use Rattle.rx_rdfa.specs.Base.{base_by}
-use Rattle.rx_walk.specs.Lines.{around, read_tag, line_on, line_of}
+use Rattle.rx_base.specs.Lines.{around, read_tag, line_on, line_of}
 use Rattle.rx_walk.specs.CallsOf.{call_of, calls_of}
-use Rattle.rx_walk.specs.Seekings.{sought}
+use Rattle.rx_base.specs.Seekings.{sought}
 use Rattle.rx_walk.specs.Numberings.{facts_along, IsNumbered}
 use Rattle.rx_walk.proofs.Making.{all_on}
 use Rattle.rx_walk.proofs.Wholes.{known_at}
@@ -50,15 +50,15 @@ module _ (context : Context) where
   facts_line signs = (all_fit [] signs no_line (record { facts_are = refl; deep = refl })).facts_are
 
 pub is_numbered : IsNumbered
-is_numbered syntax limits context address walk bytes s state e =
-    let known = known_at address limits.depth (sought s.goes.signs) (calls_of context [] s.goes.signs) walk.course.stage state s.goes.runs.staged e in
+is_numbered setting address walk bytes s state e =
+    let known = known_at address setting.limits.depth (sought s.goes.signs) (calls_of setting.context [] s.goes.signs) walk.listener.stage state s.goes.known.staged e in
     let base = base_by known.href address in
-    let some = all_on (calls_of context [] s.goes.signs) [] no_numbers (begun_state base limits.depth) state known.led.leads (begun_stands base limits.depth) in
+    let some = all_on (calls_of setting.context [] s.goes.signs) [] no_numbers (begun_state base setting.limits.depth) state known.led.leads (begun_stands base setting.limits.depth) in
     record {
       to = some.now;
       by = record {
         stands = some.stands;
-        line = facts_line context s.goes.signs;
-        shows = λ shown h. shows_after some.now (calls_of context [] s.goes.signs) state shown h some.stands;
+        line = facts_line setting.context s.goes.signs;
+        shows = λ shown h. shows_after some.now (calls_of setting.context [] s.goes.signs) state shown h some.stands;
       };
     }

@@ -13,9 +13,10 @@ use Rattle.rx_walk.specs.declared.origins.Origin.{Origin}
 use Rattle.rx_walk.specs.declared.stages.Head.{Head}
 use Rattle.rx_walk.specs.declared.stages.Stage.TheVariants as stage
 use Rattle.rx_walk.specs.CallsOf.{singles}
-use Rattle.rx_walk.specs.Seekings.{Seeking, known}
+use Rattle.rx_base.specs.Seekings.{Seeking, known}
 use Rattle.rx_walk.specs.Leading.{Steps, Leads, Led}
-use Rattle.rx_walk.specs.Stages.{sought_seen, call_seen, queue_seen, MayBe, Known, MayTake, Tells, HeadGives, MayFollow}
+use Rattle.rx_walk.specs.Stages.{call_seen, queue_seen, MayBe, Known, MayTake, Tells, HeadGives, MayFollow}
+use Rattle.rx_base.specs.Sought.{sought_seen}
 use Rattle.rx_walk.proofs.Alike.{leads_then, leads_singles}
 use Rattle.rx_element.proofs.DrawLemmas.{drop_at, nothing_left}
 use Rattle.rx_walk.proofs.Moving.{may_enter, may_leave, follow_first, follow_rest}

@@ -8,9 +8,9 @@ use Rattle.rx_nest.specs.Signs.{Sign, begun, said, finished}
 use Rattle.rx_eval.specs.Keeping.{gathers_some}
 use Rattle.rx_eval.specs.Opened.{begun_state}
 use Rattle.rx_eval.specs.States.{State, Frame}
-use Rattle.rx_walk.specs.Lines.{line_on}
+use Rattle.rx_base.specs.Lines.{line_on}
 use Rattle.rx_walk.specs.CallsOf.{call_of, calls_of}
-use Rattle.rx_walk.specs.Seekings.{sought}
+use Rattle.rx_base.specs.Seekings.{sought}
 use Rattle.rx_walk.specs.Leading.{Steps, Leads}
 use Rattle.rx_walk.specs.KeptTexts.{texts_on, texts_of, gathered_text, KeepsOneText}
 use Rattle.rx_walk.proofs.Wholes.{known_at}
@@ -99,7 +99,7 @@ all_kept context line texts (sign ∷ signs) old new h k =
     all_kept context (line_on line sign) (texts_on texts sign) signs h.0 new h.2 (one_kept context line texts sign old h.0 h.1 k)
 
 pub keeps_one_text : KeepsOneText
-keeps_one_text syntax limits context address walk bytes s state e =
-    let known = known_at address limits.depth (sought s.goes.signs) (calls_of context [] s.goes.signs) walk.course.stage state s.goes.runs.staged e in
-    let begun : Kept (begun_state _ limits.depth) [] = record { many = refl; kept = refl } in
-    (all_kept context [] [] s.goes.signs (begun_state _ limits.depth) state known.led.leads begun).kept
+keeps_one_text setting address walk bytes s state e =
+    let known = known_at address setting.limits.depth (sought s.goes.signs) (calls_of setting.context [] s.goes.signs) walk.listener.stage state s.goes.known.staged e in
+    let begun : Kept (begun_state _ setting.limits.depth) [] = record { many = refl; kept = refl } in
+    (all_kept setting.context [] [] s.goes.signs (begun_state _ setting.limits.depth) state known.led.leads begun).kept

@@ -1,41 +1,36 @@
 -- What a walk knows of its page.
-use Rattle.std.proofs.Common.{◌≡◌, ◌∙◌, ℕ, false, List, [], ◌∷◌, ◌++◌, length, refl, sym, ap, subst, ◌≢◌, Option, Some, None, Result, Err, append-nil}
+use Rattle.std.proofs.Common.{◌≡◌, ◌∙◌, ℕ, false, List, [], ◌∷◌, ◌++◌, length, sym, ap, subst, Option, Some}
 use Rattle.rx_terms.specs.Text.{Chars}
 use Rattle.rx_terms.specs.declared.triples.Triple.{Triple as CodeTriple}
 use Rattle.rx_model.specs.Seen.{triples_seen}
-use Rattle.rx_chars.specs.declared.syntax.Syntax.{Syntax}
-use Rattle.rx_grammar.specs.declared.limits.Limits.{Limits}
-use Rattle.rx_grammar.specs.declared.faults.Fault.{Fault}
-use Rattle.rx_tags.specs.declared.stops.Stop.{Stop}
-use Rattle.rx_tags.specs.declared.stops.Stop.TheVariants as stop
 use Rattle.rx_grammar.specs.Items.{start_of}
-use Rattle.rx_grammar.specs.Pages.{Page}
 use Rattle.rx_grammar.specs.Trees.{StartTag, Tree, end, element}
 use Rattle.rx_rdfa.specs.Base.{base_by, root_href}
 use Rattle.rx_rdfa.specs.Calls.{Call}
 use Rattle.rx_rdfa.specs.Names.{Context}
-use Rattle.rx_nest.specs.Nests as nests
-use Rattle.rx_nest.specs.Nests.{Nested}
 use Rattle.rx_nest.specs.Signs.{Sign, finished, signs_of}
+use Rattle.rx_reading.specs.Readings.{Whole}
 use Rattle.rx_eval.specs.Opened.{begun_state}
 use Rattle.rx_eval.specs.States.{State}
 use Rattle.rx_walk.specs.declared.courses.Course.{Course}
 use Rattle.rx_walk.specs.declared.stages.Head.{Head}
 use Rattle.rx_walk.specs.declared.stages.Stage.{Stage}
 use Rattle.rx_walk.specs.declared.stages.Stage.TheVariants as stage
-use Rattle.rx_walk.specs.declared.seeking.Sought.{Sought}
-use Rattle.rx_walk.specs.declared.seeking.Sought.TheVariants as looks
-use Rattle.rx_walk.specs.Lines.{tags_of, line_of}
+use Rattle.rx_base.specs.declared.seeking.Sought.{Sought}
+use Rattle.rx_base.specs.declared.seeking.Sought.TheVariants as looks
+use Rattle.rx_base.specs.Lines.{tags_of, line_of}
 use Rattle.rx_walk.specs.CallsOf.{calls_of}
-use Rattle.rx_walk.specs.Seekings.{Seeking, known, sought}
+use Rattle.rx_base.specs.Seekings.{Seeking, known, sought}
 use Rattle.rx_walk.specs.Leading.{Led}
-use Rattle.rx_walk.specs.Stages.{sought_seen, Known, Staged}
-use Rattle.rx_walk.specs.Courses.{Runs}
+use Rattle.rx_walk.specs.Stages.{Known, Staged}
+use Rattle.rx_base.specs.Sought.{sought_seen}
+use Rattle.rx_walk.specs.Courses.{Runs, runs_at, way_at}
+use Rattle.rx_walk.specs.Settings.{Setting, way_of}
 use Rattle.rx_walk.proofs.Making.{list_made}
-use Rattle.rx_walk.specs.Walks.{Walked, Goes, Stands, open_line, OwesNone, state_of, FramesFit, Lists, IsWhole, Ended, EndGives}
-use Rattle.rx_walk.proofs.Signed.{tree_line}
-use Rattle.rx_walk.proofs.Found.{base_found}
-use Rattle.rx_walk.proofs.Quieting.{all_unspent}
+use Rattle.rx_walk.specs.Walks.{Walked, Stands, open_line, state_of, FramesFit, Lists, IsWhole, Ended}
+use Rattle.rx_base.proofs.Lines.{tree_line}
+use Rattle.rx_base.proofs.Found.{base_found}
+use Rattle.rx_walk.proofs.Idling.{all_unspent}
 use Rattle.rx_walk.proofs.Moving.{led_at, is_ended}
 use Rattle.rx_walk.proofs.Fronting.{may_counts, root_ended}
 
@@ -50,9 +45,8 @@ runs_fit context address levels course signs r state e =
     let at = led_at (base_by k.href address) levels (calls_of context [] signs) state r.may.front k.led r.may.leads in
     at.frames ∙ may_counts context levels signs r.may
 
-pub depth_line : (syntax : Syntax) (limits : Limits) (context : Context) (address : Chars) (walk : Walked) (bytes : List ℕ) (s : Stands syntax limits context address walk bytes)
-    → (walk.course.count ≡ length (open_line s)) × FramesFit walk (open_line s)
-depth_line syntax limits context address walk bytes s = (s.goes.runs.count_is, λ state e. runs_fit context address limits.depth walk.course s.goes.signs s.goes.runs state e)
+pub depth_line : (setting : Setting) (address : Chars) (walk : Walked) (bytes : List ℕ) (s : Stands setting address walk bytes) → (walk.listener.count ≡ length (open_line s)) × FramesFit walk (open_line s)
+depth_line setting address walk bytes s = (s.goes.known.count_is, λ state e. runs_fit setting.context address setting.limits.depth walk.listener s.goes.signs s.goes.known state e)
 
 -- a whole page
 
@@ -89,43 +83,25 @@ whole_lists context address levels course root inside state list r e l =
     }
 
 -- the page's end
-pub record EndsWhole (syntax : Syntax) (limits : Limits) (context : Context) (address : Chars) (course : Course) (bytes : List ℕ) : Type 0 where
-  pub root : StartTag
-  pub inside : Tree
-  pub page : Page syntax limits bytes (element root inside end)
-  pub runs : Runs context address limits.depth course (signs_of (element root inside end))
 
-pub ends_whole : (syntax : Syntax) (limits : Limits) (context : Context) (address : Chars) (nest : Nested) (course : Course) (bytes : List ℕ) (g : Goes syntax limits context address nest course bytes) → OwesNone nest
-    → nests.Ended syntax limits bytes g.signs (nests.owed_signs nest.owed (nests.last_tag nest.scan)) → EndsWhole syntax limits context address course bytes
-ends_whole syntax limits context address nest course bytes g none e =
-    let d = e.page.document in
-    let shown : g.signs ≡ signs_of e.tree = sym (append-nil g.signs) ∙ (ap (λ x. g.signs ++ x) (sym none) ∙ e.shown) in
+pub whole_of : (made : Setting × Chars) (course : Course) (bytes : List ℕ) → Whole (way_at made) (runs_at made) bytes course → IsWhole course
+whole_of made course bytes w =
+    let d = w.page.document in
     record {
+      context = made.0.context;
+      address = made.1;
+      levels = made.0.limits.depth;
       root = start_of d.root d.t;
       inside = d.inside;
-      page = subst (λ t. Page syntax limits bytes t) d.tree_is e.page;
-      runs = subst (λ x. Runs context address limits.depth course x) (shown ∙ ap signs_of d.tree_is) g.runs;
+      runs = subst (λ t. runs_at made course (signs_of t)) d.tree_is w.known;
     }
 
-pub whole_of : (syntax : Syntax) (limits : Limits) (context : Context) (address : Chars) (course : Course) (bytes : List ℕ) → EndsWhole syntax limits context address course bytes → IsWhole course
-whole_of syntax limits context address course bytes w = record { context = context; address = address; levels = limits.depth; root = w.root; inside = w.inside; runs = w.runs }
-
-pub ended_of : (syntax : Syntax) (limits : Limits) (context : Context) (address : Chars) (course : Course) (bytes : List ℕ) (list : List CodeTriple) (w : EndsWhole syntax limits context address course bytes)
-    → Lists context address limits.depth (element w.root w.inside end) list → Ended syntax limits context address bytes list
-ended_of syntax limits context address course bytes list w l =
-    record { tree = element w.root w.inside end; page = w.page; accepted = w.runs.accepted; lists = l; made = list_made context address limits.depth (element w.root w.inside end) list l }
-
-pub end_stops : (syntax : Syntax) (limits : Limits) (context : Context) (address : Chars) (bytes : List ℕ) (signs : List Sign) (old new : Nested) (why : Stop)
-    → nests.EndGives syntax limits bytes signs old (Err why) new → EndGives syntax limits context address bytes (Err why)
-end_stops syntax limits context address bytes signs old new (stop.Fault fault) g = g
-end_stops syntax limits context address bytes signs old new stop.NoMemory g = g
-
--- the end takes no memory
-pub end_wants_none : (syntax : Syntax) (limits : Limits) (bytes : List ℕ) (signs : List Sign) (old new : Nested) (why : Stop)
-    → nests.EndGives syntax limits bytes signs old (Err why) new → ◌≡◌ {A = Result (List CodeTriple) Stop} (Err why) (Err stop.NoMemory) → ⊥
-end_wants_none syntax limits bytes signs old new (stop.Fault fault) g is = cc
-end_wants_none syntax limits bytes signs old new stop.NoMemory g is = g
-
-pub no_fault : (o : Option Fault) → ((x : Fault) → o ≢ Some x) → o ≡ None
-no_fault None n = refl
-no_fault (Some x) n = absurd (n x refl)
+pub ended_of : (setting : Setting) (address : Chars) (course : Course) (bytes : List ℕ) (list : List CodeTriple) → Whole (way_of setting) (runs_at (setting, address)) bytes course
+    → ((root : StartTag) (inside : Tree) → Runs setting.context address setting.limits.depth course (signs_of (element root inside end)) → Lists setting.context address setting.limits.depth (element root inside end) list)
+    → Ended setting address bytes list
+ended_of setting address course bytes list w gives =
+    let d = w.page.document in
+    let lists : Lists setting.context address setting.limits.depth w.tree list =
+    subst (λ t. Lists setting.context address setting.limits.depth t list) (sym d.tree_is)
+    (gives (start_of d.root d.t) d.inside (subst (λ t. runs_at (setting, address) course (signs_of t)) d.tree_is w.known)) in
+    record { tree = w.tree; page = w.page; accepted = w.accepted; lists = lists; made = list_made setting.context address setting.limits.depth w.tree list lists }

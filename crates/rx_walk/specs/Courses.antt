@@ -1,5 +1,5 @@
 -- What is known of a page's elements after some signs of it.
-use Rattle.std.specs.Prelude.{◌≡◌, ℕ, false, List, [], ◌∷◌, ◌++◌, length, Some, None, Result, Ok, Err}
+use Rattle.std.specs.Prelude.{◌≡◌, ℕ, false, List, [], ◌∷◌, length, Some, None, Result, Ok, Err}
 use Rattle.rx_terms.specs.Text.{Chars}
 use Rattle.rx_grammar.specs.Trees.{StartTag}
 use Rattle.rx_rdfa.specs.Facts.{facts}
@@ -12,12 +12,14 @@ use Rattle.rx_curie.specs.Seen.{facts_seen}
 use Rattle.rx_tags.specs.declared.stops.Stop.{Stop}
 use Rattle.rx_tags.specs.declared.stops.Stop.TheVariants as stop
 use Rattle.rx_nest.specs.Signs.{Sign, begun}
-use Rattle.rx_nest.specs.Fronts.{IsFront}
+use Rattle.rx_reading.specs.Ways.{Way}
+use Rattle.rx_reading.specs.Listening as listening
 use Rattle.rx_walk.specs.declared.courses.Course.{Course}
-use Rattle.rx_walk.specs.Lines.{read_tag, line_of}
+use Rattle.rx_base.specs.Lines.{read_tag, line_of}
 use Rattle.rx_walk.specs.CallsOf.{calls_of}
-use Rattle.rx_walk.specs.Seekings.{sought}
+use Rattle.rx_base.specs.Seekings.{sought}
 use Rattle.rx_walk.specs.Refused.{refused_at, refused_in}
+use Rattle.rx_walk.specs.Settings.{Setting, way_of}
 use Rattle.rx_walk.specs.Stages.{Staged, MayBe}
 
 -- the vocabulary in force at each element of the line has a scheme, where there is one
@@ -38,14 +40,17 @@ pub record Runs (context : Context) (address : Chars) (levels : ℕ) (course : C
   pub accepted : refused_in context [] signs ≡ None
   pub staged : Staged address levels (sought signs) (calls_of context [] signs) course.stage
 
+-- a walk's course, as it was made with a setting and the page's address
+abbrev pub runs_at : Setting × Chars → Course → List Sign → Type 0
+runs_at made course signs = Runs made.0.context made.1 made.0.limits.depth course signs
+
+-- and how a page is read then
+abbrev pub way_at : Setting × Chars → Way
+way_at made = way_of made.0
+
 -- the course stands for some signs, and these may come next
-pub record MayHear (course : Course) (more : List Sign) : Type 0 where
-  pub context : Context
-  pub address : Chars
-  pub levels : ℕ
-  pub signs : List Sign
-  pub runs : Runs context address levels course signs
-  pub front : IsFront levels (signs ++ more)
+abbrev pub MayHear : Course → List Sign → Type 0
+MayHear course more = listening.MayHear way_at runs_at course more
 
 -- what the facts of a start tag below a line are, which was read into these, or why it is refused
 abbrev pub FactsGive : Context → List Tag → StartTag → CodeFacts → Result (Unit {0}) Stop → Type 0
@@ -55,6 +60,4 @@ FactsGive context above t made (Err stop.NoMemory) = Unit {0}
 
 -- what becomes of the course with these signs, or which of them is refused
 abbrev pub Hears : Context → Chars → ℕ → List Sign → List Sign → Result (Unit {0}) Stop → Course → Type 0
-Hears context address levels signs more (Ok done) new = Runs context address levels new (signs ++ more)
-Hears context address levels signs more (Err (stop.Fault fault)) new = refused_in context [] (signs ++ more) ≡ Some fault
-Hears context address levels signs more (Err stop.NoMemory) new = Unit {0}
+Hears context address levels signs more result new = listening.Hears (refused_in context []) (Runs context address levels) signs more result new

@@ -1,11 +1,9 @@
 -- Which text of a page is kept.
 use Rattle.std.specs.Prelude.{◌≡◌, ◌-◌, ℕ, List, [], ◌∷◌, ◌++◌, map, length, take, Some, is_some, if◌then◌else◌}
 use Rattle.rx_terms.specs.Text.{Chars}
-use Rattle.rx_chars.specs.declared.syntax.Syntax.{Syntax}
-use Rattle.rx_grammar.specs.declared.limits.Limits.{Limits}
-use Rattle.rx_rdfa.specs.Names.{Context}
 use Rattle.rx_nest.specs.Signs.{Sign, begun, said, finished}
 use Rattle.rx_eval.specs.States.{State, Frame}
+use Rattle.rx_walk.specs.Settings.{Setting}
 use Rattle.rx_walk.specs.Walks.{Walked, Stands, state_of}
 
 -- the text so far of each open element, the outermost first
@@ -27,5 +25,5 @@ gathered_text (frame ∷ frames) (text ∷ texts) = if is_some frame.text then t
 -- law: once the base is known, the text that is kept is the text so far of the outermost open element that gathers it;
 -- where none gathers, no text is kept
 abbrev pub KeepsOneText : Type 0
-KeepsOneText = (syntax : Syntax) (limits : Limits) (context : Context) (address : Chars) (walk : Walked) (bytes : List ℕ) (s : Stands syntax limits context address walk bytes) (state : State)
-    → state_of walk.course.stage ≡ Some state → state.kept ≡ gathered_text state.frames (texts_of [] s.goes.signs)
+KeepsOneText = (setting : Setting) (address : Chars) (walk : Walked) (bytes : List ℕ) (s : Stands setting address walk bytes) (state : State)
+    → state_of walk.listener.stage ≡ Some state → state.kept ≡ gathered_text state.frames (texts_of [] s.goes.signs)

@@ -1,15 +1,11 @@
-pub mod Lines
 pub mod CallsOf
-pub mod Seekings
 pub mod Refused
+pub mod RefusalLaws
+pub mod Settings
 pub mod Leading
 pub mod Stages
-pub mod Faults
-pub mod Falling
 pub mod Courses
 pub mod Walks
-pub mod TagPlaces
-pub mod FaultPlaces
 pub mod KeptTexts
 pub mod Numberings
 pub mod Quiets

@@ -3,8 +3,6 @@ use Rattle.std.specs.Prelude.{◌≡◌, ℕ, List, [], ◌∷◌, ◌++◌, Som
 use Rattle.rx_terms.specs.Text.{Chars}
 use Rattle.rx_terms.specs.declared.triples.Triple.{Triple as CodeTriple}
 use Rattle.rx_model.specs.Seen.{triples_seen}
-use Rattle.rx_chars.specs.declared.syntax.Syntax.{Syntax}
-use Rattle.rx_grammar.specs.declared.limits.Limits.{Limits}
 use Rattle.rx_grammar.specs.Trees.{Tree}
 use Rattle.rx_rdfa.specs.Base.{base_of}
 use Rattle.rx_rdfa.specs.Calls.{line_after, no_line}
@@ -19,8 +17,9 @@ use Rattle.rx_eval.specs.Shown.{ShowsAfter}
 use Rattle.rx_eval.specs.Standing as eval
 use Rattle.rx_eval.specs.States.{State}
 use Rattle.rx_eval.specs.Waits.{Shows}
-use Rattle.rx_walk.specs.Lines.{line_of, tags_of}
+use Rattle.rx_base.specs.Lines.{line_of, tags_of}
 use Rattle.rx_walk.specs.CallsOf.{calls_of}
+use Rattle.rx_walk.specs.Settings.{Setting}
 use Rattle.rx_walk.specs.Walks.{Walked, Stands, Ended, state_of}
 
 -- the facts of the elements of a line, the innermost first
@@ -54,18 +53,18 @@ pub record MadeOn (old : Numbering) (context : Context) (address : Chars) (tree 
 
 -- law: once the base is known, a walk has such a numbering
 abbrev pub IsNumbered : Type 0
-IsNumbered = (syntax : Syntax) (limits : Limits) (context : Context) (address : Chars) (walk : Walked) (bytes : List ℕ) (s : Stands syntax limits context address walk bytes) (state : State)
-    → state_of walk.course.stage ≡ Some state → Numbered context s.goes.signs state
+IsNumbered = (setting : Setting) (address : Chars) (walk : Walked) (bytes : List ℕ) (s : Stands setting address walk bytes) (state : State)
+    → state_of walk.listener.stage ≡ Some state → Numbered setting.context s.goes.signs state
 
 -- law: with the bytes of a page its numbering only grows: each that a walk has for some of them becomes, by more numbers
 -- alone, one that a walk has for these and more
 abbrev pub NumbersGrow : Type 0
-NumbersGrow = (syntax : Syntax) (limits : Limits) (context : Context) (address : Chars) (before after : Walked) (bytes piece : List ℕ)
-    (s : Stands syntax limits context address before bytes) (t : Stands syntax limits context address after (bytes ++ piece)) (old new : State)
-    → state_of before.course.stage ≡ Some old → state_of after.course.stage ≡ Some new → (to : Numbering) → NumbersBy to context s.goes.signs old → NumberedOn to context t.goes.signs new
+NumbersGrow = (setting : Setting) (address : Chars) (before after : Walked) (bytes piece : List ℕ)
+    (s : Stands setting address before bytes) (t : Stands setting address after (bytes ++ piece)) (old new : State)
+    → state_of before.listener.stage ≡ Some old → state_of after.listener.stage ≡ Some new → (to : Numbering) → NumbersBy to setting.context s.goes.signs old → NumberedOn to setting.context t.goes.signs new
 
 -- law: and one under which the list of the whole page is told
 abbrev pub ListIsNumbered : Type 0
-ListIsNumbered = (syntax : Syntax) (limits : Limits) (context : Context) (address : Chars) (walk : Walked) (bytes piece : List ℕ) (s : Stands syntax limits context address walk bytes) (state : State)
-    → state_of walk.course.stage ≡ Some state → (to : Numbering) → NumbersBy to context s.goes.signs state
-    → (list : List CodeTriple) (e : Ended syntax limits context address (bytes ++ piece) list) → MadeOn to context address e.tree list
+ListIsNumbered = (setting : Setting) (address : Chars) (walk : Walked) (bytes piece : List ℕ) (s : Stands setting address walk bytes) (state : State)
+    → state_of walk.listener.stage ≡ Some state → (to : Numbering) → NumbersBy to setting.context s.goes.signs state
+    → (list : List CodeTriple) (e : Ended setting address (bytes ++ piece) list) → MadeOn to setting.context address e.tree list

@@ -9,25 +9,15 @@ use Rattle.rx_nest.specs.Fronts.{Front, unbegun}
 use Rattle.rx_eval.specs.States.{State}
 use Rattle.rx_walk.specs.declared.calls.Call.{Call as CodeCall}
 use Rattle.rx_walk.specs.declared.calls.Call.TheVariants as code
-use Rattle.rx_walk.specs.declared.seeking.Sought.{Sought}
-use Rattle.rx_walk.specs.declared.seeking.Sought.TheVariants as looks
-use Rattle.rx_walk.specs.declared.seeking.Clue.{Clue}
-use Rattle.rx_walk.specs.declared.seeking.Clue.TheVariants as clue
+use Rattle.rx_base.specs.declared.seeking.Sought.{Sought}
+use Rattle.rx_base.specs.Sought.{sought_seen}
 use Rattle.rx_walk.specs.declared.origins.Origin.{Origin}
 use Rattle.rx_walk.specs.declared.stages.Head.{Head}
 use Rattle.rx_walk.specs.declared.stages.Stage.{Stage}
 use Rattle.rx_walk.specs.declared.stages.Stage.TheVariants as stage
 use Rattle.rx_walk.specs.CallsOf.{singles}
-use Rattle.rx_walk.specs.Seekings.{Seeking, first_child, base_child, known}
+use Rattle.rx_base.specs.Seekings.{Seeking, known}
 use Rattle.rx_walk.specs.Leading.{Led, move_all}
-
-abbrev pub sought_seen : Sought → Seeking
-sought_seen looks.FirstChild = first_child
-sought_seen looks.BaseChild = base_child
-
-abbrev pub clue_seen : Clue → Seeking
-clue_seen (clue.Seeks sought) = sought_seen sought
-clue_seen (clue.Known href) = known (seen_slice href)
 
 -- the call that is kept, text in single characters
 abbrev pub call_seen : CodeCall → List Call

@@ -8,18 +8,21 @@ ghost use Rattle.rx_rdfa.specs.Tree.{Tag as StartTag};
 ghost use Rattle.rx_names.specs.Lines as lines;
 ghost use Rattle.rx_names.specs.Tags.{tag_of};
 ghost use Rattle.rx_curie.specs.Given.{vocabulary_from};
-ghost use Rattle.rx_nest.specs.Nests.{tag_shown, event_signs};
+ghost use Rattle.rx_nest.specs.Nests.{tag_shown};
 ghost use Rattle.rx_nest.specs.Signs.{Sign, begun, said, finished};
 ghost use Rattle.rx_nest.specs.Fronts.{IsFront};
-ghost use Rattle.rx_walk.specs.Quiets.{IsIdle, is_calm};
-ghost use Rattle.rx_walk.specs.Courses.{Runs, MayHear, FactsGive, Hears};
+ghost use Rattle.rx_walk.specs.Quiets.{IsIdle};
+ghost use Rattle.rx_walk.specs.Courses.{Runs, runs_at, way_at, MayHear, FactsGive, Hears};
+ghost use Rattle.rx_walk.specs.RefusalLaws.{refusal_laws};
+ghost use Rattle.rx_walk.specs.Settings.{Setting};
 
 use crate::origins::Origin;
-use crate::seeking::Sought;
 use crate::stages::{Head, Stage};
+use rx_base::Sought;
 use rx_curie::{Facts, FactsError, IriMaker};
 use rx_names::{Context, Names};
 use rx_nest::{Event, Fault, Stop, Tag};
+use rx_reading::Listener;
 use rx_terms::{Iri, NoMemory};
 use std::alloc::Global;
 
@@ -95,20 +98,6 @@ impl Course {
         })
     }
 
-    /// Takes what comes next in the page's tree. A fault is that of a start tag that is refused for what it means.
-    pub(crate) fn hear(&mut self, event: Event<'_>) -> Result<(), Stop>
-        requires { MayHear self.old (event_signs event) }
-        ensures hears { (context : RulesContext) (address : Chars) (levels : ℕ) (signs : List Sign) → Runs context address levels self.old signs → IsFront levels (signs ++ event_signs event.entry) → Hears context address levels signs (event_signs event.entry) result self.new }
-        ensures quiet { is_calm event.entry ≡ true → IsIdle self.old.stage → IsOk result × IsIdle self.new.stage }
-    {
-        match event {
-            Event::More | Event::Skipped => Ok(()),
-            Event::Begin(tag) => self.begin(&tag),
-            Event::Text(text) => self.text(text),
-            Event::Finish => self.finish(),
-        }
-    }
-
     fn begin(&mut self, tag: &Tag<'_>) -> Result<(), Stop>
         requires { MayHear self.old (begun (tag_shown tag.now) ∷ []) }
         ensures { (context : RulesContext) (address : Chars) (levels : ℕ) (signs : List Sign) → Runs context address levels self.old signs → IsFront levels (signs ++ begun (tag_shown tag.now) ∷ []) → Hears context address levels signs (begun (tag_shown tag.now) ∷ []) result self.new }
@@ -151,4 +140,28 @@ impl Course {
         self.count -= 1;
         Ok(())
     }
+}
+
+impl Listener for Course {
+    ghost Setting = { Setting × Chars };
+
+    ghost way = { way_at };
+
+    ghost knows = { runs_at };
+
+    ghost idle = { λ course. IsIdle course.stage };
+
+    #[inline]
+    fn hear(&mut self, event: Event<'_>) -> Result<(), Stop> {
+        match event {
+            Event::More | Event::Skipped => Ok(()),
+            Event::Begin(tag) => self.begin(&tag),
+            Event::Text(text) => self.text(text),
+            Event::Finish => self.finish(),
+        }
+    }
+
+    ghost accepts = { λ made course signs runs. runs.accepted };
+
+    ghost refuses = { λ made. refusal_laws made.0.context };
 }

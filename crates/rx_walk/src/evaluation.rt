@@ -11,9 +11,9 @@ ghost use Rattle.rx_walk.specs.Stages.{MayBe, MayFollow, call_seen, queue_seen};
 
 use crate::calls::Call;
 use crate::origins::Origin;
+use rx_base::base;
 use rx_curie::Facts;
 use rx_eval::Eval;
-use rx_refs::{resolve, without_fragment};
 use rx_terms::{Iri, NoMemory};
 
 /// Opens an element. Where no numbers are left for its blank nodes there is no memory for them either.
@@ -26,19 +26,6 @@ pub(crate) fn enter(eval: &mut Eval, facts: &Facts) -> Result<(), NoMemory>
         return Err(NoMemory);
     }
     eval.enter(facts)
-}
-
-/// The page's base, by the href that was found or without one.
-fn base(origin: &Origin, href: Option<&str>) -> Result<Iri, NoMemory>
-    ensures { IfOk result (λ base. base ≡ base_by (seen_slice href.entry) origin.now.address) }
-{
-    match href {
-        Some(href) => {
-            let whole = resolve(origin.alloc, &origin.address, href)?;
-            without_fragment(origin.alloc, &whole)
-        }
-        None => without_fragment(origin.alloc, &origin.address),
-    }
 }
 
 /// Tells one call.
@@ -73,7 +60,7 @@ pub(crate) fn evaluated(
     requires { MayBe origin.now.levels (queue_seen queue.now) }
     ensures { IfOk result (λ eval. Led (base_by (seen_slice href.entry) origin.now.address) origin.now.levels (queue_seen queue.now) eval) }
 {
-    let base = base(origin, href)?;
+    let base = base(origin.alloc, &origin.address, href)?;
     let mut eval = Eval::new(origin.alloc, base, origin.levels)?;
     match replay(&mut eval, queue) {
         Ok(()) => Ok(eval),

@@ -2,7 +2,6 @@
 #![tactic(auto)]
 
 ghost use Rattle.rx_walk.specs.CallsOf.{CallsOfTree, PiecesAreAlike};
-ghost use Rattle.rx_walk.specs.Seekings.{BaseIsFound};
 ghost use Rattle.rx_walk.specs.Leading.{PiecesLeadAlike};
 ghost use Rattle.rx_walk.specs.KeptTexts.{KeepsOneText};
 ghost use Rattle.rx_walk.specs.Numberings.{IsNumbered, ListIsNumbered, NumbersGrow};
@@ -12,9 +11,8 @@ mod checks;
 mod courses;
 mod evaluation;
 mod origins;
-mod seeking;
+mod scopes;
 mod stages;
-mod turns;
 mod walks;
 
 pub use checks::Check;
@@ -36,11 +34,6 @@ pub fn pieces_are_alike()
 /// It makes no difference to an evaluator's state either.
 pub fn pieces_lead_alike()
     ensures { PiecesLeadAlike }
-{}
-
-/// Of a whole page the base that the rules take is found.
-pub fn base_is_found()
-    ensures { BaseIsFound }
 {}
 
 /// Once a page's base is known, the text that a walk keeps is that of the outermost open element that gathers its own, as far

@@ -5,14 +5,15 @@ ghost use Rattle.rx_rdfa.specs.Calls.{Enter, Leave};
 ghost use Rattle.rx_curie.specs.Seen.{facts_seen};
 ghost use Rattle.rx_names.specs.Tags.{tag_of};
 ghost use Rattle.rx_walk.specs.CallsOf.{singles};
-ghost use Rattle.rx_walk.specs.Seekings.{seek_begun, seek_finished};
+ghost use Rattle.rx_base.specs.Seekings.{seek_begun, seek_finished};
 ghost use Rattle.rx_walk.specs.Quiets.{IsIdle};
-ghost use Rattle.rx_walk.specs.Stages.{sought_seen, queue_seen, MayBe, MayTake, Tells, HeadGives};
+ghost use Rattle.rx_walk.specs.Stages.{queue_seen, MayBe, MayTake, Tells, HeadGives};
+ghost use Rattle.rx_base.specs.Sought.{sought_seen};
 
 use crate::calls::Call;
 use crate::evaluation::{enter, evaluated};
 use crate::origins::Origin;
-use crate::seeking::{Clue, Sought};
+use rx_base::{Clue, Sought};
 use rx_curie::Facts;
 use rx_eval::Eval;
 use rx_nest::Tag;
@@ -60,7 +61,7 @@ impl Head {
         // The queue keeps them, and the next tag is read into others.
         let kept = mem::replace(facts, Facts::none());
         self.push(Call::Enter(kept))?;
-        match self.sought.begun(count, tag) {
+        match self.sought.begun(count as usize, tag) {
             Clue::Seeks(sought) => {
                 self.sought = sought;
                 Ok(None)
@@ -77,7 +78,7 @@ impl Head {
         ensures { IfOk result (λ eval. HeadGives origin.now (seek_finished count (sought_seen self.old.sought)) (queue_seen self.old.queue.items ++ Leave ∷ []) eval self.new) }
     {
         self.push(Call::Leave)?;
-        if !self.sought.ends(count) {
+        if !self.sought.ends(count as usize) {
             return Ok(None);
         }
         let eval = evaluated(origin, None, self.queue.as_slice())?;

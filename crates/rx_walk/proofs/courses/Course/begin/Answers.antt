@@ -4,8 +4,8 @@ use Rattle.rx_names.specs.Lines.{Kept}
 use Rattle.rx_names.specs.Tags.{tag_of}
 use Rattle.rx_nest.specs.Nests.{tag_shown}
 use Rattle.rx_nest.specs.Signs.{begun}
-use Rattle.rx_walk.specs.Lines.{line_of}
-use Rattle.rx_walk.specs.Seekings.{seek_begun}
+use Rattle.rx_base.specs.Lines.{line_of}
+use Rattle.rx_base.specs.Seekings.{seek_begun}
 use Rattle.rx_walk.specs.Stages.{MayTake, Tells}
 use Rattle.rx_walk.proofs.Coursing.{from_absolute, absolute_more, takes_one, runs_more, begin_refused, begin_facts, count_room}
 use Rattle.rx_walk.proofs.courses.Course.begin.Goals as goal
@@ -20,15 +20,15 @@ pub begin-requires : goal.begin-requires
 begin-requires c =
     let q = c.requires in
     let line = line_of [] q.signs in
-    let g = begin_facts q.context q.address q.levels c.args.self.now c.args.self.now q.signs q.runs c.push.new.self (tag_shown c.args.tag.now) c.read_facts.new.facts (ap (λ (k : Kept). k.context) c.in-Ok.ensures.ok)
-    (c.in_default-read_facts.ensures.line line (c.in-Ok.ensures.line line q.runs.names_are) (from_absolute (tag_of c.args.tag.now) line q.runs.absolute)) in
+    let g = begin_facts q.setting.0.context q.setting.1 q.setting.0.limits.depth c.args.self.now c.args.self.now q.signs q.known c.push.new.self (tag_shown c.args.tag.now) c.read_facts.new.facts (ap (λ (k : Kept). k.context) c.in-Ok.ensures.ok)
+    (c.in_default-read_facts.ensures.line line (c.in-Ok.ensures.line line q.known.names_are) (from_absolute (tag_of c.args.tag.now) line q.known.absolute)) in
     subst (λ x. MayTake c.args.self.now.origin.levels (Enter x ∷ []) c.args.self.now.stage) (sym g.0)
-    (takes_one c.args.self.now q.context q.address q.levels q.signs (begun (tag_shown c.args.tag.now)) q.runs q.front)
+    (takes_one c.args.self.now q.setting.0.context q.setting.1 q.setting.0.limits.depth q.signs (begun (tag_shown c.args.tag.now)) q.known q.front)
 
 pub one_more-self-requires : goal.one_more-self-requires
 one_more-self-requires c =
     let q = c.requires in
-    let room : c.args.self.now.count + 1 ≤ c.args.self.now.origin.levels = count_room q.context q.address q.levels c.args.self.now c.args.self.now q.signs q.runs (tag_shown c.args.tag.now) q.front in
+    let room : c.args.self.now.count + 1 ≤ c.args.self.now.origin.levels = count_room q.setting.0.context q.setting.1 q.setting.0.limits.depth c.args.self.now c.args.self.now q.signs q.known (tag_shown c.args.tag.now) q.front in
     omega (arith, room)
 
 pub returns : goal.returns

@@ -1,24 +1,24 @@
 use Rattle.std.proofs.Common.{◌-◌, [], refl, ap, arith}
 use Rattle.rx_names.specs.Lines.{Kept}
 use Rattle.rx_nest.specs.Signs.{finished}
-use Rattle.rx_walk.specs.Lines.{line_of}
+use Rattle.rx_base.specs.Lines.{line_of}
 use Rattle.rx_walk.proofs.Fronting.{front_left}
 use Rattle.rx_walk.proofs.Coursing.{takes_one, runs_more, absolute_left, popped_around, around_length, marks_of}
 use Rattle.rx_walk.proofs.courses.Course.finish.Goals as goal
 
 pub finish-requires : goal.finish-requires
-finish-requires c = takes_one c.args.self.now c.requires.context c.requires.address c.requires.levels c.requires.signs finished c.requires.runs c.requires.front
+finish-requires c = takes_one c.args.self.now c.requires.setting.0.context c.requires.setting.1 c.requires.setting.0.limits.depth c.requires.signs finished c.requires.known c.requires.front
 
 pub pop-requires : goal.pop-requires
 pop-requires c =
-    let some = front_left c.requires.levels c.requires.signs c.requires.front in
-    let marks = marks_of c.args.self.now.names (line_of [] c.requires.signs) c.requires.runs.names_are in
+    let some = front_left c.requires.setting.0.limits.depth c.requires.signs c.requires.front in
+    let marks = marks_of c.args.self.now.names (line_of [] c.requires.signs) c.requires.known.names_are in
     omega (arith, some, marks)
 
 pub overflow_sub-self : goal.overflow_sub-self
 overflow_sub-self c =
-    let some = front_left c.requires.levels c.requires.signs c.requires.front in
-    omega (arith, some, c.requires.runs.count_is)
+    let some = front_left c.requires.setting.0.limits.depth c.requires.signs c.requires.front in
+    omega (arith, some, c.requires.known.count_is)
 
 pub returns : goal.returns
 returns c context address levels signs r f =

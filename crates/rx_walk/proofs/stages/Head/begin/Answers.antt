@@ -1,8 +1,8 @@
-use Rattle.std.proofs.Common.{◌≡◌, ◌∙◌, [], ◌∷◌, ◌++◌, sym, ap}
+use Rattle.std.proofs.Common.{◌∙◌, [], ◌∷◌, ◌++◌, sym, ap}
 use Rattle.rx_names.specs.Tags.{tag_of}
 use Rattle.rx_refs.specs.Views.{seen_slice}
-use Rattle.rx_walk.specs.Seekings.{seek_begun}
-use Rattle.rx_walk.specs.Stages.{sought_seen}
+use Rattle.rx_base.specs.Seekings.{seek_begun}
+use Rattle.rx_base.specs.Sought.{sought_seen}
 use Rattle.rx_walk.specs.declared.calls.Call.TheVariants as code
 use Rattle.rx_walk.proofs.Staging.{head_may, head_more, head_known}
 use Rattle.rx_walk.proofs.stages.Head.begin.Goals as goal

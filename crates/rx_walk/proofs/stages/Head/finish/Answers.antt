@@ -1,6 +1,6 @@
 use Rattle.std.proofs.Common.{◌∙◌, sym, ap, None}
-use Rattle.rx_walk.specs.Seekings.{known, seek_finished}
-use Rattle.rx_walk.specs.Stages.{sought_seen}
+use Rattle.rx_base.specs.Seekings.{known, seek_finished}
+use Rattle.rx_base.specs.Sought.{sought_seen}
 use Rattle.rx_walk.specs.declared.calls.Call.TheVariants as code
 use Rattle.rx_walk.proofs.Staging.{head_may, head_more, head_known, not_ended, has_ended}
 use Rattle.rx_walk.proofs.stages.Head.finish.Goals as goal

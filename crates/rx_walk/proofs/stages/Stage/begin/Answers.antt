@@ -2,7 +2,7 @@ use Rattle.std.proofs.Common.{[], ◌∷◌, refl, sym, subst}
 use Rattle.rx_rdfa.specs.Calls.{Enter}
 use Rattle.rx_curie.specs.Seen.{facts_seen}
 use Rattle.rx_names.specs.Tags.{tag_of}
-use Rattle.rx_walk.specs.Seekings.{seek_begun}
+use Rattle.rx_base.specs.Seekings.{seek_begun}
 use Rattle.rx_walk.specs.Stages.{MayTake, Tells}
 use Rattle.rx_walk.specs.declared.stages.Stage.TheVariants as stage
 use Rattle.rx_walk.proofs.Staging.{on_ok, found_enters, found_tells, one_leads}

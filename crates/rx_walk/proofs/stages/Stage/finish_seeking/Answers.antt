@@ -1,6 +1,6 @@
 use Rattle.std.proofs.Common.{[], ◌∷◌, refl, sym, subst}
 use Rattle.rx_rdfa.specs.Calls.{Leave}
-use Rattle.rx_walk.specs.Seekings.{seek_finished}
+use Rattle.rx_base.specs.Seekings.{seek_finished}
 use Rattle.rx_walk.specs.Stages.{MayTake, Tells}
 use Rattle.rx_walk.specs.declared.stages.Stage.TheVariants as stage
 use Rattle.rx_walk.proofs.Staging.{on_ok, found_leaves, found_tells, one_leads}

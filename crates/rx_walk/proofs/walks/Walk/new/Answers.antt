@@ -1,24 +1,13 @@
-use Rattle.std.proofs.Common.{refl, []}
-use Rattle.rx_walk.proofs.Walking.{new_paid}
+use Rattle.std.proofs.Common.{refl}
 use Rattle.rx_walk.proofs.walks.Walk.new.Goals as goal
 
-pub invariant_of-result : goal.invariant_of-result
-invariant_of-result c unfailed unspent = (
-  record {
-    syntax = c.args.syntax;
-    limits = c.args.limits;
-    context = c.args.context;
-    address = c.args.address;
-    bytes = [];
-    goes = record { signs = []; shown = c.in_ok-nest.ensures.stands; runs = c.in-Ok.ensures };
-  },
-  new_paid c.args.syntax c.args.limits c.in_ok-nest.nest c.in_ok-nest.ensures.stands,
-)
+pub new-requires-2 : goal.new-requires-2
+new-requires-2 c = record {
+  setting = (record { syntax = c.args.syntax; limits = c.args.limits; context = c.args.context }, c.args.address);
+  syntax_is = refl;
+  limits_are = refl;
+  known = c.in_ok-course.ensures;
+}
 
 pub returns : goal.returns
-returns c = record {
-  goes = record { signs = []; shown = c.in_ok-nest.ensures.stands; runs = c.in-Ok.ensures };
-  paid = new_paid c.args.syntax c.args.limits c.in_ok-nest.nest c.in_ok-nest.ensures.stands;
-  unfailed = refl;
-  unspent = refl;
-}
+returns c = c.in_ok-reading.ensures (record { syntax = c.args.syntax; limits = c.args.limits; context = c.args.context }, c.args.address) refl refl c.in_ok-course.ensures

@@ -1,0 +1,33 @@
+-- The elements that are open after some signs, and what is sought then.
+use Rattle.std.proofs.Common.{◌≡◌, ◌∙◌, List, [], ◌∷◌, ◌++◌, map, refl, ap}
+use Rattle.rx_terms.specs.Text.{Chars}
+use Rattle.rx_grammar.specs.Trees.{Tree, end, element, text}
+use Rattle.rx_rdfa.specs.Tree.{Tag}
+use Rattle.rx_nest.specs.Signs.{Sign, said, finished, signs_of}
+use Rattle.rx_base.specs.Lines.{read_tag, line_on, line_of}
+use Rattle.rx_base.specs.Seekings.{Seeking, seek, seeks}
+
+pub line_append : (line : List Tag) (xs ys : List Sign) → line_of line (xs ++ ys) ≡ line_of (line_of line xs) ys
+line_append line [] ys = refl
+line_append line (x ∷ xs) ys = line_append (line_on line x) xs ys
+
+pub seeks_append : (line : List Tag) (s : Seeking) (xs ys : List Sign) → seeks line s (xs ++ ys) ≡ seeks (line_of line xs) (seeks line s xs) ys
+seeks_append line s [] ys = refl
+seeks_append line s (x ∷ xs) ys = seeks_append (line_on line x) (seek _ s x) xs ys
+
+pub said_line : (line : List Tag) (chars : Chars) → line_of line (map said chars) ≡ line
+said_line line [] = refl
+said_line line (c ∷ chars) = said_line line chars
+
+pub said_seeks : (line : List Tag) (s : Seeking) (chars : Chars) → seeks line s (map said chars) ≡ s
+said_seeks line s [] = refl
+said_seeks line s (c ∷ chars) = said_seeks line s chars
+
+pub tree_line : (line : List Tag) (tree : Tree) → line_of line (signs_of tree) ≡ line
+tree_line line end = refl
+tree_line line (text chars rest) =
+    line_append line (map said chars) (signs_of rest) ∙ ap (λ l. line_of l (signs_of rest)) (said_line line chars) ∙ tree_line line rest
+tree_line line (element t inside rest) =
+    line_append (read_tag t ∷ line) (signs_of inside) (finished ∷ signs_of rest)
+    ∙ ap (λ l. line_of l (finished ∷ signs_of rest)) (tree_line (read_tag t ∷ line) inside)
+    ∙ tree_line line rest

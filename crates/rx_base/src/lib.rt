@@ -1,0 +1,15 @@
+//! The base of a page (HTML, 4.2.3), which is RDFa's and Microdata's alike: how it is looked for as the page is read.
+#![tactic(auto)]
+
+ghost use Rattle.rx_base.specs.Seekings.{BaseIsFound};
+
+mod bases;
+mod seeking;
+
+pub use bases::base;
+pub use seeking::{Clue, Sought};
+
+/// Of a whole page the base that the rules take is found.
+pub fn base_is_found()
+    ensures { BaseIsFound }
+{}

@@ -1,0 +1,11 @@
+pub mod Pieces
+pub mod Refusing
+pub mod Placing
+pub mod TokenPlacing
+pub mod Firsts
+pub mod FaultPlacing
+pub mod PlaceLaws
+pub mod Stopping
+pub mod Turning
+pub mod QuietReading
+pub mod Quieting

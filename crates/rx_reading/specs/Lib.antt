@@ -1,0 +1,9 @@
+pub mod Ways
+pub mod TagPlaces
+pub mod Faults
+pub mod FaultPlaces
+pub mod Falling
+pub mod Listening
+pub mod Turns
+pub mod Readings
+pub mod Quiets

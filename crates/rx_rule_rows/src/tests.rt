@@ -1,0 +1,4 @@
+mod evaluator;
+mod facts;
+mod names;
+mod placed;

@@ -1,5 +1,0 @@
-use Rattle.rx_walk.proofs.Found.{base_found}
-use Rattle.rx_walk.proofs.base_is_found.Goals as goal
-
-pub returns : goal.returns
-returns c = base_found

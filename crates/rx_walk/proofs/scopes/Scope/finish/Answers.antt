@@ -1,0 +1,20 @@
+use Rattle.std.proofs.Common.{[], refl, ap, arith}
+use Rattle.rx_names.specs.Lines.{Kept}
+use Rattle.rx_nest.specs.Signs.{finished}
+use Rattle.rx_base.specs.Lines.{line_of}
+use Rattle.rx_walk.proofs.Fronting.{front_left}
+use Rattle.rx_walk.proofs.Coursing.{popped_around, marks_of}
+use Rattle.rx_walk.proofs.Accepted.{absolute_around, accepts_more}
+use Rattle.rx_walk.proofs.scopes.Scope.finish.Goals as goal
+
+pub pop-requires : goal.pop-requires
+pop-requires c =
+    let some = front_left c.requires.setting.limits.depth c.requires.signs c.requires.front in
+    let marks = marks_of c.args.self.now.names (line_of [] c.requires.signs) c.requires.known.names_are in
+    omega (arith, some, marks)
+
+pub returns : goal.returns
+returns c setting signs r f =
+    let line = line_of [] signs in
+    accepts_more setting.context c.args.self.now.names signs r c.pop.new.self finished (popped_around c.args.self.now.names c.pop.new.self c.pop.ensures.line line (front_left setting.limits.depth signs f) r.names_are)
+    (ap (λ (k : Kept). k.context) c.pop.ensures.popped) (absolute_around line r.absolute) refl

@@ -1,0 +1,17 @@
+-- How a page is read by RDFa's rules.
+use Rattle.std.specs.Prelude.{[]}
+use Rattle.rx_chars.specs.declared.syntax.Syntax.{Syntax}
+use Rattle.rx_grammar.specs.declared.limits.Limits.{Limits}
+use Rattle.rx_rdfa.specs.Names.{Context}
+use Rattle.rx_reading.specs.Ways.{Way}
+use Rattle.rx_walk.specs.Refused.{refused_in}
+
+-- its syntax and limits, and the names with which it begins
+pub record Setting : Type 0 where
+  pub syntax : Syntax
+  pub limits : Limits
+  pub context : Context
+
+-- a start tag is refused for what it says to RDFa
+abbrev pub way_of : Setting → Way
+way_of setting = record { syntax = setting.syntax; limits = setting.limits; refused = refused_in setting.context [] }

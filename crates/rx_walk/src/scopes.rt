@@ -1,0 +1,89 @@
+//! The names in force at the open elements of a page that is checked.
+ghost use Rattle.std.specs.Prelude.{◌≡◌, ◌∷◌, ◌++◌, List, [], false, None};
+ghost use Rattle.rx_rdfa.specs.Refusals.{is_relative};
+ghost use Rattle.rx_rdfa.specs.Tree.{Tag as StartTag};
+ghost use Rattle.rx_names.specs.Lines as lines;
+ghost use Rattle.rx_names.specs.Tags.{tag_of};
+ghost use Rattle.rx_curie.specs.Given.{vocabulary_from};
+ghost use Rattle.rx_nest.specs.Nests.{tag_shown};
+ghost use Rattle.rx_nest.specs.Signs.{Sign, begun, finished};
+ghost use Rattle.rx_nest.specs.Fronts.{IsFront};
+ghost use Rattle.rx_reading.specs.Listening.{MayHear, Hears};
+ghost use Rattle.rx_walk.specs.Accepting.{accepts_at};
+ghost use Rattle.rx_walk.specs.Refused.{refused_at};
+ghost use Rattle.rx_walk.specs.RefusalLaws.{refusal_laws};
+ghost use Rattle.rx_walk.specs.Settings.{Setting, way_of};
+
+use rx_curie::refusal_of;
+use rx_names::Names;
+use rx_nest::{Event, Fault, Stop, Tag};
+use rx_reading::Listener;
+
+/// What a check keeps of the open elements: neither what they say nor their text.
+#[derive(Drop)]
+pub(crate) struct Scope {
+    pub(crate) names: Names,
+}
+
+/// The fault for which the start tag is refused.
+fn fault_of(tag: &Tag<'_>, names: &Names) -> Option<Fault>
+    ensures line { (above : List StartTag) → lines.Stands names.now (tag_of tag.now ∷ above) → is_relative (vocabulary_from above (tag_of tag.now)) ≡ false → result ≡ refused_at names.now.context above (begun (tag_shown tag.now)) }
+    ensures absolute { result ≡ None → is_relative (lines.vocabulary_of names.now) ≡ false }
+{
+    match refusal_of(tag, &names.view()) {
+        Some(kind) => Some(Fault {
+            kind,
+            token: tag.token,
+            at: tag.at,
+        }),
+        None => None,
+    }
+}
+
+impl Scope {
+    fn begin(&mut self, tag: &Tag<'_>) -> Result<(), Stop>
+        ensures { (setting : Setting) (signs : List Sign) → accepts_at setting self.old signs → Hears (way_of setting).refused (accepts_at setting) signs (begun (tag_shown tag.now) ∷ []) result self.new }
+    {
+        let Ok(()) = self.names.push(tag) else {
+            return Err(Stop::NoMemory);
+        };
+        match fault_of(tag, &self.names) {
+            Some(fault) => Err(Stop::Fault(fault)),
+            None => Ok(()),
+        }
+    }
+
+    fn finish(&mut self)
+        requires { MayHear way_of accepts_at self.old (finished ∷ []) }
+        ensures { (setting : Setting) (signs : List Sign) → accepts_at setting self.old signs → IsFront setting.limits.depth (signs ++ finished ∷ []) → accepts_at setting self.new (signs ++ finished ∷ []) }
+    {
+        self.names.pop();
+    }
+}
+
+impl Listener for Scope {
+    ghost Setting = { Setting };
+
+    ghost way = { way_of };
+
+    ghost knows = { accepts_at };
+
+    ghost idle = { λ _. Unit {0} };
+
+    #[inline]
+    fn hear(&mut self, event: Event<'_>) -> Result<(), Stop> {
+        match event {
+            Event::More | Event::Skipped => Ok(()),
+            Event::Begin(tag) => self.begin(&tag),
+            Event::Text(_text) => Ok(()),
+            Event::Finish => {
+                self.finish();
+                Ok(())
+            }
+        }
+    }
+
+    ghost accepts = { λ setting scope signs accepts. accepts.accepted };
+
+    ghost refuses = { λ setting. refusal_laws setting.context };
+}
