@@ -1,3 +1,4 @@
+mod DistinctLemmas
 pub mod Alike
 pub mod RankLemmas
 pub mod RowLaws
@@ -9,3 +10,20 @@ pub mod SaidLemmas
 pub mod ShowLemmas
 pub mod TakenLemmas
 pub mod TableLaws
+pub mod Telling
+mod GroupLemmas
+mod ReadingLemmas
+mod RisingLemmas
+mod FoundLemmas
+mod HoldLemmas
+mod VisitLemmas
+mod PageLemmas
+pub mod Ending
+mod NestLemmas
+mod IdLemmas
+mod MemberLemmas
+mod StartLemmas
+mod ReferenceLemmas
+mod ReachLemmas
+mod PropertyLemmas
+mod BuildLemmas

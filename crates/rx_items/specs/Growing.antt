@@ -1,5 +1,5 @@
 -- The table while its page is read: what each event makes of it.
-use Rattle.std.specs.Prelude.{ℕ, Bool, true, false, ◌-◌, ◌||◌, nat_lt, List, [], ◌∷◌, ◌++◌, length, take, slice_index_or, slice_set, Option, Some, None, is_some, codes, if◌then◌else◌}
+use Rattle.std.specs.Prelude.{◌≡◌, ℕ, Bool, true, false, ◌-◌, ◌||◌, nat_lt, List, [], ◌∷◌, ◌++◌, length, take, slice_index_or, slice_set, Option, Some, None, is_some, codes, if◌then◌else◌}
 use Rattle.rx_terms.specs.Text.{Chars}
 use Rattle.rx_grammar.specs.Tokens.{Tag, value_of}
 use Rattle.rx_items.specs.Spans.{mark_of}
@@ -120,3 +120,8 @@ with_end (Some place) mark rows =
 -- the innermost element ends
 abbrev pub finished : Growing → Growing
 finished g = record g { rows = with_end (innermost g.line).row (mark_of g.text) g.rows; line = take (length g.line - 1) g.line }
+
+-- text is gathered by no value
+pub record IsIdle (g : Growing) : Type 0 where
+  pub gathers : (innermost g.line).gathers ≡ false
+  pub own : (innermost g.line).own ≡ None

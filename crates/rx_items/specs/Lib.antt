@@ -6,3 +6,16 @@ pub mod Words
 pub mod Values
 pub mod Growing
 pub mod Showing
+pub mod Collecting
+pub mod Distinct
+pub mod Groups
+pub mod Objects
+pub mod Properties
+pub mod Held
+pub mod Expanding
+pub mod Pages
+pub mod Walks
+pub mod Ids
+pub mod Members
+pub mod Starts
+pub mod Built

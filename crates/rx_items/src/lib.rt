@@ -4,16 +4,37 @@
 ghost use Rattle.rx_items.specs.Rows.{RowsSuffice};
 ghost use Rattle.rx_items.specs.Showing.{TablesShow};
 
+mod collectors;
+mod distinct;
+mod elements;
+mod groups;
+mod ids;
+mod items;
+mod kept;
+mod members;
+mod objects;
+mod pages;
+mod parts;
+mod properties;
+mod reaches;
+mod readings;
+mod references;
 mod rows;
 mod rules;
 mod spans;
+mod starts;
 mod tables;
 mod values;
+mod visits;
+mod walks;
 mod words;
 
-pub use rx_tags::Tag;
-pub use rx_terms::NoMemory;
+pub use items::Items;
+pub use rx_nest::{Fault, Kind, Limits, Syntax};
+pub use rx_tags::{Stop, Tag};
+pub use rx_terms::{Iri, NoMemory};
 pub use tables::Table;
+pub use walks::ItemWalk;
 
 /// The rows of a page, which are its items, its elements with property names and those with an id, come to the JSON or
 /// the fault of the whole page.

@@ -5,12 +5,15 @@ ghost use Rattle.rx_items.specs.Words.{text_of_words};
 ghost use Rattle.std.specs.Str.{chars};
 ghost use Rattle.rx_items.specs.Growing as growing;
 
+use crate::items::Items;
+use crate::kept::Kept;
+use crate::parts::{Parts, parts_of};
 use crate::rows::{Head, Open, Row, RowValue};
 use crate::spans::Span;
 use crate::values::{Taken, is_named, take_value};
 use crate::words::{attribute, is_marked_tag, keep_words};
 use rx_tags::Tag;
-use rx_terms::NoMemory;
+use rx_terms::{Iri, NoMemory};
 use rx_values::TextStore;
 use std::alloc::Global;
 use std::marker::Model;
@@ -125,7 +128,8 @@ impl Table {
 }
 
 impl Table {
-    ghost use Rattle.std.specs.Prelude.{Some};
+    ghost use Rattle.std.specs.Prelude.{Some, length, IsOk};
+    ghost use Rattle.rx_items.specs.Growing.{IsIdle};
     ghost use Rattle.rx_items.specs.Spans.{mark_of};
     ghost use Rattle.rx_items.specs.Growing.{said, finished, with_own, with_said, with_end};
 
@@ -145,9 +149,17 @@ impl Table {
         }
     }
 
-    /// Text.
+    /// How many elements are open.
+    pub(crate) fn depth(&self) -> usize
+        ensures { result ≡ length self.now.line }
+    {
+        self.line.len()
+    }
+
+    /// Text. It takes no memory where no value gathers it.
     pub fn text(&mut self, text: &str) -> Result<(), NoMemory>
-        ensures { OnOk result (self.new ≡ said self.old (chars text.now)) }
+        ensures says { OnOk result (self.new ≡ said self.old (chars text.now)) }
+        ensures quiet { IsIdle self.old → IsOk result }
     {
         let around = self.innermost();
         if around.gathers {
@@ -193,6 +205,39 @@ impl Table {
             row.past = past;
             row.value = ended_value(row.value, mark);
         }
+    }
+}
+
+impl Table {
+    ghost use Rattle.rx_grammar.specs.Trees.{Tree};
+    ghost use Rattle.rx_items.specs.Rows.{rows_of};
+    ghost use Rattle.rx_items.specs.Showing.{ShowsRows};
+    ghost use Rattle.rx_items.specs.Held.{HoldsRows};
+
+    /// The page has ended: its items, whose references are resolved against this base.
+    pub fn into_items(self, alloc: Global, base: Iri) -> Result<Items, NoMemory>
+        ensures { (tree : Tree) → ShowsRows self.words self.text self.times self.rows (rows_of tree) → IfOk result (λ items. HoldsRows items (rows_of tree) base) }
+    {
+        let Table {
+            rows,
+            line,
+            words,
+            text,
+            times,
+        } = self;
+        drop(line);
+        let Ok(parts) = parts_of(alloc, &words, rows.as_slice()) else {
+            return Err(NoMemory);
+        };
+        let Parts { elements, members } = parts;
+        Ok(Items::of_kept(Kept {
+            elements,
+            members,
+            words,
+            text,
+            times,
+            base,
+        }))
     }
 }
 

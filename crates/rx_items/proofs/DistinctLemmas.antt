@@ -1,0 +1,59 @@
+-- The tokens of a text, each once, with a set of those that were seen.
+use Rattle.std.proofs.Common.{◌≡◌, ◌∙◌, refl, sym, ap, ℕ, Bool, true, false, not, ◌||◌, cond, List, [], ◌∷◌, ◌++◌, append_assoc}
+use Rattle.std.proofs.lemmas.List.{append-nil}
+use Rattle.std.proofs.lemmas.Map.Text.{is_eq-slice_cmp}
+use Rattle.std.proofs.lemmas.Slice.Eq.{bytes_eq-Decides}
+use Rattle.std.specs.Ordering.{is_eq, nat_cmp}
+use Rattle.std.specs.Cmp.Lexicographic.{slice_cmp, nat_list_eq_equiv}
+use Rattle.std.specs.Str.{chars, IsUtf8}
+use Rattle.rx_terms.specs.Text.{Chars}
+use Rattle.rx_terms.proofs.CharLemmas.{same-chars}
+use Rattle.rx_grammar.specs.Names.{same, is_among}
+use Rattle.rx_microdata.specs.Facts.{without_repeats_of}
+
+or_is : (b d : Bool) → cond b true d ≡ (b || d)
+or_is true d = refl
+or_is false d = refl
+
+pub text_added : (name text : List ℕ) (before : Bool) → cond (is_eq (slice_cmp nat_cmp name text)) true before ≡ (same name text || before)
+text_added name text before = ap (λ b. cond b true before) (is_eq-slice_cmp name text) ∙ or_is (same name text) before
+
+-- the set has the texts of a list
+pub record Sees (has : List ℕ → Bool) (seen : List Chars) : Type 0 where
+  pub at : (text : List ℕ) → IsUtf8 text → has text ≡ is_among seen (chars text)
+
+pub unseen : (fresh old : Bool) → fresh ≡ not old → fresh ≡ true → old ≡ false
+unseen fresh true e f = sym (sym e ∙ f)
+unseen fresh false e f = refl
+
+-- a token more of what is left
+pub seen_turn : (list whole : List Chars) (seen words more : List Chars) (token : Chars) → list ++ without_repeats_of seen words ≡ whole → words ≡ token ∷ more
+    → is_among seen token ≡ true → list ++ without_repeats_of seen more ≡ whole
+seen_turn list whole seen words more token e is among =
+    sym (ap (λ (ws : List Chars). list ++ without_repeats_of seen ws) is ∙ ap (λ b. list ++ cond b (without_repeats_of seen more) (token ∷ without_repeats_of (token ∷ seen) more)) among) ∙ e
+
+pub new_turn : (list whole : List Chars) (seen words more : List Chars) (token : Chars) → list ++ without_repeats_of seen words ≡ whole → words ≡ token ∷ more
+    → is_among seen token ≡ false → (list ++ token ∷ []) ++ without_repeats_of (token ∷ seen) more ≡ whole
+new_turn list whole seen words more token e is among =
+    append_assoc list (token ∷ []) (without_repeats_of (token ∷ seen) more)
+    ∙ sym (ap (λ (ws : List Chars). list ++ without_repeats_of seen ws) is ∙ ap (λ b. list ++ cond b (without_repeats_of seen more) (token ∷ without_repeats_of (token ∷ seen) more)) among) ∙ e
+
+pub no_turn : (list whole seen words : List Chars) → list ++ without_repeats_of seen words ≡ whole → words ≡ [] → list ≡ whole
+no_turn list whole seen words e is = sym (append-nil list) ∙ sym (ap (λ (ws : List Chars). list ++ without_repeats_of seen ws) is) ∙ e
+
+pub sees_new : (old new : List ℕ → Bool) (seen : List Chars) (token : List ℕ) → IsUtf8 token → Sees old seen
+    → ((text : List ℕ) → new text ≡ (same token text || old text)) → Sees new (chars token ∷ seen)
+sees_new old new seen token u s added = record {
+  at = λ text v.
+      let here = same-chars token text u v ∙ nat_list_eq_equiv.symm (chars token) (chars text) in
+      let rest = s.at text v in
+      added text ∙ (λ i. here i || rest i);
+}
+
+pub sees_old : (old new : List ℕ → Bool) (seen : List Chars) (token : List ℕ) → IsUtf8 token → Sees old seen
+    → ((text : List ℕ) → new text ≡ (same token text || old text)) → old token ≡ true → Sees new seen
+sees_old old new seen token u s added among = record { at = λ text v. added text ∙ by text v (same token text) refl }
+  where
+    by : (text : List ℕ) → IsUtf8 text → (b : Bool) → same token text ≡ b → (same token text || old text) ≡ is_among seen (chars text)
+    by text v false e = ap (λ b. b || old text) e ∙ s.at text v
+    by text v true e = ap (λ b. b || old text) e ∙ sym (sym (s.at text v) ∙ sym (ap old ((bytes_eq-Decides token text).0 e)) ∙ among)

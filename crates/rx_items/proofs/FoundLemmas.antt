@@ -1,0 +1,178 @@
+-- What the visits of a page come to, step by step.
+use Rattle.std.proofs.Common.{◌≡◌, ◌∙◌, ◌+◌, ℕ, zero, suc, Bool, true, false, ◌==◌, ◌||◌, cond, List, [], ◌∷◌, ◌++◌, map, filter, length, take, drop, Option, Some, None, option_map, refl, sym, ap, subst, arith, nat_lt, encode_utf8_all, append_assoc}
+use Rattle.std.specs.Prelude.{flat_map, nat_le, slice_get, Result, Ok, Err}
+use Rattle.std.specs.List.{list_any}
+use Rattle.std.specs.Option.{option_or}
+use Rattle.std.proofs.lemmas.List.{append-nil, length-append, map-append}
+use Rattle.serde_json.specs.Data.{Data, Members}
+use Rattle.rx_terms.specs.Text.{Chars}
+use Rattle.rx_grammar.specs.declared.faults.Fault.{Fault}
+use Rattle.rx_grammar.specs.declared.faults.Kind.{Kind}
+use Rattle.rx_grammar.specs.declared.faults.Kind.TheVariants.{Cycle, ItemsTooNested, ItemsTooMany}
+use Rattle.rx_microdata.specs.Elements.{Placed, is_item, names_of}
+use Rattle.rx_microdata.specs.Visits.{Visit, Bounds, visits_from, standard_bounds, fault_of, first_fault, is_cycle, items_in}
+use Rattle.rx_microdata.specs.Json.{grouped, named, refused, Refused}
+use Rattle.rx_items.specs.Rows.{properties_in}
+use Rattle.rx_items.specs.Groups.{with_last}
+use Rattle.rx_items.specs.Expanding.{path_of, kind_of, NoFault, FaultIs, Did, Step, with_name, steps_of, steps_in, visits_of, visits_in, data_of, pair_of, grouped_in}
+use Rattle.rx_items.proofs.GroupLemmas.{grouped_more}
+
+-- ---- faults in a row
+
+or_assoc : {X : Type 0} (a b c : Option X) → option_or a (option_or b c) ≡ option_or (option_or a b) c
+or_assoc None b c = refl
+or_assoc (Some x) b c = refl
+
+plus_suc : (n m : ℕ) → suc n + m ≡ n + suc m
+plus_suc n m = omega arith
+
+in_row : (bounds : Bounds) (before : ℕ) (xs ys : List Visit) → first_fault bounds before (xs ++ ys) ≡ option_or (first_fault bounds before xs) (first_fault bounds (before + length xs) ys)
+in_row bounds before [] ys = let plain : before + 0 ≡ before = omega arith in ap (λ n. first_fault bounds n ys) (sym plain)
+in_row bounds before (x ∷ xs) ys =
+    ap (option_or (option_map (λ (kind : Kind). (kind, x)) (fault_of bounds before x))) (in_row bounds (suc before) xs ys ∙ ap (λ n. option_or (first_fault bounds (suc before) xs) (first_fault bounds n ys)) (plus_suc before (length xs)))
+    ∙ or_assoc (option_map (λ (kind : Kind). (kind, x)) (fault_of bounds before x)) (first_fault bounds (suc before) xs) (first_fault bounds (before + length (x ∷ xs)) ys)
+
+pub none_then : (start middle after : ℕ) (xs ys : List Visit) → NoFault start xs middle → NoFault middle ys after → NoFault start (xs ++ ys) after
+none_then start middle after xs ys p q =
+    let size = length-append xs ys in
+    let c = p.counted in
+    let d = q.counted in
+    record {
+      none = in_row standard_bounds start xs ys ∙ ap (λ o. option_or o (first_fault standard_bounds (start + length xs) ys)) p.none
+          ∙ ap (λ n. first_fault standard_bounds n ys) (sym p.counted) ∙ q.none;
+      counted = omega (arith, size, c, d);
+    }
+
+pub then_fault : (start middle : ℕ) (xs ys : List Visit) (fault : Fault) → NoFault start xs middle → FaultIs middle ys fault → FaultIs start (xs ++ ys) fault
+then_fault start middle xs ys fault p q = record {
+  kind = q.kind;
+  visit = q.visit;
+  found = in_row standard_bounds start xs ys ∙ ap (λ o. option_or o (first_fault standard_bounds (start + length xs) ys)) p.none
+      ∙ ap (λ n. first_fault standard_bounds n ys) (sym p.counted) ∙ q.found;
+  is = q.is;
+}
+
+pub fault_then : (start : ℕ) (xs ys : List Visit) (fault : Fault) → FaultIs start xs fault → FaultIs start (xs ++ ys) fault
+fault_then start xs ys fault p = record {
+  kind = p.kind;
+  visit = p.visit;
+  found = in_row standard_bounds start xs ys ∙ ap (λ o. option_or o (first_fault standard_bounds (start + length xs) ys)) p.found;
+  is = p.is;
+}
+
+pub none_at_all : (start : ℕ) → NoFault start [] start
+none_at_all start = record { none = refl; counted = omega arith }
+
+-- ---- the path
+
+any_more : (f : ℕ → Bool) (xs : List ℕ) (x : ℕ) → list_any f (xs ++ x ∷ []) ≡ (f x || list_any f xs)
+any_more f [] x = refl
+any_more f (y ∷ xs) x = ap (λ b. f y || b) (any_more f xs x) ∙ swap (f y) (f x) (list_any f xs)
+  where
+    swap : (a b c : Bool) → (a || (b || c)) ≡ (b || (a || c))
+    swap true true c = refl
+    swap true false c = refl
+    swap false b c = refl
+
+any_path : (place : ℕ) (above : Visit) → list_any (λ (x : ℕ). x == place) (path_of above) ≡ list_any (λ (e : Placed). e.place == place) above
+any_path place [] = refl
+any_path place (e ∷ above) = any_more (λ (x : ℕ). x == place) (path_of above) e.place ∙ ap (λ b. e.place == place || b) (any_path place above)
+
+pub path_size : (above : Visit) → length (path_of above) ≡ length above
+path_size [] = refl
+path_size (e ∷ above) = let s = length-append (path_of above) (e.place ∷ []) in let i = path_size above in omega (arith, s, i)
+
+below_next : (n : ℕ) → nat_lt 40 (suc n) ≡ nat_le 40 n
+below_next n = grind arith
+
+pub fault_is : (before : ℕ) (above : Visit) (root : Placed) → fault_of standard_bounds before (root ∷ above) ≡ kind_of (path_of above) before root.place
+fault_is before above root =
+    let cycle = sym (any_path root.place above) in
+    let deep = below_next (length above) ∙ ap (nat_le 40) (sym (path_size above)) in
+    λ i. cond (cycle i) (Some Cycle) (cond (deep i) (Some ItemsTooNested) (cond (nat_le 100000 before) (Some ItemsTooMany) None))
+
+-- ---- steps
+
+abbrev with_value : Data → Chars → Chars × Data
+with_value value name = (name, value)
+
+pub flat_append : {X Y : Type 0} (f : X → List Y) (xs ys : List X) → flat_map f (xs ++ ys) ≡ flat_map f xs ++ flat_map f ys
+flat_append {X} {Y} f [] ys = refl
+flat_append {X} {Y} f (x ∷ xs) ys = ap (λ (l : List Y). f x ++ l) (flat_append f xs ys) ∙ sym (append_assoc (f x) (flat_map f xs) (flat_map f ys))
+
+module _ (rows : List Placed) (base : Chars) (above : Visit) (left : ℕ) where
+  one_visits : (s : Step) → visits_in rows base above left (s ∷ []) ≡ visits_of rows base above left s.element
+  one_visits s = append-nil (visits_of rows base above left s.element)
+
+  visits_more : (done : List Step) (s : Step) → visits_in rows base above left (done ++ s ∷ []) ≡ visits_in rows base above left done ++ visits_of rows base above left s.element
+  visits_more done s =
+      flat_append (λ (s : Step). visits_of rows base above left s.element) done (s ∷ []) ∙ ap (λ (l : List Visit). visits_in rows base above left done ++ l) (one_visits s)
+
+  grouped_step : (done : List Step) (e : Placed) (name : Chars)
+      → grouped_in rows base above left (done ++ with_name e name ∷ []) ≡ with_last (encode_utf8_all name) (data_of rows base above left e) (grouped_in rows base above left done)
+  grouped_step done e name =
+      ap grouped (map-append (pair_of rows base above left) done (with_name e name ∷ [])) ∙ grouped_more (map (pair_of rows base above left) done) name (data_of rows base above left e)
+
+  pub did_more : (start before after : ℕ) (done : List Step) (e : Placed) (name : Chars) (old new : Members) → Did rows base above left start done before old
+      → NoFault before (visits_of rows base above left e) after → new ≡ with_last (encode_utf8_all name) (data_of rows base above left e) old
+      → Did rows base above left start (done ++ with_name e name ∷ []) after new
+  did_more start before after done e name old new d n g = record {
+    no_fault = subst (λ (vs : List Visit). NoFault start vs after) (sym (visits_more done (with_name e name))) (none_then start before after (visits_in rows base above left done) (visits_of rows base above left e) d.no_fault n);
+    grouped = g ∙ ap (with_last (encode_utf8_all name) (data_of rows base above left e)) d.grouped ∙ sym (grouped_step done e name);
+  }
+
+  pub fault_more : (start before : ℕ) (done more : List Step) (e : Placed) (name : Chars) (old : Members) (fault : Fault) → Did rows base above left start done before old
+      → FaultIs before (visits_of rows base above left e) fault → FaultIs start (visits_in rows base above left (done ++ with_name e name ∷ more)) fault
+  fault_more start before done more e name old fault d f =
+      let all = flat_append (λ (s : Step). visits_of rows base above left s.element) done (with_name e name ∷ more) in
+      subst (λ (vs : List Visit). FaultIs start vs fault) (sym all)
+      (then_fault start before (visits_in rows base above left done) (visits_in rows base above left (with_name e name ∷ more)) fault d.no_fault
+      (fault_then before (visits_of rows base above left e) (visits_in rows base above left more) fault f))
+
+  pub fault_stays : (start : ℕ) (done more : List Step) (fault : Fault) → FaultIs start (visits_in rows base above left done) fault → FaultIs start (visits_in rows base above left (done ++ more)) fault
+  fault_stays start done more fault f =
+      subst (λ (vs : List Visit). FaultIs start vs fault) (sym (flat_append (λ (s : Step). visits_of rows base above left s.element) done more))
+      (fault_then start (visits_in rows base above left done) (visits_in rows base above left more) fault f)
+
+  -- ---- what the definitions go by is what the steps go by
+
+  each_name : (e : Placed) (names : List Chars) → visits_in rows base above left (map (with_name e) names)
+      ≡ flat_map (λ (x : Placed). visits_of rows base above left x) (map (λ (name : Chars). e) names)
+  each_name e [] = refl
+  each_name e (name ∷ names) = ap (λ (l : List Visit). visits_of rows base above left e ++ l) (each_name e names)
+
+  abbrev only : Placed → Bool → List Visit
+  only e b = elim b as (λ item. List Visit) [ true ↦ visits_from (properties_in rows) (suc left) above e | false ↦ [] ]
+
+  no_visits : (e : Placed) (names : List Chars) → is_item e ≡ false → visits_in rows base above left (map (with_name e) names) ≡ []
+  no_visits e [] plain = refl
+  no_visits e (name ∷ names) plain = (λ i. only e (plain i) ++ no_visits e names plain i)
+
+  item_visits : (e : Placed) (names : List Chars) → is_item e ≡ true → visits_in rows base above left (map (with_name e) names)
+      ≡ flat_map (visits_from (properties_in rows) (suc left) above) (map (λ (name : Chars). e) names)
+  item_visits e [] item = refl
+  item_visits e (name ∷ names) item = (λ i. only e (item i) ++ item_visits e names item i)
+
+  abbrev items_when : Placed → List Placed → Bool → List Placed
+  items_when e es b = flat_map (λ (x : Placed). map (λ (name : Chars). x) (names_of x)) (cond b (e ∷ filter is_item es) (filter is_item es))
+
+  pub steps_visits : (es : List Placed) → visits_in rows base above left (steps_in es) ≡ flat_map (visits_from (properties_in rows) (suc left) above) (items_in es)
+  steps_visits [] = refl
+  steps_visits (e ∷ es) = flat_append (λ (s : Step). visits_of rows base above left s.element) (steps_of e) (steps_in es) ∙ by (is_item e) refl (steps_visits es)
+    where
+      by : (b : Bool) → is_item e ≡ b → visits_in rows base above left (steps_in es) ≡ flat_map (visits_from (properties_in rows) (suc left) above) (items_in es)
+          → visits_in rows base above left (steps_of e) ++ visits_in rows base above left (steps_in es)
+          ≡ flat_map (visits_from (properties_in rows) (suc left) above) (items_in (e ∷ es))
+      by true item ih =
+          (λ i. item_visits e (names_of e) item i ++ ih i)
+          ∙ sym (flat_append (visits_from (properties_in rows) (suc left) above) (map (λ (name : Chars). e) (names_of e)) (items_in es))
+          ∙ ap (λ b. flat_map (visits_from (properties_in rows) (suc left) above) (items_when e es b)) (sym item)
+      by false plain ih = ap (λ (l : List Visit). l ++ visits_in rows base above left (steps_in es)) (no_visits e (names_of e) plain) ∙ ih ∙ ap (λ b. flat_map (visits_from (properties_in rows) (suc left) above) (items_when e es b)) (sym plain)
+
+  pub steps_pairs : (es : List Placed) → map (pair_of rows base above left) (steps_in es) ≡ flat_map (λ (e : Placed). named e (data_of rows base above left e)) es
+  steps_pairs [] = refl
+  steps_pairs (e ∷ es) = map-append (pair_of rows base above left) (steps_of e) (steps_in es) ∙ (λ i. names (names_of e) i ++ steps_pairs es i)
+    where
+      names : (ns : List Chars) → map (pair_of rows base above left) (map (with_name e) ns) ≡ map (with_value (data_of rows base above left e)) ns
+      names [] = refl
+      names (n ∷ ns) = ap (λ (l : List (Chars × Data)). (n, data_of rows base above left e) ∷ l) (names ns)

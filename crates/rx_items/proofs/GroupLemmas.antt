@@ -1,0 +1,133 @@
+-- Values that are put behind those of their names, one after another, come to the groups of all of them.
+use Rattle.std.proofs.Common.{◌≡◌, ◌∙◌, refl, sym, ap, ℕ, List, [], ◌∷◌, ◌++◌, map, Bool, true, false, true≢false, cond, Option, Some, None, option_map, Ordering, Less, Equal, Greater, is_eq, nat_cmp, string_bytes, string_cmp, String, Global, Vec, encode_utf8_all}
+use Rattle.std.proofs.lemmas.Cmp.{nat_list_cmp_total}
+use Rattle.std.proofs.lemmas.Map.Text.{is_eq-slice_cmp}
+use Rattle.std.proofs.lemmas.Slice.Eq.{bytes_eq-Decides}
+use Rattle.std.specs.Cmp.Lexicographic.{slice_cmp}
+use Rattle.std.specs.List.{AllByRecursion}
+use Rattle.std.specs.List.Sorted.{IsStrictlySortedBy}
+use Rattle.std.specs.Map.{keys_of, lookup, set_value}
+use Rattle.std.specs.Ordering.{match_ordering, ordering_reverse}
+use Rattle.std.specs.BTreeMap.{insert_entry, is_at}
+use Rattle.serde_json.specs.Data.{Data, null, boolean, number, string, array, object, Items, no_items, item, Members, no_members, member, put}
+use Rattle.std.specs.Prelude.{OnOk, Result, Ok, Err}
+use Rattle.serde_json.specs.View.{view, items_view, members_view}
+use Rattle.serde_json.proofs.Views.{Entry, view-Array, members_view-insert_entry}
+use Rattle.serde_json.specs.declared.value.Value.{Value, Array}
+use Rattle.rx_terms.specs.Text.{Chars}
+use Rattle.rx_microdata.specs.Json.{onto, with_value, grouped}
+use Rattle.rx_items.specs.Groups.{items_and, behind, with_last}
+
+both_ends : (d e : Data) (vs : Data) → onto d (behind e vs) ≡ behind e (onto d vs)
+both_ends d e null = refl
+both_ends d e (boolean b) = refl
+both_ends d e (number n) = refl
+both_ends d e (string s) = refl
+both_ends d e (array vs) = refl
+both_ends d e (object ms) = refl
+
+equal_texts : (a b : List ℕ) → slice_cmp nat_cmp a b ≡ Equal → a ≡ b
+equal_texts a b e = (bytes_eq-Decides a b).0 (sym (is_eq-slice_cmp a b) ∙ ap is_eq e)
+
+turned : (a b : List ℕ) (o : Ordering) → slice_cmp nat_cmp a b ≡ o → slice_cmp nat_cmp b a ≡ ordering_reverse o
+turned a b o e = nat_list_cmp_total.antisymm b a ∙ ap ordering_reverse e
+
+module _ (n m : List ℕ) (d e : Data) where
+  at_end : (o : Ordering) → slice_cmp nat_cmp n m ≡ o → with_value n d (with_last m e no_members) ≡ with_last m e (with_value n d no_members)
+  at_end Less c = rw (c, turned n m Less c) refl
+  at_end Greater c = rw (c, turned n m Greater c) refl
+  at_end Equal c = rw (c, turned n m Equal c) (ap (λ name. member name (array (item d (item e no_items))) no_members) (sym (equal_texts n m c)))
+
+  module _ (f : List ℕ) (vs : Data) (rest : Members) where
+    abbrev Both : Type 0
+    Both = with_value n d (with_last m e (member f vs rest)) ≡ with_last m e (with_value n d (member f vs rest))
+
+    both_before : (o : Ordering) → slice_cmp nat_cmp n f ≡ Less → slice_cmp nat_cmp m f ≡ Less → slice_cmp nat_cmp n m ≡ o → Both
+    both_before Less a b c = rw (b, a, c, turned n m Less c, b) refl
+    both_before Greater a b c = rw (b, a, c, turned n m Greater c) refl
+    both_before Equal a b c = rw (b, a, c, turned n m Equal c) (ap (λ name. member name (array (item d (item e no_items))) (member f vs rest)) (sym (equal_texts n m c)))
+
+    by : (a b : Ordering) → slice_cmp nat_cmp n f ≡ a → slice_cmp nat_cmp m f ≡ b
+        → with_value n d (with_last m e rest) ≡ with_last m e (with_value n d rest) → Both
+    by Less Less a b ih = both_before (slice_cmp nat_cmp n m) a b refl
+    by Less Equal a b ih =
+        let c : slice_cmp nat_cmp m n ≡ Greater = ap (λ x. slice_cmp nat_cmp x n) (equal_texts m f b) ∙ turned n f Less a in
+        rw (b, a, c, b) refl
+    by Less Greater a b ih =
+        let c : slice_cmp nat_cmp m n ≡ Greater = turned n m Less (nat_list_cmp_total.trans n f m a (turned m f Greater b)) in
+        rw (b, a, c, b) refl
+    by Equal Less a b ih =
+        let c : slice_cmp nat_cmp n m ≡ Greater = ap (λ x. slice_cmp nat_cmp x m) (equal_texts n f a) ∙ turned m f Less b in
+        rw (b, a, c, b) refl
+    by Equal Equal a b ih = rw (b, a, b) (ap (λ values. member f values rest) (both_ends d e vs))
+    by Equal Greater a b ih = rw (b, a, b) refl
+    by Greater Less a b ih =
+        let c : slice_cmp nat_cmp n m ≡ Greater = turned m n Less (nat_list_cmp_total.trans m f n b (turned n f Greater a)) in
+        rw (b, a, c, b) refl
+    by Greater Equal a b ih = rw (b, a, b) refl
+    by Greater Greater a b ih = rw (b, a, b) (ap (member f vs) ih)
+
+commute : (n m : List ℕ) (d e : Data) (ms : Members) → with_value n d (with_last m e ms) ≡ with_last m e (with_value n d ms)
+commute n m d e no_members = at_end n m d e (slice_cmp nat_cmp n m) refl
+commute n m d e (member f vs rest) = by n m d e f vs rest (slice_cmp nat_cmp n f) (slice_cmp nat_cmp m f) refl refl (commute n m d e rest)
+
+-- one more at the end
+pub grouped_more : (pairs : List (Chars × Data)) (name : Chars) (value : Data) → grouped (pairs ++ (name, value) ∷ []) ≡ with_last (encode_utf8_all name) value (grouped pairs)
+grouped_more [] name value = refl
+grouped_more (pair ∷ pairs) name value =
+    ap (with_value (encode_utf8_all pair.0) pair.1) (grouped_more pairs name value)
+    ∙ commute (encode_utf8_all pair.0) (encode_utf8_all name) pair.1 value (grouped pairs)
+
+abbrev at : List ℕ → String Global → Bool
+at name key = is_at (λ k. slice_cmp nat_cmp name (string_bytes k)) key
+
+not_later : (name : List ℕ) (first : String Global) (es : List Entry) → slice_cmp nat_cmp name (string_bytes first) ≡ Less
+    → AllByRecursion (λ y. string_cmp first y ≡ Less) (keys_of es) → lookup (at name) es ≡ None
+not_later name first [] below later = refl
+not_later name first (e ∷ es) below later =
+    let apart = nat_list_cmp_total.trans name (string_bytes first) (string_bytes e.0) below later.0 in
+    rw apart (not_later name first es below later.1)
+
+-- the name has values, and one more is put behind them
+pub put_behind : (name : List ℕ) (d : Data) (es : List Entry) (old new : Value) → IsStrictlySortedBy string_cmp (keys_of es) → lookup (at name) es ≡ Some old
+    → view new ≡ behind d (view old) → members_view (set_value (at name) es new) ≡ with_last name d (members_view es)
+unfolding IsStrictlySortedBy
+put_behind name d [] old new sorted found is = absurd (cc (found))
+put_behind name d (e ∷ es) old new sorted found is = go (slice_cmp nat_cmp name (string_bytes e.0)) refl found (λ f. put_behind name d es old new sorted.1 f is)
+  where
+    go : (o : Ordering) → slice_cmp nat_cmp name (string_bytes e.0) ≡ o → lookup (at name) (e ∷ es) ≡ Some old
+        → (lookup (at name) es ≡ Some old → members_view (set_value (at name) es new) ≡ with_last name d (members_view es))
+        → members_view (set_value (at name) (e ∷ es) new) ≡ with_last name d (members_view (e ∷ es))
+    go Less o found ih = absurd (cc (sym (not_later name e.0 es o sorted.0) ∙ rw o at found))
+    go Equal o found ih = rw o (ap (λ v. member (string_bytes e.0) v (members_view es)) (is ∙ ap (behind d) (ap view (cc (rw o at found)))))
+    go Greater o found ih = rw o (ap (member (string_bytes e.0) (view e.1)) (ih (rw o at found)))
+
+put_absent : (name : List ℕ) (d : Data) (es : List Entry) → lookup (at name) es ≡ None → put name (array (item d no_items)) (members_view es) ≡ with_last name d (members_view es)
+put_absent name d [] absent = refl
+put_absent name d (e ∷ es) absent = go (slice_cmp nat_cmp name (string_bytes e.0)) refl absent (put_absent name d es)
+  where
+    go : (o : Ordering) → slice_cmp nat_cmp name (string_bytes e.0) ≡ o → lookup (at name) (e ∷ es) ≡ None
+        → (lookup (at name) es ≡ None → put name (array (item d no_items)) (members_view es) ≡ with_last name d (members_view es))
+        → put name (array (item d no_items)) (members_view (e ∷ es)) ≡ with_last name d (members_view (e ∷ es))
+    go Less o absent ih = rw o refl
+    go Equal o absent ih = absurd (cc (rw o at absent))
+    go Greater o absent ih = rw o (ap (member (string_bytes e.0) (view e.1)) (ih (rw o at absent)))
+
+-- it has none yet
+pub put_first : (name : List ℕ) (d : Data) (es : List Entry) (key : String Global) (new : Value) → lookup (at name) es ≡ None → string_bytes key ≡ name
+    → view new ≡ array (item d no_items) → members_view (insert_entry string_cmp es key new) ≡ with_last name d (members_view es)
+put_first name d es key new absent is value =
+    members_view-insert_entry es key new ∙ (λ i. put (is i) (value i) (members_view es)) ∙ put_absent name d es absent
+
+items_more : (values : List Value) (value : Value) → items_view (values ++ value ∷ []) ≡ items_and (items_view values) (view value)
+items_more [] value = refl
+items_more (first ∷ values) value = ap (item (view first)) (items_more values value)
+
+pub array_more : (values value : Value) (old new : Vec Value Global) → values ≡ Array old → new.items ≡ old.items ++ value ∷ [] → view (Array new) ≡ behind (view value) (view values)
+array_more values value old new is more =
+    view-Array new ∙ ap (λ (vs : List Value). array (items_view vs)) more ∙ ap array (items_more old.items value)
+    ∙ sym (ap (behind (view value)) (ap view is ∙ view-Array old))
+
+pub then_ok : {X E P Q : Type 0} (r : Result X E) → (P → Q) → OnOk r P → OnOk r Q
+then_ok (Ok x) f p = f p
+then_ok (Err e) f p = p

@@ -1,0 +1,143 @@
+-- The top-level items of a page, one after another.
+use Rattle.std.proofs.Common.{◌≡◌, ◌∙◌, ◌+◌, ◌<◌, ◌≤◌, ℕ, zero, suc, Bool, true, false, cond, List, [], ◌∷◌, ◌++◌, map, filter, length, take, drop, get_or, Option, Some, None, refl, sym, ap, subst, arith, append_assoc}
+use Rattle.std.specs.Prelude.{flat_map, slice_get}
+use Rattle.std.proofs.lemmas.List.{append-nil, take_all, map-append}
+use Rattle.serde_json.specs.Data.{Data, Items, array, item, no_items, object, member, no_members}
+use Rattle.serde_json.specs.View.{view, items_of, items_view}
+use Rattle.serde_json.specs.declared.value.Value.{Value}
+use Rattle.std.specs.Prelude.{codes}
+use Rattle.rx_terms.specs.Text.{Chars}
+use Rattle.rx_grammar.specs.declared.faults.Kind.{Kind}
+use Rattle.rx_tags.specs.declared.stops.Stop.{Stop}
+use Rattle.rx_tags.specs.declared.stops.Stop.TheVariants as stop
+use Rattle.rx_microdata.specs.Elements.{Placed, is_item, is_top_level, is_absent}
+use Rattle.rx_microdata.specs.Visits.{Visit, visits_from, visits_by, first_fault, standard_bounds}
+use Rattle.rx_microdata.specs.Json.{Outcome, Given, Refused, json_of_item, json_by, list_of, refused}
+use Rattle.rx_microdata.proofs.Lists.{and_parts}
+use Rattle.rx_items.specs.Rows.{properties_in, outcome_in}
+use Rattle.rx_items.specs.Held.{ShowsElements, HoldsRows}
+use Rattle.rx_items.specs.Expanding.{At, NoFault, FaultIs, Told}
+use Rattle.rx_items.specs.Pages.{TopsDid, top_visits, top_data}
+use Rattle.rx_items.specs.declared.kept.Element.{Element}
+use Rattle.rx_items.specs.declared.kept.Kept.{Kept}
+use Rattle.rx_items.proofs.FoundLemmas.{none_then, then_fault, fault_then, none_at_all, flat_append}
+use Rattle.rx_items.proofs.VisitLemmas.{one_more, cut_at}
+
+pub tops_at : {kept : Kept} {rows : List Placed} {base : Chars} (path : List ℕ) → HoldsRows kept rows base → path ≡ [] → At kept rows base path [] 40
+tops_at path h e = record { holds = h; path_is = e; deep = omega arith }
+
+pub item_of_top : (e : Placed) → is_top_level e ≡ true → is_item e ≡ true
+item_of_top e top = (and_parts (is_item e) (is_absent e.facts.names) top).0
+
+same_length : (words gathered : Chars) (times : List Chars) (es : List Element) (ps : List Placed) → ShowsElements words gathered times es ps → length es ≡ length ps
+same_length words gathered times [] [] s = refl
+same_length words gathered times [] (p ∷ ps) s = absurd s
+same_length words gathered times (e ∷ es) [] s = absurd s
+same_length words gathered times (e ∷ es) (p ∷ ps) s = ap suc (same_length words gathered times es ps s.1)
+
+pub as_long : (kept : Kept) (rows : List Placed) (base : Chars) → HoldsRows kept rows base → length kept.elements.items ≡ length rows
+as_long kept rows base h = same_length kept.words kept.text kept.times.items kept.elements.items rows h.shown
+
+pub record RowThere (rows : List Placed) (i : ℕ) : Type 0 where
+  pub row : Placed
+  pub row_is : slice_get rows i ≡ Some row
+  pub is : row ≡ get_or rows i row
+
+pub row_there : (rows : List Placed) (i : ℕ) → i < length rows → RowThere rows i
+row_there [] i lt = absurd (omega (arith, lt))
+row_there (p ∷ rows) zero lt = record { row = p; row_is = refl; is = refl }
+row_there (p ∷ rows) (suc i) lt = let r = row_there rows i (omega (arith, lt)) in record { row = r.row; row_is = r.row_is; is = r.is }
+
+module _ (rows : List Placed) (base : Chars) where
+  abbrev visits_when : Placed → Bool → List Visit
+  visits_when e b = elim b as (λ top. List Visit) [ true ↦ visits_from (properties_in rows) 41 [] e | false ↦ [] ]
+
+  abbrev data_when : Placed → Bool → List Data
+  data_when e b = elim b as (λ top. List Data) [ true ↦ json_of_item (properties_in rows) base 40 e ∷ [] | false ↦ [] ]
+
+  pub not_top : (e : Placed) (visits : ℕ) (values : List Value) → is_top_level e ≡ false → NoFault visits (top_visits rows base e) visits × (map view values ≡ map view values ++ top_data rows base e)
+  not_top e visits values plain =
+      let Found : Bool → Type 0 = λ b. NoFault visits (visits_when e b) visits × (map view values ≡ map view values ++ data_when e b) in
+      subst Found (sym plain) (none_at_all visits, sym (append-nil (map view values)))
+
+  pub top_told : (e : Placed) (visits : ℕ) (why : Stop) → is_top_level e ≡ true → Told visits (visits_from (properties_in rows) 41 [] e) why → Told visits (top_visits rows base e) why
+  top_told e visits why top f = subst (λ b. Told visits (visits_when e b) why) (sym top) f
+
+  pub top_found : (e : Placed) (before after : ℕ) (old new : List Value) (value : Value) → is_top_level e ≡ true → NoFault before (visits_from (properties_in rows) 41 [] e) after
+      → view value ≡ json_of_item (properties_in rows) base 40 e → new ≡ old ++ value ∷ []
+      → NoFault before (top_visits rows base e) after × (map view new ≡ map view old ++ top_data rows base e)
+  top_found e before after old new value top f is pushed =
+      let Found : Bool → Type 0 = λ b. NoFault before (visits_when e b) after × (map view new ≡ map view old ++ data_when e b) in
+      subst Found (sym top) (f, ap (map view) pushed ∙ map-append view old (value ∷ []) ∙ ap (λ (d : Data). map view old ++ d ∷ []) is)
+
+  row_visits : (i : ℕ) (e : Placed) → i < length rows → e ≡ get_or rows i e → flat_map (top_visits rows base) (take (i + 1) rows) ≡ flat_map (top_visits rows base) (take i rows) ++ top_visits rows base e
+  row_visits i e lt is =
+      ap (flat_map (top_visits rows base)) (one_more rows i e lt) ∙ flat_append (top_visits rows base) (take i rows) (get_or rows i e ∷ [])
+      ∙ ap (λ (l : List Visit). flat_map (top_visits rows base) (take i rows) ++ l) (append-nil (top_visits rows base (get_or rows i e)))
+      ∙ ap (λ (x : Placed). flat_map (top_visits rows base) (take i rows) ++ top_visits rows base x) (sym is)
+
+  row_data : (i : ℕ) (e : Placed) → i < length rows → e ≡ get_or rows i e → flat_map (top_data rows base) (take (i + 1) rows) ≡ flat_map (top_data rows base) (take i rows) ++ top_data rows base e
+  row_data i e lt is =
+      ap (flat_map (top_data rows base)) (one_more rows i e lt) ∙ flat_append (top_data rows base) (take i rows) (get_or rows i e ∷ [])
+      ∙ ap (λ (l : List Data). flat_map (top_data rows base) (take i rows) ++ l) (append-nil (top_data rows base (get_or rows i e)))
+      ∙ ap (λ (x : Placed). flat_map (top_data rows base) (take i rows) ++ top_data rows base x) (sym is)
+
+  pub top_on : (i before after : ℕ) (e : Placed) (old new : List Value) → i < length rows → e ≡ get_or rows i e → TopsDid rows base i before old
+      → NoFault before (top_visits rows base e) after → map view new ≡ map view old ++ top_data rows base e → TopsDid rows base (i + 1) after new
+  top_on i before after e old new lt is d f g = record {
+    no_fault = subst (λ (vs : List Visit). NoFault 0 vs after) (sym (row_visits i e lt is)) (none_then 0 before after (flat_map (top_visits rows base) (take i rows)) (top_visits rows base e) d.no_fault f);
+    data_is = g ∙ ap (λ (l : List Data). l ++ top_data rows base e) d.data_is ∙ sym (row_data i e lt is);
+  }
+
+  all_visits : (ps : List Placed) → flat_map (top_visits rows base) ps ≡ visits_by (properties_in rows) standard_bounds (filter is_top_level ps)
+  all_visits [] = refl
+  all_visits (p ∷ ps) = by (is_top_level p) (all_visits ps)
+    where
+      by : (b : Bool) → flat_map (top_visits rows base) ps ≡ visits_by (properties_in rows) standard_bounds (filter is_top_level ps)
+          → visits_when p b ++ flat_map (top_visits rows base) ps ≡ visits_by (properties_in rows) standard_bounds (cond b (p ∷ filter is_top_level ps) (filter is_top_level ps))
+      by true ih = ap (λ (l : List Visit). visits_from (properties_in rows) 41 [] p ++ l) ih
+      by false ih = ih
+
+  all_data : (ps : List Placed) → flat_map (top_data rows base) ps ≡ map (json_of_item (properties_in rows) base 40) (filter is_top_level ps)
+  all_data [] = refl
+  all_data (p ∷ ps) = by (is_top_level p) (all_data ps)
+    where
+      by : (b : Bool) → flat_map (top_data rows base) ps ≡ map (json_of_item (properties_in rows) base 40) (filter is_top_level ps)
+          → data_when p b ++ flat_map (top_data rows base) ps ≡ map (json_of_item (properties_in rows) base 40) (cond b (p ∷ filter is_top_level ps) (filter is_top_level ps))
+      by true ih = ap (λ (l : List Data). json_of_item (properties_in rows) base 40 p ∷ l) ih
+      by false ih = ih
+
+  pub tops_err : (i before : ℕ) (e : Placed) (values : List Value) (why : Stop) → i < length rows → e ≡ get_or rows i e → TopsDid rows base i before values → Told before (top_visits rows base e) why
+      → Told 0 (visits_by (properties_in rows) standard_bounds (filter is_top_level rows)) why
+  tops_err i before e values stop.NoMemory lt is d f = tt
+  tops_err i before e values (stop.Fault fault) lt is d f =
+      let all : flat_map (top_visits rows base) rows ≡ flat_map (top_visits rows base) (take i rows) ++ (top_visits rows base e ++ flat_map (top_visits rows base) (drop (i + 1) rows)) =
+      ap (flat_map (top_visits rows base)) (cut_at rows i e lt) ∙ flat_append (top_visits rows base) (take i rows) (get_or rows i e ∷ drop (i + 1) rows)
+      ∙ ap (λ (x : Placed). flat_map (top_visits rows base) (take i rows) ++ (top_visits rows base x ++ flat_map (top_visits rows base) (drop (i + 1) rows))) (sym is) in
+      subst (λ (vs : List Visit). FaultIs 0 vs fault) (sym all ∙ all_visits rows)
+      (then_fault 0 before (flat_map (top_visits rows base) (take i rows)) (top_visits rows base e ++ flat_map (top_visits rows base) (drop (i + 1) rows)) fault d.no_fault
+      (fault_then before (top_visits rows base e) (flat_map (top_visits rows base) (drop (i + 1) rows)) fault f))
+
+  pub tops_end : (i visits : ℕ) (values : List Value) → length rows ≤ i → TopsDid rows base i visits values
+      → (first_fault standard_bounds 0 (visits_by (properties_in rows) standard_bounds (filter is_top_level rows)) ≡ None)
+      × (map view values ≡ map (json_of_item (properties_in rows) base 40) (filter is_top_level rows))
+  tops_end i visits values over d =
+      let whole = take_all i rows over in (
+        ap (first_fault standard_bounds 0) (sym (all_visits rows) ∙ sym (ap (flat_map (top_visits rows base)) whole)) ∙ d.no_fault.none,
+        d.data_is ∙ ap (flat_map (top_data rows base)) whole ∙ all_data rows,
+      )
+
+  abbrev picked : Option (Kind × Visit) → Data → Outcome
+  picked o value = elim o as (λ found. Outcome) [ None ↦ Given value | Some found ↦ refused found.0 found.1 ]
+
+  same_items : (ds : List Data) → items_of ds ≡ list_of ds
+  same_items [] = refl
+  same_items (d ∷ ds) = ap (item d) (same_items ds)
+
+  pub page_given : (value : Data) (values : List Value) → first_fault standard_bounds 0 (visits_by (properties_in rows) standard_bounds (filter is_top_level rows)) ≡ None
+      → map view values ≡ map (json_of_item (properties_in rows) base 40) (filter is_top_level rows) → value ≡ object (member (codes "items") (array (items_view values)) no_members)
+      → outcome_in standard_bounds base rows ≡ Given value
+  page_given value values none is made =
+      ap (λ o. picked o (json_by (properties_in rows) base 40 (filter is_top_level rows))) none
+      ∙ ap Given (sym (made ∙ ap (λ (ds : List Data). object (member (codes "items") (array (items_of ds)) no_members)) is
+      ∙ ap (λ (is : Items). object (member (codes "items") (array is) no_members)) (same_items (map (json_of_item (properties_in rows) base 40) (filter is_top_level rows)))))

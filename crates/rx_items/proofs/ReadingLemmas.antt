@@ -1,0 +1,29 @@
+-- Texts as JSON.
+use Rattle.std.proofs.Common.{◌≡◌, ◌∙◌, ℕ, List, [], refl, sym, ap}
+use Rattle.std.specs.Prelude.{IfOk, Result, Ok, Err, Option, Some, None, slice_get, unwrap_or}
+use Rattle.std.specs.Str.{chars}
+use Rattle.std.proofs.lemmas.Str.{chars-nil}
+use Rattle.serde_json.specs.Data.{Data}
+use Rattle.serde_json.specs.View.{view}
+use Rattle.serde_json.specs.declared.value.Value.{Value}
+use Rattle.rx_terms.specs.Text.{Chars}
+use Rattle.rx_values.specs.Marks.{CutAt}
+use Rattle.rx_microdata.specs.Facts.{Written, said}
+use Rattle.rx_microdata.specs.Facts as facts
+use Rattle.rx_microdata.specs.Json.{string_of}
+
+pub if_same : {E : Type 0} (r : Result Value E) (a b : Data) → a ≡ b → IfOk r (λ json. view json ≡ a) → IfOk r (λ json. view json ≡ b)
+if_same (Ok json) a b e h = h ∙ e
+if_same (Err error) a b e h = h
+
+pub cut_at_start : (text : Chars) → CutAt text 0 [] text
+cut_at_start text = record { whole = refl; size = refl }
+
+pub found_time : (times : List Chars) (number : ℕ) (time text : Chars) → slice_get times number ≡ Some time → text ≡ time → string_of text ≡ string_of (unwrap_or (slice_get times number) [])
+found_time times number time text found is = ap string_of (is ∙ sym (ap (λ (o : Option Chars). unwrap_or o []) found))
+
+pub no_time : (times : List Chars) (number : ℕ) → slice_get times number ≡ None → string_of (chars []) ≡ string_of (unwrap_or (slice_get times number) [])
+no_time times number none = ap string_of (chars-nil ∙ sym (ap (λ (o : Option Chars). unwrap_or o []) none))
+
+pub empty_value : (base : Chars) (v : facts.Value) → v ≡ Written [] → string_of (chars []) ≡ string_of (said base v)
+empty_value base v is = ap string_of (chars-nil ∙ sym (ap (said base) is))

@@ -1,0 +1,153 @@
+-- The table after some signs, and the base that is known then.
+use Rattle.std.specs.Prelude.{◌≡◌, ℕ, suc, ◌+◌, ◌-◌, ◌<◌, Bool, true, false, nat_lt, cond, List, [], ◌∷◌, ◌++◌, map, length, take, slice_set, slice_index_or, Option, Some, None, Result, Ok, Err, OnOk}
+use Rattle.std.proofs.Common.{refl, sym, ap, subst, ◌∙◌}
+use Rattle.std.proofs.lemmas.Bool.{ltb-true}
+use Rattle.std.proofs.lemmas.List.{length-append, length-take-le}
+use native.Mathlib.Omega.{arith}
+use Rattle.rx_terms.specs.Text.{Chars}
+use Rattle.rx_grammar.specs.Trees.{StartTag, Tree, end, element, text}
+use Rattle.rx_rdfa.specs.Tree.{Tag}
+use Rattle.rx_nest.specs.Signs as sign
+use Rattle.rx_nest.specs.Signs.{Sign, signs_of}
+use Rattle.rx_base.specs.Lines.{line_of, line_on}
+use Rattle.rx_base.specs.Seekings.{Seeking, seek, seeks, sought, first_child}
+use Rattle.rx_base.proofs.Lines.{seeks_append, said_line, said_seeks}
+use Rattle.rx_items.specs.Words.{is_marked, text_of_words}
+use Rattle.rx_items.specs.Values.{taken_of, text_taken}
+use Rattle.rx_items.specs.Growing.{Growing, innermost, with_said, said, finished, begun, added, passed, head_of}
+use Rattle.rx_items.specs.Showing.{tag_in, after, nothing_read}
+use Rattle.rx_items.specs.Collecting.{Setting, told, told_all, BaseIs, BaseMoves, Collects}
+use Rattle.rx_items.specs.declared.collectors.Base.{Base}
+use Rattle.rx_items.specs.declared.collectors.Collector.{Collector}
+use Rattle.rx_items.specs.declared.rows.Open.{Open}
+use Rattle.rx_items.proofs.ListLemmas.{append_nil, append_assoc}
+use Rattle.rx_items.proofs.SaidLemmas.{said_nothing, said_twice}
+
+-- ---- text in pieces
+
+none_said : (own : Option ℕ) (times : List Chars) → with_said own [] times ≡ times
+none_said None times = refl
+none_said (Some own) times = go (nat_lt own (length times)) refl
+  where
+    go : (b : Bool) → nat_lt own (length times) ≡ b → with_said (Some own) [] times ≡ times
+    go true e = said_nothing (Some own) times (ltb-true own (length times) e)
+    go false e = ap (λ b. cond b (slice_set times own (slice_index_or times own [] ++ [])) times) e
+
+both_said : (own : Option ℕ) (a b : Chars) (times : List Chars) → with_said own b (with_said own a times) ≡ with_said own (a ++ b) times
+both_said None a b times = refl
+both_said (Some own) a b times = go (nat_lt own (length times)) refl
+  where
+    outside : nat_lt own (length times) ≡ false → (c : Chars) → with_said (Some own) c times ≡ times
+    outside e c = ap (λ b. cond b (slice_set times own (slice_index_or times own [] ++ c)) times) e
+
+    go : (t : Bool) → nat_lt own (length times) ≡ t → with_said (Some own) b (with_said (Some own) a times) ≡ with_said (Some own) (a ++ b) times
+    go true e = said_twice (Some own) a b times (ltb-true own (length times) e)
+    go false e = ap (with_said (Some own) b) (outside e a) ∙ outside e b ∙ sym (outside e (a ++ b))
+
+nothing_more : (b : Bool) (chars : Chars) → cond b (chars ++ []) chars ≡ chars
+nothing_more true chars = append_nil chars
+nothing_more false chars = refl
+
+more_text : (t : Bool) (chars a b : Chars) → cond t (cond t (chars ++ a) chars ++ b) (cond t (chars ++ a) chars) ≡ cond t (chars ++ (a ++ b)) chars
+more_text true chars a b = append_assoc chars a b
+more_text false chars a b = refl
+
+said_none : (g : Growing) → said g [] ≡ g
+said_none g =
+    let texts = nothing_more (innermost g.line).gathers g.text in
+    let times = none_said (innermost g.line).own g.times in
+    λ i. record g { text = texts i; times = times i }
+
+said_both : (g : Growing) (a b : Chars) → said (said g a) b ≡ said g (a ++ b)
+said_both g a b =
+    let texts = more_text (innermost g.line).gathers g.text a b in
+    let times = both_said (innermost g.line).own a b g.times in
+    λ i. record g { text = texts i; times = times i }
+
+pub told_said : (g : Growing) (chars : Chars) → told_all g (map sign.said chars) ≡ said g chars
+told_said g [] = sym (said_none g)
+told_said g (c ∷ chars) = told_said (said g (c ∷ [])) chars ∙ said_both g (c ∷ []) chars
+
+-- ---- signs one after another, and those of a tree
+
+pub told_append : (g : Growing) (xs ys : List Sign) → told_all g (xs ++ ys) ≡ told_all (told_all g xs) ys
+told_append g [] ys = refl
+told_append g (x ∷ xs) ys = told_append (told g x) xs ys
+
+pub told_tree : (g : Growing) (tree : Tree) → told_all g (signs_of tree) ≡ after g tree
+told_tree g end = refl
+told_tree g (text chars more) =
+    told_append g (map sign.said chars) (signs_of more)
+    ∙ ap (λ x. told_all x (signs_of more)) (told_said g chars)
+    ∙ told_tree (said g chars) more
+told_tree g (element t inner more) =
+    told_append (begun g (tag_in t) t.token t.at) (signs_of inner) (sign.finished ∷ signs_of more)
+    ∙ ap (λ x. told_all (finished x) (signs_of more)) (told_tree (begun g (tag_in t) t.token t.at) inner)
+    ∙ told_tree (finished (after (begun g (tag_in t) t.token t.at) inner)) more
+
+-- ---- how many elements are open
+
+longer : (line : List Open) (o : Open) → length (line ++ (o ∷ [])) ≡ suc (length line)
+longer line o = let e = length-append line (o ∷ []) in omega (arith, e)
+
+begun_longer : (g : Growing) (t : StartTag) → length (begun g (tag_in t) t.token t.at).line ≡ suc (length g.line)
+begun_longer g t = go (is_marked t.attributes)
+  where
+    go : (b : Bool)
+        → length (cond b (added (record g { words = text_taken (text_of_words g.words t.attributes) (tag_in t) }) (head_of g.words (tag_in t) t.token t.at) (taken_of (text_of_words g.words t.attributes) (tag_in t))) (passed g)).line
+        ≡ suc (length g.line)
+    go true = longer g.line _
+    go false = longer g.line _
+
+finished_shorter : (g : Growing) → length (finished g).line ≡ length g.line - 1
+finished_shorter g = length-take-le (length g.line - 1) g.line (omega arith)
+
+same_count : (g : Growing) (line : List Tag) (signs : List Sign) → length g.line ≡ length line → length (told_all g signs).line ≡ length (line_of line signs)
+same_count g line [] e = e
+same_count g line (sign.begun t ∷ signs) e = same_count (begun g (tag_in t) t.token t.at) (line_on line (sign.begun t)) signs (begun_longer g t ∙ ap suc e)
+same_count g line (sign.said c ∷ signs) e = same_count (said g (c ∷ [])) line signs e
+same_count g [] (sign.finished ∷ signs) e = same_count (finished g) [] signs (finished_shorter g ∙ (omega (arith, e)))
+same_count g (t ∷ line) (sign.finished ∷ signs) e = same_count (finished g) line signs (finished_shorter g ∙ (omega (arith, e)))
+
+pub open_count : (signs : List Sign) → length (told_all nothing_read signs).line ≡ length (line_of [] signs)
+open_count signs = same_count nothing_read [] signs refl
+
+-- ---- what is sought after one more sign
+
+pub sought_next : (signs : List Sign) (next : Sign) → sought (signs ++ next ∷ []) ≡ seek (length (line_of [] signs)) (sought signs) next
+sought_next signs next = seeks_append [] first_child signs (next ∷ [])
+
+pub sought_said : (signs : List Sign) (chars : Chars) → sought (signs ++ map sign.said chars) ≡ sought signs
+sought_said signs chars = seeks_append [] first_child signs (map sign.said chars) ∙ said_seeks (line_of [] signs) (sought signs) chars
+
+-- ---- what a collector stands for
+
+pub on_ok : {A E P Q : Type 0} (r : Result A E) → (P → Q) → OnOk r P → OnOk r Q
+on_ok (Ok a) f h = f h
+on_ok (Err e) f h = h
+
+-- one sign more
+pub collects_next : (setting : Setting) (old new : Collector) (signs : List Sign) (next : Sign) (count : ℕ) → count ≡ length old.table.line
+    → new.address ≡ old.address → new.table ≡ told old.table next → BaseMoves old.address (λ seeking. seek count seeking next) old.base new.base
+    → Collects setting old signs → Collects setting new (signs ++ next ∷ [])
+collects_next setting old new signs next count counted address table base c =
+    let lines : count ≡ length (line_of [] signs) = counted ∙ ap (λ (g : Growing). length g.line) c.table_is ∙ open_count signs in
+    let moved : BaseIs old.address (seek count (sought signs) next) new.base = base (sought signs) (subst (λ a. BaseIs a (sought signs) old.base) (sym c.address_is) c.base_is) in
+    let there : BaseIs setting.address (seek count (sought signs) next) new.base = subst (λ a. BaseIs a (seek count (sought signs) next) new.base) c.address_is moved in
+    record {
+      address_is = address ∙ c.address_is;
+      table_is = table ∙ ap (λ (g : Growing). told g next) c.table_is ∙ sym (told_append nothing_read signs (next ∷ []));
+      base_is = subst (λ s. BaseIs setting.address s new.base) (ap (λ n. seek n (sought signs) next) lines ∙ sym (sought_next signs next)) there;
+    }
+
+-- text
+pub collects_said : (setting : Setting) (old new : Collector) (signs : List Sign) (chars : Chars) → new.address ≡ old.address → new.base ≡ old.base → new.table ≡ said old.table chars
+    → Collects setting old signs → Collects setting new (signs ++ map sign.said chars)
+collects_said setting old new signs chars address base table c = record {
+  address_is = address ∙ c.address_is;
+  table_is =
+      table ∙ ap (λ (g : Growing). said g chars) c.table_is ∙ sym (told_said (told_all nothing_read signs) chars)
+      ∙ sym (told_append nothing_read signs (map sign.said chars));
+  base_is = subst (λ (b : Base). BaseIs setting.address (sought (signs ++ map sign.said chars)) b) (sym base)
+      (subst (λ s. BaseIs setting.address s old.base) (sym (sought_said signs chars)) c.base_is);
+}

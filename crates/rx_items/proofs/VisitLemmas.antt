@@ -1,0 +1,292 @@
+-- The visit of an item, and those of its properties.
+use Rattle.std.proofs.Common.{◌≡◌, ◌∙◌, ◌+◌, ◌<◌, ◌≤◌, ℕ, zero, suc, Bool, true, false, ◌==◌, cond, List, [], ◌∷◌, ◌++◌, map, length, take, drop, get_or, Option, Some, None, option_map, refl, sym, ap, subst, arith, nat_lt, append_assoc, encode_utf8_all}
+use Rattle.std.specs.Prelude.{flat_map, nat_le, slice_get, Result, Ok, Err, IsErrAnd}
+use Rattle.std.specs.List.{list_any}
+use Rattle.std.specs.Option.{option_or}
+use Rattle.std.proofs.lemmas.List.{append-nil, take_all, map-append}
+use Rattle.serde_json.specs.Data.{Data, Members}
+use Rattle.serde_json.specs.View.{view}
+use Rattle.serde_json.specs.declared.value.Value.{Value}
+use Rattle.rx_terms.specs.Text.{Chars}
+use Rattle.rx_grammar.specs.declared.faults.Fault.{Fault}
+use Rattle.rx_grammar.specs.declared.faults.Kind.{Kind}
+use Rattle.rx_grammar.specs.declared.faults.Kind.TheVariants.{Cycle, ItemsTooNested, ItemsTooMany}
+use Rattle.rx_tags.specs.declared.stops.Stop.{Stop}
+use Rattle.rx_tags.specs.declared.stops.Stop.TheVariants as stop
+use Rattle.rx_microdata.specs.Facts.{said}
+use Rattle.rx_microdata.specs.Elements.{Placed, is_item, names_of}
+use Rattle.rx_microdata.specs.Visits.{Visit, visits_from, standard_bounds, fault_of, first_fault, is_cycle, items_in}
+use Rattle.rx_microdata.specs.Json.{string_of, item_of, json_of_item, refused, Refused}
+use Rattle.rx_items.specs.Rows.{properties_in}
+use Rattle.rx_items.specs.Held.{HoldsRows, ShowsElement, places}
+use Rattle.rx_items.specs.Groups.{with_last}
+use Rattle.rx_items.specs.Expanding.{At, AllStand, path_of, kind_of, NoFault, FaultIs, Told, Finds, Did, Goes, Enters, Step, with_name, steps_of, steps_in, visits_of, visits_in, data_of, pair_of, grouped_in}
+use Rattle.rx_items.specs.declared.kept.Element.{Element}
+use Rattle.rx_items.specs.declared.kept.Kept.{Kept}
+use Rattle.rx_items.specs.declared.visits.Trail.{Trail}
+use Rattle.rx_items.proofs.FoundLemmas.{none_then, none_at_all, fault_is, path_size, steps_pairs, steps_visits, did_more, fault_more, fault_stays}
+use Rattle.rx_items.proofs.HoldLemmas.{list_is, has_element, shows_at, all_stand, place_is}
+
+-- what `?` hands on
+pub err_told : {X E : Type 0} (P : Result X E → Type 0) (r : Result X E) (x : E) → IsErrAnd r (λ y. y ≡ x) → P (Err x) → P r
+err_told P (Ok v) x e p = absurd e
+err_told P (Err y) x e p = subst (λ z. P (Err z)) (sym e) p
+
+pub at_path : {kept : Kept} {rows : List Placed} {base : Chars} {path : List ℕ} {above : Visit} {left : ℕ} (other : List ℕ) → other ≡ path → At kept rows base path above left → At kept rows base other above left
+at_path other e at = record { holds = at.holds; path_is = e ∙ at.path_is; deep = at.deep }
+
+pub no_element : {kept : Kept} {rows : List Placed} {base : Chars} {path : List ℕ} {above : Visit} {left : ℕ} (place : ℕ) (e : Placed) → At kept rows base path above left
+    → slice_get rows place ≡ Some e → length kept.elements.items ≤ place → ⊥
+no_element {kept} {rows} place e at row over =
+    let lt = has_element kept.words kept.text kept.times.items kept.elements.items rows place e at.holds.shown row in absurd (omega (arith, lt, over))
+
+pub shown_in : {kept : Kept} {rows : List Placed} {base : Chars} {path : List ℕ} {above : Visit} {left : ℕ} (place : ℕ) (element : Element) (e : Placed) → At kept rows base path above left
+    → slice_get rows place ≡ Some e → slice_get kept.elements.items place ≡ Some element → ShowsElement kept.words kept.text kept.times.items element e
+shown_in {kept} {rows} place element e at row found = shows_at kept.words kept.text kept.times.items kept.elements.items rows place element e at.holds.shown found row
+
+pub cut_at : {X : Type 0} (xs : List X) (i : ℕ) (d : X) → i < length xs → xs ≡ take i xs ++ (get_or xs i d ∷ drop (i + 1) xs)
+cut_at [] i d lt = absurd (omega arith)
+cut_at (x ∷ xs) zero d lt = refl
+cut_at {X} (x ∷ xs) (suc i) d lt =
+    let up : suc (i + 1) ≡ suc i + 1 = omega arith in
+    ap (λ (l : List X). x ∷ l) (cut_at xs i d (omega arith)) ∙ ap (λ n. x ∷ (take i xs ++ get_or xs i d ∷ drop n (x ∷ xs))) up
+
+pub one_more : {X : Type 0} (xs : List X) (i : ℕ) (d : X) → i < length xs → take (i + 1) xs ≡ take i xs ++ get_or xs i d ∷ []
+one_more [] i d lt = absurd (omega arith)
+one_more (x ∷ xs) zero d lt = refl
+one_more {X} (x ∷ xs) (suc i) d lt =
+    let up : suc i + 1 ≡ suc (i + 1) = omega arith in
+    ap (λ n. take n (x ∷ xs)) up ∙ ap (λ (l : List X). x ∷ l) (one_more xs i d (omega arith))
+
+module _ (rows : List Placed) (base : Chars) (above : Visit) (left : ℕ) where
+  -- ---- a property under each of its names
+
+  pub value_err : (start before : ℕ) (done : List Step) (e : Placed) (names : List Chars) (i : ℕ) (old : Members) (x : Stop) → names ≡ names_of e → i < length names
+      → Did rows base above left start (done ++ map (with_name e) (take i names)) before old → Told before (visits_of rows base above left e) x
+      → Told start (visits_in rows base above left (done ++ steps_of e)) x
+  value_err start before done e names i old stop.NoMemory is lt d f = tt
+  value_err start before done e names i old (stop.Fault fault) is lt d f =
+      let name = get_or names i [] in
+      let all : done ++ steps_of e ≡ (done ++ map (with_name e) (take i names)) ++ (with_name e name ∷ map (with_name e) (drop (i + 1) names)) =
+      ap (λ (ns : List Chars). done ++ map (with_name e) ns) (sym is ∙ cut_at names i [] lt)
+      ∙ ap (λ (l : List Step). done ++ l) (map-append (with_name e) (take i names) (name ∷ drop (i + 1) names))
+      ∙ sym (append_assoc done (map (with_name e) (take i names)) (with_name e name ∷ map (with_name e) (drop (i + 1) names))) in
+      subst (λ (steps : List Step). FaultIs start (visits_in rows base above left steps) fault) (sym all)
+      (fault_more rows base above left start before (done ++ map (with_name e) (take i names)) (map (with_name e) (drop (i + 1) names)) e name old fault d f)
+
+  pub value_on : (start before after : ℕ) (done : List Step) (e : Placed) (names : List Chars) (i : ℕ) (name : Chars) (old new : Members) → i < length names → name ≡ get_or names i name
+      → Did rows base above left start (done ++ map (with_name e) (take i names)) before old → NoFault before (visits_of rows base above left e) after
+      → new ≡ with_last (encode_utf8_all name) (data_of rows base above left e) old
+      → Did rows base above left start (done ++ map (with_name e) (take (i + 1) names)) after new
+  value_on start before after done e names i name old new lt is d f g =
+      let all : (done ++ map (with_name e) (take i names)) ++ with_name e name ∷ [] ≡ done ++ map (with_name e) (take (i + 1) names) =
+      append_assoc done (map (with_name e) (take i names)) (with_name e name ∷ [])
+      ∙ ap (λ (l : List Step). done ++ l) (sym (map-append (with_name e) (take i names) (name ∷ [])))
+      ∙ ap (λ (ns : List Chars). done ++ map (with_name e) ns) (ap (λ (n : Chars). take i names ++ n ∷ []) is ∙ sym (one_more names i name lt)) in
+      subst (λ (steps : List Step). Did rows base above left start steps after new) all
+      (did_more rows base above left start before after (done ++ map (with_name e) (take i names)) e name old new d f g)
+
+  pub names_end : (start visits : ℕ) (done : List Step) (e : Placed) (names : List Chars) (i : ℕ) (members : Members) → names ≡ names_of e → length names ≤ i
+      → Did rows base above left start (done ++ map (with_name e) (take i names)) visits members → Did rows base above left start (done ++ steps_of e) visits members
+  names_end start visits done e names i members is over d =
+      subst (λ (steps : List Step). Did rows base above left start steps visits members) (ap (λ (ns : List Chars). done ++ map (with_name e) ns) (take_all i names over ∙ is)) d
+
+  -- ---- properties in a row
+
+  steps_append : (xs ys : List Placed) → steps_in (xs ++ ys) ≡ steps_in xs ++ steps_in ys
+  steps_append [] ys = refl
+  steps_append (x ∷ xs) ys = ap (λ (l : List Step). steps_of x ++ l) (steps_append xs ys) ∙ sym (append_assoc (steps_of x) (steps_in xs) (steps_in ys))
+
+  steps_one : (es : List Placed) (i : ℕ) (e : Placed) → i < length es → e ≡ get_or es i e → steps_in (take (i + 1) es) ≡ steps_in (take i es) ++ steps_of e
+  steps_one es i e lt is =
+      ap steps_in (one_more es i e lt) ∙ steps_append (take i es) (get_or es i e ∷ []) ∙ ap (λ (l : List Step). steps_in (take i es) ++ l) (append-nil (steps_of (get_or es i e)))
+      ∙ ap (λ (x : Placed). steps_in (take i es) ++ steps_of x) (sym is)
+
+  pub property_err : (start : ℕ) (es : List Placed) (i : ℕ) (e : Placed) (x : Stop) → i < length es → e ≡ get_or es i e
+      → Told start (visits_in rows base above left (steps_in (take i es) ++ steps_of e)) x → Told start (visits_in rows base above left (steps_in es)) x
+  property_err start es i e stop.NoMemory lt is f = tt
+  property_err start es i e (stop.Fault fault) lt is f =
+      let all : steps_in es ≡ (steps_in (take i es) ++ steps_of e) ++ steps_in (drop (i + 1) es) =
+      ap steps_in (cut_at es i e lt) ∙ steps_append (take i es) (get_or es i e ∷ drop (i + 1) es)
+      ∙ sym (append_assoc (steps_in (take i es)) (steps_of (get_or es i e)) (steps_in (drop (i + 1) es)))
+      ∙ ap (λ (x : Placed). (steps_in (take i es) ++ steps_of x) ++ steps_in (drop (i + 1) es)) (sym is) in
+      subst (λ (steps : List Step). FaultIs start (visits_in rows base above left steps) fault) (sym all)
+      (fault_stays rows base above left start (steps_in (take i es) ++ steps_of e) (steps_in (drop (i + 1) es)) fault f)
+
+  pub property_on : (start after : ℕ) (es : List Placed) (i : ℕ) (e : Placed) (members : Members) → i < length es → e ≡ get_or es i e
+      → Did rows base above left start (steps_in (take i es) ++ steps_of e) after members → Did rows base above left start (steps_in (take (i + 1) es)) after members
+  property_on start after es i e members lt is d = subst (λ (steps : List Step). Did rows base above left start steps after members) (sym (steps_one es i e lt is)) d
+
+  pub properties_end : (start visits : ℕ) (es : List Placed) (i : ℕ) (members : Members) → length es ≤ i → Did rows base above left start (steps_in (take i es)) visits members
+      → NoFault start (visits_in rows base above left (steps_in es)) visits × (members ≡ grouped_in rows base above left (steps_in es))
+  properties_end start visits es i members over d =
+      let all = subst (λ (xs : List Placed). Did rows base above left start (steps_in xs) visits members) (take_all i es over) d in (all.no_fault, all.grouped)
+
+  -- ---- a value
+
+  pub value_item : (e : Placed) (before after : ℕ) (r : Result Value Stop) → is_item e ≡ true
+      → Finds before (visits_from (properties_in rows) (suc left) above e) after (λ value. view value ≡ json_of_item (properties_in rows) base left e) r
+      → Finds before (visits_of rows base above left e) after (λ value. view value ≡ data_of rows base above left e) r
+  value_item e before after r item f =
+      let Found : Bool → Type 0 = λ b.
+      Finds before (elim b as (λ item. List Visit) [ true ↦ visits_from (properties_in rows) (suc left) above e | false ↦ [] ]) after
+      (λ value. view value ≡ elim b as (λ item. Data) [ true ↦ json_of_item (properties_in rows) base left e | false ↦ string_of (said base e.facts.value) ]) r in
+      subst Found (sym item) f
+
+  pub value_plain : (e : Placed) (before : ℕ) (value : Value) → is_item e ≡ false → view value ≡ string_of (said base e.facts.value)
+      → NoFault before (visits_of rows base above left e) before × (view value ≡ data_of rows base above left e)
+  value_plain e before value plain is =
+      let Found : Bool → Type 0 = λ b.
+      NoFault before (elim b as (λ item. List Visit) [ true ↦ visits_from (properties_in rows) (suc left) above e | false ↦ [] ]) before
+      × (view value ≡ elim b as (λ item. Data) [ true ↦ json_of_item (properties_in rows) base left e | false ↦ string_of (said base e.facts.value) ]) in
+      subst Found (sym plain) (none_at_all before, is)
+
+stands_at : (rows es : List Placed) (i : ℕ) (e : Placed) → AllStand rows es → slice_get es i ≡ Some e → slice_get rows e.place ≡ Some e
+stands_at rows [] i e s g = absurd (cc (g))
+stands_at rows (x ∷ es) zero e s g = let same : x ≡ e = cc (g) in subst (λ (y : Placed). slice_get rows y.place ≡ Some y) same s.0
+stands_at rows (x ∷ es) (suc i) e s g = stands_at rows es i e s.1 g
+
+-- the row that a place of the list stands for
+pub record RowAt (rows es : List Placed) (i place : ℕ) : Type 0 where
+  pub row : Placed
+  pub row_is : slice_get rows place ≡ Some row
+  pub within : i < length es
+  pub is : row ≡ get_or es i row
+
+pub row_at : (rows es : List Placed) (list : List ℕ) (i : ℕ) → list ≡ places es → AllStand rows es → i < length list → RowAt rows es i (get_or list i 0)
+row_at rows es list i is stand lt = subst (λ (l : List ℕ). RowAt rows es i (get_or l i 0)) (sym is) (go es i stand (subst (λ (l : List ℕ). i < length l) is lt))
+  where
+    go : (es : List Placed) (i : ℕ) → AllStand rows es → i < length (places es) → RowAt rows es i (get_or (places es) i 0)
+    go [] i s lt = absurd (omega (arith, lt))
+    go (e ∷ es) zero s lt = record { row = e; row_is = s.0; within = omega arith; is = refl }
+    go (e ∷ es) (suc i) s lt =
+        let r = go es i s.1 (omega (arith, lt)) in
+        let within = r.within in
+        record { row = r.row; row_is = r.row_is; within = omega (arith, within); is = r.is }
+
+-- ---- the visit itself
+
+pub enter_err : (above : Visit) (root : Placed) (place : ℕ) (left : ℕ) (P : Placed → List Placed) (old new : Trail) (element : Element) (x : Stop)
+    → old.path.items ≡ path_of above → root.place ≡ place → element.token ≡ root.facts.token → element.at ≡ root.facts.at → Enters old new element place (Err x)
+    → Told old.visits (visits_from P (suc left) above root) x
+enter_err above root place left P old new element stop.NoMemory is at token decides f = tt
+enter_err above root place left P old new element (stop.Fault fault) is at token decides f =
+    let fault_kind : fault_of standard_bounds old.visits (root ∷ above) ≡ Some f.0 = fault_is old.visits above root ∙ (λ i. kind_of (sym is i) old.visits (at i)) ∙ f.1 in
+    record {
+      kind = f.0;
+      visit = root ∷ above;
+      found = ap (λ (o : Option Kind). option_or (option_map (λ (kind : Kind). (kind, root ∷ above)) o) (first_fault standard_bounds (suc old.visits) (behind_first P left above root))) fault_kind;
+      is = ap Refused (sym (f.2 ∙ (λ i. record { kind = f.0; token = token i; at = decides i })));
+    }
+  where
+    behind_first : (Placed → List Placed) → ℕ → Visit → Placed → List Visit
+    behind_first P left above root = drop 1 (visits_from P (suc left) above root)
+
+places_size : (es : List Placed) → length (places es) ≡ length es
+places_size [] = refl
+places_size (e ∷ es) = ap suc (places_size es)
+
+pub list_end : (list : List ℕ) (es : List Placed) (i : ℕ) → list ≡ places es → length list ≤ i → length es ≤ i
+list_end list es i is over = let size = ap (λ (l : List ℕ). length l) is ∙ places_size es in omega (arith, size, over)
+
+pub told : {X : Type 0} (start after : ℕ) (visits : List Visit) (Given : X → Type 0) (r : Result X Stop) (x : Stop) → IsErrAnd r (λ y. y ≡ x) → Told start visits x → Finds {X = X} start visits after Given r
+told {X} start after visits Given r x is f = err_told (λ (r : Result X Stop). Finds {X = X} start visits after Given r) r x is f
+
+not_cycle : (before : ℕ) (visit : Visit) → fault_of standard_bounds before visit ≡ None → is_cycle visit ≡ false
+not_cycle before visit none = by (is_cycle visit) none
+  where
+    by : (b : Bool) → cond b (Some Cycle) (cond (nat_lt 40 (length visit)) (Some ItemsTooNested) (cond (nat_le 100000 before) (Some ItemsTooMany) None)) ≡ None → b ≡ false
+    by true e = absurd (cc (e))
+    by false e = refl
+
+not_deep : (path : List ℕ) (visits place : ℕ) → kind_of path visits place ≡ None → nat_le 40 (length path) ≡ false
+not_deep path visits place none = by (list_any (λ (x : ℕ). x == place) path) (nat_le 40 (length path)) none
+  where
+    by : (b d : Bool) → cond b (Some Cycle) (cond d (Some ItemsTooNested) (cond (nat_le 100000 visits) (Some ItemsTooMany) None)) ≡ None → d ≡ false
+    by true d e = absurd (cc (e))
+    by false true e = absurd (cc (e))
+    by false false e = refl
+
+-- a visit that has begun
+pub record Entered (kept : Kept) (rows : List Placed) (base : Chars) (path : List ℕ) (above : Visit) (left before : ℕ) (root : Placed) : Type 0 where
+  pub room : ℕ
+  pub left_is : left ≡ suc room
+  pub at : At kept rows base path (root ∷ above) room
+  pub no_fault : fault_of standard_bounds before (root ∷ above) ≡ None
+
+pub enter_ok : (kept : Kept) (rows : List Placed) (base : Chars) (above : Visit) (left : ℕ) (root : Placed) (place : ℕ) (old new : Trail) (element : Element) → At kept rows base old.path.items above left
+    → slice_get rows place ≡ Some root → Enters old new element place (Ok tt) → Entered kept rows base new.path.items above left old.visits root
+enter_ok kept rows base above left root place old new element at row f = by left at.deep
+  where
+    place_at : root.place ≡ place
+    place_at = place_is rows place root at.holds.numbered row
+
+    short : length above < 40
+    short =
+        let deep = not_deep old.path.items old.visits place f.0 in
+        let size = ap (λ (l : List ℕ). length l) at.path_is ∙ path_size above in
+        shorter (length old.path.items) (length above) deep size
+      where
+        shorter : (n m : ℕ) → nat_le 40 n ≡ false → n ≡ m → m < 40
+        shorter n m deep size = grind (arith, deep, size)
+
+    by : (left : ℕ) → left + length above ≡ 40 → Entered kept rows base new.path.items above left old.visits root
+    by zero deep = let lt = short in absurd (omega (arith, deep, lt))
+    by (suc room) deep = record {
+      room = room;
+      left_is = refl;
+      at = record {
+        holds = at.holds;
+        path_is = f.1 ∙ (λ i. at.path_is i ++ sym place_at i ∷ []);
+        deep = omega (arith, deep);
+      };
+      no_fault = fault_is old.visits above root ∙ (λ i. kind_of (sym at.path_is i) old.visits (place_at i)) ∙ f.0;
+    }
+
+module _ (rows : List Placed) (base : Chars) (above : Visit) (root : Placed) (room : ℕ) where
+  inner : List Visit
+  inner = visits_in rows base (root ∷ above) room (steps_in (properties_in rows root))
+
+  opened : is_cycle (root ∷ above) ≡ false → visits_from (properties_in rows) (suc (suc room)) above root ≡ (root ∷ above) ∷ inner
+  unfolding inner
+  opened plain =
+      ap (λ b. (root ∷ above) ∷ elim b as (λ cycle. List Visit) [ true ↦ [] | false ↦ flat_map (visits_from (properties_in rows) (suc room) (root ∷ above)) (items_in (properties_in rows root)) ]) plain
+      ∙ ap (λ (vs : List Visit). (root ∷ above) ∷ vs) (sym (steps_visits rows base (root ∷ above) room (properties_in rows root)))
+
+  first_then : (before : ℕ) (vs : List Visit) → fault_of standard_bounds before (root ∷ above) ≡ None → first_fault standard_bounds before ((root ∷ above) ∷ vs) ≡ first_fault standard_bounds (before + 1) vs
+  first_then before vs none =
+      let next : suc before ≡ before + 1 = omega arith in
+      ap (λ (o : Option Kind). option_or (option_map (λ (kind : Kind). (kind, root ∷ above)) o) (first_fault standard_bounds (suc before) vs)) none
+      ∙ ap (λ n. first_fault standard_bounds n vs) next
+
+  pub group_err : (before middle : ℕ) (x : Stop) → fault_of standard_bounds before (root ∷ above) ≡ None → middle ≡ before + 1
+      → Told middle (visits_in rows base (root ∷ above) room (steps_in (properties_in rows root))) x → Told before (visits_from (properties_in rows) (suc (suc room)) above root) x
+  unfolding inner
+  group_err before middle stop.NoMemory none next f = tt
+  group_err before middle (stop.Fault fault) none next f = record {
+    kind = f.kind;
+    visit = f.visit;
+    found = ap (first_fault standard_bounds before) (opened (not_cycle before (root ∷ above) none)) ∙ first_then before inner none ∙ ap (λ n. first_fault standard_bounds n inner) (sym next) ∙ f.found;
+    is = f.is;
+  }
+
+  pub group_ok : (before middle after : ℕ) → fault_of standard_bounds before (root ∷ above) ≡ None → middle ≡ before + 1
+      → NoFault middle (visits_in rows base (root ∷ above) room (steps_in (properties_in rows root))) after → NoFault before (visits_from (properties_in rows) (suc (suc room)) above root) after
+  unfolding inner
+  group_ok before middle after none next f =
+      let all = opened (not_cycle before (root ∷ above) none) in
+      let counted = f.counted in
+      let size : length (visits_from (properties_in rows) (suc (suc room)) above root) ≡ suc (length inner) = ap (λ (vs : List Visit). length vs) all in
+      record {
+        none = ap (first_fault standard_bounds before) all ∙ first_then before inner none ∙ ap (λ n. first_fault standard_bounds n inner) (sym next) ∙ f.none;
+        counted = sum before middle after (length (visits_from (properties_in rows) (suc (suc room)) above root)) (length inner) next counted size;
+      }
+    where
+      sum : (b m a n k : ℕ) → m ≡ b + 1 → a ≡ m + k → n ≡ suc k → a ≡ b + n
+      sum b m a n k e f g = omega (arith, e, f, g)
+
+  pub json_is : (value : Data) (own : Chars) → own ≡ base → value ≡ item_of own root.facts (map (pair_of rows base (root ∷ above) room) (steps_in (properties_in rows root)))
+      → value ≡ json_of_item (properties_in rows) base (suc room) root
+  json_is value own same is =
+      is ∙ ap (λ (b : Chars). item_of b root.facts (map (pair_of rows base (root ∷ above) room) (steps_in (properties_in rows root)))) same
+      ∙ ap (item_of base root.facts) (steps_pairs rows base (root ∷ above) room (properties_in rows root))

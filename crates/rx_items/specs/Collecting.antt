@@ -1,0 +1,51 @@
+-- What is kept of a page while its elements are told: the table, and the base as far as it is known.
+use Rattle.std.specs.Prelude.{◌≡◌, List, [], ◌∷◌, Option, Some, None}
+use Rattle.rx_terms.specs.Text.{Chars}
+use Rattle.rx_chars.specs.declared.syntax.Syntax.{Syntax}
+use Rattle.rx_grammar.specs.declared.limits.Limits.{Limits}
+use Rattle.rx_rdfa.specs.Base.{base_by}
+use Rattle.rx_nest.specs.Signs as sign
+use Rattle.rx_nest.specs.Signs.{Sign}
+use Rattle.rx_reading.specs.Ways.{Way, refuses_none}
+use Rattle.rx_base.specs.Seekings.{Seeking, known, sought}
+use Rattle.rx_base.specs.Sought.{sought_seen}
+use Rattle.rx_items.specs.declared.collectors.Base.{Base}
+use Rattle.rx_items.specs.declared.collectors.Base.TheVariants as base
+use Rattle.rx_items.specs.declared.collectors.Collector.{Collector}
+use Rattle.rx_items.specs.Growing.{Growing, begun, said, finished}
+use Rattle.rx_items.specs.Showing.{tag_in, nothing_read}
+
+-- how a page is read by Microdata's rules: its syntax and limits, and its address
+pub record Setting : Type 0 where
+  pub syntax : Syntax
+  pub limits : Limits
+  pub address : Chars
+
+-- no start tag is refused for what it means
+abbrev pub way_of : Setting → Way
+way_of setting = record { syntax = setting.syntax; limits = setting.limits; refused = refuses_none }
+
+-- the table after a sign
+abbrev pub told : Growing → Sign → Growing
+told g (sign.begun t) = begun g (tag_in t) t.token t.at
+told g (sign.said c) = said g (c ∷ [])
+told g sign.finished = finished g
+
+abbrev pub told_all : Growing → List Sign → Growing
+told_all g [] = g
+told_all g (first ∷ more) = told_all (told g first) more
+
+-- the base of a page at an address, of which this is known
+abbrev pub BaseIs : Chars → Seeking → Base → Type 0
+BaseIs address seeking (base.Sought looks) = seeking ≡ sought_seen looks
+BaseIs address seeking (base.Known iri) = (href : Option Chars) × (seeking ≡ known href) × (iri ≡ base_by href address)
+
+-- the base, where more is told
+abbrev pub BaseMoves : Chars → (Seeking → Seeking) → Base → Base → Type 0
+BaseMoves address move old new = (seeking : Seeking) → BaseIs address seeking old → BaseIs address (move seeking) new
+
+-- The collector was told these signs of a page.
+pub record Collects (setting : Setting) (collector : Collector) (signs : List Sign) : Type 0 where
+  pub address_is : collector.address ≡ setting.address
+  pub table_is : collector.table ≡ told_all nothing_read signs
+  pub base_is : BaseIs setting.address (sought signs) collector.base

@@ -1,0 +1,115 @@
+-- The visits of an item's properties, one after another, and the JSON that they come to.
+use Rattle.std.specs.Prelude.{◌≡◌, ⊤, ℕ, zero, suc, ◌+◌, Bool, true, false, ◌==◌, nat_le, List, [], ◌∷◌, ◌++◌, map, flat_map, length, slice_get, Option, Some, None, Result, Ok, Err, if◌then◌else◌}
+use Rattle.std.specs.List.{list_any}
+use Rattle.serde_json.specs.Data.{Data, Members}
+use Rattle.serde_json.specs.declared.value.Value.{Value}
+use Rattle.rx_terms.specs.Text.{Chars}
+use Rattle.rx_grammar.specs.declared.faults.Fault.{Fault}
+use Rattle.rx_grammar.specs.declared.faults.Kind.{Kind}
+use Rattle.rx_grammar.specs.declared.faults.Kind.TheVariants.{Cycle, ItemsTooNested, ItemsTooMany}
+use Rattle.rx_tags.specs.declared.stops.Stop.{Stop}
+use Rattle.rx_tags.specs.declared.stops.Stop.TheVariants as stop
+use Rattle.rx_microdata.specs.Facts.{said}
+use Rattle.rx_microdata.specs.Elements.{Placed, is_item, names_of}
+use Rattle.rx_microdata.specs.Visits.{Visit, visits_from, standard_bounds, first_fault}
+use Rattle.rx_microdata.specs.Json.{string_of, json_of_item, grouped, refused, Refused}
+use Rattle.rx_items.specs.Rows.{properties_in}
+use Rattle.rx_items.specs.Held.{HoldsRows}
+use Rattle.rx_items.specs.declared.kept.Kept.{Kept}
+use Rattle.rx_items.specs.declared.kept.Element.{Element}
+use Rattle.rx_items.specs.declared.visits.Trail.{Trail}
+
+-- the places of the items on a path, the outermost first
+abbrev pub path_of : Visit → List ℕ
+path_of [] = []
+path_of (e ∷ above) = path_of above ++ e.place ∷ []
+
+-- what is wrong with a visit to the item at this place
+abbrev pub kind_of : List ℕ → ℕ → ℕ → Option Kind
+kind_of path visits place =
+    if list_any (λ (x : ℕ). x == place) path then Some Cycle
+    else if nat_le 40 (length path) then Some ItemsTooNested
+    else if nat_le 100000 visits then Some ItemsTooMany
+    else None
+
+-- rows that are held, on a path below which so many items may nest
+pub record At (kept : Kept) (rows : List Placed) (base : Chars) (path : List ℕ) (above : Visit) (left : ℕ) : Type 0 where
+  pub holds : HoldsRows kept rows base
+  pub path_is : path ≡ path_of above
+  pub deep : left + length above ≡ 40
+
+-- a property under one of its names
+pub record Step : Type 0 where
+  pub element : Placed
+  pub name : Chars
+
+abbrev pub with_name : Placed → Chars → Step
+with_name e name = record { element = e; name = name }
+
+abbrev pub steps_of : Placed → List Step
+steps_of e = map (with_name e) (names_of e)
+
+abbrev pub steps_in : List Placed → List Step
+steps_in es = flat_map steps_of es
+
+-- the first fault of visits before which so many stand is this one
+pub record FaultIs (before : ℕ) (visits : List Visit) (fault : Fault) : Type 0 where
+  pub kind : Kind
+  pub visit : Visit
+  pub found : first_fault standard_bounds before visits ≡ Some (kind, visit)
+  pub is : refused kind visit ≡ Refused fault
+
+-- no visit is faulty, and so many stand behind them
+pub record NoFault (before : ℕ) (visits : List Visit) (after : ℕ) : Type 0 where
+  pub none : first_fault standard_bounds before visits ≡ None
+  pub counted : after ≡ before + length visits
+
+-- these visits have the fault that stops, or there was no memory
+abbrev pub Told : ℕ → List Visit → Stop → Type 0
+Told before visits stop.NoMemory = ⊤
+Told before visits (stop.Fault fault) = FaultIs before visits fault
+
+abbrev pub Finds : {X : Type 0} → ℕ → List Visit → ℕ → (X → Type 0) → Result X Stop → Type 0
+Finds before visits after Given (Ok x) = NoFault before visits after × Given x
+Finds before visits after Given (Err why) = Told before visits why
+
+module _ (rows : List Placed) (base : Chars) (above : Visit) (left : ℕ) where
+  -- the visits that a property makes under one of its names
+  abbrev pub visits_of : Placed → List Visit
+  visits_of e = elim (is_item e) as (λ item. List Visit) [ true ↦ visits_from (properties_in rows) (suc left) above e | false ↦ [] ]
+
+  abbrev pub data_of : Placed → Data
+  data_of e = elim (is_item e) as (λ item. Data) [ true ↦ json_of_item (properties_in rows) base left e | false ↦ string_of (said base e.facts.value) ]
+
+  abbrev pub visits_in : List Step → List Visit
+  visits_in steps = flat_map (λ (s : Step). visits_of s.element) steps
+
+  abbrev pub pair_of : Step → Chars × Data
+  pair_of s = (s.name, data_of s.element)
+
+  abbrev pub grouped_in : List Step → Members
+  grouped_in steps = grouped (map pair_of steps)
+
+-- each of these is the row at its place
+abbrev pub AllStand : List Placed → List Placed → Type 0
+AllStand rows [] = ⊤
+AllStand rows (e ∷ es) = (slice_get rows e.place ≡ Some e) × AllStand rows es
+
+module _ (rows : List Placed) (base : Chars) (above : Visit) (left : ℕ) where
+  -- these steps were taken without a fault, and their values stand under their names
+  pub record Did (start : ℕ) (steps : List Step) (visits : ℕ) (members : Members) : Type 0 where
+    pub no_fault : NoFault start (visits_in rows base above left steps) visits
+    pub grouped : members ≡ grouped_in rows base above left steps
+
+  -- these steps are taken, or the first fault is told
+  abbrev pub Goes : ℕ → List Step → ℕ → Members → Result (Unit {0}) Stop → Type 0
+  Goes start steps visits group (Ok x) = Did start steps visits group
+  Goes start steps visits group (Err why) = Told start (visits_in rows base above left steps) why
+
+-- a visit begins, or is refused
+abbrev pub Enters : Trail → Trail → Element → ℕ → Result (Unit {0}) Stop → Type 0
+Enters old new element place (Ok x) =
+    (kind_of old.path.items old.visits place ≡ None) × (new.path.items ≡ old.path.items ++ place ∷ []) × (new.visits ≡ old.visits + 1)
+Enters old new element place (Err stop.NoMemory) = ⊤
+Enters old new element place (Err (stop.Fault fault)) =
+    (kind : Kind) × (kind_of old.path.items old.visits place ≡ Some kind) × (fault ≡ record { kind = kind; token = element.token; at = element.at })

@@ -1,0 +1,38 @@
+-- What a walk for a page's items stands for, and what its calls answer of a page's bytes.
+use Rattle.std.specs.Prelude.{◌≡◌, ℕ, List, length, Result, Ok, Err}
+use Rattle.rx_grammar.specs.declared.faults.Kind.TheVariants.{Unended}
+use Rattle.rx_grammar.specs.Pages.{Page}
+use Rattle.rx_grammar.specs.PageFaults.{FaultAt}
+use Rattle.rx_grammar.specs.Trees.{Tree}
+use Rattle.rx_tags.specs.declared.stops.Stop.{Stop}
+use Rattle.rx_tags.specs.declared.stops.Stop.TheVariants as stop
+use Rattle.rx_reading.specs.Readings as readings
+use Rattle.rx_reading.specs.Readings.{Read}
+use Rattle.rx_microdata.specs.Base.{base_in}
+use Rattle.rx_items.specs.Rows.{rows_of}
+use Rattle.rx_items.specs.Held.{HoldsRows}
+use Rattle.rx_items.specs.Collecting.{Setting, way_of, Collects}
+use Rattle.rx_items.specs.declared.collectors.Collector.{Collector}
+use Rattle.rx_items.specs.declared.kept.Kept.{Kept}
+
+-- the page's elements as they are read, what is kept of them, the fault that was answered, and want of memory
+abbrev pub Walked : Type 0
+Walked = Read Collector
+
+-- The walk stands for these bytes of a page: its elements were told, and nothing is due.
+abbrev pub Stands : Setting → Walked → List ℕ → Type 0
+Stands setting walk bytes = readings.Stands (way_of setting) (Collects setting) walk bytes
+
+abbrev pub FeedGives : Setting → List ℕ → List ℕ → Result (Unit {0}) Stop → Walked → Type 0
+FeedGives setting bytes piece result new = readings.FeedGives (way_of setting) (Collects setting) bytes piece result new
+
+-- The bytes are a page, and its items are kept, with the base of the page at its address.
+pub record Ended (setting : Setting) (bytes : List ℕ) (kept : Kept) : Type 0 where
+  pub tree : Tree
+  pub page : Page setting.syntax setting.limits bytes tree
+  pub holds : HoldsRows kept (rows_of tree) (base_in setting.address tree)
+
+abbrev pub EndGives : Setting → List ℕ → Result Kept Stop → Type 0
+EndGives setting bytes (Ok kept) = Ended setting bytes kept
+EndGives setting bytes (Err (stop.Fault fault)) = FaultAt setting.syntax setting.limits bytes fault × (fault.kind ≡ Unended) × (fault.at ≡ length bytes)
+EndGives setting bytes (Err stop.NoMemory) = Unit {0}

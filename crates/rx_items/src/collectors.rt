@@ -1,0 +1,163 @@
+//! What is kept of a page while its elements are told.
+ghost use Rattle.std.specs.Prelude.{◌≡◌, ◌∷◌, ◌++◌, [], List, map, IfOk, IsOk, OnOk};
+ghost use Rattle.std.proofs.Common.{refl};
+ghost use Rattle.std.specs.Str.{chars};
+ghost use Rattle.rx_rdfa.specs.Base.{base_by};
+ghost use Rattle.rx_refs.specs.Views.{seen_slice};
+ghost use Rattle.rx_nest.specs.Nests.{tag_shown};
+ghost use Rattle.rx_nest.specs.Signs.{Sign, begun, said, finished};
+ghost use Rattle.rx_reading.specs.Listening.{Hears};
+ghost use Rattle.rx_reading.specs.Ways.{none_refuses};
+ghost use Rattle.rx_base.specs.Seekings.{known, seek_begun, seek_finished};
+ghost use Rattle.rx_base.specs.Tags.{tag_of};
+ghost use Rattle.rx_items.specs.Collecting.{Setting, way_of, Collects, BaseIs, BaseMoves};
+ghost use Rattle.rx_items.specs.Growing.{IsIdle};
+
+use crate::tables::Table;
+use rx_base::{Clue, Sought, base};
+use rx_nest::{Event, Stop, Tag};
+use rx_reading::Listener;
+use rx_terms::{Iri, NoMemory};
+use std::alloc::Global;
+
+/// The page's base, or what is looked for until it is known.
+#[derive(Drop)]
+pub(crate) enum Base {
+    Sought(Sought),
+    Known(Iri),
+}
+
+/// What is kept of a page: the table of its elements that matter, and its base.
+#[derive(Drop)]
+pub(crate) struct Collector {
+    pub(crate) alloc: Global,
+    pub(crate) address: Iri,
+    pub(crate) base: Base,
+    pub(crate) table: Table,
+}
+
+impl Collector {
+    /// Before the first element of a page at this address.
+    pub(crate) fn new(alloc: Global, address: Iri) -> Collector
+        ensures { (setting : Setting) → setting.address ≡ address → Collects setting result [] }
+    {
+        Collector {
+            alloc,
+            address,
+            base: Base::Sought(Sought::FirstChild),
+            table: Table::new(alloc),
+        }
+    }
+
+    fn begin(&mut self, tag: &Tag<'_>) -> Result<(), Stop>
+        ensures { (setting : Setting) (signs : List Sign) → Collects setting self.old signs → Hears (way_of setting).refused (Collects setting) signs (begun (tag_shown tag.now) ∷ []) result self.new }
+    {
+        let Ok(()) = begin_base(
+            self.alloc,
+            &self.address,
+            &mut self.base,
+            self.table.depth(),
+            tag,
+        ) else {
+            return Err(Stop::NoMemory);
+        };
+        let Ok(()) = self.table.begin(self.alloc, tag) else {
+            return Err(Stop::NoMemory);
+        };
+        Ok(())
+    }
+
+    fn text(&mut self, text: &str) -> Result<(), Stop>
+        ensures hears { (setting : Setting) (signs : List Sign) → Collects setting self.old signs → Hears (way_of setting).refused (Collects setting) signs (map said (chars text.now)) result self.new }
+        ensures quiet { IsIdle self.old.table → IsOk result × IsIdle self.new.table }
+    {
+        let Ok(()) = self.table.text(text) else {
+            return Err(Stop::NoMemory);
+        };
+        Ok(())
+    }
+
+    fn finish(&mut self) -> Result<(), Stop>
+        ensures { (setting : Setting) (signs : List Sign) → Collects setting self.old signs → Hears (way_of setting).refused (Collects setting) signs (finished ∷ []) result self.new }
+    {
+        let Ok(()) = end_base(
+            self.alloc,
+            &self.address,
+            &mut self.base,
+            self.table.depth(),
+        ) else {
+            return Err(Stop::NoMemory);
+        };
+        self.table.finish();
+        Ok(())
+    }
+}
+
+/// An element begins where so many are open.
+fn begin_base(
+    alloc: Global,
+    address: &Iri,
+    base: &mut Base,
+    count: usize,
+    tag: &Tag<'_>,
+) -> Result<(), NoMemory>
+    ensures { OnOk result (BaseMoves address.now (λ seeking. seek_begun count seeking (tag_of tag.now)) base.old base.new) }
+{
+    let Base::Sought(sought) = base else {
+        return Ok(());
+    };
+    match sought.begun(count, tag) {
+        Clue::Seeks(next) => {
+            *base = Base::Sought(next);
+            Ok(())
+        }
+        Clue::Known(href) => {
+            *base = known_base(alloc, address, href)?;
+            Ok(())
+        }
+    }
+}
+
+/// The innermost of so many elements ends.
+fn end_base(alloc: Global, address: &Iri, base: &mut Base, count: usize) -> Result<(), NoMemory>
+    ensures { OnOk result (BaseMoves address.now (seek_finished count) base.old base.new) }
+{
+    let Base::Sought(sought) = base else {
+        return Ok(());
+    };
+    if sought.ends(count) {
+        *base = known_base(alloc, address, None)?;
+    }
+    Ok(())
+}
+
+fn known_base(alloc: Global, address: &Iri, href: Option<&str>) -> Result<Base, NoMemory>
+    ensures { IfOk result (λ found. BaseIs address.now (known (seen_slice href.entry)) found) }
+{
+    let iri = base(alloc, address, href)?;
+    Ok(Base::Known(iri))
+}
+
+impl Listener for Collector {
+    ghost Setting = { Setting };
+
+    ghost way = { way_of };
+
+    ghost knows = { Collects };
+
+    ghost idle = { λ collector. IsIdle collector.table };
+
+    #[inline]
+    fn hear(&mut self, event: Event<'_>) -> Result<(), Stop> {
+        match event {
+            Event::More | Event::Skipped => Ok(()),
+            Event::Begin(tag) => self.begin(&tag),
+            Event::Text(text) => self.text(text),
+            Event::Finish => self.finish(),
+        }
+    }
+
+    ghost accepts = { λ setting collector signs collects. refl };
+
+    ghost refuses = { λ setting. none_refuses };
+}

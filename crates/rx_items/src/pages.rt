@@ -1,0 +1,73 @@
+//! The JSON of a page's top-level items.
+ghost use Rattle.std.specs.Prelude.{◌≡◌, ◌++◌, [], ℕ, List, Some, map, slice_get, OnOk};
+ghost use Rattle.serde_json.specs.View.{view};
+ghost use Rattle.rx_terms.specs.Text.{Chars};
+ghost use Rattle.rx_microdata.specs.Elements.{Placed};
+ghost use Rattle.rx_microdata.specs.Visits.{standard_bounds};
+ghost use Rattle.rx_items.specs.Rows.{outcome_in};
+ghost use Rattle.rx_items.specs.Held.{HoldsRows};
+ghost use Rattle.rx_items.specs.Expanding.{Finds};
+ghost use Rattle.rx_items.specs.Pages.{JsonGives, TopsGive, top_data, top_visits};
+
+use crate::groups::push_to;
+use crate::kept::Kept;
+use crate::objects::page_object;
+use crate::visits::{Trail, visit};
+use rx_tags::Stop;
+use rx_terms::NoMemory;
+use serde_json::Value;
+use std::alloc::Global;
+
+/// The JSON of a page, or the fault of the first faulty visit.
+pub(crate) fn page_of(alloc: Global, kept: &Kept) -> Result<Value, Stop>
+    ensures { (rows : List Placed) (base : Chars) → HoldsRows kept.now rows base → JsonGives (outcome_in standard_bounds base rows) result }
+{
+    let items = match top_items(alloc, kept) {
+        Ok(items) => items,
+        Err(stop) => return Err(stop),
+    };
+    match page_object(alloc, items) {
+        Ok(value) => Ok(value),
+        Err(NoMemory) => Err(Stop::NoMemory),
+    }
+}
+
+/// The JSON of each top-level item.
+fn top_items(alloc: Global, kept: &Kept) -> Result<Vec<Value>, Stop>
+    ensures { (rows : List Placed) (base : Chars) → HoldsRows kept.now rows base → TopsGive rows base result }
+{
+    let mut trail = Trail {
+        path: Vec::new(alloc),
+        visits: 0,
+    };
+    let mut items = Vec::new(alloc);
+    for place in 0..kept.elements.as_slice().len() {
+        add_top(alloc, kept, &mut trail, &mut items, place)?;
+    }
+    Ok(items)
+}
+
+/// Adds an element where it is a top-level item.
+fn add_top(
+    alloc: Global,
+    kept: &Kept,
+    trail: &mut Trail,
+    items: &mut Vec<Value>,
+    place: usize,
+) -> Result<(), Stop>
+    ensures path { OnOk result (trail.new.path.items ≡ trail.old.path.items) }
+    ensures finds { (rows : List Placed) (base : Chars) (e : Placed) → HoldsRows kept.now rows base → trail.old.path.items ≡ [] → slice_get rows place ≡ Some e
+        → Finds trail.old.visits (top_visits rows base e) trail.new.visits (λ done. map view items.new.items ≡ map view items.old.items ++ top_data rows base e) result }
+{
+    let Some(element) = kept.elements.get(place) else {
+        return Ok(());
+    };
+    if !element.is_top {
+        return Ok(());
+    }
+    let value = visit(alloc, kept, trail, element, place)?;
+    let Ok(()) = push_to(items, value) else {
+        return Err(Stop::NoMemory);
+    };
+    Ok(())
+}

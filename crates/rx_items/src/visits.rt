@@ -1,0 +1,252 @@
+//! The visits of a page's items, and the JSON that they come to.
+ghost use Rattle.std.specs.Prelude.{◌≡◌, ⊤, suc, ◌+◌, ◌++◌, ◌∷◌, [], ℕ, List, Option, Some, None, true, slice_get, length, ◌==◌, nat_le, IfOk, OnOk, MatchResult};
+ghost use Rattle.std.specs.List.{list_any};
+ghost use Rattle.serde_json.specs.Data.{Data, Members, no_members};
+ghost use Rattle.serde_json.specs.View.{members_view, view};
+ghost use Rattle.rx_terms.specs.Text.{Chars};
+ghost use Rattle.rx_grammar.specs.declared.faults.Kind.{Kind};
+ghost use Rattle.rx_microdata.specs.Elements.{Placed, is_item};
+ghost use Rattle.rx_microdata.specs.Visits.{Visit, visits_from};
+ghost use Rattle.rx_microdata.specs.Json.{grouped, item_of, json_of_item};
+ghost use Rattle.rx_items.specs.Rows.{properties_in};
+ghost use Rattle.rx_items.specs.Held.{HoldsRows, ShowsElement, places};
+ghost use Rattle.rx_items.specs.Expanding.{At, Enters, AllStand, Did, Finds, Goes, Step, data_of, grouped_in, kind_of, steps_in, steps_of, visits_in, visits_of};
+
+use crate::groups::add_value;
+use crate::kept::{Element, Kept};
+use crate::objects::item_object;
+use crate::properties::properties;
+use crate::readings::{id_value, plain_value};
+use rx_grammar::{Fault, Kind};
+use rx_tags::Stop;
+use rx_terms::NoMemory;
+use serde_json::{Map, Value};
+use std::alloc::Global;
+
+/// How many items may stand on a path.
+const NESTED: usize = 40;
+
+/// How many visits there may be.
+const VISITS: u32 = 100_000;
+
+/// The places of the items on the path to an item, the outermost first, and how many visits were made.
+#[derive(Drop)]
+pub(crate) struct Trail {
+    pub(crate) path: Vec<usize>,
+    pub(crate) visits: u32,
+}
+
+/// What is wrong with a visit to the item at this place.
+fn kind_of(trail: &Trail, place: usize) -> Option<Kind>
+    ensures { result ≡ kind_of trail.now.path.items trail.now.visits place }
+{
+    if is_on(trail.path.as_slice(), place) {
+        return Some(Kind::Cycle);
+    }
+    if is_deep(trail.path.as_slice()) {
+        return Some(Kind::ItemsTooNested);
+    }
+    if are_many(trail.visits) {
+        return Some(Kind::ItemsTooMany);
+    }
+    None
+}
+
+fn is_on(path: &[usize], place: usize) -> bool
+    ensures { result ≡ list_any (λ (x : ℕ). x == place) path.now }
+{
+    path.iter().any(|on_path| *on_path == place)
+}
+
+fn is_deep(path: &[usize]) -> bool
+    ensures { result ≡ nat_le 40 (length path.now) }
+{
+    NESTED <= path.len()
+}
+
+fn are_many(visits: u32) -> bool
+    ensures { result ≡ nat_le 100000 visits }
+{
+    VISITS <= visits
+}
+
+/// A visit begins, or is refused.
+fn enter(trail: &mut Trail, element: &Element, place: usize) -> Result<(), Stop>
+    ensures { Enters trail.old trail.new element.now place result }
+{
+    if let Some(kind) = kind_of(trail, place) {
+        return Err(Stop::Fault(Fault {
+            kind,
+            token: element.token,
+            at: element.at,
+        }));
+    }
+    let Ok(()) = trail.path.push(place) else {
+        return Err(Stop::NoMemory);
+    };
+    trail.visits += 1;
+    Ok(())
+}
+
+/// A visit ends.
+fn leave(trail: &mut Trail)
+    ensures path { (path : List ℕ) (place : ℕ) → trail.old.path.items ≡ path ++ place ∷ [] → trail.new.path.items ≡ path }
+    ensures visits { trail.new.visits ≡ trail.old.visits }
+{
+    drop(trail.path.pop());
+}
+
+/// Visits an item, and gives its JSON.
+#[cycle(visit)]
+pub(crate) fn visit(
+    alloc: Global,
+    kept: &Kept,
+    trail: &mut Trail,
+    element: &Element,
+    place: usize,
+) -> Result<Value, Stop>
+    ensures path { OnOk result (trail.new.path.items ≡ trail.old.path.items) }
+    ensures finds { (rows : List Placed) (base : Chars) (above : Visit) (left : ℕ) (root : Placed) → At kept.now rows base trail.old.path.items above left
+        → slice_get rows place ≡ Some root → slice_get kept.now.elements.items place ≡ Some element.now → is_item root ≡ true
+        → Finds trail.old.visits (visits_from (properties_in rows) (suc left) above root) trail.new.visits (λ value. view value ≡ json_of_item (properties_in rows) base left root) result }
+{
+    enter(trail, element, place)?;
+    let group = group_of(alloc, kept, trail, element, place)?;
+    leave(trail);
+    match finish(alloc, kept, element, group) {
+        Ok(value) => Ok(value),
+        Err(NoMemory) => Err(Stop::NoMemory),
+    }
+}
+
+/// The values of an item's properties, under their names.
+#[cycle(visit)]
+fn group_of(
+    alloc: Global,
+    kept: &Kept,
+    trail: &mut Trail,
+    element: &Element,
+    place: usize,
+) -> Result<Map<String, Value>, Stop>
+    ensures path { OnOk result (trail.new.path.items ≡ trail.old.path.items) }
+    ensures finds { (rows : List Placed) (base : Chars) (above : Visit) (left : ℕ) (root : Placed) → At kept.now rows base trail.old.path.items above left
+        → slice_get rows place ≡ Some root → slice_get kept.now.elements.items place ≡ Some element.now → is_item root ≡ true
+        → Finds trail.old.visits (visits_in rows base above left (steps_in (properties_in rows root))) trail.new.visits
+        (λ group. members_view group.entries ≡ grouped_in rows base above left (steps_in (properties_in rows root))) result }
+{
+    let Ok(list) = properties(
+        alloc,
+        kept.members.as_slice(),
+        element.reach.as_slice(),
+        place,
+    ) else {
+        return Err(Stop::NoMemory);
+    };
+    let mut group = Map::new(alloc);
+    fill(alloc, kept, trail, &mut group, list.as_slice())?;
+    Ok(group)
+}
+
+/// Puts the values of these properties under their names.
+#[cycle(visit)]
+fn fill(
+    alloc: Global,
+    kept: &Kept,
+    trail: &mut Trail,
+    group: &mut Map<String, Value>,
+    list: &[usize],
+) -> Result<(), Stop>
+    ensures path { OnOk result (trail.new.path.items ≡ trail.old.path.items) }
+    ensures finds { (rows : List Placed) (base : Chars) (above : Visit) (left : ℕ) (es : List Placed) → At kept.now rows base trail.old.path.items above left
+        → list.now ≡ places es → AllStand rows es → members_view group.old.entries ≡ no_members
+        → Finds trail.old.visits (visits_in rows base above left (steps_in es)) trail.new.visits
+        (λ done. members_view group.new.entries ≡ grouped_in rows base above left (steps_in es)) result }
+{
+    for place in list {
+        add_property(alloc, kept, trail, group, *place)?;
+    }
+    Ok(())
+}
+
+/// Puts the values of a property under each of its names.
+#[cycle(visit)]
+fn add_property(
+    alloc: Global,
+    kept: &Kept,
+    trail: &mut Trail,
+    group: &mut Map<String, Value>,
+    place: usize,
+) -> Result<(), Stop>
+    ensures path { OnOk result (trail.new.path.items ≡ trail.old.path.items) }
+    ensures finds { (rows : List Placed) (base : Chars) (above : Visit) (left : ℕ) (e : Placed) (done : List Step) (start : ℕ) → At kept.now rows base trail.old.path.items above left
+        → slice_get rows place ≡ Some e → Did rows base above left start done trail.old.visits (members_view group.old.entries)
+        → Goes rows base above left start (done ++ steps_of e) trail.new.visits (members_view group.new.entries) result }
+{
+    match kept.elements.get(place) {
+        Some(element) => add_values(alloc, kept, trail, group, element, place),
+        None => Ok(()),
+    }
+}
+
+#[cycle(visit)]
+fn add_values(
+    alloc: Global,
+    kept: &Kept,
+    trail: &mut Trail,
+    group: &mut Map<String, Value>,
+    element: &Element,
+    place: usize,
+) -> Result<(), Stop>
+    ensures path { OnOk result (trail.new.path.items ≡ trail.old.path.items) }
+    ensures finds { (rows : List Placed) (base : Chars) (above : Visit) (left : ℕ) (e : Placed) (done : List Step) (start : ℕ) → At kept.now rows base trail.old.path.items above left
+        → slice_get rows place ≡ Some e → slice_get kept.now.elements.items place ≡ Some element.now → Did rows base above left start done trail.old.visits (members_view group.old.entries)
+        → Goes rows base above left start (done ++ steps_of e) trail.new.visits (members_view group.new.entries) result }
+{
+    for name in &element.names {
+        let value = value_of(alloc, kept, trail, element, place)?;
+        let Ok(()) = add_value(alloc, group, name.as_str(), value) else {
+            return Err(Stop::NoMemory);
+        };
+    }
+    Ok(())
+}
+
+/// The value of a property: an item, or a text.
+#[cycle(visit)]
+fn value_of(
+    alloc: Global,
+    kept: &Kept,
+    trail: &mut Trail,
+    element: &Element,
+    place: usize,
+) -> Result<Value, Stop>
+    ensures path { OnOk result (trail.new.path.items ≡ trail.old.path.items) }
+    ensures finds { (rows : List Placed) (base : Chars) (above : Visit) (left : ℕ) (e : Placed) → At kept.now rows base trail.old.path.items above left
+        → slice_get rows place ≡ Some e → slice_get kept.now.elements.items place ≡ Some element.now
+        → Finds trail.old.visits (visits_of rows base above left e) trail.new.visits (λ value. view value ≡ data_of rows base above left e) result }
+{
+    if element.is_item {
+        return visit(alloc, kept, trail, element, place);
+    }
+    match plain_value(alloc, kept, element.value) {
+        Ok(value) => Ok(value),
+        Err(NoMemory) => Err(Stop::NoMemory),
+    }
+}
+
+/// The JSON of an item with these properties.
+fn finish(
+    alloc: Global,
+    kept: &Kept,
+    element: &Element,
+    group: Map<String, Value>,
+) -> Result<Value, NoMemory>
+    ensures { (root : Placed) (pairs : List (Chars × Data)) → ShowsElement kept.now.words kept.now.text kept.now.times.items element.now root → members_view group.entries ≡ grouped pairs
+        → IfOk result (λ value. view value ≡ item_of kept.now.base root.facts pairs) }
+{
+    let Ok(id) = id_value(alloc, kept, element.item_id) else {
+        drop(group);
+        return Err(NoMemory);
+    };
+    item_object(alloc, id, element.types.as_slice(), group)
+}

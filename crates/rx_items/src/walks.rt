@@ -1,0 +1,101 @@
+//! The items of a page that is read in pieces.
+ghost use Rattle.std.specs.Prelude.{◌≡◌, ℕ, List, [], true, false, IfOk};
+ghost use Rattle.rx_grammar.specs.Trees.{Tree};
+ghost use Rattle.rx_microdata.specs.Base.{base_in};
+ghost use Rattle.rx_scan.specs.Entries.{IsNoMemory};
+ghost use Rattle.rx_scan.specs.Steps.{is_quiet};
+ghost use Rattle.rx_nest.specs.Nests.{IsBetween};
+ghost use Rattle.rx_nest.specs.Signs.{signs_of};
+ghost use Rattle.rx_reading.specs.Falling.{Answered, MayAnswer};
+ghost use Rattle.rx_reading.specs.FaultPlaces.{PlaceGives};
+ghost use Rattle.rx_reading.specs.Readings.{IsWhole, Whole};
+ghost use Rattle.rx_items.specs.Collecting.{Setting, way_of, Collects};
+ghost use Rattle.rx_items.specs.Growing.{IsIdle};
+ghost use Rattle.rx_items.specs.Held.{HoldsRows};
+ghost use Rattle.rx_items.specs.Rows.{rows_of};
+ghost use Rattle.rx_items.specs.Walks as walks;
+
+use crate::collectors::{Base, Collector};
+use crate::items::Items;
+use rx_nest::{Limits, Stop, Syntax};
+use rx_reading::Reading;
+use rx_terms::{Iri, NoMemory};
+use std::alloc::Global;
+use std::marker::Model;
+
+/// Reads a page's bytes in pieces, and gives the items of the page. What is kept are the elements that matter, with their
+/// values. A contract sees the elements that were read, what is kept of them, and whether a fault or want of memory was
+/// answered, which then comes again.
+#[derive(Drop)]
+pub struct ItemWalk {
+    reading: Reading<Collector>,
+}
+
+impl Model for ItemWalk {
+    ghost use Rattle.rx_items.specs.Walks.{Walked};
+
+    ghost Value = { Walked };
+
+    ghost view = { λ w. w.reading };
+}
+
+/// The items of a whole page.
+fn items_of(collector: Collector) -> Result<Items, NoMemory>
+    requires { IsWhole way_of Collects collector }
+    ensures { (setting : Setting) (bytes : List ℕ) (whole : Whole (way_of setting) (Collects setting) bytes collector) → IfOk result (λ items. HoldsRows items (rows_of whole.tree) (base_in setting.address whole.tree)) }
+{
+    let Collector {
+        alloc,
+        address,
+        base,
+        table,
+    } = collector;
+    drop(address);
+    match base {
+        Base::Known(base) => table.into_items(alloc, base),
+        Base::Sought(_sought) => unreachable!(),
+    }
+}
+
+impl ItemWalk {
+    /// Before the first byte of the page at this address. It takes the memory of all levels.
+    pub fn new(
+        alloc: Global,
+        syntax: Syntax,
+        address: Iri,
+        limits: Limits,
+    ) -> Result<ItemWalk, NoMemory>
+        ensures { IfOk result (λ walk. walks.Stands (record { syntax = syntax; limits = limits; address = address }) walk []) }
+    {
+        let collector = Collector::new(alloc, address);
+        let reading = Reading::new(alloc, syntax, limits, collector)?;
+        Ok(ItemWalk { reading })
+    }
+
+    /// Takes the whole piece. Text takes no memory where no value gathers it: a piece without `<` and `&` then never wants
+    /// memory where no token is unfinished.
+    pub fn feed(&mut self, piece: &[u8]) -> Result<(), Stop>
+        ensures gives { (setting : Setting) (bytes : List ℕ) → walks.Stands setting self.old bytes → walks.FeedGives setting bytes piece.now result self.new }
+        ensures place { (setting : Setting) (bytes : List ℕ) → walks.Stands setting self.old bytes → PlaceGives (way_of setting) bytes piece.now result }
+        ensures quiet { (setting : Setting) (bytes : List ℕ) → walks.Stands setting self.old bytes → IsBetween setting.syntax setting.limits bytes → is_quiet piece.now ≡ true → IsIdle self.old.listener.table → IsNoMemory result ≡ false }
+        ensures asked { MayAnswer self.old.failed self.old.spent result }
+        ensures keeps { Answered result self.new.failed self.new.spent }
+    {
+        self.reading.feed(piece)
+    }
+
+    /// The page's end: its items. `Unended` comes exactly where the bytes are no page and no earlier fault stands in them.
+    pub fn finish(self) -> Result<Items, Stop>
+        ensures gives { (setting : Setting) (bytes : List ℕ) → walks.Stands setting self bytes → walks.EndGives setting bytes result }
+        ensures asked { MayAnswer self.failed self.spent result }
+    {
+        let collector = match self.reading.finish() {
+            Ok(collector) => collector,
+            Err(stop) => return Err(stop),
+        };
+        match items_of(collector) {
+            Ok(items) => Ok(items),
+            Err(NoMemory) => Err(Stop::NoMemory),
+        }
+    }
+}
