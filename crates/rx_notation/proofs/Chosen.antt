@@ -73,7 +73,7 @@ apart_names (p ∷ ps) h = and_from _ _ (ap not (false_unless (contains bytes_eq
     twice : contains bytes_eq (map name_of ps) p.0 ≡ true → ⊥
     twice c = let found = Among_of_map name_of ps p.0 (Among_by_contains bytes_eq exact_texts (map name_of ps) p.0 c) in h.0 found.0 found.1 (sym found.2)
 
-apart_filter : (test : Prefix → Bool) (ps : Prefixes) → Apart ps → Apart (filter test ps)
+pub apart_filter : (test : Prefix → Bool) (ps : Prefixes) → Apart ps → Apart (filter test ps)
 apart_filter test [] h = tt
 apart_filter test (p ∷ ps) h = go (test p) (apart_filter test ps h.1)
   where
@@ -123,7 +123,7 @@ ordered_there [] q h = h
 ordered_there (p ∷ ps) q (inl e) = placed_there p (in_byte_order ps) q (inl e)
 ordered_there (p ∷ ps) q (inr m) = placed_there p (in_byte_order ps) q (inr (ordered_there ps q m))
 
-apart_ordered : (ps : Prefixes) → Apart ps → Apart (in_byte_order ps)
+pub apart_ordered : (ps : Prefixes) → Apart ps → Apart (in_byte_order ps)
 apart_ordered [] h = tt
 apart_ordered (p ∷ ps) h = apart_placed p (in_byte_order ps) (λ q m. h.0 q (of_ordered ps q m)) (apart_ordered ps h.1)
 

@@ -8,7 +8,7 @@ use Rattle.rx_model.proofs.Sets.{Among_filter, Among_of_filter, Among_map, Among
 use Rattle.rx_model.proofs.Exact.{exact_texts, exact_nodes, exact_numbers}
 use Rattle.rx_notation.specs.Layout.{has_subject, has_predicate, subjects, about, predicates_of, objects_of}
 
-same_nodes : IsExact (same_node nat_eq)
+pub same_nodes : IsExact (same_node nat_eq)
 same_nodes = exact_nodes nat_eq exact_numbers
 
 triple_path : (t : Triple ℕ) (s : Node ℕ) (p : Chars) (o : Term ℕ) → t.subject ≡ s → t.predicate ≡ p → t.object ≡ o → t ≡ spo s p o

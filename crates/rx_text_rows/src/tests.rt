@@ -7,3 +7,4 @@ mod references;
 mod shapes;
 mod terms;
 mod times;
+mod turtle;

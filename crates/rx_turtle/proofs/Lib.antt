@@ -1,0 +1,9 @@
+pub mod Finding
+pub mod GroupLemmas
+pub mod StatementLemmas
+pub mod PlaceLemmas
+pub mod AddLemmas
+pub mod UseLemmas
+pub mod LineLemmas
+pub mod TextLemmas
+pub mod ScalarLemmas

@@ -1,0 +1,74 @@
+-- The text of a plan is that of the layout, and what it denotes.
+use Rattle.std.proofs.Common.{◌≡◌, ◌∙◌, ℕ, Bool, true, nat_eq, List, [], ◌∷◌, ◌++◌, map, filter, flat_map, bytes_eq, refl, sym, ap, ap₂, subst, codes}
+use Rattle.std.specs.Str.{chars, encode_utf8_all}
+use Rattle.std.proofs.lemmas.Str.{chars-encodes}
+use Rattle.rx_terms.specs.Text.{Chars}
+use Rattle.rx_model.specs.Sets.{distinct}
+use Rattle.rx_model.specs.Terms.{Node, Iri, Triple, same_node}
+use Rattle.rx_model.proofs.Exact.{exact_texts, exact_nodes, exact_numbers}
+use Rattle.rx_graph.proofs.SetLemmas.{distinct_apart}
+use Rattle.rx_notation.specs.Short.{Prefixes, names_rise}
+use Rattle.rx_notation.specs.Layout.{resource_text, verb_text, object_text, separated, has_predicate, subjects, about, predicates_of, predicate_text, statement_text, prefixes_text, turtle}
+use Rattle.rx_notation.specs.Laws.{IsContext, IsWritable, proper_triple}
+use Rattle.rx_notation.specs.Meaning.{Turtle}
+use Rattle.rx_notation.proofs.LayoutMeaning.{layout_denotes}
+use Rattle.rx_notation.proofs.Ordered.{rising}
+use Rattle.rx_turtle.specs.declared.groups.By.TheVariants as by
+use Rattle.rx_turtle.specs.Groups.{Keyed, has_key, keys_by, grouped}
+use Rattle.rx_turtle.specs.Written.{Said, said_by, plan, group_text, said_text, plan_text}
+use Rattle.rx_turtle.specs.Rows.{AreRows}
+use Rattle.rx_turtle.specs.Uses.{used_marks, chosen}
+use Rattle.rx_turtle.proofs.ScalarLemmas.{turtle_writable}
+use Rattle.rx_turtle.proofs.UseLemmas.{chosen_used}
+
+map_twice : {A B C : Type 0} (f : B → C) (g : A → B) (list : List A) → map f (map g list) ≡ map (λ a. f (g a)) list
+map_twice f g [] = refl
+map_twice f g (x ∷ list) = ap (λ z. f (g x) ∷ z) (map_twice f g list)
+
+map_like : {A B : Type 0} (f g : A → B) (list : List A) → ((a : A) → f a ≡ g a) → map f list ≡ map g list
+map_like f g [] h = refl
+map_like f g (x ∷ list) h = ap₂ ◌∷◌ (h x) (map_like f g list h)
+
+texts_like : {A : Type 0} (f g : A → Chars) (list : List A) → ((a : A) → f a ≡ g a) → flat_map f list ≡ flat_map g list
+texts_like f g [] h = refl
+texts_like f g (x ∷ list) h = ap₂ ◌++◌ (h x) (texts_like f g list h)
+
+texts_twice : {A B : Type 0} (f : B → Chars) (g : A → B) (list : List A) → flat_map f (map g list) ≡ flat_map (λ a. f (g a)) list
+texts_twice f g [] = refl
+texts_twice f g (x ∷ list) = ap (λ z. f (g x) ++ z) (texts_twice f g list)
+
+module _ (context : Prefixes) (list : List (Triple ℕ)) where
+  -- the predicates as keys
+  keys_are : (s : Node ℕ) → keys_by by.Predicate (about list s) ≡ map {B = Node ℕ} (λ p. Iri p) (predicates_of list s)
+  keys_are s =
+      ap (distinct (same_node nat_eq)) (sym (map_twice {C = Node ℕ} (λ p. Iri p) (λ (t : Triple ℕ). t.predicate) (about list s)))
+      ∙ distinct_apart bytes_eq exact_texts (same_node nat_eq) (exact_nodes nat_eq exact_numbers) (λ p. Iri p) (map (λ (t : Triple ℕ). t.predicate) (about list s)) (λ x y m n e. cc)
+
+  one_group : (s : Node ℕ) (p : Chars) → group_text context (Iri p, filter (has_key by.Predicate (Iri p)) (about list s)) ≡ predicate_text context list s p
+  one_group s p = ap (λ z. verb_text context p ++ (codes " " ++ separated (codes " , ") z)) (sym (map_twice (object_text context) (λ (t : Triple ℕ). t.object) (filter (has_predicate p) (about list s))))
+
+  groups_are : (s : Node ℕ) → map (group_text context) (grouped by.Predicate (about list s)) ≡ map (predicate_text context list s) (predicates_of list s)
+  groups_are s =
+      map_twice (group_text context) (λ key. (key, filter (has_key by.Predicate key) (about list s))) (keys_by by.Predicate (about list s))
+      ∙ ap (map (λ (key : Node ℕ). group_text context (key, filter (has_key by.Predicate key) (about list s)))) (keys_are s)
+      ∙ map_twice (λ (key : Node ℕ). group_text context (key, filter (has_key by.Predicate key) (about list s))) (λ p. Iri p) (predicates_of list s)
+      ∙ map_like (λ (p : Chars). group_text context (Iri p, filter (has_key by.Predicate (Iri p)) (about list s))) (predicate_text context list s) (predicates_of list s) (one_group s)
+
+  statement_is : (s : Node ℕ) → said_text context (said_by (s, filter (has_key by.Subject s) list)) ≡ statement_text context list s
+  statement_is s = ap (λ z. resource_text context s ++ (codes " " ++ (separated (codes " ;\n    ") z ++ codes " .\n"))) (groups_are s)
+
+  pub plan_is : plan_text context (plan list) ≡ flat_map (statement_text context list) (subjects list)
+  plan_is =
+      texts_twice (said_text context) said_by (grouped by.Subject list)
+      ∙ texts_twice (λ (group : Keyed). said_text context (said_by group)) (λ key. (key, filter (has_key by.Subject key) list)) (keys_by by.Subject list)
+      ∙ texts_like (λ (s : Node ℕ). said_text context (said_by (s, filter (has_key by.Subject s) list))) (statement_text context list) (subjects list) statement_is
+
+pub text_is : (context : Prefixes) (list : List (Triple ℕ)) (marks : List Bool) (all : List Said) → names_rise context ≡ true → marks ≡ used_marks context list → all ≡ plan list
+    → prefixes_text (chosen marks context) ++ plan_text context all ≡ turtle context list
+text_is context list marks all rise marked planned =
+    ap₂ (λ m a. prefixes_text (chosen m context) ++ plan_text context a) marked planned ∙ ap₂ ◌++◌ (ap prefixes_text (chosen_used context rise list)) (plan_is context list)
+
+pub text_denotes : (context : Prefixes) (list : List (Triple ℕ)) → names_rise context ≡ true → AreRows context → IsWritable list → Turtle (chars (encode_utf8_all (turtle context list))) (map proper_triple list)
+text_denotes context list rise rows w =
+    let fit : IsContext context = record { iris = λ p m. (rows.each p m).iri.is_iri; once = rising.once context rise } in
+    subst (λ (z : Chars). Turtle z (map proper_triple list)) (sym (chars-encodes (turtle context list) (turtle_writable context rows list w).scalars)) (layout_denotes.denotes context list fit w)

@@ -1,0 +1,146 @@
+//! Prefixes and statements, one after another.
+ghost use Rattle.std.specs.Prelude.{◌≡◌, ◌==◌, [], codes, flat_map, length, map, if◌then◌else◌};
+ghost use Rattle.std.specs.List.{list_any};
+ghost use Rattle.std.specs.Str.{chars};
+ghost use Rattle.rx_model.specs.Seen.{triple_seen};
+ghost use Rattle.rx_graph.specs.Resources.{resource_seen};
+ghost use Rattle.rx_notation.specs.Layout.{prefix_text, prefixes_text, separated};
+ghost use Rattle.rx_pieces.specs.Underway.{delivery};
+ghost use Rattle.rx_pieces.specs.Writable.{Adds};
+ghost use Rattle.rx_turtle.specs.Uses.{chosen};
+ghost use Rattle.rx_turtle.specs.Written.{statement_seen, objects_text, group_text, said_text, plan_text, text_of};
+
+use crate::groups::Groups;
+use crate::plan::Plan;
+use crate::shorts::Shorts;
+use crate::statements::Statement;
+use crate::terms::{push_key, push_object, push_resource};
+use rx_graph::Resource;
+use rx_pieces::{Pieces, push};
+use rx_ports::Sink;
+use rx_terms::Triple;
+
+/// Adds the whole text.
+pub(crate) fn push_plan<S: Sink>(out: &mut Pieces, sink: &mut S, plan: &Plan)
+    requires { length plan.now.marks.items ≡ length plan.now.shorts }
+    ensures { Adds (delivery out.old (S.held sink.old) (S.faults sink.old)) (delivery out.new (S.held sink.new) (S.faults sink.new)) (text_of plan.now) }
+{
+    push_prefixes(out, sink, &plan.shorts, &plan.marks);
+    push_statements(out, sink, &plan.shorts, &plan.statements);
+}
+
+/// Adds a line for each prefix that has a mark, and an empty line behind the last one.
+fn push_prefixes<S: Sink>(out: &mut Pieces, sink: &mut S, shorts: &Shorts, marks: &[bool])
+    requires { length marks.now ≡ length shorts.now }
+    ensures { Adds (delivery out.old (S.held sink.old) (S.faults sink.old)) (delivery out.new (S.held sink.new) (S.faults sink.new)) (prefixes_text (chosen marks.now shorts.now)) }
+{
+    push_prefix_lines(out, sink, shorts, marks);
+    if has_mark(marks) {
+        push(out, sink, "\n");
+    }
+}
+
+fn has_mark(marks: &[bool]) -> bool
+    ensures { result ≡ list_any (λ mark. mark) marks.now }
+{
+    marks.iter().any(|mark| *mark)
+}
+
+fn push_prefix_lines<S: Sink>(out: &mut Pieces, sink: &mut S, shorts: &Shorts, marks: &[bool])
+    requires { length marks.now ≡ length shorts.now }
+    ensures { Adds (delivery out.old (S.held sink.old) (S.faults sink.old)) (delivery out.new (S.held sink.new) (S.faults sink.new)) (flat_map prefix_text (chosen marks.now shorts.now)) }
+{
+    for i in 0..marks.len() {
+        let (name, iri) = shorts.at(i);
+        push_marked(out, sink, marks[i], name, iri);
+    }
+}
+
+/// Adds the line of a prefix, where it has a mark.
+fn push_marked<S: Sink>(out: &mut Pieces, sink: &mut S, mark: bool, name: &str, iri: &str)
+    ensures { Adds (delivery out.old (S.held sink.old) (S.faults sink.old)) (delivery out.new (S.held sink.new) (S.faults sink.new)) (if mark then prefix_text (chars name.now, chars iri.now) else []) }
+{
+    if mark {
+        push_prefix(out, sink, name, iri);
+    }
+}
+
+fn push_prefix<S: Sink>(out: &mut Pieces, sink: &mut S, name: &str, iri: &str)
+    ensures { Adds (delivery out.old (S.held sink.old) (S.faults sink.old)) (delivery out.new (S.held sink.new) (S.faults sink.new)) (prefix_text (chars name.now, chars iri.now)) }
+{
+    push(out, sink, "@prefix ");
+    push(out, sink, name);
+    push(out, sink, ": <");
+    push(out, sink, iri);
+    push(out, sink, "> .\n");
+}
+
+/// Adds the statements. Once the sink has failed, the rest isn't made.
+fn push_statements<S: Sink>(
+    out: &mut Pieces,
+    sink: &mut S,
+    shorts: &Shorts,
+    statements: &[Statement],
+)
+    ensures { Adds (delivery out.old (S.held sink.old) (S.faults sink.old)) (delivery out.new (S.held sink.new) (S.faults sink.new)) (plan_text shorts.now (map statement_seen statements.now)) }
+{
+    for i in 0..statements.len() {
+        if out.has_failed() {
+            return;
+        }
+        push_statement(out, sink, shorts, &statements[i]);
+    }
+}
+
+fn push_statement<S: Sink>(out: &mut Pieces, sink: &mut S, shorts: &Shorts, statement: &Statement)
+    ensures { Adds (delivery out.old (S.held sink.old) (S.faults sink.old)) (delivery out.new (S.held sink.new) (S.faults sink.new)) (said_text shorts.now (statement_seen statement.now)) }
+{
+    push_resource(out, sink, shorts, statement.subject);
+    push(out, sink, " ");
+    push_groups(out, sink, shorts, &statement.said);
+    push(out, sink, " .\n");
+}
+
+/// Adds a subject's predicates with their objects.
+fn push_groups<S: Sink>(out: &mut Pieces, sink: &mut S, shorts: &Shorts, groups: &Groups)
+    ensures { Adds (delivery out.old (S.held sink.old) (S.faults sink.old)) (delivery out.new (S.held sink.new) (S.faults sink.new)) (separated (codes " ;\n    ") (map (group_text shorts.now) groups.now)) }
+{
+    for i in 0..groups.len() {
+        push_unless_first(out, sink, i, " ;\n    ");
+        let (predicate, triples) = groups.at(i);
+        push_group(out, sink, shorts, predicate, triples);
+    }
+}
+
+/// Adds the words, but before the first of some things.
+fn push_unless_first<S: Sink>(out: &mut Pieces, sink: &mut S, place: usize, words: &str)
+    ensures { Adds (delivery out.old (S.held sink.old) (S.faults sink.old)) (delivery out.new (S.held sink.new) (S.faults sink.new)) (if place == 0 then [] else chars words.now) }
+{
+    if place > 0 {
+        push(out, sink, words);
+    }
+}
+
+/// Adds a predicate, and the objects of its triples.
+fn push_group<S: Sink>(
+    out: &mut Pieces,
+    sink: &mut S,
+    shorts: &Shorts,
+    predicate: Resource,
+    triples: &[&Triple],
+)
+    ensures { Adds (delivery out.old (S.held sink.old) (S.faults sink.old)) (delivery out.new (S.held sink.new) (S.faults sink.new)) (group_text shorts.now (resource_seen predicate.entry, map (λ t. triple_seen t.now) triples.now)) }
+{
+    push_key(out, sink, shorts, predicate);
+    push(out, sink, " ");
+    push_objects(out, sink, shorts, triples);
+}
+
+fn push_objects<S: Sink>(out: &mut Pieces, sink: &mut S, shorts: &Shorts, triples: &[&Triple])
+    ensures { Adds (delivery out.old (S.held sink.old) (S.faults sink.old)) (delivery out.new (S.held sink.new) (S.faults sink.new)) (objects_text shorts.now (map (λ t. triple_seen t.now) triples.now)) }
+{
+    for i in 0..triples.len() {
+        push_unless_first(out, sink, i, " , ");
+        push_object(out, sink, shorts, &triples[i].object);
+    }
+}

@@ -1,0 +1,53 @@
+//! What is written, made whole before the first byte is.
+ghost use Rattle.std.specs.Prelude.{◌≡◌, length, map, IfOk, encode_utf8_all};
+ghost use Rattle.std.specs.Str.{chars};
+ghost use Rattle.rx_model.specs.Seen.{triples_seen};
+ghost use Rattle.rx_notation.specs.Layout.{turtle};
+ghost use Rattle.rx_notation.specs.Laws.{proper_triple};
+ghost use Rattle.rx_notation.specs.Meaning.{Turtle};
+ghost use Rattle.rx_turtle.specs.Written.{text_of};
+
+use crate::shorts::Shorts;
+use crate::statements::{Statement, statements_of};
+use crate::uses::used_marks;
+use rx_graph::Graph;
+use rx_names::Context;
+use rx_terms::NoMemory;
+use std::alloc::Global;
+
+/// The short forms of IRIs, which prefixes are used, and what is said of each subject.
+#[derive(Drop)]
+pub(crate) struct Plan<'a> {
+    pub(crate) shorts: Shorts<'a>,
+    pub(crate) marks: Vec<bool>,
+    pub(crate) statements: Vec<Statement<'a>>,
+}
+
+impl<'a> Plan<'a> {
+    /// The plan for a graph's text under the context's prefixes.
+    pub(crate) fn of(
+        alloc: Global,
+        graph: &'a Graph,
+        context: &'a Context,
+    ) -> Result<Plan<'a>, NoMemory>
+        ensures text { IfOk result (λ plan. text_of plan ≡ turtle context.now.prefixes (triples_seen graph.now)) }
+        ensures sizes { IfOk result (λ plan. length plan.marks.items ≡ length plan.shorts) }
+        ensures denotes { IfOk result (λ plan. Turtle (chars (encode_utf8_all (turtle context.now.prefixes (triples_seen graph.now)))) (map proper_triple (triples_seen graph.now))) }
+    {
+        let shorts = Shorts::of(alloc, context)?;
+        let Ok(marks) = used_marks(alloc, graph, &shorts) else {
+            drop(shorts);
+            return Err(NoMemory);
+        };
+        let Ok(statements) = statements_of(alloc, graph) else {
+            drop(shorts);
+            drop(marks);
+            return Err(NoMemory);
+        };
+        Ok(Plan {
+            shorts,
+            marks,
+            statements,
+        })
+    }
+}

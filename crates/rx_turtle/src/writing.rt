@@ -1,0 +1,66 @@
+//! The text of a graph.
+ghost use Rattle.std.specs.Prelude.{◌≡◌, ◌≤◌, map, IfOk, IsErrOf, OnOk, encode_utf8_all};
+ghost use Rattle.std.specs.Str.{chars};
+ghost use Rattle.rx_ports.specs.Counts.{Rose};
+ghost use Rattle.rx_ports.specs.Told.{Moves, GrowsBy, GrowsByPart};
+ghost use Rattle.rx_model.specs.Seen.{triples_seen};
+ghost use Rattle.rx_notation.specs.Layout.{turtle};
+ghost use Rattle.rx_notation.specs.Laws.{proper_triple};
+ghost use Rattle.rx_notation.specs.Meaning.{Turtle};
+
+use crate::lines::push_plan;
+use crate::plan::Plan;
+use rx_graph::Graph;
+use rx_names::Context;
+use rx_pieces::{Pieces, Whole, WriteError};
+use rx_ports::Sink;
+use rx_terms::NoMemory;
+use std::alloc::Global;
+
+/// The room in bytes that is taken for each triple at first.
+const TRIPLE: usize = 64;
+
+/// Writes the graph's text in Turtle under the context's prefixes to the sink: the prefixes that it uses, and then each
+/// subject with its predicates and their objects. The bytes are UTF-8.
+///
+/// They are sent in pieces of 65,536 bytes, the last of which may have fewer. All memory is taken before the first byte is
+/// written.
+pub fn write<S: Sink>(
+    alloc: Global,
+    graph: &Graph,
+    context: &Context,
+    sink: &mut S,
+) -> Result<(), WriteError>
+    ensures ok { OnOk result (Moves (GrowsBy (encode_utf8_all (turtle context.now.prefixes (triples_seen graph.now)))) (S.held sink.old) (S.held sink.new)) }
+    ensures denotes { OnOk result (Turtle (chars (encode_utf8_all (turtle context.now.prefixes (triples_seen graph.now)))) (map proper_triple (triples_seen graph.now))) }
+    ensures partly { IsErrOf result WriteError.Failed → Moves (GrowsByPart (encode_utf8_all (turtle context.now.prefixes (triples_seen graph.now)))) (S.held sink.old) (S.held sink.new) }
+    ensures cause { IsErrOf result WriteError.Failed → Rose (S.faults sink.old) (S.faults sink.new) }
+    ensures untouched { IsErrOf result WriteError.NoMemory → sink.new ≡ sink.old }
+    ensures later { S.faults sink.old ≤ S.faults sink.new }
+{
+    let Ok(plan) = Plan::of(alloc, graph, context) else {
+        return Err(WriteError::NoMemory);
+    };
+    let Ok(mut pieces) = Pieces::new(alloc) else {
+        drop(plan);
+        return Err(WriteError::NoMemory);
+    };
+    push_plan(&mut pieces, sink, &plan);
+    drop(plan);
+    match pieces.send(sink) {
+        Ok(()) => Ok(()),
+        Err(_failed) => Err(WriteError::Failed),
+    }
+}
+
+/// The graph's text in Turtle, as `write` writes it.
+pub fn text(alloc: Global, graph: &Graph, context: &Context) -> Result<Vec<u8>, NoMemory>
+    ensures bytes { IfOk result (λ bytes. bytes.items ≡ encode_utf8_all (turtle context.now.prefixes (triples_seen graph.now))) }
+    ensures denotes { IfOk result (λ bytes. Turtle (chars bytes.items) (map proper_triple (triples_seen graph.now))) }
+{
+    let mut whole = Whole::with_room(alloc, graph.len().saturating_mul(TRIPLE))?;
+    match write(alloc, graph, context, &mut whole) {
+        Ok(()) => Ok(whole.into_bytes()),
+        Err(_error) => Err(NoMemory),
+    }
+}
