@@ -1,11 +1,8 @@
 -- The first fault of a page, of its form or of what its start tags mean.
-use Rattle.std.proofs.Common.{◌≡◌, ◌∙◌, ⊎_elim, inl, inr, ℕ, ◌≤◌, ◌<◌, Bool, true, false, List, [], ◌∷◌, ◌++◌, length, refl, sym, ap, arith, Option, Some, None, Result, Ok, Err, length-append}
-use Rattle.std.specs.Prelude.{◌⊎◌, option_map, if◌then◌else◌}
-use Rattle.std.specs.Option.{option_or}
-use Rattle.rx_chars.specs.declared.syntax.Syntax.{Syntax}
+use Rattle.std.proofs.Common.{◌≡◌, ◌∙◌, ⊎_elim, inl, inr, ℕ, ◌≤◌, Bool, true, false, List, [], ◌∷◌, ◌++◌, length, refl, sym, ap, arith, Option, Some, None, Result, Ok, Err, length-append}
+use Rattle.std.specs.Prelude.{◌⊎◌, if◌then◌else◌}
 use Rattle.rx_grammar.specs.declared.faults.Fault.{Fault}
 use Rattle.rx_grammar.specs.declared.faults.Kind.TheVariants.{Unended}
-use Rattle.rx_grammar.specs.declared.limits.Limits.{Limits}
 use Rattle.rx_grammar.specs.PageFaults.{FaultAt}
 use Rattle.rx_grammar.specs.Pages.{Page}
 use Rattle.rx_grammar.specs.Trees.{Tree}
@@ -14,19 +11,13 @@ use Rattle.rx_pages.proofs.FaultsRead.{fault_is_read}
 use Rattle.rx_pages.proofs.OneOf.{not_both as not_both_at, one_fault}
 use Rattle.rx_pages.proofs.PageRead.{page_is_told}
 use Rattle.rx_pages.proofs.Trees.{one_tree}
-use Rattle.rx_rdfa.specs.Facts.{facts}
-use Rattle.rx_rdfa.specs.Names.{Context}
-use Rattle.rx_rdfa.specs.Refusals.{Refusal, refusal}
-use Rattle.rx_rdfa.specs.Tree.{Tag}
-use Rattle.rx_nest.specs.Fronts.{Lie}
-use Rattle.rx_nest.specs.Signs.{Sign, begun, said, finished, sees, nothing_seen, signs_of}
+use Rattle.rx_nest.specs.Signs.{Sign, sees, nothing_seen, signs_of}
 use Rattle.rx_nest.proofs.Sizes.{read_size, within_so}
 use Rattle.rx_nest.proofs.TagPlaces.{shows_more}
 use Rattle.rx_nest.proofs.TreeSeen.{whole}
-use Rattle.rx_walk.specs.Faults.{MeaningAt, Refuses, for_form, for_meaning}
-use Rattle.rx_walk.specs.Lines.{read_tag, line_on, line_of}
-use Rattle.rx_walk.specs.Refused.{fault_of, refused_in}
-use Rattle.rx_walk.proofs.Signed.{refused_append}
+use Rattle.rx_reading.specs.Faults.{MeaningAt, Refuses, for_form, for_meaning}
+use Rattle.rx_reading.specs.Ways.{Way, IsRefusal}
+use Rattle.rx_reading.proofs.Refusing.{at_from}
 
 -- of two fronts of a list one is a front of the other
 fronts : (a b c d : List ℕ) → a ++ b ≡ c ++ d → ((m : List ℕ) × (c ≡ a ++ m)) ⊎ ((m : List ℕ) × (a ≡ c ++ m))
@@ -40,68 +31,53 @@ fronts (x ∷ a) b (y ∷ c) d e =
 some_same : (a b : Fault) → ◌≡◌ {A = Option Fault} (Some a) (Some b) → a ≡ b
 some_same a b e = cc
 
--- a start tag that is refused lies where the signs do
-refused_lies : (context : Context) (from to : ℕ) (line : List Tag) (signs : List Sign) (fault : Fault) → Lie from to signs → refused_in context line signs ≡ Some fault → (from ≤ fault.at) × (fault.at < to)
-refused_lies context from to line [] fault l e = absurd (cc)
-refused_lies context from to line (said c ∷ signs) fault l e = refused_lies context from to (line_on line (said c)) signs fault l e
-refused_lies context from to line (finished ∷ signs) fault l e = refused_lies context from to (line_on line finished) signs fault l e
-refused_lies context from to line (begun t ∷ signs) fault l e = by (λ k. refused_lies context from to (line_on line (begun t)) signs fault l.2 k) (refusal (facts context line (read_tag t))) refl
-  where
-    by : (refused_in context (line_on line (begun t)) signs ≡ Some fault → (from ≤ fault.at) × (fault.at < to)) → (x : Option Refusal) → refusal (facts context line (read_tag t)) ≡ x → (from ≤ fault.at) × (fault.at < to)
-    by on None k = on (ap (λ o. option_or (option_map (fault_of t) o) (refused_in context (line_on line (begun t)) signs)) (sym k) ∙ e)
-    by on (Some r) k =
-        let found : Some (fault_of t r) ≡ Some fault = ap (λ o. option_or (option_map (fault_of t) o) (refused_in context (line_on line (begun t)) signs)) (sym k) ∙ e in
-        let same = some_same (fault_of t r) fault found in
-        let at : fault.at ≡ t.at = ap (λ (f : Fault). f.at) (sym same) in
-        (omega (arith, at, l.0), omega (arith, at, l.1))
-
-module _ (syntax : Syntax) (limits : Limits) (context : Context) where
+module _ (way : Way) (law : IsRefusal way.refused) where
   abbrev SignsOf : Progress → List Sign
   SignsOf p = (sees nothing_seen p.told).signs
 
   -- what a front shows that is refused is refused behind it
-  refused_on : (bytes more : List ℕ) (p q : Progress) (fault : Fault) → page_read syntax limits bytes ≡ Ok p → page_read syntax limits (bytes ++ more) ≡ Ok q → refused_in context [] (SignsOf p) ≡ Some fault → refused_in context [] (SignsOf q) ≡ Some fault
+  refused_on : (bytes more : List ℕ) (p q : Progress) (fault : Fault) → page_read way.syntax way.limits bytes ≡ Ok p → page_read way.syntax way.limits (bytes ++ more) ≡ Ok q → way.refused (SignsOf p) ≡ Some fault → way.refused (SignsOf q) ≡ Some fault
   refused_on bytes more p q fault h k r =
-      let s = shows_more syntax limits bytes more p q h k in
-      ap (λ x. refused_in context [] x) s.are ∙ (refused_append context [] (SignsOf p) s.signs ∙ ap (λ o. option_or o (refused_in context (line_of [] (SignsOf p)) s.signs)) r)
+      let s = shows_more way.syntax way.limits bytes more p q h k in
+      ap way.refused s.are ∙ law.stays (SignsOf p) s.signs fault r
 
   -- bytes that show no refused tag have no fault of meaning
-  pub no_meaning_in : (bytes : List ℕ) (p : Progress) → page_read syntax limits bytes ≡ Ok p → refused_in context [] (SignsOf p) ≡ None → (fault : Fault) → MeaningAt syntax limits context bytes fault → ⊥
+  pub no_meaning_in : (bytes : List ℕ) (p : Progress) → page_read way.syntax way.limits bytes ≡ Ok p → way.refused (SignsOf p) ≡ None → (fault : Fault) → MeaningAt way bytes fault → ⊥
   no_meaning_in bytes p h none fault m =
-      let w : Some fault ≡ None = sym (refused_on m.front m.rest m.now p fault m.read (ap (λ x. page_read syntax limits x) (sym m.are) ∙ h) m.refused) ∙ none in
+      let w : Some fault ≡ None = sym (refused_on m.front m.rest m.now p fault m.read (ap (λ x. page_read way.syntax way.limits x) (sym m.are) ∙ h) m.refused) ∙ none in
       absurd (cc)
 
-  one_meaning : (bytes : List ℕ) (a b : Fault) → MeaningAt syntax limits context bytes a → MeaningAt syntax limits context bytes b → a ≡ b
+  one_meaning : (bytes : List ℕ) (a b : Fault) → MeaningAt way bytes a → MeaningAt way bytes b → a ≡ b
   one_meaning bytes a b m n =
       ⊎_elim
-      (λ r. some_same a b (sym (refused_on m.front r.0 m.now n.now a m.read (ap (λ x. page_read syntax limits x) (sym r.1) ∙ n.read) m.refused) ∙ n.refused))
-      (λ r. some_same a b (sym m.refused ∙ refused_on n.front r.0 n.now m.now b n.read (ap (λ x. page_read syntax limits x) (sym r.1) ∙ m.read) n.refused))
+      (λ r. some_same a b (sym (refused_on m.front r.0 m.now n.now a m.read (ap (λ x. page_read way.syntax way.limits x) (sym r.1) ∙ n.read) m.refused) ∙ n.refused))
+      (λ r. some_same a b (sym m.refused ∙ refused_on n.front r.0 n.now m.now b n.read (ap (λ x. page_read way.syntax way.limits x) (sym r.1) ∙ m.read) n.refused))
       (fronts m.front m.rest n.front n.rest (sym m.are ∙ n.are))
 
   -- there is one first fault
-  pub one_first : (bytes : List ℕ) (a b : Fault) → Refuses syntax limits context bytes a → Refuses syntax limits context bytes b → a ≡ b
-  one_first bytes a b (for_form f n) (for_form g m) = one_fault syntax limits bytes a b f g
+  pub one_first : (bytes : List ℕ) (a b : Fault) → Refuses way bytes a → Refuses way bytes b → a ≡ b
+  one_first bytes a b (for_form f n) (for_form g m) = one_fault way.syntax way.limits bytes a b f g
   one_first bytes a b (for_form f n) (for_meaning g m) = absurd (n b g)
   one_first bytes a b (for_meaning f n) (for_form g m) = absurd (m a f)
   one_first bytes a b (for_meaning f n) (for_meaning g m) = one_meaning bytes a b f g
 
   -- an accepted page has none
-  pub page_has_none : (bytes : List ℕ) (tree : Tree) → Page syntax limits bytes tree → refused_in context [] (signs_of tree) ≡ None → (fault : Fault) → Refuses syntax limits context bytes fault → ⊥
-  page_has_none bytes tree page none fault (for_form f n) = not_both_at syntax limits bytes tree fault page f
+  pub page_has_none : (bytes : List ℕ) (tree : Tree) → Page way.syntax way.limits bytes tree → way.refused (signs_of tree) ≡ None → (fault : Fault) → Refuses way bytes fault → ⊥
+  page_has_none bytes tree page none fault (for_form f n) = not_both_at way.syntax way.limits bytes tree fault page f
   page_has_none bytes tree page none fault (for_meaning m n) =
-      let t = page_is_told syntax limits bytes tree page in
-      let w = whole syntax limits bytes t.final t.is_read in
-      let same : w.tree ≡ tree = one_tree syntax limits bytes w.tree tree w.page page in
-      by (page_read syntax limits bytes) refl t.final t.is_read (ap (λ x. x.signs) w.shows ∙ ap signs_of same)
+      let t = page_is_told way.syntax way.limits bytes tree page in
+      let w = whole way.syntax way.limits bytes t.final t.is_read in
+      let same : w.tree ≡ tree = one_tree way.syntax way.limits bytes w.tree tree w.page page in
+      by (page_read way.syntax way.limits bytes) refl t.final t.is_read (ap (λ x. x.signs) w.shows ∙ ap signs_of same)
     where
       on : (p final : Progress) (b : Bool) → ◌≡◌ {A = Result Progress Fault} (if b then Ok p else Err (fault_in p.now.scan Unended)) (Ok final) → p ≡ final
       on p final true e = cc
       on p final false e = absurd (cc)
 
-      by : (x : Result Progress Fault) → page_read syntax limits bytes ≡ x → (final : Progress) → end_of x ≡ Ok final → (sees nothing_seen final.told).signs ≡ signs_of tree → ⊥
+      by : (x : Result Progress Fault) → page_read way.syntax way.limits bytes ≡ x → (final : Progress) → end_of x ≡ Ok final → (sees nothing_seen final.told).signs ≡ signs_of tree → ⊥
       by (Ok p) h final e s =
           let same = on p final (may_end p.now) e in
-          no_meaning_in bytes p h (ap (λ (q : Progress). refused_in context [] (SignsOf q)) same ∙ (ap (λ x. refused_in context [] x) s ∙ none)) fault m
+          no_meaning_in bytes p h (ap (λ (q : Progress). way.refused (SignsOf q)) same ∙ (ap way.refused s ∙ none)) fault m
       by (Err f) h final e s = absurd (cc)
 
   -- bytes that were read without a fault hold none but that they end
@@ -109,13 +85,13 @@ module _ (syntax : Syntax) (limits : Limits) (context : Context) where
   end_kind p true fault e = absurd (cc)
   end_kind p false fault e = let same : fault_in p.now.scan Unended ≡ fault = cc in sym (ap (λ (f : Fault). f.kind) same)
 
-  pub only_unended : (bytes : List ℕ) (p : Progress) → page_read syntax limits bytes ≡ Ok p → refused_in context [] (SignsOf p) ≡ None → (fault : Fault) → Refuses syntax limits context bytes fault → fault.kind ≡ Unended
-  only_unended bytes p h none fault (for_form f n) = end_kind p (may_end p.now) fault (sym (ap end_of h) ∙ fault_is_read syntax limits bytes fault f)
+  pub only_unended : (bytes : List ℕ) (p : Progress) → page_read way.syntax way.limits bytes ≡ Ok p → way.refused (SignsOf p) ≡ None → (fault : Fault) → Refuses way bytes fault → fault.kind ≡ Unended
+  only_unended bytes p h none fault (for_form f n) = end_kind p (may_end p.now) fault (sym (ap end_of h) ∙ fault_is_read way.syntax way.limits bytes fault f)
   only_unended bytes p h none fault (for_meaning m n) = absurd (no_meaning_in bytes p h none fault m)
 
   -- a fault of more bytes stands in them
-  at_least : (bytes more : List ℕ) (p : Progress) → page_read syntax limits bytes ≡ Ok p → (fault : Fault) → FaultAt syntax limits (bytes ++ more) fault → length bytes ≤ fault.at
-  at_least bytes more p h fault f = by (page_read syntax limits (bytes ++ more)) refl (fault_is_read syntax limits (bytes ++ more) fault f)
+  at_least : (bytes more : List ℕ) (p : Progress) → page_read way.syntax way.limits bytes ≡ Ok p → (fault : Fault) → FaultAt way.syntax way.limits (bytes ++ more) fault → length bytes ≤ fault.at
+  at_least bytes more p h fault f = by (page_read way.syntax way.limits (bytes ++ more)) refl (fault_is_read way.syntax way.limits (bytes ++ more) fault f)
     where
       err_same : (a b : Fault) → ◌≡◌ {A = Result Progress Fault} (Err a) (Err b) → a ≡ b
       err_same a b e = cc
@@ -127,11 +103,11 @@ module _ (syntax : Syntax) (limits : Limits) (context : Context) where
           let at : fault.at ≡ q.now.scan.at = ap (λ (x : Fault). x.at) (sym same) in
           omega (arith, at, s, length-append bytes more)
 
-      by : (x : Result Progress Fault) → page_read syntax limits (bytes ++ more) ≡ x → end_of x ≡ Err fault → length bytes ≤ fault.at
-      by (Ok q) k e = on q (may_end q.now) (read_size syntax limits (bytes ++ more) q k).0 e
-      by (Err g) k e = (within_so syntax limits bytes more p fault h (k ∙ e)).from
+      by : (x : Result Progress Fault) → page_read way.syntax way.limits (bytes ++ more) ≡ x → end_of x ≡ Err fault → length bytes ≤ fault.at
+      by (Ok q) k e = on q (may_end q.now) (read_size way.syntax way.limits (bytes ++ more) q k).0 e
+      by (Err g) k e = (within_so way.syntax way.limits bytes more p fault h (k ∙ e)).from
 
-  pub refused_from : (bytes more : List ℕ) (p : Progress) → page_read syntax limits bytes ≡ Ok p → refused_in context [] (SignsOf p) ≡ None → (fault : Fault) → Refuses syntax limits context (bytes ++ more) fault → length bytes ≤ fault.at
+  pub refused_from : (bytes more : List ℕ) (p : Progress) → page_read way.syntax way.limits bytes ≡ Ok p → way.refused (SignsOf p) ≡ None → (fault : Fault) → Refuses way (bytes ++ more) fault → length bytes ≤ fault.at
   refused_from bytes more p h none fault (for_form f n) = at_least bytes more p h fault f
   refused_from bytes more p h none fault (for_meaning m n) =
       ⊎_elim (λ r. absurd (none_before r.0 r.1)) (λ r. behind r.0 r.1) (fronts m.front m.rest bytes more (sym m.are))
@@ -141,8 +117,5 @@ module _ (syntax : Syntax) (limits : Limits) (context : Context) where
 
       behind : (mid : List ℕ) → m.front ≡ bytes ++ mid → length bytes ≤ fault.at
       behind mid e =
-          let s = shows_more syntax limits bytes mid p m.now h (ap (λ x. page_read syntax limits x) (sym e) ∙ m.read) in
-          let r : option_or (refused_in context [] (SignsOf p)) (refused_in context (line_of [] (SignsOf p)) s.signs) ≡ Some fault =
-          sym (refused_append context [] (SignsOf p) s.signs) ∙ (ap (λ x. refused_in context [] x) (sym s.are) ∙ m.refused) in
-          let later : refused_in context (line_of [] (SignsOf p)) s.signs ≡ Some fault = ap (λ o. option_or o (refused_in context (line_of [] (SignsOf p)) s.signs)) (sym none) ∙ r in
-          (refused_lies context (length bytes) (length (bytes ++ mid)) (line_of [] (SignsOf p)) s.signs fault s.lie later).0
+          let s = shows_more way.syntax way.limits bytes mid p m.now h (ap (λ x. page_read way.syntax way.limits x) (sym e) ∙ m.read) in
+          at_from (length bytes) (length (bytes ++ mid)) s.signs fault s.lie (law.lies (SignsOf p) s.signs fault none (ap way.refused (sym s.are) ∙ m.refused))

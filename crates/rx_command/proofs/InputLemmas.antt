@@ -15,25 +15,27 @@ use Rattle.rx_terms.specs.declared.triples.Triple.{Triple as CodeTriple}
 use Rattle.rx_model.specs.Copied.{copied}
 use Rattle.rx_model.specs.Numbered.{numbered}
 use Rattle.rx_model.specs.Seen.{triples_seen}
-use Rattle.rx_nquads.specs.Document.{Nquads}
-use Rattle.rx_nquads.specs.Quads.{quads}
-use Rattle.rx_nquads.specs.Writing.{nquads}
+use Rattle.rx_model.specs.Terms.{Triple}
 use Rattle.rx_rdfa.specs.Whole.{written}
 use Rattle.rx_rdfa.proofs.Whole.{written_denotes}
 use Rattle.rx_rdfa.specs.Names.{Context}
-use Rattle.rx_job.specs.Words.{Asked, Task, Extraction, extracts, checks}
-use Rattle.rx_walk.specs.Faults.{Refuses}
+use Rattle.rx_rdfa.specs.Standard.{standard}
+use Rattle.rx_job.specs.declared.formats.Format.{Format}
+use Rattle.rx_job.specs.declared.formats.Format.TheVariants as format
+use Rattle.rx_job.specs.Words.{Asked, Task, Extraction, Itemization, extracts, itemizes, checks}
+use Rattle.rx_reading.specs.Ways.{Way}
 use Rattle.rx_command.specs.declared.errors.InputError.{InputError}
 use Rattle.rx_command.specs.declared.errors.InputError.TheVariants as error
-use Rattle.rx_command.specs.Reading.{standard, Way, ReadsPage, ReadsRight, Finds, ReadsClean, IsClean, PageFails}
+use Rattle.rx_command.specs.Reading.{largest_piece, HasFirst, GivesList, GivesRight, ReadsWhole, Finds, ReadsClean, IsClean, PageFails}
 use Rattle.rx_command.proofs.ReadLemmas.{unread_clean}
 use Rattle.rx_command.specs.Files.{ReadsFile, TakesOf, size_of}
 use Rattle.rx_command.specs.Contexts.{IsContextFile, IsFileOf, IsContext, HasContext, TakesContext, ReadsContext, context_size, is_context}
 use Rattle.rx_command.specs.Inputs.{PageText, PageRefused, JobText, JobRefused, TellsThat, WhereTold}
-use Rattle.rx_command.specs.Outcome.{IsAccepted, IsLacking, IsRight, base_in, facts_in, way_in, ok_line}
+use Rattle.rx_command.specs.Outcome.{IsAccepted, IsLacking, IsRight, TaskRefuses, ReadsTo, base_in, facts_in, syntax_in, aim_in, way_in, ok_line, text_as, format_text, DenotesAs, FormatDenotes}
 use Rattle.rx_command.specs.Runs.{TakesFiles, StopsCleanly, page_limit}
 use Rattle.rx_command.specs.Ways.{extraction_of}
-use Rattle.rx_command.specs.Written.{text_of, Denoted}
+use Rattle.rx_command.specs.Written.{form_in, form_text, FormDenotes, text_of, Denoted}
+use Rattle.rx_command.specs.declared.forms.Form.{Form}
 use Rattle.rx_command.specs.declared.outcomes.Outcome.{Outcome}
 use Rattle.rx_command.specs.declared.outcomes.Outcome.TheVariants as found
 use Rattle.rx_command.specs.declared.pages.Approach.{Approach}
@@ -113,6 +115,24 @@ has_context None shelf context h = tt
 has_context (Some name) shelf context h =
     record { bytes = h.bytes; file = h.file; tested = ap (λ b. b && is_some (context_of h.bytes)) (short (length h.bytes) h.small) ∙ ap is_some h.reads }
 
+-- ---- refusals
+
+-- a first fault refuses, whatever the task, and no more was read than a piece past it
+refuses_first : (task : Task) (context : Context) (bytes : List ℕ) (fault : Fault) → HasFirst (way_in task context) bytes fault → TaskRefuses task context bytes fault
+refuses_first (extracts e) context bytes fault f = f
+refuses_first (itemizes i) context bytes fault f = inl f
+refuses_first (checks syntax) context bytes fault f = f
+
+reads_to : (task : Task) (fault : Fault) (before now : ℕ) → now ≤ before + (fault.at + largest_piece) → ReadsTo task fault before now
+reads_to (extracts e) fault before now l = l
+reads_to (itemizes i) fault before now l = λ k. l
+reads_to (checks syntax) fault before now l = l
+
+reads_later : (task : Task) (fault : Fault) (a b now : ℕ) → a ≤ b → ReadsTo task fault a now → ReadsTo task fault b now
+reads_later (extracts e) fault a b now l r = omega (arith, l, r)
+reads_later (itemizes i) fault a b now l r = λ k. let m : now ≤ a + (fault.at + largest_piece) = r k in omega (arith, l, m)
+reads_later (checks syntax) fault a b now l r = omega (arith, l, r)
+
 -- ---- the page after it
 
 pub takes_before : (asked : Asked) (file : Option (List ℕ)) → file ≡ asked.context → (x y : Told) → TakesContext file x y → TakesFiles (Some asked) x y
@@ -146,51 +166,73 @@ job_refused asked file context fault e x y z c p =
       bytes = p.bytes;
       file = there_before asked file context p.bytes x y c p.file;
       refused = p.refused;
-      reads = omega (arith, size, p.reads);
+      reads = reads_later asked.task fault y.taken (x.taken + context_size asked.context x) z.taken size p.reads;
     }
 
 -- ---- what a page is
 
-pub page_right : (way : Way) (name named : List ℕ) → named ≡ name → (x y : Told) → ReadsRight way named x y → PageText (checks way.syntax) way.context name found.Right x y
-page_right way name named e x y c =
-    let right : IsRight way.syntax way.context c.bytes ok_line = record { tree = c.right.tree; is = record { page = c.right.page; accepted = c.right.accepted }; spelled = refl } in
+pub page_right : (syntax : Syntax) (context : Context) (name named : List ℕ) (done : Unit {0}) → named ≡ name → (x y : Told) → ReadsWhole (GivesRight syntax context) named done x y → PageText (checks syntax) context name found.Right x y
+page_right syntax context name named done e x y c =
+    let right : IsRight syntax context c.bytes ok_line = record { tree = c.gives.tree; is = record { page = c.gives.page; accepted = c.gives.accepted }; spelled = refl } in
     record { bytes = c.bytes; file = sym (ap (λ n. file_of x.files n) e) ∙ c.file; gives = right; graph = λ read. right; left = c.left }
 
-pub page_text : (e : Extraction) (context : Context) (name named : List ℕ) (outcome : Outcome) (list : List CodeTriple) → named ≡ name
-    → text_of outcome ≡ encode_utf8_all (nquads (numbered nat_eq (copied nat_eq (triples_seen list))) e.graph) → (Denoted outcome → Nquads (chars (text_of outcome)) (quads (numbered nat_eq (copied nat_eq (triples_seen list))) e.graph))
-    → (x y : Told) → ReadsPage (way_in (extracts e) context) e.address named list x y → PageText (extracts e) context name outcome x y
-page_text e context name named outcome list n spelled denotes x y c =
-    let made = list_written e.address context c.ended.tree list c.ended.made in
-    let is : IsAccepted e.syntax context c.bytes c.ended.tree = record { page = c.ended.page; accepted = c.ended.accepted } in
+-- a form writes what its format does
+module _ (graph : Option Chars) (context : Context) where
+  same_text : (f : Format) (list : List (Triple ℕ)) → form_text (form_in f graph context) list ≡ text_as f graph context list
+  same_text format.Nquads list = refl
+  same_text format.Turtle list = refl
+
+  same_meaning : (f : Format) (text : Chars) (triples : List (Triple ℕ)) → FormDenotes (form_in f graph context) text triples → DenotesAs f graph text triples
+  same_meaning format.Nquads text triples d = d
+  same_meaning format.Turtle text triples d = d
+
+pub page_text : (e : Extraction) (context : Context) (name named : List ℕ) (form : Form) (outcome : Outcome) (list : List CodeTriple) → named ≡ name → form ≡ form_in e.format e.graph context
+    → text_of outcome ≡ encode_utf8_all (form_text form (numbered nat_eq (copied nat_eq (triples_seen list)))) → (Denoted outcome → FormDenotes form (chars (text_of outcome)) (numbered nat_eq (copied nat_eq (triples_seen list))))
+    → (x y : Told) → ReadsWhole (GivesList e.syntax context e.address) named list x y → PageText (extracts e) context name outcome x y
+page_text e context name named form outcome list n f spelled denotes x y c =
+    let triples : List (Triple ℕ) = written (base_in e.address c.gives.tree) (facts_in context c.gives.tree) in
+    let made : numbered nat_eq (copied nat_eq (triples_seen list)) ≡ triples = list_written e.address context c.gives.tree list c.gives.made in
+    let is : IsAccepted e.syntax context c.bytes c.gives.tree = record { page = c.gives.page; accepted = c.gives.accepted } in
     record {
       bytes = c.bytes;
       file = sym (ap (λ n. file_of x.files n) n) ∙ c.file;
-      gives = record { tree = c.ended.tree; is = is; spelled = spelled ∙ ap (λ ts. encode_utf8_all (nquads ts e.graph)) made };
-      graph = λ read. record {
-        tree = c.ended.tree;
+      gives = record {
+        tree = c.gives.tree;
         is = is;
-        triples = written (base_in e.address c.ended.tree) (facts_in context c.ended.tree);
-        denotes = subst (λ ts. Nquads (chars (text_of outcome)) (quads ts e.graph)) made (denotes read);
-        renamed = written_denotes (base_in e.address c.ended.tree) (facts_in context c.ended.tree);
+        spelled =
+            spelled
+            ∙ (ap (λ (k : Form). encode_utf8_all (form_text k (numbered nat_eq (copied nat_eq (triples_seen list))))) f
+            ∙ (ap encode_utf8_all (same_text e.graph context e.format (numbered nat_eq (copied nat_eq (triples_seen list))))
+            ∙ ap (λ ts. encode_utf8_all (format_text e context ts)) made));
+      };
+      graph = λ read. record {
+        tree = c.gives.tree;
+        is = is;
+        triples = triples;
+        denotes =
+            subst (λ ts. FormatDenotes e (chars (text_of outcome)) ts) made
+            (same_meaning e.graph context e.format (chars (text_of outcome)) (numbered nat_eq (copied nat_eq (triples_seen list)))
+            (subst (λ (k : Form). FormDenotes k (chars (text_of outcome)) (numbered nat_eq (copied nat_eq (triples_seen list)))) f (denotes read)));
+        renamed = written_denotes (base_in e.address c.gives.tree) (facts_in context c.gives.tree);
       };
       left = c.left;
     }
 
 -- of a job that is known to be an extraction, or a check
-pub for_extraction : (holds : Task → Context → List ℕ → Type 0) (asked : Asked) (approach : Approach) (graph : Option (Bor Chars)) (e : Extraction) (file : Option Chars) (page : Chars)
-    → asked ≡ record { task = extracts e; context = file; page = page } → approach.syntax ≡ e.syntax → approach.address ≡ e.address → option_map (λ iri. iri.now) graph ≡ e.graph
-    → holds (extracts (extraction_of approach graph)) approach.context (encode_utf8_all page) → holds asked.task approach.context (encode_utf8_all asked.page)
-for_extraction holds asked approach graph e file page is s a n h =
-    let same : extraction_of approach graph ≡ e = λ i. record { syntax = s i; graph = n i; address = a i } in
+pub for_extraction : (holds : Task → Context → List ℕ → Type 0) (asked : Asked) (approach : Approach) (f : Format) (graph : Option (Bor Chars)) (e : Extraction) (file : Option Chars) (page : Chars)
+    → asked ≡ record { task = extracts e; context = file; page = page } → approach.syntax ≡ e.syntax → f ≡ e.format → approach.address ≡ e.address → option_map (λ iri. iri.now) graph ≡ e.graph
+    → holds (extracts (extraction_of approach f graph)) approach.context (encode_utf8_all page) → holds asked.task approach.context (encode_utf8_all asked.page)
+for_extraction holds asked approach f graph e file page is s k a n h =
+    let same : extraction_of approach f graph ≡ e = λ i. record { syntax = s i; format = k i; graph = n i; address = a i } in
     subst (λ (k : Asked). holds k.task approach.context (encode_utf8_all k.page)) (sym is) (subst (λ (x : Extraction). holds (extracts x) approach.context (encode_utf8_all page)) same h)
 
 pub for_check : (holds : Task → Context → List ℕ → Type 0) (asked : Asked) (syntax : Syntax) (file : Option Chars) (page : Chars) (context : Context)
     → asked ≡ record { task = checks syntax; context = file; page = page } → holds (checks syntax) context (encode_utf8_all page) → holds asked.task context (encode_utf8_all asked.page)
 for_check holds asked syntax file page context is h = subst (λ (k : Asked). holds k.task context (encode_utf8_all k.page)) (sym is) h
 
-pub page_found : (task : Task) (way : Way) (context : Context) (name named : List ℕ) (fault : Fault) → named ≡ name → way.syntax ≡ (way_in task context).syntax → way.context ≡ (way_in task context).context → (x y : Told) → Finds way named fault x y → PageRefused task context name fault x y
-page_found task way context name named fault e s k x y f =
-    record { bytes = f.bytes; file = sym (ap (λ n. file_of x.files n) e) ∙ f.file; refused = subst (λ z. Refuses z standard (way_in task context).context f.bytes fault) s (subst (λ z. Refuses way.syntax standard z f.bytes fault) k f.is); reads = f.read }
+pub page_found : (task : Task) (way : Way) (context : Context) (name named : List ℕ) (fault : Fault) → named ≡ name → way ≡ way_in task context → (x y : Told) → Finds way named fault x y → PageRefused task context name fault x y
+page_found task way context name named fault e w x y f =
+    record { bytes = f.bytes; file = sym (ap (λ n. file_of x.files n) e) ∙ f.file; refused = refuses_first task context f.bytes fault (subst (λ (z : Way). HasFirst z f.bytes fault) w f.is); reads = reads_to task fault x.taken y.taken f.read }
 
 -- why a page was not read
 pub fails_refused : (way : Way) (name named : List ℕ) (e : InputError) (fault : Fault) (told now : Option Told) → named ≡ name → PageFails way named e told now → e ≡ error.Refused fault → Moves (Finds way name fault) told now
@@ -201,6 +243,24 @@ fails_clean way name named e told now n g is = subst (λ x. Moves (ReadsClean wa
 
 pub fails_no_context : (way : Way) (name : List ℕ) (e : InputError) (told now : Option Told) → PageFails way name e told now → e ≡ error.BadContext → ⊥
 fails_no_context way name e told now g is = subst (λ x. PageFails way name x told now) is g
+
+pub for_itemization : (holds : Task → Context → List ℕ → Type 0) (asked : Asked) (i : Itemization) (page : Chars) (context : Context)
+    → asked ≡ record { task = itemizes i; context = None; page = page } → holds (itemizes i) context (encode_utf8_all page) → holds asked.task context (encode_utf8_all asked.page)
+for_itemization holds asked i page context is h = subst (λ (k : Asked). holds k.task context (encode_utf8_all k.page)) (sym is) h
+
+-- where no context file is named the standard context holds, and nothing is read
+standard_holds : (x : Told) → ReadsContext None standard x x
+standard_holds x = record { is = refl; takes = record { files = refl; size = omega arith; most = omega arith } }
+
+pub standard_stays : (told : Option Told) → Moves (ReadsContext None standard) told told
+standard_stays None = record { same = refl; taken = λ x y p q. absurd (cc) }
+standard_stays (Some t) = record { same = refl; taken = λ x y p q. at x y (some_told t x p) (some_told t y q) }
+  where
+    some_told : (a b : Told) → ◌≡◌ {A = Option Told} (Some a) (Some b) → a ≡ b
+    some_told a b e = cc
+
+    at : (x y : Told) → t ≡ x → t ≡ y → ReadsContext None standard x y
+    at x y p q = subst (λ (z : Told). ReadsContext None standard z y) p (subst (λ (z : Told). ReadsContext None standard t z) q (standard_holds t))
 
 -- what a call gives
 
@@ -230,7 +290,7 @@ page_failed told mid asked file context name a b c e named m low (inr lacks) = i
 pub context_stops : (asked : Asked) (file : Option (List ℕ)) → file ≡ asked.context → (x y : Told) → TakesContext file x y → StopsCleanly (Some asked) x y
 context_stops asked file e x y t context holds bytes f =
     let m : TakesContext asked.context x y = subst (λ f. TakesContext f x y) e t in
-    let c = unread_clean (way_in asked.task context) (encode_utf8_all asked.page) (record { files = x.files; left = x.left; taken = x.taken + context_size asked.context x }) y m.size bytes f in
+    let c = unread_clean (syntax_in asked.task) (aim_in asked.task context) (encode_utf8_all asked.page) (record { files = x.files; left = x.left; taken = x.taken + context_size asked.context x }) y m.size bytes f in
     record { bytes = c.bytes; rest = c.rest; are = c.are; taken = c.taken; clean = c.clean }
 
 -- the page

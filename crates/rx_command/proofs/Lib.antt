@@ -9,3 +9,5 @@ pub mod WrittenTokens
 pub mod WrittenNodes
 pub mod SampleTokens
 pub mod SampleNodes
+pub mod JsonLemmas
+pub mod ItemLemmas

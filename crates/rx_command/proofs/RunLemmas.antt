@@ -10,13 +10,18 @@ use Rattle.rx_rdfa.specs.Names.{Context}
 use Rattle.rx_reader.proofs.Bools.{split}
 use Rattle.rx_job.specs.declared.jobs.Job.{Job as CodeJob}
 use Rattle.rx_job.specs.Jobs.{asked_by, page_by, ReadsPage}
-use Rattle.rx_job.specs.Words.{Asked, Job, Task, extracts, checks, reads, samples, count_of, sampling, extraction, checking, given, is_word, most_items, job, page_in, page_asked}
+use Rattle.rx_job.specs.Words.{Asked, Job, Task, extracts, itemizes, checks, reads, samples, count_of, sampling, extraction, itemization, checking, given, is_word, most_items, job, page_in, page_asked}
+use Rattle.rx_pages.proofs.Trees.{one_tree}
+use Rattle.rx_microdata.specs.Json.{Given, Refused, outcome}
+use Rattle.rx_microdata.specs.Visits.{standard_bounds}
+use Rattle.serde_json.specs.Data.{Data}
 use Rattle.rx_command.specs.Reading.{standard}
 use Rattle.rx_command.proofs.FaultLemmas.{one_first, page_has_none}
+use Rattle.rx_command.proofs.ReadLemmas.{refuses_so}
 use Rattle.rx_job.proofs.NumberLemmas.{few_counted}
 use Rattle.rx_command.specs.Contexts.{IsContext, HasContext, HasOther, LacksContext, is_context}
 use Rattle.rx_command.proofs.InputLemmas.{has_context, one_context}
-use Rattle.rx_command.specs.Outcome.{TaskGives, TaskRefuses, way_in, NamesPage, HasPageFault, Meets, IsLacking, LacksFile, HasBadContext}
+use Rattle.rx_command.specs.Outcome.{TaskGives, TaskRefuses, aim_in, way_in, NamesPage, HasPageFault, Meets, IsLacking, LacksFile, HasBadContext}
 use Rattle.rx_command.specs.Samples.{Yields, YieldsGraph}
 use Rattle.rx_command.specs.Inputs.{JobText, JobRefused, TellsThat}
 use Rattle.rx_command.specs.Written.{text_of, Denoted}
@@ -63,9 +68,19 @@ same_context words told bytes others p q =
     one_context q.asked.context q.shelf p.context q.context
     (subst (λ s. IsContext q.asked.context s p.context) (one_shelf told p.shelf q.shelf p.tells q.tells) (subst (λ k. IsContext k.context p.shelf p.context) (one_asked words p.asked q.asked p.asks q.asks) p.holds)) q.holds
 
+given_not_refused : (value : Data) (fault : Fault) → Given value ≡ Refused fault → ⊥
+given_not_refused value fault e = cc
+
+refused_same : (a b : Fault) → Refused a ≡ Refused b → a ≡ b
+refused_same a b e = cc
+
 no_both : (task : Task) (context : Context) (bytes text : List ℕ) (fault : Fault) → TaskGives task context bytes text → TaskRefuses task context bytes fault → ⊥
-no_both (extracts e) context bytes text fault h n = page_has_none e.syntax standard context bytes h.tree h.is.page h.is.accepted fault n
-no_both (checks syntax) context bytes text fault h n = page_has_none syntax standard context bytes h.tree h.is.page h.is.accepted fault n
+no_both (extracts e) context bytes text fault h n = page_has_none (way_in (extracts e) context) (refuses_so (aim_in (extracts e) context)) bytes h.tree h.is.page h.is.accepted fault n
+no_both (itemizes i) context bytes text fault h (inl n) = page_has_none (way_in (itemizes i) context) (refuses_so (aim_in (itemizes i) context)) bytes h.tree h.page refl fault n
+no_both (itemizes i) context bytes text fault h (inr n) =
+    let same : h.tree ≡ n.tree = one_tree i.syntax standard bytes h.tree n.tree h.page n.page in
+    given_not_refused h.json.value fault (sym h.json.given ∙ (ap (outcome standard_bounds i.address) same ∙ n.refused))
+no_both (checks syntax) context bytes text fault h n = page_has_none (way_in (checks syntax) context) (refuses_so (aim_in (checks syntax) context)) bytes h.tree h.is.page h.is.accepted fault n
 
 same_page : (words : List (List ℕ)) (told : Option Told) (bytes others : List ℕ) (a : Fault) (p : NamesPage words told bytes) (q : NamesPage words told others) → TaskRefuses p.asked.task p.context bytes a → TaskRefuses q.asked.task q.context others a
 same_page words told bytes others a p q r =
@@ -84,10 +99,19 @@ not_both words told text fault (inl y) r = no_both y.page.asked.task y.page.cont
 not_both words told text fault (inr y) r = not_sample words r.page.asked y.count r.page.asks y.asks
 
 -- there is one refusal
+one_of_task : (task : Task) (context : Context) (bytes : List ℕ) (a b : Fault) → TaskRefuses task context bytes a → TaskRefuses task context bytes b → a ≡ b
+one_of_task (extracts e) context bytes a b p q = one_first (way_in (extracts e) context) (refuses_so (aim_in (extracts e) context)) bytes a b p q
+one_of_task (checks syntax) context bytes a b p q = one_first (way_in (checks syntax) context) (refuses_so (aim_in (checks syntax) context)) bytes a b p q
+one_of_task (itemizes i) context bytes a b (inl p) (inl q) = one_first (way_in (itemizes i) context) (refuses_so (aim_in (itemizes i) context)) bytes a b p q
+one_of_task (itemizes i) context bytes a b (inl p) (inr q) = absurd (page_has_none (way_in (itemizes i) context) (refuses_so (aim_in (itemizes i) context)) bytes q.tree q.page refl a p)
+one_of_task (itemizes i) context bytes a b (inr p) (inl q) = absurd (page_has_none (way_in (itemizes i) context) (refuses_so (aim_in (itemizes i) context)) bytes p.tree p.page refl b q)
+one_of_task (itemizes i) context bytes a b (inr p) (inr q) =
+    let same : p.tree ≡ q.tree = one_tree i.syntax standard bytes p.tree q.tree p.page q.page in
+    refused_same a b (sym p.refused ∙ (ap (outcome standard_bounds i.address) same ∙ q.refused))
+
 pub one_refusal : (words : List (List ℕ)) (told : Option Told) (a b : Fault) → HasPageFault words told a → HasPageFault words told b → a ≡ b
 one_refusal words told a b p q =
-    let way = way_in q.page.asked.task q.page.context in
-    one_first way.syntax standard way.context q.bytes a b (same_page words told p.bytes q.bytes a p.page q.page p.refused) q.refused
+    one_of_task q.page.asked.task q.page.context q.bytes a b (same_page words told p.bytes q.bytes a p.page q.page p.refused) q.refused
 
 -- a job that reads a page is that of the words
 pub asks_page : (words : List (List ℕ)) (j : CodeJob) → job words ≡ Some (asked_by j) → ReadsPage j → page_asked words ≡ Some (page_by j)
@@ -128,7 +152,8 @@ few_asked [] count e = absurd (cc)
 few_asked (task ∷ words) count e =
     split (IsFew count) (is_word task (codes "sample")) (sampling words) _ (λ t k. few_sampled words count k)
     (λ f. split (IsFew count) (is_word task (codes "extract")) (option_map reads (option_and_then extraction (given words))) _ (λ t k. absurd (no_reading (option_and_then extraction (given words)) count k))
-    (λ f. split (IsFew count) (is_word task (codes "check")) (option_map reads (option_and_then checking (given words))) None (λ t k. absurd (no_reading (option_and_then checking (given words)) count k)) (λ f k. absurd (cc))))
+    (λ f. split (IsFew count) (is_word task (codes "items")) (option_map reads (option_and_then itemization (given words))) _ (λ t k. absurd (no_reading (option_and_then itemization (given words)) count k))
+    (λ f. split (IsFew count) (is_word task (codes "check")) (option_map reads (option_and_then checking (given words))) None (λ t k. absurd (no_reading (option_and_then checking (given words)) count k)) (λ f k. absurd (cc)))))
     e
 
 pub sample_nothing : (count : ℕ) (s : Status) (old new : Option (List ℕ)) (before now : ℕ) → SampleEnds count s old new before now → s ≢ status.Done → s ≢ status.WriteFault → Moves Stays old new

@@ -1,13 +1,13 @@
 -- Reading what a job names.
-use Rattle.std.specs.Prelude.{◌≡◌, ℕ, ◌+◌, ◌≤◌, List, [], Option, Some, None, encode_utf8_all}
+use Rattle.std.specs.Prelude.{◌≡◌, ℕ, ◌+◌, List, [], Option, Some, None, encode_utf8_all}
 use Rattle.rx_ports.specs.Files.{file_of}
 use Rattle.rx_ports.specs.Told.{Told}
 use Rattle.rx_rdfa.specs.Names.{Context}
 use Rattle.rx_grammar.specs.declared.faults.Fault.{Fault}
 use Rattle.rx_job.specs.Words.{Asked, Task}
-use Rattle.rx_command.specs.Reading.{largest_piece, IsClean}
+use Rattle.rx_command.specs.Reading.{IsClean}
 use Rattle.rx_command.specs.Contexts.{IsContext, context_size}
-use Rattle.rx_command.specs.Outcome.{TaskGives, TaskDenotes, TaskRefuses, way_in}
+use Rattle.rx_command.specs.Outcome.{TaskGives, TaskDenotes, TaskRefuses, ReadsTo, way_in}
 use Rattle.rx_command.specs.Written.{text_of, Denoted}
 use Rattle.rx_command.specs.declared.outcomes.Outcome.{Outcome}
 
@@ -24,7 +24,7 @@ pub record PageRefused (task : Task) (context : Context) (name : List ℕ) (faul
   pub bytes : List ℕ
   pub file : file_of old.files name ≡ Some bytes
   pub refused : TaskRefuses task context bytes fault
-  pub reads : new.taken ≤ old.taken + (fault.at + largest_piece)
+  pub reads : ReadsTo task fault old.taken new.taken
 
 -- a context holds, and under it the page gives this
 pub record JobText (asked : Asked) (outcome : Outcome) (old new : Told) : Type 0 where
@@ -39,7 +39,7 @@ pub record JobRefused (asked : Asked) (fault : Fault) (old new : Told) : Type 0 
   pub bytes : List ℕ
   pub file : file_of old.files (encode_utf8_all asked.page) ≡ Some bytes
   pub refused : TaskRefuses asked.task context bytes fault
-  pub reads : new.taken ≤ old.taken + context_size asked.context old + (fault.at + largest_piece)
+  pub reads : ReadsTo asked.task fault (old.taken + context_size asked.context old) new.taken
 
 -- A read that failed: whatever context holds, the bytes that were read of the page hold no fault but that they end.
 abbrev pub StopsClean : Asked → List ℕ → ℕ → Told → Told → Type 0

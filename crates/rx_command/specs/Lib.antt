@@ -3,6 +3,7 @@ pub mod Ways
 pub mod Files
 pub mod Contexts
 pub mod Outcome
+pub mod ItemTexts
 pub mod Written
 pub mod Inputs
 pub mod Runs

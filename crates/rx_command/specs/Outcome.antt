@@ -1,5 +1,5 @@
 -- What comes of a page: a text, or a refusal.
-use Rattle.std.specs.Prelude.{◌≡◌, ◌⊎◌, ℕ, true, is_some, List, [], encode_utf8_all, codes, Option, Some, None}
+use Rattle.std.specs.Prelude.{◌≡◌, ◌⊎◌, ◌+◌, ◌≤◌, ℕ, Bool, true, false, is_some, List, [], ◌++◌, map, encode_utf8_all, codes, Option, Some, None}
 use Rattle.std.specs.Str.{chars}
 use Rattle.rx_ports.specs.Told.{Told}
 use Rattle.rx_ports.specs.Files.{file_of}
@@ -13,17 +13,29 @@ use Rattle.rx_rdfa.specs.Tree.{Nodes}
 use Rattle.rx_rdfa.specs.Whole.{written, graph_of}
 use Rattle.rx_chars.specs.declared.syntax.Syntax.{Syntax}
 use Rattle.rx_grammar.specs.declared.faults.Fault.{Fault}
+use Rattle.rx_grammar.specs.declared.faults.Kind.{Kind}
+use Rattle.rx_grammar.specs.declared.faults.Kind.TheVariants.{Cycle, ItemsTooNested, ItemsTooMany}
 use Rattle.rx_grammar.specs.Trees.{Tree}
 use Rattle.rx_grammar.specs.Pages.{Page}
 use Rattle.rx_nest.specs.Signs.{signs_of}
-use Rattle.rx_walk.specs.Lines.{tags_of}
+use Rattle.rx_base.specs.Lines.{tags_of}
 use Rattle.rx_walk.specs.Refused.{refused_in}
 use Rattle.rx_nquads.specs.Quads.{quads}
 use Rattle.rx_nquads.specs.Document.{Nquads}
 use Rattle.rx_nquads.specs.Writing.{nquads}
-use Rattle.rx_job.specs.Words.{Asked, Task, Extraction, extracts, checks, page_asked}
+use Rattle.rx_notation.specs.Laws.{proper_triple}
+use Rattle.rx_notation.specs.Layout.{turtle}
+use Rattle.rx_notation.specs.Meaning.{Turtle}
+use Rattle.rx_microdata.specs.Json.{Given, Refused, outcome}
+use Rattle.rx_microdata.specs.Visits.{standard_bounds}
+use Rattle.serde_json.specs.Data.{Data}
+use Rattle.serde_json.specs.Written.{compact_text}
+use Rattle.rx_job.specs.declared.formats.Format.{Format}
+use Rattle.rx_job.specs.declared.formats.Format.TheVariants as format
+use Rattle.rx_job.specs.Words.{Asked, Task, Extraction, Itemization, extracts, itemizes, checks, page_asked}
 use Rattle.rx_command.specs.Contexts.{IsContext, HasContext, HasOther, LacksContext}
-use Rattle.rx_command.specs.Reading.{standard, Way, HasFirst}
+use Rattle.rx_reading.specs.Ways.{Way}
+use Rattle.rx_command.specs.Reading.{standard, largest_piece, Aim, for_triples, for_faults, for_items, way_for, HasFirst}
 
 -- the bytes are a page with this tree, and none of its start tags is refused
 pub record IsAccepted (syntax : Syntax) (context : Context) (bytes : List ℕ) (tree : Tree) : Type 0 where
@@ -37,18 +49,36 @@ facts_in context tree = with_facts context [] (tags_of tree)
 abbrev pub base_in : Chars → Tree → Chars
 base_in address tree = base_of (tags_of tree) address
 
+-- the text of a list of triples in a format: quads of the graph of this name, or statements under the context's prefixes
+abbrev pub text_as : Format → Option Chars → Context → List (Triple ℕ) → Chars
+text_as format.Nquads graph context list = nquads list graph
+text_as format.Turtle graph context list = turtle context.prefixes list
+
+-- the text of a list of triples that an extraction writes
+abbrev pub format_text : Extraction → Context → List (Triple ℕ) → Chars
+format_text e context list = text_as e.format e.graph context list
+
+-- the text in a format denotes exactly the triples, in the graph of this name
+abbrev pub DenotesAs : Format → Option Chars → Chars → List (Triple ℕ) → Type 0
+DenotesAs format.Nquads graph text triples = Nquads text (quads triples graph)
+DenotesAs format.Turtle graph text triples = Turtle text (map proper_triple triples)
+
+-- the text that an extraction writes denotes exactly the triples
+abbrev pub FormatDenotes : Extraction → Chars → List (Triple ℕ) → Type 0
+FormatDenotes e text triples = DenotesAs e.format e.graph text triples
+
 -- the text is that of the triples that RDFa's rules give the page's tree
 pub record HasText (e : Extraction) (context : Context) (bytes text : List ℕ) : Type 0 where
   pub tree : Tree
   pub is : IsAccepted e.syntax context bytes tree
-  pub spelled : text ≡ encode_utf8_all (nquads (written (base_in e.address tree) (facts_in context tree)) e.graph)
+  pub spelled : text ≡ encode_utf8_all (format_text e context (written (base_in e.address tree) (facts_in context tree)))
 
 -- the text denotes exactly the graph that RDFa's rules give the page's tree, its blank nodes renamed one to one
 pub record Denotes (e : Extraction) (context : Context) (bytes text : List ℕ) : Type 0 where
   pub tree : Tree
   pub is : IsAccepted e.syntax context bytes tree
   pub triples : List (Triple ℕ)
-  pub denotes : Nquads (chars text) (quads triples e.graph)
+  pub denotes : FormatDenotes e (chars text) triples
   pub renamed : Renamed (graph_of (base_in e.address tree) (facts_in context tree)) (set_of triples)
 
 abbrev pub ok_line : List ℕ
@@ -60,23 +90,69 @@ pub record IsRight (syntax : Syntax) (context : Context) (bytes text : List ℕ)
   pub is : IsAccepted syntax context bytes tree
   pub spelled : text ≡ ok_line
 
+-- the text is the compact JSON of the items of a tree that was read from an address, with LF
+pub record JsonText (address : Chars) (tree : Tree) (text : List ℕ) : Type 0 where
+  pub value : Data
+  pub given : outcome standard_bounds address tree ≡ Given value
+  pub spelled : text ≡ compact_text value ++ codes "\n"
+
+-- the page is one of the grammar, and the text is that of its items
+pub record HasItems (i : Itemization) (bytes text : List ℕ) : Type 0 where
+  pub tree : Tree
+  pub page : Page i.syntax standard bytes tree
+  pub json : JsonText i.address tree text
+
+-- the page is one of the grammar, and one of its items is refused, the first in the order in which they are visited
+pub record HasItemFault (i : Itemization) (bytes : List ℕ) (fault : Fault) : Type 0 where
+  pub tree : Tree
+  pub page : Page i.syntax standard bytes tree
+  pub refused : outcome standard_bounds i.address tree ≡ Refused fault
+
+-- the syntax of the page, and what it is read for
+abbrev pub syntax_in : Task → Syntax
+syntax_in (extracts e) = e.syntax
+syntax_in (itemizes i) = i.syntax
+syntax_in (checks syntax) = syntax
+
+abbrev pub aim_in : Task → Context → Aim
+aim_in (extracts e) context = for_triples context e.address
+aim_in (itemizes i) context = for_items i.address
+aim_in (checks syntax) context = for_faults context
+
 -- how the task reads a page
 abbrev pub way_in : Task → Context → Way
-way_in (extracts e) context = record { syntax = e.syntax; context = context }
-way_in (checks syntax) context = record { syntax = syntax; context = context }
+way_in task context = way_for (syntax_in task) (aim_in task context)
 
--- what a task makes of a page: an extraction gives the text of its triples; a check says that the page is one
+-- what a task makes of a page: an extraction gives the text of its triples, and a search for items that of these; a check
+-- says that the page is one
 abbrev pub TaskGives : Task → Context → List ℕ → List ℕ → Type 0
 TaskGives (extracts e) context bytes text = HasText e context bytes text
+TaskGives (itemizes i) context bytes text = HasItems i bytes text
 TaskGives (checks syntax) context bytes text = IsRight syntax context bytes text
 
 abbrev pub TaskDenotes : Task → Context → List ℕ → List ℕ → Type 0
 TaskDenotes (extracts e) context bytes text = Denotes e context bytes text
+TaskDenotes (itemizes i) context bytes text = HasItems i bytes text
 TaskDenotes (checks syntax) context bytes text = IsRight syntax context bytes text
 
--- it refuses the page with its first fault
+-- it refuses the page with its first fault, or, where items are wanted of a page without one, with that of an item
 abbrev pub TaskRefuses : Task → Context → List ℕ → Fault → Type 0
-TaskRefuses task context bytes fault = HasFirst (way_in task context) bytes fault
+TaskRefuses (extracts e) context bytes fault = HasFirst (way_in (extracts e) context) bytes fault
+TaskRefuses (itemizes i) context bytes fault = HasFirst (way_in (itemizes i) context) bytes fault ⊎ HasItemFault i bytes fault
+TaskRefuses (checks syntax) context bytes fault = HasFirst (way_in (checks syntax) context) bytes fault
+
+-- faults of items, which are found once the page has ended
+abbrev pub is_of_items : Kind → Bool
+is_of_items Cycle = true
+is_of_items ItemsTooNested = true
+is_of_items ItemsTooMany = true
+is_of_items kind = false
+
+-- no more was read than a piece past the byte that decides the fault, where that isn't an item's
+abbrev pub ReadsTo : Task → Fault → ℕ → ℕ → Type 0
+ReadsTo (extracts e) fault before now = now ≤ before + (fault.at + largest_piece)
+ReadsTo (itemizes i) fault before now = is_of_items fault.kind ≡ false → now ≤ before + (fault.at + largest_piece)
+ReadsTo (checks syntax) fault before now = now ≤ before + (fault.at + largest_piece)
 
 -- the words name a page, the shelf tells its files, this context holds, and the page has these bytes
 pub record NamesPage (words : List Chars) (told : Option Told) (bytes : List ℕ) : Type 0 where

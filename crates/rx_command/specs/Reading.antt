@@ -1,5 +1,5 @@
 -- Reading a page as its bytes come.
-use Rattle.std.specs.Prelude.{◌≡◌, ℕ, Bool, true, false, ◌+◌, ◌≤◌, List, [], ◌++◌, length, Option, Some, Result, Ok, Err}
+use Rattle.std.specs.Prelude.{◌≡◌, ℕ, ◌+◌, ◌≤◌, List, [], ◌++◌, length, Option, Some, Result, Ok, Err}
 use Rattle.rx_terms.specs.Text.{Chars}
 use Rattle.rx_terms.specs.declared.triples.Triple.{Triple as CodeTriple}
 use Rattle.rx_chars.specs.declared.syntax.Syntax.{Syntax}
@@ -8,9 +8,16 @@ use Rattle.rx_grammar.specs.declared.faults.Kind.TheVariants.{Unended}
 use Rattle.rx_grammar.specs.declared.limits.Limits.{Limits}
 use Rattle.rx_rdfa.specs.Names.{Context}
 use Rattle.rx_tags.specs.declared.stops.Stop.{Stop}
-use Rattle.rx_walk.specs.Faults.{Refuses, StopGives}
+use Rattle.rx_nest.specs.Signs.{Sign}
+use Rattle.rx_reading.specs.Faults.{Refuses, StopGives}
+use Rattle.rx_reading.specs.Ways.{Way, refuses_none}
+use Rattle.rx_walk.specs.Refused.{refused_in}
+use Rattle.rx_walk.specs.Settings.{Setting}
 use Rattle.rx_walk.specs.Walks as walk
 use Rattle.rx_walk.specs.Walks.{Ended}
+use Rattle.rx_items.specs.Collecting.{Setting as ItemSetting}
+use Rattle.rx_items.specs.Walks as item
+use Rattle.rx_items.specs.declared.kept.Kept.{Kept}
 use Rattle.rx_walk.specs.Checks as check
 use Rattle.rx_walk.specs.Checks.{Accepted}
 use Rattle.rx_ports.specs.Files.{file_of}
@@ -28,29 +35,51 @@ standard = record { depth = 512; tag = 1048576; page = 1073741824 }
 abbrev pub largest_piece : ℕ
 largest_piece = 65536
 
--- how a page is read: its syntax, and the names that hold in it
-pub record Way : Type 0 where
-  pub syntax : Syntax
-  pub context : Context
+-- how a page is read under these names
+abbrev pub setting_for : Syntax → Context → Setting
+setting_for syntax context = record { syntax = syntax; limits = standard; context = context }
 
--- the page's triples are wanted
-abbrev pub walks : Reader → Bool
-walks (reader.Walks v) = true
-walks (reader.Checks v) = false
+-- how its items are read at an address
+abbrev pub item_setting_for : Syntax → Chars → ItemSetting
+item_setting_for syntax address = record { syntax = syntax; limits = standard; address = address }
 
--- the reader stands where these bytes of the page at an address lead; a check knows no address
-abbrev pub Reached : Way → Chars → Reader → List ℕ → Type 0
-Reached way address (reader.Walks v) bytes = walk.Stands way.syntax standard way.context address v bytes
-Reached way address (reader.Checks v) bytes = check.Stands way.syntax standard way.context v bytes
+-- what a page is read for: its triples, where these names hold in it and this is its address; its items, where this is its
+-- address; or its faults alone
+pub data Aim : Type 0 where
+  for_triples : Context → Chars → Aim
+  for_items : Chars → Aim
+  for_faults : Context → Aim
+
+-- the fault of the first start tag that is refused for what it means
+abbrev pub refused_for : Aim → List Sign → Option Fault
+refused_for (for_triples context address) = refused_in context []
+refused_for (for_items address) = refuses_none
+refused_for (for_faults context) = refused_in context []
+
+-- how a page of this syntax is read for it
+abbrev pub way_for : Syntax → Aim → Way
+way_for syntax aim = record { syntax = syntax; limits = standard; refused = refused_for aim }
+
+-- the reader, which was made for this, stands where these bytes of a page lead
+abbrev pub Reached : Syntax → Aim → Reader → List ℕ → Type 0
+Reached syntax (for_triples context address) (reader.Walks v) bytes = walk.Stands (setting_for syntax context) address v bytes
+Reached syntax (for_triples context address) (reader.Itemizes v) bytes = ⊥
+Reached syntax (for_triples context address) (reader.Checks v) bytes = ⊥
+Reached syntax (for_items address) (reader.Walks v) bytes = ⊥
+Reached syntax (for_items address) (reader.Itemizes v) bytes = item.Stands (item_setting_for syntax address) v bytes
+Reached syntax (for_items address) (reader.Checks v) bytes = ⊥
+Reached syntax (for_faults context) (reader.Walks v) bytes = ⊥
+Reached syntax (for_faults context) (reader.Itemizes v) bytes = ⊥
+Reached syntax (for_faults context) (reader.Checks v) bytes = check.Stands (setting_for syntax context) v bytes
 
 -- a piece was taken, or stops the reader
-abbrev pub FeedGives : Way → Chars → List ℕ → List ℕ → Result (Unit {0}) Stop → Reader → Type 0
-FeedGives way address bytes piece (Ok done) new = Reached way address new (bytes ++ piece)
-FeedGives way address bytes piece (Err why) new = StopGives way.syntax standard way.context (bytes ++ piece) why
+abbrev pub FeedGives : Syntax → Aim → List ℕ → List ℕ → Result (Unit {0}) Stop → Reader → Type 0
+FeedGives syntax aim bytes piece (Ok done) new = Reached syntax aim new (bytes ++ piece)
+FeedGives syntax aim bytes piece (Err why) new = StopGives (way_for syntax aim) (bytes ++ piece) why
 
 -- the bytes have this fault, the first of their form and of what their tags mean
 abbrev pub HasFirst : Way → List ℕ → Fault → Type 0
-HasFirst way bytes fault = Refuses way.syntax standard way.context bytes fault
+HasFirst way bytes fault = Refuses way bytes fault
 
 -- A byte of the piece decides the fault, whatever follows.
 pub record Decides (way : Way) (bytes piece : List ℕ) (fault : Fault) : Type 0 where
@@ -70,12 +99,13 @@ pub record AddsNone (old new : Told) : Type 0 where
   pub taken : new.taken ≡ old.taken
 
 -- a read gave some bytes, which were taken
-abbrev pub NextGives : Way → Chars → List ℕ → Result ℕ InputError → Reader → Option Told → Option Told → Type 0
-NextGives way address bytes (Ok n) new before now = (more : List ℕ) × (length more ≡ n) × Reached way address new (bytes ++ more) × Moves (Adds more) before now
-NextGives way address bytes (Err (error.Refused fault)) new before now = (more : List ℕ) × (length more ≤ largest_piece) × Decides way bytes more fault × Moves (Adds more) before now
-NextGives way address bytes (Err error.Failed) new before now = Moves AddsNone before now
-NextGives way address bytes (Err error.BadContext) new before now = ⊥
-NextGives way address bytes (Err error.NoMemory) new before now = Unit {0}
+abbrev pub NextGives : Syntax → Aim → List ℕ → Result ℕ InputError → Reader → Option Told → Option Told → Type 0
+NextGives syntax aim bytes (Ok n) new before now = (more : List ℕ) × (length more ≡ n) × Reached syntax aim new (bytes ++ more) × Moves (Adds more) before now
+NextGives syntax aim bytes (Err (error.Refused fault)) new before now =
+    (more : List ℕ) × (length more ≤ largest_piece) × Decides (way_for syntax aim) bytes more fault × Moves (Adds more) before now
+NextGives syntax aim bytes (Err error.Failed) new before now = Moves AddsNone before now
+NextGives syntax aim bytes (Err error.BadContext) new before now = ⊥
+NextGives syntax aim bytes (Err error.NoMemory) new before now = Unit {0}
 
 -- the page's end shows a fault, or there was no memory
 abbrev pub EndFails : Way → List ℕ → InputError → Type 0
@@ -84,28 +114,29 @@ EndFails way bytes error.Failed = ⊥
 EndFails way bytes error.BadContext = ⊥
 EndFails way bytes error.NoMemory = Unit {0}
 
--- the page ends
-abbrev pub EndGives : Way → Chars → List ℕ → Result (List CodeTriple) InputError → Type 0
-EndGives way address bytes (Ok list) = Ended way.syntax standard way.context address bytes list
-EndGives way address bytes (Err why) = EndFails way bytes why
+-- the page ends, and this holds of its bytes and of what it gives
+abbrev pub EndGives : {A : Type 0} → Way → (List ℕ → A → Type 0) → List ℕ → Result A InputError → Type 0
+EndGives way holds bytes (Ok given) = holds bytes given
+EndGives way holds bytes (Err why) = EndFails way bytes why
 
-abbrev pub CheckEnds : Way → List ℕ → Result (Unit {0}) InputError → Type 0
-CheckEnds way bytes (Ok done) = Accepted way.syntax standard way.context bytes
-CheckEnds way bytes (Err why) = EndFails way bytes why
+-- the bytes are a page with this list of triples
+abbrev pub GivesList : Syntax → Context → Chars → List ℕ → List CodeTriple → Type 0
+GivesList syntax context address bytes list = Ended (setting_for syntax context) address bytes list
 
--- The file was read to its end, and is a page with this list of triples.
-pub record ReadsPage (way : Way) (address : Chars) (name : List ℕ) (list : List CodeTriple) (old new : Told) : Type 0 where
+-- the bytes are a page with these items
+abbrev pub GivesItems : Syntax → Chars → List ℕ → Kept → Type 0
+GivesItems syntax address bytes found = item.Ended (item_setting_for syntax address) bytes found
+
+-- the bytes are a page of which no start tag is refused
+abbrev pub GivesRight : Syntax → Context → List ℕ → Unit {0} → Type 0
+GivesRight syntax context bytes done = Accepted (setting_for syntax context) bytes
+
+-- The file was read to its end, and this holds of its bytes and of what they give.
+pub record ReadsWhole {A : Type 0} (holds : List ℕ → A → Type 0) (name : List ℕ) (given : A) (old new : Told) : Type 0 where
   pub bytes : List ℕ
   pub file : file_of old.files name ≡ Some bytes
   pub left : new.left ≡ []
-  pub ended : Ended way.syntax standard way.context address bytes list
-
--- The file was read to its end, and is a page of which no start tag is refused.
-pub record ReadsRight (way : Way) (name : List ℕ) (old new : Told) : Type 0 where
-  pub bytes : List ℕ
-  pub file : file_of old.files name ≡ Some bytes
-  pub left : new.left ≡ []
-  pub right : Accepted way.syntax standard way.context bytes
+  pub gives : holds bytes given
 
 -- The file has this fault, and was read no further than a piece past it.
 pub record Finds (way : Way) (name : List ℕ) (fault : Fault) (old new : Told) : Type 0 where
@@ -131,16 +162,36 @@ pub record IsFile (name bytes : List ℕ) (old new : Told) : Type 0 where
   pub left : new.left ≡ []
   pub taken : new.taken ≡ old.taken + length bytes
 
--- the reader is before the first byte of a page
+-- the reader, which was made for this, is before the first byte of a page
 pub record Starts (v : Reader) : Type 0 where
-  pub way : Way
+  pub syntax : Syntax
+  pub aim : Aim
+  pub reached : Reached syntax aim v []
+
+-- the reader was made for triples, for items or for faults, and stands somewhere in a page
+pub record MakesTriples (v : Reader) : Type 0 where
+  pub syntax : Syntax
+  pub context : Context
   pub address : Chars
-  pub reached : Reached way address v []
+  pub bytes : List ℕ
+  pub reached : Reached syntax (for_triples context address) v bytes
+
+pub record FindsItems (v : Reader) : Type 0 where
+  pub syntax : Syntax
+  pub address : Chars
+  pub bytes : List ℕ
+  pub reached : Reached syntax (for_items address) v bytes
+
+pub record FindsFaults (v : Reader) : Type 0 where
+  pub syntax : Syntax
+  pub context : Context
+  pub bytes : List ℕ
+  pub reached : Reached syntax (for_faults context) v bytes
 
 -- the reader stands where the whole file leads
-pub record Fed (way : Way) (address : Chars) (name : List ℕ) (v : Reader) (before now : Option Told) : Type 0 where
+pub record Fed (syntax : Syntax) (aim : Aim) (name : List ℕ) (v : Reader) (before now : Option Told) : Type 0 where
   pub bytes : List ℕ
-  pub reached : Reached way address v bytes
+  pub reached : Reached syntax aim v bytes
   pub read : Moves (IsFile name bytes) before now
 
 -- the file has a fault, or reading it failed, or there was no memory
@@ -150,14 +201,11 @@ PageFails way name error.Failed before now = Moves (ReadsClean way name) before 
 PageFails way name error.BadContext before now = ⊥
 PageFails way name error.NoMemory before now = Unit {0}
 
-abbrev pub FileGives : Way → Chars → List ℕ → Result (Unit {0}) InputError → Reader → Option Told → Option Told → Type 0
-FileGives way address name (Ok done) v before now = Fed way address name v before now
-FileGives way address name (Err why) v before now = PageFails way name why before now
+abbrev pub FileGives : Syntax → Aim → List ℕ → Result (Unit {0}) InputError → Reader → Option Told → Option Told → Type 0
+FileGives syntax aim name (Ok done) v before now = Fed syntax aim name v before now
+FileGives syntax aim name (Err why) v before now = PageFails (way_for syntax aim) name why before now
 
-abbrev pub PageGives : Way → Chars → List ℕ → Result (List CodeTriple) InputError → Option Told → Option Told → Type 0
-PageGives way address name (Ok list) before now = Moves (ReadsPage way address name list) before now
-PageGives way address name (Err why) before now = PageFails way name why before now
-
-abbrev pub CheckGives : Way → List ℕ → Result (Unit {0}) InputError → Option Told → Option Told → Type 0
-CheckGives way name (Ok done) before now = Moves (ReadsRight way name) before now
-CheckGives way name (Err why) before now = PageFails way name why before now
+-- the file was read to its end, and this holds of its bytes and of what they give; or it wasn't
+abbrev pub PageGives : {A : Type 0} → Way → (List ℕ → A → Type 0) → List ℕ → Result A InputError → Option Told → Option Told → Type 0
+PageGives way holds name (Ok given) before now = Moves (ReadsWhole holds name given) before now
+PageGives way holds name (Err why) before now = PageFails way name why before now

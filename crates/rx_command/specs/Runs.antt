@@ -8,7 +8,7 @@ use Rattle.rx_terms.specs.Text.{Chars}
 use Rattle.rx_job.specs.Words.{Asked, page_asked}
 use Rattle.rx_command.specs.Files.{size_of}
 use Rattle.rx_command.specs.Contexts.{context_size, context_limit}
-use Rattle.rx_command.specs.Outcome.{LacksFile}
+use Rattle.rx_command.specs.Outcome.{LacksFile, ReadsTo}
 use Rattle.rx_command.specs.Inputs.{StopsClean}
 use Rattle.rx_command.specs.Samples.{IsSample}
 use Rattle.rx_grammar.specs.declared.faults.Fault.{Fault}
@@ -113,10 +113,10 @@ SampleEnds count status.Usage old new before now = ⊥
 SampleEnds count status.ReadFault old new before now = ⊥
 SampleEnds count status.BadContext old new before now = ⊥
 
--- a page that is refused was read no further than a piece past the byte that decides the fault
+-- a page that is refused was read no further than a piece past the byte that decides the fault, where that isn't an item's
 abbrev pub TakesToFault : Option Asked → Fault → Told → Told → Type 0
 TakesToFault None fault old new = Unit {0}
-TakesToFault (Some asked) fault old new = new.taken ≤ old.taken + context_size asked.context old + (fault.at + largest_piece)
+TakesToFault (Some asked) fault old new = ReadsTo asked.task fault (old.taken + context_size asked.context old) new.taken
 
 -- where the page is there, what was read of it behind the context file holds no fault but that it ends
 abbrev pub StopsCleanly : Option Asked → Told → Told → Type 0

@@ -11,8 +11,9 @@ use Rattle.rx_grammar.specs.Trees.{Tree}
 use Rattle.rx_pages.specs.PageReader.{Progress, page_read}
 use Rattle.rx_nest.specs.Signs.{sees, nothing_seen}
 use Rattle.rx_nquads.specs.Writing.{nquads}
-use Rattle.rx_walk.specs.Lines.{line_of}
-use Rattle.rx_command.specs.Reading.{standard}
+use Rattle.rx_base.specs.Lines.{line_of}
+use Rattle.rx_walk.specs.Settings.{Setting}
+use Rattle.rx_command.specs.Reading.{standard, setting_for}
 use Rattle.rx_ports.specs.Told.{Told}
 use Rattle.rx_job.specs.Words.{job, samples, most_items}
 use Rattle.rx_command.specs.Outcome.{IsAccepted, base_in, facts_in, HasPageText, HasPageGraph}
@@ -69,7 +70,10 @@ deepest count = larger (deepest_in count) (depth_at (sample_page count))
 abbrev pub SamplesArePages : Type 0
 SamplesArePages = (count : ℕ) → count ≤ most_items → (tree : Tree) × IsAccepted Html names.standard (sample_page count) tree
 
--- the address at which a sample is read
+-- how a sample is read, and at which address
+abbrev pub sample_setting : Setting
+sample_setting = setting_for Html names.standard
+
 abbrev pub sample_address : Chars
 sample_address = codes "http://localhost/"
 

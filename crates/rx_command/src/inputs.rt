@@ -2,10 +2,11 @@
 ghost use Rattle.std.specs.Prelude.{◌≡◌, ◌⊎◌, ◌≤◌, IfOk, IsErrOf, Err, Some, codes, encode_utf8_all, is_some, true, false};
 ghost use Rattle.rx_ports.specs.Counts.{Rose};
 ghost use Rattle.rx_ports.specs.Told.{Moves, Lacks};
-ghost use Rattle.rx_job.specs.Words.{extracts, checks};
-ghost use Rattle.rx_job.specs.Jobs.{page_by, reads_page, text_in};
+ghost use Rattle.rx_job.specs.Words.{extracts, itemizes, checks};
+ghost use Rattle.rx_job.specs.Jobs.{page_by, reads_page, has_context, text_in};
 ghost use Rattle.rx_command.specs.Files.{TakesOf};
-ghost use Rattle.rx_command.specs.Reading.{ReadsClean};
+ghost use Rattle.rx_rdfa.specs.Names.{Context as RulesContext};
+ghost use Rattle.rx_command.specs.Reading.{for_items, for_faults, way_for, ReadsClean};
 ghost use Rattle.rx_command.specs.Ways.{way_of, extraction_of};
 ghost use Rattle.rx_command.specs.Contexts.{IsContextFile, IsFileOf, ReadsContext, TakesContext, LacksContext, HasOther};
 ghost use Rattle.rx_command.specs.Outcome.{IsLacking};
@@ -14,13 +15,15 @@ ghost use Rattle.rx_command.specs.Runs.{TakesFiles, StopsCleanly};
 
 use crate::errors::InputError;
 use crate::files::{ReadError, read_file};
+use crate::forms::Form;
+use crate::item_texts::text_of_items;
 use crate::outcomes::Outcome;
-use crate::pages::{Approach, check_page, read_page};
-use rx_job::Job;
+use crate::pages::{Approach, check_page, read_items, read_page};
+use rx_job::{Format, Job};
 use rx_names::{Context, ContextError};
 use rx_ports::Shelf;
 use rx_terms::{Iri, NoMemory, Text};
-use rx_walk::{Fault, Syntax};
+use rx_walk::{Fault, Stop, Syntax};
 use std::alloc::Global;
 
 /// The most bytes that a context file has.
@@ -43,6 +46,38 @@ pub(crate) fn outcome_of_job<F: Shelf>(
     ensures cleanly { IsErrOf result InputError.Failed → Moves (StopsCleanly (Some (page_by job.now))) (F.told shelf.old) (F.told shelf.new) }
     ensures later { F.faults shelf.old ≤ F.faults shelf.new }
 {
+    match job {
+        Job::Items {
+            syntax,
+            address,
+            page,
+        } => {
+            let Ok(address) = address.try_clone() else {
+                return Err(InputError::NoMemory);
+            };
+            itemize(alloc, shelf, page, *syntax, address)
+        }
+        _ => outcome_under_context(alloc, shelf, job),
+    }
+}
+
+/// What the page gives of a job in which a context holds.
+fn outcome_under_context<F: Shelf>(
+    alloc: Global,
+    shelf: &mut F,
+    job: &Job,
+) -> Result<Outcome, InputError>
+    requires { has_context job.now ≡ true }
+    ensures ok { IfOk result (λ outcome. Moves (JobText (page_by job.now) outcome) (F.told shelf.old) (F.told shelf.new)) }
+    ensures refused { (fault : Fault) → result ≡ Err (InputError.Refused fault) → Moves (JobRefused (page_by job.now) fault) (F.told shelf.old) (F.told shelf.new) }
+    ensures takes { Moves (TakesFiles (Some (page_by job.now))) (F.told shelf.old) (F.told shelf.new) }
+    ensures bad { IsErrOf result InputError.BadContext → WhereTold (HasOther (page_by job.now).context) (F.told shelf.old) }
+    ensures bad_takes { IsErrOf result InputError.BadContext → Moves (TakesContext (page_by job.now).context) (F.told shelf.old) (F.told shelf.new) }
+    ensures named { IsErrOf result InputError.BadContext → is_some (page_by job.now).context ≡ true }
+    ensures failed { IsErrOf result InputError.Failed → Rose (F.faults shelf.old) (F.faults shelf.new) ⊎ TellsThat (IsLacking (page_by job.now)) (F.told shelf.old) }
+    ensures cleanly { IsErrOf result InputError.Failed → Moves (StopsCleanly (Some (page_by job.now))) (F.told shelf.old) (F.told shelf.new) }
+    ensures later { F.faults shelf.old ≤ F.faults shelf.new }
+{
     let context = match read_context(alloc, shelf, job.context()) {
         Ok(context) => context,
         Err(error) => return Err(error),
@@ -50,6 +85,7 @@ pub(crate) fn outcome_of_job<F: Shelf>(
     match job {
         Job::Extract {
             syntax,
+            format,
             graph,
             address,
             page,
@@ -63,36 +99,81 @@ pub(crate) fn outcome_of_job<F: Shelf>(
                 context,
                 address,
             };
-            extract(alloc, shelf, page, approach, graph.as_ref())
+            extract(alloc, shelf, page, approach, *format, graph.as_ref())
         }
         Job::Check { syntax, page, .. } => check(alloc, shelf, page, *syntax, context),
+        Job::Items { .. } => unreachable!(),
         Job::Sample { .. } => unreachable!(),
     }
 }
 
-/// The graph of a page's triples, which has this name, or none.
+/// The graph of a page's triples, which is written in this format, and has this name, or none.
 fn extract<F: Shelf>(
     alloc: Global,
     shelf: &mut F,
     page: &Text,
     approach: Approach,
+    format: Format,
     graph: Option<&Iri>,
 ) -> Result<Outcome, InputError>
-    ensures ok { IfOk result (λ outcome. Moves (PageText (extracts (extraction_of approach graph.entry)) approach.context (encode_utf8_all page.now) outcome) (F.told shelf.old) (F.told shelf.new)) }
-    ensures refused { (fault : Fault) → result ≡ Err (InputError.Refused fault) → Moves (PageRefused (extracts (extraction_of approach graph.entry)) approach.context (encode_utf8_all page.now) fault) (F.told shelf.old) (F.told shelf.new) }
+    ensures ok { IfOk result (λ outcome. Moves (PageText (extracts (extraction_of approach format graph.entry)) approach.context (encode_utf8_all page.now) outcome) (F.told shelf.old) (F.told shelf.new)) }
+    ensures refused { (fault : Fault) → result ≡ Err (InputError.Refused fault) → Moves (PageRefused (extracts (extraction_of approach format graph.entry)) approach.context (encode_utf8_all page.now) fault) (F.told shelf.old) (F.told shelf.new) }
     ensures takes { Moves (TakesOf (encode_utf8_all page.now) 1073807359) (F.told shelf.old) (F.told shelf.new) }
     ensures context { IsErrOf result InputError.BadContext → ⊥ }
     ensures failed { IsErrOf result InputError.Failed → Rose (F.faults shelf.old) (F.faults shelf.new) ⊎ Lacks (F.told shelf.old) (encode_utf8_all page.now) }
     ensures cleanly { IsErrOf result InputError.Failed → Moves (ReadsClean (way_of approach) (encode_utf8_all page.now)) (F.told shelf.old) (F.told shelf.new) }
     ensures later { F.faults shelf.old ≤ F.faults shelf.new }
 {
+    let Ok(form) = Form::of(alloc, format, graph, &approach.context) else {
+        drop(approach);
+        return Err(InputError::NoMemory);
+    };
     let list = match read_page(alloc, shelf, page.as_str(), approach) {
         Ok(list) => list,
-        Err(error) => return Err(error),
+        Err(error) => {
+            drop(form);
+            return Err(error);
+        }
     };
-    match Outcome::of(alloc, list, graph) {
+    match Outcome::of(alloc, list, form) {
         Ok(outcome) => Ok(outcome),
         Err(NoMemory) => Err(InputError::NoMemory),
+    }
+}
+
+/// The text of a page's items.
+fn itemize<F: Shelf>(
+    alloc: Global,
+    shelf: &mut F,
+    page: &Text,
+    syntax: Syntax,
+    address: Iri,
+) -> Result<Outcome, InputError>
+    ensures ok { (context : RulesContext) → IfOk result (λ outcome. Moves (PageText (itemizes (record { syntax = syntax; address = address })) context (encode_utf8_all page.now) outcome) (F.told shelf.old) (F.told shelf.new)) }
+    ensures refused { (context : RulesContext) (fault : Fault) → result ≡ Err (InputError.Refused fault) → Moves (PageRefused (itemizes (record { syntax = syntax; address = address })) context (encode_utf8_all page.now) fault) (F.told shelf.old) (F.told shelf.new) }
+    ensures takes { Moves (TakesOf (encode_utf8_all page.now) 1073807359) (F.told shelf.old) (F.told shelf.new) }
+    ensures no_context { IsErrOf result InputError.BadContext → ⊥ }
+    ensures failed { IsErrOf result InputError.Failed → Rose (F.faults shelf.old) (F.faults shelf.new) ⊎ Lacks (F.told shelf.old) (encode_utf8_all page.now) }
+    ensures cleanly { IsErrOf result InputError.Failed → Moves (ReadsClean (way_for syntax (for_items address)) (encode_utf8_all page.now)) (F.told shelf.old) (F.told shelf.new) }
+    ensures later { F.faults shelf.old ≤ F.faults shelf.new }
+{
+    let found = match read_items(alloc, shelf, page.as_str(), syntax, address) {
+        Ok(found) => found,
+        Err(error) => return Err(error),
+    };
+    match text_of_items(alloc, &found) {
+        Ok(text) => {
+            drop(found);
+            Ok(Outcome::Items(text))
+        }
+        Err(Stop::Fault(fault)) => {
+            drop(found);
+            Err(InputError::Refused(fault))
+        }
+        Err(Stop::NoMemory) => {
+            drop(found);
+            Err(InputError::NoMemory)
+        }
     }
 }
 
@@ -109,7 +190,7 @@ fn check<F: Shelf>(
     ensures takes { Moves (TakesOf (encode_utf8_all page.now) 1073807359) (F.told shelf.old) (F.told shelf.new) }
     ensures no_context { IsErrOf result InputError.BadContext → ⊥ }
     ensures failed { IsErrOf result InputError.Failed → Rose (F.faults shelf.old) (F.faults shelf.new) ⊎ Lacks (F.told shelf.old) (encode_utf8_all page.now) }
-    ensures cleanly { IsErrOf result InputError.Failed → Moves (ReadsClean (record { syntax = syntax; context = context }) (encode_utf8_all page.now)) (F.told shelf.old) (F.told shelf.new) }
+    ensures cleanly { IsErrOf result InputError.Failed → Moves (ReadsClean (way_for syntax (for_faults context)) (encode_utf8_all page.now)) (F.told shelf.old) (F.told shelf.new) }
     ensures later { F.faults shelf.old ≤ F.faults shelf.new }
 {
     match check_page(alloc, shelf, page.as_str(), syntax, context) {

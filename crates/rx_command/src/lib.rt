@@ -9,7 +9,9 @@ ghost use Rattle.rx_command.specs.Samples.{SamplesArePages};
 
 mod errors;
 mod files;
+mod forms;
 mod inputs;
+mod item_texts;
 mod outcomes;
 mod pages;
 mod readers;
@@ -17,7 +19,7 @@ mod samples;
 mod statuses;
 mod top;
 
-pub use rx_job::{Job, JobError};
+pub use rx_job::{Format, Job, JobError};
 pub use rx_walk::{Fault, Kind};
 pub use statuses::Status;
 pub use top::run;

@@ -1,14 +1,17 @@
 //! Reading a page as its bytes come.
-ghost use Rattle.std.specs.Prelude.{◌≡◌, ◌<◌, ◌≤◌, ◌⊎◌, ℕ, List, [], IfOk, OnOk, IsErrOf, length, true, false};
+ghost use Rattle.std.specs.Prelude.{◌<◌, ◌≤◌, ◌⊎◌, ℕ, List, [], IfOk, IsErrOf, length};
 ghost use Rattle.rx_ports.specs.Counts.{Rose};
 ghost use Rattle.rx_ports.specs.Told.{Moves, Lacks};
+ghost use Rattle.rx_chars.specs.declared.syntax.Syntax as syntaxes;
+ghost use Rattle.rx_rdfa.specs.Names.{Context as RulesContext};
 ghost use Rattle.rx_terms.specs.Text.{Chars};
-ghost use Rattle.rx_command.specs.Reading.{Way, Reached, Starts, NextGives, EndGives, CheckEnds, FileGives, PageGives, CheckGives, walks};
+ghost use Rattle.rx_command.specs.Reading.{Aim, for_triples, for_items, for_faults, way_for, Reached, Starts, MakesTriples, FindsItems, FindsFaults, NextGives, EndGives, GivesList, GivesItems, GivesRight, FileGives, PageGives};
 ghost use Rattle.rx_command.specs.Files.{TakesSome, TakesOf};
 ghost use Rattle.rx_command.specs.Ways.{way_of};
 
 use crate::errors::InputError;
 use crate::readers::Reader;
+use rx_items::{ItemWalk, Items};
 use rx_names::Context;
 use rx_ports::Shelf;
 use rx_terms::{Iri, TripleList};
@@ -37,7 +40,7 @@ pub(crate) fn read_page<F: Shelf>(
     name: &str,
     approach: Approach,
 ) -> Result<TripleList, InputError>
-    ensures gives { PageGives (way_of approach) approach.address name.now result (F.told shelf.old) (F.told shelf.new) }
+    ensures gives { PageGives (way_of approach) (GivesList approach.syntax approach.context approach.address) name.now result (F.told shelf.old) (F.told shelf.new) }
     ensures takes { Moves (TakesOf name.now 1073807359) (F.told shelf.old) (F.told shelf.new) }
     ensures later { F.faults shelf.old ≤ F.faults shelf.new }
     ensures failed { IsErrOf result InputError.Failed → Rose (F.faults shelf.old) (F.faults shelf.new) ⊎ Lacks (F.told shelf.old) name.now }
@@ -60,6 +63,32 @@ pub(crate) fn read_page<F: Shelf>(
     }
 }
 
+/// Reads a page as [`read_page`] does, but for its items. No start tag is refused for what it means.
+pub(crate) fn read_items<F: Shelf>(
+    alloc: Global,
+    shelf: &mut F,
+    name: &str,
+    syntax: Syntax,
+    address: Iri,
+) -> Result<Items, InputError>
+    ensures gives { PageGives (way_for syntax (for_items address)) (GivesItems syntax address) name.now result (F.told shelf.old) (F.told shelf.new) }
+    ensures takes { Moves (TakesOf name.now 1073807359) (F.told shelf.old) (F.told shelf.new) }
+    ensures later { F.faults shelf.old ≤ F.faults shelf.new }
+    ensures failed { IsErrOf result InputError.Failed → Rose (F.faults shelf.old) (F.faults shelf.new) ⊎ Lacks (F.told shelf.old) name.now }
+{
+    let Ok(walk) = ItemWalk::new(alloc, syntax, address, Limits::standard()) else {
+        return Err(InputError::NoMemory);
+    };
+    let mut reader = Reader::Itemizes(walk);
+    match feed_file(alloc, shelf, name, &mut reader) {
+        Ok(()) => items_of(reader),
+        Err(error) => {
+            drop(reader);
+            Err(error)
+        }
+    }
+}
+
 /// Reads a page as [`read_page`] does, but only for its faults: no triples are made, and so no address is needed.
 pub(crate) fn check_page<F: Shelf>(
     alloc: Global,
@@ -68,7 +97,7 @@ pub(crate) fn check_page<F: Shelf>(
     syntax: Syntax,
     context: Context,
 ) -> Result<(), InputError>
-    ensures gives { CheckGives (record { syntax = syntax; context = context }) name.now result (F.told shelf.old) (F.told shelf.new) }
+    ensures gives { PageGives (way_for syntax (for_faults context)) (GivesRight syntax context) name.now result (F.told shelf.old) (F.told shelf.new) }
     ensures takes { Moves (TakesOf name.now 1073807359) (F.told shelf.old) (F.told shelf.new) }
     ensures later { F.faults shelf.old ≤ F.faults shelf.new }
     ensures failed { IsErrOf result InputError.Failed → Rose (F.faults shelf.old) (F.faults shelf.new) ⊎ Lacks (F.told shelf.old) name.now }
@@ -94,8 +123,7 @@ fn feed_file<F: Shelf>(
     reader: &mut Reader,
 ) -> Result<(), InputError>
     requires { Starts reader.old }
-    ensures gives { (way : Way) (address : Chars) → Reached way address reader.old [] → FileGives way address name.now result reader.new (F.told shelf.old) (F.told shelf.new) }
-    ensures same { OnOk result (walks reader.new ≡ walks reader.old) }
+    ensures gives { (syntax : syntaxes.Syntax) (aim : Aim) → Reached syntax aim reader.old [] → FileGives syntax aim name.now result reader.new (F.told shelf.old) (F.told shelf.new) }
     ensures takes { Moves (TakesOf name.now 1073807359) (F.told shelf.old) (F.told shelf.new) }
     ensures later { F.faults shelf.old ≤ F.faults shelf.new }
     ensures failed { IsErrOf result InputError.Failed → Rose (F.faults shelf.old) (F.faults shelf.new) ⊎ Lacks (F.told shelf.old) name.now }
@@ -125,8 +153,7 @@ fn feed_next<F: Shelf>(
 ) -> Result<usize, InputError>
     requires { 0 < length piece.old }
     ensures bound { IfOk result (λ n. n ≤ length piece.new) }
-    ensures gives { (way : Way) (address : Chars) (bytes : List ℕ) → Reached way address reader.old bytes → length piece.old ≤ 65536 → NextGives way address bytes result reader.new (F.told shelf.old) (F.told shelf.new) }
-    ensures same { OnOk result (walks reader.new ≡ walks reader.old) }
+    ensures gives { (syntax : syntaxes.Syntax) (aim : Aim) (bytes : List ℕ) → Reached syntax aim reader.old bytes → length piece.old ≤ 65536 → NextGives syntax aim bytes result reader.new (F.told shelf.old) (F.told shelf.new) }
     ensures takes { Moves (TakesSome (length piece.old)) (F.told shelf.old) (F.told shelf.new) }
     ensures later { F.faults shelf.old ≤ F.faults shelf.new }
     ensures failed { IsErrOf result InputError.Failed → Rose (F.faults shelf.old) (F.faults shelf.new) }
@@ -143,12 +170,13 @@ fn feed_next<F: Shelf>(
 
 // The page's end, where its triples are wanted.
 fn list_of(reader: Reader) -> Result<TripleList, InputError>
-    requires { walks reader ≡ true }
-    ensures gives { (way : Way) (address : Chars) (bytes : List ℕ) → Reached way address reader bytes → EndGives way address bytes result }
+    requires { MakesTriples reader }
+    ensures gives { (syntax : syntaxes.Syntax) (context : RulesContext) (address : Chars) (bytes : List ℕ) → Reached syntax (for_triples context address) reader bytes → EndGives (way_for syntax (for_triples context address)) (GivesList syntax context address) bytes result }
     ensures reads_none { IsErrOf result InputError.Failed → ⊥ }
 {
     let walk = match reader {
         Reader::Walks(walk) => walk,
+        Reader::Itemizes(_walk) => unreachable!(),
         Reader::Checks(_check) => unreachable!(),
     };
     match walk.finish() {
@@ -158,14 +186,33 @@ fn list_of(reader: Reader) -> Result<TripleList, InputError>
     }
 }
 
+// The page's end, where its items are wanted.
+fn items_of(reader: Reader) -> Result<Items, InputError>
+    requires { FindsItems reader }
+    ensures gives { (syntax : syntaxes.Syntax) (address : Chars) (bytes : List ℕ) → Reached syntax (for_items address) reader bytes → EndGives (way_for syntax (for_items address)) (GivesItems syntax address) bytes result }
+    ensures reads_none { IsErrOf result InputError.Failed → ⊥ }
+{
+    let walk = match reader {
+        Reader::Walks(_walk) => unreachable!(),
+        Reader::Itemizes(walk) => walk,
+        Reader::Checks(_check) => unreachable!(),
+    };
+    match walk.finish() {
+        Ok(items) => Ok(items),
+        Err(Stop::Fault(fault)) => Err(InputError::Refused(fault)),
+        Err(Stop::NoMemory) => Err(InputError::NoMemory),
+    }
+}
+
 // The page's end, where only its faults are wanted.
 fn checked(reader: Reader) -> Result<(), InputError>
-    requires { walks reader ≡ false }
-    ensures gives { (way : Way) (address : Chars) (bytes : List ℕ) → Reached way address reader bytes → CheckEnds way bytes result }
+    requires { FindsFaults reader }
+    ensures gives { (syntax : syntaxes.Syntax) (context : RulesContext) (bytes : List ℕ) → Reached syntax (for_faults context) reader bytes → EndGives (way_for syntax (for_faults context)) (GivesRight syntax context) bytes result }
     ensures reads_none { IsErrOf result InputError.Failed → ⊥ }
 {
     let check = match reader {
         Reader::Walks(_walk) => unreachable!(),
+        Reader::Itemizes(_walk) => unreachable!(),
         Reader::Checks(check) => check,
     };
     match check.finish() {

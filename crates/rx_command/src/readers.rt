@@ -1,25 +1,27 @@
-//! What reads a page: a walk through it, or a check of it.
-ghost use Rattle.std.specs.Prelude.{◌≡◌, ℕ, List, true};
-ghost use Rattle.rx_terms.specs.Text.{Chars};
-ghost use Rattle.rx_command.specs.Reading.{Way, Reached, FeedGives, walks};
+//! What reads a page: a walk through it, for its triples or its items, or a check of it.
+ghost use Rattle.std.specs.Prelude.{ℕ, List};
+ghost use Rattle.rx_chars.specs.declared.syntax.Syntax as syntaxes;
+ghost use Rattle.rx_command.specs.Reading.{Aim, Reached, FeedGives};
 
+use rx_items::ItemWalk;
 use rx_walk::{Check, Stop, Walk};
 
-/// A walk where the page's triples are wanted, and a check where only its faults are.
+/// A walk where the page's triples or its items are wanted, and a check where only its faults are.
 #[derive(Drop)]
 pub(crate) enum Reader {
     Walks(Walk),
+    Itemizes(ItemWalk),
     Checks(Check),
 }
 
 impl Reader {
     /// Takes the whole piece.
     pub(crate) fn feed(&mut self, piece: &[u8]) -> Result<(), Stop>
-        ensures gives { (way : Way) (address : Chars) (bytes : List ℕ) → Reached way address self.old bytes → FeedGives way address bytes piece.now result self.new }
-        ensures same { walks self.new ≡ walks self.old }
+        ensures { (syntax : syntaxes.Syntax) (aim : Aim) (bytes : List ℕ) → Reached syntax aim self.old bytes → FeedGives syntax aim bytes piece.now result self.new }
     {
         match self {
             Reader::Walks(walk) => walk.feed(piece),
+            Reader::Itemizes(walk) => walk.feed(piece),
             Reader::Checks(check) => check.feed(piece),
         }
     }

@@ -46,7 +46,8 @@ pub fn run<F: Shelf, O: Sink, E: Sink>(
     // Done comes only where the page has a text: out has then grown by exactly that, and the page was read to its end.
     ensures done { result ≡ Status.Done → (told : Told) → F.told shelf.old ≡ Some told →
         (text : List ℕ) × Yields words.now (F.told shelf.old) text × Moves (GrowsBy text) (O.held out.old) (O.held out.new) }
-    // That text denotes exactly the graph that RDFa's rules give the page's tree, its blank nodes renamed one to one.
+    // The text of an extraction denotes exactly the graph that RDFa's rules give the page's tree, its blank nodes renamed
+    // one to one.
     ensures denotes { result ≡ Status.Done → (told : Told) → F.told shelf.old ≡ Some told →
         (text : List ℕ) × YieldsGraph words.now (F.told shelf.old) text × Moves (GrowsBy text) (O.held out.old) (O.held out.new) }
     ensures to_end { result ≡ Status.Done → IsAtEnd (page_asked words.now) (F.told shelf.new) }
@@ -54,7 +55,8 @@ pub fn run<F: Shelf, O: Sink, E: Sink>(
     // Refused comes only where the page has this fault.
     ensures refused { (fault : Fault) → result ≡ Status.Refused fault → (told : Told) → F.told shelf.old ≡ Some told →
         HasPageFault words.now (F.told shelf.old) fault }
-    // The page is then read no further than 65,536 bytes past the byte that decides the fault.
+    // The page is then read no further than 65,536 bytes past the byte that decides the fault, unless that is an item's,
+    // which is found once the page has ended.
     ensures refused_takes { (fault : Fault) → result ≡ Status.Refused fault → Moves (TakesToFault (page_asked words.now) fault) (F.told shelf.old) (F.told shelf.new) }
 
     // ReadFault comes only where the shelf failed, or lacks the context file, or lacks the page where the context file is

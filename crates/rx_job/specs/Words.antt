@@ -9,16 +9,26 @@ use Rattle.rx_chars.specs.declared.syntax.Syntax.TheVariants.{Html, Xhtml}
 use Rattle.rx_terms.specs.Ascii.{hyphen}
 use Rattle.rx_terms.specs.Text.{Chars}
 use Rattle.rx_terms.specs.Iri.{is_iri}
+use Rattle.rx_job.specs.declared.formats.Format.{Format}
+use Rattle.rx_job.specs.declared.formats.Format.TheVariants.{Nquads, Turtle}
 
--- an extraction: the syntax of the page, the name of the graph in which the triples stand, if any, and the page's address
+-- an extraction: the syntax of the page, the format in which its triples are written, the name of the graph in which they
+-- stand, if any, and the page's address
 pub record Extraction : Type 0 where
   pub syntax : Syntax
+  pub format : Format
   pub graph : Option Chars
   pub address : Chars
 
--- what is done with the page: its triples are written; or its faults are looked for
+-- a search for items: the syntax of the page, and its address
+pub record Itemization : Type 0 where
+  pub syntax : Syntax
+  pub address : Chars
+
+-- what is done with the page: its triples are written, or its items; or its faults are looked for
 pub data Task : Type 0 where
   extracts : Extraction → Task
+  itemizes : Itemization → Task
   checks : Syntax → Task
 
 -- the task, the name of its context file and that of its page
@@ -127,26 +137,40 @@ abbrev pub syntax_of : Option Chars → Option Syntax
 syntax_of None = Some Html
 syntax_of (Some name) = if is_word name (codes "html") then Some Html else (if is_word name (codes "xhtml") then Some Xhtml else None)
 
--- N-Quads are written, which is so where no format is given
-abbrev pub is_nquads : Option Chars → Bool
-is_nquads None = true
-is_nquads (Some name) = is_word name (codes "nquads")
+-- the format of this name, which is N-Quads where none is given
+abbrev pub format_of : Option Chars → Option Format
+format_of None = Some Nquads
+format_of (Some name) = if is_word name (codes "nquads") then Some Nquads else (if is_word name (codes "turtle") then Some Turtle else None)
 
--- the graph has a name, which is an IRI, or it has none
-abbrev pub is_graph : Option Chars → Bool
-is_graph None = true
-is_graph (Some name) = is_iri name
+-- a text in the format can name the graph in which its triples stand
+abbrev pub names_graphs : Format → Bool
+names_graphs Nquads = true
+names_graphs Turtle = false
 
--- `[--syntax html|xhtml] [--format nquads] [--graph IRI] [--context FILE] --base IRI PAGE`
-abbrev pub extraction_with : Option Syntax → Option Chars → Given → Option Asked
-extraction_with (Some syntax) (Some address) words =
-    if is_nquads words.format && (is_graph words.graph && (is_iri address && are_names words.context words.last))
-    then Some (record { task = extracts (record { syntax = syntax; graph = words.graph; address = address }); context = words.context; page = words.last })
+-- the graph has a name, which is an IRI and which the format can say, or it has none
+abbrev pub is_graph : Format → Option Chars → Bool
+is_graph format None = true
+is_graph format (Some name) = names_graphs format && is_iri name
+
+-- `[--syntax html|xhtml] [--format nquads|turtle] [--graph IRI] [--context FILE] --base IRI PAGE`
+abbrev pub extraction_with : Option Syntax → Option Format → Option Chars → Given → Option Asked
+extraction_with (Some syntax) (Some format) (Some address) words =
+    if is_graph format words.graph && (is_iri address && are_names words.context words.last)
+    then Some (record { task = extracts (record { syntax = syntax; format = format; graph = words.graph; address = address }); context = words.context; page = words.last })
     else None
-extraction_with syntax base words = None
+extraction_with syntax format base words = None
 
 abbrev pub extraction : Given → Option Asked
-extraction words = extraction_with (syntax_of words.syntax) words.base words
+extraction words = extraction_with (syntax_of words.syntax) (format_of words.format) words.base words
+
+-- `[--syntax html|xhtml] --base IRI PAGE`
+abbrev pub itemization_with : Option Syntax → Option Chars → Option Chars → Option Chars → Option Chars → Given → Option Asked
+itemization_with (Some syntax) None None None (Some address) words =
+    if is_iri address && is_page_name words.last then Some (record { task = itemizes (record { syntax = syntax; address = address }); context = None; page = words.last }) else None
+itemization_with syntax format graph context base words = None
+
+abbrev pub itemization : Given → Option Asked
+itemization words = itemization_with (syntax_of words.syntax) words.format words.graph words.context words.base words
 
 -- `[--syntax html|xhtml] [--context FILE] PAGE`
 abbrev pub checking_with : Option Syntax → Option Chars → Option Chars → Option Chars → Given → Option Asked
@@ -178,14 +202,15 @@ sampling [] = None
 sampling (word ∷ []) = option_map samples (count_of word)
 sampling (word ∷ second ∷ words) = None
 
--- `sample` and a number, or `extract` or `check` with its options, in any order, and the page; any other list asks for
--- nothing
+-- `sample` and a number, or `extract`, `items` or `check` with its options, in any order, and the page; any other list
+-- asks for nothing
 abbrev pub job : List Chars → Option Job
 job [] = None
 job (task ∷ words) =
     if is_word task (codes "sample") then sampling words
     else (if is_word task (codes "extract") then option_map reads (option_and_then extraction (given words))
-    else (if is_word task (codes "check") then option_map reads (option_and_then checking (given words)) else None))
+    else (if is_word task (codes "items") then option_map reads (option_and_then itemization (given words))
+    else (if is_word task (codes "check") then option_map reads (option_and_then checking (given words)) else None)))
 
 -- the page that is asked for
 abbrev pub page_in : Option Job → Option Asked

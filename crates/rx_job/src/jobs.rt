@@ -1,10 +1,11 @@
 //! What the words of the command line ask for.
 ghost use Rattle.std.specs.Prelude.{◌≡◌, MatchResult, MatchOption, IfOk, Some, true, option_map};
-ghost use Rattle.rx_job.specs.Words.{job, reads, samples, extraction, checking, sampling, syntax_of, is_nquads, is_graph};
+ghost use Rattle.rx_job.specs.Words.{job, reads, samples, extraction, itemization, checking, sampling, syntax_of, is_graph};
 ghost use Rattle.rx_job.specs.Jobs.{asked_by, page_by, given_seen, text_in, FailsJob, FailsGraph, ReadsPage};
 
 use crate::arguments::{Arguments, arguments_of};
-use crate::words::{are_names, count_of, is_word};
+use crate::formats::{Format, format_of, names_graphs};
+use crate::words::{are_names, count_of, is_page_name, is_word};
 use rx_chars::Syntax;
 use rx_terms::{Iri, IriError, NoMemory, Text};
 use std::alloc::Global;
@@ -14,11 +15,18 @@ use thiserror::Error;
 #[derive(Debug, Drop)]
 pub enum Job {
     /// The triples of the page of this name, whose address is given, with the names of a context file or the standard
-    /// ones; they stand in the graph of this name, if any.
+    /// ones; they are written in this format, and stand in the graph of this name, if any.
     Extract {
         syntax: Syntax,
+        format: Format,
         graph: Option<Iri>,
         context: Option<Text>,
+        address: Iri,
+        page: Text,
+    },
+    /// The items of the page of this name, in this syntax, whose address is given.
+    Items {
+        syntax: Syntax,
         address: Iri,
         page: Text,
     },
@@ -63,6 +71,9 @@ impl Job {
         if is_word(task, "extract") {
             return Job::extraction(alloc, arguments);
         }
+        if is_word(task, "items") {
+            return Job::itemization(alloc, arguments);
+        }
         if is_word(task, "check") {
             return Job::checking(alloc, arguments);
         }
@@ -76,13 +87,13 @@ impl Job {
         let Some(syntax) = syntax_of(options.syntax) else {
             return Err(JobError::Usage);
         };
+        let Some(format) = format_of(options.format) else {
+            return Err(JobError::Usage);
+        };
         let Some(address) = options.base else {
             return Err(JobError::Usage);
         };
-        if !is_nquads(options.format) {
-            return Err(JobError::Usage);
-        }
-        let graph = match graph_of(alloc, options.graph) {
+        let graph = match graph_of(alloc, format, options.graph) {
             Ok(graph) => graph,
             Err(error) => return Err(error),
         };
@@ -100,8 +111,46 @@ impl Job {
         match given.last.try_clone() {
             Ok(page) => Ok(Job::Extract {
                 syntax,
+                format,
                 graph,
                 context,
+                address,
+                page,
+            }),
+            Err(_) => Err(JobError::NoMemory),
+        }
+    }
+
+    fn itemization(alloc: Global, given: Arguments<'_>) -> Result<Job, JobError>
+        ensures { MatchResult result (λ found. option_map reads (itemization (given_seen given.entry)) ≡ Some (asked_by found)) (FailsJob (option_map reads (itemization (given_seen given.entry)))) }
+    {
+        let options = given.options;
+        let Some(syntax) = syntax_of(options.syntax) else {
+            return Err(JobError::Usage);
+        };
+        let None = options.format else {
+            return Err(JobError::Usage);
+        };
+        let None = options.graph else {
+            return Err(JobError::Usage);
+        };
+        let None = options.context else {
+            return Err(JobError::Usage);
+        };
+        let Some(address) = options.base else {
+            return Err(JobError::Usage);
+        };
+        let address = match Iri::of(alloc, address.as_str()) {
+            Ok(address) => address,
+            Err(IriError::NoMemory) => return Err(JobError::NoMemory),
+            Err(_) => return Err(JobError::Usage),
+        };
+        if !is_page_name(given.last.as_str()) {
+            return Err(JobError::Usage);
+        }
+        match given.last.try_clone() {
+            Ok(page) => Ok(Job::Items {
+                syntax,
                 address,
                 page,
             }),
@@ -163,12 +212,13 @@ impl Job {
         }
     }
 
-    /// The name of the context file, where one is named. A sample has none.
+    /// The name of the context file, where one is named. A job of items has none, nor has a sample.
     pub fn context(&self) -> Option<&Text>
         ensures { text_in result ≡ (page_by self.now).context }
     {
         match self {
             Job::Extract { context, .. } => context.as_ref(),
+            Job::Items { .. } => None,
             Job::Check { context, .. } => context.as_ref(),
             Job::Sample { .. } => None,
         }
@@ -204,23 +254,16 @@ fn syntax_of(name: Option<&Text>) -> Option<Syntax>
     None
 }
 
-/// Whether the format of this name is N-Quads, which it is where none is given.
-fn is_nquads(name: Option<&Text>) -> bool
-    ensures { result ≡ is_nquads (text_in name.entry) }
-{
-    match name {
-        None => true,
-        Some(name) => is_word(name, "nquads"),
-    }
-}
-
-/// The name of the graph, where one is given. Usage comes exactly where it is no IRI.
-fn graph_of(alloc: Global, name: Option<&Text>) -> Result<Option<Iri>, JobError>
-    ensures { MatchResult result (λ graph. (is_graph (text_in name.entry) ≡ true) × (graph ≡ text_in name.entry)) (FailsGraph (text_in name.entry)) }
+/// The name of the graph, where one is given. Usage comes exactly where the format can't say it, or it is no IRI.
+fn graph_of(alloc: Global, format: Format, name: Option<&Text>) -> Result<Option<Iri>, JobError>
+    ensures { MatchResult result (λ graph. (is_graph format (text_in name.entry) ≡ true) × (graph ≡ text_in name.entry)) (FailsGraph format (text_in name.entry)) }
 {
     let Some(name) = name else {
         return Ok(None);
     };
+    if !names_graphs(format) {
+        return Err(JobError::Usage);
+    }
     match Iri::of(alloc, name.as_str()) {
         Ok(graph) => Ok(Some(graph)),
         Err(IriError::NoMemory) => Err(JobError::NoMemory),

@@ -4,8 +4,10 @@
 #![tactic(auto)]
 
 mod arguments;
+mod formats;
 mod jobs;
 mod options;
 mod words;
 
+pub use formats::Format;
 pub use jobs::{Job, JobError};

@@ -18,7 +18,8 @@ pub(crate) fn is_word(text: &Text, word: &str) -> bool
     text.as_str() == word
 }
 
-fn is_page_name(page: &str) -> bool
+/// Whether a page may have the name.
+pub(crate) fn is_page_name(page: &str) -> bool
     ensures { result ≡ is_page_name (chars page.now) }
 {
     match page.chars().next() {

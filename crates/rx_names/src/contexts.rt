@@ -47,6 +47,17 @@ impl Context {
         })
     }
 
+    /// An equal context, which shares its IRIs with this one.
+    pub fn try_clone(&self, alloc: Global) -> Result<Context, NoMemory>
+        ensures { IfOk result (λ copy. copy ≡ self.now) }
+    {
+        Ok(Context {
+            prefixes: self.prefixes.try_clone(alloc)?,
+            terms: self.terms.try_clone(alloc)?,
+            lowered_terms: self.lowered_terms.try_clone(alloc)?,
+        })
+    }
+
     /// How many prefixes there are.
     pub fn prefix_count(&self) -> usize
         ensures count { result ≡ length self.now.prefixes }

@@ -94,6 +94,14 @@ impl Table {
         Ok(true)
     }
 
+    /// An equal table, which shares its IRIs with this one.
+    pub(crate) fn try_clone(&self, alloc: Global) -> Result<Table, NoMemory>
+        ensures { IfOk result (λ copy. copy ≡ self.now) }
+    {
+        let rows = copied(alloc, self.rows.as_slice())?;
+        Ok(Table { rows })
+    }
+
     /// The table in lower case, each name with the IRI of the first that it is in lower case.
     pub(crate) fn folded(&self, alloc: Global) -> Result<Table, NoMemory>
         ensures { IfOk result (λ table. table ≡ folded self.now) }
@@ -147,6 +155,21 @@ impl Table {
             Err(_gap) => None,
         }
     }
+}
+
+/// The rows once more, which share their IRIs with these.
+fn copied(alloc: Global, rows: &[Mapping]) -> Result<Vec<Mapping>, NoMemory>
+    ensures { IfOk result (λ copy. copy.items ≡ rows.now) }
+{
+    let mut copy = Vec::new(alloc);
+    for row in rows {
+        let name = row.name.try_clone()?;
+        let iri = row.iri.try_clone()?;
+        let Ok(()) = copy.push(Mapping { name, iri }) else {
+            return Err(NoMemory);
+        };
+    }
+    Ok(copy)
 }
 
 /// How the text stands to the name, in byte order.

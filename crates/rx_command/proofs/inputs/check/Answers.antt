@@ -1,8 +1,8 @@
-use Rattle.std.proofs.Common.{◌≡◌, encode_utf8_all}
+use Rattle.std.proofs.Common.{◌≡◌, refl, encode_utf8_all}
 use Rattle.rx_ports.proofs.MoveLemmas.{moves_weaker}
 use Rattle.rx_command.specs.declared.errors.InputError.TheVariants as error
 use Rattle.rx_job.specs.Words.{checks}
-use Rattle.rx_command.specs.Reading.{Way}
+use Rattle.rx_command.specs.Reading.{for_faults, way_for}
 use Rattle.rx_command.specs.Inputs.{PageText, PageRefused}
 use Rattle.rx_command.specs.declared.outcomes.Outcome.TheVariants.{Right}
 use Rattle.rx_command.proofs.InputLemmas.{page_right, page_found, fails_refused, fails_clean, fails_no_context}
@@ -10,18 +10,17 @@ use Rattle.rx_command.proofs.inputs.check.Goals as goal
 
 pub returns-in-Ok-clause-ok : goal.returns-in-Ok-clause-ok
 returns-in-Ok-clause-ok g c =
-    let way : Way = record { syntax = c.args.syntax; context = c.args.context } in
-    moves_weaker (PageText (checks c.args.syntax) c.args.context (encode_utf8_all c.args.page.now) Right) (λ x y r. page_right way _ _ c.as_str.ensures.bytes x y r) c.in-Ok.ensures.gives
+    moves_weaker (PageText (checks c.args.syntax) c.args.context (encode_utf8_all c.args.page.now) Right) (λ x y r. page_right c.args.syntax c.args.context _ _ c.in-Ok.field-0 c.as_str.ensures.bytes x y r) c.in-Ok.ensures.gives
 
 pub returns-in-Err-clause-refused : goal.returns-in-Err-clause-refused
 returns-in-Err-clause-refused g c fault is =
     let same : c.in-Err.error ≡ error.Refused fault = (cc) in
     moves_weaker (PageRefused (checks c.args.syntax) c.args.context (encode_utf8_all c.args.page.now) fault)
-    (λ x y f. page_found (checks c.args.syntax) (record { syntax = c.args.syntax; context = c.args.context }) c.args.context _ _ fault (c.as_str.ensures.bytes) (λ i. c.args.syntax) (λ i. c.args.context) x y f)
-    (fails_refused (record { syntax = c.args.syntax; context = c.args.context }) _ _ c.in-Err.error fault _ _ (λ i. c.as_str.result.now) c.in-Err.ensures.gives same)
+    (λ x y f. page_found (checks c.args.syntax) (way_for c.args.syntax (for_faults c.args.context)) c.args.context _ _ fault (c.as_str.ensures.bytes) refl x y f)
+    (fails_refused (way_for c.args.syntax (for_faults c.args.context)) _ _ c.in-Err.error fault _ _ (λ i. c.as_str.result.now) c.in-Err.ensures.gives same)
 
 pub returns-in-Err-clause-cleanly : goal.returns-in-Err-clause-cleanly
-returns-in-Err-clause-cleanly g c is = fails_clean (record { syntax = c.args.syntax; context = c.args.context }) _ _ c.in-Err.error _ _ c.as_str.ensures.bytes c.in-Err.ensures.gives (cc)
+returns-in-Err-clause-cleanly g c is = fails_clean (way_for c.args.syntax (for_faults c.args.context)) _ _ c.in-Err.error _ _ c.as_str.ensures.bytes c.in-Err.ensures.gives (cc)
 
 pub returns-in-Err-clause-no_context : goal.returns-in-Err-clause-no_context
-returns-in-Err-clause-no_context g c is = fails_no_context (record { syntax = c.args.syntax; context = c.args.context }) _ c.in-Err.error _ _ c.in-Err.ensures.gives (cc)
+returns-in-Err-clause-no_context g c is = fails_no_context (way_for c.args.syntax (for_faults c.args.context)) _ c.in-Err.error _ _ c.in-Err.ensures.gives (cc)

@@ -1,4 +1,4 @@
-use Rattle.std.proofs.Common.{◌≡◌, encode_utf8_all}
+use Rattle.std.proofs.Common.{◌≡◌, refl, encode_utf8_all}
 use Rattle.rx_ports.proofs.MoveLemmas.{moves_weaker}
 use Rattle.rx_command.specs.declared.errors.InputError.TheVariants as error
 use Rattle.rx_job.specs.Words.{extracts}
@@ -9,16 +9,16 @@ use Rattle.rx_command.proofs.inputs.extract.Goals as goal
 
 pub returns-in-Ok-of-clause-ok : goal.returns-in-Ok-of-clause-ok
 returns-in-Ok-of-clause-ok g c =
-    let e = extraction_of c.args.approach c.args.graph in
+    let e = extraction_of c.args.approach c.args.format c.args.graph in
     moves_weaker (PageText (extracts e) c.args.approach.context (encode_utf8_all c.args.page.now) c.in-Ok-of.outcome)
-    (λ x y r. page_text e c.args.approach.context _ _ c.in-Ok-of.outcome c.in-Ok.list c.as_str.ensures.bytes c.in-Ok-of.ensures.spelled c.in-Ok-of.ensures.denoted x y r)
-    c.in-Ok.ensures.gives
+    (λ x y r. page_text e c.args.approach.context _ _ c.in-Ok.form c.in-Ok-of.outcome c.in-Ok-read_page.list c.as_str.ensures.bytes c.in-Ok.ensures c.in-Ok-of.ensures.spelled c.in-Ok-of.ensures.denoted x y r)
+    c.in-Ok-read_page.ensures.gives
 
 pub returns-in-Err-clause-refused : goal.returns-in-Err-clause-refused
 returns-in-Err-clause-refused g c fault is =
     let same : c.in-Err.error ≡ error.Refused fault = (cc) in
-    moves_weaker (PageRefused (extracts (extraction_of c.args.approach c.args.graph)) c.args.approach.context (encode_utf8_all c.args.page.now) fault)
-    (λ x y f. page_found (extracts (extraction_of c.args.approach c.args.graph)) (way_of c.args.approach) c.args.approach.context _ _ fault (c.as_str.ensures.bytes) (λ i. c.args.approach.syntax) (λ i. c.args.approach.context) x y f)
+    moves_weaker (PageRefused (extracts (extraction_of c.args.approach c.args.format c.args.graph)) c.args.approach.context (encode_utf8_all c.args.page.now) fault)
+    (λ x y f. page_found (extracts (extraction_of c.args.approach c.args.format c.args.graph)) (way_of c.args.approach) c.args.approach.context _ _ fault (c.as_str.ensures.bytes) refl x y f)
     (fails_refused (way_of c.args.approach) _ _ c.in-Err.error fault _ _ (λ i. c.as_str.result.now) c.in-Err.ensures.gives same)
 
 pub returns-in-Err-clause-cleanly : goal.returns-in-Err-clause-cleanly

@@ -1,91 +1,56 @@
-use Rattle.std.proofs.Common.{◌⊎◌, ℕ, List, refl, sym, ap, subst, encode_utf8_all, Some, IfOk}
+use Rattle.std.proofs.Common.{arith, ◌⊎◌, ◌∙◌, ℕ, List, refl, sym, ap, subst, encode_utf8_all, None, Some, IfOk}
 use Rattle.rx_ports.specs.Counts.{Rose}
 use Rattle.rx_ports.specs.Told.{Moves, Lacks}
-use Rattle.rx_ports.proofs.MoveLemmas.{moves_weaker, moves_then}
+use Rattle.rx_ports.proofs.MoveLemmas.{moves_then}
+use Rattle.rx_chars.specs.declared.syntax.Syntax.{Syntax}
+use Rattle.rx_terms.specs.Text.{Chars}
 use Rattle.rx_rdfa.specs.Names.{Context}
-use Rattle.rx_job.specs.Words.{Asked, Task, Extraction}
+use Rattle.rx_rdfa.specs.Standard.{standard}
+use Rattle.rx_job.specs.Words.{Asked, Task, Itemization, itemizes}
 use Rattle.rx_job.specs.Jobs.{page_by}
+use Rattle.rx_reading.specs.Ways.{Way}
 use Rattle.rx_command.specs.Files.{TakesOf}
-use Rattle.rx_command.specs.Reading.{Way, ReadsClean}
+use Rattle.rx_command.specs.Reading.{for_items, way_for, ReadsClean}
 use Rattle.rx_command.specs.Outcome.{way_in}
 use Rattle.rx_command.specs.Inputs.{PageText, PageRefused, JobRefused}
 use Rattle.rx_command.specs.Runs.{TakesFiles, StopsCleanly}
-use Rattle.rx_command.proofs.InputLemmas.{takes_before, takes_both, if_job, job_refused, page_failed, context_stops, page_stops, for_extraction, for_check}
+use Rattle.rx_command.proofs.InputLemmas.{takes_both, if_job, job_refused, page_failed, page_stops, for_itemization, standard_stays}
 use Rattle.rx_command.proofs.inputs.outcome_of_job.Goals as goal
 
-pub returns-in-Err-clause-takes : goal.returns-in-Err-clause-takes
-returns-in-Err-clause-takes g c = moves_weaker (TakesFiles (Some (page_by c.args.job.now))) (λ x y t. takes_before (page_by c.args.job.now) _ c.context.ensures x y t) c.read_context.ensures.takes
+abbrev asked_for : Syntax → Chars → Chars → Asked
+asked_for syntax address page = record { task = itemizes (record { syntax = syntax; address = address }); context = None; page = page }
 
-pub returns-in-Err-clause-cleanly : goal.returns-in-Err-clause-cleanly
-returns-in-Err-clause-cleanly g c is = moves_weaker (StopsCleanly (Some (page_by c.args.job.now))) (λ x y t. context_stops (page_by c.args.job.now) _ c.context.ensures x y t) c.read_context.ensures.takes
-
-pub returns-in_default-clause-takes : goal.returns-in_default-clause-takes
-returns-in_default-clause-takes g c = moves_weaker (TakesFiles (Some (page_by c.args.job.now))) (λ x y t. takes_before (page_by c.args.job.now) _ c.context.ensures x y t) c.read_context.ensures.takes
-
-pub returns-in-Ok-try_clone-clause-ok : goal.returns-in-Ok-try_clone-clause-ok
-returns-in-Ok-try_clone-clause-ok g c =
+pub returns-in-Ok-clause-ok : goal.returns-in-Ok-clause-ok
+returns-in-Ok-clause-ok g c =
     let asked : Asked = page_by c.args.job.now in
-    let e : Extraction = record { syntax = c.in-Extract.syntax; graph = c.in-Extract.graph; address = c.in-Extract.address } in
-    if_job c.extract.result asked _ c.in-Ok.context _ _ _ c.context.ensures c.in-Ok.ensures.ok
-    (for_extraction (λ (task : Task) (context : Context) (name : List ℕ). IfOk c.extract.result (λ outcome. Moves (PageText task context name outcome) (g.F.Shelf.told c.read_context.new.shelf) (g.F.Shelf.told c.extract.new.shelf)))
-    asked (record { syntax = c.in-Extract.syntax; context = c.in-Ok.context; address = c.in-Ok-try_clone.address }) c.as_ref.result e c.in-Extract.context c.in-Extract.page (ap page_by c.in-Extract.is) refl c.in-Ok-try_clone.ensures c.as_ref.ensures.value c.extract.ensures.ok)
+    let i : Itemization = record { syntax = c.in-Items.syntax; address = c.in-Ok.address } in
+    if_job c.itemize.result asked None standard _ _ _ (sym (ap (λ (k : Asked). k.context) (ap page_by c.in-Items.is))) (standard_stays (g.F.Shelf.told c.args.shelf.now))
+    (for_itemization (λ (task : Task) (context : Context) (name : List ℕ). IfOk c.itemize.result (λ outcome. Moves (PageText task context name outcome) (g.F.Shelf.told c.args.shelf.now) (g.F.Shelf.told c.itemize.new.shelf)))
+    asked i c.in-Items.page standard (ap page_by c.in-Items.is ∙ ap (λ address. asked_for c.in-Items.syntax address c.in-Items.page) (sym c.in-Ok.ensures)) (c.itemize.ensures.ok standard))
 
-pub returns-in-Ok-try_clone-clause-refused : goal.returns-in-Ok-try_clone-clause-refused
-returns-in-Ok-try_clone-clause-refused g c fault is =
+pub returns-in-Ok-clause-refused : goal.returns-in-Ok-clause-refused
+returns-in-Ok-clause-refused g c fault is =
     let asked : Asked = page_by c.args.job.now in
-    let e : Extraction = record { syntax = c.in-Extract.syntax; graph = c.in-Extract.graph; address = c.in-Extract.address } in
-    moves_then (JobRefused asked fault) (λ x y z r p. job_refused asked _ c.in-Ok.context fault c.context.ensures x y z r p) c.in-Ok.ensures.ok
-    (for_extraction (λ (task : Task) (context : Context) (name : List ℕ). Moves (PageRefused task context name fault) (g.F.Shelf.told c.read_context.new.shelf) (g.F.Shelf.told c.extract.new.shelf))
-    asked (record { syntax = c.in-Extract.syntax; context = c.in-Ok.context; address = c.in-Ok-try_clone.address }) c.as_ref.result e c.in-Extract.context c.in-Extract.page (ap page_by c.in-Extract.is) refl c.in-Ok-try_clone.ensures c.as_ref.ensures.value (c.extract.ensures.refused fault is))
+    let i : Itemization = record { syntax = c.in-Items.syntax; address = c.in-Ok.address } in
+    moves_then (JobRefused asked fault) (λ x y z r p. job_refused asked None standard fault (sym (ap (λ (k : Asked). k.context) (ap page_by c.in-Items.is))) x y z r p) (standard_stays (g.F.Shelf.told c.args.shelf.now))
+    (for_itemization (λ (task : Task) (context : Context) (name : List ℕ). Moves (PageRefused task context name fault) (g.F.Shelf.told c.args.shelf.now) (g.F.Shelf.told c.itemize.new.shelf))
+    asked i c.in-Items.page standard (ap page_by c.in-Items.is ∙ ap (λ address. asked_for c.in-Items.syntax address c.in-Items.page) (sym c.in-Ok.ensures)) (c.itemize.ensures.refused standard fault is))
 
-pub returns-in-Ok-try_clone-clause-takes : goal.returns-in-Ok-try_clone-clause-takes
-returns-in-Ok-try_clone-clause-takes g c =
+pub returns-in-Ok-clause-takes : goal.returns-in-Ok-clause-takes
+returns-in-Ok-clause-takes g c =
     let asked : Asked = page_by c.args.job.now in
-    moves_then (TakesFiles (Some asked)) (λ x y z r p. takes_both asked _ 1073807359 c.context.ensures refl x y z r p) c.read_context.ensures.takes
-    (subst (λ (k : Asked). Moves (TakesOf (encode_utf8_all k.page) 1073807359) (g.F.Shelf.told c.read_context.new.shelf) (g.F.Shelf.told c.extract.new.shelf)) (sym (ap page_by c.in-Extract.is)) c.extract.ensures.takes)
+    moves_then (TakesFiles (Some asked)) (λ x y z r p. takes_both asked None 1073807359 (sym (ap (λ (k : Asked). k.context) (ap page_by c.in-Items.is))) refl x y z r.takes p) (standard_stays (g.F.Shelf.told c.args.shelf.now))
+    (subst (λ (k : Asked). Moves (TakesOf (encode_utf8_all k.page) 1073807359) (g.F.Shelf.told c.args.shelf.now) (g.F.Shelf.told c.itemize.new.shelf)) (sym (ap page_by c.in-Items.is)) c.itemize.ensures.takes)
 
-pub returns-in-Ok-try_clone-clause-failed : goal.returns-in-Ok-try_clone-clause-failed
-returns-in-Ok-try_clone-clause-failed g c is =
+pub returns-in-Ok-clause-failed : goal.returns-in-Ok-clause-failed
+returns-in-Ok-clause-failed g c is =
     let asked : Asked = page_by c.args.job.now in
-    page_failed _ _ asked _ c.in-Ok.context (encode_utf8_all asked.page) _ _ _ c.context.ensures refl c.in-Ok.ensures.ok c.read_context.ensures.later
-    (subst (λ (k : Asked). Rose (g.F.Shelf.faults c.read_context.new.shelf) (g.F.Shelf.faults c.extract.new.shelf) ⊎ Lacks (g.F.Shelf.told c.read_context.new.shelf) (encode_utf8_all k.page)) (sym (ap page_by c.in-Extract.is)) (c.extract.ensures.failed is))
+    page_failed _ _ asked None standard (encode_utf8_all asked.page) (g.F.Shelf.faults c.args.shelf.now) (g.F.Shelf.faults c.args.shelf.now) _ (sym (ap (λ (k : Asked). k.context) (ap page_by c.in-Items.is))) refl (standard_stays (g.F.Shelf.told c.args.shelf.now)) (omega arith)
+    (subst (λ (k : Asked). Rose (g.F.Shelf.faults c.args.shelf.now) (g.F.Shelf.faults c.itemize.new.shelf) ⊎ Lacks (g.F.Shelf.told c.args.shelf.now) (encode_utf8_all k.page)) (sym (ap page_by c.in-Items.is)) (c.itemize.ensures.failed is))
 
-pub returns-in-Ok-try_clone-clause-cleanly : goal.returns-in-Ok-try_clone-clause-cleanly
-returns-in-Ok-try_clone-clause-cleanly g c is =
+pub returns-in-Ok-clause-cleanly : goal.returns-in-Ok-clause-cleanly
+returns-in-Ok-clause-cleanly g c is =
     let asked : Asked = page_by c.args.job.now in
-    let way : Way = record { syntax = c.in-Extract.syntax; context = c.in-Ok.context } in
-    moves_then (StopsCleanly (Some asked)) (λ x y z r p. page_stops asked _ c.in-Ok.context way c.context.ensures (sym (ap (λ (k : Asked). way_in k.task c.in-Ok.context) (ap page_by c.in-Extract.is))) x y z r p) c.in-Ok.ensures.ok
-    (subst (λ (k : Asked). Moves (ReadsClean way (encode_utf8_all k.page)) (g.F.Shelf.told c.read_context.new.shelf) (g.F.Shelf.told c.extract.new.shelf)) (sym (ap page_by c.in-Extract.is)) (c.extract.ensures.cleanly is))
-
-pub returns-in-Check-clause-ok : goal.returns-in-Check-clause-ok
-returns-in-Check-clause-ok g c =
-    let asked : Asked = page_by c.args.job.now in
-    if_job c.check.result asked _ c.in-Ok.context _ _ _ c.context.ensures c.in-Ok.ensures.ok
-    (for_check (λ (task : Task) (context : Context) (name : List ℕ). IfOk c.check.result (λ outcome. Moves (PageText task context name outcome) (g.F.Shelf.told c.read_context.new.shelf) (g.F.Shelf.told c.check.new.shelf)))
-    asked c.in-Check.syntax c.in-Check.context c.in-Check.page c.in-Ok.context (ap page_by c.in-Check.is) c.check.ensures.ok)
-
-pub returns-in-Check-clause-refused : goal.returns-in-Check-clause-refused
-returns-in-Check-clause-refused g c fault is =
-    let asked : Asked = page_by c.args.job.now in
-    moves_then (JobRefused asked fault) (λ x y z r p. job_refused asked _ c.in-Ok.context fault c.context.ensures x y z r p) c.in-Ok.ensures.ok
-    (for_check (λ (task : Task) (context : Context) (name : List ℕ). Moves (PageRefused task context name fault) (g.F.Shelf.told c.read_context.new.shelf) (g.F.Shelf.told c.check.new.shelf))
-    asked c.in-Check.syntax c.in-Check.context c.in-Check.page c.in-Ok.context (ap page_by c.in-Check.is) (c.check.ensures.refused fault is))
-
-pub returns-in-Check-clause-takes : goal.returns-in-Check-clause-takes
-returns-in-Check-clause-takes g c =
-    let asked : Asked = page_by c.args.job.now in
-    moves_then (TakesFiles (Some asked)) (λ x y z r p. takes_both asked _ 1073807359 c.context.ensures refl x y z r p) c.read_context.ensures.takes
-    (subst (λ (k : Asked). Moves (TakesOf (encode_utf8_all k.page) 1073807359) (g.F.Shelf.told c.read_context.new.shelf) (g.F.Shelf.told c.check.new.shelf)) (sym (ap page_by c.in-Check.is)) c.check.ensures.takes)
-
-pub returns-in-Check-clause-failed : goal.returns-in-Check-clause-failed
-returns-in-Check-clause-failed g c is =
-    let asked : Asked = page_by c.args.job.now in
-    page_failed _ _ asked _ c.in-Ok.context (encode_utf8_all asked.page) _ _ _ c.context.ensures refl c.in-Ok.ensures.ok c.read_context.ensures.later
-    (subst (λ (k : Asked). Rose (g.F.Shelf.faults c.read_context.new.shelf) (g.F.Shelf.faults c.check.new.shelf) ⊎ Lacks (g.F.Shelf.told c.read_context.new.shelf) (encode_utf8_all k.page)) (sym (ap page_by c.in-Check.is)) (c.check.ensures.failed is))
-
-pub returns-in-Check-clause-cleanly : goal.returns-in-Check-clause-cleanly
-returns-in-Check-clause-cleanly g c is =
-    let asked : Asked = page_by c.args.job.now in
-    let way : Way = record { syntax = c.in-Check.syntax; context = c.in-Ok.context } in
-    moves_then (StopsCleanly (Some asked)) (λ x y z r p. page_stops asked _ c.in-Ok.context way c.context.ensures (sym (ap (λ (k : Asked). way_in k.task c.in-Ok.context) (ap page_by c.in-Check.is))) x y z r p) c.in-Ok.ensures.ok
-    (subst (λ (k : Asked). Moves (ReadsClean way (encode_utf8_all k.page)) (g.F.Shelf.told c.read_context.new.shelf) (g.F.Shelf.told c.check.new.shelf)) (sym (ap page_by c.in-Check.is)) (c.check.ensures.cleanly is))
+    let way : Way = way_for c.in-Items.syntax (for_items c.in-Items.address) in
+    moves_then (StopsCleanly (Some asked)) (λ x y z r p. page_stops asked None standard way (sym (ap (λ (k : Asked). k.context) (ap page_by c.in-Items.is))) (sym (ap (λ (k : Asked). way_in k.task standard) (ap page_by c.in-Items.is))) x y z r p) (standard_stays (g.F.Shelf.told c.args.shelf.now))
+    (subst (λ (k : Asked). Moves (ReadsClean way (encode_utf8_all k.page)) (g.F.Shelf.told c.args.shelf.now) (g.F.Shelf.told c.itemize.new.shelf)) (sym (ap page_by c.in-Items.is)) (c.itemize.ensures.cleanly is))

@@ -1,9 +1,9 @@
-use Rattle.std.proofs.Common.{arith, rules, ap, inl, ◌≡◌, ◌∙◌, ◌≤◌, ◌+◌, [], length, refl, Err}
+use Rattle.std.proofs.Common.{arith, rules, ap, inl, ◌≡◌, ◌≤◌, ◌+◌, [], length, refl, Err}
 use Rattle.rx_ports.proofs.MoveLemmas.{moves_weaker, moves_then}
 use Rattle.rx_command.specs.Files.{HasRead, TakesOf}
 use Rattle.rx_command.specs.declared.errors.InputError.TheVariants.{Failed}
 use Rattle.rx_command.proofs.InputLemmas.{rose_before}
-use Rattle.rx_command.specs.Reading.{ReadsClean}
+use Rattle.rx_command.specs.Reading.{way_for, ReadsClean}
 use Rattle.rx_command.proofs.FileLemmas.{read_start, takes_none, takes_more}
 use Rattle.rx_command.proofs.ReadLemmas.{more_so_far, not_longer, next_found, file_fed, unread_clean}
 use Rattle.rx_command.proofs.pages.feed_file.Goals as goal
@@ -12,35 +12,31 @@ pub returns-in_default-start_file-clause-takes : goal.returns-in_default-start_f
 returns-in_default-start_file-clause-takes g c = moves_weaker _ (λ x y s. takes_none _ _ _ x y s) c.in_default-start_file.ensures.told
 
 pub returns-in_default-start_file-clause-gives : goal.returns-in_default-start_file-clause-gives
-returns-in_default-start_file-clause-gives g c way address r = moves_weaker (ReadsClean way c.args.name.now) (λ x y s. unread_clean way c.args.name.now x y (omega (arith, s.taken))) c.in_default-start_file.ensures.told
+returns-in_default-start_file-clause-gives g c syntax aim r = moves_weaker (ReadsClean (way_for syntax aim) c.args.name.now) (λ x y s. unread_clean syntax aim c.args.name.now x y (omega (arith, s.taken))) c.in_default-start_file.ensures.told
 
 pub loop-taken-init : goal.loop-taken-init
 loop-taken-init g c =
     record {
       piece = c.in-Ok.ensures.len;
       most = omega arith;
-      so_far = λ way address r. record {
+      so_far = λ syntax aim r. record {
         bytes = [];
         size = refl;
         reached = r;
         read = moves_weaker (HasRead c.args.name.now []) (λ x y s. read_start c.args.name.now [] x y refl s) c.in-Ok-start_file.ensures.told;
       };
       later = c.in-Ok-start_file.ensures.later;
-      same = refl;
     }
 
 pub returns-in-Ok-eq0-clause-gives : goal.returns-in-Ok-eq0-clause-gives
-returns-in-Ok-eq0-clause-gives g c way address r =
-    let s = c.loop-taken.invariant.so_far way address r in
+returns-in-Ok-eq0-clause-gives g c syntax aim r =
+    let s = c.loop-taken.invariant.so_far syntax aim r in
     let small : length c.deref_mut.result.now ≤ 65536 = omega (arith, c.deref_mut.ensures.len, c.loop-taken.invariant.piece) in
-    file_fed way address c.args.name.now c.loop-taken.reader c.feed_next.new.reader c.loop-taken.taken c.in-Ok-eq0.field-0 _ _ _ s (c.in-Ok-eq0.ensures.gives way address s.bytes s.reached small) c.in-Ok-eq0.field-0-test
-
-pub returns-in-Ok-eq0-clause-same : goal.returns-in-Ok-eq0-clause-same
-returns-in-Ok-eq0-clause-same g c = c.in-Ok-eq0.ensures.same ∙ c.loop-taken.invariant.same
+    file_fed syntax aim c.args.name.now c.loop-taken.reader c.feed_next.new.reader c.loop-taken.taken c.in-Ok-eq0.field-0 _ _ _ s (c.in-Ok-eq0.ensures.gives syntax aim s.bytes s.reached small) c.in-Ok-eq0.field-0-test
 
 pub returns-in-Ok-eq0-clause-takes : goal.returns-in-Ok-eq0-clause-takes
 returns-in-Ok-eq0-clause-takes g c =
-    let s = c.loop-taken.invariant.so_far c.requires.way c.requires.address c.requires.reached in
+    let s = c.loop-taken.invariant.so_far c.requires.syntax c.requires.aim c.requires.reached in
     let within : length s.bytes + length c.deref_mut.result.now ≤ 1073807360 = omega (arith, s.size, c.loop-taken-test.true, c.deref_mut.ensures.len, c.loop-taken.invariant.piece) in
     moves_then (TakesOf c.args.name.now 1073807359) (λ x y z h t. takes_more c.args.name.now s.bytes 1073807359 (length c.deref_mut.result.now) x y z h t within) s.read c.in-Ok-eq0.ensures.takes
 
@@ -50,29 +46,28 @@ loop-taken-preserved g c =
     record {
       piece = search rules;
       most = omega (arith, c.loop-taken-test.true, c.in-Ok-feed_next.ensures.bound, c.feed_next.auto.piece, c.deref_mut.ensures.len, c.loop-taken.invariant.piece);
-      so_far = λ way address r.
-          let s = c.loop-taken.invariant.so_far way address r in
-          more_so_far way address c.args.name.now c.loop-taken.reader c.feed_next.new.reader c.loop-taken.taken c.in-Ok-feed_next.count _ _ _ s (c.in-Ok-feed_next.ensures.gives way address s.bytes s.reached small);
+      so_far = λ syntax aim r.
+          let s = c.loop-taken.invariant.so_far syntax aim r in
+          more_so_far syntax aim c.args.name.now c.loop-taken.reader c.feed_next.new.reader c.loop-taken.taken c.in-Ok-feed_next.count _ _ _ s (c.in-Ok-feed_next.ensures.gives syntax aim s.bytes s.reached small);
       later = omega (arith, c.loop-taken.invariant.later, c.in-Ok-feed_next.ensures.later);
-      same = c.in-Ok-feed_next.ensures.same ∙ c.loop-taken.invariant.same;
     }
 
 pub returns-in-Err-clause-gives : goal.returns-in-Err-clause-gives
-returns-in-Err-clause-gives g c way address r =
-    let s = c.loop-taken.invariant.so_far way address r in
+returns-in-Err-clause-gives g c syntax aim r =
+    let s = c.loop-taken.invariant.so_far syntax aim r in
     let small : length c.deref_mut.result.now ≤ 65536 = omega (arith, c.deref_mut.ensures.len, c.loop-taken.invariant.piece) in
-    next_found way address c.args.name.now c.loop-taken.reader c.feed_next.new.reader c.loop-taken.taken c.in-Err.error _ _ _ s (c.in-Err.ensures.gives way address s.bytes s.reached small)
+    next_found syntax aim c.args.name.now c.loop-taken.reader c.feed_next.new.reader c.loop-taken.taken c.in-Err.error _ _ _ s (c.in-Err.ensures.gives syntax aim s.bytes s.reached small)
 
 pub returns-in-Err-clause-takes : goal.returns-in-Err-clause-takes
 returns-in-Err-clause-takes g c =
-    let s = c.loop-taken.invariant.so_far c.requires.way c.requires.address c.requires.reached in
+    let s = c.loop-taken.invariant.so_far c.requires.syntax c.requires.aim c.requires.reached in
     let within : length s.bytes + length c.deref_mut.result.now ≤ 1073807360 = omega (arith, s.size, c.loop-taken-test.true, c.deref_mut.ensures.len, c.loop-taken.invariant.piece) in
     moves_then (TakesOf c.args.name.now 1073807359) (λ x y z h t. takes_more c.args.name.now s.bytes 1073807359 (length c.deref_mut.result.now) x y z h t within) s.read c.in-Err.ensures.takes
 
 pub unreachable-requires : goal.unreachable-requires
 unreachable-requires g c =
-    let s = c.loop-taken.invariant.so_far c.requires.way c.requires.address c.requires.reached in
-    let small = not_longer c.requires.way c.requires.address c.loop-taken.reader s.bytes s.reached in
+    let s = c.loop-taken.invariant.so_far c.requires.syntax c.requires.aim c.requires.reached in
+    let small = not_longer c.requires.syntax c.requires.aim c.loop-taken.reader s.bytes s.reached in
     omega (arith, small, s.size, c.loop-taken-test.false)
 
 pub returns-in-Err-clause-failed : goal.returns-in-Err-clause-failed

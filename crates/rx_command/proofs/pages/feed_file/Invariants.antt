@@ -1,6 +1,6 @@
 use Rattle.std.proofs.Common.{◌≤◌, ◌≡◌, ◌+◌, ◌-◌, [], vec_len}
-use Rattle.rx_terms.specs.Text.{Chars}
-use Rattle.rx_command.specs.Reading.{Way, Reached, walks}
+use Rattle.rx_chars.specs.declared.syntax.Syntax.{Syntax}
+use Rattle.rx_command.specs.Reading.{Aim, Reached}
 use Rattle.rx_command.proofs.ReadLemmas.{SoFar}
 use Rattle.rx_command.proofs.pages.feed_file.Given as goal
 
@@ -8,9 +8,8 @@ abbrev pub invariant-loop-taken : goal.invariant-loop-taken
 invariant-loop-taken g l = record {
   piece : vec_len l.piece ≡ 65536;
   most : l.taken ≤ 1073741824 + 65536;
-  so_far : (way : Way) (address : Chars) → Reached way address l.fn.reader [] → SoFar way address l.name l.reader l.taken (g.F.Shelf.told l.fn.shelf) (g.F.Shelf.told l.shelf);
+  so_far : (syntax : Syntax) (aim : Aim) → Reached syntax aim l.fn.reader [] → SoFar syntax aim l.name l.reader l.taken (g.F.Shelf.told l.fn.shelf) (g.F.Shelf.told l.shelf);
   later : g.F.Shelf.faults l.fn.shelf ≤ g.F.Shelf.faults l.shelf;
-  same : walks l.reader ≡ walks l.fn.reader;
 }
 
 abbrev pub decreases-loop-taken : goal.decreases-loop-taken

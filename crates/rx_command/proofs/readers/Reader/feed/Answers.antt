@@ -1,13 +1,17 @@
 use Rattle.std.proofs.Common.{subst}
 use Rattle.rx_command.specs.declared.readers.Reader.{Reader}
-use Rattle.rx_command.specs.Reading.{standard, Reached}
-use Rattle.rx_command.proofs.ReadLemmas.{walk_fed, check_fed}
+use Rattle.rx_command.specs.Reading.{setting_for, item_setting_for, Reached}
+use Rattle.rx_command.proofs.ReadLemmas.{feeds_walk, feeds_items, feeds_check}
 use Rattle.rx_command.proofs.readers.Reader.feed.Goals as goal
 
-pub returns-in-Walks-clause-gives : goal.returns-in-Walks-clause-gives
-returns-in-Walks-clause-gives c way address bytes r =
-    walk_fed way address bytes c.args.piece.now c.feed.result c.feed.new.self (c.feed.ensures.gives way.syntax standard way.context address bytes (subst (λ (v : Reader). Reached way address v bytes) c.in-Walks.is r))
+pub returns-in-Walks : goal.returns-in-Walks
+returns-in-Walks c syntax aim bytes r =
+    feeds_walk syntax aim _ c.feed.new.self bytes c.args.piece.now c.feed.result (λ context address s. c.feed.ensures.gives (setting_for syntax context) address bytes s) (subst (λ (v : Reader). Reached syntax aim v bytes) c.in-Walks.is r)
 
-pub returns-in-Checks-clause-gives : goal.returns-in-Checks-clause-gives
-returns-in-Checks-clause-gives c way address bytes r =
-    check_fed way address bytes c.args.piece.now c.feed-in-Checks.result c.feed-in-Checks.new.self (c.feed-in-Checks.ensures.gives way.syntax standard way.context bytes (subst (λ (v : Reader). Reached way address v bytes) c.in-Checks.is r))
+pub returns-in-Itemizes : goal.returns-in-Itemizes
+returns-in-Itemizes c syntax aim bytes r =
+    feeds_items syntax aim _ c.feed-in-Itemizes.new.self bytes c.args.piece.now c.feed-in-Itemizes.result (λ address s. c.feed-in-Itemizes.ensures.gives (item_setting_for syntax address) bytes s) (subst (λ (v : Reader). Reached syntax aim v bytes) c.in-Itemizes.is r)
+
+pub returns-in-Checks : goal.returns-in-Checks
+returns-in-Checks c syntax aim bytes r =
+    feeds_check syntax aim _ c.feed-in-Checks.new.self bytes c.args.piece.now c.feed-in-Checks.result (λ context s. c.feed-in-Checks.ensures.gives (setting_for syntax context) bytes s) (subst (λ (v : Reader). Reached syntax aim v bytes) c.in-Checks.is r)

@@ -1,0 +1,96 @@
+-- Items of a page, from what was read of it to what it is.
+use Rattle.std.proofs.Common.{◌≡◌, ◌∙◌, ℕ, suc, Bool, true, false, List, [], ◌∷◌, ◌++◌, refl, sym, ap, Option, Some, None, Err, inr}
+use Rattle.std.specs.declared.alloc.Global.{Global}
+use Rattle.std.specs.Prelude.{Vec, codes, filter, option_map, if◌then◌else◌}
+use Rattle.std.specs.Option.{option_or}
+use Rattle.serde_json.specs.View.{view}
+use Rattle.serde_json.specs.Written.{compact_text, has_float}
+use Rattle.serde_json.specs.declared.value.Value.{Value}
+use Rattle.rx_terms.specs.Text.{Chars}
+use Rattle.rx_grammar.specs.Trees.{Tree}
+use Rattle.rx_grammar.specs.declared.faults.Fault.{Fault}
+use Rattle.rx_grammar.specs.declared.faults.Kind.{Kind}
+use Rattle.rx_grammar.specs.declared.faults.Kind.TheVariants.{Cycle, ItemsTooNested, ItemsTooMany}
+use Rattle.rx_tags.specs.declared.stops.Stop.{Stop}
+use Rattle.rx_tags.specs.declared.stops.Stop.TheVariants as stop
+use Rattle.rx_rdfa.specs.Names.{Context}
+use Rattle.rx_microdata.specs.Base.{base_in}
+use Rattle.rx_microdata.specs.Elements.{elements_of, is_top_level}
+use Rattle.rx_microdata.specs.Json.{Outcome, Given, Refused, json_by, refused, outcome}
+use Rattle.rx_microdata.specs.Properties.{properties}
+use Rattle.rx_microdata.specs.Visits.{Bounds, Visit, standard_bounds, is_cycle, fault_of, first_fault, visits_by}
+use Rattle.rx_items.specs.Pages.{JsonGives}
+use Rattle.rx_items.specs.declared.kept.Kept.{Kept}
+use Rattle.rx_command.specs.ItemTexts.{AreItems, JsonTextGives}
+use Rattle.rx_ports.specs.Files.{file_of}
+use Rattle.rx_ports.specs.Told.{Told}
+use Rattle.rx_job.specs.Words.{Itemization, itemizes}
+use Rattle.rx_command.specs.declared.outcomes.Outcome.{Outcome as Found}
+use Rattle.rx_command.specs.Inputs.{PageText, PageRefused}
+use Rattle.rx_command.specs.Outcome.{JsonText, HasItems, is_of_items}
+use Rattle.rx_command.specs.Reading.{GivesItems, ReadsWhole}
+use Rattle.rx_command.specs.Written.{text_of}
+use Rattle.rx_command.proofs.JsonLemmas.{no_numbers}
+
+pub json_text : (address : Chars) (tree : Tree) (value : Value) (text : List ℕ) → outcome standard_bounds address tree ≡ Given (view value) → (has_float (view value) ≡ false → text ≡ compact_text (view value) ++ codes "\n") → JsonText address tree text
+json_text address tree value text given spelled = record { value = view value; given = given; spelled = spelled (no_numbers standard_bounds address tree (view value) given) }
+
+pub json_stops : (address : Chars) (tree : Tree) (why : Stop) → JsonGives (outcome standard_bounds address tree) (Err why) → JsonTextGives {V = Vec ℕ Global} (λ text. text.items) address tree (Err why)
+json_stops address tree (stop.Fault fault) g = g
+json_stops address tree stop.NoMemory g = tt
+
+-- ---- what kind of fault an item has
+
+abbrev both : Kind → Visit → Kind × Visit
+both kind visit = (kind, visit)
+
+chain : (a b d : Bool) (kind : Kind) → ◌≡◌ {A = Option Kind} (if a then Some Cycle else if b then Some ItemsTooNested else if d then Some ItemsTooMany else None) (Some kind) → is_of_items kind ≡ true
+chain true b d kind e = let same : Cycle ≡ kind = cc in ap is_of_items (sym same)
+chain false true d kind e = let same : ItemsTooNested ≡ kind = cc in ap is_of_items (sym same)
+chain false false true kind e = let same : ItemsTooMany ≡ kind = cc in ap is_of_items (sym same)
+chain false false false kind e = absurd (cc)
+
+abbrev kind_in : Kind → Option (Kind × Visit) → Kind
+kind_in other None = other
+kind_in other (Some found) = found.0
+
+first_kind : (bounds : Bounds) (before : ℕ) (visits : List Visit) (kind : Kind) (visit : Visit) → ◌≡◌ {A = Option (Kind × Visit)} (first_fault bounds before visits) (Some (kind, visit)) → is_of_items kind ≡ true
+first_kind bounds before [] kind visit e = absurd (cc)
+first_kind bounds before (first ∷ more) kind visit e = by (first_kind bounds (suc before) more kind visit) (fault_of bounds before first) refl e
+  where
+    by : (◌≡◌ {A = Option (Kind × Visit)} (first_fault bounds (suc before) more) (Some (kind, visit)) → is_of_items kind ≡ true) → (x : Option Kind) → fault_of bounds before first ≡ x
+        → ◌≡◌ {A = Option (Kind × Visit)} (option_or (option_map (λ fault. both fault first) x) (first_fault bounds (suc before) more)) (Some (kind, visit)) → is_of_items kind ≡ true
+    by on None k h = on h
+    by on (Some fault) k h = let same : fault ≡ kind = ap (kind_in kind) h in chain (is_cycle first) _ _ kind (k ∙ ap Some same)
+
+of_items : (kind : Kind) (visit : Visit) (fault : Fault) → refused kind visit ≡ Refused fault → is_of_items kind ≡ true → is_of_items fault.kind ≡ true
+of_items kind [] fault e k = let same : record { kind = kind; token = 0; at = 0 } ≡ fault = cc in ap (λ (f : Fault). is_of_items f.kind) (sym same) ∙ k
+of_items kind (root ∷ above) fault e k = let same : record { kind = kind; token = root.facts.token; at = root.facts.at } ≡ fault = cc in ap (λ (f : Fault). is_of_items f.kind) (sym same) ∙ k
+
+item_kind : (address : Chars) (tree : Tree) (fault : Fault) → outcome standard_bounds address tree ≡ Refused fault → is_of_items fault.kind ≡ true
+item_kind address tree fault e = by (first_fault standard_bounds 0 (visits_by (properties (elements_of tree)) standard_bounds (filter is_top_level (elements_of tree)))) refl e
+  where
+    by : (x : Option (Kind × Visit)) → first_fault standard_bounds 0 (visits_by (properties (elements_of tree)) standard_bounds (filter is_top_level (elements_of tree))) ≡ x
+        → elim x as (λ found. Outcome) [ None ↦ Given (json_by (properties (elements_of tree)) (base_in address tree) standard_bounds.nested (filter is_top_level (elements_of tree))) | Some found ↦ refused found.0 found.1 ] ≡ Refused fault
+        → is_of_items fault.kind ≡ true
+    by None k h = absurd (cc)
+    by (Some found) k h = of_items found.0 found.1 fault h (first_kind standard_bounds 0 (visits_by (properties (elements_of tree)) standard_bounds (filter is_top_level (elements_of tree))) found.0 found.1 k)
+
+-- ---- what a page is
+
+pub page_items : (i : Itemization) (context : Context) (name named : List ℕ) (kept : Kept) (outcome_is : Found) → named ≡ name → ((address : Chars) (tree : Tree) → AreItems address tree kept → JsonText address tree (text_of outcome_is))
+    → (x y : Told) → ReadsWhole (GivesItems i.syntax i.address) named kept x y → PageText (itemizes i) context name outcome_is x y
+page_items i context name named kept outcome_is n json x y c =
+    let has : HasItems i c.bytes (text_of outcome_is) = record { tree = c.gives.tree; page = c.gives.page; json = json i.address c.gives.tree c.gives.holds } in
+    record { bytes = c.bytes; file = sym (ap (λ n. file_of x.files n) n) ∙ c.file; gives = has; graph = λ read. has; left = c.left }
+
+pub page_item_fault : (i : Itemization) (context : Context) (name named : List ℕ) (kept : Kept) (fault : Fault) → named ≡ name → ((address : Chars) (tree : Tree) → AreItems address tree kept → outcome standard_bounds address tree ≡ Refused fault)
+    → (x y : Told) → ReadsWhole (GivesItems i.syntax i.address) named kept x y → PageRefused (itemizes i) context name fault x y
+page_item_fault i context name named kept fault n faulty x y c =
+    let is : outcome standard_bounds i.address c.gives.tree ≡ Refused fault = faulty i.address c.gives.tree c.gives.holds in
+    record {
+      bytes = c.bytes;
+      file = sym (ap (λ n. file_of x.files n) n) ∙ c.file;
+      refused = inr (record { tree = c.gives.tree; page = c.gives.page; refused = is });
+      reads = λ k. let differ : true ≡ false = sym (item_kind i.address c.gives.tree fault is) ∙ k in absurd (cc);
+    }
