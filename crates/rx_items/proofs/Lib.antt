@@ -27,3 +27,6 @@ mod ReferenceLemmas
 mod ReachLemmas
 mod PropertyLemmas
 mod BuildLemmas
+mod DisjointLemmas
+mod DepthLemmas
+mod ReadLemmas

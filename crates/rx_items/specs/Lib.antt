@@ -19,3 +19,5 @@ pub mod Ids
 pub mod Members
 pub mod Starts
 pub mod Built
+pub mod Disjoint
+pub mod JsonLaws

@@ -1,6 +1,7 @@
 //! The tokens of a text, each once.
-ghost use Rattle.std.specs.Prelude.{◌≡◌, ℕ, List, [], ◌∷◌, ◌++◌, ◌||◌, not, IfOk, OnOk};
+ghost use Rattle.std.specs.Prelude.{◌≡◌, ℕ, List, [], ◌∷◌, ◌++◌, ◌||◌, not, IfOk, IfSome, OnOk};
 ghost use Rattle.std.specs.Str.{chars};
+ghost use Rattle.rx_terms.specs.Text.{tokens};
 ghost use Rattle.rx_grammar.specs.Names.{same};
 ghost use Rattle.rx_microdata.specs.Facts.{distinct_tokens};
 ghost use Rattle.rx_items.specs.Distinct.{has_text};
@@ -12,6 +13,31 @@ use std::collections::BTreeSet;
 
 /// The tokens of a text in order, without those that stood before.
 pub(crate) fn distinct(alloc: Global, text: &str) -> Result<Vec<Text>, NoMemory>
+    ensures { IfOk result (λ list. list.items ≡ distinct_tokens (chars text.now)) }
+{
+    // most texts have one, for which no set is needed
+    let Some(token) = only_token(text) else {
+        return distinct_of_many(alloc, text);
+    };
+    let mut list = Vec::new(alloc);
+    push_text(alloc, &mut list, token)?;
+    Ok(list)
+}
+
+/// The token of a text that has no other.
+fn only_token(text: &str) -> Option<&str>
+    ensures { IfSome result (λ token. tokens (chars text.now) ≡ chars token.now ∷ []) }
+{
+    let Some((token, behind)) = first_token(text) else {
+        return None;
+    };
+    match first_token(behind) {
+        Some(_) => None,
+        None => Some(token),
+    }
+}
+
+fn distinct_of_many(alloc: Global, text: &str) -> Result<Vec<Text>, NoMemory>
     ensures { IfOk result (λ list. list.items ≡ distinct_tokens (chars text.now)) }
 {
     let mut seen = BTreeSet::new(alloc);

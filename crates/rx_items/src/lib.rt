@@ -1,10 +1,12 @@
 //! Microdata items of a page that is read in pieces: a table of the elements that matter, and the JSON of its items.
 #![tactic(auto)]
 
+ghost use Rattle.rx_items.specs.JsonLaws.{JsonIsReadBack, JsonNests};
 ghost use Rattle.rx_items.specs.Rows.{RowsSuffice};
 ghost use Rattle.rx_items.specs.Showing.{TablesShow};
 
 mod collectors;
+mod disjoint;
 mod distinct;
 mod elements;
 mod groups;
@@ -45,4 +47,14 @@ pub fn rows_suffice()
 /// Of the events of a page's tree the table has the tree's rows.
 pub fn tables_show()
     ensures { TablesShow }
+{}
+
+/// The JSON of a page's items nests at most 122 levels of lists and objects, fewer than the 127 that a reader takes.
+pub fn json_nests()
+    ensures { JsonNests }
+{}
+
+/// The compact text of the JSON of a page's items is read back as that JSON.
+pub fn json_is_read_back()
+    ensures { JsonIsReadBack }
 {}

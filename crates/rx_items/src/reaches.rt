@@ -5,17 +5,37 @@ ghost use Rattle.rx_terms.specs.Text.{Chars};
 ghost use Rattle.rx_grammar.specs.Trees.{Tree};
 ghost use Rattle.rx_items.specs.Rows.{rows_of};
 ghost use Rattle.rx_items.specs.Members.{Sorted};
+ghost use Rattle.rx_items.specs.Disjoint.{Apart};
 ghost use Rattle.rx_items.specs.Properties.{in_runs, part};
 ghost use Rattle.rx_items.specs.Starts.{RunsReach};
 
+use crate::disjoint::{disjoint, sort_by_begin};
 use crate::kept::Run;
 use crate::rows::Row;
 use crate::starts::{own_run, start_run};
 use rx_terms::NoMemory;
 use std::alloc::Global;
 
-/// The runs of members that the item at this place has below it, and those that these starts reach.
+/// The members that the item at this place has below it, and those that these starts reach, in runs that share none.
 pub(crate) fn reach_of(
+    alloc: Global,
+    rows: &[Row],
+    keys: &[u128],
+    starts: &[usize],
+    place: usize,
+) -> Result<Vec<Run>, NoMemory>
+    ensures reach { (words gathered : Chars) (times : List Chars) (tree : Tree) (members : List ℕ) → Sorted words gathered times rows.now (rows_of tree) keys.now members → IsNonDecreasing keys.now
+        → IfOk result (λ runs. (x : ℕ) → Contains (in_runs members runs.items) x ↔ RunsReach (rows_of tree) place starts.now x) }
+    ensures apart { IfOk result (λ runs. Apart 0 runs.items) }
+{
+    let mut runs = runs_of(alloc, rows, keys, starts, place)?;
+    sort_by_begin(&mut runs);
+    let list = disjoint(alloc, runs.as_slice())?;
+    Ok(list)
+}
+
+/// The run of what the item has below it, and that of each start. Starts may lie in each other, and so may their runs.
+fn runs_of(
     alloc: Global,
     rows: &[Row],
     keys: &[u128],

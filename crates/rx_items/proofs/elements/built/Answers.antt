@@ -21,7 +21,7 @@ returns c text times tree members sorted up looks =
     let ps = rows_of tree in
     let r = row_shown c.args.words.now text times c.args.rows.now ps c.args.place nothing_kept sorted.shows c.requires in
     let starts = c.in_ok-starts.ensures (look_in ps) r.2.itemref looks r.2.has_references in
-    let reach = c.in_ok-reach.ensures c.args.words.now text times tree members sorted up in
+    let reach = c.in_ok-reach.ensures.reach c.args.words.now text times tree members sorted up in
     let begins : (m : ℕ) → Contains c.in_ok-starts.starts.items m ↔ Contains (filter_map (look_in ps) r.0.facts.references) m =
     subst (λ (refs : List Chars). (m : ℕ) → Contains c.in_ok-starts.starts.items m ↔ Contains (filter_map (look_in ps) refs) m) (sym r.2.references) starts in
     let reaches : (x : ℕ) → Contains (in_runs members c.in_ok-reach.reach.items) x ↔ RunsReach ps c.args.place c.in_ok-starts.starts.items x = rw c.as_slice.ensures.value at reach in

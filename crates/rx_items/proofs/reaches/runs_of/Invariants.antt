@@ -6,7 +6,7 @@ use Rattle.rx_items.specs.Rows.{rows_of}
 use Rattle.rx_items.specs.Members.{Sorted}
 use Rattle.rx_items.specs.Properties.{in_runs}
 use Rattle.rx_items.specs.Starts.{RunsReach}
-use Rattle.rx_items.proofs.reaches.reach_of.Given as goal
+use Rattle.rx_items.proofs.reaches.runs_of.Given as goal
 
 abbrev pub invariant-loop-start : goal.invariant-loop-start
 invariant-loop-start l =
