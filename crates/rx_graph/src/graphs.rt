@@ -115,7 +115,7 @@ impl Graph {
     }
 
     /// An equal graph.
-    pub(crate) fn try_clone(&self, alloc: Global) -> Result<Graph, NoMemory>
+    pub fn try_clone(&self, alloc: Global) -> Result<Graph, NoMemory>
         ensures { IfOk result (λ graph. graph ≡ self.now) }
     {
         let mut triples = Vec::with_capacity(alloc, self.len())?;

@@ -92,10 +92,10 @@ graph_spelled (Some iri) w = (iri_text iri, iri_spelled iri w, append_assoc (iri
 
 -- ---- a line states its quad
 
-statement : Option Chars → Triple ℕ → Chars
+pub statement : Option Chars → Triple ℕ → Chars
 statement name t = node_text t.subject ++ space ∷ (iri_text t.predicate ++ space ∷ (term_text t.object ++ space ∷ (graph_text name ++ full_stop ∷ [])))
 
-line_ended : (name : Option Chars) (t : Triple ℕ) → line_text name t ≡ statement name t ++ line_feed ∷ []
+pub line_ended : (name : Option Chars) (t : Triple ℕ) → line_text name t ≡ statement name t ++ line_feed ∷ []
 unfolding statement
 line_ended name t =
     let g : Chars = graph_text name ++ full_stop ∷ [] in
@@ -107,7 +107,7 @@ line_ended name t =
     ∙ ap (λ z. iri_text t.predicate ++ space ∷ z) (append_assoc (term_text t.object) (space ∷ g) end
     ∙ ap (λ z. term_text t.object ++ space ∷ z) (append_assoc (graph_text name) (full_stop ∷ []) end))))
 
-line_states : (name : Option Chars) (t : Triple ℕ) → WritableTriple name t → States (statement name t) (quad_of name t)
+pub line_states : (name : Option Chars) (t : Triple ℕ) → WritableTriple name t → States (statement name t) (quad_of name t)
 unfolding statement
 line_states name t w = record {
   subject = node_text t.subject;
@@ -145,7 +145,7 @@ graph_lacks : (name : Option Chars) → WritableName name → lacks line_feed (g
 graph_lacks None w = refl
 graph_lacks (Some iri) w = lacks_append line_feed (graph_text (Some iri)) (full_stop ∷ []) (lacks_append line_feed (iri_text iri) (space ∷ []) (iri_lacks line_feed line_feed_marks (iri_text iri) iri (iri_spelled iri w)) refl) refl
 
-line_unbroken : (name : Option Chars) (t : Triple ℕ) → WritableTriple name t → lacks line_feed (statement name t) ≡ true
+pub line_unbroken : (name : Option Chars) (t : Triple ℕ) → WritableTriple name t → lacks line_feed (statement name t) ≡ true
 unfolding statement
 line_unbroken name t w =
     lacks_append line_feed (node_text t.subject) _ (node_lacks line_feed line_feed_marks (node_text t.subject) t.subject (node_spelled t.subject w.subject))
@@ -190,7 +190,7 @@ graph_writable : (name : Option Chars) → WritableName name → WritableText (g
 graph_writable None w = literally [] refl
 graph_writable (Some iri) w = joined (iri_writable iri w) (literally (codes " ") refl)
 
-line_writable : (name : Option Chars) (t : Triple ℕ) → WritableTriple name t → WritableText (line_text name t)
+pub line_writable : (name : Option Chars) (t : Triple ℕ) → WritableTriple name t → WritableText (line_text name t)
 line_writable name t w =
     let gap : WritableText (codes " ") = literally (codes " ") refl in
     joined (node_writable t.subject w.subject) (joined gap (joined (iri_writable t.predicate w.predicate) (joined gap

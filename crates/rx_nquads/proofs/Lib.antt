@@ -3,3 +3,4 @@ pub mod OneMeaning
 pub mod Adding
 pub mod Denoting
 pub mod Proper
+pub mod Joining

@@ -75,7 +75,7 @@ tag_chars tag h = left_chars true true tag (sym (left-start tag) ∙ h)
 
 -- ---- what spellings lack
 
-digits_lack : (mark : ℕ) → digit_value mark ≡ 36 → (digits : Chars) → AllDigits 10 digits → lacks mark digits ≡ true
+pub digits_lack : (mark : ℕ) → digit_value mark ≡ 36 → (digits : Chars) → AllDigits 10 digits → lacks mark digits ≡ true
 digits_lack mark n [] h = refl
 digits_lack mark n (c ∷ digits) h = and_from _ _ (go (c == mark) refl) (digits_lack mark n digits h.1)
   where

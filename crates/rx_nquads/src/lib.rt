@@ -1,7 +1,7 @@
 //! N-Quads: the text of a graph, and what a text denotes.
 //!
 //! [`write()`] sends exactly the text that `specs/Writing.antt` defines to a sink, in pieces, so that the text is never
-//! whole in memory; [`text`] gives it as bytes, for where it is small or is wanted whole. By the relation of
+//! whole in memory; [`text`] gives it as bytes, for where it is small or is wanted whole, and [`put_quad`] adds one line. By the relation of
 //! `specs/Document.antt`, which is stated of whole texts and apart from the writer, that text denotes exactly the graph's
 //! quads.
 #![tactic(auto)]
@@ -13,7 +13,7 @@ mod terms;
 mod writing;
 
 pub use rx_pieces::WriteError;
-pub use writing::{text, write};
+pub use writing::{put_quad, text, write};
 
 /// A line states at most one quad.
 pub fn a_line_states_one()

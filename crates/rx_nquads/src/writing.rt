@@ -1,5 +1,5 @@
 //! The text of a graph.
-ghost use Rattle.std.specs.Prelude.{◌≡◌, ◌≤◌, Err, IfOk, IsErrOf, OnOk, encode_utf8_all, option_map, false};
+ghost use Rattle.std.specs.Prelude.{◌≡◌, ◌≤◌, ◌++◌, Err, IfOk, IsErrOf, OnErr, OnOk, encode_utf8_all, option_map, false};
 ghost use Rattle.std.specs.Str.{chars};
 ghost use Rattle.rx_ports.specs.Counts.{Rose};
 ghost use Rattle.rx_ports.specs.Told.{Moves, GrowsBy, GrowsByPart};
@@ -57,6 +57,45 @@ pub fn text(alloc: Global, graph: &Graph, name: Option<&Iri>) -> Result<Vec<u8>,
     match write(alloc, graph, name, &mut whole) {
         Ok(()) => Ok(whole.into_bytes()),
         Err(_error) => Err(NoMemory),
+    }
+}
+
+/// Adds the line of one triple to a text in N-Quads, its quad in the graph of this name where one is given. Where there is
+/// no memory, the text stays as it is.
+pub fn put_quad(
+    alloc: Global,
+    text: &mut Vec<u8>,
+    triple: &Triple,
+    name: Option<&Iri>,
+) -> Result<(), NoMemory>
+    ensures ok { OnOk result (text.new.items ≡ text.old.items ++ encode_utf8_all (line_text (option_map (λ iri. iri.now) name.entry) (triple_seen triple.now))) }
+    ensures err { OnErr result (text.new.items ≡ text.old.items) }
+    ensures writable { OnOk result (WritableTriple (option_map (λ iri. iri.now) name.entry) (triple_seen triple.now)) }
+{
+    let line = line_of(alloc, triple, name)?;
+    let Ok(()) = text.extend_from_slice(line.as_slice()) else {
+        return Err(NoMemory);
+    };
+    Ok(())
+}
+
+/// The line of one triple.
+fn line_of(alloc: Global, triple: &Triple, name: Option<&Iri>) -> Result<Vec<u8>, NoMemory>
+    ensures bytes { IfOk result (λ line. line.items ≡ encode_utf8_all (line_text (option_map (λ iri. iri.now) name.entry) (triple_seen triple.now))) }
+    ensures writable { OnOk result (WritableTriple (option_map (λ iri. iri.now) name.entry) (triple_seen triple.now)) }
+{
+    let mut whole = Whole::with_room(alloc, LINE)?;
+    let Ok(mut pieces) = Pieces::new(alloc) else {
+        drop(whole);
+        return Err(NoMemory);
+    };
+    push_line(&mut pieces, &mut whole, triple, name);
+    match pieces.send(&mut whole) {
+        Ok(()) => Ok(whole.into_bytes()),
+        Err(_failed) => {
+            drop(whole);
+            Err(NoMemory)
+        }
     }
 }
 

@@ -1,0 +1,5 @@
+pub mod Growing
+pub mod KeyLemmas
+pub mod LineLemmas
+pub mod CommentLemmas
+pub mod DatasetLemmas

@@ -1,0 +1,246 @@
+-- A document that grows by one line.
+use Rattle.std.proofs.Common.{◌≡◌, ℕ, suc, zero, ◌+◌, Bool, true, false, ◌||◌, List, [], ◌∷◌, ◌++◌, map, flat_map, take, slice_get, Result, Ok, Err, OnOk, Some, refl, sym, ap, ap₂, ◌∙◌, inl, inr, subst, if◌then◌else◌, append_assoc, append-nil, arith}
+use Rattle.std.specs.Str.{encode_utf8_all}
+use Rattle.std.proofs.lemmas.Str.{encodes-append}
+use Rattle.std.proofs.lemmas.List.{map-append}
+use Rattle.rx_terms.specs.Text.{Chars}
+use Rattle.rx_terms.specs.declared.triples.Triple.{Triple as CodeTriple}
+use Rattle.rx_grammar.specs.declared.faults.Fault.{Fault}
+use Rattle.rx_model.specs.Sets.{Among, contains, distinct}
+use Rattle.rx_model.specs.Terms.{Triple}
+use Rattle.rx_model.specs.Numbered.{rename, blanks_of, place_in}
+use Rattle.rx_model.specs.Seen.{triple_seen, triples_seen}
+use Rattle.rx_model.proofs.Sets.{Among_cases, Among_left, Among_right}
+use Rattle.rx_graph.proofs.SetLemmas.{seen_more}
+use Rattle.rx_graph.proofs.NumberLemmas.{same_triple_by}
+use Rattle.rx_pieces.specs.Writable.{WritableTriple}
+use Rattle.rx_many.specs.Lines.{Line, PageBlank, comment, statement, statement_at, at_place, lines_of, lines_from, line_blanks, same_blank, table, rename_line, numbered_lines, same_line, kept_after, kept}
+use Rattle.rx_many.specs.Numbering.{known}
+use Rattle.rx_refs.specs.Resolve.{without_fragment}
+use Rattle.rx_many.specs.Pages.{accepted_page}
+use Rattle.rx_many.specs.Seen.{page_seen}
+use Rattle.rx_many.specs.Standing.{WritableComment, WritableLine, Keeps, Stands}
+use Rattle.rx_many.specs.Writing.{line_text, text_of}
+use Rattle.rx_many.specs.declared.documents.Document.{Document}
+use Rattle.rx_many.specs.declared.pages.Page.{Page as CodePage}
+use Rattle.rx_many.proofs.Growing.{known_distinct, place_stays}
+use Rattle.rx_many.proofs.KeyLemmas.{exact_blanks, alike}
+
+pub if_ok : {A E P Q : Type 0} (r : Result A E) → (P → Q) → OnOk r P → OnOk r Q
+if_ok (Ok a) f h = f h
+if_ok (Err e) f h = h
+
+-- ---- tests of lists
+
+pub contains_both : {A : Type 0} (same : A → A → Bool) (xs ys : List A) (a : A) → contains same (xs ++ ys) a ≡ (contains same xs a || contains same ys a)
+contains_both same [] ys a = refl
+contains_both same (x ∷ xs) ys a = ap (λ b. same x a || b) (contains_both same xs ys a) ∙ or_moved (same x a) (contains same xs a) (contains same ys a)
+  where
+    or_moved : (p q r : Bool) → (p || (q || r)) ≡ ((p || q) || r)
+    or_moved true q r = refl
+    or_moved false q r = refl
+
+or_false : (b : Bool) → (b || false) ≡ b
+or_false true = refl
+or_false false = refl
+
+or_true : (b : Bool) → (b || true) ≡ true
+or_true true = refl
+or_true false = refl
+
+-- ---- what is kept of lines
+
+-- a line, unless it states what an earlier one does
+abbrev pub unless : Bool → Line ℕ → List (Line ℕ)
+unless there line = if there then [] else line ∷ []
+
+pub kept_more : (earlier lines : List (Line ℕ)) (x : Line ℕ) → kept_after earlier (lines ++ x ∷ []) ≡ kept_after earlier lines ++ unless (contains same_line (earlier ++ lines) x) x
+kept_more earlier [] x = append-nil (unless (contains same_line earlier x) x) ∙ ap (λ z. unless (contains same_line z x) x) (sym (append-nil earlier))
+kept_more earlier (y ∷ lines) x =
+    ap (λ z. unless (contains same_line earlier y) y ++ z) (kept_more (earlier ++ y ∷ []) lines x)
+    ∙ ap (λ z. unless (contains same_line earlier y) y ++ (kept_after (earlier ++ y ∷ []) lines ++ unless (contains same_line z x) x)) (append_assoc earlier (y ∷ []) lines)
+    ∙ sym (append_assoc (unless (contains same_line earlier y) y) (kept_after (earlier ++ y ∷ []) lines) (unless (contains same_line (earlier ++ y ∷ lines) x) x))
+
+texts_more : (lines : List (Line ℕ)) (x : Line ℕ) → flat_map line_text (lines ++ x ∷ []) ≡ flat_map line_text lines ++ line_text x
+texts_more [] x = append-nil (line_text x)
+texts_more (y ∷ lines) x = ap (λ z. line_text y ++ z) (texts_more lines x) ∙ sym (append_assoc (line_text y) (flat_map line_text lines) (line_text x))
+
+module _ (text : List ℕ) (statements lines : List (Line ℕ)) (k : Keeps text statements lines) (x : Line ℕ) where
+  -- the line states what an earlier one does
+  pub keeps_old : contains same_line statements x ≡ true → Keeps text statements (lines ++ x ∷ [])
+  keeps_old there =
+      let same : kept (lines ++ x ∷ []) ≡ kept lines =
+      kept_more [] lines x ∙ ap (λ b. kept lines ++ unless b x) (sym (k.held x) ∙ there) ∙ append-nil (kept lines) in
+      record {
+        spelled = k.spelled ∙ ap (λ z. encode_utf8_all (flat_map line_text z)) (sym same);
+        held = λ line. go line (same_line x line) refl ∙ sym (contains_both same_line lines (x ∷ []) line);
+        writable = λ line m. k.writable line (subst (λ (z : List (Line ℕ)). Among z line) same m);
+      }
+    where
+      go : (line : Line ℕ) (b : Bool) → same_line x line ≡ b → contains same_line statements line ≡ (contains same_line lines line || (same_line x line || false))
+      go line true e =
+          let is : x ≡ line = alike x line e in
+          ap (contains same_line statements) (sym is) ∙ there ∙ sym (ap (λ b. contains same_line lines line || (b || false)) e ∙ or_true (contains same_line lines line))
+      go line false e = k.held line ∙ sym (ap (λ b. contains same_line lines line || (b || false)) e ∙ or_false (contains same_line lines line))
+
+  -- it is written
+  written : (next : List ℕ) → contains same_line lines x ≡ false → next ≡ text ++ encode_utf8_all (line_text x) → next ≡ encode_utf8_all (text_of (lines ++ x ∷ []))
+  written next new e =
+      e ∙ ap (λ z. z ++ encode_utf8_all (line_text x)) k.spelled
+      ∙ sym (encodes-append (text_of lines) (line_text x)) ∙ ap encode_utf8_all (sym (texts_more (kept lines) x))
+      ∙ ap (λ z. encode_utf8_all (flat_map line_text z)) (sym (kept_more [] lines x ∙ ap (λ b. kept lines ++ unless b x) new))
+
+  writables : contains same_line lines x ≡ false → WritableLine x → (line : Line ℕ) → Among (kept (lines ++ x ∷ [])) line → WritableLine line
+  writables new w line m =
+      let same : kept (lines ++ x ∷ []) ≡ kept lines ++ x ∷ [] = kept_more [] lines x ∙ ap (λ b. kept lines ++ unless b x) new in
+      elim (Among_cases (kept lines) (x ∷ []) line (subst (λ (z : List (Line ℕ)). Among z line) same m)) [
+        | inl h ↦ k.writable line h
+        | inr h ↦ elim h [ inl e ↦ subst WritableLine e w | inr n ↦ absurd n ]
+      ]
+
+  pub keeps_new : (next : List ℕ) (more : List (Line ℕ)) → contains same_line statements x ≡ false → next ≡ text ++ encode_utf8_all (line_text x) → more ≡ statements ++ x ∷ [] → WritableLine x
+      → Keeps next more (lines ++ x ∷ [])
+  keeps_new next more new e f w =
+      let lacks : contains same_line lines x ≡ false = sym (k.held x) ∙ new in
+      record {
+        spelled = written next lacks e;
+        held = λ line. ap (λ z. contains same_line z line) f ∙ contains_both same_line statements (x ∷ []) line ∙ ap (λ b. b || (same_line x line || false)) (k.held line) ∙ sym (contains_both same_line lines (x ∷ []) line);
+        writable = writables lacks w;
+      }
+
+-- no line is the same as a comment
+no_comment : (lines : List (Line ℕ)) (address : Chars) (fault : Fault) → contains same_line lines (comment address fault) ≡ false
+no_comment [] address fault = refl
+no_comment (statement n t ∷ lines) address fault = no_comment lines address fault
+no_comment (comment a f ∷ lines) address fault = no_comment lines address fault
+
+pub keeps_comment : (text : List ℕ) (statements lines : List (Line ℕ)) → Keeps text statements lines → (address : Chars) (fault : Fault) (next : List ℕ) → next ≡ text ++ encode_utf8_all (line_text (comment address fault)) → WritableComment address fault
+    → Keeps next statements (lines ++ comment address fault ∷ [])
+keeps_comment text statements lines k address fault next e w =
+    let lacks = no_comment lines address fault in
+    record {
+      spelled = written text statements lines k (comment address fault) next lacks e;
+      held = λ line. k.held line ∙ sym (contains_both same_line lines (comment address fault ∷ []) line ∙ or_false (contains same_line lines line));
+      writable = writables text statements lines k (comment address fault) lacks w;
+    }
+
+-- ---- numbers
+
+blanks_more : (lines : List (Line PageBlank)) (l : Line PageBlank) → flat_map line_blanks (lines ++ l ∷ []) ≡ flat_map line_blanks lines ++ line_blanks l
+blanks_more [] l = append-nil (line_blanks l)
+blanks_more (y ∷ lines) l = ap (λ z. line_blanks y ++ z) (blanks_more lines l) ∙ sym (append_assoc (line_blanks y) (flat_map line_blanks lines) (line_blanks l))
+
+pub table_more : (lines : List (Line PageBlank)) (l : Line PageBlank) → known same_blank (table lines) (line_blanks l) ≡ table (lines ++ l ∷ [])
+table_more lines l = known_distinct same_blank exact_blanks (flat_map line_blanks lines) (line_blanks l) ∙ ap (distinct same_blank) (sym (blanks_more lines l))
+
+line_stays : (p q : PageBlank → ℕ) (l : Line PageBlank) → ((b : PageBlank) → Among (line_blanks l) b → p b ≡ q b) → rename_line p l ≡ rename_line q l
+line_stays p q (comment a f) h = refl
+line_stays p q (statement n t) h = ap (statement n) (same_triple_by p q t h)
+
+lines_stay : (p q : PageBlank → ℕ) (lines : List (Line PageBlank)) → ((b : PageBlank) → Among (flat_map line_blanks lines) b → p b ≡ q b) → map (rename_line p) lines ≡ map (rename_line q) lines
+lines_stay p q [] h = refl
+lines_stay p q (l ∷ lines) h =
+    ap₂ ◌∷◌ (line_stays p q l (λ b m. h b (Among_left (line_blanks l) (flat_map line_blanks lines) b m)))
+    (lines_stay p q lines (λ b m. h b (Among_right (line_blanks l) (flat_map line_blanks lines) b m)))
+
+pub numbered_more : (lines : List (Line PageBlank)) (l : Line PageBlank) → numbered_lines lines ++ rename_line (place_in same_blank (table (lines ++ l ∷ []))) l ∷ [] ≡ numbered_lines (lines ++ l ∷ [])
+numbered_more lines l =
+    let next : PageBlank → ℕ = place_in same_blank (table (lines ++ l ∷ [])) in
+    ap (λ z. z ++ rename_line next l ∷ []) (lines_stay (place_in same_blank (table lines)) next lines (λ b m. place_stays same_blank exact_blanks (flat_map line_blanks lines) (line_blanks l) b m ∙ ap (λ z. place_in same_blank (distinct same_blank z) b) (sym (blanks_more lines l))))
+    ∙ sym (map-append (rename_line next) lines (l ∷ []))
+
+-- ---- one line more
+
+pub stands_empty : (d : Document) → d.text.items ≡ [] → d.blanks ≡ [] → d.statements ≡ [] → Stands d []
+stands_empty d e f g = record {
+  numbers = f;
+  keeps = record { spelled = e; held = λ line. ap (λ z. contains same_line z line) g; writable = λ line m. absurd m };
+}
+
+module _ (d new : Document) (lines : List (Line PageBlank)) (s : Stands d lines) where
+  pub stands_comment : (address : Chars) (fault : Fault) → new.text.items ≡ d.text.items ++ encode_utf8_all (line_text (comment address fault)) → new.blanks ≡ d.blanks → new.statements ≡ d.statements → WritableComment address fault
+      → Stands new (lines ++ comment address fault ∷ [])
+  stands_comment address fault e f g w =
+      let l : Line PageBlank = comment address fault in
+      let keeps : Keeps new.text.items d.statements (numbered_lines lines ++ comment address fault ∷ []) = keeps_comment d.text.items d.statements (numbered_lines lines) s.keeps address fault new.text.items e w in
+      record {
+        numbers = f ∙ s.numbers ∙ table_more lines l;
+        keeps = subst (λ (z : List (Line ℕ)). Keeps new.text.items z (numbered_lines (lines ++ l ∷ []))) (sym g) (subst (λ (z : List (Line ℕ)). Keeps new.text.items d.statements z) (numbered_more lines l) keeps);
+      }
+
+  module _ (place : ℕ) (name : Chars) (t : Triple ℕ) (u : Triple ℕ) (grows : new.blanks ≡ known same_blank d.blanks (blanks_of (rename (at_place place) t)))
+      (renamed : u ≡ rename (place_in same_blank new.blanks) (rename (at_place place) t)) where
+    numbers_now : new.blanks ≡ table (lines ++ statement_at place name t ∷ [])
+    numbers_now = grows ∙ ap (λ z. known same_blank z (blanks_of (rename (at_place place) t))) s.numbers ∙ table_more lines (statement_at place name t)
+
+    line_now : numbered_lines lines ++ statement name u ∷ [] ≡ numbered_lines (lines ++ statement_at place name t ∷ [])
+    line_now =
+        ap (λ z. numbered_lines lines ++ statement name z ∷ []) (renamed ∙ ap (λ z. rename (place_in same_blank z) (rename (at_place place) t)) numbers_now)
+        ∙ numbered_more lines (statement_at place name t)
+
+    pub stands_old : contains same_line d.statements (statement name u) ≡ true → new.text.items ≡ d.text.items → new.statements ≡ d.statements → Stands new (lines ++ statement_at place name t ∷ [])
+    stands_old there e g =
+        let l : Line PageBlank = statement_at place name t in
+        let keeps : Keeps d.text.items d.statements (numbered_lines lines ++ statement name u ∷ []) = keeps_old d.text.items d.statements (numbered_lines lines) s.keeps (statement name u) there in
+        let moved : Keeps new.text.items d.statements (numbered_lines lines ++ statement name u ∷ []) = subst (λ (z : List ℕ). Keeps z d.statements (numbered_lines lines ++ statement name u ∷ [])) (sym e) keeps in
+        record {
+          numbers = numbers_now;
+          keeps = subst (λ (z : List (Line ℕ)). Keeps new.text.items z (numbered_lines (lines ++ l ∷ []))) (sym g) (subst (λ (z : List (Line ℕ)). Keeps new.text.items d.statements z) line_now moved);
+        }
+
+    pub stands_new : contains same_line d.statements (statement name u) ≡ false → new.text.items ≡ d.text.items ++ encode_utf8_all (line_text (statement name u))
+        → new.statements ≡ (if contains same_line d.statements (statement name u) then d.statements else d.statements ++ statement name u ∷ []) → WritableTriple (Some name) u
+        → Stands new (lines ++ statement_at place name t ∷ [])
+    stands_new lacks e g w =
+        let added : new.statements ≡ d.statements ++ statement name u ∷ [] = g ∙ ap (λ b. if b then d.statements else d.statements ++ statement name u ∷ []) lacks in
+        let keeps : Keeps new.text.items new.statements (numbered_lines lines ++ statement name u ∷ []) = keeps_new d.text.items d.statements (numbered_lines lines) s.keeps (statement name u) new.text.items new.statements lacks e added w in
+        record {
+          numbers = numbers_now;
+          keeps = subst (λ (z : List (Line ℕ)). Keeps new.text.items new.statements z) line_now keeps;
+        }
+
+-- ---- the triples of a page, and the pages
+
+pub stands_none : {d : Document} {lines : List (Line PageBlank)} → Stands d lines → Stands d (lines ++ [])
+stands_none {d = d} {lines = lines} s = subst (λ (z : List (Line PageBlank)). Stands d z) (sym (append-nil lines)) s
+
+pub triples_more : (lines : List (Line PageBlank)) (place : ℕ) (name : Chars) (list : List CodeTriple) (i : ℕ) (t : CodeTriple) → slice_get list i ≡ Some t
+    → (lines ++ map (statement_at place name) (triples_seen (take i list))) ++ statement_at place name (triple_seen t) ∷ [] ≡ lines ++ map (statement_at place name) (triples_seen (take (i + 1) list))
+triples_more lines place name list i t at =
+    append_assoc lines (map (statement_at place name) (triples_seen (take i list))) (statement_at place name (triple_seen t) ∷ [])
+    ∙ ap (λ z. lines ++ z) (sym (map-append (statement_at place name) (triples_seen (take i list)) (triple_seen t ∷ [])) ∙ ap (map (statement_at place name)) (sym (seen_more list i t at)))
+
+pages_on : (start : ℕ) (pages : List CodePage) (i : ℕ) (page : CodePage) → slice_get pages i ≡ Some page
+    → lines_from start (map page_seen (take i pages)) ++ lines_of (start + i) (page_seen page) ≡ lines_from start (map page_seen (take (suc i) pages))
+pages_on start [] i page at = absurd (cc)
+pages_on start (first ∷ pages) zero page at =
+    let same : page ≡ first = cc in
+    let here : start + 0 ≡ start = omega arith in
+    ap₂ (λ n p. lines_of n (page_seen p)) here same ∙ sym (append-nil (lines_of start (page_seen first)))
+pages_on start (first ∷ pages) (suc i) page at =
+    let there : start + suc i ≡ suc start + i = omega arith in
+    append_assoc (lines_of start (page_seen first)) (lines_from (suc start) (map page_seen (take i pages))) (lines_of (start + suc i) (page_seen page))
+    ∙ ap (λ n. lines_of start (page_seen first) ++ (lines_from (suc start) (map page_seen (take i pages)) ++ lines_of n (page_seen page))) there
+    ∙ ap (λ z. lines_of start (page_seen first) ++ z) (pages_on (suc start) pages i page at)
+
+pub pages_more : (pages : List CodePage) (i : ℕ) (page : CodePage) → slice_get pages i ≡ Some page
+    → lines_from 0 (map page_seen (take i pages)) ++ lines_of i (page_seen page) ≡ lines_from 0 (map page_seen (take (i + 1) pages))
+pages_more pages i page at =
+    let here : i ≡ 0 + i = omega arith in
+    let up : suc i ≡ i + 1 = omega arith in
+    ap (λ n. lines_from 0 (map page_seen (take i pages)) ++ lines_of n (page_seen page)) here ∙ pages_on 0 pages i page at ∙ ap (λ n. lines_from 0 (map page_seen (take n pages))) up
+
+-- the same where the name is at hand by another name
+module _ (d new : Document) (lines : List (Line PageBlank)) (s : Stands d lines) (place : ℕ) (name named : Chars) (same : named ≡ name) (t u : Triple ℕ)
+    (grows : new.blanks ≡ known same_blank d.blanks (blanks_of (rename (at_place place) t))) (renamed : u ≡ rename (place_in same_blank new.blanks) (rename (at_place place) t)) where
+  pub old_statement : contains same_line d.statements (statement named u) ≡ true → new.text.items ≡ d.text.items → new.statements ≡ d.statements → Stands new (lines ++ statement_at place name t ∷ [])
+  old_statement there e g = subst (λ (n : Chars). Stands new (lines ++ statement_at place n t ∷ [])) same (stands_old d new lines s place named t u grows renamed there e g)
+
+  pub new_statement : contains same_line d.statements (statement named u) ≡ false → new.text.items ≡ d.text.items ++ encode_utf8_all (line_text (statement named u))
+      → new.statements ≡ (if contains same_line d.statements (statement named u) then d.statements else d.statements ++ statement named u ∷ []) → WritableTriple (Some named) u
+      → Stands new (lines ++ statement_at place name t ∷ [])
+  new_statement lacks e g w = subst (λ (n : Chars). Stands new (lines ++ statement_at place n t ∷ [])) same (stands_new d new lines s place named t u grows renamed lacks e g w)
+
+pub in_graph : (new : Document) (lines : List (Line PageBlank)) (place : ℕ) (address name : Chars) (triples : List (Triple ℕ)) → name ≡ without_fragment address
+    → Stands new (lines ++ map (statement_at place name) triples) → Stands new (lines ++ lines_of place (accepted_page address triples))
+in_graph new lines place address name triples e s = subst (λ (n : Chars). Stands new (lines ++ map (statement_at place n) triples)) e s

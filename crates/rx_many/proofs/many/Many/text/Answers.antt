@@ -1,0 +1,13 @@
+use Rattle.std.proofs.Common.{List, map, subst}
+use Rattle.std.specs.Str.{chars}
+use Rattle.rx_many.specs.Dataset.{DenotesPages}
+use Rattle.rx_many.specs.Seen.{page_seen}
+use Rattle.rx_many.specs.declared.pages.Page.{Page}
+use Rattle.rx_many.proofs.DatasetLemmas.{denotes_pages}
+use Rattle.rx_many.proofs.many.Many.text.Goals as goal
+
+pub returns-clause-denotes : goal.returns-clause-denotes
+returns-clause-denotes c =
+    rw (← c.self.view_is)
+    (subst (λ (z : List Page). DenotesPages (chars c.in_ok-text.field-0.text.items) (map page_seen z)) c.as_slice.ensures.value
+    (denotes_pages (map page_seen c.as_slice.result.now) c.in_ok-text.field-0.text.items c.in_ok-text.field-0.statements c.in_ok-text.ensures.keeps))

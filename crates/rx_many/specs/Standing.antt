@@ -1,0 +1,30 @@
+-- A document of which some lines are there.
+use Rattle.std.specs.Prelude.{◌≡◌, ℕ, ◌<◌, ◌^◌, List, Some, encode_utf8_all}
+use Rattle.rx_terms.specs.Text.{Chars}
+use Rattle.rx_grammar.specs.declared.faults.Fault.{Fault}
+use Rattle.rx_model.specs.Sets.{Among, contains}
+use Rattle.rx_pieces.specs.Writable.{WritableIri, WritableTriple}
+use Rattle.rx_many.specs.Lines.{Line, PageBlank, comment, statement, table, numbered_lines, same_line, kept}
+use Rattle.rx_many.specs.Writing.{text_of}
+use Rattle.rx_many.specs.declared.documents.Document.{Document}
+
+-- what every comment of the code is: its address is an IRI, and its places are numbers of 64 bits
+pub record WritableComment (address : Chars) (fault : Fault) : Type 0 where
+  pub iri : WritableIri address
+  pub at : fault.at < 2 ^ 64
+  pub token : fault.token < 2 ^ 64
+
+abbrev pub WritableLine : Line ℕ → Type 0
+WritableLine (comment address fault) = WritableComment address fault
+WritableLine (statement name t) = WritableTriple (Some name) t
+
+-- the text is that of the lines, and these are the statements among them
+pub record Keeps (text : List ℕ) (statements lines : List (Line ℕ)) : Type 0 where
+  pub spelled : text ≡ encode_utf8_all (text_of lines)
+  pub held : (line : Line ℕ) → contains same_line statements line ≡ contains same_line lines line
+  pub writable : (line : Line ℕ) → Among (kept lines) line → WritableLine line
+
+-- the document is that of these lines
+pub record Stands (document : Document) (lines : List (Line PageBlank)) : Type 0 where
+  pub numbers : document.blanks ≡ table lines
+  pub keeps : Keeps document.text.items document.statements (numbered_lines lines)

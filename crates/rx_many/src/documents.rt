@@ -1,0 +1,127 @@
+//! A document that is being written.
+ghost use Rattle.std.specs.Prelude.{[], ◌∷◌, ◌++◌, List, IfOk, OnOk, map};
+ghost use Rattle.rx_model.specs.Seen.{triple_seen, triples_seen};
+ghost use Rattle.rx_many.specs.Lines.{Line, PageBlank, comment, statement_at, lines_of, lines_from};
+ghost use Rattle.rx_many.specs.Pages.{accepted_page};
+ghost use Rattle.rx_many.specs.Seen.{page_seen};
+ghost use Rattle.rx_many.specs.Standing.{Stands};
+
+use crate::blanks::Blanks;
+use crate::pages::{Judgement, Page};
+use crate::refusals::comment_on;
+use crate::statements::{Statement, Statements};
+use rx_grammar::Fault;
+use rx_graph::Graph;
+use rx_nquads::put_quad;
+use rx_refs::without_fragment;
+use rx_terms::{Iri, NoMemory, Triple};
+use std::alloc::Global;
+
+/// A document so far: its text, the numbers of its blank nodes, and what it states.
+#[derive(Drop)]
+pub(crate) struct Document {
+    pub(crate) text: Vec<u8>,
+    pub(crate) blanks: Blanks,
+    pub(crate) statements: Statements,
+}
+
+/// The document of the pages.
+pub(crate) fn document_of(alloc: Global, pages: &[Page]) -> Result<Document, NoMemory>
+    ensures { IfOk result (λ document. Stands document (lines_from 0 (map page_seen pages.now))) }
+{
+    let mut document = Document::new(alloc);
+    for i in 0..pages.len() {
+        let Ok(()) = document.put_page(alloc, i, &pages[i]) else {
+            drop(document);
+            return Err(NoMemory);
+        };
+    }
+    Ok(document)
+}
+
+impl Document {
+    fn new(alloc: Global) -> Document
+        ensures { Stands result [] }
+    {
+        Document {
+            text: Vec::new(alloc),
+            blanks: Blanks::new(alloc),
+            statements: Statements::new(alloc),
+        }
+    }
+
+    /// Adds the lines of the page at this place.
+    fn put_page(&mut self, alloc: Global, place: usize, page: &Page) -> Result<(), NoMemory>
+        ensures { (lines : List (Line PageBlank)) → Stands self.old lines → OnOk result (Stands self.new (lines ++ lines_of place (page_seen page.now))) }
+    {
+        match &page.judgement {
+            Judgement::Refused(fault) => self.put_comment(alloc, &page.address, *fault),
+            Judgement::Accepted(graph) => self.put_graph(alloc, place, &page.address, graph),
+        }
+    }
+
+    fn put_comment(&mut self, alloc: Global, address: &Iri, fault: Fault) -> Result<(), NoMemory>
+        ensures { (lines : List (Line PageBlank)) → Stands self.old lines → OnOk result (Stands self.new (lines ++ comment address.now fault ∷ [])) }
+    {
+        let line = comment_on(alloc, address, fault)?;
+        let Ok(()) = self.text.extend_from_slice(line.as_bytes()) else {
+            return Err(NoMemory);
+        };
+        Ok(())
+    }
+
+    /// Adds the triples of the page of this address, in the graph of the address without fragment.
+    fn put_graph(
+        &mut self,
+        alloc: Global,
+        place: usize,
+        address: &Iri,
+        graph: &Graph,
+    ) -> Result<(), NoMemory>
+        ensures { (lines : List (Line PageBlank)) → Stands self.old lines → OnOk result (Stands self.new (lines ++ lines_of place (accepted_page address.now (triples_seen graph.now)))) }
+    {
+        let name = without_fragment(alloc, address)?;
+        self.put_triples(alloc, place, &name, graph)
+    }
+
+    /// Adds the triples of the page at this place, in the graph of this name.
+    fn put_triples(
+        &mut self,
+        alloc: Global,
+        place: usize,
+        name: &Iri,
+        graph: &Graph,
+    ) -> Result<(), NoMemory>
+        ensures { (lines : List (Line PageBlank)) → Stands self.old lines → OnOk result (Stands self.new (lines ++ map (statement_at place name.now) (triples_seen graph.now))) }
+    {
+        for i in 0..graph.len() {
+            self.put_triple(alloc, place, name, graph.at(i))?;
+        }
+        Ok(())
+    }
+
+    /// Adds the line of a triple of the page at this place, where no earlier line states it.
+    fn put_triple(
+        &mut self,
+        alloc: Global,
+        place: usize,
+        name: &Iri,
+        triple: &Triple,
+    ) -> Result<(), NoMemory>
+        ensures { (lines : List (Line PageBlank)) → Stands self.old lines → OnOk result (Stands self.new (lines ++ statement_at place name.now (triple_seen triple.now) ∷ [])) }
+    {
+        let triple = self.blanks.numbered(place, triple)?;
+        let name = name.try_clone()?;
+        let statement = Statement { name, triple };
+        if self.statements.contains(&statement) {
+            return Ok(());
+        }
+        put_quad(
+            alloc,
+            &mut self.text,
+            &statement.triple,
+            Some(&statement.name),
+        )?;
+        self.statements.add(statement)
+    }
+}

@@ -1,0 +1,64 @@
+//! The statements of a document.
+ghost use Rattle.std.specs.Prelude.{◌≡◌, [], ◌∷◌, ◌++◌, OnOk, if◌then◌else◌};
+ghost use Rattle.rx_model.specs.Sets.{contains};
+ghost use Rattle.rx_many.specs.Lines.{same_line};
+ghost use Rattle.rx_many.specs.Seen.{statement_seen};
+
+use indexmap::IndexSet;
+use rx_terms::{Iri, NoMemory, Triple};
+use std::alloc::Global;
+use std::hash::{BuildHasherDefault, DefaultHasher};
+use std::marker::Model;
+
+/// A triple in the graph of a name.
+#[derive(Drop, PartialEq, Eq, Hash)]
+pub(crate) struct Statement {
+    pub(crate) name: Iri,
+    pub(crate) triple: Triple,
+}
+
+// Pages choose these. SipHash makes it hard to choose many with one hash.
+type Set = IndexSet<Statement, BuildHasherDefault<DefaultHasher>>;
+
+/// Statements, each once. A contract sees the list.
+#[derive(Drop)]
+pub(crate) struct Statements {
+    statements: Set,
+}
+
+impl Model for Statements {
+    ghost use Rattle.std.specs.Prelude.{ℕ, List, map};
+    ghost use Rattle.rx_many.specs.Lines.{Line};
+    ghost use Rattle.rx_many.specs.Seen.{statement_seen};
+
+    ghost Value = { List (Line ℕ) };
+
+    ghost view = { λ statements. map statement_seen statements.statements.keys };
+}
+
+impl Statements {
+    pub(crate) fn new(alloc: Global) -> Statements
+        ensures { result ≡ [] }
+    {
+        Statements {
+            statements: Set::with_hasher(alloc, BuildHasherDefault::new()),
+        }
+    }
+
+    /// Whether the statement is there.
+    pub(crate) fn contains(&self, statement: &Statement) -> bool
+        ensures { result ≡ contains same_line self.now (statement_seen statement.now) }
+    {
+        self.statements.contains(statement)
+    }
+
+    /// Adds the statement at the end, where it isn't there yet.
+    pub(crate) fn add(&mut self, statement: Statement) -> Result<(), NoMemory>
+        ensures { OnOk result (self.new ≡ (if contains same_line self.old (statement_seen statement) then self.old else self.old ++ statement_seen statement ∷ [])) }
+    {
+        if self.statements.insert(statement).is_err() {
+            return Err(NoMemory);
+        }
+        Ok(())
+    }
+}
