@@ -1,15 +1,17 @@
 -- Triples that are put into groups.
-use Rattle.std.proofs.Common.{◌≡◌, ◌∙◌, ℕ, zero, suc, ◌+◌, ◌<◌, ◌≤◌, Bool, true, false, ◌||◌, nat_eq, List, [], ◌∷◌, ◌++◌, map, filter, length, take, slice_get, slice_set, get_or, Result, Ok, Err, is_ok, is_err, Option, Some, None, option_map, Bor, refl, sym, ap, ap₂, true≢false, arith, append-nil, if◌then◌else◌}
+use Rattle.std.proofs.Common.{◌≡◌, ◌∙◌, ℕ, zero, suc, ◌+◌, ◌<◌, ◌≤◌, Bool, true, false, ◌||◌, nat_eq, List, [], ◌∷◌, ◌++◌, map, filter, length, take, slice_get, slice_set, get_or, Result, Ok, Err, is_ok, is_err, Option, Some, None, option_map, Bor, refl, sym, ap, ap₂, true≢false, arith, append-nil, bytes_eq, if◌then◌else◌}
 use Rattle.std.proofs.lemmas.List.{take_all, map-append}
 use Rattle.std.proofs.lemmas.List.Elements.{filter-append}
 use Rattle.rx_terms.specs.declared.triples.Triple.{Triple as CodeTriple}
 use Rattle.rx_model.specs.Sets.{contains, distinct}
-use Rattle.rx_model.specs.Terms.{Node, Triple, same_node}
+use Rattle.rx_model.specs.Terms.{Node, Iri, Triple, same_node}
 use Rattle.rx_model.specs.Seen.{triple_seen}
-use Rattle.rx_model.proofs.Exact.{exact_nodes, exact_numbers}
+use Rattle.rx_model.proofs.Exact.{exact_texts, exact_nodes, exact_numbers}
 use Rattle.rx_graph.specs.Resources.{resource_seen, node_added, number_in, AreDistinct}
-use Rattle.rx_graph.proofs.SetLemmas.{same_truth, distinct_grows, one_more}
+use Rattle.rx_graph.proofs.SetLemmas.{same_truth, distinct_apart, distinct_grows, one_more}
+use Rattle.rx_notation.specs.Layout.{about, predicates_of}
 use Rattle.rx_turtle.specs.declared.groups.By.{By}
+use Rattle.rx_turtle.specs.declared.groups.By.TheVariants as by
 use Rattle.rx_turtle.specs.declared.groups.Group.{Group}
 use Rattle.rx_turtle.specs.Groups.{Keyed, group_seen, key_by, has_key, keys_by, grouped, put_in, filed_in}
 
@@ -19,16 +21,29 @@ lent_seen t = triple_seen t.now
 pub lent_more : (list : List (Bor CodeTriple)) (i : ℕ) (t : Bor CodeTriple) → slice_get list i ≡ Some t → map lent_seen (take (i + 1) list) ≡ map lent_seen (take i list) ++ lent_seen t ∷ []
 lent_more list i t at = ap (map lent_seen) (one_more list i t at) ∙ map-append lent_seen (take i list) (t ∷ [])
 
-same_back : (a b : Node ℕ) → same_node nat_eq a b ≡ same_node nat_eq b a
+pub lent_at : (list : List (Bor CodeTriple)) (i : ℕ) (t : Bor CodeTriple) → slice_get list i ≡ Some t → slice_get (map lent_seen list) i ≡ Some (lent_seen t)
+lent_at [] i t at = absurd (cc)
+lent_at (x ∷ list) zero t at = let same : x ≡ t = cc in ap (λ z. Some (lent_seen z)) same
+lent_at (x ∷ list) (suc i) t at = lent_at list i t at
+
+pub seen_at : {A B : Type 0} (f : A → B) (list : List A) (i : ℕ) (a : A) → slice_get list i ≡ Some a → slice_get (map f list) i ≡ Some (f a)
+seen_at f [] i a at = absurd (cc)
+seen_at f (x ∷ list) zero a at = let same : x ≡ a = cc in ap (λ z. Some (f z)) same
+seen_at f (x ∷ list) (suc i) a at = seen_at f list i a at
+
+pub same_back : (a b : Node ℕ) → same_node nat_eq a b ≡ same_node nat_eq b a
 same_back a b =
     let one = exact_nodes nat_eq exact_numbers a b in
     let other = exact_nodes nat_eq exact_numbers b a in
     same_truth (same_node nat_eq a b) (same_node nat_eq b a) (λ h. other.1 (sym (one.0 h))) (λ h. one.1 (sym (other.0 h)))
 
+pub same_self : (a : Node ℕ) → same_node nat_eq a a ≡ true
+same_self a = (exact_nodes nat_eq exact_numbers a a).1 refl
+
 module _ (kind : By) where
   -- ---- the keys
 
-  keys_more : (list : List (Triple ℕ)) (t : Triple ℕ) → keys_by kind (list ++ t ∷ []) ≡ node_added (keys_by kind list) (key_by kind t)
+  pub keys_more : (list : List (Triple ℕ)) (t : Triple ℕ) → keys_by kind (list ++ t ∷ []) ≡ node_added (keys_by kind list) (key_by kind t)
   keys_more list t = ap (distinct (same_node nat_eq)) (map-append (key_by kind) list (t ∷ [])) ∙ distinct_grows (same_node nat_eq) (exact_nodes nat_eq exact_numbers) (map (key_by kind) list) (key_by kind t)
 
   pub keys_turn : (list : List (Bor CodeTriple)) (i : ℕ) (t : Bor CodeTriple) (key : Node ℕ) (old new : List (Node ℕ)) → slice_get list i ≡ Some t → key ≡ key_by kind (lent_seen t) → new ≡ node_added old key
@@ -41,13 +56,13 @@ module _ (kind : By) where
 
   -- ---- the triples of each key
 
-  abbrev with_last : (Node ℕ → List (Triple ℕ)) → Triple ℕ → Node ℕ → List (Triple ℕ)
+  abbrev pub with_last : (Node ℕ → List (Triple ℕ)) → Triple ℕ → Node ℕ → List (Triple ℕ)
   with_last f t key = f key ++ (if has_key kind key t then t ∷ [] else [])
 
   abbrev pub paired : (Node ℕ → List (Triple ℕ)) → List (Node ℕ) → List Keyed
   paired f keys = map {B = Keyed} (λ key. (key, f key)) keys
 
-  others_stay : (f : Node ℕ → List (Triple ℕ)) (t : Triple ℕ) (keys : List (Node ℕ)) → contains (same_node nat_eq) keys (key_by kind t) ≡ false → paired (with_last f t) keys ≡ paired f keys
+  pub others_stay : (f : Node ℕ → List (Triple ℕ)) (t : Triple ℕ) (keys : List (Node ℕ)) → contains (same_node nat_eq) keys (key_by kind t) ≡ false → paired (with_last f t) keys ≡ paired f keys
   others_stay f t [] h = refl
   others_stay f t (x ∷ keys) h = go (same_node nat_eq x (key_by kind t)) refl h (others_stay f t keys)
     where
@@ -59,7 +74,7 @@ module _ (kind : By) where
           let row : with_last f t x ≡ f x = rw test (append-nil (f x)) in
           ap₂ (λ (r : List (Triple ℕ)) (z : List Keyed). (x, r) ∷ z) row (ih k)
 
-  one_put : (f : Node ℕ → List (Triple ℕ)) (t : Triple ℕ) (keys : List (Node ℕ)) (n : ℕ) → AreDistinct keys → number_in keys (key_by kind t) ≡ Some n → put_in (paired f keys) n t ≡ paired (with_last f t) keys
+  pub one_put : (f : Node ℕ → List (Triple ℕ)) (t : Triple ℕ) (keys : List (Node ℕ)) (n : ℕ) → AreDistinct keys → number_in keys (key_by kind t) ≡ Some n → put_in (paired f keys) n t ≡ paired (with_last f t) keys
   one_put f t [] n d h = absurd (cc)
   one_put f t (x ∷ keys) n d h = go (same_node nat_eq x (key_by kind t)) refl (number_in keys (key_by kind t)) refl h (λ m. one_put f t keys m d.1)
     where
@@ -97,7 +112,7 @@ module _ (kind : By) where
   abbrev pub rows_by : List (Triple ℕ) → List (Node ℕ) → List Keyed
   rows_by list keys = paired (λ key. filter (has_key kind key) list) keys
 
-  last_in : (list : List (Triple ℕ)) (t : Triple ℕ) (keys : List (Node ℕ)) → rows_by (list ++ t ∷ []) keys ≡ paired (with_last (λ key. filter (has_key kind key) list) t) keys
+  pub last_in : (list : List (Triple ℕ)) (t : Triple ℕ) (keys : List (Node ℕ)) → rows_by (list ++ t ∷ []) keys ≡ paired (with_last (λ key. filter (has_key kind key) list) t) keys
   last_in list t [] = refl
   last_in list t (x ∷ keys) =
       let row : filter (has_key kind x) (list ++ t ∷ []) ≡ with_last (λ key. filter (has_key kind key) list) t x = filter-append (has_key kind x) list (t ∷ []) in
@@ -145,3 +160,15 @@ added_turn keys i key old new at turn before =
 
 pub added_end : (keys : List (Node ℕ)) (i : ℕ) (rows : List Keyed) → length keys ≤ i → rows ≡ map {B = Keyed} (λ k. (k, [])) (take i keys) → rows ≡ map {B = Keyed} (λ k. (k, [])) keys
 added_end keys i rows past h = h ∙ ap (map {B = Keyed} (λ k. (k, []))) (take_all i keys past)
+
+-- ---- groups by predicate
+
+pub map_twice : {A B C : Type 0} (f : B → C) (g : A → B) (list : List A) → map f (map g list) ≡ map (λ a. f (g a)) list
+map_twice f g [] = refl
+map_twice f g (x ∷ list) = ap (λ z. f (g x) ∷ z) (map_twice f g list)
+
+-- the predicates as keys
+pub keys_are : (list : List (Triple ℕ)) (s : Node ℕ) → keys_by by.Predicate (about list s) ≡ map {B = Node ℕ} (λ p. Iri p) (predicates_of list s)
+keys_are list s =
+    ap (distinct (same_node nat_eq)) (sym (map_twice {C = Node ℕ} (λ p. Iri p) (λ (t : Triple ℕ). t.predicate) (about list s)))
+    ∙ distinct_apart bytes_eq exact_texts (same_node nat_eq) (exact_nodes nat_eq exact_numbers) (λ p. Iri p) (map (λ (t : Triple ℕ). t.predicate) (about list s)) (λ x y m n e. cc)

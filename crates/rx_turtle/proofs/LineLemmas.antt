@@ -1,5 +1,5 @@
 -- Prefixes and statements, one after another.
-use Rattle.std.proofs.Common.{◌≡◌, ◌∙◌, ℕ, zero, suc, ◌+◌, ◌≤◌, Bool, true, false, ◌==◌, List, [], ◌∷◌, ◌++◌, map, flat_map, length, take, drop, slice_get, Some, Bor, refl, sym, ap, ap₂, arith, append_assoc, append-nil, codes, true≢false, if◌then◌else◌, take-append-drop}
+use Rattle.std.proofs.Common.{◌≡◌, ◌∙◌, ℕ, zero, suc, ◌+◌, ◌≤◌, Bool, true, false, ◌==◌, List, [], ◌∷◌, ◌++◌, map, flat_map, length, take, drop, slice_get, Some, refl, sym, ap, ap₂, arith, append_assoc, append-nil, codes, true≢false, if◌then◌else◌, take-append-drop}
 use Rattle.std.specs.Str.{chars}
 use Rattle.std.specs.List.{list_all, list_any}
 use Rattle.std.proofs.lemmas.List.{take_all, map-append}
@@ -7,7 +7,6 @@ use Rattle.std.proofs.lemmas.Bool.Decides.{nat_tests}
 use Rattle.rx_terms.specs.Ascii.{is_ascii}
 use Rattle.rx_terms.specs.Text.{Chars}
 use Rattle.rx_terms.proofs.CharLemmas.{ascii-chars}
-use Rattle.rx_terms.specs.declared.triples.Triple.{Triple as CodeTriple}
 use Rattle.rx_graph.proofs.SetLemmas.{one_more}
 use Rattle.rx_notation.specs.Short.{Prefix, Prefixes}
 use Rattle.rx_notation.specs.Layout.{separated, prefix_text, prefixes_text}
@@ -15,7 +14,6 @@ use Rattle.rx_pieces.specs.Underway.{Delivery}
 use Rattle.rx_pieces.specs.Writable.{Adds}
 use Rattle.rx_pieces.proofs.Adding.{adds_then, adds_by, adds_failed, iri_before}
 use Rattle.rx_turtle.specs.Uses.{chosen}
-use Rattle.rx_turtle.proofs.GroupLemmas.{lent_seen}
 
 -- ---- with another text between neighbours
 
@@ -48,11 +46,6 @@ module _ {A : Type 0} (f : A → Chars) (between : Chars) (plain : list_all is_a
   pub all_listed : {start now : Delivery} (list : List A) (i : ℕ) → length list ≤ i → Adds start now (separated between (map f (take i list))) → Adds start now (separated between (map f list))
   all_listed list i past h = adds_by (ap (λ z. separated between (map f z)) (take_all i list past)) h
 
-pub lent_at : (list : List (Bor CodeTriple)) (i : ℕ) (t : Bor CodeTriple) → slice_get list i ≡ Some t → slice_get (map lent_seen list) i ≡ Some (lent_seen t)
-lent_at [] i t at = absurd (cc)
-lent_at (x ∷ list) zero t at = let same : x ≡ t = cc in ap (λ z. Some (lent_seen z)) same
-lent_at (x ∷ list) (suc i) t at = lent_at list i t at
-
 -- ---- one behind another
 
 module _ {A : Type 0} (f : A → Chars) where
@@ -70,11 +63,6 @@ module _ {A : Type 0} (f : A → Chars) where
   -- the sink failed, and no more is written
   pub joined_failed : {start now : Delivery} (list : List A) (i : ℕ) → now.underway.failed ≡ true → Adds start now (flat_map f (take i list)) → Adds start now (flat_map f list)
   joined_failed list i failed h = adds_by (sym (texts_both (take i list) (drop i list)) ∙ ap (flat_map f) (take-append-drop i list)) (adds_failed (flat_map f (drop i list)) failed h)
-
-pub seen_at : {A B : Type 0} (f : A → B) (list : List A) (i : ℕ) (a : A) → slice_get list i ≡ Some a → slice_get (map f list) i ≡ Some (f a)
-seen_at f [] i a at = absurd (cc)
-seen_at f (x ∷ list) zero a at = let same : x ≡ a = cc in ap (λ z. Some (f z)) same
-seen_at f (x ∷ list) (suc i) a at = seen_at f list i a at
 
 -- ---- prefixes
 

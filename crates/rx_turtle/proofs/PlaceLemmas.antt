@@ -2,7 +2,6 @@
 use Rattle.std.proofs.Common.{◌≡◌, ◌∙◌, ℕ, zero, suc, ◌+◌, ◌-◌, ◌<◌, ◌≤◌, Bool, true, false, cond, ◌&&◌, nat_eq, List, [], ◌∷◌, ◌++◌, length, length-append, take, take_all, drop_at, drop_of_length-le, inl, inr, drop, get_or, slice_get, Result, Ok, Err, OnOk, Some, None, refl, sym, ap, subst, arith, if◌then◌else◌}
 use Rattle.std.specs.Str.{chars, encode_utf8_all, IsUtf8}
 use Rattle.std.specs.Cmp.Lexicographic.{pointwise}
-use Rattle.std.specs.HashSet.{contains}
 use Rattle.std.specs.Option.{option_or}
 use Rattle.std.specs.List.{list_all}
 use Rattle.std.proofs.lemmas.Str.{encodes-chars, encodes-append}
@@ -26,20 +25,20 @@ rises (row ∷ rows) = ap (λ b. list_all (λ (later : Prefix). is_before row.0 
 -- ---- one place more
 
 pub put_bytes : (iri : List ℕ) (place : ℕ) (old new : Places) → ((bytes : List ℕ) → found_in new bytes ≡ (if pointwise nat_eq iri bytes then Some place else found_in old bytes))
-    → ((n : ℕ) → contains nat_eq new.lengths n ≡ cond (nat_eq (length iri) n) true (contains nat_eq old.lengths n)) → PutsBytes iri place old new
+    → ((n : ℕ) → get_or new.lengths n false ≡ cond (nat_eq (length iri) n) true (get_or old.lengths n false)) → PutsBytes iri place old new
 put_bytes iri place old new each sizes = record { each = each; known = λ k. record { length_of = λ bytes p e. go bytes p (pointwise nat_eq iri bytes) refl (sym (each bytes) ∙ e) k } }
   where
     either : (b : Bool) → cond b true true ≡ true
     either true = refl
     either false = refl
 
-    here : (n : ℕ) → n ≡ length iri → contains nat_eq new.lengths n ≡ true
+    here : (n : ℕ) → n ≡ length iri → get_or new.lengths n false ≡ true
     here n e = sizes n ∙ rw ((exact_numbers (length iri) n).1 (sym e)) refl
 
-    kept : (n : ℕ) → contains nat_eq old.lengths n ≡ true → contains nat_eq new.lengths n ≡ true
+    kept : (n : ℕ) → get_or old.lengths n false ≡ true → get_or new.lengths n false ≡ true
     kept n e = sizes n ∙ ap (cond (nat_eq (length iri) n) true) e ∙ either (nat_eq (length iri) n)
 
-    go : (bytes : List ℕ) (p : ℕ) (b : Bool) → pointwise nat_eq iri bytes ≡ b → (if b then Some place else found_in old bytes) ≡ Some p → Knows old → contains nat_eq new.lengths (length bytes) ≡ true
+    go : (bytes : List ℕ) (p : ℕ) (b : Bool) → pointwise nat_eq iri bytes ≡ b → (if b then Some place else found_in old bytes) ≡ Some p → Knows old → get_or new.lengths (length bytes) false ≡ true
     go bytes p true e h k = here (length bytes) (ap length (sym ((exact_texts iri bytes).0 e)))
     go bytes p false e h k = kept (length bytes) (k.length_of bytes p h)
 

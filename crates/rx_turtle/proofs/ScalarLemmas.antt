@@ -21,7 +21,7 @@ dropped (suc n) [] h = h
 dropped (suc n) (c ∷ text) h = dropped n text (and_parts _ _ h).1
 
 module _ {A : Type 0} (f : A → Chars) where
-  all_writable : (list : List A) → ((a : A) → Among list a → WritableText (f a)) → WritableText (flat_map f list)
+  pub all_writable : (list : List A) → ((a : A) → Among list a → WritableText (f a)) → WritableText (flat_map f list)
   all_writable [] h = literally [] refl
   all_writable (x ∷ list) h = joined (h x (inl refl)) (all_writable list (λ a m. h a (inr m)))
 
@@ -43,11 +43,11 @@ module _ (context : Prefixes) (rows : AreRows context) where
           let row : IsRow p = rows.each p (prefix_fits context iri p e).there in
           rw e (joined row.name (joined (literally (codes ":") refl) (record { scalars = dropped (length p.1) iri w.text.scalars })))
 
-  resource_writable : (node : Node ℕ) → WritableNode node → WritableText (resource_text context node)
+  pub resource_writable : (node : Node ℕ) → WritableNode node → WritableText (resource_text context node)
   resource_writable (Iri iri) w = short_writable iri w
   resource_writable (Blank number) w = blank_writable number w
 
-  verb_writable : (predicate : Chars) → WritableIri predicate → WritableText (verb_text context predicate)
+  pub verb_writable : (predicate : Chars) → WritableIri predicate → WritableText (verb_text context predicate)
   verb_writable predicate w = go (bytes_eq predicate rdf_type)
     where
       go : (b : Bool) → WritableText (if b then codes "a" else short_iri context predicate)
@@ -59,7 +59,7 @@ module _ (context : Prefixes) (rows : AreRows context) where
   suffix_writable (Tagged tag) w = joined (literally (codes "@") refl) w.text
   suffix_writable (Typed datatype) w = joined (literally (codes "^^") refl) (short_writable datatype w)
 
-  object_writable : (term : Term ℕ) → WritableTerm term → WritableText (object_text context term)
+  pub object_writable : (term : Term ℕ) → WritableTerm term → WritableText (object_text context term)
   object_writable (Resource node) w = resource_writable node w
   object_writable (Literal text kind) w = joined (joined (literally (codes "\"") refl) (joined (string_writable text w.0) (literally (codes "\"") refl))) (suffix_writable kind w.1)
 
@@ -67,7 +67,7 @@ module _ (context : Prefixes) (rows : AreRows context) where
   prefix_writable p row =
       joined (literally (codes "@prefix ") refl) (joined row.name (joined (literally (codes ": ") refl) (joined (iri_writable p.1 row.iri) (literally (codes " .\n") refl))))
 
-  prefixes_writable : (some : Prefixes) → ((p : Prefix) → Among some p → IsRow p) → WritableText (prefixes_text some)
+  pub prefixes_writable : (some : Prefixes) → ((p : Prefix) → Among some p → IsRow p) → WritableText (prefixes_text some)
   prefixes_writable [] h = literally [] refl
   prefixes_writable (p ∷ some) h = joined (all_writable prefix_text (p ∷ some) (λ q m. prefix_writable q (h q m))) (literally (codes "\n") refl)
 

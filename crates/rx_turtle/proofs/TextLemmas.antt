@@ -1,12 +1,9 @@
 -- The text of a plan is that of the layout, and what it denotes.
-use Rattle.std.proofs.Common.{◌≡◌, ◌∙◌, ℕ, Bool, true, nat_eq, List, [], ◌∷◌, ◌++◌, map, filter, flat_map, bytes_eq, refl, sym, ap, ap₂, subst, codes}
+use Rattle.std.proofs.Common.{◌≡◌, ◌∙◌, ℕ, Bool, true, List, [], ◌∷◌, ◌++◌, map, filter, flat_map, refl, sym, ap, ap₂, subst, codes}
 use Rattle.std.specs.Str.{chars, encode_utf8_all}
 use Rattle.std.proofs.lemmas.Str.{chars-encodes}
 use Rattle.rx_terms.specs.Text.{Chars}
-use Rattle.rx_model.specs.Sets.{distinct}
-use Rattle.rx_model.specs.Terms.{Node, Iri, Triple, same_node}
-use Rattle.rx_model.proofs.Exact.{exact_texts, exact_nodes, exact_numbers}
-use Rattle.rx_graph.proofs.SetLemmas.{distinct_apart}
+use Rattle.rx_model.specs.Terms.{Node, Iri, Triple}
 use Rattle.rx_notation.specs.Short.{Prefixes, names_rise}
 use Rattle.rx_notation.specs.Layout.{resource_text, verb_text, object_text, separated, has_predicate, subjects, about, predicates_of, predicate_text, statement_text, prefixes_text, turtle}
 use Rattle.rx_notation.specs.Laws.{IsContext, IsWritable, proper_triple}
@@ -18,12 +15,9 @@ use Rattle.rx_turtle.specs.Groups.{Keyed, has_key, keys_by, grouped}
 use Rattle.rx_turtle.specs.Written.{Said, said_by, plan, group_text, said_text, plan_text}
 use Rattle.rx_turtle.specs.Rows.{AreRows}
 use Rattle.rx_turtle.specs.Uses.{used_marks, chosen}
+use Rattle.rx_turtle.proofs.GroupLemmas.{map_twice, keys_are}
 use Rattle.rx_turtle.proofs.ScalarLemmas.{turtle_writable}
 use Rattle.rx_turtle.proofs.UseLemmas.{chosen_used}
-
-map_twice : {A B C : Type 0} (f : B → C) (g : A → B) (list : List A) → map f (map g list) ≡ map (λ a. f (g a)) list
-map_twice f g [] = refl
-map_twice f g (x ∷ list) = ap (λ z. f (g x) ∷ z) (map_twice f g list)
 
 map_like : {A B : Type 0} (f g : A → B) (list : List A) → ((a : A) → f a ≡ g a) → map f list ≡ map g list
 map_like f g [] h = refl
@@ -38,19 +32,13 @@ texts_twice f g [] = refl
 texts_twice f g (x ∷ list) = ap (λ z. f (g x) ++ z) (texts_twice f g list)
 
 module _ (context : Prefixes) (list : List (Triple ℕ)) where
-  -- the predicates as keys
-  keys_are : (s : Node ℕ) → keys_by by.Predicate (about list s) ≡ map {B = Node ℕ} (λ p. Iri p) (predicates_of list s)
-  keys_are s =
-      ap (distinct (same_node nat_eq)) (sym (map_twice {C = Node ℕ} (λ p. Iri p) (λ (t : Triple ℕ). t.predicate) (about list s)))
-      ∙ distinct_apart bytes_eq exact_texts (same_node nat_eq) (exact_nodes nat_eq exact_numbers) (λ p. Iri p) (map (λ (t : Triple ℕ). t.predicate) (about list s)) (λ x y m n e. cc)
-
   one_group : (s : Node ℕ) (p : Chars) → group_text context (Iri p, filter (has_key by.Predicate (Iri p)) (about list s)) ≡ predicate_text context list s p
   one_group s p = ap (λ z. verb_text context p ++ (codes " " ++ separated (codes " , ") z)) (sym (map_twice (object_text context) (λ (t : Triple ℕ). t.object) (filter (has_predicate p) (about list s))))
 
   groups_are : (s : Node ℕ) → map (group_text context) (grouped by.Predicate (about list s)) ≡ map (predicate_text context list s) (predicates_of list s)
   groups_are s =
       map_twice (group_text context) (λ key. (key, filter (has_key by.Predicate key) (about list s))) (keys_by by.Predicate (about list s))
-      ∙ ap (map (λ (key : Node ℕ). group_text context (key, filter (has_key by.Predicate key) (about list s)))) (keys_are s)
+      ∙ ap (map (λ (key : Node ℕ). group_text context (key, filter (has_key by.Predicate key) (about list s)))) (keys_are list s)
       ∙ map_twice (λ (key : Node ℕ). group_text context (key, filter (has_key by.Predicate key) (about list s))) (λ p. Iri p) (predicates_of list s)
       ∙ map_like (λ (p : Chars). group_text context (Iri p, filter (has_key by.Predicate (Iri p)) (about list s))) (predicate_text context list s) (predicates_of list s) (one_group s)
 

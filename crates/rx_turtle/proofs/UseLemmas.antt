@@ -21,7 +21,7 @@ use Rattle.rx_turtle.proofs.Finding.{place_is}
 
 -- ---- the loop over the triples
 
-marked_both : (context : Prefixes) (marks : List Bool) (xs ys : List Chars) → marked_all context marks (xs ++ ys) ≡ marked_all context (marked_all context marks xs) ys
+pub marked_both : (context : Prefixes) (marks : List Bool) (xs ys : List Chars) → marked_all context marks (xs ++ ys) ≡ marked_all context (marked_all context marks xs) ys
 marked_both context marks [] ys = refl
 marked_both context marks (x ∷ xs) ys = marked_both context (marked marks (place_of context x)) xs ys
 

@@ -3,7 +3,7 @@ use Rattle.std.specs.Prelude.{ℕ, zero, suc, Bool, nat_eq, List, [], ◌∷◌,
 use Rattle.rx_model.specs.Sets.{distinct}
 use Rattle.rx_model.specs.Terms.{Node, Iri, Triple, same_node}
 use Rattle.rx_model.specs.Seen.{triple_seen}
-use Rattle.rx_graph.specs.Resources.{resource_seen}
+use Rattle.rx_graph.specs.Resources.{resource_seen, number_in}
 use Rattle.rx_turtle.specs.declared.groups.By.{By}
 use Rattle.rx_turtle.specs.declared.groups.By.TheVariants as by
 use Rattle.rx_turtle.specs.declared.groups.Group.{Group}
@@ -37,6 +37,19 @@ put_in (group ∷ groups) (suc place) t = group ∷ put_in groups place t
 abbrev pub filed_in : List Keyed → Option ℕ → Triple ℕ → List Keyed
 filed_in groups (Some place) t = put_in groups place t
 filed_in groups None t = groups
+
+-- the keys of groups
+abbrev pub keys_in : List Keyed → List (Node ℕ)
+keys_in groups = map (λ (group : Keyed). group.0) groups
+
+-- the triple at the end of the group at this place, or, where there is none, in a group of its own
+abbrev pub taken_at : List Keyed → Option ℕ → Node ℕ → Triple ℕ → List Keyed
+taken_at groups (Some place) key t = put_in groups place t
+taken_at groups None key t = groups ++ (key, t ∷ []) ∷ []
+
+-- the triple at the end of the group of its key
+abbrev pub taken_in : By → List Keyed → Triple ℕ → List Keyed
+taken_in kind groups t = taken_at groups (number_in (keys_in groups) (key_by kind t)) (key_by kind t) t
 
 abbrev pub group_seen : Group → Keyed
 group_seen group = (resource_seen group.key, map (λ t. triple_seen t.now) group.triples.items)

@@ -4,3 +4,7 @@ pub mod Rows
 pub mod Groups
 pub mod Uses
 pub mod Written
+pub mod Tokens
+pub mod Said
+pub mod Due
+pub mod Nested

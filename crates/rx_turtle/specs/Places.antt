@@ -1,8 +1,7 @@
 -- An index of the prefixes by IRI.
-use Rattle.std.specs.Prelude.{◌≡◌, ℕ, true, nat_eq, List, length, Option, Some, if◌then◌else◌}
+use Rattle.std.specs.Prelude.{◌≡◌, ℕ, true, false, nat_eq, List, length, get_or, Option, Some, if◌then◌else◌}
 use Rattle.std.specs.Cmp.Lexicographic.{pointwise}
 use Rattle.std.specs.HashMap.{get_by}
-use Rattle.std.specs.HashSet.{contains}
 use Rattle.rx_notation.specs.Short.{Prefix, Prefixes}
 use Rattle.rx_turtle.specs.declared.shorts.Places.{Places}
 use Rattle.rx_turtle.specs.Shorts.{stands_for, place_from}
@@ -13,7 +12,7 @@ found_in places bytes = get_by (λ iri. pointwise nat_eq bytes iri.now) places.b
 
 -- what is found has a length that the index knows
 pub record Knows (places : Places) : Type 0 where
-  pub length_of : (bytes : List ℕ) (place : ℕ) → found_in places bytes ≡ Some place → contains nat_eq places.lengths (length bytes) ≡ true
+  pub length_of : (bytes : List ℕ) (place : ℕ) → found_in places bytes ≡ Some place → get_or places.lengths (length bytes) false ≡ true
 
 -- new is old with a place for these bytes
 pub record PutsBytes (iri : List ℕ) (place : ℕ) (old new : Places) : Type 0 where

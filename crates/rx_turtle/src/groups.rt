@@ -3,13 +3,16 @@ ghost use Rattle.std.specs.Prelude.{◌≡◌, ◌<◌, [], ◌∷◌, ◌++◌,
 ghost use Rattle.rx_model.specs.Sets.{distinct};
 ghost use Rattle.rx_model.specs.Terms.{same_node};
 ghost use Rattle.rx_model.specs.Seen.{triple_seen, triples_seen};
-ghost use Rattle.rx_graph.specs.Resources.{resource_seen, AreDistinct};
-ghost use Rattle.rx_turtle.specs.Groups.{Keyed, key_by, keys_by, grouped, put_in, filed_in};
+ghost use Rattle.rx_graph.specs.Resources.{resource_seen, number_in, AreDistinct};
+ghost use Rattle.rx_turtle.specs.Groups.{Keyed, key_by, keys_by, keys_in, grouped, put_in, filed_in, taken_in};
 
 use rx_graph::{Graph, Nodes, Resource};
 use rx_terms::{NoMemory, Triple};
 use std::alloc::Global;
 use std::marker::Model;
+
+/// How many triples are put into groups without an index: then looking through the groups costs less.
+const FEW: usize = 8;
 
 /// What the triples of a group have in common.
 #[derive(Clone, Copy)]
@@ -45,9 +48,78 @@ impl<'a> Groups<'a> {
     pub(crate) fn of(alloc: Global, triples: &[&'a Triple], by: By) -> Result<Groups<'a>, NoMemory>
         ensures { IfOk result (λ groups. groups ≡ grouped by (map (λ t. triple_seen t.now) triples.now)) }
     {
+        if triples.len() <= FEW {
+            return Groups::of_few(alloc, triples, by);
+        }
         let keys = keys_of(alloc, triples, by)?;
         let groups = Groups::file_all(alloc, triples, by, &keys)?;
         Ok(groups)
+    }
+
+    /// The same without an index. The time is that of the square of their number.
+    fn of_few(alloc: Global, triples: &[&'a Triple], by: By) -> Result<Groups<'a>, NoMemory>
+        ensures { IfOk result (λ groups. groups ≡ grouped by (map (λ t. triple_seen t.now) triples.now)) }
+    {
+        let mut groups = Groups::none(alloc);
+        for i in 0..triples.len() {
+            let triple = triples[i];
+            groups.take(alloc, triple, by)?;
+        }
+        Ok(groups)
+    }
+
+    fn none(alloc: Global) -> Groups<'a>
+        ensures { result ≡ [] }
+    {
+        Groups {
+            groups: Vec::new(alloc),
+        }
+    }
+
+    /// Adds the triple to the group of its key, which is made where there is none.
+    fn take(&mut self, alloc: Global, triple: &'a Triple, by: By) -> Result<(), NoMemory>
+        ensures { OnOk result (self.new ≡ taken_in by self.old (triple_seen triple.now)) }
+    {
+        let key = key_of(triple, by);
+        match self.place_of(key) {
+            Some(place) => self.put_within(place, triple),
+            None => self.begin(alloc, key, triple),
+        }
+    }
+
+    /// The place of the group with this key.
+    fn place_of(&self, key: Resource) -> Option<usize>
+        ensures { result ≡ number_in (keys_in self.now) (resource_seen key.entry) }
+    {
+        for i in 0..self.len() {
+            if self.has_key(i, key) {
+                return Some(i);
+            }
+        }
+        None
+    }
+
+    /// Whether the group has this key.
+    fn has_key(&self, place: usize, key: Resource) -> bool
+        requires { place < length self.now }
+        ensures { (found : Keyed) → slice_get self.now place ≡ Some found → result ≡ same_node nat_eq found.0 (resource_seen key.entry) }
+    {
+        let (found, _triples) = self.at(place);
+        are_same(found, key)
+    }
+
+    /// Adds a group of one triple.
+    fn begin(
+        &mut self,
+        alloc: Global,
+        key: Resource<'a>,
+        triple: &'a Triple,
+    ) -> Result<(), NoMemory>
+        ensures { OnOk result (self.new ≡ self.old ++ (resource_seen key.entry, triple_seen triple.now ∷ []) ∷ []) }
+    {
+        let place = self.len();
+        self.add(alloc, key)?;
+        self.put_within(place, triple)
     }
 
     /// The same where the keys are at hand.
@@ -151,6 +223,12 @@ fn keys_of<'a>(alloc: Global, triples: &[&'a Triple], by: By) -> Result<Nodes<'a
         keys.add(key_of(triples[i], by))?;
     }
     Ok(keys)
+}
+
+fn are_same(one: Resource, other: Resource) -> bool
+    ensures { result ≡ same_node nat_eq (resource_seen one.entry) (resource_seen other.entry) }
+{
+    one == other
 }
 
 fn key_of<'a>(triple: &'a Triple, by: By) -> Resource<'a>

@@ -8,12 +8,13 @@ ghost use Rattle.rx_turtle.specs.Shorts.{place_from, place_at, place_below, plac
 ghost use Rattle.rx_turtle.specs.Places.{Finds, Puts, PutsBytes};
 ghost use Rattle.rx_turtle.specs.Rows.{IsRow, AreRows};
 
+use crate::lengths::Lengths;
 use crate::names::{begins_local, is_name_byte, is_prefix_name};
-use indexmap::{IndexMap, IndexSet};
+use indexmap::IndexMap;
 use rx_names::Context;
 use rx_terms::{Iri, NoMemory};
 use std::alloc::Global;
-use std::hash::{BuildHasherDefault, DefaultHasher, FoldHasher};
+use std::hash::{BuildHasherDefault, DefaultHasher};
 use std::marker::Model;
 
 /// For IRIs the places of the prefixes that stand for them.
@@ -22,7 +23,7 @@ struct Places<'a> {
     // A job's context has these IRIs. SipHash makes it hard to choose many with one hash.
     by_iri: IndexMap<&'a [u8], usize, BuildHasherDefault<DefaultHasher>>,
     /// How many bytes the IRIs have: a text of another length isn't looked up, however long it is.
-    lengths: IndexSet<usize, BuildHasherDefault<FoldHasher>>,
+    lengths: Lengths,
 }
 
 impl<'a> Places<'a> {
@@ -33,7 +34,7 @@ impl<'a> Places<'a> {
     {
         let mut places = Places {
             by_iri: IndexMap::with_hasher(alloc, BuildHasherDefault::new()),
-            lengths: IndexSet::with_hasher(alloc, BuildHasherDefault::new()),
+            lengths: Lengths::new(alloc),
         };
         for place in (0..context.prefix_count()).rev() {
             let (name, iri) = context.prefix_at(place);
@@ -59,17 +60,14 @@ impl<'a> Places<'a> {
         if self.by_iri.insert(iri, place).is_err() {
             return Err(NoMemory);
         }
-        if self.lengths.insert(iri.len()).is_err() {
-            return Err(NoMemory);
-        }
-        Ok(())
+        self.lengths.add(iri.len())
     }
 
     /// The place of the prefix that stands for the IRI of these bytes.
     fn find(&self, iri: &[u8]) -> Option<usize>
         ensures { (place : ℕ) (context : Prefixes) → Finds place context self.now → result ≡ place_from place context iri.now }
     {
-        if !self.lengths.contains(&iri.len()) {
+        if !self.lengths.contains(iri.len()) {
             return None;
         }
         self.by_iri.get(iri).copied()

@@ -31,7 +31,7 @@ pub(crate) fn statements_of<'a>(
 }
 
 /// The graph's triples.
-fn borrowed<'a>(alloc: Global, graph: &'a Graph) -> Result<Vec<&'a Triple>, NoMemory>
+pub(crate) fn borrowed<'a>(alloc: Global, graph: &'a Graph) -> Result<Vec<&'a Triple>, NoMemory>
     ensures { IfOk result (λ triples. map (λ t. triple_seen t.now) triples.items ≡ triples_seen graph.now) }
 {
     let mut triples = Vec::with_capacity(alloc, graph.len())?;

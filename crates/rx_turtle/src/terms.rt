@@ -85,7 +85,12 @@ pub(crate) fn push_object<S: Sink>(out: &mut Pieces, sink: &mut S, shorts: &Shor
     }
 }
 
-fn push_literal<S: Sink>(out: &mut Pieces, sink: &mut S, shorts: &Shorts, literal: &Literal)
+pub(crate) fn push_literal<S: Sink>(
+    out: &mut Pieces,
+    sink: &mut S,
+    shorts: &Shorts,
+    literal: &Literal,
+)
     ensures { Adds (delivery out.old (S.held sink.old) (S.faults sink.old)) (delivery out.new (S.held sink.new) (S.faults sink.new)) (string_text literal.now.lexical ++ suffix_text shorts.now (kind_seen literal.now.kind)) }
 {
     push_text(out, sink, "\"", &literal.lexical);

@@ -30,7 +30,7 @@ pub(crate) fn used_marks(
     Ok(marks)
 }
 
-fn unmarked(alloc: Global, shorts: &Shorts) -> Result<Vec<bool>, NoMemory>
+pub(crate) fn unmarked(alloc: Global, shorts: &Shorts) -> Result<Vec<bool>, NoMemory>
     ensures marks { IfOk result (λ marks. marks.items ≡ unmarked shorts.now) }
     ensures in_order { IfOk result (λ marks. names_rise shorts.now ≡ true) }
 {
@@ -71,7 +71,7 @@ fn mark_node(marks: &mut [bool], node: &Node, shorts: &Shorts)
     }
 }
 
-fn mark_predicate(marks: &mut [bool], predicate: &Iri, shorts: &Shorts)
+pub(crate) fn mark_predicate(marks: &mut [bool], predicate: &Iri, shorts: &Shorts)
     ensures { marks.new ≡ marked_all shorts.now marks.old (iris_of_predicate predicate.now) }
 {
     if is_type(predicate) {
@@ -90,7 +90,7 @@ fn mark_term(marks: &mut [bool], term: &Term, shorts: &Shorts)
     }
 }
 
-fn mark_kind(marks: &mut [bool], kind: &LiteralKind, shorts: &Shorts)
+pub(crate) fn mark_kind(marks: &mut [bool], kind: &LiteralKind, shorts: &Shorts)
     ensures { marks.new ≡ marked_all shorts.now marks.old (iris_of_kind (kind_seen kind.now)) }
 {
     match kind {
@@ -100,7 +100,7 @@ fn mark_kind(marks: &mut [bool], kind: &LiteralKind, shorts: &Shorts)
     }
 }
 
-fn mark_iri(marks: &mut [bool], iri: &Iri, shorts: &Shorts)
+pub(crate) fn mark_iri(marks: &mut [bool], iri: &Iri, shorts: &Shorts)
     ensures { marks.new ≡ marked_all shorts.now marks.old (iri.now ∷ []) }
 {
     mark(marks, shorts.place(iri));

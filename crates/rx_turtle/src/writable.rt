@@ -2,9 +2,13 @@
 //! their contracts say so of the values that they are shown.
 ghost use Rattle.std.specs.Prelude.{◌<◌, ◌^◌, None};
 ghost use Rattle.rx_model.specs.Seen.{kind_seen, node_seen, term_seen, triple_seen};
+ghost use Rattle.rx_graph.specs.Resources.{resource_seen};
+ghost use Rattle.rx_turtle.specs.Tokens.{token_seen, WritableShown};
 ghost use Rattle.rx_pieces.specs.Writable.{WritableIri, WritableKind, WritableNode, WritableTag, WritableTerm, WritableText, WritableTriple};
 
-use rx_terms::{Blank, Iri, Lang, LiteralKind, Node, Term, Text, Triple};
+use crate::tokens::Token;
+use rx_graph::Resource;
+use rx_terms::{Blank, Iri, Lang, Literal, LiteralKind, Node, Term, Text, Triple};
 
 #[inline(always)]
 pub(crate) fn is_writable(triple: &Triple)
@@ -13,6 +17,37 @@ pub(crate) fn is_writable(triple: &Triple)
     is_writable_node(&triple.subject);
     is_writable_iri(&triple.predicate);
     is_writable_term(&triple.object);
+}
+
+/// The same of a token.
+#[inline(always)]
+pub(crate) fn is_writable_token(token: Token)
+    ensures { WritableShown (token_seen token.entry) }
+{
+    match token {
+        Token::Fixed(_words) => {}
+        Token::Noun(resource) => is_writable_resource(resource),
+        Token::Verb(resource) => is_writable_resource(resource),
+        Token::Quoted(literal) => is_writable_literal(literal),
+    }
+}
+
+#[inline(always)]
+fn is_writable_resource(resource: Resource)
+    ensures { WritableNode (resource_seen resource.entry) }
+{
+    match resource {
+        Resource::Iri(iri) => is_writable_iri(iri),
+        Resource::Blank(blank) => is_writable_blank(blank),
+    }
+}
+
+#[inline(always)]
+fn is_writable_literal(literal: &Literal)
+    ensures { WritableText literal.now.lexical × WritableKind (kind_seen literal.now.kind) }
+{
+    is_writable_text(&literal.lexical);
+    is_writable_kind(&literal.kind);
 }
 
 #[inline(always)]

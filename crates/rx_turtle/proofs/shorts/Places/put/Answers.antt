@@ -1,10 +1,11 @@
 use Rattle.std.proofs.Common.{◌∙◌, sym}
 use Rattle.rx_graph.proofs.SetLemmas.{of_ok}
-use Rattle.rx_turtle.proofs.PlaceLemmas.{put_bytes}
+use Rattle.rx_turtle.proofs.PlaceLemmas.{on_ok_then, put_bytes}
 use Rattle.rx_turtle.proofs.shorts.Places.put.Goals as goal
 
 pub returns : goal.returns
 returns c =
-    put_bytes c.args.iri.now c.args.place c.args.self.now _
-    (λ bytes. (of_ok c.insert.result (sym c.is_err.ensures.value ∙ c.if-is_err.false) c.insert.ensures.updates).0 (record { ref_ptr = c.args.iri.ref_ptr; now = bytes }))
-    (λ n. (of_ok c.insert-2.result (sym c.is_err-2.ensures.value ∙ c.if-is_err-2.false) c.insert-2.ensures.updates).0 n)
+    on_ok_then c.add.result
+    (put_bytes c.args.iri.now c.args.place c.args.self.now _
+    (λ bytes. (of_ok c.insert.result (sym c.is_err.ensures.value ∙ c.if-is_err.false) c.insert.ensures.updates).0 (record { ref_ptr = c.args.iri.ref_ptr; now = bytes })))
+    c.add.ensures

@@ -1,0 +1,274 @@
+-- The text of a nested plan is that of the nested layout, and what it denotes.
+use Rattle.std.proofs.Common.{◌≡◌, ◌∙◌, ℕ, ◌+◌, ◌≤◌, Bool, true, false, cond, nat_eq, List, [], ◌∷◌, ◌++◌, map, filter, filter_map, flat_map, length, take, slice_get, bytes_eq, Option, Some, None, refl, sym, ap, ap₂, subst, inl, inr, append_assoc, append-nil, codes, if◌then◌else◌}
+use Rattle.std.specs.Str.{chars, encode_utf8_all}
+use Rattle.std.proofs.lemmas.Str.{chars-encodes}
+use Rattle.std.proofs.lemmas.List.{take_all, map-append}
+use Rattle.rx_terms.specs.Text.{Chars}
+use Rattle.rx_terms.specs.declared.triples.Triple.{Triple as CodeTriple}
+use Rattle.rx_model.specs.Sets.{Among, contains, distinct}
+use Rattle.rx_model.specs.Terms.{Plain, Tagged, Typed, Iri, Blank, Literal, Triple, same_triple}
+use Rattle.rx_model.specs.Copied.{rdf_type, spo}
+use Rattle.rx_model.specs.Seen.{triple_seen, triples_seen}
+use Rattle.rx_model.proofs.Sets.{Among_cases, Among_map, Among_of_map, Among_of_filter_map, Among-contains, Among_by_contains}
+use Rattle.rx_model.proofs.Exact.{exact_texts}
+use Rattle.rx_graph.proofs.SetLemmas.{same_truth, one_more, seen_more}
+use Rattle.rx_pieces.specs.Writable.{WritableText, WritableTriple}
+use Rattle.rx_pieces.specs.Writing.{string_text}
+use Rattle.rx_pieces.proofs.Scalars.{joined, literally}
+use Rattle.rx_notation.specs.Short.{Prefix, Prefixes, prefix_of, names_rise}
+use Rattle.rx_notation.specs.Layout.{iris_of, same_prefix, those_among, in_byte_order, prefixes_text, resource_text, iris_of_predicate}
+use Rattle.rx_notation.specs.Laws.{IsContext, IsWritable, proper_triple}
+use Rattle.rx_notation.specs.Meaning.{NestedTurtle}
+use Rattle.rx_notation.specs.Syntax.{Type_of, By}
+use Rattle.rx_notation.proofs.Chosen.{Apart, names_apart, exact_prefixes, prefix_fits}
+use Rattle.rx_notation.proofs.Ordered.{rising}
+use Rattle.rx_nested.specs.Nesting.{reference_to, name_in, names_of_verb, prefixes_named, names_used, statements, nested}
+use Rattle.rx_nested.specs.Writing.{reference_text, verb_text, statement_text}
+use Rattle.rx_nested.specs.Pieces.{piece_text, piece_names}
+use Rattle.rx_nested.proofs.Declared.{of_named}
+use Rattle.rx_nested.proofs.Stepping.{pieces_are_text}
+use Rattle.rx_nested.proofs.NestedMeaning.{nested_denotes}
+use Rattle.rx_turtle.specs.declared.source.Source.{Source}
+use Rattle.rx_turtle.specs.declared.tokens.Token.{Token}
+use Rattle.rx_turtle.specs.declared.tokens.Words.{Words}
+use Rattle.rx_turtle.specs.declared.tokens.Words.TheVariants as fixed
+use Rattle.rx_turtle.specs.Rows.{AreRows}
+use Rattle.rx_turtle.specs.Uses.{marked_all, unmarked, chosen}
+use Rattle.rx_turtle.specs.Tokens.{Shown, Fixed, Noun, Verb, Quoted, token_seen, tokens_seen, words_text, piece_of, pieces_of, shown_text, shown_texts, iris_of_shown, WritableShown}
+use Rattle.rx_turtle.specs.Due.{list_of, shapes_of, IsSource, AreTokens}
+use Rattle.rx_turtle.specs.Nested.{iris_of_tokens, AreWritable}
+use Rattle.rx_turtle.proofs.RunLemmas.{have_shapes}
+use Rattle.rx_turtle.proofs.ScalarLemmas.{all_writable, resource_writable, verb_writable, object_writable, prefixes_writable}
+use Rattle.rx_turtle.proofs.UseLemmas.{chosen_used, marks_size, marked_both}
+
+-- ---- the loops over tokens
+
+tokens_more : (tokens : List Token) (i : ℕ) (t : Token) → slice_get tokens i ≡ Some t → tokens_seen (take (i + 1) tokens) ≡ tokens_seen (take i tokens) ++ token_seen t ∷ []
+tokens_more tokens i t at = ap tokens_seen (one_more tokens i t at) ∙ map-append token_seen (take i tokens) (t ∷ [])
+
+iris_both : (xs : List Shown) (s : Shown) → flat_map iris_of_shown (xs ++ s ∷ []) ≡ flat_map iris_of_shown xs ++ iris_of_shown s
+iris_both [] s = append-nil (iris_of_shown s)
+iris_both (x ∷ xs) s = ap (λ z. iris_of_shown x ++ z) (iris_both xs s) ∙ sym (append_assoc (iris_of_shown x) (flat_map iris_of_shown xs) (iris_of_shown s))
+
+-- the first tokens are looked at
+pub record Viewed (context : Prefixes) (start now : List Bool) (tokens : List Token) (i : ℕ) : Type 0 where
+  pub marks : now ≡ marked_all context start (iris_of_tokens (take i tokens))
+  pub writable : (s : Shown) → Among (tokens_seen (take i tokens)) s → WritableShown s
+
+pub viewed_start : (context : Prefixes) (start : List Bool) (tokens : List Token) → Viewed context start start tokens 0
+viewed_start context start tokens = record { marks = refl; writable = λ s m. absurd m }
+
+pub viewed_more : (context : Prefixes) (start now next : List Bool) (tokens : List Token) (i : ℕ) (t : Token) → slice_get tokens i ≡ Some t → next ≡ marked_all context now (iris_of_shown (token_seen t))
+    → WritableShown (token_seen t) → Viewed context start now tokens i → Viewed context start next tokens (i + 1)
+viewed_more context start now next tokens i t at turn writable h =
+    let more = tokens_more tokens i t at in
+    record {
+      marks =
+          turn ∙ ap (λ z. marked_all context z (iris_of_shown (token_seen t))) h.marks ∙ sym (marked_both context start (iris_of_tokens (take i tokens)) (iris_of_shown (token_seen t)))
+          ∙ ap (marked_all context start) (sym (ap (flat_map iris_of_shown) more ∙ iris_both (tokens_seen (take i tokens)) (token_seen t)));
+      writable = λ s m. elim (Among_cases (tokens_seen (take i tokens)) (token_seen t ∷ []) s (subst (λ (z : List Shown). Among z s) more m)) [
+        | inl k ↦ h.writable s k
+        | inr k ↦ elim k [ inl e ↦ subst WritableShown e writable | inr n ↦ absurd n ]
+      ];
+    }
+
+pub viewed_marks : (context : Prefixes) (start now : List Bool) (tokens : List Token) (i : ℕ) → length tokens ≤ i → Viewed context start now tokens i → now ≡ marked_all context start (iris_of_tokens tokens)
+viewed_marks context start now tokens i past h = h.marks ∙ ap (λ z. marked_all context start (iris_of_tokens z)) (take_all i tokens past)
+
+pub viewed_writable : (context : Prefixes) (start now : List Bool) (tokens : List Token) (i : ℕ) → length tokens ≤ i → Viewed context start now tokens i → AreWritable tokens
+viewed_writable context start now tokens i past h = record { each = λ s m. h.writable s (subst (λ (z : List Token). Among (tokens_seen z) s) (sym (take_all i tokens past)) m) }
+
+pub triples_start : (list : List CodeTriple) → IsWritable (triples_seen (take 0 list))
+triples_start list = record { parts = λ t m. absurd m }
+
+pub triples_more : (list : List CodeTriple) (i : ℕ) (t : CodeTriple) → slice_get list i ≡ Some t → WritableTriple None (triple_seen t) → IsWritable (triples_seen (take i list)) → IsWritable (triples_seen (take (i + 1) list))
+triples_more list i t at w h =
+    let more = seen_more list i t at in
+    record {
+      parts = λ u m. elim (Among_cases (triples_seen (take i list)) (triple_seen t ∷ []) u (subst (λ (z : List (Triple ℕ)). Among z u) more m)) [
+        | inl k ↦ h.parts u k
+        | inr k ↦ elim k [ inl e ↦ subst (WritableTriple None) e w | inr n ↦ absurd n ]
+      ];
+    }
+
+pub triples_end : (list : List CodeTriple) (i : ℕ) → length list ≤ i → IsWritable (triples_seen (take i list)) → IsWritable (triples_seen list)
+triples_end list i past h = record { parts = λ t m. h.parts t (subst (λ (z : List CodeTriple). Among (triples_seen z) t) (sym (take_all i list past)) m) }
+
+-- ---- tokens are written as their pieces
+
+module _ (context : Prefixes) where
+  reference_is : (iri : Chars) → reference_text (reference_to context iri) ≡ resource_text context (Iri iri)
+  reference_is iri = go (prefix_of context iri) refl
+    where
+      go : (o : Option Prefix) → prefix_of context iri ≡ o → reference_text (reference_to context iri) ≡ resource_text context (Iri iri)
+      go None e = rw e refl
+      go (Some p) e = rw e refl
+
+  shown_is : (s : Shown) → shown_text context s ≡ piece_text (piece_of context s)
+  shown_is (Fixed words) = refl
+  shown_is (Noun (Iri iri)) = sym (reference_is iri)
+  shown_is (Noun (Blank number)) = refl
+  shown_is (Verb (Iri iri)) = go (bytes_eq iri rdf_type)
+    where
+      go : (b : Bool) → cond b (codes "a") (resource_text context (Iri iri)) ≡ verb_text (cond b Type_of (By (reference_to context iri)))
+      go true = refl
+      go false = sym (reference_is iri)
+  shown_is (Verb (Blank number)) = refl
+  shown_is (Quoted text Plain) = refl
+  shown_is (Quoted text (Tagged tag)) = refl
+  shown_is (Quoted text (Typed datatype)) = ap (λ z. string_text text ++ (codes "^^" ++ z)) (sym (reference_is datatype))
+
+  texts_are : (list : List Shown) → shown_texts context list ≡ flat_map piece_text (pieces_of context list)
+  texts_are [] = refl
+  texts_are (s ∷ list) = ap₂ ◌++◌ (shown_is s) (texts_are list)
+
+  -- ---- and have the names of their prefixes
+
+  abbrev name_of : Prefix → Chars
+  name_of p = p.0
+
+  abbrev names_by : List Chars → List Chars
+  names_by iris = map name_of (filter_map (prefix_of context) iris)
+
+  reference_name : (iri : Chars) → name_in (reference_to context iri) ≡ names_by (iri ∷ [])
+  reference_name iri = go (prefix_of context iri) refl
+    where
+      go : (o : Option Prefix) → prefix_of context iri ≡ o → name_in (reference_to context iri) ≡ names_by (iri ∷ [])
+      go None e = rw e refl
+      go (Some p) e = rw e refl
+
+  names_is : (s : Shown) → piece_names (piece_of context s) ≡ names_by (iris_of_shown s)
+  names_is (Fixed words) = refl
+  names_is (Noun (Iri iri)) = reference_name iri
+  names_is (Noun (Blank number)) = refl
+  names_is (Verb (Iri iri)) = go (bytes_eq iri rdf_type)
+    where
+      go : (b : Bool) → names_of_verb (cond b Type_of (By (reference_to context iri))) ≡ names_by (cond b [] (iri ∷ []))
+      go true = refl
+      go false = reference_name iri
+  names_is (Verb (Blank number)) = refl
+  names_is (Quoted text Plain) = refl
+  names_is (Quoted text (Tagged tag)) = refl
+  names_is (Quoted text (Typed datatype)) = reference_name datatype
+
+  names_both : (xs ys : List Chars) → names_by (xs ++ ys) ≡ names_by xs ++ names_by ys
+  names_both [] ys = refl
+  names_both (x ∷ xs) ys = go (prefix_of context x) refl (names_both xs ys)
+    where
+      go : (o : Option Prefix) → prefix_of context x ≡ o → names_by (xs ++ ys) ≡ names_by xs ++ names_by ys → names_by (x ∷ (xs ++ ys)) ≡ names_by (x ∷ xs) ++ names_by ys
+      go None e ih = rw e ih
+      go (Some p) e ih = rw e (ap (λ z. p.0 ∷ z) ih)
+
+  names_are : (list : List Shown) → flat_map piece_names (pieces_of context list) ≡ names_by (flat_map iris_of_shown list)
+  names_are [] = refl
+  names_are (s ∷ list) = ap₂ ◌++◌ (names_is s) (names_are list) ∙ sym (names_both (iris_of_shown s) (flat_map iris_of_shown list))
+
+  -- ---- the prefixes of these names
+
+  module _ (rise : names_rise context ≡ true) where
+    apart : Apart context
+    apart = names_apart context (rising.once context rise)
+
+    one_of : (ps : Prefixes) → Apart ps → (p q : Prefix) → Among ps p → Among ps q → q.0 ≡ p.0 → q ≡ p
+    one_of [] a p q m n e = absurd m
+    one_of (x ∷ ps) a p q (inl i) (inl j) e = sym j ∙ i
+    one_of (x ∷ ps) a p q (inl i) (inr n) e = absurd (a.0 q n (ap (λ (z : Prefix). z.0) i ∙ sym e))
+    one_of (x ∷ ps) a p q (inr m) (inl j) e = absurd (a.0 p m (ap (λ (z : Prefix). z.0) j ∙ e))
+    one_of (x ∷ ps) a p q (inr m) (inr n) e = one_of ps a.1 p q m n e
+
+    used_named : (iris : List Chars) (p : Prefix) → Among context p → contains same_prefix (filter_map (prefix_of context) iris) p ≡ contains bytes_eq (names_by iris) p.0
+    used_named iris p m =
+        let some : Prefixes = filter_map (prefix_of context) iris in
+        same_truth (contains same_prefix some p) (contains bytes_eq (map name_of some) p.0)
+        (λ h. Among-contains bytes_eq exact_texts (map name_of some) p.0 (Among_map name_of some p (Among_by_contains same_prefix exact_prefixes some p h)))
+        (λ h.
+        let q = Among_of_map name_of some p.0 (Among_by_contains bytes_eq exact_texts (map name_of some) p.0 h) in
+        let iri = Among_of_filter_map (prefix_of context) iris q.0 q.1 in
+        let same : q.0 ≡ p = one_of context apart p q.0 m (prefix_fits context iri.0 q.0 iri.2).there q.2 in
+        Among-contains same_prefix exact_prefixes some p (subst (λ (z : Prefix). Among some z) same q.1))
+
+    filter_among : (f g : Prefix → Bool) (ps : Prefixes) → ((p : Prefix) → Among ps p → f p ≡ g p) → filter f ps ≡ filter g ps
+    filter_among f g [] h = refl
+    filter_among f g (p ∷ ps) h = go (f p) (g p) (h p (inl refl)) (filter_among f g ps (λ q m. h q (inr m)))
+      where
+        go : (a b : Bool) → a ≡ b → filter f ps ≡ filter g ps → cond a (p ∷ filter f ps) (filter f ps) ≡ cond b (p ∷ filter g ps) (filter g ps)
+        go true true e ih = ap (λ z. p ∷ z) ih
+        go false false e ih = ih
+        go true false e ih = absurd (cc)
+        go false true e ih = absurd (cc)
+
+    -- triples that have these IRIs
+    abbrev with_iris : List Chars → List (Triple ℕ)
+    with_iris iris = map {B = Triple ℕ} (λ iri. spo (Iri iri) rdf_type (Literal [] Plain)) iris
+
+    have_iris : (iris : List Chars) → flat_map iris_of (with_iris iris) ≡ iris
+    have_iris [] = refl
+    have_iris (iri ∷ iris) =
+        let none : iris_of_predicate rdf_type ≡ [] = ap (λ (b : Bool). if b then [] else rdf_type ∷ []) ((exact_texts rdf_type rdf_type).1 refl) in
+        ap₂ (λ (x y : List Chars). (iri ∷ (x ++ [])) ++ y) none (have_iris iris)
+
+    pub chosen_named : (iris : List Chars) → chosen (marked_all context (unmarked context) iris) context ≡ prefixes_named context (names_by iris)
+    chosen_named iris =
+        ap (λ z. chosen (marked_all context (unmarked context) z) context) (sym (have_iris iris))
+        ∙ chosen_used context rise (with_iris iris)
+        ∙ ap (λ z. in_byte_order (those_among (filter_map (prefix_of context) z) context)) (have_iris iris)
+        ∙ ap in_byte_order (filter_among (contains same_prefix (filter_map (prefix_of context) iris)) (λ (p : Prefix). contains bytes_eq (names_by iris) p.0) context (used_named iris))
+
+    pub marks_long : (iris : List Chars) → length (marked_all context (unmarked context) iris) ≡ length context
+    marks_long iris = ap (λ z. length (marked_all context (unmarked context) z)) (sym (have_iris iris)) ∙ marks_size context rise (with_iris iris)
+
+-- ---- the text
+
+words_writable : (words : Words) → WritableText (words_text words)
+words_writable fixed.Space = literally (codes " ") refl
+words_writable fixed.Comma = literally (codes " , ") refl
+words_writable fixed.LineGap = literally (words_text fixed.LineGap) refl
+words_writable fixed.InsideGap = literally (words_text fixed.InsideGap) refl
+words_writable fixed.Open = literally (codes "[ ") refl
+words_writable fixed.Close = literally (codes " ]") refl
+words_writable fixed.OpenList = literally (codes "( ") refl
+words_writable fixed.CloseList = literally (codes " )") refl
+words_writable fixed.Empty = literally (codes "[]") refl
+words_writable fixed.Nil = literally (codes "()") refl
+words_writable fixed.End = literally (codes " .\n") refl
+
+module _ (context : Prefixes) (source : Source) (tokens : List Token) (are : AreTokens source tokens) where
+  abbrev those : List Shown
+  those = tokens_seen tokens
+
+  names_there : names_used (statements context (list_of source) (shapes_of source)) ≡ names_by context (iris_of_tokens tokens)
+  names_there = sym (pieces_are_text.names (statements context (list_of source) (shapes_of source))) ∙ ap (flat_map piece_names) (sym (are.each context)) ∙ names_are context those
+
+  text_there : shown_texts context those ≡ flat_map statement_text (statements context (list_of source) (shapes_of source))
+  text_there = texts_are context those ∙ ap (flat_map piece_text) (are.each context) ∙ pieces_are_text.text (statements context (list_of source) (shapes_of source))
+
+  named_is : prefixes_text (prefixes_named context (names_by context (iris_of_tokens tokens))) ++ shown_texts context those ≡ nested context (list_of source) (shapes_of source)
+  named_is = ap₂ (λ (n : List Chars) (z : Chars). prefixes_text (prefixes_named context n) ++ z) (sym names_there) text_there
+
+  pub nested_is : (marks : List Bool) → names_rise context ≡ true → marks ≡ marked_all context (unmarked context) (iris_of_tokens tokens)
+      → prefixes_text (chosen marks context) ++ shown_texts context those ≡ nested context (list_of source) (shapes_of source)
+  nested_is marks rise marked =
+      ap (λ m. prefixes_text m ++ shown_texts context those) (ap (λ m. chosen m context) marked ∙ chosen_named context rise (iris_of_tokens tokens)) ∙ named_is
+
+  -- ---- what it denotes
+
+  module _ (rows : AreRows context) (writable : AreWritable tokens) where
+    shown_writable : (s : Shown) → WritableShown s → WritableText (shown_text context s)
+    shown_writable (Fixed words) w = words_writable words
+    shown_writable (Noun node) w = resource_writable context rows node w
+    shown_writable (Verb (Iri iri)) w = verb_writable context rows iri w
+    shown_writable (Verb (Blank number)) w = resource_writable context rows (Blank number) w
+    shown_writable (Quoted text kind) w = object_writable context rows (Literal text kind) w
+
+    nested_writable : WritableText (nested context (list_of source) (shapes_of source))
+    nested_writable =
+        subst WritableText named_is
+        (joined (prefixes_writable context rows (prefixes_named context (names_by context (iris_of_tokens tokens))) (λ p m. rows.each p (of_named context (names_by context (iris_of_tokens tokens)) p m).0))
+        (all_writable (shown_text context) those (λ s m. shown_writable s (writable.each s m))))
+
+    pub text_denotes : names_rise context ≡ true → IsSource source → IsWritable (list_of source) → distinct (same_triple nat_eq) (list_of source) ≡ list_of source
+        → NestedTurtle (chars (encode_utf8_all (nested context (list_of source) (shapes_of source)))) (map proper_triple (list_of source))
+    text_denotes rise is w once =
+        let fit : IsContext context = record { iris = λ p m. (rows.each p m).iri.is_iri; once = rising.once context rise } in
+        subst (λ (z : Chars). NestedTurtle z (map proper_triple (list_of source))) (sym (chars-encodes (nested context (list_of source) (shapes_of source)) nested_writable.scalars))
+        (nested_denotes context (list_of source) (shapes_of source) fit w once (have_shapes source is))

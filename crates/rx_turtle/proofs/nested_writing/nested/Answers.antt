@@ -1,0 +1,9 @@
+use Rattle.std.proofs.Common.{◌∙◌}
+use Rattle.rx_pieces.proofs.Sending.{holds_text}
+use Rattle.rx_turtle.proofs.nested_writing.nested.Goals as goal
+
+pub returns-in-Ok-clause-bytes : goal.returns-in-Ok-clause-bytes
+returns-in-Ok-clause-bytes c = c.into_bytes.ensures ∙ holds_text _ _ _ c.in_ok-whole.ensures c.in-Ok.ensures.ok
+
+pub returns-in-Ok-clause-denotes : goal.returns-in-Ok-clause-denotes
+returns-in-Ok-clause-denotes c = rw (c.into_bytes.ensures ∙ holds_text _ _ _ c.in_ok-whole.ensures c.in-Ok.ensures.ok) c.in-Ok.ensures.denotes

@@ -1,0 +1,85 @@
+//! Which prefixes the tokens of a text use.
+ghost use Rattle.std.specs.Prelude.{◌≡◌, [], ◌∷◌, true, IfOk, nat_eq};
+ghost use Rattle.rx_model.specs.Seen.{triples_seen};
+ghost use Rattle.rx_model.specs.Sets.{distinct};
+ghost use Rattle.rx_model.specs.Terms.{same_triple};
+ghost use Rattle.rx_graph.specs.Resources.{resource_seen};
+ghost use Rattle.rx_notation.specs.Laws.{IsWritable};
+ghost use Rattle.rx_notation.specs.Layout.{iris_of_node};
+ghost use Rattle.rx_notation.specs.Short.{names_rise};
+ghost use Rattle.rx_turtle.specs.Nested.{iris_of_tokens, AreWritable};
+ghost use Rattle.rx_turtle.specs.Tokens.{token_seen, iris_of_verb, iris_of_shown};
+ghost use Rattle.rx_turtle.specs.Uses.{marked_all, unmarked};
+
+use crate::shorts::Shorts;
+use crate::tokens::Token;
+use crate::uses::{mark_iri, mark_kind, mark_predicate, unmarked};
+use crate::writable::{is_writable, is_writable_token};
+use rx_graph::{Graph, Resource};
+use rx_terms::NoMemory;
+use std::alloc::Global;
+
+/// For each prefix whether the tokens use it.
+pub(crate) fn token_marks(
+    alloc: Global,
+    tokens: &[Token],
+    shorts: &Shorts,
+) -> Result<Vec<bool>, NoMemory>
+    ensures marks { IfOk result (λ marks. marks.items ≡ marked_all shorts.now (unmarked shorts.now) (iris_of_tokens tokens.now)) }
+    ensures writable { IfOk result (λ marks. AreWritable tokens.now) }
+    ensures in_order { IfOk result (λ marks. names_rise shorts.now ≡ true) }
+{
+    let mut marks = unmarked(alloc, shorts)?;
+    mark_tokens(&mut marks, tokens, shorts);
+    Ok(marks)
+}
+
+fn mark_tokens(marks: &mut [bool], tokens: &[Token], shorts: &Shorts)
+    ensures marks { marks.new ≡ marked_all shorts.now marks.old (iris_of_tokens tokens.now) }
+    ensures writable { AreWritable tokens.now }
+{
+    for i in 0..tokens.len() {
+        let token = tokens[i];
+        mark_token(marks, token, shorts);
+        is_writable_token(token);
+    }
+}
+
+fn mark_token(marks: &mut [bool], token: Token, shorts: &Shorts)
+    ensures { marks.new ≡ marked_all shorts.now marks.old (iris_of_shown (token_seen token.entry)) }
+{
+    match token {
+        Token::Fixed(_words) => {}
+        Token::Noun(resource) => mark_noun(marks, resource, shorts),
+        Token::Verb(resource) => mark_verb(marks, resource, shorts),
+        Token::Quoted(literal) => mark_kind(marks, &literal.kind, shorts),
+    }
+}
+
+fn mark_noun(marks: &mut [bool], resource: Resource, shorts: &Shorts)
+    ensures { marks.new ≡ marked_all shorts.now marks.old (iris_of_node (resource_seen resource.entry)) }
+{
+    match resource {
+        Resource::Iri(iri) => mark_iri(marks, iri, shorts),
+        Resource::Blank(_blank) => {}
+    }
+}
+
+fn mark_verb(marks: &mut [bool], resource: Resource, shorts: &Shorts)
+    ensures { marks.new ≡ marked_all shorts.now marks.old (iris_of_verb (resource_seen resource.entry)) }
+{
+    match resource {
+        Resource::Iri(iri) => mark_predicate(marks, iri, shorts),
+        Resource::Blank(_blank) => {}
+    }
+}
+
+/// What every graph is: its triples can be written, and each stands once.
+pub(crate) fn is_graph(graph: &Graph)
+    ensures writable { IsWritable (triples_seen graph.now) }
+    ensures once { distinct (same_triple nat_eq) (triples_seen graph.now) ≡ triples_seen graph.now }
+{
+    for i in 0..graph.len() {
+        is_writable(graph.at(i));
+    }
+}
