@@ -1,0 +1,9 @@
+pub mod OneDocument
+pub mod Flat
+pub mod Cells
+pub mod Parts
+pub mod Entries
+pub mod Docs
+pub mod Denotes
+pub mod PlaceLemmas
+pub mod MemberLemmas

@@ -1,0 +1,221 @@
+-- What is said of a node, as a document has it.
+use Rattle.std.proofs.Common.{◌≡◌, ◌∙◌, ℕ, suc, ◌+◌, Bool, true, false, ◌&&◌, ◌==◌, cond, List, [], ◌∷◌, ◌++◌, map, length, bytes_eq, Option, Some, None, refl, sym, ap, ap₂, inl, subst, true≢false, arith}
+use Rattle.std.specs.Fmt.{decimal}
+use Rattle.std.proofs.lemmas.Bool.Decides.{nat_tests}
+use Rattle.std.proofs.lemmas.List.{length-map}
+use Rattle.serde_json.specs.Data.{Data, array, no_items}
+use Rattle.serde_json.specs.View.{items_of}
+use Rattle.rx_terms.specs.Iri.{IsIri}
+use Rattle.rx_terms.specs.Text.{Chars}
+use Rattle.rx_terms.specs.Ascii.{colon, low_line}
+use Rattle.rx_model.specs.Sets.{Among}
+use Rattle.rx_model.specs.Terms.{Plain, Tagged, Typed, Node, Iri, Blank, Term, Resource, Literal, Triple}
+use Rattle.rx_model.specs.Copied.{spo}
+use Rattle.rx_model.specs.Numbered.{rename_node, rename_term, rename}
+use Rattle.rx_model.proofs.Sets.{and_right}
+use Rattle.rx_model.proofs.Exact.{exact_texts}
+use Rattle.rx_nquads.specs.Quads.{proper_term}
+use Rattle.rx_shapes.specs.Shapes.{rdf_first, rdf_rest, rdf_nil}
+use Rattle.rx_shapes.specs.declared.shapes.Shape.{Shape}
+use Rattle.rx_notation.specs.Laws.{proper_triple}
+use Rattle.rx_nested.specs.Laws.{HaveShapes}
+use Rattle.rx_jsonld.specs.Lists.{object_at, first_cell, cells_at, is_listed}
+use Rattle.rx_jsonld.specs.Value.{id_text, literal_members, term_value, list_value, item_by, item_value, is_empty_list, may_be_empty, object_by, object_value}
+use Rattle.rx_jsonld.specs.Document as doc
+use Rattle.rx_jsonld.specs.Document.{Item, Reference, Object, Single, Several, Entry, Id, Types, Says, SpellsEach, SpellsArray, SpellsText, SpellsItem, SpellsObject, SpellsEntry, SpellsEntries, id_in, ids}
+use Rattle.rx_jsonld.specs.Meaning.{label_in, cells_in, node_by, node_of, term_of, list_node, list_triples, object_triples, Name, Label, Place}
+use Rattle.rx_jsonld.proofs.OneDocument.{label_is_no_iri}
+use Rattle.rx_jsonld.proofs.Cells.{node_after, item_found, Link, IsChain, cells_chain, cells_none, cells_begin, item_free, object_free}
+
+-- ---- names of nodes
+
+-- an IRI names no blank node
+no_label : (iri : Chars) → IsIri iri → label_in iri ≡ None
+no_label [] is = refl
+no_label (c ∷ []) is = refl
+no_label (c ∷ d ∷ text) is = go (c == low_line) refl
+  where
+    go : (b : Bool) → (c == low_line) ≡ b → label_in (c ∷ d ∷ text) ≡ None
+    go true e = let same : c ≡ 95 = grind (arith, nat_tests, e) in label_is_no_iri (d ∷ text) (subst (λ z. IsIri (z ∷ d ∷ text)) same is)
+    go false e = ap (λ b. cond {A = Option Chars} (b && d == colon) (Some text) None) e
+
+-- ---- names by place
+
+-- the numbers have these places, from one on
+abbrev pub Stands : (ℕ → Name) → ℕ → List ℕ → Type 0
+Stands names n [] = Unit {0}
+Stands names n (b ∷ more) = (names b ≡ Place n) × Stands names (suc n) more
+
+pub stands_front : (names : ℕ → Name) (n : ℕ) (xs ys : List ℕ) → Stands names n (xs ++ ys) → Stands names n xs
+stands_front names n [] ys h = tt
+stands_front names n (x ∷ xs) ys h = (h.0, stands_front names (suc n) xs ys h.1)
+
+pub stands_behind : (names : ℕ → Name) (n : ℕ) (xs ys : List ℕ) → Stands names n (xs ++ ys) → Stands names (n + length xs) ys
+stands_behind names n [] ys h = let e : n ≡ n + 0 = omega arith in subst (λ k. Stands names k ys) e h
+stands_behind names n (x ∷ xs) ys h = let e : suc n + length xs ≡ n + suc (length xs) = omega arith in subst (λ k. Stands names k ys) e (stands_behind names (suc n) xs ys h.1)
+
+-- the label of a number
+abbrev pub label_of : ℕ → Name
+label_of b = Label (98 ∷ decimal b)
+
+module _ (list : List (Triple ℕ)) (shapes : ℕ → Shape) where
+  -- nodes that aren't listed are named by their labels
+  pub record Naming (names : ℕ → Name) : Type 0 where
+    pub free : (b : ℕ) → is_listed shapes list (Blank b) ≡ false → names b ≡ label_of b
+
+  abbrev pub FreeNode : Node ℕ → Type 0
+  FreeNode (Iri iri) = IsIri iri
+  FreeNode (Blank b) = is_listed shapes list (Blank b) ≡ false
+
+  abbrev pub FreeTerm : Term ℕ → Type 0
+  FreeTerm (Resource node) = FreeNode node
+  FreeTerm (Literal text kind) = Unit {0}
+
+  pub node_named : (names : ℕ → Name) → Naming names → (node : Node ℕ) → FreeNode node → node_of Label Place (id_text node) ≡ rename_node names node
+  node_named names naming (Iri iri) h = ap (node_by Label Place iri) (no_label iri h)
+  node_named names naming (Blank b) h = ap Blank (sym (naming.free b h))
+
+  -- ---- terms
+
+  abbrev pub item_doc : Term ℕ → Item
+  item_doc (Resource node) = Reference (id_text node)
+  item_doc (Literal text kind) = doc.Value text kind
+
+  item_spelled : (o : Term ℕ) → SpellsItem (term_value o) (item_doc o)
+  item_spelled (Resource node) = refl
+  item_spelled (Literal text Plain) = (literal_members text Plain, refl, refl)
+  item_spelled (Literal text (Tagged tag)) = (literal_members text (Tagged tag), refl, inl refl)
+  item_spelled (Literal text (Typed datatype)) = (literal_members text (Typed datatype), refl, inl refl)
+
+  item_named : (names : ℕ → Name) → Naming names → (o : Term ℕ) → FreeTerm o → term_of Label Place (item_doc o) ≡ rename_term names (proper_term o)
+  item_named names naming (Resource node) h = ap Resource (node_named names naming node h)
+  item_named names naming (Literal text kind) h = refl
+
+  -- ---- lists
+
+  abbrev some_term : Option (Term ℕ) → Term ℕ
+  some_term (Some o) = o
+  some_term None = Resource (Iri rdf_nil)
+
+  -- the item of a cell
+  abbrev pub item_at : ℕ → Term ℕ
+  item_at b = some_term (object_at list (Blank b) rdf_first)
+
+  abbrev items_doc : List ℕ → List Item
+  items_doc cells = map (λ b. item_doc (item_at b)) cells
+
+  -- the triples of cells, as they are read
+  abbrev pub cell_triples : List ℕ → List (Triple ℕ)
+  cell_triples [] = []
+  cell_triples (b ∷ more) = spo (Blank b) rdf_first (proper_term (item_at b)) ∷ spo (Blank b) rdf_rest (Resource (node_after more)) ∷ cell_triples more
+
+  pub item_is : (b : ℕ) (more : List ℕ) (l : Link list b more) → item_at b ≡ l.of.item
+  item_is b more l = ap some_term (item_found list b l.of)
+
+  items_spelled : (cells : List ℕ) → IsChain list cells → SpellsEach SpellsItem (items_of (map (item_value list) cells)) (items_doc cells)
+  items_spelled [] links = tt
+  items_spelled (b ∷ more) links =
+      let same : item_value list b ≡ term_value (item_at b) = ap item_by (item_found list b links.0.of) ∙ ap term_value (sym (item_is b more links.0)) in
+      (subst (λ (d : Data). SpellsItem d (item_doc (item_at b))) (sym same) (item_spelled (item_at b)), items_spelled more links.1)
+
+  list_spelled : (cells : List ℕ) → IsChain list cells → SpellsObject (list_value (map (item_value list) cells)) (Several (items_doc cells))
+  list_spelled cells links = (array (items_of (map (item_value list) cells)), refl, (items_of (map (item_value list) cells), refl, items_spelled cells links))
+
+  triple_path : {B : Type 0} (s s' : Node B) (p : Chars) (o o' : Term B) → s ≡ s' → o ≡ o' → spo s p o ≡ spo s' p o'
+  triple_path s s' p o o' e f = λ i. record { subject = e i; predicate = p; object = f i }
+
+  after_named : (names : ℕ → Name) (more : List ℕ) (n : ℕ) → Stands names n more → list_node Label Place (items_doc more) n ≡ rename_node names (node_after more)
+  after_named names [] n h = refl
+  after_named names (b ∷ more) n h = ap Blank (sym h.0)
+
+  -- the triples that come of a triple, as they are read: itself, and those of the cells that are listed there
+  abbrev pub told : Triple ℕ → List (Triple ℕ)
+  told t = proper_triple t ∷ cell_triples (cells_at shapes list t)
+
+  module _ (have : HaveShapes list shapes) (iris : (t : Triple ℕ) (iri : Chars) → Among list t → t.object ≡ Resource (Iri iri) → IsIri iri) where
+    cell_item_free : (b : ℕ) (more : List ℕ) (l : Link list b more) → FreeTerm (item_at b)
+    cell_item_free b more l = subst FreeTerm (sym (item_is b more l)) (go l.of.item refl)
+      where
+        go : (o : Term ℕ) → l.of.item ≡ o → FreeTerm o
+        go (Resource (Iri iri)) e = iris (spo (Blank b) rdf_first l.of.item) iri l.of.pair.first e
+        go (Resource (Blank c)) e = item_free list shapes have b c (subst (λ (o : Term ℕ). Among list (spo (Blank b) rdf_first o)) e l.of.pair.first)
+        go (Literal text kind) e = tt
+
+    list_named : (names : ℕ → Name) → Naming names → (cells : List ℕ) (n : ℕ) → IsChain list cells → Stands names n cells → list_triples Label Place (items_doc cells) n ≡ map (rename names) (cell_triples cells)
+    list_named names naming [] n links h = refl
+    list_named names naming (b ∷ more) n links h =
+        let here : Blank (Place n) ≡ rename_node names (Blank b) = ap Blank (sym h.0) in
+        let first = triple_path (Blank (Place n)) (rename_node names (Blank b)) rdf_first _ _ here (item_named names naming (item_at b) (cell_item_free b more links.0)) in
+        let rest = triple_path (Blank (Place n)) (rename_node names (Blank b)) rdf_rest _ _ here (ap Resource (after_named names more (suc n) h.1)) in
+        λ i. first i ∷ rest i ∷ list_named names naming more (suc n) links.1 h.1 i
+
+    -- ---- objects
+
+    -- the object of a triple, in a document
+    pub record ObjectDoc (t : Triple ℕ) : Type 0 where
+      pub object : Object
+      pub spelled : SpellsObject (object_value list shapes t) object
+      pub size : cells_in object ≡ length (cells_at shapes list t)
+      pub named : (names : ℕ → Name) → Naming names → (s : Node Name) (p : Chars) (n : ℕ) → Stands names n (cells_at shapes list t)
+          → object_triples Label Place s p object n ≡ spo s p (rename_term names (proper_term t.object)) ∷ map (rename names) (cell_triples (cells_at shapes list t))
+
+    pub free_object : (t : Triple ℕ) → Among list t → is_listed shapes list t.subject ≡ false → first_cell shapes t ≡ None → FreeTerm t.object
+    free_object t m free none = go t.object refl
+      where
+        go : (o : Term ℕ) → t.object ≡ o → FreeTerm o
+        go (Resource (Iri iri)) e = iris t iri m e
+        go (Resource (Blank b)) e = object_free list shapes have t b m e free none
+        go (Literal text kind) e = tt
+
+    list_object : (t : Triple ℕ) (h : ℕ) → first_cell shapes t ≡ Some h → ObjectDoc t
+    list_object t h e =
+        let cells : List ℕ = cells_at shapes list t in
+        let links : IsChain list cells = cells_chain list shapes have t in
+        record {
+          object = Several (items_doc cells);
+          spelled = subst (λ (d : Data). SpellsObject d (Several (items_doc cells))) (sym (ap (object_by list shapes t) e)) (list_spelled cells links);
+          size = length-map cells (λ b. item_doc (item_at b));
+          named = λ names naming s p n h'.
+              let begins : Resource (list_node Label Place (items_doc cells) n) ≡ rename_term names (proper_term t.object) =
+              ap Resource (after_named names cells n h') ∙ ap (λ o. rename_term names (proper_term o)) (cells_begin list shapes have t h e) in
+              λ i. triple_path s s p (Resource (list_node Label Place (items_doc cells) n)) (rename_term names (proper_term t.object)) refl begins i ∷ list_named names naming cells n links h' i;
+        }
+
+    empty_is_nil : (p : Chars) (o : Term ℕ) → is_empty_list p o ≡ true → o ≡ Resource (Iri rdf_nil)
+    empty_is_nil p (Resource (Iri iri)) e = ap (λ z. Resource (Iri z)) ((exact_texts iri rdf_nil).0 (and_right (may_be_empty p) (bytes_eq iri rdf_nil) e))
+    empty_is_nil p (Resource (Blank b)) e = absurd (true≢false (sym e))
+    empty_is_nil p (Literal text kind) e = absurd (true≢false (sym e))
+
+    plain_object : (t : Triple ℕ) → Among list t → is_listed shapes list t.subject ≡ false → first_cell shapes t ≡ None → ObjectDoc t
+    plain_object t m free none = go (is_empty_list t.predicate t.object) refl
+      where
+        no_cells : cells_at shapes list t ≡ []
+        no_cells = cells_none list shapes have t none
+
+        go : (b : Bool) → is_empty_list t.predicate t.object ≡ b → ObjectDoc t
+        go true e = record {
+          object = Several [];
+          spelled =
+              let is : object_value list shapes t ≡ list_value [] = ap (object_by list shapes t) none ∙ ap (λ b. cond b (list_value []) (term_value t.object)) e in
+              subst (λ (d : Data). SpellsObject d (Several [])) (sym is) (array no_items, refl, (no_items, refl, tt));
+          size = sym (ap length no_cells);
+          named = λ names naming s p n h.
+              let object : Resource (Iri rdf_nil) ≡ rename_term names (proper_term t.object) = sym (ap (λ o. rename_term names (proper_term o)) (empty_is_nil t.predicate t.object e)) in
+              ap₂ (λ o z. spo s p o ∷ map (rename names) (cell_triples z)) object (sym no_cells);
+        }
+        go false e = record {
+          object = Single (item_doc t.object);
+          spelled =
+              let is : object_value list shapes t ≡ term_value t.object = ap (object_by list shapes t) none ∙ ap (λ b. cond b (list_value []) (term_value t.object)) e in
+              subst (λ (d : Data). SpellsObject d (Single (item_doc t.object))) (sym is) (item_spelled t.object);
+          size = sym (ap length no_cells);
+          named = λ names naming s p n h.
+              ap₂ (λ o z. spo s p o ∷ map (rename names) (cell_triples z)) (item_named names naming t.object (free_object t m free none)) (sym no_cells);
+        }
+
+    pub object_doc : (t : Triple ℕ) → Among list t → is_listed shapes list t.subject ≡ false → ObjectDoc t
+    object_doc t m free = go (first_cell shapes t) refl
+      where
+        go : (o : Option ℕ) → first_cell shapes t ≡ o → ObjectDoc t
+        go (Some h) e = list_object t h e
+        go None e = plain_object t m free e

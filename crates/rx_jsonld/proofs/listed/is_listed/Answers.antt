@@ -1,0 +1,12 @@
+use Rattle.std.proofs.Common.{◌∙◌, ap, nat_eq}
+use Rattle.rx_model.specs.Sets.{contains}
+use Rattle.rx_model.specs.Terms.{same_node}
+use Rattle.rx_model.specs.Seen.{node_seen, triples_seen}
+use Rattle.rx_shapes.specs.Table.{shape_in}
+use Rattle.rx_jsonld.proofs.PlaceLemmas.{listed_found}
+use Rattle.rx_jsonld.proofs.listed.is_listed.Goals as goal
+
+pub returns : goal.returns
+returns c =
+    c.contains.ensures ∙ ap (contains (same_node nat_eq) c.args.cells.now) c.of_node.ensures
+    ∙ listed_found (shape_in c.args.shapes.now) (triples_seen c.args.graph.now) c.args.cells.now (node_seen c.args.node.now) c.requires

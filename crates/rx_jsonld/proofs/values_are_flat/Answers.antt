@@ -1,0 +1,5 @@
+use Rattle.rx_jsonld.proofs.Flat.{values_are_flat as law}
+use Rattle.rx_jsonld.proofs.values_are_flat.Goals as goal
+
+pub returns : goal.returns
+returns c = law

@@ -1,0 +1,27 @@
+-- What holds of the JSON-LD of a list of triples.
+use Rattle.std.specs.Prelude.{◌≡◌, ◌↔◌, ◌≤◌, ℕ, false, List, map, nat_eq}
+use Rattle.serde_json.specs.Data.{depth}
+use Rattle.serde_json.specs.Written.{has_float}
+use Rattle.rx_model.specs.Sets.{Among, distinct}
+use Rattle.rx_model.specs.Terms.{Triple, same_triple, set_of}
+use Rattle.rx_shapes.specs.declared.shapes.Shape.{Shape}
+use Rattle.rx_notation.specs.Laws.{IsWritable, proper_triple}
+use Rattle.rx_nested.specs.Laws.{HaveShapes}
+use Rattle.rx_jsonld.specs.Lists.{IsListed, listed}
+use Rattle.rx_jsonld.specs.Value.{jsonld}
+use Rattle.rx_jsonld.specs.Meaning.{JsonLd}
+
+-- law: the value of a list in which each triple stands once denotes the list's set, up to the names of blank nodes, its
+-- triples as they are read
+abbrev pub ValueDenotes : Type 0
+ValueDenotes = (list : List (Triple ℕ)) (shapes : ℕ → Shape) → IsWritable list → distinct (same_triple nat_eq) list ≡ list → HaveShapes list shapes
+    → JsonLd (jsonld list shapes) (map proper_triple list)
+
+-- law: at most six arrays and objects lie in each other, and no number is a float
+pub record ValuesAreFlat : Type 0 where
+  pub levels : (list : List (Triple ℕ)) (shapes : ℕ → Shape) → depth (jsonld list shapes) ≤ 6
+  pub no_float : (list : List (Triple ℕ)) (shapes : ℕ → Shape) → has_float (jsonld list shapes) ≡ false
+
+-- law: the cells that are listed, found along chains, are those of which the words say so
+abbrev pub ListsCells : Type 0
+ListsCells = (list : List (Triple ℕ)) (shapes : ℕ → Shape) → HaveShapes list shapes → (b : ℕ) → Among (listed shapes list) b ↔ IsListed (set_of list) b

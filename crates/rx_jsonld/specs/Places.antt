@@ -1,0 +1,53 @@
+-- What the code works out by the places of triples in a list.
+use Rattle.std.specs.Prelude.{ℕ, nat_eq, Bool, false, not, ◌&&◌, List, [], ◌∷◌, bytes_eq, slice_get, Option, Some, None, if◌then◌else◌}
+use Rattle.std.specs.Option.{option_or}
+use Rattle.serde_json.specs.Data.{Data, Members}
+use Rattle.rx_terms.specs.Text.{Chars}
+use Rattle.rx_model.specs.Terms.{Node, Blank, Term, Triple}
+use Rattle.rx_graph.specs.Resources.{node_added}
+use Rattle.rx_shapes.specs.Shapes.{rdf_first, rdf_rest}
+use Rattle.rx_shapes.specs.Places.{places_of}
+use Rattle.rx_shapes.specs.declared.shapes.Shape.{Shape}
+use Rattle.rx_jsonld.specs.declared.chains.Part.{Part}
+use Rattle.rx_jsonld.specs.declared.chains.Part.TheVariants as part
+use Rattle.rx_jsonld.specs.Lists.{is_listed}
+use Rattle.rx_jsonld.specs.Value.{with_said, node_value}
+
+-- the predicate of a part of a cell
+abbrev pub predicate_of : Part → Chars
+predicate_of part.Item = rdf_first
+predicate_of part.Rest = rdf_rest
+
+-- the object of a triple that has this predicate
+abbrev pub object_if : Option (Triple ℕ) → Chars → Option (Term ℕ)
+object_if (Some t) predicate = if bytes_eq t.predicate predicate then Some t.object else None
+object_if None predicate = None
+
+-- the first object of the predicate among the triples at these places
+abbrev pub object_among : List (Triple ℕ) → List ℕ → Chars → Option (Term ℕ)
+object_among list [] predicate = None
+object_among list (place ∷ more) predicate = option_or (object_if (slice_get list place) predicate) (object_among list more predicate)
+
+-- the nodes, and the blank nodes of these numbers that aren't there yet
+abbrev pub nodes_added : List (Node ℕ) → List ℕ → List (Node ℕ)
+nodes_added nodes [] = nodes
+nodes_added nodes (b ∷ more) = nodes_added (node_added nodes (Blank b)) more
+
+-- the place is the first one
+abbrev pub starts : List ℕ → ℕ → Bool
+starts [] place = false
+starts (first ∷ more) place = nat_eq first place
+
+module _ (list : List (Triple ℕ)) (shapes : ℕ → Shape) where
+  -- the members with what the triples at these places say
+  abbrev pub with_found : Option (Triple ℕ) → Members → Members
+  with_found (Some t) members = with_said list shapes t members
+  with_found None members = members
+
+  abbrev pub with_places : List ℕ → Members → Members
+  with_places [] members = members
+  with_places (place ∷ more) members = with_places more (with_found (slice_get list place) members)
+
+  -- the node object that a triple at a place begins, where it is the first of its subject
+  abbrev pub node_at : ℕ → Node ℕ → List Data
+  node_at place subject = if starts (places_of nat_eq list subject) place && not (is_listed shapes list subject) then node_value list shapes subject ∷ [] else []

@@ -1,0 +1,182 @@
+//! Chains of cells, and which of them are listed.
+ghost use Rattle.std.specs.Prelude.{◌≡◌, length, map, option_map, IfOk, slice_get, bytes_eq};
+ghost use Rattle.rx_model.specs.Terms as model;
+ghost use Rattle.rx_model.specs.Seen.{node_seen, term_seen, triple_seen, triples_seen};
+ghost use Rattle.rx_shapes.specs.Shapes.{rdf_rest};
+ghost use Rattle.rx_shapes.specs.Table.{AreShapes, shape_in};
+ghost use Rattle.rx_jsonld.specs.Lists.{blank_in, cell_by, cell_listed, chain, first_cell, is_cell, is_cell_by, may_list, object_at};
+ghost use Rattle.rx_jsonld.specs.Places.{object_among, object_if, predicate_of};
+
+use crate::vocabulary::{is_first, is_rest, is_type};
+use rx_graph::Graph;
+use rx_shapes::{Shape, Shapes};
+use rx_terms::{Blank, Iri, NoMemory, Node, Term, Triple};
+use std::alloc::Global;
+
+/// What a cell has.
+#[derive(Clone, Copy)]
+pub(crate) enum Part {
+    /// Its item, by rdf:first.
+    Item,
+    /// The cells behind it, by rdf:rest.
+    Rest,
+}
+
+// ---- which chains are listed
+
+/// The first cell of the chain that is listed where it is the triple's object.
+pub(crate) fn first_cell(shapes: &Shapes, triple: &Triple) -> Option<Blank>
+    ensures { option_map (λ b. b.0) result ≡ first_cell (shape_in shapes.now) (triple_seen triple.now) }
+{
+    cell_by(
+        shapes,
+        may_list(shapes, &triple.subject, &triple.predicate),
+        &triple.object,
+    )
+}
+
+fn cell_by(shapes: &Shapes, may: bool, object: &Term) -> Option<Blank>
+    ensures { option_map (λ b. b.0) result ≡ cell_by (shape_in shapes.now) may (term_seen object.now) }
+{
+    match object {
+        Term::Iri(_iri) => None,
+        Term::Blank(blank) => cell_listed(shapes, may, *blank),
+        Term::Literal(_literal) => None,
+    }
+}
+
+fn cell_listed(shapes: &Shapes, may: bool, blank: Blank) -> Option<Blank>
+    ensures { option_map (λ b. b.0) result ≡ cell_listed (shape_in shapes.now) may blank.0 }
+{
+    if may && is_cell_number(shapes, blank) {
+        Some(blank)
+    } else {
+        None
+    }
+}
+
+/// Whether a subject and a predicate may have a list.
+fn may_list(shapes: &Shapes, subject: &Node, predicate: &Iri) -> bool
+    ensures { result ≡ may_list (shape_in shapes.now) (node_seen subject.now) predicate.now }
+{
+    !(is_cell(shapes, subject) && is_rest(predicate))
+        && (!is_first(predicate) && !is_type(predicate))
+}
+
+fn is_cell(shapes: &Shapes, node: &Node) -> bool
+    ensures { result ≡ is_cell (shape_in shapes.now) (node_seen node.now) }
+{
+    match node {
+        Node::Iri(_iri) => false,
+        Node::Blank(blank) => is_cell_number(shapes, *blank),
+    }
+}
+
+fn is_cell_number(shapes: &Shapes, blank: Blank) -> bool
+    ensures { result ≡ is_cell_by (shape_in shapes.now blank.0) }
+{
+    match shapes.shape(blank) {
+        Shape::Cell => true,
+        Shape::Inside => false,
+        Shape::Labelled => false,
+    }
+}
+
+// ---- the cells of a chain
+
+/// The cells from one on, each of which goes on to the next.
+pub(crate) fn chain(
+    alloc: Global,
+    graph: &Graph,
+    shapes: &Shapes,
+    first: Blank,
+) -> Result<Vec<Blank>, NoMemory>
+    requires { AreShapes (triples_seen graph.now) shapes.now }
+    ensures { IfOk result (λ cells. map (λ b. b.0) cells.items ≡ chain (triples_seen graph.now) (length (triples_seen graph.now)) first.0) }
+{
+    let mut cells = Vec::new(alloc);
+    let mut next = Some(first);
+    for _ in 0..graph.len() {
+        let Some(cell) = next else {
+            return Ok(cells);
+        };
+        let Ok(()) = cells.push(cell) else {
+            return Err(NoMemory);
+        };
+        next = cell_after(graph, shapes, cell);
+    }
+    Ok(cells)
+}
+
+fn cell_after(graph: &Graph, shapes: &Shapes, cell: Blank) -> Option<Blank>
+    requires { AreShapes (triples_seen graph.now) shapes.now }
+    ensures { option_map (λ b. b.0) result ≡ blank_in (object_at (triples_seen graph.now) (model.Blank cell.0) rdf_rest) }
+{
+    blank_in(object_at(graph, shapes, cell, Part::Rest))
+}
+
+fn blank_in(object: Option<&Term>) -> Option<Blank>
+    ensures { option_map (λ b. b.0) result ≡ blank_in (option_map (λ o. term_seen o.now) object.entry) }
+{
+    match object {
+        Some(Term::Blank(blank)) => Some(*blank),
+        Some(Term::Iri(_iri)) => None,
+        Some(Term::Literal(_literal)) => None,
+        None => None,
+    }
+}
+
+/// The first object of a cell's predicate.
+pub(crate) fn object_at<'a>(
+    graph: &'a Graph,
+    shapes: &Shapes,
+    cell: Blank,
+    part: Part,
+) -> Option<&'a Term>
+    requires { AreShapes (triples_seen graph.now) shapes.now }
+    ensures { option_map (λ o. term_seen o.now) result ≡ object_at (triples_seen graph.now) (model.Blank cell.0) (predicate_of part) }
+{
+    let node = Node::Blank(cell);
+    let found = object_among(graph, shapes.places(&node), part);
+    drop(node);
+    found
+}
+
+fn object_among<'a>(graph: &'a Graph, places: &[usize], part: Part) -> Option<&'a Term>
+    ensures { option_map (λ o. term_seen o.now) result ≡ object_among (triples_seen graph.now) places.now (predicate_of part) }
+{
+    for place in places {
+        if let Some(object) = object_if(graph, *place, part) {
+            return Some(object);
+        }
+    }
+    None
+}
+
+fn object_if<'a>(graph: &'a Graph, place: usize, part: Part) -> Option<&'a Term>
+    ensures { option_map (λ o. term_seen o.now) result ≡ object_if (slice_get (triples_seen graph.now) place) (predicate_of part) }
+{
+    if place >= graph.len() {
+        return None;
+    }
+    object_of(graph.at(place), part)
+}
+
+fn object_of(triple: &Triple, part: Part) -> Option<&Term>
+    ensures { option_map (λ o. term_seen o.now) result ≡ object_if (Some (triple_seen triple.now)) (predicate_of part) }
+{
+    if has_part(triple, part) {
+        Some(&triple.object)
+    } else {
+        None
+    }
+}
+
+fn has_part(triple: &Triple, part: Part) -> bool
+    ensures { result ≡ bytes_eq triple.now.predicate (predicate_of part) }
+{
+    match part {
+        Part::Item => is_first(&triple.predicate),
+        Part::Rest => is_rest(&triple.predicate),
+    }
+}

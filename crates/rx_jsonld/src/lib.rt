@@ -1,0 +1,53 @@
+//! JSON-LD: the value of a graph in expanded and flattened form, and what such a value denotes.
+//!
+//! Definitions are in `specs/`.
+#![tactic(auto)]
+
+ghost use Rattle.rx_jsonld.specs.Document.{SpellsOne};
+ghost use Rattle.rx_jsonld.specs.Laws.{ListsCells, ValueDenotes, ValuesAreFlat};
+ghost use Rattle.rx_jsonld.specs.Meaning.{DenotesOne};
+ghost use Rattle.rx_jsonld.specs.Rows.{RowsHold};
+
+mod chains;
+mod listed;
+mod members;
+mod nodes;
+mod objects;
+mod terms;
+mod values;
+mod vocabulary;
+mod writable;
+
+pub use values::value;
+
+/// The worked examples hold.
+pub fn rows_hold()
+    ensures { RowsHold }
+{}
+
+/// A value is that of at most one document.
+pub fn a_value_spells_one()
+    ensures { SpellsOne }
+{}
+
+/// Two graphs that one value denotes differ in the names of blank nodes alone.
+pub fn a_value_denotes_one()
+    ensures { DenotesOne }
+{}
+
+/// At most six arrays and objects of a list's value lie in each other, and no number in it is a float.
+pub fn values_are_flat()
+    ensures { ValuesAreFlat }
+{}
+
+/// The value of a list in which each triple stands once denotes the list's set up to the names of blank nodes, but that a
+/// literal that is typed xsd:string is read as the plain one.
+pub fn a_value_denotes_its_triples()
+    ensures { ValueDenotes }
+{}
+
+/// The cells that are listed are those of which the words say so: whose chain's first cell is the object of a triple whose
+/// predicate is neither rdf:first nor rdf:type.
+pub fn cells_are_listed()
+    ensures { ListsCells }
+{}

@@ -1,0 +1,97 @@
+//! Values under their keys, in the order of the keys' bytes.
+ghost use Rattle.std.specs.Prelude.{◌≡◌, [], ◌∷◌, ◌++◌, IfOk, OnOk, None};
+ghost use Rattle.std.specs.BTreeMap.{get_by_text};
+ghost use Rattle.serde_json.specs.Data.{array, item, no_items};
+ghost use Rattle.serde_json.specs.View.{view, members_view};
+ghost use Rattle.rx_jsonld.specs.Value.{behind, with_last};
+
+use rx_terms::NoMemory;
+use serde_json::{Map, Value};
+use std::alloc::Global;
+use std::mem;
+
+/// Puts a value behind those of its key.
+pub(crate) fn add_value(
+    alloc: Global,
+    members: &mut Map<String, Value>,
+    key: &str,
+    value: Value,
+) -> Result<(), NoMemory>
+    ensures { OnOk result (members_view members.new.entries ≡ with_last key.now (view value) (members_view members.old.entries)) }
+{
+    match members.get_mut(key) {
+        Some(values) => push_value(alloc, values, value),
+        None => start_values(alloc, members, key, value),
+    }
+}
+
+/// The values of a key that has none yet.
+fn start_values(
+    alloc: Global,
+    members: &mut Map<String, Value>,
+    key: &str,
+    value: Value,
+) -> Result<(), NoMemory>
+    ensures { OnOk result (get_by_text members.old key.now ≡ None → members_view members.new.entries ≡ with_last key.now (view value) (members_view members.old.entries)) }
+{
+    let key = String::from_str(alloc, key)?;
+    let values = one_value(alloc, value)?;
+    match members.insert(key, values) {
+        Ok(replaced) => {
+            drop(replaced);
+            Ok(())
+        }
+        Err(refused) => {
+            drop(refused);
+            Err(NoMemory)
+        }
+    }
+}
+
+/// Puts a value behind those of an array, in its place.
+fn push_value(alloc: Global, values: &mut Value, value: Value) -> Result<(), NoMemory>
+    ensures { OnOk result (view values.new ≡ behind (view value) (view values.old)) }
+{
+    let old = mem::replace(values, Value::Null);
+    let new = with_value(alloc, old, value)?;
+    drop(mem::replace(values, new));
+    Ok(())
+}
+
+/// An array with a value more at its end.
+fn with_value(alloc: Global, values: Value, value: Value) -> Result<Value, NoMemory>
+    ensures { IfOk result (λ new. view new ≡ behind (view value) (view values)) }
+{
+    match values {
+        Value::Array(mut list) => {
+            push_to(&mut list, value)?;
+            Ok(Value::Array(list))
+        }
+        other => {
+            drop(other);
+            one_value(alloc, value)
+        }
+    }
+}
+
+/// A value more at the end.
+pub(crate) fn push_to(list: &mut Vec<Value>, value: Value) -> Result<(), NoMemory>
+    ensures { OnOk result (list.new.items ≡ list.old.items ++ value ∷ []) }
+{
+    match list.push(value) {
+        Ok(()) => Ok(()),
+        Err(refused) => {
+            drop(refused);
+            Err(NoMemory)
+        }
+    }
+}
+
+/// An array of one value.
+fn one_value(alloc: Global, value: Value) -> Result<Value, NoMemory>
+    ensures { IfOk result (λ values. view values ≡ array (item (view value) no_items)) }
+{
+    let mut list = Vec::new(alloc);
+    push_to(&mut list, value)?;
+    Ok(Value::Array(list))
+}

@@ -1,0 +1,147 @@
+//! The node objects of a graph.
+ghost use Rattle.std.specs.Prelude.{◌≡◌, ◌++◌, [], map, nat_eq, not, ◌&&◌, slice_get, IfOk, OnOk};
+ghost use Rattle.serde_json.specs.View.{members_view, view};
+ghost use Rattle.rx_model.specs.Seen.{node_seen, triples_seen};
+ghost use Rattle.rx_shapes.specs.Places.{places_of};
+ghost use Rattle.rx_shapes.specs.Table.{AreShapes, shape_in};
+ghost use Rattle.rx_jsonld.specs.Lists.{is_listed, listed};
+ghost use Rattle.rx_jsonld.specs.Places.{node_at, nodes_added, starts, with_found, with_places};
+ghost use Rattle.rx_jsonld.specs.Value.{node_value, tops};
+
+use crate::listed::is_listed;
+use crate::members::push_to;
+use crate::objects::add_said;
+use crate::terms::{id_value, members_with};
+use rx_graph::{Graph, Nodes, Resource};
+use rx_shapes::Shapes;
+use rx_terms::{NoMemory, Node};
+use serde_json::{Map, Value};
+use std::alloc::Global;
+
+/// The node objects, in order of first occurrence as a subject. The time is that of the graph's length, but for the order of
+/// keys.
+pub(crate) fn node_values(
+    alloc: Global,
+    graph: &Graph,
+    shapes: &Shapes,
+    cells: &Nodes,
+) -> Result<Vec<Value>, NoMemory>
+    requires shapes { AreShapes (triples_seen graph.now) shapes.now }
+    requires listed { cells.now ≡ nodes_added [] (listed (shape_in shapes.now) (triples_seen graph.now)) }
+    ensures { IfOk result (λ nodes. map view nodes.items ≡ map (node_value (triples_seen graph.now) (shape_in shapes.now)) (tops (triples_seen graph.now) (shape_in shapes.now))) }
+{
+    let mut nodes = Vec::new(alloc);
+    for i in 0..graph.len() {
+        let subject = &graph.at(i).subject;
+        add_node(alloc, graph, shapes, cells, i, subject, &mut nodes)?;
+    }
+    Ok(nodes)
+}
+
+/// Adds the node object of a triple's subject, where this is the subject's first triple and it is no listed cell.
+fn add_node(
+    alloc: Global,
+    graph: &Graph,
+    shapes: &Shapes,
+    cells: &Nodes,
+    place: usize,
+    subject: &Node,
+    nodes: &mut Vec<Value>,
+) -> Result<(), NoMemory>
+    requires shapes { AreShapes (triples_seen graph.now) shapes.now }
+    requires listed { cells.now ≡ nodes_added [] (listed (shape_in shapes.now) (triples_seen graph.now)) }
+    ensures { OnOk result (map view nodes.new.items ≡ map view nodes.old.items ++ node_at (triples_seen graph.now) (shape_in shapes.now) place (node_seen subject.now)) }
+{
+    if !begins_node(graph, shapes, cells, place, subject) {
+        return Ok(());
+    }
+    let node = node_value(alloc, graph, shapes, subject)?;
+    push_to(nodes, node)
+}
+
+fn begins_node(graph: &Graph, shapes: &Shapes, cells: &Nodes, place: usize, subject: &Node) -> bool
+    requires shapes { AreShapes (triples_seen graph.now) shapes.now }
+    requires listed { cells.now ≡ nodes_added [] (listed (shape_in shapes.now) (triples_seen graph.now)) }
+    ensures { result ≡ (starts (places_of nat_eq (triples_seen graph.now) (node_seen subject.now)) place && not (is_listed (shape_in shapes.now) (triples_seen graph.now) (node_seen subject.now))) }
+{
+    starts(shapes.places(subject), place) && !is_listed(graph, shapes, cells, subject)
+}
+
+fn starts(places: &[usize], place: usize) -> bool
+    ensures { result ≡ starts places.now place }
+{
+    match places {
+        [first, ..] => *first == place,
+        [] => false,
+    }
+}
+
+// ---- one node object
+
+fn node_value(
+    alloc: Global,
+    graph: &Graph,
+    shapes: &Shapes,
+    subject: &Node,
+) -> Result<Value, NoMemory>
+    requires { AreShapes (triples_seen graph.now) shapes.now }
+    ensures { IfOk result (λ value. view value ≡ node_value (triples_seen graph.now) (shape_in shapes.now) (node_seen subject.now)) }
+{
+    let id = id_value(alloc, Resource::of_node(subject))?;
+    let members = members_with(alloc, "@id", id)?;
+    let members = with_places(alloc, graph, shapes, shapes.places(subject), members)?;
+    Ok(Value::Object(members))
+}
+
+/// The members with what the triples at these places say.
+fn with_places(
+    alloc: Global,
+    graph: &Graph,
+    shapes: &Shapes,
+    places: &[usize],
+    members: Map<String, Value>,
+) -> Result<Map<String, Value>, NoMemory>
+    requires { AreShapes (triples_seen graph.now) shapes.now }
+    ensures { IfOk result (λ new. members_view new.entries ≡ with_places (triples_seen graph.now) (shape_in shapes.now) places.now (members_view members.entries)) }
+{
+    let mut members = members;
+    match add_places(alloc, graph, shapes, places, &mut members) {
+        Ok(()) => Ok(members),
+        Err(NoMemory) => {
+            drop(members);
+            Err(NoMemory)
+        }
+    }
+}
+
+fn add_places(
+    alloc: Global,
+    graph: &Graph,
+    shapes: &Shapes,
+    places: &[usize],
+    members: &mut Map<String, Value>,
+) -> Result<(), NoMemory>
+    requires { AreShapes (triples_seen graph.now) shapes.now }
+    ensures { OnOk result (members_view members.new.entries ≡ with_places (triples_seen graph.now) (shape_in shapes.now) places.now (members_view members.old.entries)) }
+{
+    for place in places {
+        add_place(alloc, graph, shapes, *place, members)?;
+    }
+    Ok(())
+}
+
+fn add_place(
+    alloc: Global,
+    graph: &Graph,
+    shapes: &Shapes,
+    place: usize,
+    members: &mut Map<String, Value>,
+) -> Result<(), NoMemory>
+    requires { AreShapes (triples_seen graph.now) shapes.now }
+    ensures { OnOk result (members_view members.new.entries ≡ with_found (triples_seen graph.now) (shape_in shapes.now) (slice_get (triples_seen graph.now) place) (members_view members.old.entries)) }
+{
+    if place >= graph.len() {
+        return Ok(());
+    }
+    add_said(alloc, graph, shapes, graph.at(place), members)
+}

@@ -1,0 +1,124 @@
+//! What a triple says of its subject.
+ghost use Rattle.std.specs.Prelude.{◌≡◌, codes, encode_utf8_all, length, map, option_map, IfOk, OnOk};
+ghost use Rattle.serde_json.specs.View.{members_view, view};
+ghost use Rattle.rx_model.specs.Seen.{term_seen, triple_seen, triples_seen};
+ghost use Rattle.rx_graph.specs.Resources.{resource_seen};
+ghost use Rattle.rx_shapes.specs.Table.{AreShapes, shape_in};
+ghost use Rattle.rx_jsonld.specs.Value.{id_text, is_empty_list, item_value, list_value, may_be_empty, object_value, plain_value, string_of, type_of, with_last, with_said};
+ghost use Rattle.rx_jsonld.specs.Lists.{chain};
+
+use crate::chains::{chain, first_cell};
+use crate::members::add_value;
+use crate::terms::{empty_list_value, id_value, list_value, term_value};
+use crate::vocabulary::{is_first, is_nil, is_rest, is_type};
+use rx_graph::{Graph, Resource};
+use rx_shapes::Shapes;
+use rx_terms::{Blank, Iri, NoMemory, Term, Triple};
+use serde_json::{Map, Value};
+use std::alloc::Global;
+
+/// Adds what a triple says to the members of its subject's node object: a type, or an object under its predicate.
+pub(crate) fn add_said(
+    alloc: Global,
+    graph: &Graph,
+    shapes: &Shapes,
+    triple: &Triple,
+    members: &mut Map<String, Value>,
+) -> Result<(), NoMemory>
+    requires { AreShapes (triples_seen graph.now) shapes.now }
+    ensures { OnOk result (members_view members.new.entries ≡ with_said (triples_seen graph.now) (shape_in shapes.now) (triple_seen triple.now) (members_view members.old.entries)) }
+{
+    match type_of(triple) {
+        Some(node) => add_type(alloc, node, members),
+        None => add_object(alloc, graph, shapes, triple, members),
+    }
+}
+
+/// The node that the triple gives as a type.
+fn type_of(triple: &Triple) -> Option<Resource<'_>>
+    ensures { option_map resource_seen result ≡ type_of (triple_seen triple.now) }
+{
+    if is_type(&triple.predicate) {
+        Resource::of_term(&triple.object)
+    } else {
+        None
+    }
+}
+
+fn add_type(alloc: Global, node: Resource, members: &mut Map<String, Value>) -> Result<(), NoMemory>
+    ensures { OnOk result (members_view members.new.entries ≡ with_last (codes "@type") (string_of (id_text (resource_seen node.entry))) (members_view members.old.entries)) }
+{
+    let id = id_value(alloc, node)?;
+    add_value(alloc, members, "@type", id)
+}
+
+fn add_object(
+    alloc: Global,
+    graph: &Graph,
+    shapes: &Shapes,
+    triple: &Triple,
+    members: &mut Map<String, Value>,
+) -> Result<(), NoMemory>
+    requires { AreShapes (triples_seen graph.now) shapes.now }
+    ensures { OnOk result (members_view members.new.entries ≡ with_last (encode_utf8_all triple.now.predicate) (object_value (triples_seen graph.now) (shape_in shapes.now) (triple_seen triple.now)) (members_view members.old.entries)) }
+{
+    let value = object_value(alloc, graph, shapes, triple)?;
+    add_value(alloc, members, triple.predicate.as_str(), value)
+}
+
+/// The value of a triple's object: a list object where it is the first cell of a listed chain.
+fn object_value(
+    alloc: Global,
+    graph: &Graph,
+    shapes: &Shapes,
+    triple: &Triple,
+) -> Result<Value, NoMemory>
+    requires { AreShapes (triples_seen graph.now) shapes.now }
+    ensures { IfOk result (λ value. view value ≡ object_value (triples_seen graph.now) (shape_in shapes.now) (triple_seen triple.now)) }
+{
+    match first_cell(shapes, triple) {
+        Some(first) => chain_value(alloc, graph, shapes, first),
+        None => plain_value(alloc, &triple.predicate, &triple.object),
+    }
+}
+
+fn chain_value(
+    alloc: Global,
+    graph: &Graph,
+    shapes: &Shapes,
+    first: Blank,
+) -> Result<Value, NoMemory>
+    requires { AreShapes (triples_seen graph.now) shapes.now }
+    ensures { IfOk result (λ value. view value ≡ list_value (map (item_value (triples_seen graph.now)) (chain (triples_seen graph.now) (length (triples_seen graph.now)) first.0))) }
+{
+    let cells = chain(alloc, graph, shapes, first)?;
+    let value = list_value(alloc, graph, shapes, &cells)?;
+    Ok(value)
+}
+
+fn plain_value(alloc: Global, predicate: &Iri, object: &Term) -> Result<Value, NoMemory>
+    ensures { IfOk result (λ value. view value ≡ plain_value predicate.now (term_seen object.now)) }
+{
+    if is_empty_list(predicate, object) {
+        empty_list_value(alloc)
+    } else {
+        term_value(alloc, object)
+    }
+}
+
+/// Whether the object is rdf:nil and is written as a list of no items.
+fn is_empty_list(predicate: &Iri, object: &Term) -> bool
+    ensures { result ≡ is_empty_list predicate.now (term_seen object.now) }
+{
+    match object {
+        Term::Iri(iri) => may_be_empty(predicate) && is_nil(iri),
+        Term::Blank(_blank) => false,
+        Term::Literal(_literal) => false,
+    }
+}
+
+fn may_be_empty(predicate: &Iri) -> bool
+    ensures { result ≡ may_be_empty predicate.now }
+{
+    !is_first(predicate) && !is_rest(predicate)
+}
