@@ -31,10 +31,10 @@ use Rattle.rx_command.proofs.ReadLemmas.{unread_clean}
 use Rattle.rx_command.specs.Files.{ReadsFile, TakesOf, size_of}
 use Rattle.rx_command.specs.Contexts.{IsContextFile, IsFileOf, IsContext, HasContext, TakesContext, ReadsContext, context_size, is_context}
 use Rattle.rx_command.specs.Inputs.{PageText, PageRefused, JobText, JobRefused, TellsThat, WhereTold}
-use Rattle.rx_command.specs.Outcome.{IsAccepted, IsLacking, IsRight, TaskRefuses, ReadsTo, base_in, facts_in, syntax_in, aim_in, way_in, ok_line, text_as, format_text, DenotesAs, FormatDenotes}
+use Rattle.rx_command.specs.Outcome.{IsAccepted, IsLacking, IsRight, TaskRefuses, ReadsTo, base_in, facts_in, syntax_in, aim_in, way_in, ok_line, IsTextAs, IsFormatText, DenotesAs, FormatDenotes}
 use Rattle.rx_command.specs.Runs.{TakesFiles, StopsCleanly, page_limit}
 use Rattle.rx_command.specs.Ways.{extraction_of}
-use Rattle.rx_command.specs.Written.{form_in, form_text, FormDenotes, text_of, Denoted}
+use Rattle.rx_command.specs.Written.{form_in, IsFormText, FormDenotes, text_of, Denoted}
 use Rattle.rx_command.specs.declared.forms.Form.{Form}
 use Rattle.rx_command.specs.declared.outcomes.Outcome.{Outcome}
 use Rattle.rx_command.specs.declared.outcomes.Outcome.TheVariants as found
@@ -178,16 +178,20 @@ page_right syntax context name named done e x y c =
 
 -- a form writes what its format does
 module _ (graph : Option Chars) (context : Context) where
-  same_text : (f : Format) (list : List (Triple ℕ)) → form_text (form_in f graph context) list ≡ text_as f graph context list
-  same_text format.Nquads list = refl
-  same_text format.Turtle list = refl
+  same_text : (f : Format) (list : List (Triple ℕ)) (text : List ℕ) → IsFormText (form_in f graph context) list text → IsTextAs f graph context list text
+  same_text format.Nquads list text is = is
+  same_text format.Turtle list text is = is
+  same_text format.Nested list text is = is
+  same_text format.Jsonld list text is = is
 
-  same_meaning : (f : Format) (text : Chars) (triples : List (Triple ℕ)) → FormDenotes (form_in f graph context) text triples → DenotesAs f graph text triples
+  same_meaning : (f : Format) (text : List ℕ) (triples : List (Triple ℕ)) → FormDenotes (form_in f graph context) text triples → DenotesAs f graph text triples
   same_meaning format.Nquads text triples d = d
   same_meaning format.Turtle text triples d = d
+  same_meaning format.Nested text triples d = d
+  same_meaning format.Jsonld text triples d = d
 
 pub page_text : (e : Extraction) (context : Context) (name named : List ℕ) (form : Form) (outcome : Outcome) (list : List CodeTriple) → named ≡ name → form ≡ form_in e.format e.graph context
-    → text_of outcome ≡ encode_utf8_all (form_text form (numbered nat_eq (copied nat_eq (triples_seen list)))) → (Denoted outcome → FormDenotes form (chars (text_of outcome)) (numbered nat_eq (copied nat_eq (triples_seen list))))
+    → IsFormText form (numbered nat_eq (copied nat_eq (triples_seen list))) (text_of outcome) → (Denoted outcome → FormDenotes form (text_of outcome) (numbered nat_eq (copied nat_eq (triples_seen list))))
     → (x y : Told) → ReadsWhole (GivesList e.syntax context e.address) named list x y → PageText (extracts e) context name outcome x y
 page_text e context name named form outcome list n f spelled denotes x y c =
     let triples : List (Triple ℕ) = written (base_in e.address c.gives.tree) (facts_in context c.gives.tree) in
@@ -200,19 +204,18 @@ page_text e context name named form outcome list n f spelled denotes x y c =
         tree = c.gives.tree;
         is = is;
         spelled =
-            spelled
-            ∙ (ap (λ (k : Form). encode_utf8_all (form_text k (numbered nat_eq (copied nat_eq (triples_seen list))))) f
-            ∙ (ap encode_utf8_all (same_text e.graph context e.format (numbered nat_eq (copied nat_eq (triples_seen list))))
-            ∙ ap (λ ts. encode_utf8_all (format_text e context ts)) made));
+            subst (λ ts. IsFormatText e context ts (text_of outcome)) made
+            (same_text e.graph context e.format (numbered nat_eq (copied nat_eq (triples_seen list))) (text_of outcome)
+            (subst (λ (k : Form). IsFormText k (numbered nat_eq (copied nat_eq (triples_seen list))) (text_of outcome)) f spelled));
       };
       graph = λ read. record {
         tree = c.gives.tree;
         is = is;
         triples = triples;
         denotes =
-            subst (λ ts. FormatDenotes e (chars (text_of outcome)) ts) made
-            (same_meaning e.graph context e.format (chars (text_of outcome)) (numbered nat_eq (copied nat_eq (triples_seen list)))
-            (subst (λ (k : Form). FormDenotes k (chars (text_of outcome)) (numbered nat_eq (copied nat_eq (triples_seen list)))) f (denotes read)));
+            subst (λ ts. FormatDenotes e (text_of outcome) ts) made
+            (same_meaning e.graph context e.format (text_of outcome) (numbered nat_eq (copied nat_eq (triples_seen list)))
+            (subst (λ (k : Form). FormDenotes k (text_of outcome) (numbered nat_eq (copied nat_eq (triples_seen list)))) f (denotes read)));
         renamed = written_denotes (base_in e.address c.gives.tree) (facts_in context c.gives.tree);
       };
       left = c.left;

@@ -3,7 +3,8 @@ pub mod Ways
 pub mod Files
 pub mod Contexts
 pub mod Outcome
-pub mod ItemTexts
+pub mod JsonTexts
+pub mod Shaped
 pub mod Written
 pub mod Inputs
 pub mod Runs

@@ -25,7 +25,12 @@ use Rattle.rx_nquads.specs.Document.{Nquads}
 use Rattle.rx_nquads.specs.Writing.{nquads}
 use Rattle.rx_notation.specs.Laws.{proper_triple}
 use Rattle.rx_notation.specs.Layout.{turtle}
-use Rattle.rx_notation.specs.Meaning.{Turtle}
+use Rattle.rx_notation.specs.Meaning.{Turtle, NestedTurtle}
+use Rattle.rx_shapes.specs.declared.shapes.Shape.{Shape}
+use Rattle.rx_nested.specs.Laws.{HaveShapes}
+use Rattle.rx_nested.specs.Nesting.{nested}
+use Rattle.rx_jsonld.specs.Value.{jsonld}
+use Rattle.rx_jsonld.specs.Meaning.{JsonLd}
 use Rattle.rx_microdata.specs.Json.{Given, Refused, outcome}
 use Rattle.rx_microdata.specs.Visits.{standard_bounds}
 use Rattle.serde_json.specs.Data.{Data}
@@ -49,36 +54,59 @@ facts_in context tree = with_facts context [] (tags_of tree)
 abbrev pub base_in : Chars → Tree → Chars
 base_in address tree = base_of (tags_of tree) address
 
--- the text of a list of triples in a format: quads of the graph of this name, or statements under the context's prefixes
-abbrev pub text_as : Format → Option Chars → Context → List (Triple ℕ) → Chars
-text_as format.Nquads graph context list = nquads list graph
-text_as format.Turtle graph context list = turtle context.prefixes list
+-- the text is that in which the triples' blank nodes are written where they are used, as far as their shapes allow
+pub record IsNestedText (context : Context) (list : List (Triple ℕ)) (text : List ℕ) : Type 0 where
+  pub shapes : ℕ → Shape
+  pub have : HaveShapes list shapes
+  pub spelled : text ≡ encode_utf8_all (nested context.prefixes list shapes)
 
--- the text of a list of triples that an extraction writes
-abbrev pub format_text : Extraction → Context → List (Triple ℕ) → Chars
-format_text e context list = text_as e.format e.graph context list
+-- the text is the compact JSON of the triples' JSON-LD, in which lists stand as far as the shapes allow, with LF
+pub record IsJsonldText (list : List (Triple ℕ)) (text : List ℕ) : Type 0 where
+  pub shapes : ℕ → Shape
+  pub have : HaveShapes list shapes
+  pub spelled : text ≡ compact_text (jsonld list shapes) ++ codes "\n"
+
+-- the text is that of a list of triples in a format: quads of the graph of this name, statements under the context's
+-- prefixes, or JSON-LD
+abbrev pub IsTextAs : Format → Option Chars → Context → List (Triple ℕ) → List ℕ → Type 0
+IsTextAs format.Nquads graph context list text = text ≡ encode_utf8_all (nquads list graph)
+IsTextAs format.Turtle graph context list text = text ≡ encode_utf8_all (turtle context.prefixes list)
+IsTextAs format.Nested graph context list text = IsNestedText context list text
+IsTextAs format.Jsonld graph context list text = IsJsonldText list text
+
+-- the text is what an extraction writes of a list of triples
+abbrev pub IsFormatText : Extraction → Context → List (Triple ℕ) → List ℕ → Type 0
+IsFormatText e context list text = IsTextAs e.format e.graph context list text
+
+-- the text is the compact JSON of a value that denotes exactly the triples, with LF
+pub record JsonDenotes (text : List ℕ) (triples : List (Triple ℕ)) : Type 0 where
+  pub value : Data
+  pub spelled : text ≡ compact_text value ++ codes "\n"
+  pub denotes : JsonLd value (map proper_triple triples)
 
 -- the text in a format denotes exactly the triples, in the graph of this name
-abbrev pub DenotesAs : Format → Option Chars → Chars → List (Triple ℕ) → Type 0
-DenotesAs format.Nquads graph text triples = Nquads text (quads triples graph)
-DenotesAs format.Turtle graph text triples = Turtle text (map proper_triple triples)
+abbrev pub DenotesAs : Format → Option Chars → List ℕ → List (Triple ℕ) → Type 0
+DenotesAs format.Nquads graph text triples = Nquads (chars text) (quads triples graph)
+DenotesAs format.Turtle graph text triples = Turtle (chars text) (map proper_triple triples)
+DenotesAs format.Nested graph text triples = NestedTurtle (chars text) (map proper_triple triples)
+DenotesAs format.Jsonld graph text triples = JsonDenotes text triples
 
 -- the text that an extraction writes denotes exactly the triples
-abbrev pub FormatDenotes : Extraction → Chars → List (Triple ℕ) → Type 0
+abbrev pub FormatDenotes : Extraction → List ℕ → List (Triple ℕ) → Type 0
 FormatDenotes e text triples = DenotesAs e.format e.graph text triples
 
 -- the text is that of the triples that RDFa's rules give the page's tree
 pub record HasText (e : Extraction) (context : Context) (bytes text : List ℕ) : Type 0 where
   pub tree : Tree
   pub is : IsAccepted e.syntax context bytes tree
-  pub spelled : text ≡ encode_utf8_all (format_text e context (written (base_in e.address tree) (facts_in context tree)))
+  pub spelled : IsFormatText e context (written (base_in e.address tree) (facts_in context tree)) text
 
 -- the text denotes exactly the graph that RDFa's rules give the page's tree, its blank nodes renamed one to one
 pub record Denotes (e : Extraction) (context : Context) (bytes text : List ℕ) : Type 0 where
   pub tree : Tree
   pub is : IsAccepted e.syntax context bytes tree
   pub triples : List (Triple ℕ)
-  pub denotes : FormatDenotes e (chars text) triples
+  pub denotes : FormatDenotes e text triples
   pub renamed : Renamed (graph_of (base_in e.address tree) (facts_in context tree)) (set_of triples)
 
 abbrev pub ok_line : List ℕ

@@ -1,16 +1,9 @@
 //! How triples are written.
-ghost use Rattle.std.specs.Prelude.{◌≡◌, option_map, IfOk, OnOk, IsErrOf, encode_utf8_all};
-ghost use Rattle.std.specs.Str.{chars};
-ghost use Rattle.rx_model.specs.Seen.{triples_seen};
-ghost use Rattle.rx_ports.specs.Counts.{Rose};
-ghost use Rattle.rx_ports.specs.Told.{Moves, GrowsBy, GrowsByPart};
-ghost use Rattle.rx_command.specs.Written.{form_in, form_text, FormDenotes};
+ghost use Rattle.std.specs.Prelude.{◌≡◌, option_map, IfOk};
+ghost use Rattle.rx_command.specs.Written.{form_in};
 
-use rx_graph::Graph;
 use rx_job::Format;
 use rx_names::Context;
-use rx_nquads::WriteError;
-use rx_ports::Sink;
 use rx_terms::{Iri, NoMemory};
 use std::alloc::Global;
 
@@ -21,6 +14,10 @@ pub(crate) enum Form {
     Nquads(Option<Iri>),
     /// As Turtle, under the prefixes of this context.
     Turtle(Context),
+    /// The same, with blank nodes and lists where they are used.
+    Nested(Context),
+    /// As JSON-LD.
+    Jsonld,
 }
 
 impl Form {
@@ -35,25 +32,8 @@ impl Form {
         match format {
             Format::Nquads => Ok(Form::Nquads(copied(graph)?)),
             Format::Turtle => Ok(Form::Turtle(context.try_clone(alloc)?)),
-        }
-    }
-
-    /// Writes the graph piece by piece. Memory is taken before the first byte is written.
-    pub(crate) fn write<O: Sink>(
-        &self,
-        alloc: Global,
-        graph: &Graph,
-        out: &mut O,
-    ) -> Result<(), WriteError>
-        ensures ok { OnOk result (Moves (GrowsBy (encode_utf8_all (form_text self.now (triples_seen graph.now)))) (O.held out.old) (O.held out.new)) }
-        ensures denoted { OnOk result (FormDenotes self.now (chars (encode_utf8_all (form_text self.now (triples_seen graph.now)))) (triples_seen graph.now)) }
-        ensures partly { IsErrOf result WriteError.Failed → Moves (GrowsByPart (encode_utf8_all (form_text self.now (triples_seen graph.now)))) (O.held out.old) (O.held out.new) }
-        ensures cause { IsErrOf result WriteError.Failed → Rose (O.faults out.old) (O.faults out.new) }
-        ensures untouched { IsErrOf result WriteError.NoMemory → out.new ≡ out.old }
-    {
-        match self {
-            Form::Nquads(name) => rx_nquads::write(alloc, graph, name.as_ref(), out),
-            Form::Turtle(context) => rx_turtle::write(alloc, graph, context, out),
+            Format::Nested => Ok(Form::Nested(context.try_clone(alloc)?)),
+            Format::Jsonld => Ok(Form::Jsonld),
         }
     }
 }

@@ -16,7 +16,7 @@ ghost use Rattle.rx_command.specs.Runs.{TakesFiles, StopsCleanly};
 use crate::errors::InputError;
 use crate::files::{ReadError, read_file};
 use crate::forms::Form;
-use crate::item_texts::text_of_items;
+use crate::json_texts::text_of_items;
 use crate::outcomes::Outcome;
 use crate::pages::{Approach, check_page, read_items, read_page};
 use rx_job::{Format, Job};
@@ -164,7 +164,7 @@ fn itemize<F: Shelf>(
     match text_of_items(alloc, &found) {
         Ok(text) => {
             drop(found);
-            Ok(Outcome::Items(text))
+            Ok(Outcome::Json(text))
         }
         Err(Stop::Fault(fault)) => {
             drop(found);

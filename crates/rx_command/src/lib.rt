@@ -11,11 +11,12 @@ mod errors;
 mod files;
 mod forms;
 mod inputs;
-mod item_texts;
+mod json_texts;
 mod outcomes;
 mod pages;
 mod readers;
 mod samples;
+mod shaped;
 mod statuses;
 mod top;
 

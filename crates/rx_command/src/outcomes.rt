@@ -1,18 +1,20 @@
 //! What a page gives, and writing it.
-ghost use Rattle.std.specs.Prelude.{◌≡◌, nat_eq, IfOk, OnOk, IsErrOf, encode_utf8_all};
-ghost use Rattle.std.specs.Str.{chars};
+ghost use Rattle.std.specs.Prelude.{◌≡◌, nat_eq, IfOk, OnOk, IsErrOf};
 ghost use Rattle.rx_model.specs.Copied.{copied};
 ghost use Rattle.rx_model.specs.Numbered.{numbered};
 ghost use Rattle.rx_model.specs.Seen.{triples_seen};
 ghost use Rattle.rx_ports.specs.Counts.{Rose};
 ghost use Rattle.rx_ports.specs.Told.{Moves, GrowsBy, GrowsByPart};
-ghost use Rattle.rx_command.specs.Written.{form_text, FormDenotes, text_of, Denoted};
+ghost use Rattle.rx_command.specs.Written.{IsFormText, FormDenotes, text_of, Denoted};
 
 use crate::forms::Form;
+use crate::json_texts::text_of_graph;
+use crate::shaped::Shaped;
 use rx_graph::{Graph, copy_patterns_owned, relabel_owned};
+use rx_names::Context;
 use rx_nquads::WriteError;
 use rx_ports::{Sink, put_all};
-use rx_terms::{NoMemory, TripleList};
+use rx_terms::{Iri, NoMemory, TripleList};
 use std::alloc::Global;
 
 /// What is written of a page that is right.
@@ -21,10 +23,14 @@ const RIGHT: &[u8] = b"ok\n";
 /// What a page gives.
 #[derive(Drop)]
 pub(crate) enum Outcome {
-    /// Its graph, and how that is written.
-    Triples { graph: Graph, form: Form },
-    /// Its items, as text.
-    Items(Vec<u8>),
+    /// Its graph, which is written as N-Quads and has this name, or none.
+    Quads { graph: Graph, name: Option<Iri> },
+    /// Its graph, which is written as Turtle under the context's prefixes.
+    Turtle { graph: Graph, context: Context },
+    /// The same, with blank nodes and lists where they are used.
+    Nested { shaped: Shaped, context: Context },
+    /// A text of JSON: its items, or its graph as JSON-LD.
+    Json(Vec<u8>),
     /// That it is a page, and none of its start tags is refused.
     Right,
 }
@@ -32,15 +38,28 @@ pub(crate) enum Outcome {
 impl Outcome {
     /// The graph of the triples, which is written in this form.
     pub(crate) fn of(alloc: Global, list: TripleList, form: Form) -> Result<Outcome, NoMemory>
-        ensures spelled { IfOk result (λ outcome. text_of outcome ≡ encode_utf8_all (form_text form (numbered nat_eq (copied nat_eq (triples_seen list))))) }
-        ensures denoted { IfOk result (λ outcome. Denoted outcome → FormDenotes form (chars (text_of outcome)) (numbered nat_eq (copied nat_eq (triples_seen list)))) }
+        ensures spelled { IfOk result (λ outcome. IsFormText form (numbered nat_eq (copied nat_eq (triples_seen list))) (text_of outcome)) }
+        ensures denoted { IfOk result (λ outcome. Denoted outcome → FormDenotes form (text_of outcome) (numbered nat_eq (copied nat_eq (triples_seen list)))) }
     {
         match graph_of(alloc, list) {
-            Ok(graph) => Ok(Outcome::Triples { graph, form }),
+            Ok(graph) => Outcome::of_graph(alloc, graph, form),
             Err(NoMemory) => {
                 drop(form);
                 Err(NoMemory)
             }
+        }
+    }
+
+    /// The graph, which is written in this form.
+    fn of_graph(alloc: Global, graph: Graph, form: Form) -> Result<Outcome, NoMemory>
+        ensures spelled { IfOk result (λ outcome. IsFormText form (triples_seen graph) (text_of outcome)) }
+        ensures denoted { IfOk result (λ outcome. Denoted outcome → FormDenotes form (text_of outcome) (triples_seen graph)) }
+    {
+        match form {
+            Form::Nquads(name) => Ok(Outcome::Quads { graph, name }),
+            Form::Turtle(context) => Ok(Outcome::Turtle { graph, context }),
+            Form::Nested(context) => nested_of(alloc, graph, context),
+            Form::Jsonld => json_of(alloc, graph),
         }
     }
 
@@ -53,10 +72,39 @@ impl Outcome {
         ensures untouched { IsErrOf result WriteError.NoMemory → out.new ≡ out.old }
     {
         match self {
-            Outcome::Triples { graph, form } => form.write(alloc, graph, out),
-            Outcome::Items(text) => write_whole(out, text.as_slice()),
+            Outcome::Quads { graph, name } => rx_nquads::write(alloc, graph, name.as_ref(), out),
+            Outcome::Turtle { graph, context } => rx_turtle::write(alloc, graph, context, out),
+            Outcome::Nested { shaped, context } => shaped.write(alloc, context, out),
+            Outcome::Json(text) => write_whole(out, text.as_slice()),
             Outcome::Right => write_whole(out, RIGHT),
         }
+    }
+}
+
+/// The graph, which is written as nested Turtle.
+fn nested_of(alloc: Global, graph: Graph, context: Context) -> Result<Outcome, NoMemory>
+    ensures spelled { IfOk result (λ outcome. IsFormText (Form.Nested context) (triples_seen graph) (text_of outcome)) }
+    ensures denoted { IfOk result (λ outcome. Denoted outcome → FormDenotes (Form.Nested context) (text_of outcome) (triples_seen graph)) }
+{
+    match Shaped::of(alloc, graph) {
+        Ok(shaped) => Ok(Outcome::Nested { shaped, context }),
+        Err(NoMemory) => {
+            drop(context);
+            Err(NoMemory)
+        }
+    }
+}
+
+/// The graph's text as JSON-LD.
+fn json_of(alloc: Global, graph: Graph) -> Result<Outcome, NoMemory>
+    ensures spelled { IfOk result (λ outcome. IsFormText Form.Jsonld (triples_seen graph) (text_of outcome)) }
+    ensures denoted { IfOk result (λ outcome. FormDenotes Form.Jsonld (text_of outcome) (triples_seen graph)) }
+{
+    let text = text_of_graph(alloc, &graph);
+    drop(graph);
+    match text {
+        Ok(text) => Ok(Outcome::Json(text)),
+        Err(NoMemory) => Err(NoMemory),
     }
 }
 

@@ -10,7 +10,7 @@ use Rattle.rx_terms.specs.Ascii.{hyphen}
 use Rattle.rx_terms.specs.Text.{Chars}
 use Rattle.rx_terms.specs.Iri.{is_iri}
 use Rattle.rx_job.specs.declared.formats.Format.{Format}
-use Rattle.rx_job.specs.declared.formats.Format.TheVariants.{Nquads, Turtle}
+use Rattle.rx_job.specs.declared.formats.Format.TheVariants.{Nquads, Turtle, Nested, Jsonld}
 
 -- an extraction: the syntax of the page, the format in which its triples are written, the name of the graph in which they
 -- stand, if any, and the page's address
@@ -140,19 +140,25 @@ syntax_of (Some name) = if is_word name (codes "html") then Some Html else (if i
 -- the format of this name, which is N-Quads where none is given
 abbrev pub format_of : Option Chars → Option Format
 format_of None = Some Nquads
-format_of (Some name) = if is_word name (codes "nquads") then Some Nquads else (if is_word name (codes "turtle") then Some Turtle else None)
+format_of (Some name) =
+    if is_word name (codes "nquads") then Some Nquads
+    else (if is_word name (codes "turtle") then Some Turtle
+    else (if is_word name (codes "nested") then Some Nested
+    else (if is_word name (codes "jsonld") then Some Jsonld else None)))
 
 -- a text in the format can name the graph in which its triples stand
 abbrev pub names_graphs : Format → Bool
 names_graphs Nquads = true
 names_graphs Turtle = false
+names_graphs Nested = false
+names_graphs Jsonld = false
 
 -- the graph has a name, which is an IRI and which the format can say, or it has none
 abbrev pub is_graph : Format → Option Chars → Bool
 is_graph format None = true
 is_graph format (Some name) = names_graphs format && is_iri name
 
--- `[--syntax html|xhtml] [--format nquads|turtle] [--graph IRI] [--context FILE] --base IRI PAGE`
+-- `[--syntax html|xhtml] [--format nquads|turtle|nested|jsonld] [--graph IRI] [--context FILE] --base IRI PAGE`
 abbrev pub extraction_with : Option Syntax → Option Format → Option Chars → Given → Option Asked
 extraction_with (Some syntax) (Some format) (Some address) words =
     if is_graph format words.graph && (is_iri address && are_names words.context words.last)

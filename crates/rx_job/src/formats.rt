@@ -9,8 +9,14 @@ use rx_terms::Text;
 /// A form in which triples are written.
 #[derive(Clone, Copy, Debug)]
 pub enum Format {
+    /// RDF 1.1 N-Quads.
     Nquads,
+    /// RDF 1.1 Turtle, each subject by itself.
     Turtle,
+    /// RDF 1.1 Turtle, with blank nodes and lists where they are used.
+    Nested,
+    /// JSON-LD 1.1, expanded and flattened.
+    Jsonld,
 }
 
 /// The format of this name, which is N-Quads where none is given.
@@ -26,6 +32,12 @@ pub(crate) fn format_of(name: Option<&Text>) -> Option<Format>
     if is_word(name, "turtle") {
         return Some(Format::Turtle);
     }
+    if is_word(name, "nested") {
+        return Some(Format::Nested);
+    }
+    if is_word(name, "jsonld") {
+        return Some(Format::Jsonld);
+    }
     None
 }
 
@@ -36,5 +48,7 @@ pub(crate) fn names_graphs(format: Format) -> bool
     match format {
         Format::Nquads => true,
         Format::Turtle => false,
+        Format::Nested => false,
+        Format::Jsonld => false,
     }
 }

@@ -1,7 +1,9 @@
 mod characters;
 mod devices;
 mod graphs;
+mod jsonld;
 mod lists;
+mod nested;
 mod nquads;
 mod references;
 mod shapes;

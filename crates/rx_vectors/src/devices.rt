@@ -9,7 +9,7 @@ use serde_json::Value;
 use std::alloc::Global;
 
 /// More bytes than any row writes.
-const ROOM: usize = 100_000;
+const ROOM: usize = 2_000_000;
 
 /// The words of a list of texts.
 pub(crate) fn words_of(alloc: Global, value: Option<&Value>) -> Result<Vec<Text>, RowError> {

@@ -3,7 +3,7 @@ use Rattle.rx_grammar.specs.declared.faults.Fault.{Fault}
 use Rattle.rx_ports.specs.Told.{Moves}
 use Rattle.rx_ports.proofs.MoveLemmas.{moves_weaker}
 use Rattle.rx_command.specs.declared.errors.InputError.TheVariants as error
-use Rattle.rx_command.specs.declared.outcomes.Outcome.TheVariants.{Items}
+use Rattle.rx_command.specs.declared.outcomes.Outcome.TheVariants.{Json}
 use Rattle.rx_job.specs.Words.{Itemization, itemizes}
 use Rattle.rx_command.specs.Reading.{for_items, way_for}
 use Rattle.rx_command.specs.Inputs.{PageText, PageRefused}
@@ -14,8 +14,8 @@ use Rattle.rx_command.proofs.inputs.itemize.Goals as goal
 pub returns-in-Ok-text_of_items-clause-ok : goal.returns-in-Ok-text_of_items-clause-ok
 returns-in-Ok-text_of_items-clause-ok g c context =
     let i : Itemization = record { syntax = c.args.syntax; address = c.args.address } in
-    moves_weaker (PageText (itemizes i) context (encode_utf8_all c.args.page.now) (Items c.in-Ok-text_of_items.text))
-    (λ x y r. page_items i context _ _ c.in-Ok.found (Items c.in-Ok-text_of_items.text) c.as_str.ensures.bytes c.in-Ok-text_of_items.ensures x y r) c.in-Ok.ensures.gives
+    moves_weaker (PageText (itemizes i) context (encode_utf8_all c.args.page.now) (Json c.in-Ok-text_of_items.text))
+    (λ x y r. page_items i context _ _ c.in-Ok.found (Json c.in-Ok-text_of_items.text) c.as_str.ensures.bytes c.in-Ok-text_of_items.ensures x y r) c.in-Ok.ensures.gives
 
 pub returns-in-Err-Fault-clause-refused : goal.returns-in-Err-Fault-clause-refused
 returns-in-Err-Fault-clause-refused g c context fault is =

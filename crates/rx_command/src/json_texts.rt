@@ -1,12 +1,16 @@
-//! The text of a page's items.
+//! Texts of JSON: of a page's items, and of a graph.
 ghost use Rattle.std.specs.Prelude.{◌≡◌, ◌++◌, IfOk, codes, false};
 ghost use Rattle.serde_json.specs.View.{view};
 ghost use Rattle.serde_json.specs.Written.{compact_text, has_float};
 ghost use Rattle.rx_terms.specs.Text.{Chars};
 ghost use Rattle.rx_grammar.specs.Trees.{Tree};
-ghost use Rattle.rx_command.specs.ItemTexts.{AreItems, JsonTextGives};
+ghost use Rattle.rx_model.specs.Seen.{triples_seen};
+ghost use Rattle.rx_command.specs.JsonTexts.{AreItems, JsonTextGives};
+ghost use Rattle.rx_command.specs.Outcome.{IsJsonldText, JsonDenotes};
 
+use rx_graph::Graph;
 use rx_items::Items;
+use rx_shapes::Shapes;
 use rx_terms::NoMemory;
 use rx_walk::Stop;
 use serde_json::Value;
@@ -30,6 +34,22 @@ pub(crate) fn text_of_items(alloc: Global, items: &Items) -> Result<Vec<u8>, Sto
             Err(Stop::NoMemory)
         }
     }
+}
+
+/// The compact JSON of the graph as JSON-LD, and a line feed.
+pub(crate) fn text_of_graph(alloc: Global, graph: &Graph) -> Result<Vec<u8>, NoMemory>
+    ensures spelled { IfOk result (λ text. IsJsonldText (triples_seen graph.now) text.items) }
+    ensures denotes { IfOk result (λ text. JsonDenotes text.items (triples_seen graph.now)) }
+{
+    let shapes = Shapes::of(alloc, graph)?;
+    let found = rx_jsonld::value(alloc, graph, &shapes);
+    drop(shapes);
+    let Ok(value) = found else {
+        return Err(NoMemory);
+    };
+    let text = text_of_value(alloc, &value);
+    drop(value);
+    text
 }
 
 /// The compact JSON of the value, and a line feed.

@@ -1,6 +1,6 @@
 use Rattle.rx_microdata.specs.Base.{base_in}
 use Rattle.rx_command.proofs.ItemLemmas.{json_text, json_stops}
-use Rattle.rx_command.proofs.item_texts.text_of_items.Goals as goal
+use Rattle.rx_command.proofs.json_texts.text_of_items.Goals as goal
 
 pub returns-in-Ok-text_of_value : goal.returns-in-Ok-text_of_value
 returns-in-Ok-text_of_value c address tree are = json_text address tree c.in-Ok.value c.in-Ok-text_of_value.text.items (c.in-Ok.ensures.tree tree (base_in address tree) are) c.in-Ok-text_of_value.ensures
