@@ -1,17 +1,20 @@
 #!/usr/bin/env python3
-"""Reads the Turtle of many pages with other readers, and compares it with the N-Quads of the same pages.
+"""Reads what the program writes of many pages with other readers, and compares it with the N-Quads of the same pages.
 
-    bench/turtle_readers.py PROGRAM [FORMAT]
+    bench/readers.py PROGRAM [FORMAT]
 
-PROGRAM is the built rdfax; FORMAT is turtle where none is named. It needs Debian's raptor2-utils (rapper) and
-python3-rdflib. The pages are the worked ones of crates/rx_vectors/data that give triples, and generated ones: 200 in all.
-Of each page the program's text in FORMAT is read by rapper and by rdflib, and each result has to be isomorphic to the
-program's N-Quads. It prints how many pages were compared, and each that differs. Status 0 if none does.
+PROGRAM is the built rdfax; FORMAT is turtle, nested or jsonld, and turtle where none is named. It needs Debian's
+raptor2-utils (rapper) and python3-rdflib. The pages are the worked ones of crates/rx_vectors/data that give triples, and
+generated ones: 200 in all. Of each page the program's text in FORMAT is read by rdflib and, but for JSON-LD, by rapper,
+and each result has to be isomorphic to the program's N-Quads. It prints how many pages were compared, and each that
+differs. Status 0 if none does. rdflib's reader of JSON-LD makes http:///g of the IRI http:g, which the JSON-LD
+algorithms don't, so that pages with such IRIs are left out there.
 """
 import glob
 import json
 import os
 import random
+import re
 import subprocess
 import sys
 import tempfile
@@ -83,13 +86,28 @@ def graph_of(data, form):
     return graph
 
 
+def is_misread(form, quads):
+    """Whether the reader of this form changes an IRI of these quads."""
+    return form == "jsonld" and re.search(rb"<https?:[^/]", quads) is not None
+
+
+def readings(form, text):
+    """What the readers make of the text in the file, as graphs; None where one refuses it."""
+    with open(text, "rb") as file:
+        data = file.read()
+    if form == "jsonld":
+        return [graph_of(data, "json-ld")]
+    by_rapper = run(["rapper", "-q", "-i", "turtle", "-o", "ntriples", text, "http://h.example/d"])
+    return [graph_of(data, "turtle"), None if by_rapper is None else graph_of(by_rapper, "nt")]
+
+
 def main():
     program = sys.argv[1]
     form = sys.argv[2] if len(sys.argv) > 2 else "turtle"
     compared = differing = 0
     with tempfile.TemporaryDirectory() as folder:
         page = os.path.join(folder, "page.html")
-        text = os.path.join(folder, "page.ttl")
+        text = os.path.join(folder, "text")
         worked = worked_pages()
         for content in worked + generated_pages(2 * PAGES):
             if compared == PAGES:
@@ -98,15 +116,12 @@ def main():
                 file.write(content)
             words = [program, "extract", "--base", "http://h.example/d", page]
             quads = run(words)
-            if not quads:
+            if not quads or is_misread(form, quads):
                 continue
-            turtle = run(words[:2] + ["--format", form] + words[2:])
             with open(text, "wb") as file:
-                file.write(turtle or b"")
+                file.write(run(words[:2] + ["--format", form] + words[2:]) or b"")
             expected = graph_of(quads, "nt")
-            by_rapper = run(["rapper", "-q", "-i", "turtle", "-o", "ntriples", text, "http://h.example/d"])
-            same = turtle is not None and by_rapper is not None
-            same = same and isomorphic(expected, graph_of(turtle, "turtle")) and isomorphic(expected, graph_of(by_rapper, "nt"))
+            same = all(found is not None and isomorphic(expected, found) for found in readings(form, text))
             compared += 1
             if not same:
                 differing += 1
