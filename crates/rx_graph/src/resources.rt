@@ -9,7 +9,7 @@ use crate::vocabulary::copies;
 use indexmap::IndexSet;
 use rx_terms::{Blank, Iri, NoMemory, Node, Term, Triple};
 use std::alloc::Global;
-use std::hash::{BuildHasherDefault, DefaultHasher};
+use std::hash::{BuildHasherDefault, FoldHasher};
 use std::marker::Model;
 
 /// A node, borrowed from a triple's subject or object.
@@ -45,7 +45,9 @@ impl<'a> Resource<'a> {
 /// Borrowed nodes in order of first appearance, each once. The number of each is its place. A contract sees the list.
 #[derive(Drop)]
 pub struct Nodes<'a> {
-    nodes: IndexSet<Resource<'a>, BuildHasherDefault<DefaultHasher>>,
+    // An IRI gives its SipHash, and a blank node its number, so a quick hash of these is enough: a page can't choose many
+    // nodes with one hash.
+    nodes: IndexSet<Resource<'a>, BuildHasherDefault<FoldHasher>>,
 }
 
 impl<'a> Model for Nodes<'a> {

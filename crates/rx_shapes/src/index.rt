@@ -8,14 +8,15 @@ use indexmap::IndexSet;
 use rx_graph::Graph;
 use rx_terms::{NoMemory, Node, Term, Triple};
 use std::alloc::Global;
-use std::hash::{BuildHasherDefault, DefaultHasher};
+use std::hash::{BuildHasherDefault, FoldHasher};
 use std::marker::Model;
 
 /// Nodes in order of first appearance, each once. The number of each is its place. A contract sees the list.
 #[derive(Drop)]
 pub(crate) struct Index {
-    // A page chooses these nodes. SipHash makes it hard to choose many with one hash.
-    nodes: IndexSet<Node, BuildHasherDefault<DefaultHasher>>,
+    // An IRI gives its SipHash, and a blank node its number, so a quick hash of these is enough: a page can't choose many
+    // nodes with one hash.
+    nodes: IndexSet<Node, BuildHasherDefault<FoldHasher>>,
 }
 
 impl Model for Index {
