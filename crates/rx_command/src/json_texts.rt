@@ -42,21 +42,25 @@ pub(crate) fn text_of_graph(alloc: Global, graph: &Graph) -> Result<Vec<u8>, NoM
     ensures denotes { IfOk result (λ text. JsonDenotes text.items (triples_seen graph.now)) }
 {
     let shapes = Shapes::of(alloc, graph)?;
-    let found = rx_jsonld::value(alloc, graph, &shapes);
+    let found = rx_jsonld::text(alloc, graph, &shapes);
     drop(shapes);
-    let Ok(value) = found else {
-        return Err(NoMemory);
-    };
-    let text = text_of_value(alloc, &value);
-    drop(value);
-    text
+    let text = ended(found?)?;
+    Ok(text)
 }
 
 /// The compact JSON of the value, and a line feed.
 fn text_of_value(alloc: Global, value: &Value) -> Result<Vec<u8>, NoMemory>
     ensures { IfOk result (λ text. has_float (view value.now) ≡ false → text.items ≡ compact_text (view value.now) ++ codes "\n") }
 {
-    let mut text = value.to_vec(alloc)?;
+    let text = ended(value.to_vec(alloc)?)?;
+    Ok(text)
+}
+
+/// The text, and a line feed.
+fn ended(text: Vec<u8>) -> Result<Vec<u8>, NoMemory>
+    ensures { IfOk result (λ line. line.items ≡ text.items ++ codes "\n") }
+{
+    let mut text = text;
     match text.push(b'\n') {
         Ok(()) => Ok(text),
         Err(_refused) => Err(NoMemory),

@@ -7,3 +7,4 @@ pub mod Docs
 pub mod Denotes
 pub mod PlaceLemmas
 pub mod MemberLemmas
+pub mod TextLemmas

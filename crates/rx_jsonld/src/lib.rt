@@ -14,10 +14,12 @@ mod members;
 mod nodes;
 mod objects;
 mod terms;
+mod texts;
 mod values;
 mod vocabulary;
 mod writable;
 
+pub use texts::text;
 pub use values::value;
 
 /// The worked examples hold.

@@ -59,7 +59,7 @@ fn add_node(
     push_to(nodes, node)
 }
 
-fn begins_node(graph: &Graph, shapes: &Shapes, cells: &Nodes, place: usize, subject: &Node) -> bool
+pub(crate) fn begins_node(graph: &Graph, shapes: &Shapes, cells: &Nodes, place: usize, subject: &Node) -> bool
     requires shapes { AreShapes (triples_seen graph.now) shapes.now }
     requires listed { cells.now ≡ nodes_added [] (listed (shape_in shapes.now) (triples_seen graph.now)) }
     ensures { result ≡ (starts (places_of nat_eq (triples_seen graph.now) (node_seen subject.now)) place && not (is_listed (shape_in shapes.now) (triples_seen graph.now) (node_seen subject.now))) }
@@ -78,7 +78,8 @@ fn starts(places: &[usize], place: usize) -> bool
 
 // ---- one node object
 
-fn node_value(
+/// The node object of a subject.
+pub(crate) fn node_value(
     alloc: Global,
     graph: &Graph,
     shapes: &Shapes,

@@ -8,7 +8,7 @@ ghost use Rattle.rx_many.specs.Numbering.{known_one, known};
 use indexmap::IndexSet;
 use rx_terms::{Blank, NoMemory, Node, Term, Triple};
 use std::alloc::Global;
-use std::hash::{BuildHasherDefault, DefaultHasher};
+use std::hash::{BuildHasherDefault, FoldHasher};
 use std::marker::Model;
 
 /// A blank node of a page, with the page's place.
@@ -18,8 +18,8 @@ pub(crate) struct PageBlank {
     blank: Blank,
 }
 
-// A page chooses in part which numbers these have. SipHash makes it hard to choose many with one hash.
-type PageBlanks = IndexSet<PageBlank, BuildHasherDefault<DefaultHasher>>;
+// A page's blank nodes have numbers in order, so a page can't choose many with one hash, however quick it is.
+type PageBlanks = IndexSet<PageBlank, BuildHasherDefault<FoldHasher>>;
 
 /// Blank nodes of pages in order of first occurrence. The number of each is its place. A contract sees the list.
 #[derive(Drop)]
