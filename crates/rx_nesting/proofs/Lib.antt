@@ -1,0 +1,4 @@
+pub mod DueLemmas
+pub mod SaidLemmas
+pub mod StepLemmas
+pub mod RunLemmas
