@@ -1,17 +1,15 @@
 -- Triples that are put into groups.
-use Rattle.std.proofs.Common.{◌≡◌, ◌∙◌, ℕ, zero, suc, ◌+◌, ◌<◌, ◌≤◌, Bool, true, false, ◌||◌, nat_eq, List, [], ◌∷◌, ◌++◌, map, filter, length, take, slice_get, slice_set, get_or, Result, Ok, Err, is_ok, is_err, Option, Some, None, option_map, Bor, refl, sym, ap, ap₂, true≢false, arith, append-nil, bytes_eq, if◌then◌else◌}
+use Rattle.std.proofs.Common.{◌≡◌, ◌∙◌, ℕ, zero, suc, ◌+◌, ◌<◌, ◌≤◌, Bool, true, false, ◌||◌, nat_eq, List, [], ◌∷◌, ◌++◌, map, filter, length, take, slice_get, slice_set, get_or, Result, Ok, Err, is_ok, is_err, Option, Some, None, option_map, Bor, refl, sym, ap, ap₂, true≢false, arith, append-nil, if◌then◌else◌}
 use Rattle.std.proofs.lemmas.List.{take_all, map-append}
 use Rattle.std.proofs.lemmas.List.Elements.{filter-append}
 use Rattle.rx_terms.specs.declared.triples.Triple.{Triple as CodeTriple}
 use Rattle.rx_model.specs.Sets.{contains, distinct}
-use Rattle.rx_model.specs.Terms.{Node, Iri, Triple, same_node}
+use Rattle.rx_model.specs.Terms.{Node, Triple, same_node}
 use Rattle.rx_model.specs.Seen.{triple_seen}
-use Rattle.rx_model.proofs.Exact.{exact_texts, exact_nodes, exact_numbers}
+use Rattle.rx_model.proofs.Exact.{exact_nodes, exact_numbers}
 use Rattle.rx_graph.specs.Resources.{resource_seen, node_added, number_in, AreDistinct}
-use Rattle.rx_graph.proofs.SetLemmas.{same_truth, distinct_apart, distinct_grows, one_more}
-use Rattle.rx_notation.specs.Layout.{about, predicates_of}
+use Rattle.rx_graph.proofs.SetLemmas.{same_truth, distinct_grows, one_more}
 use Rattle.rx_groups.specs.declared.groups.By.{By}
-use Rattle.rx_groups.specs.declared.groups.By.TheVariants as by
 use Rattle.rx_groups.specs.declared.groups.Group.{Group}
 use Rattle.rx_groups.specs.Groups.{Keyed, group_seen, key_by, has_key, keys_by, grouped, put_in, filed_in}
 
@@ -161,14 +159,8 @@ added_turn keys i key old new at turn before =
 pub added_end : (keys : List (Node ℕ)) (i : ℕ) (rows : List Keyed) → length keys ≤ i → rows ≡ map {B = Keyed} (λ k. (k, [])) (take i keys) → rows ≡ map {B = Keyed} (λ k. (k, [])) keys
 added_end keys i rows past h = h ∙ ap (map {B = Keyed} (λ k. (k, []))) (take_all i keys past)
 
--- ---- groups by predicate
+-- ---- lists that are looked at twice
 
 pub map_twice : {A B C : Type 0} (f : B → C) (g : A → B) (list : List A) → map f (map g list) ≡ map (λ a. f (g a)) list
 map_twice f g [] = refl
 map_twice f g (x ∷ list) = ap (λ z. f (g x) ∷ z) (map_twice f g list)
-
--- the predicates as keys
-pub keys_are : (list : List (Triple ℕ)) (s : Node ℕ) → keys_by by.Predicate (about list s) ≡ map {B = Node ℕ} (λ p. Iri p) (predicates_of list s)
-keys_are list s =
-    ap (distinct (same_node nat_eq)) (sym (map_twice {C = Node ℕ} (λ p. Iri p) (λ (t : Triple ℕ). t.predicate) (about list s)))
-    ∙ distinct_apart bytes_eq exact_texts (same_node nat_eq) (exact_nodes nat_eq exact_numbers) (λ p. Iri p) (map (λ (t : Triple ℕ). t.predicate) (about list s)) (λ x y m n e. cc)

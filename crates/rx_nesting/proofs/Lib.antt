@@ -1,3 +1,4 @@
+pub mod PredicateLemmas
 pub mod DueLemmas
 pub mod SaidLemmas
 pub mod StepLemmas

@@ -26,7 +26,8 @@ use Rattle.rx_groups.specs.Groups.{Keyed, has_key}
 use Rattle.rx_nesting.specs.Said.{first_of, object_with, said_of}
 use Rattle.rx_nesting.specs.Tokens.{Shown, Fixed, Noun, words_text, piece_of}
 use Rattle.rx_nesting.specs.Due.{Due, Say, Object, After, behind, parted, object_due, objects_due, line_due, lines_due, bracket_due, item_due, rest_due, iri_due, statement_due, cell_due, node_due, term_due, opened, AreCells, step_of, due_pieces}
-use Rattle.rx_groups.proofs.GroupLemmas.{map_twice, keys_are}
+use Rattle.rx_groups.proofs.GroupLemmas.{map_twice}
+use Rattle.rx_nesting.proofs.PredicateLemmas.{keys_are}
 
 -- ---- what is due comes to steps
 

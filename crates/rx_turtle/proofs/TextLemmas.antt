@@ -15,7 +15,8 @@ use Rattle.rx_groups.specs.Groups.{Keyed, has_key, keys_by, grouped}
 use Rattle.rx_turtle.specs.Written.{Said, said_by, plan, group_text, said_text, plan_text}
 use Rattle.rx_shorts.specs.Rows.{AreRows}
 use Rattle.rx_shorts.specs.Uses.{used_marks, chosen}
-use Rattle.rx_groups.proofs.GroupLemmas.{map_twice, keys_are}
+use Rattle.rx_groups.proofs.GroupLemmas.{map_twice}
+use Rattle.rx_nesting.proofs.PredicateLemmas.{keys_are}
 use Rattle.rx_shorts.proofs.ScalarLemmas.{turtle_writable}
 use Rattle.rx_shorts.proofs.UseLemmas.{chosen_used}
 
