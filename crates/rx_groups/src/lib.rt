@@ -1,8 +1,8 @@
 //! Triples in groups: those of one subject, or of one predicate, in order of first occurrence.
 #![tactic(auto)]
 
-mod borrowed;
 mod groups;
+mod lent;
 
-pub use borrowed::borrowed;
 pub use groups::{By, Groups};
+pub use lent::borrowed;
