@@ -12,12 +12,7 @@ use rx_pieces::{Pieces, push};
 use rx_ports::Sink;
 
 /// Adds a line for each prefix that has a mark, and an empty line behind the last one.
-pub fn push_prefixes<S: Sink>(
-    out: &mut Pieces,
-    sink: &mut S,
-    shorts: &Shorts,
-    marks: &[bool],
-)
+pub fn push_prefixes<S: Sink>(out: &mut Pieces, sink: &mut S, shorts: &Shorts, marks: &[bool])
     requires { length marks.now ≡ length shorts.now }
     ensures { Adds (delivery out.old (S.held sink.old) (S.faults sink.old)) (delivery out.new (S.held sink.new) (S.faults sink.new)) (prefixes_text (chosen marks.now shorts.now)) }
 {

@@ -1,5 +1,5 @@
 //! Short forms of IRIs under a context's prefixes.
-ghost use Rattle.std.specs.Prelude.{◌≡◌, ◌<◌, ◌∷◌, length, true, IfOk, OnOk, MatchOption, None, Some, slice_get, ℕ, drop, encode_utf8_all};
+ghost use Rattle.std.specs.Prelude.{◌≡◌, ◌<◌, length, true, IfOk, OnOk, MatchOption, None, Some, slice_get, ℕ, drop, encode_utf8_all};
 ghost use Rattle.std.specs.Str.{chars};
 ghost use Rattle.rx_terms.specs.Iri.{IsIri};
 ghost use Rattle.rx_terms.specs.Text.{begins_with};

@@ -1,9 +1,8 @@
 //! How terms are written, each IRI in its short form where it has one.
-ghost use Rattle.std.specs.Prelude.{◌≡◌, ◌++◌, codes, Some};
+ghost use Rattle.std.specs.Prelude.{◌++◌, codes};
 ghost use Rattle.rx_model.specs.Seen.{kind_seen, term_seen};
 ghost use Rattle.rx_graph.specs.Resources.{resource_seen};
-ghost use Rattle.rx_notation.specs.Short.{prefix_of};
-ghost use Rattle.rx_notation.specs.Layout.{iri_by, short_iri, resource_text, verb_text, suffix_text, object_text};
+ghost use Rattle.rx_notation.specs.Layout.{short_iri, resource_text, verb_text, suffix_text, object_text};
 ghost use Rattle.rx_pieces.specs.Writing.{blank_text, string_text};
 ghost use Rattle.rx_pieces.specs.Underway.{delivery};
 ghost use Rattle.rx_pieces.specs.Writable.{Adds};
@@ -34,12 +33,7 @@ pub(crate) fn push_iri<S: Sink>(out: &mut Pieces, sink: &mut S, shorts: &Shorts,
 }
 
 /// Adds a subject.
-pub fn push_resource<S: Sink>(
-    out: &mut Pieces,
-    sink: &mut S,
-    shorts: &Shorts,
-    resource: Resource,
-)
+pub fn push_resource<S: Sink>(out: &mut Pieces, sink: &mut S, shorts: &Shorts, resource: Resource)
     ensures { Adds (delivery out.old (S.held sink.old) (S.faults sink.old)) (delivery out.new (S.held sink.new) (S.faults sink.new)) (resource_text shorts.now (resource_seen resource.entry)) }
 {
     match resource {
@@ -86,12 +80,7 @@ pub fn push_object<S: Sink>(out: &mut Pieces, sink: &mut S, shorts: &Shorts, obj
 }
 
 /// Adds a literal: its text in quotation marks, and its language tag or datatype.
-pub fn push_literal<S: Sink>(
-    out: &mut Pieces,
-    sink: &mut S,
-    shorts: &Shorts,
-    literal: &Literal,
-)
+pub fn push_literal<S: Sink>(out: &mut Pieces, sink: &mut S, shorts: &Shorts, literal: &Literal)
     ensures { Adds (delivery out.old (S.held sink.old) (S.faults sink.old)) (delivery out.new (S.held sink.new) (S.faults sink.new)) (string_text literal.now.lexical ++ suffix_text shorts.now (kind_seen literal.now.kind)) }
 {
     push_text(out, sink, "\"", &literal.lexical);

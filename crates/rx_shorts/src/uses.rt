@@ -1,11 +1,9 @@
 //! Which prefixes a text uses.
-ghost use Rattle.std.specs.Prelude.{◌≡◌, ◌∷◌, [], Some, flat_map, slice_set, true, IfOk};
-ghost use Rattle.std.specs.List.{list_any};
+ghost use Rattle.std.specs.Prelude.{◌≡◌, ◌∷◌, [], flat_map, slice_set, true, IfOk};
 ghost use Rattle.rx_model.specs.Seen.{kind_seen, node_seen, term_seen, triple_seen, triples_seen};
 ghost use Rattle.rx_notation.specs.Laws.{IsWritable};
 ghost use Rattle.rx_notation.specs.Short.{names_rise};
 ghost use Rattle.rx_notation.specs.Layout.{iris_of, iris_of_kind, iris_of_node, iris_of_predicate, iris_of_term};
-ghost use Rattle.rx_shorts.specs.Shorts.{place_of};
 ghost use Rattle.rx_shorts.specs.Uses.{marked, marked_all, unmarked, used_marks};
 
 use crate::shorts::Shorts;
@@ -16,11 +14,7 @@ use rx_terms::{Iri, LiteralKind, NoMemory, Node, Term, Triple};
 use std::alloc::Global;
 
 /// For each prefix whether the text of the graph uses it.
-pub fn used_marks(
-    alloc: Global,
-    graph: &Graph,
-    shorts: &Shorts,
-) -> Result<Vec<bool>, NoMemory>
+pub fn used_marks(alloc: Global, graph: &Graph, shorts: &Shorts) -> Result<Vec<bool>, NoMemory>
     ensures marks { IfOk result (λ marks. marks.items ≡ used_marks shorts.now (triples_seen graph.now)) }
     ensures writable { IfOk result (λ marks. IsWritable (triples_seen graph.now)) }
     ensures in_order { IfOk result (λ marks. names_rise shorts.now ≡ true) }
