@@ -14,7 +14,10 @@ ghost use Rattle.rx_shorts.specs.Verbs.{iris_of_verb};
 
 use rx_graph::{Graph, Resource};
 use rx_nesting::Token;
-use rx_shorts::{Shorts, is_writable, is_writable_literal, is_writable_resource, mark_iri, mark_kind, mark_predicate, unmarked};
+use rx_shorts::{
+    Shorts, is_writable, is_writable_literal, is_writable_resource, mark_iri, mark_kind,
+    mark_predicate, unmarked,
+};
 use rx_terms::NoMemory;
 use std::alloc::Global;
 
