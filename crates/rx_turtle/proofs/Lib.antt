@@ -1,15 +1,3 @@
-pub mod Finding
-pub mod FewLemmas
-pub mod GroupLemmas
 pub mod StatementLemmas
-pub mod PlaceLemmas
-pub mod AddLemmas
-pub mod UseLemmas
-pub mod LineLemmas
 pub mod TextLemmas
-pub mod ScalarLemmas
-pub mod DueLemmas
-pub mod SaidLemmas
-pub mod StepLemmas
-pub mod RunLemmas
 pub mod NestedLemmas

@@ -1,10 +1,2 @@
-pub mod Shorts
-pub mod Places
-pub mod Rows
-pub mod Groups
-pub mod Uses
 pub mod Written
-pub mod Tokens
-pub mod Said
-pub mod Due
 pub mod Nested

@@ -1,16 +1,16 @@
 -- The text of triples that are in groups.
 use Rattle.std.specs.Prelude.{ℕ, List, ◌++◌, map, flat_map, codes}
 use Rattle.rx_terms.specs.Text.{Chars}
-use Rattle.rx_model.specs.Terms.{Node, Iri, Blank, Triple}
+use Rattle.rx_model.specs.Terms.{Node, Triple}
 use Rattle.rx_graph.specs.Resources.{resource_seen}
-use Rattle.rx_pieces.specs.Writing.{blank_text}
 use Rattle.rx_notation.specs.Short.{Prefixes}
-use Rattle.rx_notation.specs.Layout.{resource_text, verb_text, object_text, separated, prefixes_text}
-use Rattle.rx_turtle.specs.declared.groups.By.TheVariants as by
+use Rattle.rx_notation.specs.Layout.{resource_text, object_text, separated, prefixes_text}
+use Rattle.rx_groups.specs.declared.groups.By.TheVariants as by
 use Rattle.rx_turtle.specs.declared.plan.Plan.{Plan}
 use Rattle.rx_turtle.specs.declared.statements.Statement.{Statement}
-use Rattle.rx_turtle.specs.Groups.{Keyed, grouped}
-use Rattle.rx_turtle.specs.Uses.{chosen}
+use Rattle.rx_groups.specs.Groups.{Keyed, grouped}
+use Rattle.rx_shorts.specs.Uses.{chosen}
+use Rattle.rx_shorts.specs.Verbs.{key_text}
 
 -- a subject, and what is said of it by predicate
 abbrev pub Said : Type 0
@@ -25,11 +25,6 @@ plan list = map said_by (grouped by.Subject list)
 
 abbrev pub statement_seen : Statement → Said
 statement_seen statement = (resource_seen statement.subject, statement.said)
-
--- the predicate of a group; it is no blank node
-abbrev pub key_text : Prefixes → Node ℕ → Chars
-key_text context (Iri iri) = verb_text context iri
-key_text context (Blank number) = blank_text number
 
 abbrev pub objects_text : Prefixes → List (Triple ℕ) → Chars
 objects_text context list = separated (codes " , ") (map (λ (t : Triple ℕ). object_text context t.object) list)

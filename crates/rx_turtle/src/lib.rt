@@ -8,29 +8,13 @@
 //! they are used.
 #![tactic(auto)]
 
-mod cells;
-mod due;
-mod groups;
-mod lengths;
 mod lines;
-mod names;
 mod nested_plan;
 mod nested_writing;
-mod nesting;
 mod plan;
-mod said;
-mod shorts;
-mod source;
-mod stack;
-mod starts;
 mod statements;
-mod terms;
 mod token_texts;
 mod token_uses;
-mod tokens;
-mod uses;
-mod vocabulary;
-mod writable;
 mod writing;
 
 pub use nested_writing::{nested, write_nested};

@@ -1,23 +1,20 @@
-//! Prefixes and statements, one after another.
-ghost use Rattle.std.specs.Prelude.{◌≡◌, ◌==◌, [], codes, flat_map, length, map, if◌then◌else◌};
-ghost use Rattle.std.specs.List.{list_any};
+//! Statements, one after another.
+ghost use Rattle.std.specs.Prelude.{◌≡◌, ◌==◌, [], codes, length, map, if◌then◌else◌};
 ghost use Rattle.std.specs.Str.{chars};
 ghost use Rattle.rx_model.specs.Seen.{triple_seen};
 ghost use Rattle.rx_graph.specs.Resources.{resource_seen};
-ghost use Rattle.rx_notation.specs.Layout.{prefix_text, prefixes_text, separated};
+ghost use Rattle.rx_notation.specs.Layout.{separated};
 ghost use Rattle.rx_pieces.specs.Underway.{delivery};
 ghost use Rattle.rx_pieces.specs.Writable.{Adds};
-ghost use Rattle.rx_turtle.specs.Uses.{chosen};
 ghost use Rattle.rx_turtle.specs.Written.{statement_seen, objects_text, group_text, said_text, plan_text, text_of};
 
-use crate::groups::Groups;
 use crate::plan::Plan;
-use crate::shorts::Shorts;
 use crate::statements::Statement;
-use crate::terms::{push_key, push_object, push_resource};
 use rx_graph::Resource;
+use rx_groups::Groups;
 use rx_pieces::{Pieces, push};
 use rx_ports::Sink;
+use rx_shorts::{Shorts, push_key, push_object, push_prefixes, push_resource};
 use rx_terms::Triple;
 
 /// Adds the whole text.
@@ -27,57 +24,6 @@ pub(crate) fn push_plan<S: Sink>(out: &mut Pieces, sink: &mut S, plan: &Plan)
 {
     push_prefixes(out, sink, &plan.shorts, &plan.marks);
     push_statements(out, sink, &plan.shorts, &plan.statements);
-}
-
-/// Adds a line for each prefix that has a mark, and an empty line behind the last one.
-pub(crate) fn push_prefixes<S: Sink>(
-    out: &mut Pieces,
-    sink: &mut S,
-    shorts: &Shorts,
-    marks: &[bool],
-)
-    requires { length marks.now ≡ length shorts.now }
-    ensures { Adds (delivery out.old (S.held sink.old) (S.faults sink.old)) (delivery out.new (S.held sink.new) (S.faults sink.new)) (prefixes_text (chosen marks.now shorts.now)) }
-{
-    push_prefix_lines(out, sink, shorts, marks);
-    if has_mark(marks) {
-        push(out, sink, "\n");
-    }
-}
-
-fn has_mark(marks: &[bool]) -> bool
-    ensures { result ≡ list_any (λ mark. mark) marks.now }
-{
-    marks.iter().any(|mark| *mark)
-}
-
-fn push_prefix_lines<S: Sink>(out: &mut Pieces, sink: &mut S, shorts: &Shorts, marks: &[bool])
-    requires { length marks.now ≡ length shorts.now }
-    ensures { Adds (delivery out.old (S.held sink.old) (S.faults sink.old)) (delivery out.new (S.held sink.new) (S.faults sink.new)) (flat_map prefix_text (chosen marks.now shorts.now)) }
-{
-    for i in 0..marks.len() {
-        let (name, iri) = shorts.at(i);
-        push_marked(out, sink, marks[i], name, iri);
-    }
-}
-
-/// Adds the line of a prefix, where it has a mark.
-fn push_marked<S: Sink>(out: &mut Pieces, sink: &mut S, mark: bool, name: &str, iri: &str)
-    ensures { Adds (delivery out.old (S.held sink.old) (S.faults sink.old)) (delivery out.new (S.held sink.new) (S.faults sink.new)) (if mark then prefix_text (chars name.now, chars iri.now) else []) }
-{
-    if mark {
-        push_prefix(out, sink, name, iri);
-    }
-}
-
-fn push_prefix<S: Sink>(out: &mut Pieces, sink: &mut S, name: &str, iri: &str)
-    ensures { Adds (delivery out.old (S.held sink.old) (S.faults sink.old)) (delivery out.new (S.held sink.new) (S.faults sink.new)) (prefix_text (chars name.now, chars iri.now)) }
-{
-    push(out, sink, "@prefix ");
-    push(out, sink, name);
-    push(out, sink, ": <");
-    push(out, sink, iri);
-    push(out, sink, "> .\n");
 }
 
 /// Adds the statements. Once the sink has failed, the rest isn't made.

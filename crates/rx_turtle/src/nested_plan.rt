@@ -10,18 +10,15 @@ ghost use Rattle.rx_notation.specs.Meaning.{NestedTurtle};
 ghost use Rattle.rx_nested.specs.Nesting.{nested};
 ghost use Rattle.rx_turtle.specs.Nested.{nested_of};
 
-use crate::lines::push_prefixes;
-use crate::nesting::tokens_of;
-use crate::shorts::Shorts;
-use crate::source::Source;
 use crate::token_texts::push_tokens;
 use crate::token_uses::{is_graph, token_marks};
-use crate::tokens::Token;
 use rx_graph::Graph;
 use rx_names::Context;
+use rx_nesting::{Source, Token, tokens_of};
 use rx_pieces::Pieces;
 use rx_ports::Sink;
 use rx_shapes::Shapes;
+use rx_shorts::{Shorts, push_prefixes};
 use rx_terms::NoMemory;
 use std::alloc::Global;
 

@@ -7,11 +7,10 @@ ghost use Rattle.rx_notation.specs.Laws.{proper_triple};
 ghost use Rattle.rx_notation.specs.Meaning.{Turtle};
 ghost use Rattle.rx_turtle.specs.Written.{text_of};
 
-use crate::shorts::Shorts;
 use crate::statements::{Statement, statements_of};
-use crate::uses::used_marks;
 use rx_graph::Graph;
 use rx_names::Context;
+use rx_shorts::{Shorts, used_marks};
 use rx_terms::NoMemory;
 use std::alloc::Global;
 

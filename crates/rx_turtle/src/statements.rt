@@ -1,13 +1,13 @@
 //! What is said of each subject of a graph.
-ghost use Rattle.std.specs.Prelude.{◌≡◌, length, map, IfOk};
-ghost use Rattle.rx_model.specs.Seen.{triple_seen, triples_seen};
-ghost use Rattle.rx_turtle.specs.Groups.{grouped};
+ghost use Rattle.std.specs.Prelude.{◌≡◌, map, IfOk};
+ghost use Rattle.rx_model.specs.Seen.{triples_seen};
+ghost use Rattle.rx_groups.specs.Groups.{grouped};
 ghost use Rattle.rx_turtle.specs.Written.{plan, said_by, statement_seen};
-ghost use Rattle.rx_turtle.specs.declared.groups.By.TheVariants as by;
+ghost use Rattle.rx_groups.specs.declared.groups.By.TheVariants as by;
 
-use crate::groups::{By, Groups};
 use rx_graph::{Graph, Resource};
-use rx_terms::{NoMemory, Triple};
+use rx_groups::{By, Groups, borrowed};
+use rx_terms::NoMemory;
 use std::alloc::Global;
 
 /// A subject, and its triples by predicate.
@@ -28,19 +28,6 @@ pub(crate) fn statements_of<'a>(
     let subjects = Groups::of(alloc, &triples, By::Subject)?;
     let statements = split(alloc, &subjects)?;
     Ok(statements)
-}
-
-/// The graph's triples.
-pub(crate) fn borrowed<'a>(alloc: Global, graph: &'a Graph) -> Result<Vec<&'a Triple>, NoMemory>
-    ensures { IfOk result (λ triples. map (λ t. triple_seen t.now) triples.items ≡ triples_seen graph.now) }
-{
-    let mut triples = Vec::with_capacity(alloc, graph.len())?;
-    for i in 0..graph.len() {
-        let Ok(()) = triples.push(graph.at(i)) else {
-            return Err(NoMemory);
-        };
-    }
-    Ok(triples)
 }
 
 /// The triples of each subject, by predicate.

@@ -8,14 +8,16 @@ ghost use Rattle.rx_notation.specs.Laws.{IsWritable};
 ghost use Rattle.rx_notation.specs.Layout.{iris_of_node};
 ghost use Rattle.rx_notation.specs.Short.{names_rise};
 ghost use Rattle.rx_turtle.specs.Nested.{iris_of_tokens, AreWritable};
-ghost use Rattle.rx_turtle.specs.Tokens.{token_seen, iris_of_verb, iris_of_shown};
-ghost use Rattle.rx_turtle.specs.Uses.{marked_all, unmarked};
+ghost use Rattle.rx_nesting.specs.Tokens.{token_seen, iris_of_shown, WritableShown};
+ghost use Rattle.rx_shorts.specs.Uses.{marked_all, unmarked};
+ghost use Rattle.rx_shorts.specs.Verbs.{iris_of_verb};
 
-use crate::shorts::Shorts;
-use crate::tokens::Token;
-use crate::uses::{mark_iri, mark_kind, mark_predicate, unmarked};
-use crate::writable::{is_writable, is_writable_token};
 use rx_graph::{Graph, Resource};
+use rx_nesting::Token;
+use rx_shorts::{
+    Shorts, is_writable, is_writable_literal, is_writable_resource, mark_iri, mark_kind,
+    mark_predicate, unmarked,
+};
 use rx_terms::NoMemory;
 use std::alloc::Global;
 
@@ -81,5 +83,18 @@ pub(crate) fn is_graph(graph: &Graph)
 {
     for i in 0..graph.len() {
         is_writable(graph.at(i));
+    }
+}
+
+/// What the parts of a token are.
+#[inline(always)]
+fn is_writable_token(token: Token)
+    ensures { WritableShown (token_seen token.entry) }
+{
+    match token {
+        Token::Fixed(_words) => {}
+        Token::Noun(resource) => is_writable_resource(resource),
+        Token::Verb(resource) => is_writable_resource(resource),
+        Token::Quoted(literal) => is_writable_literal(literal),
     }
 }

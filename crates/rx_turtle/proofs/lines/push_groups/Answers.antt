@@ -1,6 +1,6 @@
 use Rattle.std.proofs.Common.{codes, refl}
 use Rattle.rx_turtle.specs.Written.{group_text}
-use Rattle.rx_turtle.proofs.LineLemmas.{listed}
+use Rattle.rx_shorts.proofs.LineLemmas.{listed}
 use Rattle.rx_turtle.proofs.lines.push_groups.Goals as goal
 
 pub loop-i-preserved : goal.loop-i-preserved

@@ -1,7 +1,7 @@
 use Rattle.std.proofs.Common.{ap, map}
 use Rattle.rx_notation.specs.Layout.{prefixes_text}
 use Rattle.rx_pieces.proofs.Adding.{adds_then, adds_by}
-use Rattle.rx_turtle.specs.Uses.{chosen}
+use Rattle.rx_shorts.specs.Uses.{chosen}
 use Rattle.rx_turtle.specs.Written.{statement_seen, plan_text}
 use Rattle.rx_turtle.proofs.lines.push_plan.Goals as goal
 

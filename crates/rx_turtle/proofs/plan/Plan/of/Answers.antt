@@ -3,7 +3,7 @@ use Rattle.rx_model.specs.Seen.{triples_seen}
 use Rattle.rx_notation.specs.Short.{names_rise}
 use Rattle.rx_notation.specs.Layout.{turtle}
 use Rattle.rx_turtle.proofs.TextLemmas.{text_is, text_denotes}
-use Rattle.rx_turtle.proofs.UseLemmas.{marks_size}
+use Rattle.rx_shorts.proofs.UseLemmas.{marks_size}
 use Rattle.rx_turtle.proofs.plan.Plan.of.Goals as goal
 
 pub returns-clause-text : goal.returns-clause-text

@@ -1,0 +1,20 @@
+//! The triples of a graph, lent.
+ghost use Rattle.std.specs.Prelude.{◌≡◌, map, IfOk};
+ghost use Rattle.rx_model.specs.Seen.{triple_seen, triples_seen};
+
+use rx_graph::Graph;
+use rx_terms::{NoMemory, Triple};
+use std::alloc::Global;
+
+/// The graph's triples.
+pub fn borrowed<'a>(alloc: Global, graph: &'a Graph) -> Result<Vec<&'a Triple>, NoMemory>
+    ensures { IfOk result (λ triples. map (λ t. triple_seen t.now) triples.items ≡ triples_seen graph.now) }
+{
+    let mut triples = Vec::with_capacity(alloc, graph.len())?;
+    for i in 0..graph.len() {
+        let Ok(()) = triples.push(graph.at(i)) else {
+            return Err(NoMemory);
+        };
+    }
+    Ok(triples)
+}

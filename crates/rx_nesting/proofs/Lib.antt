@@ -1,0 +1,5 @@
+pub mod PredicateLemmas
+pub mod DueLemmas
+pub mod SaidLemmas
+pub mod StepLemmas
+pub mod RunLemmas

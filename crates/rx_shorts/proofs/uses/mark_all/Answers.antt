@@ -1,0 +1,15 @@
+use Rattle.std.proofs.Common.{arith}
+use Rattle.rx_shorts.proofs.UseLemmas.{looked_start, looked_more, looked_marks, looked_writable}
+use Rattle.rx_shorts.proofs.uses.mark_all.Goals as goal
+
+pub loop-i-init : goal.loop-i-init
+loop-i-init c = looked_start _ _ _
+
+pub loop-i-preserved : goal.loop-i-preserved
+loop-i-preserved c = looked_more _ _ _ _ _ _ c.at-triple.result.now c.at-triple.ensures c.mark_triple.ensures c.is_writable.ensures c.loop-i.invariant
+
+pub returns-clause-marks : goal.returns-clause-marks
+returns-clause-marks c = looked_marks _ _ _ _ _ (omega (arith, c.loop-i-test.false, c.len-i-end.ensures.len)) c.loop-i.invariant
+
+pub returns-clause-writable : goal.returns-clause-writable
+returns-clause-writable c = looked_writable _ _ _ _ _ (omega (arith, c.loop-i-test.false, c.len-i-end.ensures.len)) c.loop-i.invariant

@@ -1,0 +1,5 @@
+use Rattle.rx_shorts.proofs.UseLemmas.{Looked}
+use Rattle.rx_shorts.proofs.uses.mark_all.Given as goal
+
+abbrev pub invariant-loop-i : goal.invariant-loop-i
+invariant-loop-i l = Looked l.shorts l.fn.marks l.marks l.graph l.i

@@ -1,0 +1,30 @@
+-- An index of the prefixes by IRI.
+use Rattle.std.specs.Prelude.{◌≡◌, ℕ, true, false, nat_eq, List, length, get_or, Option, Some, if◌then◌else◌}
+use Rattle.std.specs.Cmp.Lexicographic.{pointwise}
+use Rattle.std.specs.HashMap.{get_by}
+use Rattle.rx_notation.specs.Short.{Prefix, Prefixes}
+use Rattle.rx_shorts.specs.declared.shorts.Places.{Places}
+use Rattle.rx_shorts.specs.Shorts.{stands_for, place_from}
+
+-- what the index has for the bytes
+abbrev pub found_in : Places → List ℕ → Option ℕ
+found_in places bytes = get_by (λ iri. pointwise nat_eq bytes iri.now) places.by_iri
+
+-- what is found has a length that the index knows
+pub record Knows (places : Places) : Type 0 where
+  pub length_of : (bytes : List ℕ) (place : ℕ) → found_in places bytes ≡ Some place → get_or places.lengths (length bytes) false ≡ true
+
+-- new is old with a place for these bytes
+pub record PutsBytes (iri : List ℕ) (place : ℕ) (old new : Places) : Type 0 where
+  pub each : (bytes : List ℕ) → found_in new bytes ≡ (if pointwise nat_eq iri bytes then Some place else found_in old bytes)
+  pub known : Knows old → Knows new
+
+-- new is old with the place of a prefix, where it has a name that can be written
+pub record Puts (prefix : Prefix) (place : ℕ) (old new : Places) : Type 0 where
+  pub each : (bytes : List ℕ) → found_in new bytes ≡ (if stands_for bytes prefix then Some place else found_in old bytes)
+  pub known : Knows old → Knows new
+
+-- the index has the places, counted from one on, of these prefixes
+pub record Finds (place : ℕ) (context : Prefixes) (places : Places) : Type 0 where
+  pub each : (bytes : List ℕ) → found_in places bytes ≡ place_from place context bytes
+  pub known : Knows places

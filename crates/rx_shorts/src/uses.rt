@@ -1,0 +1,123 @@
+//! Which prefixes a text uses.
+ghost use Rattle.std.specs.Prelude.{◌≡◌, ◌∷◌, [], flat_map, slice_set, true, IfOk};
+ghost use Rattle.rx_model.specs.Seen.{kind_seen, node_seen, term_seen, triple_seen, triples_seen};
+ghost use Rattle.rx_notation.specs.Laws.{IsWritable};
+ghost use Rattle.rx_notation.specs.Short.{names_rise};
+ghost use Rattle.rx_notation.specs.Layout.{iris_of, iris_of_kind, iris_of_node, iris_of_predicate, iris_of_term};
+ghost use Rattle.rx_shorts.specs.Uses.{marked, marked_all, unmarked, used_marks};
+
+use crate::shorts::Shorts;
+use crate::vocabulary::is_type;
+use crate::writable::is_writable;
+use rx_graph::Graph;
+use rx_terms::{Iri, LiteralKind, NoMemory, Node, Term, Triple};
+use std::alloc::Global;
+
+/// For each prefix whether the text of the graph uses it.
+pub fn used_marks(alloc: Global, graph: &Graph, shorts: &Shorts) -> Result<Vec<bool>, NoMemory>
+    ensures marks { IfOk result (λ marks. marks.items ≡ used_marks shorts.now (triples_seen graph.now)) }
+    ensures writable { IfOk result (λ marks. IsWritable (triples_seen graph.now)) }
+    ensures in_order { IfOk result (λ marks. names_rise shorts.now ≡ true) }
+{
+    let mut marks = unmarked(alloc, shorts)?;
+    mark_all(&mut marks, graph, shorts);
+    Ok(marks)
+}
+
+/// No mark, for each prefix.
+pub fn unmarked(alloc: Global, shorts: &Shorts) -> Result<Vec<bool>, NoMemory>
+    ensures marks { IfOk result (λ marks. marks.items ≡ unmarked shorts.now) }
+    ensures in_order { IfOk result (λ marks. names_rise shorts.now ≡ true) }
+{
+    let mut marks = Vec::with_capacity(alloc, shorts.len())?;
+    for _ in 0..shorts.len() {
+        let Ok(()) = marks.push(false) else {
+            return Err(NoMemory);
+        };
+    }
+    Ok(marks)
+}
+
+fn mark_all(marks: &mut [bool], graph: &Graph, shorts: &Shorts)
+    ensures marks { marks.new ≡ marked_all shorts.now marks.old (flat_map iris_of (triples_seen graph.now)) }
+    ensures writable { IsWritable (triples_seen graph.now) }
+{
+    for i in 0..graph.len() {
+        let triple = graph.at(i);
+        mark_triple(marks, triple, shorts);
+        is_writable(triple);
+    }
+}
+
+fn mark_triple(marks: &mut [bool], triple: &Triple, shorts: &Shorts)
+    ensures { marks.new ≡ marked_all shorts.now marks.old (iris_of (triple_seen triple.now)) }
+{
+    mark_node(marks, &triple.subject, shorts);
+    mark_predicate(marks, &triple.predicate, shorts);
+    mark_term(marks, &triple.object, shorts);
+}
+
+fn mark_node(marks: &mut [bool], node: &Node, shorts: &Shorts)
+    ensures { marks.new ≡ marked_all shorts.now marks.old (iris_of_node (node_seen node.now)) }
+{
+    match node {
+        Node::Iri(iri) => mark_iri(marks, iri, shorts),
+        Node::Blank(_blank) => {}
+    }
+}
+
+/// Marks the prefix of a predicate, unless it is written `a`.
+pub fn mark_predicate(marks: &mut [bool], predicate: &Iri, shorts: &Shorts)
+    ensures { marks.new ≡ marked_all shorts.now marks.old (iris_of_predicate predicate.now) }
+{
+    if is_type(predicate) {
+        return;
+    }
+    mark_iri(marks, predicate, shorts);
+}
+
+fn mark_term(marks: &mut [bool], term: &Term, shorts: &Shorts)
+    ensures { marks.new ≡ marked_all shorts.now marks.old (iris_of_term (term_seen term.now)) }
+{
+    match term {
+        Term::Iri(iri) => mark_iri(marks, iri, shorts),
+        Term::Blank(_blank) => {}
+        Term::Literal(literal) => mark_kind(marks, &literal.kind, shorts),
+    }
+}
+
+/// Marks the prefix of a literal's datatype, where it is written.
+pub fn mark_kind(marks: &mut [bool], kind: &LiteralKind, shorts: &Shorts)
+    ensures { marks.new ≡ marked_all shorts.now marks.old (iris_of_kind (kind_seen kind.now)) }
+{
+    match kind {
+        LiteralKind::Plain => {}
+        LiteralKind::Tagged(_tag) => {}
+        LiteralKind::Typed(datatype) => mark_iri(marks, datatype, shorts),
+    }
+}
+
+/// Marks the prefix that makes the IRI's short form, where there is one.
+pub fn mark_iri(marks: &mut [bool], iri: &Iri, shorts: &Shorts)
+    ensures { marks.new ≡ marked_all shorts.now marks.old (iri.now ∷ []) }
+{
+    mark(marks, shorts.place(iri));
+}
+
+fn mark(marks: &mut [bool], place: Option<usize>)
+    ensures { marks.new ≡ marked marks.old place }
+{
+    match place {
+        Some(place) => mark_within(marks, place),
+        None => {}
+    }
+}
+
+fn mark_within(marks: &mut [bool], place: usize)
+    ensures { marks.new ≡ slice_set marks.old place true }
+{
+    if place >= marks.len() {
+        return;
+    }
+    marks[place] = true;
+}

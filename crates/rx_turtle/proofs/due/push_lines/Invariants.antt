@@ -1,7 +1,0 @@
-use Rattle.std.proofs.Common.{◌≡◌, ◌++◌}
-use Rattle.rx_turtle.specs.Due.{line_due}
-use Rattle.rx_turtle.proofs.DueLemmas.{from}
-use Rattle.rx_turtle.proofs.due.push_lines.Given as goal
-
-abbrev pub invariant-loop-i : goal.invariant-loop-i
-invariant-loop-i l = l.stack ≡ from line_due l.gap l.i l.said ++ l.fn.stack

@@ -1,5 +1,0 @@
-use Rattle.rx_turtle.proofs.UseLemmas.{Looked}
-use Rattle.rx_turtle.proofs.uses.mark_all.Given as goal
-
-abbrev pub invariant-loop-i : goal.invariant-loop-i
-invariant-loop-i l = Looked l.shorts l.fn.marks l.marks l.graph l.i
