@@ -7,17 +7,17 @@
 mod disjoint;
 mod distinct;
 mod elements;
+mod gathering;
 mod ids;
 mod kept;
 mod members;
 mod parts;
-mod properties;
 mod reaches;
 mod references;
 mod starts;
 
+pub use gathering::properties;
 pub use kept::{Element, Kept, Run};
 pub use parts::kept_of;
-pub use properties::properties;
 pub use rx_item_table::{PageRows, RowValue, Span, TextStore};
 pub use rx_terms::{Iri, NoMemory, Text};
