@@ -17,7 +17,7 @@ use Rattle.rx_walk.specs.Walks as walk
 use Rattle.rx_walk.specs.Walks.{Ended}
 use Rattle.rx_items.specs.Collecting.{Setting as ItemSetting}
 use Rattle.rx_items.specs.Walks as item
-use Rattle.rx_items.specs.declared.kept.Kept.{Kept}
+use Rattle.rx_item_properties.specs.declared.kept.Kept.{Kept}
 use Rattle.rx_walk.specs.Checks as check
 use Rattle.rx_walk.specs.Checks.{Accepted}
 use Rattle.rx_ports.specs.Files.{file_of}

@@ -17,15 +17,16 @@ use Rattle.rx_microdata.specs.Facts.{said}
 use Rattle.rx_microdata.specs.Elements.{Placed, is_item, names_of}
 use Rattle.rx_microdata.specs.Visits.{Visit, visits_from, standard_bounds, fault_of, first_fault, is_cycle, items_in}
 use Rattle.rx_microdata.specs.Json.{string_of, item_of, json_of_item, refused, Refused}
-use Rattle.rx_items.specs.Rows.{properties_in}
-use Rattle.rx_items.specs.Held.{HoldsRows, ShowsElement, places}
+use Rattle.rx_item_table.specs.Rows.{properties_in}
+use Rattle.rx_item_properties.specs.Held.{AllStand, HoldsRows, ShowsElement, places}
 use Rattle.rx_items.specs.Groups.{with_last}
-use Rattle.rx_items.specs.Expanding.{At, AllStand, path_of, kind_of, NoFault, FaultIs, Told, Finds, Did, Goes, Enters, Step, with_name, steps_of, steps_in, visits_of, visits_in, data_of, pair_of, grouped_in}
-use Rattle.rx_items.specs.declared.kept.Element.{Element}
-use Rattle.rx_items.specs.declared.kept.Kept.{Kept}
+use Rattle.rx_items.specs.Expanding.{At, path_of, kind_of, NoFault, FaultIs, Told, Finds, Did, Goes, Enters, Step, with_name, steps_of, steps_in, visits_of, visits_in, data_of, pair_of, grouped_in}
+use Rattle.rx_item_properties.specs.declared.kept.Element.{Element}
+use Rattle.rx_item_properties.specs.declared.kept.Kept.{Kept}
 use Rattle.rx_items.specs.declared.visits.Trail.{Trail}
 use Rattle.rx_items.proofs.FoundLemmas.{none_then, none_at_all, fault_is, path_size, steps_pairs, steps_visits, did_more, fault_more, fault_stays}
-use Rattle.rx_items.proofs.HoldLemmas.{list_is, has_element, shows_at, all_stand, place_is}
+use Rattle.rx_item_properties.proofs.TakeLemmas.{cut_at, one_more}
+use Rattle.rx_item_properties.proofs.HoldLemmas.{list_is, has_element, shows_at, all_stand, place_is}
 
 -- what `?` hands on
 pub err_told : {X E : Type 0} (P : Result X E → Type 0) (r : Result X E) (x : E) → IsErrAnd r (λ y. y ≡ x) → P (Err x) → P r
@@ -43,20 +44,6 @@ no_element {kept} {rows} place e at row over =
 pub shown_in : {kept : Kept} {rows : List Placed} {base : Chars} {path : List ℕ} {above : Visit} {left : ℕ} (place : ℕ) (element : Element) (e : Placed) → At kept rows base path above left
     → slice_get rows place ≡ Some e → slice_get kept.elements.items place ≡ Some element → ShowsElement kept.words kept.text kept.times.items element e
 shown_in {kept} {rows} place element e at row found = shows_at kept.words kept.text kept.times.items kept.elements.items rows place element e at.holds.shown found row
-
-pub cut_at : {X : Type 0} (xs : List X) (i : ℕ) (d : X) → i < length xs → xs ≡ take i xs ++ (get_or xs i d ∷ drop (i + 1) xs)
-cut_at [] i d lt = absurd (omega arith)
-cut_at (x ∷ xs) zero d lt = refl
-cut_at {X} (x ∷ xs) (suc i) d lt =
-    let up : suc (i + 1) ≡ suc i + 1 = omega arith in
-    ap (λ (l : List X). x ∷ l) (cut_at xs i d (omega arith)) ∙ ap (λ n. x ∷ (take i xs ++ get_or xs i d ∷ drop n (x ∷ xs))) up
-
-pub one_more : {X : Type 0} (xs : List X) (i : ℕ) (d : X) → i < length xs → take (i + 1) xs ≡ take i xs ++ get_or xs i d ∷ []
-one_more [] i d lt = absurd (omega arith)
-one_more (x ∷ xs) zero d lt = refl
-one_more {X} (x ∷ xs) (suc i) d lt =
-    let up : suc i + 1 ≡ suc (i + 1) = omega arith in
-    ap (λ n. take n (x ∷ xs)) up ∙ ap (λ (l : List X). x ∷ l) (one_more xs i d (omega arith))
 
 module _ (rows : List Placed) (base : Chars) (above : Visit) (left : ℕ) where
   -- ---- a property under each of its names

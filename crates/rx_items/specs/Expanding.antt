@@ -13,10 +13,10 @@ use Rattle.rx_microdata.specs.Facts.{said}
 use Rattle.rx_microdata.specs.Elements.{Placed, is_item, names_of}
 use Rattle.rx_microdata.specs.Visits.{Visit, visits_from, standard_bounds, first_fault}
 use Rattle.rx_microdata.specs.Json.{string_of, json_of_item, grouped, refused, Refused}
-use Rattle.rx_items.specs.Rows.{properties_in}
-use Rattle.rx_items.specs.Held.{HoldsRows}
-use Rattle.rx_items.specs.declared.kept.Kept.{Kept}
-use Rattle.rx_items.specs.declared.kept.Element.{Element}
+use Rattle.rx_item_table.specs.Rows.{properties_in}
+use Rattle.rx_item_properties.specs.Held.{HoldsRows}
+use Rattle.rx_item_properties.specs.declared.kept.Kept.{Kept}
+use Rattle.rx_item_properties.specs.declared.kept.Element.{Element}
 use Rattle.rx_items.specs.declared.visits.Trail.{Trail}
 
 -- the places of the items on a path, the outermost first
@@ -89,11 +89,6 @@ module _ (rows : List Placed) (base : Chars) (above : Visit) (left : ℕ) where
 
   abbrev pub grouped_in : List Step → Members
   grouped_in steps = grouped (map pair_of steps)
-
--- each of these is the row at its place
-abbrev pub AllStand : List Placed → List Placed → Type 0
-AllStand rows [] = ⊤
-AllStand rows (e ∷ es) = (slice_get rows e.place ≡ Some e) × AllStand rows es
 
 module _ (rows : List Placed) (base : Chars) (above : Visit) (left : ℕ) where
   -- these steps were taken without a fault, and their values stand under their names

@@ -11,10 +11,10 @@ use Rattle.rx_tags.specs.declared.stops.Stop.TheVariants as stop
 use Rattle.rx_microdata.specs.Elements.{Placed, is_top_level}
 use Rattle.rx_microdata.specs.Visits.{Visit, visits_from, visits_by, first_fault, standard_bounds}
 use Rattle.rx_microdata.specs.Json.{Outcome, Given, Refused, json_of_item}
-use Rattle.rx_items.specs.Rows.{properties_in, rows_of}
-use Rattle.rx_items.specs.Held.{HoldsRows}
+use Rattle.rx_item_table.specs.Rows.{properties_in, rows_of}
+use Rattle.rx_item_properties.specs.Held.{HoldsRows}
 use Rattle.rx_items.specs.Expanding.{NoFault, Told}
-use Rattle.rx_items.specs.declared.kept.Kept.{Kept}
+use Rattle.rx_item_properties.specs.declared.kept.Kept.{Kept}
 
 -- what is answered is this outcome, where there is memory
 abbrev pub JsonGives : Outcome → Result Value Stop → Type 0

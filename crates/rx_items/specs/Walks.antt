@@ -9,11 +9,11 @@ use Rattle.rx_tags.specs.declared.stops.Stop.TheVariants as stop
 use Rattle.rx_reading.specs.Readings as readings
 use Rattle.rx_reading.specs.Readings.{Read}
 use Rattle.rx_microdata.specs.Base.{base_in}
-use Rattle.rx_items.specs.Rows.{rows_of}
-use Rattle.rx_items.specs.Held.{HoldsRows}
+use Rattle.rx_item_table.specs.Rows.{rows_of}
+use Rattle.rx_item_properties.specs.Held.{HoldsRows}
 use Rattle.rx_items.specs.Collecting.{Setting, way_of, Collects}
 use Rattle.rx_items.specs.declared.collectors.Collector.{Collector}
-use Rattle.rx_items.specs.declared.kept.Kept.{Kept}
+use Rattle.rx_item_properties.specs.declared.kept.Kept.{Kept}
 
 -- the page's elements as they are read, what is kept of them, the fault that was answered, and want of memory
 abbrev pub Walked : Type 0

@@ -11,10 +11,10 @@ ghost use Rattle.rx_reading.specs.Ways.{none_refuses};
 ghost use Rattle.rx_base.specs.Seekings.{known, seek_begun, seek_finished};
 ghost use Rattle.rx_base.specs.Tags.{tag_of};
 ghost use Rattle.rx_items.specs.Collecting.{Setting, way_of, Collects, BaseIs, BaseMoves};
-ghost use Rattle.rx_items.specs.Growing.{IsIdle};
+ghost use Rattle.rx_item_table.specs.Growing.{IsIdle};
 
-use crate::tables::Table;
 use rx_base::{Clue, Sought, base};
+use rx_item_table::Table;
 use rx_nest::{Event, Stop, Tag};
 use rx_reading::Listener;
 use rx_terms::{Iri, NoMemory};

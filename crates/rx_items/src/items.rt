@@ -5,13 +5,15 @@ ghost use Rattle.std.specs.Prelude.{List};
 ghost use Rattle.rx_terms.specs.Text.{Chars};
 ghost use Rattle.rx_microdata.specs.Json.{outcome_of};
 ghost use Rattle.rx_microdata.specs.Visits.{standard_bounds};
-ghost use Rattle.rx_items.specs.Rows.{outcome_in, rows_of};
-ghost use Rattle.rx_items.specs.Held.{HoldsRows};
+ghost use Rattle.rx_item_table.specs.Rows.{outcome_in, rows_of};
+ghost use Rattle.rx_item_properties.specs.Held.{HoldsRows};
 ghost use Rattle.rx_items.specs.Pages.{JsonGives};
 
-use crate::kept::Kept;
 use crate::pages::page_of;
+use rx_item_properties::{Kept, kept_of};
+use rx_item_table::Table;
 use rx_tags::Stop;
+use rx_terms::{Iri, NoMemory};
 use serde_json::Value;
 use std::alloc::Global;
 use std::marker::Model;
@@ -23,7 +25,7 @@ pub struct Items {
 }
 
 impl Model for Items {
-    ghost use Rattle.rx_items.specs.declared.kept.Kept.{Kept};
+    ghost use Rattle.rx_item_properties.specs.declared.kept.Kept.{Kept};
 
     ghost Value = { Kept };
 
@@ -31,13 +33,15 @@ impl Model for Items {
 }
 
 impl Items {
-    ghost use Rattle.std.specs.Prelude.{◌≡◌};
+    ghost use Rattle.std.specs.Prelude.{IfOk};
+    ghost use Rattle.rx_item_table.specs.Showing.{ShowsRows};
 
-    /// The items of what is kept of a page.
-    pub(crate) fn of_kept(kept: Kept) -> Items
-        ensures { result ≡ kept }
+    /// The items of a page that has ended with this table, whose references are resolved against this base.
+    pub(crate) fn of_table(alloc: Global, table: Table, base: Iri) -> Result<Items, NoMemory>
+        ensures { (tree : Tree) → ShowsRows table.words table.text table.times table.rows (rows_of tree) → IfOk result (λ items. HoldsRows items (rows_of tree) base) }
     {
-        Items { kept }
+        let kept = kept_of(alloc, table.into_rows(), base)?;
+        Ok(Items { kept })
     }
 
     /// The JSON of the top-level items, with each item that is the value of a property in its place, or the fault of

@@ -4,15 +4,15 @@ ghost use Rattle.serde_json.specs.View.{view};
 ghost use Rattle.rx_terms.specs.Text.{Chars};
 ghost use Rattle.rx_microdata.specs.Elements.{Placed};
 ghost use Rattle.rx_microdata.specs.Visits.{standard_bounds};
-ghost use Rattle.rx_items.specs.Rows.{outcome_in};
-ghost use Rattle.rx_items.specs.Held.{HoldsRows};
+ghost use Rattle.rx_item_table.specs.Rows.{outcome_in};
+ghost use Rattle.rx_item_properties.specs.Held.{HoldsRows};
 ghost use Rattle.rx_items.specs.Expanding.{Finds};
 ghost use Rattle.rx_items.specs.Pages.{JsonGives, TopsGive, top_data, top_visits};
 
 use crate::groups::push_to;
-use crate::kept::Kept;
 use crate::objects::page_object;
 use crate::visits::{Trail, visit};
+use rx_item_properties::Kept;
 use rx_tags::Stop;
 use rx_terms::NoMemory;
 use serde_json::Value;

@@ -7,12 +7,11 @@ ghost use Rattle.rx_refs.specs.Resolve.{resolved};
 ghost use Rattle.rx_microdata.specs.Facts.{said};
 ghost use Rattle.rx_microdata.specs.Facts as facts;
 ghost use Rattle.rx_microdata.specs.Json.{string_of};
-ghost use Rattle.rx_items.specs.Showing.{ShowsValue, ShowsWord};
+ghost use Rattle.rx_item_table.specs.Showing.{ShowsValue, ShowsWord};
 
-use crate::kept::Kept;
 use crate::objects::string_value;
-use crate::rows::RowValue;
-use crate::spans::{Span, text_of};
+use rx_item_properties::Kept;
+use rx_item_table::{RowValue, Span, text_of};
 use rx_refs::resolve;
 use rx_terms::{Iri, NoMemory};
 use rx_values::TextStore;

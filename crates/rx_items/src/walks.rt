@@ -10,9 +10,9 @@ ghost use Rattle.rx_reading.specs.Falling.{Answered, MayAnswer};
 ghost use Rattle.rx_reading.specs.FaultPlaces.{PlaceGives};
 ghost use Rattle.rx_reading.specs.Readings.{IsWhole, Whole};
 ghost use Rattle.rx_items.specs.Collecting.{Setting, way_of, Collects};
-ghost use Rattle.rx_items.specs.Growing.{IsIdle};
-ghost use Rattle.rx_items.specs.Held.{HoldsRows};
-ghost use Rattle.rx_items.specs.Rows.{rows_of};
+ghost use Rattle.rx_item_table.specs.Growing.{IsIdle};
+ghost use Rattle.rx_item_properties.specs.Held.{HoldsRows};
+ghost use Rattle.rx_item_table.specs.Rows.{rows_of};
 ghost use Rattle.rx_items.specs.Walks as walks;
 
 use crate::collectors::{Base, Collector};
@@ -52,7 +52,7 @@ fn items_of(collector: Collector) -> Result<Items, NoMemory>
     } = collector;
     drop(address);
     match base {
-        Base::Known(base) => table.into_items(alloc, base),
+        Base::Known(base) => Items::of_table(alloc, table, base),
         Base::Sought(_sought) => unreachable!(),
     }
 }

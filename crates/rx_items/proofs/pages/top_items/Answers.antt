@@ -1,5 +1,5 @@
 use Rattle.std.proofs.Common.{◌≡◌, ◌∙◌, ◌<◌, ◌≤◌, ℕ, List, length, ap, subst}
-use Rattle.rx_items.specs.declared.kept.Element.{Element}
+use Rattle.rx_item_properties.specs.declared.kept.Element.{Element}
 use Rattle.rx_items.specs.Pages.{TopsGive, top_visits}
 use Rattle.rx_items.proofs.VisitLemmas.{err_told}
 use Rattle.rx_items.proofs.PageLemmas.{as_long, row_there, tops_err, top_on, tops_end}

@@ -1,7 +1,7 @@
 use Rattle.std.proofs.Common.{◌≡◌, [], List}
 use Rattle.rx_terms.specs.Text.{Chars}
 use Rattle.rx_microdata.specs.Elements.{Placed}
-use Rattle.rx_items.specs.Held.{HoldsRows}
+use Rattle.rx_item_properties.specs.Held.{HoldsRows}
 use Rattle.rx_items.specs.Pages.{TopsDid}
 use Rattle.rx_items.proofs.pages.top_items.Given as goal
 

@@ -6,10 +6,10 @@ use Rattle.rx_tags.specs.declared.stops.Stop.{Stop}
 use Rattle.rx_microdata.specs.Facts.{said}
 use Rattle.rx_microdata.specs.Visits.{visits_from}
 use Rattle.rx_microdata.specs.Json.{string_of, json_of_item}
-use Rattle.rx_items.specs.Rows.{properties_in}
+use Rattle.rx_item_table.specs.Rows.{properties_in}
 use Rattle.rx_items.specs.Groups.{with_last}
 use Rattle.rx_items.specs.Expanding.{Told, Finds, Goes, Did, NoFault, pair_of, steps_in, steps_of, visits_of, visits_in, data_of, grouped_in, with_name}
-use Rattle.rx_items.proofs.HoldLemmas.{list_is, all_stand, place_is}
+use Rattle.rx_item_properties.proofs.HoldLemmas.{list_is, all_stand, place_is}
 use Rattle.rx_items.proofs.VisitLemmas.{err_told, at_path, no_element, shown_in, value_err, value_on, names_end, property_err, property_on, properties_end, value_item, value_plain, row_at, list_end, told, enter_err, enter_ok, group_err, group_ok, json_is}
 use Rattle.rx_items.proofs.visits.+visit.Goals as goal
 

@@ -5,8 +5,8 @@ use Rattle.serde_json.specs.View.{members_view}
 use Rattle.rx_terms.specs.Text.{Chars}
 use Rattle.rx_microdata.specs.Elements.{Placed, names_of}
 use Rattle.rx_microdata.specs.Visits.{Visit}
-use Rattle.rx_items.specs.Held.{places}
-use Rattle.rx_items.specs.Expanding.{At, AllStand, Did, Step, with_name, steps_in}
+use Rattle.rx_item_properties.specs.Held.{AllStand, places}
+use Rattle.rx_items.specs.Expanding.{At, Did, Step, with_name, steps_in}
 use Rattle.rx_items.proofs.visits.+visit.Given as goal
 
 abbrev pub decreases-visit : goal.decreases-visit

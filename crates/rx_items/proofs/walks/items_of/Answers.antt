@@ -2,8 +2,8 @@ use Rattle.std.proofs.Common.{subst}
 use Rattle.std.specs.Prelude.{IfOk}
 use Rattle.rx_nest.specs.Signs.{signs_of}
 use Rattle.rx_base.specs.Seekings.{sought}
-use Rattle.rx_items.specs.Rows.{rows_of}
-use Rattle.rx_items.specs.Held.{HoldsRows}
+use Rattle.rx_item_table.specs.Rows.{rows_of}
+use Rattle.rx_item_properties.specs.Held.{HoldsRows}
 use Rattle.rx_items.specs.Collecting.{BaseIs}
 use Rattle.rx_items.specs.declared.collectors.Base.{Base}
 use Rattle.rx_items.proofs.Ending.{base_known, base_is, rows_shown}
@@ -15,5 +15,5 @@ unreachable-requires c = base_known c.args.collector c.in-Sought._sought c.in-So
 pub returns : goal.returns
 returns c setting bytes whole =
     let at = subst (λ (b : Base). BaseIs setting.address (sought (signs_of whole.tree)) b) c.in-Known.is whole.known.base_is in
-    subst (λ b. IfOk c.into_items.result (λ items. HoldsRows items (rows_of whole.tree) b)) (base_is setting bytes c.args.collector whole c.in-Known.base at)
-    (c.into_items.ensures whole.tree (rows_shown setting bytes c.args.collector whole))
+    subst (λ b. IfOk c.of_table.result (λ items. HoldsRows items (rows_of whole.tree) b)) (base_is setting bytes c.args.collector whole c.in-Known.base at)
+    (c.of_table.ensures whole.tree (rows_shown setting bytes c.args.collector whole))

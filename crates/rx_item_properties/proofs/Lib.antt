@@ -1,0 +1,13 @@
+mod DistinctLemmas
+mod RisingLemmas
+pub mod TakeLemmas
+pub mod HoldLemmas
+mod NestLemmas
+mod IdLemmas
+mod MemberLemmas
+mod StartLemmas
+mod ReferenceLemmas
+mod ReachLemmas
+mod PropertyLemmas
+mod BuildLemmas
+mod DisjointLemmas

@@ -1,0 +1,67 @@
+//! The runs of members that are properties of an item.
+ghost use Rattle.std.specs.Prelude.{◌≡◌, ◌++◌, ℕ, List, Contains, ◌↔◌, IfOk, OnOk};
+ghost use Rattle.std.specs.List.Sorted.{IsNonDecreasing};
+ghost use Rattle.rx_terms.specs.Text.{Chars};
+ghost use Rattle.rx_grammar.specs.Trees.{Tree};
+ghost use Rattle.rx_item_table.specs.Rows.{rows_of};
+ghost use Rattle.rx_item_properties.specs.Members.{Sorted};
+ghost use Rattle.rx_item_properties.specs.Disjoint.{Apart};
+ghost use Rattle.rx_item_properties.specs.Properties.{in_runs, part};
+ghost use Rattle.rx_item_properties.specs.Starts.{RunsReach};
+
+use crate::disjoint::{disjoint, sort_by_begin};
+use crate::kept::Run;
+use crate::starts::{own_run, start_run};
+use rx_item_table::Row;
+use rx_terms::NoMemory;
+use std::alloc::Global;
+
+/// The members that the item at this place has below it, and those that these starts reach, in runs that share none.
+pub(crate) fn reach_of(
+    alloc: Global,
+    rows: &[Row],
+    keys: &[u128],
+    starts: &[usize],
+    place: usize,
+) -> Result<Vec<Run>, NoMemory>
+    ensures reach { (words gathered : Chars) (times : List Chars) (tree : Tree) (members : List ℕ) → Sorted words gathered times rows.now (rows_of tree) keys.now members → IsNonDecreasing keys.now
+        → IfOk result (λ runs. (x : ℕ) → Contains (in_runs members runs.items) x ↔ RunsReach (rows_of tree) place starts.now x) }
+    ensures apart { IfOk result (λ runs. Apart 0 runs.items) }
+{
+    let mut runs = runs_of(alloc, rows, keys, starts, place)?;
+    sort_by_begin(&mut runs);
+    let list = disjoint(alloc, runs.as_slice())?;
+    Ok(list)
+}
+
+/// The run of what the item has below it, and that of each start. Starts may lie in each other, and so may their runs.
+fn runs_of(
+    alloc: Global,
+    rows: &[Row],
+    keys: &[u128],
+    starts: &[usize],
+    place: usize,
+) -> Result<Vec<Run>, NoMemory>
+    ensures { (words gathered : Chars) (times : List Chars) (tree : Tree) (members : List ℕ) → Sorted words gathered times rows.now (rows_of tree) keys.now members → IsNonDecreasing keys.now
+        → IfOk result (λ runs. (x : ℕ) → Contains (in_runs members runs.items) x ↔ RunsReach (rows_of tree) place starts.now x) }
+{
+    let mut runs = Vec::new(alloc);
+    add_run(&mut runs, own_run(rows, keys, place))?;
+    for start in starts {
+        add_run(&mut runs, start_run(rows, keys, *start))?;
+    }
+    Ok(runs)
+}
+
+/// Adds a run where it has a member.
+fn add_run(runs: &mut Vec<Run>, run: Run) -> Result<(), NoMemory>
+    ensures { OnOk result ((members : List ℕ) → in_runs members runs.new.items ≡ in_runs members runs.old.items ++ part members run) }
+{
+    if run.to <= run.from {
+        return Ok(());
+    }
+    let Ok(()) = runs.push(run) else {
+        return Err(NoMemory);
+    };
+    Ok(())
+}

@@ -1,0 +1,44 @@
+//! The runs of members that a start reaches, and those of which an item is the nearest one around.
+ghost use Rattle.std.specs.Prelude.{◌≡◌, ◌<◌, ◌≤◌, ◌+◌, if◌then◌else◌, Some, None, length, slice_get};
+ghost use Rattle.std.specs.List.Sorted.{IsNonDecreasing};
+ghost use Rattle.rx_item_properties.specs.Members.{RunOf};
+ghost use Rattle.rx_item_properties.specs.Starts.{reach_end};
+ghost use Rattle.rx_item_table.specs.declared.rows.Row.{Row};
+
+use crate::kept::Run;
+use crate::members::between;
+use rx_item_table::Row;
+
+/// The members of which the item at this place is the nearest one around.
+pub(crate) fn own_run(rows: &[Row], keys: &[u128], place: usize) -> Run
+    ensures { IsNonDecreasing keys.now → RunOf keys.now (Some place) 0 (length rows.now) result }
+{
+    between(keys, Some(place), 0, rows.len())
+}
+
+/// The members that a start reaches: itself where it is an item, else also what is below it and in no item below it.
+pub(crate) fn start_run(rows: &[Row], keys: &[u128], place: usize) -> Run
+    ensures run { (row : Row) → IsNonDecreasing keys.now → slice_get rows.now place ≡ Some row → RunOf keys.now row.scope place (reach_end row place) result }
+    ensures none { slice_get rows.now place ≡ None → result ≡ record { from = 0; to = 0 } }
+{
+    match rows.get(place) {
+        Some(row) => run_from(keys, row, place),
+        None => Run { from: 0, to: 0 },
+    }
+}
+
+fn run_from(keys: &[u128], row: &Row, place: usize) -> Run
+    requires { place < 18446744073709551615 }
+    ensures { IsNonDecreasing keys.now → RunOf keys.now row.now.scope place (reach_end row.now place) result }
+{
+    let end = end_of(row.head.is_item, place, row.past);
+    between(keys, row.scope, place, end)
+}
+
+fn end_of(is_item: bool, place: usize, past: usize) -> usize
+    requires { place < 18446744073709551615 }
+    ensures exact { result ≡ (if is_item then place + 1 else past) }
+    ensures bound { result ≤ 18446744073709551615 }
+{
+    if is_item { place + 1 } else { past }
+}

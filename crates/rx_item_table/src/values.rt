@@ -1,0 +1,108 @@
+//! What a tag says of the value of its element.
+ghost use Rattle.std.specs.Prelude.{◌≡◌, IfOk, OnOk};
+ghost use Rattle.std.specs.Str.{chars};
+ghost use Rattle.rx_tags.specs.Seen.{tag_seen};
+ghost use Rattle.rx_item_table.specs.Values.{taken_by, taken_of, text_by, text_taken, written, referred, own_unless, is_named, is_asked};
+ghost use Rattle.rx_item_table.specs.Rules.{rule_of as the_rule};
+
+use crate::rules::{ValueRule, rule_of};
+use crate::spans::Span;
+use crate::words::{attribute, keep_attribute};
+use rx_tags::Tag;
+use rx_terms::NoMemory;
+use rx_values::TextStore;
+use rx_words::first_token;
+
+/// What is known of a value when its element begins.
+#[derive(Clone, Copy)]
+pub(crate) enum Taken {
+    /// None is asked for, or the attribute is absent.
+    Empty,
+    /// The attribute's value.
+    Written(Span),
+    /// The attribute's value, which is a reference.
+    Reference(Span),
+    /// The element's text.
+    Text,
+    /// The text of its own text children.
+    OwnText,
+}
+
+fn written(span: Option<Span>) -> Taken
+    ensures { result ≡ written span }
+{
+    match span {
+        Some(span) => Taken::Written(span),
+        None => Taken::Empty,
+    }
+}
+
+fn referred(span: Option<Span>) -> Taken
+    ensures { result ≡ referred span }
+{
+    match span {
+        Some(span) => Taken::Reference(span),
+        None => Taken::Empty,
+    }
+}
+
+fn own_unless(span: Option<Span>) -> Taken
+    ensures { result ≡ own_unless span }
+{
+    match span {
+        Some(span) => Taken::Written(span),
+        None => Taken::OwnText,
+    }
+}
+
+/// Whether the tag gives a property name.
+pub(crate) fn is_named(tag: &Tag<'_>) -> bool
+    ensures { result ≡ is_named (tag_seen tag.now).attributes }
+{
+    match attribute(tag, "itemprop") {
+        Some(names) => first_token(names).is_some(),
+        None => false,
+    }
+}
+
+/// Whether the value of an element is asked for, which is a property and no item.
+fn is_asked(tag: &Tag<'_>) -> bool
+    ensures { result ≡ is_asked (tag_seen tag.now).attributes }
+{
+    if attribute(tag, "itemscope").is_some() {
+        return false;
+    }
+    is_named(tag)
+}
+
+/// Keeps the value of an element where it is asked for and stands in the tag.
+pub(crate) fn take_value(words: &mut TextStore, tag: &Tag<'_>) -> Result<Taken, NoMemory>
+    ensures text { OnOk result (words.new ≡ text_taken words.old (tag_seen tag.now)) }
+    ensures value { IfOk result (λ taken. taken ≡ taken_of words.old (tag_seen tag.now)) }
+{
+    if !is_asked(tag) {
+        return Ok(Taken::Empty);
+    }
+    take_by(words, tag, rule_for(tag))
+}
+
+fn rule_for(tag: &Tag<'_>) -> ValueRule
+    ensures { result ≡ the_rule (tag_seen tag.now).name }
+{
+    rule_of(tag.name())
+}
+
+fn take_by(words: &mut TextStore, tag: &Tag<'_>, rule: ValueRule) -> Result<Taken, NoMemory>
+    ensures text { OnOk result (words.new ≡ text_by rule words.old (tag_seen tag.now).attributes) }
+    ensures value { IfOk result (λ taken. taken ≡ taken_by rule words.old (tag_seen tag.now).attributes) }
+{
+    match rule {
+        ValueRule::Content => Ok(written(keep_attribute(words, tag, "content")?)),
+        ValueRule::Src => Ok(referred(keep_attribute(words, tag, "src")?)),
+        ValueRule::Href => Ok(referred(keep_attribute(words, tag, "href")?)),
+        ValueRule::Data => Ok(referred(keep_attribute(words, tag, "data")?)),
+        ValueRule::Value => Ok(written(keep_attribute(words, tag, "value")?)),
+        ValueRule::Time => Ok(own_unless(keep_attribute(words, tag, "datetime")?)),
+        ValueRule::Text => Ok(Taken::Text),
+    }
+}
