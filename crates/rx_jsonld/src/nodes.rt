@@ -59,7 +59,13 @@ fn add_node(
     push_to(nodes, node)
 }
 
-pub(crate) fn begins_node(graph: &Graph, shapes: &Shapes, cells: &Nodes, place: usize, subject: &Node) -> bool
+pub(crate) fn begins_node(
+    graph: &Graph,
+    shapes: &Shapes,
+    cells: &Nodes,
+    place: usize,
+    subject: &Node,
+) -> bool
     requires shapes { AreShapes (triples_seen graph.now) shapes.now }
     requires listed { cells.now ≡ nodes_added [] (listed (shape_in shapes.now) (triples_seen graph.now)) }
     ensures { result ≡ (starts (places_of nat_eq (triples_seen graph.now) (node_seen subject.now)) place && not (is_listed (shape_in shapes.now) (triples_seen graph.now) (node_seen subject.now))) }

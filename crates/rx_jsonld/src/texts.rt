@@ -100,7 +100,11 @@ fn put_value(alloc: Global, value: &Value, text: &mut Vec<u8>) -> Result<(), NoM
 fn opener(text: &Vec<u8>) -> u8
     ensures { result ≡ opener text.now.items }
 {
-    if text.as_slice().len() == 0 { b'[' } else { b',' }
+    if text.as_slice().len() == 0 {
+        b'['
+    } else {
+        b','
+    }
 }
 
 /// The text with the array's last bracket.
