@@ -7,9 +7,8 @@ ghost use Rattle.rx_shapes.specs.Table.{AreShapes, shape_in};
 ghost use Rattle.rx_jsonld.specs.Lists.{blank_in, cell_by, cell_listed, chain, first_cell, is_cell, is_cell_by, may_list, object_at};
 ghost use Rattle.rx_jsonld.specs.Places.{object_among, object_if, predicate_of};
 
-use crate::vocabulary::{is_first, is_rest, is_type};
 use rx_graph::Graph;
-use rx_shapes::{Shape, Shapes};
+use rx_shapes::{Shape, Shapes, is_first, is_rest, is_type};
 use rx_terms::{Blank, Iri, NoMemory, Node, Term, Triple};
 use std::alloc::Global;
 

@@ -16,8 +16,6 @@ mod objects;
 mod terms;
 mod texts;
 mod values;
-mod vocabulary;
-mod writable;
 
 pub use texts::text;
 pub use values::value;

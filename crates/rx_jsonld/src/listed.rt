@@ -9,8 +9,8 @@ ghost use Rattle.rx_jsonld.specs.Lists.{cells_at, chain, is_listed, listed};
 ghost use Rattle.rx_jsonld.specs.Places.{nodes_added};
 
 use crate::chains::{chain, first_cell};
-use crate::writable::is_writable;
 use rx_graph::{Graph, Nodes, Resource};
+use rx_pieces::is_writable;
 use rx_shapes::Shapes;
 use rx_terms::{Blank, NoMemory, Node, Triple};
 use std::alloc::Global;

@@ -6,8 +6,7 @@ ghost use Rattle.rx_nesting.specs.Said.{picked, predicate_of, object_by, found, 
 
 use rx_graph::Graph;
 use rx_groups::{By, Groups};
-use rx_shapes::Shapes;
-use rx_shorts::{is_first, is_rest};
+use rx_shapes::{Shapes, is_first, is_rest};
 use rx_terms::{Iri, NoMemory, Node, Term, Triple};
 use std::alloc::Global;
 

@@ -15,8 +15,7 @@ use crate::stack::{Stack, Task};
 use crate::tokens::{Token, Words};
 use rx_graph::Resource;
 use rx_groups::Groups;
-use rx_shapes::Shape;
-use rx_shorts::is_nil;
+use rx_shapes::{Shape, is_nil};
 use rx_terms::{Blank, Iri, NoMemory, Node, Term};
 
 /// Gives the first token of a task, and puts the rest of it on the stack.

@@ -11,6 +11,7 @@ mod labels;
 mod pieces;
 mod terms;
 mod whole;
+mod writable;
 
 pub use errors::WriteError;
 pub use escapes::push_text;
@@ -18,3 +19,4 @@ pub use labels::{LABEL, push_label};
 pub use pieces::Pieces;
 pub use terms::{push, push_between, push_iri, push_lang};
 pub use whole::Whole;
+pub use writable::{is_writable, is_writable_blank, is_writable_iri, is_writable_literal};

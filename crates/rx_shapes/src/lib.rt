@@ -17,6 +17,7 @@ mod shapes;
 mod vocabulary;
 
 pub use shapes::{Shape, Shapes};
+pub use vocabulary::{is_first, is_nil, is_rest, is_type};
 
 /// The worked examples: what each node of some small graphs is, and why.
 pub fn examples_hold()

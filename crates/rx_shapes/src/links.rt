@@ -213,7 +213,7 @@ fn pair_link(index: &Index, one: &Triple, other: &Triple) -> Link
 fn are_pair(one: &Triple, other: &Triple) -> bool
     ensures { result ≡ are_pair (triple_seen one.now) (triple_seen other.now) }
 {
-    is_first(one) && is_rest(other)
+    is_first(&one.predicate) && is_rest(&other.predicate)
 }
 
 /// Where a list goes on from a cell, by the object of its rdf:rest.

@@ -1,10 +1,13 @@
-//! RDF's vocabulary for lists.
+//! RDF's vocabulary for lists and types.
 ghost use Rattle.std.specs.Prelude.{◌≡◌, true, bytes_eq};
 ghost use Rattle.std.specs.List.{list_all};
 ghost use Rattle.rx_terms.specs.Ascii.{is_ascii};
+ghost use Rattle.rx_model.specs.Copied.{rdf_type};
 ghost use Rattle.rx_shapes.specs.Shapes.{rdf_first, rdf_rest, rdf_nil};
 
-use rx_terms::{Iri, Triple};
+use rx_terms::Iri;
+
+const RDF_TYPE: &str = "http://www.w3.org/1999/02/22-rdf-syntax-ns#type";
 
 const RDF_FIRST: &str = "http://www.w3.org/1999/02/22-rdf-syntax-ns#first";
 
@@ -12,22 +15,29 @@ const RDF_REST: &str = "http://www.w3.org/1999/02/22-rdf-syntax-ns#rest";
 
 const RDF_NIL: &str = "http://www.w3.org/1999/02/22-rdf-syntax-ns#nil";
 
-/// Whether the triple's predicate is rdf:first.
-pub(crate) fn is_first(triple: &Triple) -> bool
-    ensures { result ≡ bytes_eq triple.now.predicate rdf_first }
+/// Whether the IRI is rdf:type, which says of what class a node is (RDF Schema 1.1, 3.3).
+pub fn is_type(iri: &Iri) -> bool
+    ensures { result ≡ bytes_eq iri.now rdf_type }
 {
-    is(&triple.predicate, RDF_FIRST)
+    is(iri, RDF_TYPE)
 }
 
-/// Whether the triple's predicate is rdf:rest.
-pub(crate) fn is_rest(triple: &Triple) -> bool
-    ensures { result ≡ bytes_eq triple.now.predicate rdf_rest }
+/// Whether the IRI is rdf:first, which says a cell's item (RDF Schema 1.1, 5.2).
+pub fn is_first(iri: &Iri) -> bool
+    ensures { result ≡ bytes_eq iri.now rdf_first }
 {
-    is(&triple.predicate, RDF_REST)
+    is(iri, RDF_FIRST)
 }
 
-/// Whether the IRI is rdf:nil.
-pub(crate) fn is_nil(iri: &Iri) -> bool
+/// Whether the IRI is rdf:rest, which says what comes after a cell (RDF Schema 1.1, 5.2).
+pub fn is_rest(iri: &Iri) -> bool
+    ensures { result ≡ bytes_eq iri.now rdf_rest }
+{
+    is(iri, RDF_REST)
+}
+
+/// Whether the IRI is rdf:nil, the list of nothing (RDF Schema 1.1, 5.2).
+pub fn is_nil(iri: &Iri) -> bool
     ensures { result ≡ bytes_eq iri.now rdf_nil }
 {
     is(iri, RDF_NIL)

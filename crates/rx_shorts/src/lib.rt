@@ -11,12 +11,8 @@ mod prefixes;
 mod shorts;
 mod terms;
 mod uses;
-mod vocabulary;
-mod writable;
 
 pub use prefixes::push_prefixes;
 pub use shorts::Shorts;
 pub use terms::{push_key, push_literal, push_object, push_resource};
 pub use uses::{mark_iri, mark_kind, mark_predicate, unmarked, used_marks};
-pub use vocabulary::{is_first, is_nil, is_rest};
-pub use writable::{is_writable, is_writable_literal, is_writable_resource};

@@ -9,10 +9,10 @@ ghost use Rattle.rx_pieces.specs.Writable.{Adds};
 ghost use Rattle.rx_shorts.specs.Verbs.{key_text};
 
 use crate::shorts::Shorts;
-use crate::vocabulary::is_type;
 use rx_graph::Resource;
 use rx_pieces::{LABEL, Pieces, push, push_between, push_label, push_lang, push_text};
 use rx_ports::Sink;
+use rx_shapes::is_type;
 use rx_terms::{Blank, Iri, Lang, Literal, LiteralKind, Term};
 
 /// The room for a label.

@@ -7,9 +7,9 @@ ghost use Rattle.rx_notation.specs.Layout.{iris_of, iris_of_kind, iris_of_node, 
 ghost use Rattle.rx_shorts.specs.Uses.{marked, marked_all, unmarked, used_marks};
 
 use crate::shorts::Shorts;
-use crate::vocabulary::is_type;
-use crate::writable::is_writable;
 use rx_graph::Graph;
+use rx_pieces::is_writable;
+use rx_shapes::is_type;
 use rx_terms::{Iri, LiteralKind, NoMemory, Node, Term, Triple};
 use std::alloc::Global;
 

@@ -4,6 +4,7 @@ ghost use Rattle.rx_model.specs.Seen.{triples_seen};
 ghost use Rattle.rx_model.specs.Sets.{distinct};
 ghost use Rattle.rx_model.specs.Terms.{same_triple};
 ghost use Rattle.rx_graph.specs.Resources.{resource_seen};
+ghost use Rattle.rx_pieces.specs.Writable.{WritableNode};
 ghost use Rattle.rx_notation.specs.Laws.{IsWritable};
 ghost use Rattle.rx_notation.specs.Layout.{iris_of_node};
 ghost use Rattle.rx_notation.specs.Short.{names_rise};
@@ -14,8 +15,9 @@ ghost use Rattle.rx_shorts.specs.Verbs.{iris_of_verb};
 
 use rx_graph::{Graph, Resource};
 use rx_nesting::Token;
+use rx_pieces::{is_writable, is_writable_blank, is_writable_iri, is_writable_literal};
 use rx_shorts::{
-    Shorts, is_writable, is_writable_literal, is_writable_resource, mark_iri, mark_kind,
+    Shorts, mark_iri, mark_kind,
     mark_predicate, unmarked,
 };
 use rx_terms::NoMemory;
@@ -96,5 +98,16 @@ fn is_writable_token(token: Token)
         Token::Noun(resource) => is_writable_resource(resource),
         Token::Verb(resource) => is_writable_resource(resource),
         Token::Quoted(literal) => is_writable_literal(literal),
+    }
+}
+
+/// The same of a resource.
+#[inline(always)]
+fn is_writable_resource(resource: Resource)
+    ensures { WritableNode (resource_seen resource.entry) }
+{
+    match resource {
+        Resource::Iri(iri) => is_writable_iri(iri),
+        Resource::Blank(blank) => is_writable_blank(blank),
     }
 }

@@ -2,10 +2,8 @@
 //! their contracts say so of the values that they are shown.
 ghost use Rattle.std.specs.Prelude.{◌<◌, ◌^◌, None};
 ghost use Rattle.rx_model.specs.Seen.{kind_seen, node_seen, term_seen, triple_seen};
-ghost use Rattle.rx_graph.specs.Resources.{resource_seen};
 ghost use Rattle.rx_pieces.specs.Writable.{WritableIri, WritableKind, WritableNode, WritableTag, WritableTerm, WritableText, WritableTriple};
 
-use rx_graph::Resource;
 use rx_terms::{Blank, Iri, Lang, Literal, LiteralKind, Node, Term, Text, Triple};
 
 /// What the parts of a triple are.
@@ -16,17 +14,6 @@ pub fn is_writable(triple: &Triple)
     is_writable_node(&triple.subject);
     is_writable_iri(&triple.predicate);
     is_writable_term(&triple.object);
-}
-
-/// The same of a resource.
-#[inline(always)]
-pub fn is_writable_resource(resource: Resource)
-    ensures { WritableNode (resource_seen resource.entry) }
-{
-    match resource {
-        Resource::Iri(iri) => is_writable_iri(iri),
-        Resource::Blank(blank) => is_writable_blank(blank),
-    }
 }
 
 /// The same of a literal.
@@ -73,8 +60,9 @@ fn is_writable_kind(kind: &LiteralKind)
     }
 }
 
+/// The same of a blank node.
 #[inline(always)]
-fn is_writable_blank(blank: Blank)
+pub fn is_writable_blank(blank: Blank)
     ensures { blank.0 < 2 ^ 64 }
 {}
 
@@ -92,8 +80,9 @@ fn is_writable_tag(tag: &Lang)
     let _characters = tag.as_str();
 }
 
+/// The same of an IRI.
 #[inline(always)]
-fn is_writable_iri(iri: &Iri)
+pub fn is_writable_iri(iri: &Iri)
     ensures { WritableIri iri.now }
 {
     let _characters = iri.as_str();

@@ -1,5 +1,5 @@
 use Rattle.rx_pieces.proofs.Adding.{iri_of}
-use Rattle.rx_jsonld.proofs.writable.is_writable_iri.Goals as goal
+use Rattle.rx_pieces.proofs.writable.is_writable_iri.Goals as goal
 
 pub returns : goal.returns
 returns c = iri_of _ _ c.as_str-characters.utf8 c.as_str-characters.ensures.characters c.as_str-characters.ensures.form

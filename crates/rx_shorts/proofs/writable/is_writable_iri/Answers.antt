@@ -1,5 +1,0 @@
-use Rattle.rx_pieces.proofs.Adding.{iri_of}
-use Rattle.rx_shorts.proofs.writable.is_writable_iri.Goals as goal
-
-pub returns : goal.returns
-returns c = iri_of _ _ c.as_str-characters.utf8 c.as_str-characters.ensures.characters c.as_str-characters.ensures.form
