@@ -27,27 +27,21 @@ pub(crate) enum Part {
 pub(crate) fn first_cell(shapes: &Shapes, triple: &Triple) -> Option<Blank>
     ensures { option_map (λ b. b.0) result ≡ first_cell (shape_in shapes.now) (triple_seen triple.now) }
 {
-    cell_by(
-        shapes,
-        may_list(shapes, &triple.subject, &triple.predicate),
-        &triple.object,
-    )
-}
-
-fn cell_by(shapes: &Shapes, may: bool, object: &Term) -> Option<Blank>
-    ensures { option_map (λ b. b.0) result ≡ cell_by (shape_in shapes.now) may (term_seen object.now) }
-{
-    match object {
+    match &triple.object {
         Term::Iri(_iri) => None,
-        Term::Blank(blank) => cell_listed(shapes, may, *blank),
+        Term::Blank(blank) => cell_listed(shapes, triple, *blank),
         Term::Literal(_literal) => None,
     }
 }
 
-fn cell_listed(shapes: &Shapes, may: bool, blank: Blank) -> Option<Blank>
-    ensures { option_map (λ b. b.0) result ≡ cell_listed (shape_in shapes.now) may blank.0 }
+/// The cell, where it is one and the triple may have a list. Few nodes are cells, so this is looked at first.
+fn cell_listed(shapes: &Shapes, triple: &Triple, blank: Blank) -> Option<Blank>
+    ensures { option_map (λ b. b.0) result ≡ cell_listed (shape_in shapes.now) (may_list (shape_in shapes.now) (node_seen triple.now.subject) triple.now.predicate) blank.0 }
 {
-    if may && is_cell_number(shapes, blank) {
+    if !is_cell_number(shapes, blank) {
+        return None;
+    }
+    if may_list(shapes, &triple.subject, &triple.predicate) {
         Some(blank)
     } else {
         None
