@@ -200,7 +200,7 @@ fn check<F: Shelf>(
 }
 
 /// The context that holds: that of the file, where one is named, else the standard one.
-fn read_context<F: Shelf>(
+pub(crate) fn read_context<F: Shelf>(
     alloc: Global,
     shelf: &mut F,
     file: Option<&Text>,
