@@ -103,6 +103,7 @@ fn outcome_under_context<F: Shelf>(
         }
         Job::Check { syntax, page, .. } => check(alloc, shelf, page, *syntax, context),
         Job::Items { .. } => unreachable!(),
+        Job::Many { .. } => unreachable!(),
         Job::Sample { .. } => unreachable!(),
     }
 }

@@ -206,12 +206,8 @@ fn run_several<F: Shelf, O: Sink, E: Sink>(
         (record { told = F.told shelf.old; read_faults = F.faults shelf.old; held = O.held out.old; write_faults = O.faults out.old; said = E.held err.old; say_faults = E.faults err.old })
         (record { told = F.told shelf.new; read_faults = F.faults shelf.new; held = O.held out.new; write_faults = O.faults out.new; said = E.held err.new; say_faults = E.faults err.new }) }
 {
-    let text = match gather(alloc, shelf, several) {
-        Ok(many) => {
-            let text = many.text(alloc);
-            drop(many);
-            text
-        }
+    let many = match gather(alloc, shelf, several) {
+        Ok(many) => many,
         Err(InputError::Failed) => return Status::ReadFault,
         Err(InputError::BadContext) => {
             say(err, BAD_CONTEXT);
@@ -220,6 +216,8 @@ fn run_several<F: Shelf, O: Sink, E: Sink>(
         Err(InputError::Refused(_fault)) => unreachable!(),
         Err(InputError::NoMemory) => return Status::Memory,
     };
+    let text = many.text(alloc);
+    drop(many);
     match text {
         Ok(text) => match put_all(out, text.as_slice()) {
             Ok(()) => Status::Done,
