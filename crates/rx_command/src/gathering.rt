@@ -3,10 +3,11 @@ ghost use Rattle.std.specs.Prelude.{◌≡◌, ◌≤◌, ◌⊎◌, ◌++◌, [
 ghost use Rattle.rx_model.specs.Copied.{copied};
 ghost use Rattle.rx_model.specs.Numbered.{numbered};
 ghost use Rattle.rx_model.specs.Seen.{triples_seen};
-ghost use Rattle.rx_many.specs.Pages.{accepted_page};
+ghost use Rattle.rx_many.specs.Pages.{accepted_page, refused_page};
 ghost use Rattle.rx_ports.specs.Counts.{Rose};
 ghost use Rattle.rx_ports.specs.Told.{Moves, Lacks};
 ghost use Rattle.rx_job.specs.Jobs.{several_seen};
+ghost use Rattle.rx_command.specs.declared.errors.InputError as errors;
 ghost use Rattle.rx_command.specs.Contexts.{HasOther, TakesContext};
 ghost use Rattle.rx_command.specs.Gathering.{AddsPage, AddsPages, GathersPages, TakesGathering, TakesPart, TakesParts};
 ghost use Rattle.rx_command.specs.Inputs.{TellsThat, WhereTold};
@@ -114,9 +115,9 @@ fn gather_page<F: Shelf>(
             Ok(()) => Ok(()),
             Err(NoMemory) => Err(InputError::NoMemory),
         },
-        Err(InputError::Refused(fault)) => match many.refuse(address, fault) {
+        Err(InputError::Refused(fault)) => match refuse(address, fault, many) {
             Ok(()) => Ok(()),
-            Err(NoMemory) => Err(InputError::NoMemory),
+            Err(error) => Err(error),
         },
         Err(InputError::Failed) => Err(InputError::Failed),
         Err(InputError::BadContext) => unreachable!(),
@@ -158,4 +159,15 @@ fn accept(
 {
     let graph = graph_of(alloc, list)?;
     many.add_owned(address, graph)
+}
+
+/// Adds the page of this address, which has this fault.
+fn refuse(address: &Iri, fault: Fault, many: &mut Many) -> Result<(), InputError>
+    ensures ok { OnOk result (many.new ≡ many.old ++ refused_page address.now fault ∷ []) }
+    ensures memory { (error : errors.InputError) → result ≡ Err error → error ≡ InputError.NoMemory }
+{
+    match many.refuse(address, fault) {
+        Ok(()) => Ok(()),
+        Err(NoMemory) => Err(InputError::NoMemory),
+    }
 }

@@ -23,8 +23,8 @@ returns-in-Err-NoMemory-accept-clause-takes g c = page_takes c.in-Ok.approach c.
 pub returns-in-Ok-refuse-clause-takes : goal.returns-in-Ok-refuse-clause-takes
 returns-in-Ok-refuse-clause-takes g c = page_takes c.in-Ok.approach c.args.syntax c.args.context.now c.args.address.now c.args.page.now c.as_str.result.now c.in-Ok.ensures.syntax c.in-Ok.ensures.context c.in-Ok.ensures.address c.as_str.ensures.bytes _ _ c.read_page.ensures.takes c.read_page.ensures.to_first
 
-pub returns-in-Err-NoMemory-refuse-clause-takes : goal.returns-in-Err-NoMemory-refuse-clause-takes
-returns-in-Err-NoMemory-refuse-clause-takes g c = page_takes c.in-Ok.approach c.args.syntax c.args.context.now c.args.address.now c.args.page.now c.as_str.result.now c.in-Ok.ensures.syntax c.in-Ok.ensures.context c.in-Ok.ensures.address c.as_str.ensures.bytes _ _ c.read_page.ensures.takes c.read_page.ensures.to_first
+pub returns-in-Err-refuse-clause-takes : goal.returns-in-Err-refuse-clause-takes
+returns-in-Err-refuse-clause-takes g c = page_takes c.in-Ok.approach c.args.syntax c.args.context.now c.args.address.now c.args.page.now c.as_str.result.now c.in-Ok.ensures.syntax c.in-Ok.ensures.context c.in-Ok.ensures.address c.as_str.ensures.bytes _ _ c.read_page.ensures.takes c.read_page.ensures.to_first
 
 pub returns-in-Err-Failed-clause-takes : goal.returns-in-Err-Failed-clause-takes
 returns-in-Err-Failed-clause-takes g c = page_takes c.in-Ok.approach c.args.syntax c.args.context.now c.args.address.now c.args.page.now c.as_str.result.now c.in-Ok.ensures.syntax c.in-Ok.ensures.context c.in-Ok.ensures.address c.as_str.ensures.bytes _ _ c.read_page.ensures.takes c.read_page.ensures.to_first
