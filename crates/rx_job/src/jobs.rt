@@ -198,20 +198,20 @@ impl Job {
         let Some(front) = front_of(words) else {
             return Err(JobError::Usage);
         };
-        let options = front.options;
-        let Some(syntax) = syntax_of(options.syntax) else {
+        let given = front.options;
+        let Some(syntax) = syntax_of(given.syntax) else {
             return Err(JobError::Usage);
         };
-        let None = options.format else {
+        let None = given.format else {
             return Err(JobError::Usage);
         };
-        let None = options.graph else {
+        let None = given.graph else {
             return Err(JobError::Usage);
         };
-        let None = options.base else {
+        let None = given.base else {
             return Err(JobError::Usage);
         };
-        if !is_file_if_any(options.context) {
+        if !is_file_if_any(given.context) {
             return Err(JobError::Usage);
         }
         let pages = match pages_of(alloc, front.behind) {
@@ -222,7 +222,7 @@ impl Job {
             drop(pages);
             return Err(JobError::Usage);
         }
-        let Ok(context) = copied(options.context) else {
+        let Ok(context) = copied(given.context) else {
             drop(pages);
             return Err(JobError::NoMemory);
         };
