@@ -160,7 +160,7 @@ module _ (a : Approach) (syntax : Syntax) (context : Context) (address page name
   gives_triples list x y c =
       let triples : List (Triple ℕ) = numbered nat_eq (copied nat_eq (triples_seen list)) in
       let own : GivesTriples a.syntax a.context a.address c.bytes triples =
-          record { tree = c.gives.tree; is = record { page = c.gives.page; accepted = c.gives.accepted }; given = list_written a.address a.context c.gives.tree list c.gives.made } in
+      record { tree = c.gives.tree; is = record { page = c.gives.page; accepted = c.gives.accepted }; given = list_written a.address a.context c.gives.tree list c.gives.made } in
       record {
         bytes = c.bytes;
         file = ap (λ z. file_of x.files z) (sym named) ∙ c.file;
@@ -259,9 +259,9 @@ module _ (context : Context) (syntax : Syntax) where
   some_taken listed i one before now told mid late at a p =
       moves_then (TakesParts context syntax listed)
       (λ x y z r q.
-          subst (λ (ls : List Listed). TakesParts context syntax ls x z) (front_and_rest (i + 1) listed)
-          (part_alone (take (i + 1) listed) (drop (i + 1) listed) x z
-          (subst (λ (ls : List Listed). TakesParts context syntax ls x z) (front_more listed i one at) (part_then (take i listed) one x y z r.takes q)))) a.reads p
+      subst (λ (ls : List Listed). TakesParts context syntax ls x z) (front_and_rest (i + 1) listed)
+      (part_alone (take (i + 1) listed) (drop (i + 1) listed) x z
+      (subst (λ (ls : List Listed). TakesParts context syntax ls x z) (front_more listed i one at) (part_then (take i listed) one x y z r.takes q)))) a.reads p
 
 lacks_at : (files : FileList) (listed : List Listed) (i : ℕ) (one : Listed) → slice_get listed i ≡ Some one → file_of files (encode_utf8_all one.page) ≡ None → LacksPage files listed
 lacks_at files [] i one e f = absurd (cc)

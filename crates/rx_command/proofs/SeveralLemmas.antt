@@ -40,9 +40,12 @@ module _ (g : Gathering) (old new : Devices) where
   pub ends_done : (pages : List Page) (text piece : List ℕ) → piece ≡ text → text ≡ encode_utf8_all (gathered pages) → DenotesPages (chars text) pages → Moves (GathersPages g pages) old.told new.told → Moves (TakesGathering g) old.told new.told
       → Moves (GrowsBy piece) old.held new.held → Moves Stays old.said new.said → GatheringEnds g status.Done old new
   ends_done pages text piece same e d m t w s = record {
-    ends =
-        (text, where_moved (IsGathered g text) old.told new.told (λ x y p. is_gathered g pages text e x y p) m,
-        where_moved (DenotesGathered g text) old.told new.told (λ x y p. denotes_gathered g pages text d x y p) m, subst (λ z. Moves (GrowsBy z) old.held new.held) same w);
+    ends = (
+      text,
+      where_moved (IsGathered g text) old.told new.told (λ x y p. is_gathered g pages text e x y p) m,
+      where_moved (DenotesGathered g text) old.told new.told (λ x y p. denotes_gathered g pages text d x y p) m,
+      subst (λ z. Moves (GrowsBy z) old.held new.held) same w,
+    );
     takes = t;
     says = s;
   }

@@ -149,12 +149,7 @@ fn approach_of(
 }
 
 /// Adds the page of this address, which gives the graph of the triples.
-fn accept(
-    alloc: Global,
-    address: &Iri,
-    list: TripleList,
-    many: &mut Many,
-) -> Result<(), NoMemory>
+fn accept(alloc: Global, address: &Iri, list: TripleList, many: &mut Many) -> Result<(), NoMemory>
     ensures { OnOk result (many.new ≡ many.old ++ accepted_page address.now (numbered nat_eq (copied nat_eq (triples_seen list))) ∷ []) }
 {
     let graph = graph_of(alloc, list)?;

@@ -24,9 +24,12 @@ returns-in-Err-Failed g c = record {
 
 pub returns-in-Err-BadContext : goal.returns-in-Err-BadContext
 returns-in-Err-BadContext g c = record {
-  ends =
-      (c.in-Err-BadContext.ensures.named (ap Err c.in-Err-BadContext.field-0-is), c.in-Err-BadContext.ensures.bad (ap Err c.in-Err-BadContext.field-0-is), c.in-Err-BadContext.ensures.bad_takes (ap Err c.in-Err-BadContext.field-0-is),
-      moves_same Stays (λ x. refl) (g.O.Sink.held c.args.out.now));
+  ends = (
+    c.in-Err-BadContext.ensures.named (ap Err c.in-Err-BadContext.field-0-is),
+    c.in-Err-BadContext.ensures.bad (ap Err c.in-Err-BadContext.field-0-is),
+    c.in-Err-BadContext.ensures.bad_takes (ap Err c.in-Err-BadContext.field-0-is),
+    moves_same Stays (λ x. refl) (g.O.Sink.held c.args.out.now),
+  );
   takes = c.gather.ensures.takes;
   says = c.say.ensures;
 }
