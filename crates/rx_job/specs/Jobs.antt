@@ -12,8 +12,8 @@ use Rattle.rx_job.specs.declared.options.Options.{Options}
 use Rattle.rx_job.specs.declared.formats.Format.{Format}
 use Rattle.rx_job.specs.declared.jobs.Job.{Job as CodeJob}
 use Rattle.rx_job.specs.declared.jobs.Job.TheVariants.{Extract, Items, Check, Many, Sample}
-use Rattle.rx_job.specs.declared.jobs.JobError.{JobError}
-use Rattle.rx_job.specs.declared.jobs.JobError.TheVariants as error
+use Rattle.rx_job.specs.declared.errors.JobError.{JobError}
+use Rattle.rx_job.specs.declared.errors.JobError.TheVariants as error
 use denote.Ref.{Bor}
 
 abbrev pub asked_by : CodeJob → Job

@@ -1,6 +1,6 @@
 //! The options behind a task, and what stands behind them.
-ghost use Rattle.std.specs.Prelude.{◌≡◌, ◌<◌, ◌∷◌, MatchOption, length, None, Some};
-ghost use Rattle.rx_job.specs.Words.{given, given_by, leading};
+ghost use Rattle.std.specs.Prelude.{◌≡◌, ◌<◌, [], ◌∷◌, MatchOption, length, None, Some};
+ghost use Rattle.rx_job.specs.Words.{Given, arguments_with, given, given_by, leading};
 ghost use Rattle.rx_job.specs.Options.{NoOption, word_of};
 ghost use Rattle.rx_job.specs.Jobs.{given_seen, Leads};
 
@@ -28,13 +28,23 @@ pub(crate) fn arguments_of(words: &[Text]) -> Option<Arguments<'_>>
     let Some(front) = front_of(words) else {
         return None;
     };
-    let [last] = front.behind else {
+    let Some(last) = only(front.behind) else {
         return None;
     };
     Some(Arguments {
         options: front.options,
         last,
     })
+}
+
+/// The one word of a list that has no other.
+fn only(words: &[Text]) -> Option<&Text>
+    ensures { MatchOption result ((options : Given) → arguments_with words.now options ≡ None) (λ last. words.now ≡ last.now ∷ []) }
+{
+    let [last] = words else {
+        return None;
+    };
+    Some(last)
 }
 
 /// Reads the options at the front of the words. None where one comes twice.
