@@ -54,7 +54,7 @@ all_of (suc n) (x ∷ xs) l = ap (λ z. x ∷ z) (all_of n xs (omega (arith, l))
 -- ---- parts
 
 total_both : (a b : List ℕ) → total (a ++ b) ≡ total a + total b
-total_both [] b = refl
+total_both [] b = omega arith
 total_both (n ∷ a) b = let t : total (a ++ b) ≡ total a + total b = total_both a b in omega (arith, t)
 
 -- nothing of each page
@@ -64,7 +64,7 @@ none_of (listed ∷ more) = 0 ∷ none_of more
 
 total_none : (listed : List Listed) → total (none_of listed) ≡ 0
 total_none [] = refl
-total_none (one ∷ more) = total_none more
+total_none (one ∷ more) = let rest : total (none_of more) ≡ 0 = total_none more in omega (arith, rest)
 
 module _ (holds : Context → Type 0) (syntax : Syntax) (files : FileList) where
   nothing_of : (one : Listed) → IsPart holds syntax files one 0

@@ -17,12 +17,12 @@ loop-i-preserved g c =
 
 pub returns-clause-ok : goal.returns-clause-ok
 returns-clause-ok g c =
-    let all : length c.args.pages.now ≤ c.loop-i.i = omega (arith, c.loop-i-test.false, c.len.ensures) in
+    let all : length c.args.pages.now ≤ c.loop-i.i = omega (arith, c.loop-i-test.false, c.loop-i.auto.i-end, c.len-i-end.ensures) in
     all_added c.args.context.now c.args.syntax c.args.pages.now c.loop-i.i _ _ _ _ all c.loop-i.invariant.adds
 
 pub returns-clause-takes : goal.returns-clause-takes
 returns-clause-takes g c =
-    let all : length c.args.pages.now ≤ c.loop-i.i = omega (arith, c.loop-i-test.false, c.len.ensures) in
+    let all : length c.args.pages.now ≤ c.loop-i.i = omega (arith, c.loop-i-test.false, c.loop-i.auto.i-end, c.len-i-end.ensures) in
     all_taken c.args.context.now c.args.syntax c.args.pages.now c.loop-i.i _ _ _ _ all c.loop-i.invariant.adds
 
 pub returns-in-Err-clause-takes : goal.returns-in-Err-clause-takes

@@ -10,8 +10,8 @@ returns-in-Ok-put_all g c =
     ends_done (several_seen c.args.several) _ _ c.in-Ok.many c.in-Ok-text.text.items c.as_slice.result.now c.as_slice.ensures.value c.in-Ok-text.ensures.bytes c.in-Ok-text.ensures.denotes c.in-Ok.ensures.ok c.gather.ensures.takes c.in-Ok-put_all.ensures.ok
     (moves_same Stays (λ x. refl) (g.E.Sink.held c.args.err.now))
 
-pub returns-in-Err-put_all : goal.returns-in-Err-put_all
-returns-in-Err-put_all g c =
+pub returns-in-Ok-text : goal.returns-in-Ok-text
+returns-in-Ok-text g c =
     ends_partly (several_seen c.args.several) _ _ c.in-Ok.many c.in-Ok-text.text.items c.as_slice.result.now c.as_slice.ensures.value c.in-Ok-text.ensures.bytes c.in-Ok.ensures.ok c.gather.ensures.takes c.in-Err-put_all.ensures.err c.in-Err-put_all.ensures.cause
     (moves_same Stays (λ x. refl) (g.E.Sink.held c.args.err.now))
 
@@ -41,8 +41,8 @@ returns-in-Err-NoMemory g c = record {
   says = moves_same Stays (λ x. refl) (g.E.Sink.held c.args.err.now);
 }
 
-pub returns-in-Err-NoMemory-text : goal.returns-in-Err-NoMemory-text
-returns-in-Err-NoMemory-text g c = record {
+pub returns : goal.returns
+returns g c = record {
   ends = moves_same Stays (λ x. refl) (g.O.Sink.held c.args.out.now);
   takes = c.gather.ensures.takes;
   says = moves_same Stays (λ x. refl) (g.E.Sink.held c.args.err.now);
