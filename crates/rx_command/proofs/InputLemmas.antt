@@ -26,13 +26,13 @@ use Rattle.rx_job.specs.Words.{Asked, Task, Extraction, Itemization, extracts, i
 use Rattle.rx_reading.specs.Ways.{Way}
 use Rattle.rx_command.specs.declared.errors.InputError.{InputError}
 use Rattle.rx_command.specs.declared.errors.InputError.TheVariants as error
-use Rattle.rx_command.specs.Reading.{largest_piece, HasFirst, GivesList, GivesRight, ReadsWhole, Finds, ReadsClean, IsClean, PageFails}
+use Rattle.rx_command.specs.Reading.{largest_piece, page_limit, HasFirst, GivesList, GivesRight, ReadsWhole, Finds, ReadsClean, IsClean, PageFails}
 use Rattle.rx_command.proofs.ReadLemmas.{unread_clean}
 use Rattle.rx_command.specs.Files.{ReadsFile, TakesOf, size_of}
 use Rattle.rx_command.specs.Contexts.{IsContextFile, IsFileOf, IsContext, HasContext, TakesContext, ReadsContext, context_size, is_context}
 use Rattle.rx_command.specs.Inputs.{PageText, PageRefused, JobText, JobRefused, TellsThat, WhereTold}
 use Rattle.rx_command.specs.Outcome.{IsAccepted, IsLacking, IsRight, TaskRefuses, ReadsTo, base_in, facts_in, syntax_in, aim_in, way_in, ok_line, IsTextAs, IsFormatText, DenotesAs, FormatDenotes}
-use Rattle.rx_command.specs.Runs.{TakesFiles, StopsCleanly, page_limit}
+use Rattle.rx_command.specs.Runs.{TakesFiles, StopsCleanly}
 use Rattle.rx_command.specs.Ways.{extraction_of}
 use Rattle.rx_command.specs.Written.{form_in, IsFormText, FormDenotes, text_of, Denoted}
 use Rattle.rx_command.specs.declared.forms.Form.{Form}

@@ -4,6 +4,8 @@ pub mod RunLemmas
 pub mod FaultLemmas
 pub mod ReadLemmas
 pub mod MadeLemmas
+pub mod GatheringLemmas
+pub mod SeveralLemmas
 pub mod SampleLemmas
 pub mod WrittenTokens
 pub mod WrittenNodes

@@ -29,8 +29,8 @@ use Rattle.rx_command.specs.declared.errors.InputError.{InputError}
 use Rattle.rx_command.specs.declared.errors.InputError.TheVariants as error
 use Rattle.rx_command.specs.declared.readers.Reader.{Reader}
 use Rattle.rx_command.specs.declared.readers.Reader.TheVariants as reader
-use Rattle.rx_command.specs.Files.{HasRead}
-use Rattle.rx_command.specs.Reading.{standard, Aim, for_triples, for_items, for_faults, refused_for, setting_for, item_setting_for, way_for, Reached, FeedGives, HasFirst, Decides, Adds, AddsNone, NextGives, EndFails, EndGives, ReadsWhole, Finds, ReadsClean, IsFile, Fed, PageFails, PageGives}
+use Rattle.rx_command.specs.Files.{HasRead, TakesSome}
+use Rattle.rx_command.specs.Reading.{standard, Aim, for_triples, for_items, for_faults, refused_for, setting_for, item_setting_for, way_for, Reached, FeedGives, HasFirst, Decides, Adds, AddsNone, NextGives, EndFails, EndGives, ReadsWhole, Finds, ReadsClean, TakesToFirst, IsFile, Fed, PageFails, PageGives}
 use Rattle.rx_command.proofs.FaultLemmas.{no_meaning_in, only_unended, refused_from}
 
 pub limits_are : (l : Limits) → l.depth ≡ 512 → l.tag ≡ 1048576 → l.page ≡ 1073741824 → l ≡ standard
@@ -174,6 +174,18 @@ read_clean syntax aim name v bytes x y z h a r file f =
 -- nothing was read of the file
 pub unread_clean : (syntax : Syntax) (aim : Aim) (name : List ℕ) (x y : Told) → y.taken ≤ x.taken → ReadsClean (way_for syntax aim) name x y
 unread_clean syntax aim name x y t file f = record { bytes = []; rest = file; are = refl; taken = omega (arith, t); clean = clean_of syntax aim [] (no_bytes_read syntax aim) }
+
+-- no more was taken than before
+pub unread_first : (way : Way) (name : List ℕ) (x y : Told) → y.taken ≤ x.taken → TakesToFirst way name x y
+unread_first way name x y t file f fault first = omega (arith, t)
+
+-- some bytes were read without a fault, and no more than a piece was taken behind them
+pub to_first : (syntax : Syntax) (aim : Aim) (name : List ℕ) (v : Reader) (bytes : List ℕ) (room : ℕ) (x y z : Told) → Reached syntax aim v bytes → HasRead name bytes x y → TakesSome room y z → room ≤ 65536 → TakesToFirst (way_for syntax aim) name x z
+to_first syntax aim name v bytes room x y z r h t small file f fault first =
+    let i = is_read syntax aim v bytes r in
+    let same : file ≡ bytes ++ y.left = some_file file (bytes ++ y.left) (sym f ∙ h.file) in
+    let from = refused_from (way_for syntax aim) (refuses_so aim) bytes y.left i.now i.read i.accepted fault (subst (λ b. HasFirst (way_for syntax aim) b fault) same first) in
+    omega (arith, from, h.taken, t.most, small)
 
 -- the first fault
 found : (way : Way) (name bytes more : List ℕ) (fault : Fault) (x y z : Told) → HasRead name bytes x y → Adds more y z → length more ≤ 65536 → Decides way bytes more fault → Finds way name fault x z

@@ -1,16 +1,16 @@
 -- From what was read of the files to what comes of the page.
-use Rattle.std.proofs.Common.{◌≡◌, ◌≢◌, ◌∙◌, ℕ, ◌⊎◌, ◌≤◌, inl, inr, List, [], ◌∷◌, sym, ap, subst, refl, Option, Some, None, true, false, encode_utf8_all}
+use Rattle.std.proofs.Common.{◌≡◌, ◌≢◌, ◌∙◌, ℕ, ◌⊎◌, ◌≤◌, inl, inr, List, [], ◌∷◌, sym, ap, subst, refl, Option, Some, None, is_some, true, false, encode_utf8_all, arith}
 use Rattle.std.specs.Prelude.{codes, option_map, option_and_then}
 use Rattle.rx_ports.specs.Counts.{Rose}
 use Rattle.rx_ports.specs.Told.{Told, Moves, Stays}
 use Rattle.rx_ports.specs.Files.{file_of}
-use Rattle.rx_ports.proofs.MoveLemmas.{moves_at, moves_weaker}
+use Rattle.rx_ports.proofs.MoveLemmas.{moves_same, moves_at, moves_weaker}
 use Rattle.rx_grammar.specs.declared.faults.Fault.{Fault}
 use Rattle.rx_rdfa.specs.Names.{Context}
 use Rattle.rx_reader.proofs.Bools.{split}
 use Rattle.rx_job.specs.declared.jobs.Job.{Job as CodeJob}
 use Rattle.rx_job.specs.Jobs.{asked_by, page_by, ReadsPage}
-use Rattle.rx_job.specs.Words.{Asked, Job, Task, extracts, itemizes, checks, reads, samples, count_of, sampling, extraction, itemization, checking, given, is_word, most_items, job, page_in, page_asked}
+use Rattle.rx_job.specs.Words.{Asked, Gathering, Job, Task, extracts, itemizes, checks, reads, gathers, samples, count_of, sampling, several, extraction, itemization, checking, given, is_word, most_items, job, page_in, page_asked, gathering_in, gathering_asked}
 use Rattle.rx_pages.proofs.Trees.{one_tree}
 use Rattle.rx_microdata.specs.Json.{Given, Refused, outcome}
 use Rattle.rx_microdata.specs.Visits.{standard_bounds}
@@ -19,16 +19,18 @@ use Rattle.rx_command.specs.Reading.{standard}
 use Rattle.rx_command.proofs.FaultLemmas.{one_first, page_has_none}
 use Rattle.rx_command.proofs.ReadLemmas.{refuses_so}
 use Rattle.rx_job.proofs.NumberLemmas.{few_counted}
-use Rattle.rx_command.specs.Contexts.{IsContext, HasContext, HasOther, LacksContext, is_context}
+use Rattle.rx_command.specs.Contexts.{IsContext, HasContext, HasOther, LacksContext, TakesContext, context_in, context_asked, is_context}
 use Rattle.rx_command.proofs.InputLemmas.{has_context, one_context}
-use Rattle.rx_command.specs.Outcome.{TaskGives, TaskRefuses, aim_in, way_in, NamesPage, HasPageFault, Meets, IsLacking, LacksFile, HasBadContext}
+use Rattle.rx_command.specs.Outcome.{TaskGives, TaskRefuses, aim_in, way_in, NamesPage, HasPageFault, Meets, IsLacking, JobLacks, LacksFile, HasBadContext}
+use Rattle.rx_command.specs.Gathering.{HasAll}
+use Rattle.rx_command.proofs.GatheringLemmas.{context_taken}
 use Rattle.rx_command.specs.Samples.{Yields, YieldsGraph}
-use Rattle.rx_command.specs.Inputs.{JobText, JobRefused, TellsThat}
+use Rattle.rx_command.specs.Inputs.{JobText, JobRefused, TellsThat, WhereTold}
 use Rattle.rx_command.specs.Written.{text_of, Denoted}
 use Rattle.rx_command.specs.declared.outcomes.Outcome.{Outcome}
 use Rattle.rx_command.specs.declared.statuses.Status.{Status}
 use Rattle.rx_command.specs.declared.statuses.Status.TheVariants as status
-use Rattle.rx_command.specs.Runs.{SampleEnds, ReadCause, TakesFiles, TakesToFault, StopsCleanly, IsAtEnd}
+use Rattle.rx_command.specs.Runs.{SampleEnds, ReadCause, TakesFiles, TakesJob, TakesToFault, StopsCleanly, IsAtEnd, reads_files}
 
 pub yields : (words : List (List ℕ)) (told now : Option Told) (asked : Asked) (found : Outcome) (t : Told) → page_asked words ≡ Some asked → Moves (JobText asked found) told now → told ≡ Some t → Yields words told (text_of found)
 yields words told now asked found t a m e =
@@ -93,10 +95,31 @@ same_page words told bytes others a p q r =
 pub not_sample : (words : List (List ℕ)) (asked : Asked) (count : ℕ) → page_asked words ≡ Some asked → job words ≡ Some (samples count) → ⊥
 not_sample words asked count p s = let both : None ≡ Some asked = sym (ap page_in s) ∙ p in absurd (cc)
 
+-- nor for several
+page_and_several : (k : Option Job) (asked : Asked) (g : Gathering) → page_in k ≡ Some asked → gathering_in k ≡ Some g → ⊥
+page_and_several None asked g p h = absurd (cc)
+page_and_several (Some (reads a)) asked g p h = absurd (cc)
+page_and_several (Some (gathers a)) asked g p h = absurd (cc)
+page_and_several (Some (samples a)) asked g p h = absurd (cc)
+
+pub not_gathering : (words : List (List ℕ)) (asked : Asked) (g : Gathering) → page_asked words ≡ Some asked → gathering_asked words ≡ Some g → ⊥
+not_gathering words asked g p h = page_and_several (job words) asked g p h
+
+-- the job in which a page is asked for
+job_of : (k : Option Job) (asked : Asked) → page_in k ≡ Some asked → k ≡ Some (reads asked)
+job_of None asked p = absurd (cc)
+job_of (Some (reads a)) asked p = let same : a ≡ asked = (cc) in ap (λ (z : Asked). Some (reads z)) same
+job_of (Some (gathers a)) asked p = absurd (cc)
+job_of (Some (samples a)) asked p = absurd (cc)
+
+pub page_job : (words : List (List ℕ)) (asked : Asked) → page_asked words ≡ Some asked → job words ≡ Some (reads asked)
+page_job words asked p = job_of (job words) asked p
+
 -- no outcome is a text and a refusal
 pub not_both : (words : List (List ℕ)) (told : Option Told) (text : List ℕ) (fault : Fault) → Yields words told text → HasPageFault words told fault → ⊥
 not_both words told text fault (inl y) r = no_both y.page.asked.task y.page.context y.bytes text fault y.has_text (same_page words told r.bytes y.bytes fault r.page y.page r.refused)
-not_both words told text fault (inr y) r = not_sample words r.page.asked y.count r.page.asks y.asks
+not_both words told text fault (inr (inl y)) r = not_sample words r.page.asked y.count r.page.asks y.asks
+not_both words told text fault (inr (inr y)) r = not_gathering words r.page.asked y.gathering r.page.asks y.asks
 
 -- there is one refusal
 one_of_task : (task : Task) (context : Context) (bytes : List ℕ) (a b : Fault) → TaskRefuses task context bytes a → TaskRefuses task context bytes b → a ≡ b
@@ -123,7 +146,8 @@ text_not_refused words told now asked found fault a m r = not_both words told (t
 
 pub refused_no_text : (words : List (List ℕ)) (told now : Option Told) (asked : Asked) (text : List ℕ) (fault : Fault) → page_asked words ≡ Some asked → Moves (JobRefused asked fault) told now → Yields words told text → ⊥
 refused_no_text words told now asked text fault a m (inl y) = not_both words told text fault (inl y) (refuses words told now asked fault y.page.shelf a m y.page.tells)
-refused_no_text words told now asked text fault a m (inr y) = not_sample words asked y.count a y.asks
+refused_no_text words told now asked text fault a m (inr (inl y)) = not_sample words asked y.count a y.asks
+refused_no_text words told now asked text fault a m (inr (inr y)) = not_gathering words asked y.gathering a y.asks
 
 pub refused_so : (words : List (List ℕ)) (told now : Option Told) (asked : Asked) (found fault : Fault) → page_asked words ≡ Some asked → Moves (JobRefused asked found) told now → HasPageFault words told fault → found ≡ fault
 refused_so words told now asked found fault a m r = one_refusal words told found fault (refuses words told now asked found r.page.shelf a m r.page.tells) r
@@ -133,6 +157,10 @@ refused_so words told now asked found fault a m r = one_refusal words told found
 no_reading : (asked : Option Asked) (count : ℕ) → option_map reads asked ≡ Some (samples count) → ⊥
 no_reading None count e = cc
 no_reading (Some asked) count e = cc
+
+no_gathering : (found : Option Gathering) (count : ℕ) → option_map gathers found ≡ Some (samples count) → ⊥
+no_gathering None count e = cc
+no_gathering (Some g) count e = cc
 
 sampled : (number : Option ℕ) (count : ℕ) → option_map samples number ≡ Some (samples count) → number ≡ Some count
 sampled None count e = absurd (cc)
@@ -151,9 +179,10 @@ pub few_asked : (words : List (List ℕ)) (count : ℕ) → job words ≡ Some (
 few_asked [] count e = absurd (cc)
 few_asked (task ∷ words) count e =
     split (IsFew count) (is_word task (codes "sample")) (sampling words) _ (λ t k. few_sampled words count k)
+    (λ f. split (IsFew count) (is_word task (codes "many")) (option_map gathers (several words)) _ (λ t k. absurd (no_gathering (several words) count k))
     (λ f. split (IsFew count) (is_word task (codes "extract")) (option_map reads (option_and_then extraction (given words))) _ (λ t k. absurd (no_reading (option_and_then extraction (given words)) count k))
     (λ f. split (IsFew count) (is_word task (codes "items")) (option_map reads (option_and_then itemization (given words))) _ (λ t k. absurd (no_reading (option_and_then itemization (given words)) count k))
-    (λ f. split (IsFew count) (is_word task (codes "check")) (option_map reads (option_and_then checking (given words))) None (λ t k. absurd (no_reading (option_and_then checking (given words)) count k)) (λ f k. absurd (cc)))))
+    (λ f. split (IsFew count) (is_word task (codes "check")) (option_map reads (option_and_then checking (given words))) None (λ t k. absurd (no_reading (option_and_then checking (given words)) count k)) (λ f k. absurd (cc))))))
     e
 
 pub sample_nothing : (count : ℕ) (s : Status) (old new : Option (List ℕ)) (before now : ℕ) → SampleEnds count s old new before now → s ≢ status.Done → s ≢ status.WriteFault → Moves Stays old new
@@ -175,11 +204,11 @@ sample_completes count status.ReadFault old new before now n e = absurd e
 sample_completes count status.BadContext old new before now n e = absurd e
 
 -- a file isn't there and missing
-there : (file : Option (List ℕ)) (bytes : List ℕ) → file ≡ Some bytes → file ≡ None → ⊥
+pub there : (file : Option (List ℕ)) (bytes : List ℕ) → file ≡ Some bytes → file ≡ None → ⊥
 there file bytes e f = let g : None ≡ Some bytes = sym f ∙ e in absurd (cc)
 
 -- a context file is one of a context, one of another shape, or missing
-not_other : (file : Option (List ℕ)) (shelf : Told) → HasContext file shelf → HasOther file shelf → ⊥
+pub not_other : (file : Option (List ℕ)) (shelf : Told) → HasContext file shelf → HasOther file shelf → ⊥
 not_other None shelf h o = o
 not_other (Some name) shelf h o =
     let both : Some h.bytes ≡ Some o.bytes = sym h.file ∙ o.file in
@@ -187,7 +216,7 @@ not_other (Some name) shelf h o =
     let differ : true ≡ false = sym h.tested ∙ ap is_context same ∙ o.tested in
     absurd (cc)
 
-not_missing : (file : Option (List ℕ)) (shelf : Told) → HasContext file shelf → LacksContext file shelf → ⊥
+pub not_missing : (file : Option (List ℕ)) (shelf : Told) → HasContext file shelf → LacksContext file shelf → ⊥
 not_missing None shelf h l = l
 not_missing (Some name) shelf h l = there _ h.bytes h.file l
 
@@ -196,23 +225,25 @@ not_lack asked bytes x c f (inl l) = not_missing asked.context x c l
 not_lack asked bytes x c f (inr l) = there _ bytes f l.1
 
 -- what was asked for and what was read belong to one fact on the words and the shelf
-met : (words : List (List ℕ)) (told : Option Told) (asked : Asked) (fact : Asked → Told → Type 0) → page_asked words ≡ Some asked → Meets fact words told → TellsThat (fact asked) told
-met words None asked fact a m = let e = m.tells in absurd (cc)
-met words (Some t) asked fact a m =
-    subst (λ k. fact k t) (one_asked words m.asked asked m.asks a) (subst (fact m.asked) (one_shelf (Some t) m.shelf t m.tells refl) m.holds)
+met : (words : List (List ℕ)) (told : Option Told) (k : Option Job) (fact : Option Job → Told → Type 0) → job words ≡ k → Meets fact words told → TellsThat (fact k) told
+met words None k fact e m = let x = m.tells in absurd (cc)
+met words (Some t) k fact e m = subst (λ z. fact z t) e (subst (fact (job words)) (one_shelf (Some t) m.shelf t m.tells refl) m.holds)
 
-meets : (words : List (List ℕ)) (told : Option Told) (asked : Asked) (fact : Asked → Told → Type 0) → page_asked words ≡ Some asked → TellsThat (fact asked) told → Meets fact words told
-meets words None asked fact a h = absurd h
-meets words (Some t) asked fact a h = record { asked = asked; shelf = t; asks = a; tells = refl; holds = h }
+pub meets : (words : List (List ℕ)) (told : Option Told) (k : Option Job) (fact : Option Job → Told → Type 0) → job words ≡ k → TellsThat (fact k) told → Meets fact words told
+meets words None k fact e h = absurd h
+meets words (Some t) k fact e h = record { shelf = t; tells = refl; holds = subst (λ z. fact z t) (sym e) h }
+
+abbrev NamesOther : Option Job → Told → Type 0
+NamesOther k shelf = HasOther (context_in k) shelf
 
 -- files that were read are there
 pub not_lacking : (words : List (List ℕ)) (told now : Option Told) (asked : Asked) (found : Outcome) → page_asked words ≡ Some asked → Moves (JobText asked found) told now → LacksFile words told → ⊥
 not_lacking words None now asked text a m l = let e = l.tells in absurd (cc)
-not_lacking words (Some t) now asked text a m l = let r = moves_at t m refl in not_lack asked (r.1).page.bytes t (has_context asked.context t (r.1).context (r.1).holds) (r.1).page.file (met words (Some t) asked IsLacking a l)
+not_lacking words (Some t) now asked text a m l = let r = moves_at t m refl in not_lack asked (r.1).page.bytes t (has_context asked.context t (r.1).context (r.1).holds) (r.1).page.file (met words (Some t) (Some (reads asked)) JobLacks (page_job words asked a) l)
 
 pub refused_not_lacking : (words : List (List ℕ)) (told now : Option Told) (asked : Asked) (fault : Fault) → page_asked words ≡ Some asked → Moves (JobRefused asked fault) told now → LacksFile words told → ⊥
 refused_not_lacking words None now asked fault a m l = let e = l.tells in absurd (cc)
-refused_not_lacking words (Some t) now asked fault a m l = let r = moves_at t m refl in not_lack asked (r.1).bytes t (has_context asked.context t (r.1).context (r.1).holds) (r.1).file (met words (Some t) asked IsLacking a l)
+refused_not_lacking words (Some t) now asked fault a m l = let r = moves_at t m refl in not_lack asked (r.1).bytes t (has_context asked.context t (r.1).context (r.1).holds) (r.1).file (met words (Some t) (Some (reads asked)) JobLacks (page_job words asked a) l)
 
 -- a context that was read is one
 not_bad_one : (asked : Asked) (t : Told) → HasContext asked.context t → HasOther asked.context t → ⊥
@@ -220,15 +251,15 @@ not_bad_one asked t c o = not_other asked.context t c o
 
 pub not_bad : (words : List (List ℕ)) (told now : Option Told) (asked : Asked) (found : Outcome) → page_asked words ≡ Some asked → Moves (JobText asked found) told now → HasBadContext words told → ⊥
 not_bad words None now asked text a m l = let e = l.tells in absurd (cc)
-not_bad words (Some t) now asked text a m l = let r = moves_at t m refl in not_bad_one asked t (has_context asked.context t (r.1).context (r.1).holds) (met words (Some t) asked (λ asked shelf. HasOther asked.context shelf) a l)
+not_bad words (Some t) now asked text a m l = let r = moves_at t m refl in not_bad_one asked t (has_context asked.context t (r.1).context (r.1).holds) (met words (Some t) (Some (reads asked)) NamesOther (page_job words asked a) l)
 
 pub refused_not_bad : (words : List (List ℕ)) (told now : Option Told) (asked : Asked) (fault : Fault) → page_asked words ≡ Some asked → Moves (JobRefused asked fault) told now → HasBadContext words told → ⊥
 refused_not_bad words None now asked fault a m l = let e = l.tells in absurd (cc)
-refused_not_bad words (Some t) now asked fault a m l = let r = moves_at t m refl in not_bad_one asked t (has_context asked.context t (r.1).context (r.1).holds) (met words (Some t) asked (λ asked shelf. HasOther asked.context shelf) a l)
+refused_not_bad words (Some t) now asked fault a m l = let r = moves_at t m refl in not_bad_one asked t (has_context asked.context t (r.1).context (r.1).holds) (met words (Some t) (Some (reads asked)) NamesOther (page_job words asked a) l)
 
 pub read_cause : (words : List (List ℕ)) (told : Option Told) (asked : Asked) (before now : ℕ) → page_asked words ≡ Some asked → Rose before now ⊎ TellsThat (IsLacking asked) told → ReadCause words told before now
-read_cause words told asked before now a (inl rose) = record { asked = asked; asks = a; cause = inl rose }
-read_cause words told asked before now a (inr lacks) = record { asked = asked; asks = a; cause = inr (meets words told asked IsLacking a lacks) }
+read_cause words told asked before now a (inl rose) = record { asks = ap reads_files (page_job words asked a); cause = inl rose }
+read_cause words told asked before now a (inr lacks) = record { asks = ap reads_files (page_job words asked a); cause = inr (meets words told (Some (reads asked)) JobLacks (page_job words asked a) lacks) }
 
 -- ---- how much was taken
 
@@ -243,8 +274,117 @@ at_end words asked text told now a m = subst (λ k. IsAtEnd k now) (sym a) (at_e
 pub to_fault : (words : List (List ℕ)) (asked : Asked) (fault : Fault) (old new : Option Told) → page_asked words ≡ Some asked → Moves (JobRefused asked fault) old new → Moves (TakesToFault (page_asked words) fault) old new
 to_fault words asked fault old new a m = subst (λ k. Moves (TakesToFault k fault) old new) (sym a) (moves_weaker (TakesToFault (Some asked) fault) (λ x y j. j.reads) m)
 
-pub takes_files : (words : List (List ℕ)) (asked : Asked) (old new : Option Told) → page_asked words ≡ Some asked → Moves (TakesFiles (Some asked)) old new → Moves (TakesFiles (page_asked words)) old new
-takes_files words asked old new a m = subst (λ k. Moves (TakesFiles k) old new) (sym a) m
+pub takes_files : (words : List (List ℕ)) (asked : Asked) (old new : Option Told) → page_asked words ≡ Some asked → Moves (TakesFiles (Some asked)) old new → Moves (TakesJob (job words)) old new
+takes_files words asked old new a m = subst (λ k. Moves (TakesJob k) old new) (sym (page_job words asked a)) m
+
+no_file_taken : (asked : Option Asked) (x : Told) → TakesFiles asked x x
+no_file_taken asked x = record { files = refl; size = omega arith; most = omega arith }
+
+none_taken : (k : Option Job) (x : Told) → TakesJob k x x
+none_taken None x = no_file_taken None x
+none_taken (Some (reads asked)) x = no_file_taken (Some asked) x
+none_taken (Some (gathers g)) x = context_taken g x x (record { files = refl; size = omega arith; most = omega arith })
+none_taken (Some (samples count)) x = no_file_taken None x
+
+-- nothing was read
+pub took_nothing : (words : List (List ℕ)) (told : Option Told) → Moves (TakesJob (job words)) told told
+took_nothing words told = moves_same (TakesJob (job words)) (λ x. none_taken (job words) x) told
 
 pub stops_cleanly : (words : List (List ℕ)) (asked : Asked) (old new : Option Told) → page_asked words ≡ Some asked → Moves (StopsCleanly (Some asked)) old new → Moves (StopsCleanly (page_asked words)) old new
 stops_cleanly words asked old new a m = subst (λ k. Moves (StopsCleanly k) old new) (sym a) m
+
+-- ---- where the page was not read
+
+module _ (words : List (List ℕ)) (told : Option Told) (asked : Asked) (a : page_asked words ≡ Some asked) where
+  its_context : context_asked words ≡ asked.context
+  its_context = ap context_in (page_job words asked a)
+
+  pub names_context : is_some asked.context ≡ true → is_some (context_asked words) ≡ true
+  names_context n = ap is_some its_context ∙ n
+
+  pub bad_context : WhereTold (HasOther asked.context) told → (t : Told) → told ≡ Some t → HasBadContext words told
+  bad_context w t e = record { shelf = t; tells = e; holds = subst (λ k. HasOther k t) (sym its_context) (subst (WhereTold (HasOther asked.context)) e w) }
+
+  pub takes_context : (now : Option Told) → Moves (TakesContext asked.context) told now → Moves (TakesContext (context_asked words)) told now
+  takes_context now m = subst (λ k. Moves (TakesContext k) told now) (sym its_context) m
+
+  pub not_all : HasAll words told → ⊥
+  not_all h = not_gathering words asked h.gathering a h.asks
+
+  pub no_gathering_asked : gathering_asked words ≡ None
+  no_gathering_asked = ap gathering_in (page_job words asked a)
+
+  named_there : (bytes : List ℕ) → NamesPage words told bytes → TellsThat (IsLacking asked) told → ⊥
+  named_there bytes p l =
+      let same : asked ≡ p.asked = one_asked words asked p.asked a p.asks in
+      not_lack p.asked bytes p.shelf (has_context p.asked.context p.shelf p.context p.holds) p.file (subst (λ k. IsLacking k p.shelf) same (subst (TellsThat (IsLacking asked)) p.tells l))
+
+  named_right : (bytes : List ℕ) → NamesPage words told bytes → WhereTold (HasOther asked.context) told → ⊥
+  named_right bytes p w =
+      let same : asked ≡ p.asked = one_asked words asked p.asked a p.asks in
+      not_other p.asked.context p.shelf (has_context p.asked.context p.shelf p.context p.holds) (subst (λ k. HasOther k.context p.shelf) same (subst (WhereTold (HasOther asked.context)) p.tells w))
+
+  -- the read failed
+  pub failed_no_text : (text : List ℕ) (before now : ℕ) → Rose before now ⊎ TellsThat (IsLacking asked) told → ¬ Rose before now → Yields words told text → ⊥
+  failed_no_text text before now (inl rose) quiet y = quiet rose
+  failed_no_text text before now (inr l) quiet (inl y) = named_there y.bytes y.page l
+  failed_no_text text before now (inr l) quiet (inr (inl y)) = not_sample words asked y.count a y.asks
+  failed_no_text text before now (inr l) quiet (inr (inr y)) = not_gathering words asked y.gathering a y.asks
+
+  pub failed_no_fault : (fault : Fault) (before now : ℕ) → Rose before now ⊎ TellsThat (IsLacking asked) told → ¬ Rose before now → HasPageFault words told fault → ⊥
+  failed_no_fault fault before now (inl rose) quiet r = quiet rose
+  failed_no_fault fault before now (inr l) quiet r = named_there r.bytes r.page l
+
+  lacks_no_other : (t : Told) → IsLacking asked t → HasOther asked.context t → ⊥
+  lacks_no_other t (inl l) o = other_there asked.context l o
+    where
+      other_there : (file : Option (List ℕ)) → LacksContext file t → HasOther file t → ⊥
+      other_there None l o = o
+      other_there (Some name) l o = there _ o.bytes o.file l
+  lacks_no_other t (inr l) o = not_other asked.context t l.0 o
+
+  pub failed_not_bad : (before now : ℕ) → Rose before now ⊎ TellsThat (IsLacking asked) told → ¬ Rose before now → HasBadContext words told → ⊥
+  failed_not_bad before now (inl rose) quiet b = quiet rose
+  failed_not_bad before now (inr l) quiet b = lacks_no_other b.shelf (subst (TellsThat (IsLacking asked)) b.tells l) (subst (λ k. HasOther k b.shelf) its_context b.holds)
+
+  -- the context file is no context
+  pub bad_no_text : (text : List ℕ) → WhereTold (HasOther asked.context) told → Yields words told text → ⊥
+  bad_no_text text w (inl y) = named_right y.bytes y.page w
+  bad_no_text text w (inr (inl y)) = not_sample words asked y.count a y.asks
+  bad_no_text text w (inr (inr y)) = not_gathering words asked y.gathering a y.asks
+
+  pub bad_no_fault : (fault : Fault) → WhereTold (HasOther asked.context) told → HasPageFault words told fault → ⊥
+  bad_no_fault fault w r = named_right r.bytes r.page w
+
+  pub bad_not_lacking : WhereTold (HasOther asked.context) told → LacksFile words told → ⊥
+  bad_not_lacking w l = lacks_no_other l.shelf (subst (λ k. JobLacks k l.shelf) (page_job words asked a) l.holds) (subst (WhereTold (HasOther asked.context)) l.tells w)
+
+-- ---- where no file was asked for
+
+module _ (words : List (List ℕ)) (told : Option Told) (none : job words ≡ None) where
+  pub none_yields : (text : List ℕ) → Yields words told text → ⊥
+  none_yields text (inl y) = let both : None ≡ Some y.page.asked = sym (ap page_in none) ∙ y.page.asks in absurd (cc)
+  none_yields text (inr (inl y)) = let both : None ≡ Some (samples y.count) = sym none ∙ y.asks in absurd (cc)
+  none_yields text (inr (inr y)) = let both : None ≡ Some y.gathering = sym (ap gathering_in none) ∙ y.asks in absurd (cc)
+
+  pub none_lacks : LacksFile words told → ⊥
+  none_lacks l = subst (λ k. JobLacks k l.shelf) none l.holds
+
+  pub none_bad : HasBadContext words told → ⊥
+  none_bad b = subst (λ k. HasOther (context_in k) b.shelf) none b.holds
+
+  pub none_refuses : (fault : Fault) → HasPageFault words told fault → ⊥
+  none_refuses fault r = let both : None ≡ Some r.page.asked = sym (ap page_in none) ∙ r.page.asks in absurd (cc)
+
+  pub none_has_all : HasAll words told → ⊥
+  none_has_all h = let both : None ≡ Some h.gathering = sym (ap gathering_in none) ∙ h.asks in absurd (cc)
+
+module _ (words : List (List ℕ)) (told : Option Told) (count : ℕ) (is : job words ≡ Some (samples count)) where
+  pub sample_lacks : LacksFile words told → ⊥
+  sample_lacks l = subst (λ k. JobLacks k l.shelf) is l.holds
+
+  pub sample_bad : HasBadContext words told → ⊥
+  sample_bad b = subst (λ k. HasOther (context_in k) b.shelf) is b.holds
+
+  pub sample_has_all : HasAll words told → ⊥
+  sample_has_all h = let both : None ≡ Some h.gathering = sym (ap gathering_in is) ∙ h.asks in absurd (cc)

@@ -6,7 +6,18 @@ use Rattle.rx_terms.specs.Text.{Chars}
 use Rattle.rx_rdfa.specs.Names.{Context}
 use Rattle.rx_rdfa.specs.Standard.{standard}
 use Rattle.rx_names.specs.ContextFiles.{context_of}
+use Rattle.rx_job.specs.Words.{Job, reads, gathers, samples, job}
 use Rattle.rx_command.specs.Files.{size_of}
+
+-- the context file that a job names, and the one that the words name
+abbrev pub context_in : Option Job → Option Chars
+context_in None = None
+context_in (Some (reads asked)) = asked.context
+context_in (Some (gathers gathering)) = gathering.context
+context_in (Some (samples count)) = None
+
+abbrev pub context_asked : List Chars → Option Chars
+context_asked words = context_in (job words)
 
 abbrev pub largest_context : ℕ
 largest_context = 65536

@@ -3,6 +3,7 @@ pub mod Ways
 pub mod Files
 pub mod Contexts
 pub mod Outcome
+pub mod Gathering
 pub mod JsonTexts
 pub mod Shaped
 pub mod Written

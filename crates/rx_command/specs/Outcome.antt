@@ -1,5 +1,5 @@
 -- What comes of a page: a text, or a refusal.
-use Rattle.std.specs.Prelude.{◌≡◌, ◌⊎◌, ◌+◌, ◌≤◌, ℕ, Bool, true, false, is_some, List, [], ◌++◌, map, encode_utf8_all, codes, Option, Some, None}
+use Rattle.std.specs.Prelude.{◌≡◌, ◌⊎◌, ◌+◌, ◌≤◌, ℕ, Bool, true, false, List, [], ◌∷◌, ◌++◌, map, encode_utf8_all, codes, Option, Some, None}
 use Rattle.std.specs.Str.{chars}
 use Rattle.rx_ports.specs.Told.{Told}
 use Rattle.rx_ports.specs.Files.{file_of}
@@ -37,8 +37,8 @@ use Rattle.serde_json.specs.Data.{Data}
 use Rattle.serde_json.specs.Written.{compact_text}
 use Rattle.rx_job.specs.declared.formats.Format.{Format}
 use Rattle.rx_job.specs.declared.formats.Format.TheVariants as format
-use Rattle.rx_job.specs.Words.{Asked, Task, Extraction, Itemization, extracts, itemizes, checks, page_asked}
-use Rattle.rx_command.specs.Contexts.{IsContext, HasContext, HasOther, LacksContext}
+use Rattle.rx_job.specs.Words.{Job, Asked, Task, Extraction, Itemization, Gathering, Listed, reads, gathers, samples, extracts, itemizes, checks, job, page_asked}
+use Rattle.rx_command.specs.Contexts.{IsContext, HasContext, HasOther, LacksContext, context_in}
 use Rattle.rx_reading.specs.Ways.{Way}
 use Rattle.rx_command.specs.Reading.{standard, largest_piece, Aim, for_triples, for_faults, for_items, way_for, HasFirst}
 
@@ -210,28 +210,35 @@ pub record HasPageFault (words : List Chars) (told : Option Told) (fault : Fault
   pub page : NamesPage words told bytes
   pub refused : TaskRefuses page.asked.task page.context bytes fault
 
--- the words name a page, the shelf tells its files, and this holds of both
-pub record Meets (fact : Asked → Told → Type 0) (words : List Chars) (told : Option Told) : Type 0 where
-  pub asked : Asked
+-- the shelf tells its files, and this holds of them and of what the words ask for
+pub record Meets (fact : Option Job → Told → Type 0) (words : List Chars) (told : Option Told) : Type 0 where
   pub shelf : Told
-  pub asks : page_asked words ≡ Some asked
   pub tells : told ≡ Some shelf
-  pub holds : fact asked shelf
+  pub holds : fact (job words) shelf
 
 -- the context file is missing, or the page is, where the context is one
 abbrev pub IsLacking : Asked → Told → Type 0
 IsLacking asked shelf = LacksContext asked.context shelf ⊎ (HasContext asked.context shelf × (file_of shelf.files (encode_utf8_all asked.page) ≡ None))
 
+-- one of the listed pages is missing
+abbrev pub LacksPage : List (List ℕ × List ℕ) → List Listed → Type 0
+LacksPage files [] = ⊥
+LacksPage files (listed ∷ more) = (file_of files (encode_utf8_all listed.page) ≡ None) ⊎ LacksPage files more
+
+-- the context file is missing, or a page is, where the context is one
+abbrev pub LacksOne : Gathering → Told → Type 0
+LacksOne gathering shelf = LacksContext gathering.context shelf ⊎ (HasContext gathering.context shelf × LacksPage shelf.files gathering.pages)
+
+abbrev pub JobLacks : Option Job → Told → Type 0
+JobLacks None shelf = ⊥
+JobLacks (Some (reads asked)) shelf = IsLacking asked shelf
+JobLacks (Some (gathers gathering)) shelf = LacksOne gathering shelf
+JobLacks (Some (samples count)) shelf = ⊥
+
 -- there is no outcome: a file that is named is missing
 abbrev pub LacksFile : List Chars → Option Told → Type 0
-LacksFile words told = Meets IsLacking words told
+LacksFile words told = Meets JobLacks words told
 
 -- there is no outcome: the context file that is named is there and is no context
 abbrev pub HasBadContext : List Chars → Option Told → Type 0
-HasBadContext words told = Meets (λ asked shelf. HasOther asked.context shelf) words told
-
--- the words name a context file
-pub record NamesContext (words : List Chars) : Type 0 where
-  pub asked : Asked
-  pub asks : page_asked words ≡ Some asked
-  pub named : is_some asked.context ≡ true
+HasBadContext words told = Meets (λ asked shelf. HasOther (context_in asked) shelf) words told

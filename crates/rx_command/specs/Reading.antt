@@ -35,6 +35,10 @@ standard = record { depth = 512; tag = 1048576; page = 1073741824 }
 abbrev pub largest_piece : ℕ
 largest_piece = 65536
 
+-- how much is read of a page at most
+abbrev pub page_limit : ℕ
+page_limit = standard.page + largest_piece
+
 -- how a page is read under these names
 abbrev pub setting_for : Syntax → Context → Setting
 setting_for syntax context = record { syntax = syntax; limits = standard; context = context }
@@ -155,6 +159,10 @@ pub record IsClean (way : Way) (file : List ℕ) (before now : ℕ) : Type 0 whe
 
 abbrev pub ReadsClean : Way → List ℕ → Told → Told → Type 0
 ReadsClean way name old new = (file : List ℕ) → file_of old.files name ≡ Some file → IsClean way file old.taken new.taken
+
+-- Where the file has a fault, no more was taken than a piece past the byte that decides it.
+abbrev pub TakesToFirst : Way → List ℕ → Told → Told → Type 0
+TakesToFirst way name old new = (file : List ℕ) → file_of old.files name ≡ Some file → (fault : Fault) → HasFirst way file fault → new.taken ≤ old.taken + (fault.at + largest_piece)
 
 -- these bytes are the file's, which was read to its end
 pub record IsFile (name bytes : List ℕ) (old new : Told) : Type 0 where

@@ -1,20 +1,21 @@
 -- How a run ends.
-use Rattle.std.specs.Prelude.{◌≡◌, ◌⊎◌, ℕ, ◌+◌, ◌≤◌, List, [], ◌++◌, Option, Some, None, encode_utf8_all, codes}
+use Rattle.std.specs.Prelude.{◌≡◌, ◌⊎◌, ℕ, ◌+◌, ◌≤◌, Bool, true, false, List, [], ◌++◌, Option, Some, None, is_some, encode_utf8_all, codes}
 use Rattle.std.specs.Fmt.{decimal}
 use Rattle.rx_ports.specs.Counts.{Rose}
 use Rattle.rx_ports.specs.Files.{file_of}
 use Rattle.rx_ports.specs.Told.{Told, Moves, GrowsBy, GrowsByPart, Stays}
 use Rattle.rx_terms.specs.Text.{Chars}
-use Rattle.rx_job.specs.Words.{Asked, page_asked}
+use Rattle.rx_job.specs.Words.{Job, Asked, Gathering, reads, gathers, samples, job}
 use Rattle.rx_command.specs.Files.{size_of}
-use Rattle.rx_command.specs.Contexts.{context_size, context_limit}
-use Rattle.rx_command.specs.Outcome.{LacksFile, ReadsTo}
-use Rattle.rx_command.specs.Inputs.{StopsClean}
+use Rattle.rx_command.specs.Contexts.{HasOther, TakesContext, context_size, context_limit}
+use Rattle.rx_command.specs.Outcome.{LacksFile, LacksOne, ReadsTo}
+use Rattle.rx_command.specs.Gathering.{IsGathered, DenotesGathered, TakesGathering}
+use Rattle.rx_command.specs.Inputs.{StopsClean, TellsThat, WhereTold}
 use Rattle.rx_command.specs.Samples.{IsSample}
 use Rattle.rx_grammar.specs.declared.faults.Fault.{Fault}
 use Rattle.rx_grammar.specs.declared.faults.Kind.{Kind}
 use Rattle.rx_grammar.specs.declared.faults.Kind.TheVariants as kind
-use Rattle.rx_command.specs.Reading.{standard, largest_piece}
+use Rattle.rx_command.specs.Reading.{page_limit}
 use Rattle.rx_command.specs.declared.statuses.Status.{Status}
 use Rattle.rx_command.specs.declared.statuses.Status.TheVariants as status
 
@@ -28,20 +29,22 @@ code_of status.WriteFault = 4
 code_of status.Memory = 5
 code_of status.BadContext = 6
 
--- a page was asked for, and the shelf's count of faults rose, or it tells its files and lacks one that is named
+-- what is asked for reads files
+abbrev pub reads_files : Option Job → Bool
+reads_files None = false
+reads_files (Some (reads asked)) = true
+reads_files (Some (gathers gathering)) = true
+reads_files (Some (samples count)) = false
+
+-- a page was asked for, or several, and the shelf's count of faults rose, or it tells its files and lacks one that is named
 pub record ReadCause (words : List Chars) (told : Option Told) (before now : ℕ) : Type 0 where
-  pub asked : Asked
-  pub asks : page_asked words ≡ Some asked
+  pub asks : reads_files (job words) ≡ true
   pub cause : Rose before now ⊎ LacksFile words told
 
 -- how much the files have that are named, and how much of them is read at most
 abbrev pub named_size : Option Asked → Told → ℕ
 named_size None told = 0
 named_size (Some asked) told = context_size asked.context told + size_of (file_of told.files (encode_utf8_all asked.page))
-
--- how much is read of a page at most
-abbrev pub page_limit : ℕ
-page_limit = standard.page + largest_piece
 
 abbrev pub named_limit : Option Asked → ℕ
 named_limit None = 0
@@ -54,9 +57,12 @@ pub record TakesFiles (asked : Option Asked) (old new : Told) : Type 0 where
   pub size : new.taken ≤ old.taken + named_size asked old
   pub most : new.taken ≤ old.taken + named_limit asked
 
-abbrev pub context_named : Option Asked → Option Chars
-context_named None = None
-context_named (Some asked) = asked.context
+-- how much is taken for what is asked for
+abbrev pub TakesJob : Option Job → Told → Told → Type 0
+TakesJob None old new = TakesFiles None old new
+TakesJob (Some (reads asked)) old new = TakesFiles (Some asked) old new
+TakesJob (Some (gathers gathering)) old new = TakesGathering gathering old new
+TakesJob (Some (samples count)) old new = TakesFiles None old new
 
 -- the page that is asked for was read to its end
 abbrev pub IsAtEnd : Option Asked → Option Told → Type 0
@@ -112,6 +118,39 @@ SampleEnds count (status.Refused fault) old new before now = ⊥
 SampleEnds count status.Usage old new before now = ⊥
 SampleEnds count status.ReadFault old new before now = ⊥
 SampleEnds count status.BadContext old new before now = ⊥
+
+-- what the shelf, out and err tell, and their counts of faults
+pub record Devices : Type 0 where
+  pub told : Option Told
+  pub read_faults : ℕ
+  pub held : Option (List ℕ)
+  pub write_faults : ℕ
+  pub said : Option (List ℕ)
+  pub say_faults : ℕ
+
+-- how a job of several pages ends: their document was written, or a front of it, where out failed; or nothing was, since the
+-- shelf failed or lacks a file, the context file is no context, or there was no memory
+abbrev pub EndsAs : Gathering → Status → Devices → Devices → Type 0
+EndsAs gathering status.Done old new =
+    (text : List ℕ) × WhereTold (IsGathered gathering text) old.told × WhereTold (DenotesGathered gathering text) old.told × Moves (GrowsBy text) old.held new.held
+EndsAs gathering status.WriteFault old new =
+    (text : List ℕ) × WhereTold (IsGathered gathering text) old.told × Moves (GrowsByPart text) old.held new.held × Rose old.write_faults new.write_faults
+EndsAs gathering status.ReadFault old new = (Rose old.read_faults new.read_faults ⊎ TellsThat (LacksOne gathering) old.told) × Moves Stays old.held new.held
+EndsAs gathering status.BadContext old new =
+    (is_some gathering.context ≡ true) × WhereTold (HasOther gathering.context) old.told × Moves (TakesContext gathering.context) old.told new.told × Moves Stays old.held new.held
+EndsAs gathering status.Memory old new = Moves Stays old.held new.held
+EndsAs gathering (status.Refused fault) old new = ⊥
+EndsAs gathering status.Usage old new = ⊥
+
+-- what is said then: a line where the context file is no context, and else nothing
+abbrev pub SaysAs : Status → Devices → Devices → Type 0
+SaysAs status.BadContext old new = Says context_line old.said new.said old.say_faults new.say_faults
+SaysAs s old new = Moves Stays old.said new.said
+
+pub record GatheringEnds (gathering : Gathering) (s : Status) (old new : Devices) : Type 0 where
+  pub ends : EndsAs gathering s old new
+  pub takes : Moves (TakesGathering gathering) old.told new.told
+  pub says : SaysAs s old new
 
 -- a page that is refused was read no further than a piece past the byte that decides the fault, where that isn't an item's
 abbrev pub TakesToFault : Option Asked → Fault → Told → Told → Type 0

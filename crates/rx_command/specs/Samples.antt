@@ -17,6 +17,7 @@ use Rattle.rx_command.specs.Reading.{standard, setting_for}
 use Rattle.rx_ports.specs.Told.{Told}
 use Rattle.rx_job.specs.Words.{job, samples, most_items}
 use Rattle.rx_command.specs.Outcome.{IsAccepted, base_in, facts_in, HasPageText, HasPageGraph}
+use Rattle.rx_command.specs.Gathering.{GatheredText, GatheredGraphs}
 
 -- what stands before the items
 abbrev pub head : List ℕ
@@ -106,8 +107,8 @@ pub record SaysOfSample (words : List Chars) (line : List ℕ) : Type 0 where
 
 -- the outcome is this text
 abbrev pub Yields : List Chars → Option Told → List ℕ → Type 0
-Yields words told text = HasPageText words told text ⊎ SaysOfSample words text
+Yields words told text = HasPageText words told text ⊎ (SaysOfSample words text ⊎ GatheredText words told text)
 
--- the outcome is this text, which, where a page is read, denotes exactly its graph
+-- the outcome is this text, which, where pages are read, denotes exactly their graphs
 abbrev pub YieldsGraph : List Chars → Option Told → List ℕ → Type 0
-YieldsGraph words told text = HasPageGraph words told text ⊎ SaysOfSample words text
+YieldsGraph words told text = HasPageGraph words told text ⊎ (SaysOfSample words text ⊎ GatheredGraphs words told text)

@@ -103,6 +103,7 @@ fn outcome_under_context<F: Shelf>(
         }
         Job::Check { syntax, page, .. } => check(alloc, shelf, page, *syntax, context),
         Job::Items { .. } => unreachable!(),
+        Job::Many { .. } => unreachable!(),
         Job::Sample { .. } => unreachable!(),
     }
 }
@@ -200,7 +201,7 @@ fn check<F: Shelf>(
 }
 
 /// The context that holds: that of the file, where one is named, else the standard one.
-fn read_context<F: Shelf>(
+pub(crate) fn read_context<F: Shelf>(
     alloc: Global,
     shelf: &mut F,
     file: Option<&Text>,

@@ -10,6 +10,7 @@ ghost use Rattle.rx_command.specs.Samples.{SamplesArePages};
 mod errors;
 mod files;
 mod forms;
+mod gathering;
 mod inputs;
 mod json_texts;
 mod outcomes;

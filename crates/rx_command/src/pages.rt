@@ -5,7 +5,7 @@ ghost use Rattle.rx_ports.specs.Told.{Moves, Lacks};
 ghost use Rattle.rx_chars.specs.declared.syntax.Syntax as syntaxes;
 ghost use Rattle.rx_rdfa.specs.Names.{Context as RulesContext};
 ghost use Rattle.rx_terms.specs.Text.{Chars};
-ghost use Rattle.rx_command.specs.Reading.{Aim, for_triples, for_items, for_faults, way_for, Reached, Starts, MakesTriples, FindsItems, FindsFaults, NextGives, EndGives, GivesList, GivesItems, GivesRight, FileGives, PageGives};
+ghost use Rattle.rx_command.specs.Reading.{Aim, for_triples, for_items, for_faults, way_for, Reached, Starts, MakesTriples, FindsItems, FindsFaults, NextGives, EndGives, GivesList, GivesItems, GivesRight, FileGives, PageGives, TakesToFirst};
 ghost use Rattle.rx_command.specs.Files.{TakesSome, TakesOf};
 ghost use Rattle.rx_command.specs.Ways.{way_of};
 
@@ -42,6 +42,7 @@ pub(crate) fn read_page<F: Shelf>(
 ) -> Result<TripleList, InputError>
     ensures gives { PageGives (way_of approach) (GivesList approach.syntax approach.context approach.address) name.now result (F.told shelf.old) (F.told shelf.new) }
     ensures takes { Moves (TakesOf name.now 1073807359) (F.told shelf.old) (F.told shelf.new) }
+    ensures to_first { Moves (TakesToFirst (way_of approach) name.now) (F.told shelf.old) (F.told shelf.new) }
     ensures later { F.faults shelf.old ≤ F.faults shelf.new }
     ensures failed { IsErrOf result InputError.Failed → Rose (F.faults shelf.old) (F.faults shelf.new) ⊎ Lacks (F.told shelf.old) name.now }
 {
@@ -125,6 +126,7 @@ fn feed_file<F: Shelf>(
     requires { Starts reader.old }
     ensures gives { (syntax : syntaxes.Syntax) (aim : Aim) → Reached syntax aim reader.old [] → FileGives syntax aim name.now result reader.new (F.told shelf.old) (F.told shelf.new) }
     ensures takes { Moves (TakesOf name.now 1073807359) (F.told shelf.old) (F.told shelf.new) }
+    ensures to_first { (syntax : syntaxes.Syntax) (aim : Aim) → Reached syntax aim reader.old [] → Moves (TakesToFirst (way_for syntax aim) name.now) (F.told shelf.old) (F.told shelf.new) }
     ensures later { F.faults shelf.old ≤ F.faults shelf.new }
     ensures failed { IsErrOf result InputError.Failed → Rose (F.faults shelf.old) (F.faults shelf.new) ⊎ Lacks (F.told shelf.old) name.now }
 {

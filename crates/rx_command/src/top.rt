@@ -1,19 +1,22 @@
 //! The top call.
-ghost use Rattle.std.specs.Prelude.{◌≡◌, ◌≢◌, ◌≤◌, ◌⊎◌, ℕ, List, None, Some, ◌++◌, IfOk, string_bytes, codes};
+ghost use Rattle.std.specs.Prelude.{◌≡◌, ◌≢◌, ◌≤◌, ◌⊎◌, ℕ, List, None, Some, ◌++◌, IfOk, is_some, true, string_bytes, codes};
 ghost use Rattle.std.specs.Fmt.{decimal};
 ghost use Rattle.rx_ports.specs.Counts.{Rose};
 ghost use Rattle.rx_ports.specs.Told.{Told, Moves, GrowsBy, GrowsByPart, Stays};
-ghost use Rattle.rx_job.specs.Words.{job, most_items, page_asked, samples};
-ghost use Rattle.rx_command.specs.Contexts.{TakesContext};
-ghost use Rattle.rx_command.specs.Outcome.{HasBadContext, HasPageFault, LacksFile, NamesContext};
+ghost use Rattle.rx_job.specs.Jobs.{several_seen};
+ghost use Rattle.rx_job.specs.Words.{gathering_asked, job, most_items, page_asked, samples};
+ghost use Rattle.rx_command.specs.Contexts.{TakesContext, context_asked};
+ghost use Rattle.rx_command.specs.Gathering.{HasAll};
+ghost use Rattle.rx_command.specs.Outcome.{HasBadContext, HasPageFault, LacksFile};
 ghost use Rattle.rx_command.specs.Samples.{Yields, YieldsGraph};
-ghost use Rattle.rx_command.specs.Runs.{ReadCause, TakesFiles, TakesToFault, StopsCleanly, IsAtEnd, SampleEnds, Says, usage_line, refused_line, context_line, context_named};
+ghost use Rattle.rx_command.specs.Runs.{ReadCause, TakesJob, TakesToFault, StopsCleanly, IsAtEnd, GatheringEnds, SampleEnds, Says, usage_line, refused_line, context_line};
 
 use crate::errors::InputError;
+use crate::gathering::gather;
 use crate::inputs::outcome_of_job;
 use crate::samples::sample;
 use crate::statuses::{Status, name_of};
-use rx_job::{Job, JobError};
+use rx_job::{Asking, Job, JobError, Several};
 use rx_nquads::WriteError;
 use rx_ports::{Shelf, Sink, put_all};
 use rx_terms::{NoMemory, Text};
@@ -25,11 +28,11 @@ const USAGE: &[u8] = b"usage: rdfax extract|items|check|sample\n";
 const BAD_CONTEXT: &[u8] = b"refused: context file\n";
 
 /// Does what the words ask for, which are those after the program's name: reads the context file, where one is named,
-/// and the page from the shelf, writes the page's text to `out`, and says on `err` why there is none.
+/// and the page or the pages from the shelf, writes their text to `out`, and says on `err` why there is none.
 ///
 /// What is said of the files' bytes is said of a shelf that tells its files, and what is said of the bytes written of
 /// a sink that tells what it holds. What a run meets first decides: the words, then the context file, then the page,
-/// then writing. Want of memory may come in place of any other answer, at any place before the first byte is written.
+/// or page after page, then writing. Want of memory may come in place of any other answer, at any place before the first byte is written.
 pub fn run<F: Shelf, O: Sink, E: Sink>(
     alloc: Global,
     words: &[Text],
@@ -43,30 +46,33 @@ pub fn run<F: Shelf, O: Sink, E: Sink>(
     ensures only_usage { job words.now ≡ None → (result ≡ Status.Usage) ⊎ (result ≡ Status.Memory) }
     ensures untouched { result ≡ Status.Usage → Moves Stays (F.told shelf.old) (F.told shelf.new) }
 
-    // Done comes only where the page has a text: out has then grown by exactly that, and the page was read to its end.
+    // Done comes only where there is a text, that of the page, of several pages or of a sample: out has then grown by
+    // exactly that, and a page that alone is asked for was read to its end.
     ensures done { result ≡ Status.Done → (told : Told) → F.told shelf.old ≡ Some told →
         (text : List ℕ) × Yields words.now (F.told shelf.old) text × Moves (GrowsBy text) (O.held out.old) (O.held out.new) }
     // The text of an extraction denotes exactly the graph that RDFa's rules give the page's tree, its blank nodes renamed
-    // one to one.
+    // one to one; that of several pages denotes the graphs of those that are accepted, each under its address, and no two
+    // share a blank node.
     ensures denotes { result ≡ Status.Done → (told : Told) → F.told shelf.old ≡ Some told →
         (text : List ℕ) × YieldsGraph words.now (F.told shelf.old) text × Moves (GrowsBy text) (O.held out.old) (O.held out.new) }
     ensures to_end { result ≡ Status.Done → IsAtEnd (page_asked words.now) (F.told shelf.new) }
 
-    // Refused comes only where the page has this fault.
+    // Refused comes only where the page has this fault, and never where several pages are asked for.
     ensures refused { (fault : Fault) → result ≡ Status.Refused fault → (told : Told) → F.told shelf.old ≡ Some told →
         HasPageFault words.now (F.told shelf.old) fault }
+    ensures refuses_one { (fault : Fault) → result ≡ Status.Refused fault → gathering_asked words.now ≡ None }
     // The page is then read no further than 65,536 bytes past the byte that decides the fault, unless that is an item's,
     // which is found once the page has ended.
     ensures refused_takes { (fault : Fault) → result ≡ Status.Refused fault → Moves (TakesToFault (page_asked words.now) fault) (F.told shelf.old) (F.told shelf.new) }
 
-    // ReadFault comes only where the shelf failed, or lacks the context file, or lacks the page where the context file is
-    // a context; and where it lacks one of them there is no other answer but want of memory.
+    // ReadFault comes only where the shelf failed, or lacks the context file, or lacks a page where the context file is a
+    // context; and where it lacks one of them there is no other answer but want of memory.
     ensures read_fault { result ≡ Status.ReadFault → ReadCause words.now (F.told shelf.old) (F.faults shelf.old) (F.faults shelf.new) }
-    // What was read of the page, where it is there, holds no fault then but that it ends.
+    // What was read of a page that alone is asked for, where it is there, holds no fault then but that it ends.
     ensures cleanly { result ≡ Status.ReadFault → Moves (StopsCleanly (page_asked words.now)) (F.told shelf.old) (F.told shelf.new) }
     ensures lacking { LacksFile words.now (F.told shelf.old) → (result ≡ Status.ReadFault) ⊎ (result ≡ Status.Memory) }
 
-    // WriteFault comes only where out failed, which then holds a proper front of the page's text more than before.
+    // WriteFault comes only where out failed, which then holds a proper front of the text more than before.
     ensures write_fault { result ≡ Status.WriteFault → Rose (O.faults out.old) (O.faults out.new) }
     ensures partly { result ≡ Status.WriteFault → (told : Told) → F.told shelf.old ≡ Some told →
         (text : List ℕ) × Yields words.now (F.told shelf.old) text × Moves (GrowsByPart text) (O.held out.old) (O.held out.new) }
@@ -76,11 +82,11 @@ pub fn run<F: Shelf, O: Sink, E: Sink>(
 
     // BadContext comes only where the words name a context file, which is there and has another shape or is too long; and
     // then, where nothing failed, there is no other answer but want of memory. No more is read than that file has.
-    ensures names_context { result ≡ Status.BadContext → NamesContext words.now }
+    ensures names_context { result ≡ Status.BadContext → is_some (context_asked words.now) ≡ true }
     ensures bad_context { result ≡ Status.BadContext → (told : Told) → F.told shelf.old ≡ Some told → HasBadContext words.now (F.told shelf.old) }
     ensures refuses_context { HasBadContext words.now (F.told shelf.old) → ¬ Rose (F.faults shelf.old) (F.faults shelf.new)
         → (result ≡ Status.BadContext) ⊎ (result ≡ Status.Memory) }
-    ensures takes_context { result ≡ Status.BadContext → Moves (TakesContext (context_named (page_asked words.now))) (F.told shelf.old) (F.told shelf.new) }
+    ensures takes_context { result ≡ Status.BadContext → Moves (TakesContext (context_asked words.now)) (F.told shelf.old) (F.told shelf.new) }
 
     // What err is told: one line on Usage, on Refused and on BadContext, or a front of it where err failed; on other statuses nothing.
     ensures says_usage { result ≡ Status.Usage → Says usage_line (E.held err.old) (E.held err.new) (E.faults err.old) (E.faults err.new) }
@@ -89,9 +95,10 @@ pub fn run<F: Shelf, O: Sink, E: Sink>(
     ensures says_context { result ≡ Status.BadContext → Says context_line (E.held err.old) (E.held err.new) (E.faults err.old) (E.faults err.new) }
     ensures says_nothing { result ≢ Status.Usage → result ≢ Status.BadContext → ((fault : Fault) → result ≢ Status.Refused fault) → Moves Stays (E.held err.old) (E.held err.new) }
 
-    // How much is read: no more than the named files have together, nor more than a piece past the limit of the page and,
-    // where a context file is named, one byte past the largest of these.
-    ensures takes { Moves (TakesFiles (page_asked words.now)) (F.told shelf.old) (F.told shelf.new) }
+    // How much is read: no more than the named files have together, nor more than a piece past the limit of each page and,
+    // where a context file is named, one byte past the largest of these. Of several pages each that has a fault is read no
+    // further than a piece past the byte that decides it.
+    ensures takes { Moves (TakesJob (job words.now)) (F.told shelf.old) (F.told shelf.new) }
 
     // A sample reads nothing, and ends with its line written, or a front of it where out failed, or in want of memory,
     // whatever the shelf and the sinks tell: no page of a sample is refused.
@@ -99,9 +106,11 @@ pub fn run<F: Shelf, O: Sink, E: Sink>(
         SampleEnds count result (O.held out.old) (O.held out.new) (O.faults out.old) (O.faults out.new) }
     ensures sample_reads { (count : ℕ) → job words.now ≡ Some (samples count) → Moves Stays (F.told shelf.old) (F.told shelf.new) }
 
-    // Where nothing failed, a page that has a text, or a sample, is done, and a page that has a fault is refused, unless
-    // memory runs out.
+    // Where nothing failed, a page that has a text, or a sample, is done, and so are several pages that are all there, where
+    // the context file is a context; and a page that has a fault is refused; unless memory runs out.
     ensures completes { (text : List ℕ) → Yields words.now (F.told shelf.old) text → ¬ Rose (F.faults shelf.old) (F.faults shelf.new)
+        → ¬ Rose (O.faults out.old) (O.faults out.new) → (result ≡ Status.Done) ⊎ (result ≡ Status.Memory) }
+    ensures completes_all { HasAll words.now (F.told shelf.old) → ¬ Rose (F.faults shelf.old) (F.faults shelf.new)
         → ¬ Rose (O.faults out.old) (O.faults out.new) → (result ≡ Status.Done) ⊎ (result ≡ Status.Memory) }
     ensures refuses { (fault : Fault) → HasPageFault words.now (F.told shelf.old) fault → ¬ Rose (F.faults shelf.old) (F.faults shelf.new)
         → (result ≡ Status.Refused fault) ⊎ (result ≡ Status.Memory) }
@@ -114,12 +123,17 @@ pub fn run<F: Shelf, O: Sink, E: Sink>(
         }
         Err(JobError::NoMemory) => return Status::Memory,
     };
-    match job.sample_count() {
-        Some(count) => {
+    match job.asking() {
+        Asking::Sample(count) => {
             drop(job);
             return run_sample(alloc, count, out);
         }
-        None => {}
+        Asking::Several(several) => {
+            let status = run_several(alloc, shelf, several, out, err);
+            drop(job);
+            return status;
+        }
+        Asking::Page => {}
     }
     match outcome_of_job(alloc, shelf, &job) {
         Ok(outcome) => match outcome.write(alloc, out) {
@@ -173,6 +187,39 @@ fn run_sample<O: Sink>(alloc: Global, count: u32, out: &mut O) -> Status
 {
     match sample(alloc, count) {
         Ok(line) => match put_all(out, line.as_slice()) {
+            Ok(()) => Status::Done,
+            Err(_failed) => Status::WriteFault,
+        },
+        Err(NoMemory) => Status::Memory,
+    }
+}
+
+/// Writes the document of several pages, once all of them are read.
+fn run_several<F: Shelf, O: Sink, E: Sink>(
+    alloc: Global,
+    shelf: &mut F,
+    several: Several<'_>,
+    out: &mut O,
+    err: &mut E,
+) -> Status
+    ensures { GatheringEnds (several_seen several.entry) result
+        (record { told = F.told shelf.old; read_faults = F.faults shelf.old; held = O.held out.old; write_faults = O.faults out.old; said = E.held err.old; say_faults = E.faults err.old })
+        (record { told = F.told shelf.new; read_faults = F.faults shelf.new; held = O.held out.new; write_faults = O.faults out.new; said = E.held err.new; say_faults = E.faults err.new }) }
+{
+    let many = match gather(alloc, shelf, several) {
+        Ok(many) => many,
+        Err(InputError::Failed) => return Status::ReadFault,
+        Err(InputError::BadContext) => {
+            say(err, BAD_CONTEXT);
+            return Status::BadContext;
+        }
+        Err(InputError::Refused(_fault)) => unreachable!(),
+        Err(InputError::NoMemory) => return Status::Memory,
+    };
+    let text = many.text(alloc);
+    drop(many);
+    match text {
+        Ok(text) => match put_all(out, text.as_slice()) {
             Ok(()) => Status::Done,
             Err(_failed) => Status::WriteFault,
         },

@@ -1,20 +1,12 @@
--- The words behind a task, pair by pair.
-use Rattle.std.proofs.Common.{◌≡◌, ◌∙◌, ◌<◌, length, arith, is_some, ◌||◌, true, false, Bool, List, [], ◌∷◌, ◌++◌, ap, refl, sym, subst, append_assoc, append-nil, Option, Some, None, option_and_then, option_map, if◌then◌else◌}
+-- The options at the front of words, one after another.
+use Rattle.std.proofs.Common.{◌≡◌, ◌∙◌, ◌<◌, length, arith, is_some, ◌||◌, true, false, Bool, List, [], ◌∷◌, ◌++◌, ap, refl, sym, subst, append_assoc, append-nil, Option, Some, None, if◌then◌else◌}
 use Rattle.std.specs.Cmp.Lexicographic.{bytes_decides}
 use Rattle.rx_terms.specs.Text.{Chars}
 use Rattle.rx_reader.proofs.Bools.{by_test}
 use Rattle.rx_job.specs.declared.options.Name.{Name}
 use Rattle.rx_job.specs.declared.options.Name.TheVariants as name
-use Rattle.rx_job.specs.Options.{word_of, named, put, put_named, value_of, with_value, none_given}
-use Rattle.rx_job.specs.Words.{Arguments, Given, arguments, with_option, values, is_option, are_options, at_most_one, all_given, given, given_of, given_with, is_word, syntax_word, format_word, graph_word, context_word, base_word}
-
--- what is given where these options stood before the words that are left
-abbrev given_after : List (Chars × Chars) → Option Arguments → Option Given
-given_after before None = None
-given_after before (Some words) = if are_options words.options then given_with (before ++ words.options) words.last else None
-
-later : List (Chars × Chars) → List Chars → Option Given
-later before left = given_after before (arguments left)
+use Rattle.rx_job.specs.Options.{NoOption, word_of, named, put, value_of, with_value, none_given}
+use Rattle.rx_job.specs.Words.{Given, leading, behind, values, is_option, at_most_one, all_given, given_by, is_word, syntax_word, format_word, graph_word, context_word, base_word}
 
 abbrev one_or_none : Option Chars → List Chars
 one_or_none None = []
@@ -23,30 +15,26 @@ one_or_none (Some text) = text ∷ []
 -- the words begin with options whose values these are, and these words are left
 pub record Reads (words left : List Chars) (seen : Given) : Type 0 where
   before : List (Chars × Chars)
-  so : given words ≡ later before left
+  leads : leading words ≡ before ++ leading left
+  stays : behind words ≡ behind left
   each : (n : Name) → values (word_of n) before ≡ one_or_none (value_of n seen)
 
-none_value : (n : Name) (last : Chars) → [] ≡ one_or_none (value_of n (none_given last))
-none_value name.Syntax last = refl
-none_value name.Format last = refl
-none_value name.Graph last = refl
-none_value name.Context last = refl
-none_value name.Base last = refl
+none_value : (n : Name) → [] ≡ one_or_none (value_of n none_given)
+none_value name.Syntax = refl
+none_value name.Format = refl
+none_value name.Graph = refl
+none_value name.Context = refl
+none_value name.Base = refl
 
-pub reads_all : (words : List Chars) (last : Chars) → Reads words words (none_given last)
-unfolding later
-reads_all words last = record { before = []; so = by (arguments words); each = λ n. none_value n last }
-  where
-    by : (x : Option Arguments) → option_and_then given_of x ≡ given_after [] x
-    by None = refl
-    by (Some words) = refl
+pub reads_all : (words : List Chars) → Reads words words none_given
+reads_all words = record { before = []; leads = refl; stays = refl; each = none_value }
 
 -- the option that a word names
 abbrev chain : Bool → Bool → Bool → Bool → Bool → Option Name
 chain a b d f g =
     if a then Some name.Syntax else if b then Some name.Format else if d then Some name.Graph else if f then Some name.Context else if g then Some name.Base else None
 
-names_it : (word : Chars) (n : Name) → named word ≡ Some n → word ≡ word_of n
+pub names_it : (word : Chars) (n : Name) → named word ≡ Some n → word ≡ word_of n
 names_it word n e = by (is_word word syntax_word) refl (is_word word format_word) refl (is_word word graph_word) refl (is_word word context_word) refl (is_word word base_word) refl e
   where
     is : (m : Name) → is_word word (word_of m) ≡ true → ◌≡◌ {A = Option Name} (Some m) (Some n) → word ≡ word_of n
@@ -72,30 +60,30 @@ names_none word e = by (is_word word syntax_word) (is_word word format_word) (is
     by false false false false true e = absurd (cc)
     by false false false false false e = refl
 
--- a word that is no option
-unknown : (words left rest : List Chars) (seen : Given) (word value : Chars) → Reads words left seen → left ≡ word ∷ (value ∷ rest) → is_option word ≡ false → given words ≡ None
-unfolding later
-unknown words left rest seen word value r e n = r.so ∙ (ap (λ l. later r.before l) e ∙ by (arguments rest))
-  where
-    by : (x : Option Arguments) → given_after r.before (option_map (with_option word value) x) ≡ None
-    by None = refl
-    by (Some words) = rw n refl
+-- words that begin with no option
+pub no_pair : (words : List Chars) → length words < 2 → NoOption words
+no_pair [] l = record { leads = refl; stays = refl }
+no_pair (word ∷ []) l = record { leads = refl; stays = refl }
+no_pair (word ∷ value ∷ rest) l = absurd (omega arith)
+
+pub no_name : (words rest : List Chars) (word value : Chars) → words ≡ word ∷ (value ∷ rest) → named word ≡ None → NoOption words
+no_name words rest word value e n =
+    subst NoOption (sym e) (let none : is_option word ≡ false = names_none word n in record { leads = rw none refl; stays = rw none refl })
 
 -- one more option
-is_option_word : (n : Name) → is_option (word_of n) ≡ true
-is_option_word name.Syntax = refl
-is_option_word name.Format = refl
-is_option_word name.Graph = refl
-is_option_word name.Context = refl
-is_option_word name.Base = refl
+leads_with : (n : Name) (value : Chars) (rest : List Chars) → leading (word_of n ∷ (value ∷ rest)) ≡ (word_of n, value) ∷ leading rest
+leads_with name.Syntax value rest = refl
+leads_with name.Format value rest = refl
+leads_with name.Graph value rest = refl
+leads_with name.Context value rest = refl
+leads_with name.Base value rest = refl
 
-moves_on : (before : List (Chars × Chars)) (word value : Chars) (rest : List Chars) → is_option word ≡ true → later before (word ∷ value ∷ rest) ≡ later (before ++ (word, value) ∷ []) rest
-unfolding later
-moves_on before word value rest o = by (arguments rest)
-  where
-    by : (x : Option Arguments) → given_after before (option_map (with_option word value) x) ≡ given_after (before ++ (word, value) ∷ []) x
-    by None = refl
-    by (Some words) = rw o (ap (λ options. if are_options words.options then given_with options words.last else None) (sym (append_assoc before ((word, value) ∷ []) words.options)))
+goes_behind : (n : Name) (value : Chars) (rest : List Chars) → behind (word_of n ∷ (value ∷ rest)) ≡ behind rest
+goes_behind name.Syntax value rest = refl
+goes_behind name.Format value rest = refl
+goes_behind name.Graph value rest = refl
+goes_behind name.Context value rest = refl
+goes_behind name.Base value rest = refl
 
 values_append : (n : Chars) (xs ys : List (Chars × Chars)) → values n (xs ++ ys) ≡ values n xs ++ values n ys
 values_append n [] ys = refl
@@ -134,23 +122,22 @@ not_given : (o : Option Chars) → is_some o ≡ false → o ≡ None
 not_given None e = refl
 not_given (Some x) e = absurd (cc)
 
-reads_on : (words left rest : List Chars) (seen : Given) (n : Name) (word value : Chars) → Reads words left seen → left ≡ word ∷ (value ∷ rest) → named word ≡ Some n → is_some (value_of n seen) ≡ false
-    → Reads words rest (with_value n value seen)
-reads_on words left rest seen n word value r e names free =
-    let is : word ≡ word_of n = names_it word n names in
+reads_on : (words left rest : List Chars) (seen : Given) (n : Name) (value : Chars) → Reads words left seen → left ≡ word_of n ∷ (value ∷ rest) → is_some (value_of n seen) ≡ false → Reads words rest (with_value n value seen)
+reads_on words left rest seen n value r e free =
     record {
       before = r.before ++ (word_of n, value) ∷ [];
-      so = r.so ∙ (ap (λ l. later r.before l) (e ∙ ap (λ w. w ∷ value ∷ rest) is) ∙ moves_on r.before (word_of n) value rest (is_option_word n));
+      leads = r.leads ∙ (ap (λ l. r.before ++ leading l) e ∙ (ap (λ options. r.before ++ options) (leads_with n value rest) ∙ sym (append_assoc r.before ((word_of n, value) ∷ []) (leading rest))));
+      stays = r.stays ∙ (ap behind e ∙ goes_behind n value rest);
       each = λ m. values_append (word_of m) r.before ((word_of n, value) ∷ []) ∙ (ap (λ v. v ++ values (word_of m) ((word_of n, value) ∷ [])) (r.each m) ∙ one_added value n m seen (not_given (value_of n seen) free));
     }
 
 -- an option that comes twice
-none_if : (n : Name) (last : Chars) (options : List (Chars × Chars)) → at_most_one (values (word_of n) options) ≡ None → given_with options last ≡ None
-none_if n last options e = by n e (at_most_one (values syntax_word options)) refl (at_most_one (values format_word options)) refl (at_most_one (values graph_word options)) refl (at_most_one (values context_word options)) refl (at_most_one (values base_word options)) refl
+none_if : (n : Name) (options : List (Chars × Chars)) → at_most_one (values (word_of n) options) ≡ None → given_by options ≡ None
+none_if n options e = by n e (at_most_one (values syntax_word options)) refl (at_most_one (values format_word options)) refl (at_most_one (values graph_word options)) refl (at_most_one (values context_word options)) refl (at_most_one (values base_word options)) refl
   where
     by : (n : Name) → at_most_one (values (word_of n) options) ≡ None
         → (s : Option (Option Chars)) → at_most_one (values syntax_word options) ≡ s → (f : Option (Option Chars)) → at_most_one (values format_word options) ≡ f → (g : Option (Option Chars)) → at_most_one (values graph_word options) ≡ g
-        → (c : Option (Option Chars)) → at_most_one (values context_word options) ≡ c → (b : Option (Option Chars)) → at_most_one (values base_word options) ≡ b → all_given last s f g c b ≡ None
+        → (c : Option (Option Chars)) → at_most_one (values context_word options) ≡ c → (b : Option (Option Chars)) → at_most_one (values base_word options) ≡ b → all_given s f g c b ≡ None
     by n e None i f j g k c l b m = refl
     by n e (Some s) i None j g k c l b m = refl
     by n e (Some s) i (Some f) j None k c l b m = refl
@@ -162,12 +149,11 @@ none_if n last options e = by n e (at_most_one (values syntax_word options)) ref
     by name.Context e (Some s) i (Some f) j (Some g) k (Some c) l (Some b) m = absurd (let w : None ≡ Some c = sym e ∙ l in cc)
     by name.Base e (Some s) i (Some f) j (Some g) k (Some c) l (Some b) m = absurd (let w : None ≡ Some b = sym e ∙ m in cc)
 
-two_values : (n : Name) (before after : List (Chars × Chars)) (old : Option Chars) (value : Chars) → values (word_of n) before ≡ one_or_none old → is_some old ≡ true → at_most_one (values (word_of n) ((before ++ (word_of n, value) ∷ []) ++ after)) ≡ None
+two_values : (n : Name) (before after : List (Chars × Chars)) (old : Option Chars) (value : Chars) → values (word_of n) before ≡ one_or_none old → is_some old ≡ true → at_most_one (values (word_of n) (before ++ (word_of n, value) ∷ after)) ≡ None
 two_values n before after None value e s = absurd (cc)
 two_values n before after (Some old) value e s =
     ap at_most_one
-    (ap (λ x. values (word_of n) x) (append_assoc before ((word_of n, value) ∷ []) after)
-    ∙ (values_append (word_of n) before ((word_of n, value) ∷ after) ∙ (ap (λ v. v ++ values (word_of n) ((word_of n, value) ∷ after)) e ∙ ap (λ v. old ∷ v) (one n))))
+    (values_append (word_of n) before ((word_of n, value) ∷ after) ∙ (ap (λ v. v ++ values (word_of n) ((word_of n, value) ∷ after)) e ∙ ap (λ v. old ∷ v) (one n)))
   where
     one : (n : Name) → values (word_of n) ((word_of n, value) ∷ after) ≡ value ∷ values (word_of n) after
     one name.Syntax = refl
@@ -176,59 +162,40 @@ two_values n before after (Some old) value e s =
     one name.Context = refl
     one name.Base = refl
 
-given_twice : (words left rest : List Chars) (seen : Given) (n : Name) (word value : Chars) → Reads words left seen → left ≡ word ∷ (value ∷ rest) → named word ≡ Some n → is_some (value_of n seen) ≡ true → given words ≡ None
-unfolding later
-given_twice words left rest seen n word value r e names s =
-    let is : word ≡ word_of n = names_it word n names in
-    r.so ∙ (ap (λ l. later r.before l) (e ∙ ap (λ w. w ∷ value ∷ rest) is) ∙ (moves_on r.before (word_of n) value rest (is_option_word n) ∙ by (arguments rest)))
-  where
-    by : (x : Option Arguments) → given_after (r.before ++ (word_of n, value) ∷ []) x ≡ None
-    by None = refl
-    by (Some words) =
-        by_test (are_options words.options)
-        (λ t. rw t (none_if n words.last ((r.before ++ (word_of n, value) ∷ []) ++ words.options) (two_values n r.before words.options (value_of n seen) value (r.each n) s)))
-        (λ t. rw t refl)
+given_twice : (words left rest : List Chars) (seen : Given) (n : Name) (value : Chars) → Reads words left seen → left ≡ word_of n ∷ (value ∷ rest) → is_some (value_of n seen) ≡ true → given_by (leading words) ≡ None
+given_twice words left rest seen n value r e s =
+    none_if n (leading words)
+    (ap (λ options. at_most_one (values (word_of n) options)) (r.leads ∙ (ap (λ l. r.before ++ leading l) e ∙ ap (λ options. r.before ++ options) (leads_with n value rest)))
+    ∙ two_values n r.before (leading rest) (value_of n seen) value (r.each n) s)
 
--- a pair of words
-pub puts : (words left rest : List Chars) (seen next : Given) (word value : Chars) → Reads words left seen → left ≡ word ∷ (value ∷ rest) → put word value seen ≡ Some next → Reads words rest next
-puts words left rest seen next word value r e p = by (named word) refl p
+-- an option and its value
+pub puts : (words left rest : List Chars) (seen next : Given) (n : Name) (value : Chars) → Reads words left seen → left ≡ word_of n ∷ (value ∷ rest) → put n value seen ≡ Some next → Reads words rest next
+puts words left rest seen next n value r e p = on (is_some (value_of n seen)) refl p
   where
     some_same : (a b : Given) → ◌≡◌ {A = Option Given} (Some a) (Some b) → a ≡ b
     some_same a b e = cc
 
-    on : (n : Name) → named word ≡ Some n → (t : Bool) → is_some (value_of n seen) ≡ t → (if t then None else Some (with_value n value seen)) ≡ Some next → Reads words rest next
-    on n names true t w = absurd (cc)
-    on n names false t w = subst (λ x. Reads words rest x) (some_same (with_value n value seen) next w) (reads_on words left rest seen n word value r e names t)
+    on : (t : Bool) → is_some (value_of n seen) ≡ t → (if t then None else Some (with_value n value seen)) ≡ Some next → Reads words rest next
+    on true t w = absurd (cc)
+    on false t w = subst (λ x. Reads words rest x) (some_same (with_value n value seen) next w) (reads_on words left rest seen n value r e t)
 
-    by : (o : Option Name) → named word ≡ o → put_named value seen o ≡ Some next → Reads words rest next
-    by None names w = absurd (cc)
-    by (Some n) names w = on n names (is_some (value_of n seen)) refl w
-
-pub puts_none : (words left rest : List Chars) (seen : Given) (word value : Chars) → Reads words left seen → left ≡ word ∷ (value ∷ rest) → put word value seen ≡ None → given words ≡ None
-puts_none words left rest seen word value r e p = by (named word) refl p
+pub puts_none : (words left rest : List Chars) (seen : Given) (n : Name) (value : Chars) → Reads words left seen → left ≡ word_of n ∷ (value ∷ rest) → put n value seen ≡ None → given_by (leading words) ≡ None
+puts_none words left rest seen n value r e p = on (is_some (value_of n seen)) refl p
   where
-    on : (n : Name) → named word ≡ Some n → (t : Bool) → is_some (value_of n seen) ≡ t → (if t then None else Some (with_value n value seen)) ≡ None → given words ≡ None
-    on n names true t w = given_twice words left rest seen n word value r e names t
-    on n names false t w = absurd (cc)
+    on : (t : Bool) → is_some (value_of n seen) ≡ t → (if t then None else Some (with_value n value seen)) ≡ None → given_by (leading words) ≡ None
+    on true t w = given_twice words left rest seen n value r e t
+    on false t w = absurd (cc)
 
-    by : (o : Option Name) → named word ≡ o → put_named value seen o ≡ None → given words ≡ None
-    by None names w = unknown words left rest seen word value r e (names_none word names)
-    by (Some n) names w = on n names (is_some (value_of n seen)) refl w
-
--- the end of the words
-pub no_word : (words left : List Chars) (seen : Given) → Reads words left seen → length left ≡ 0 → given words ≡ None
-unfolding later
-no_word words [] seen r e = r.so
-no_word words (word ∷ left) seen r e = absurd (omega (arith, e))
-
+-- the end of the options
 the_one : (value : Option Chars) → at_most_one (one_or_none value) ≡ Some value
 the_one None = refl
 the_one (Some value) = refl
 
-pub one_word : (words left rest : List Chars) (seen : Given) (last : Chars) → Reads words left seen → left ≡ last ∷ rest → length left < 2
-    → given words ≡ Some (record { syntax = seen.syntax; format = seen.format; graph = seen.graph; context = seen.context; base = seen.base; last = last })
-unfolding later
-one_word words left [] seen last r e l =
-    r.so ∙ (ap (λ x. later r.before x) e ∙ (ap (λ options. given_with options last) (append-nil r.before)
-    ∙ rw (r.each name.Syntax, r.each name.Format, r.each name.Graph, r.each name.Context, r.each name.Base, the_one seen.syntax, the_one seen.format, the_one seen.graph, the_one seen.context, the_one seen.base) refl))
-one_word words left (other ∷ rest) seen last r e l = absurd (omega (arith, ap length e))
+pub all_read : (words left : List Chars) (seen : Given) → Reads words left seen → NoOption left
+    → given_by (leading words) ≡ Some (record { syntax = seen.syntax; format = seen.format; graph = seen.graph; context = seen.context; base = seen.base })
+all_read words left seen r none =
+    ap given_by (r.leads ∙ (ap (λ options. r.before ++ options) none.leads ∙ append-nil r.before))
+    ∙ rw (r.each name.Syntax, r.each name.Format, r.each name.Graph, r.each name.Context, r.each name.Base, the_one seen.syntax, the_one seen.format, the_one seen.graph, the_one seen.context, the_one seen.base) refl
+
+pub all_behind : (words left : List Chars) (seen : Given) → Reads words left seen → NoOption left → behind words ≡ left
+all_behind words left seen r none = r.stays ∙ none.stays

@@ -1,7 +1,7 @@
 -- Options, as they are read one after another.
-use Rattle.std.specs.Prelude.{Option, Some, None, is_some, if◌then◌else◌}
+use Rattle.std.specs.Prelude.{◌≡◌, List, [], Option, Some, None, is_some, if◌then◌else◌}
 use Rattle.rx_terms.specs.Text.{Chars}
-use Rattle.rx_job.specs.Words.{Given, is_word, syntax_word, format_word, graph_word, context_word, base_word}
+use Rattle.rx_job.specs.Words.{Given, behind, is_word, leading, syntax_word, format_word, graph_word, context_word, base_word}
 use Rattle.rx_job.specs.declared.options.Name.{Name}
 use Rattle.rx_job.specs.declared.options.Name.TheVariants as name
 
@@ -22,27 +22,28 @@ named word =
     else if is_word word base_word then Some name.Base
     else None
 
-abbrev pub none_given : Chars → Given
-none_given last = record { syntax = None; format = None; graph = None; context = None; base = None; last = last }
+abbrev pub none_given : Given
+none_given = record { syntax = None; format = None; graph = None; context = None; base = None }
 
 abbrev pub value_of : Name → Given → Option Chars
-value_of name.Syntax words = words.syntax
-value_of name.Format words = words.format
-value_of name.Graph words = words.graph
-value_of name.Context words = words.context
-value_of name.Base words = words.base
+value_of name.Syntax options = options.syntax
+value_of name.Format options = options.format
+value_of name.Graph options = options.graph
+value_of name.Context options = options.context
+value_of name.Base options = options.base
 
 abbrev pub with_value : Name → Chars → Given → Given
-with_value name.Syntax value words = record words { syntax = Some value }
-with_value name.Format value words = record words { format = Some value }
-with_value name.Graph value words = record words { graph = Some value }
-with_value name.Context value words = record words { context = Some value }
-with_value name.Base value words = record words { base = Some value }
+with_value name.Syntax value options = record options { syntax = Some value }
+with_value name.Format value options = record options { format = Some value }
+with_value name.Graph value options = record options { graph = Some value }
+with_value name.Context value options = record options { context = Some value }
+with_value name.Base value options = record options { base = Some value }
 
-abbrev pub put_named : Chars → Given → Option Name → Option Given
-put_named value words None = None
-put_named value words (Some name) = if is_some (value_of name words) then None else Some (with_value name value words)
+-- the options with one more; none where that one was given
+abbrev pub put : Name → Chars → Given → Option Given
+put name value options = if is_some (value_of name options) then None else Some (with_value name value options)
 
--- the options with one more; none where the word names none, or one that was given
-abbrev pub put : Chars → Chars → Given → Option Given
-put word value words = put_named value words (named word)
+-- no option stands at the front of the words
+pub record NoOption (words : List Chars) : Type 0 where
+  pub leads : leading words ≡ []
+  pub stays : behind words ≡ words

@@ -1,5 +1,5 @@
 -- What a list of words asks for.
-use Rattle.std.specs.Prelude.{ℕ, Bool, true, false, ◌&&◌, ◌||◌, ◌==◌, not, List, [], ◌∷◌, codes, nat_eq, nat_le, if◌then◌else◌, Option, Some, None, option_map, option_and_then}
+use Rattle.std.specs.Prelude.{ℕ, Bool, true, false, ◌&&◌, ◌||◌, ◌==◌, not, List, [], ◌∷◌, length, codes, nat_eq, nat_le, if◌then◌else◌, Option, Some, None, option_map, option_and_then}
 use Rattle.std.specs.Cmp.Lexicographic.{pointwise}
 use Rattle.std.specs.Char.{is_ascii_digit}
 use Rattle.std.specs.List.{list_all}
@@ -37,9 +37,22 @@ pub record Asked : Type 0 where
   pub context : Option Chars
   pub page : Chars
 
--- what is asked for: that a page be read, or a sample page of so many items
+-- a page of several: its address, and its name
+pub record Listed : Type 0 where
+  pub address : Chars
+  pub page : Chars
+
+-- several pages whose graphs are gathered in one dataset: their syntax, the name of their context file, and each page with
+-- its address
+pub record Gathering : Type 0 where
+  pub syntax : Syntax
+  pub context : Option Chars
+  pub pages : List Listed
+
+-- what is asked for: that a page be read, or several, or a sample page of so many items
 pub data Job : Type 0 where
   reads : Asked → Job
+  gathers : Gathering → Job
   samples : ℕ → Job
 
 abbrev pub is_word : Chars → Chars → Bool
@@ -54,19 +67,6 @@ is_page_name (c ∷ name) = not (c == hyphen)
 abbrev pub is_file_name : Chars → Bool
 is_file_name [] = false
 is_file_name (c ∷ name) = true
-
--- the words behind the task: each option with the word after it, which is its value, and one word more
-pub record Arguments : Type 0 where
-  pub options : List (Chars × Chars)
-  pub last : Chars
-
-abbrev pub with_option : Chars → Chars → Arguments → Arguments
-with_option name value rest = record { options = (name, value) ∷ rest.options; last = rest.last }
-
-abbrev pub arguments : List Chars → Option Arguments
-arguments [] = None
-arguments (last ∷ []) = Some (record { options = []; last = last })
-arguments (name ∷ value ∷ words) = option_map (with_option name value) (arguments words)
 
 -- the values that an option has been given
 abbrev pub values : Chars → List (Chars × Chars) → List Chars
@@ -91,17 +91,25 @@ base_word = codes "--base"
 abbrev pub is_option : Chars → Bool
 is_option name = is_word name syntax_word || is_word name format_word || is_word name graph_word || is_word name context_word || is_word name base_word
 
-abbrev pub are_options : List (Chars × Chars) → Bool
-are_options options = list_all (λ option. is_option option.0) options
+-- the options at the front of the words, each with the word after it, which is its value
+abbrev pub leading : List Chars → List (Chars × Chars)
+leading [] = []
+leading (word ∷ []) = []
+leading (name ∷ value ∷ words) = if is_option name then (name, value) ∷ leading words else []
 
--- the options, each given once or not at all, and the last word
+-- the words behind these
+abbrev pub behind : List Chars → List Chars
+behind [] = []
+behind (word ∷ []) = word ∷ []
+behind (name ∷ value ∷ words) = if is_option name then behind words else name ∷ value ∷ words
+
+-- the options, each given once or not at all
 pub record Given : Type 0 where
   pub syntax : Option Chars
   pub format : Option Chars
   pub graph : Option Chars
   pub context : Option Chars
   pub base : Option Chars
-  pub last : Chars
 
 -- the value of an option, where it is given; no answer where it is given twice
 abbrev pub at_most_one : List Chars → Option (Option Chars)
@@ -110,27 +118,38 @@ at_most_one (value ∷ []) = Some (Some value)
 at_most_one (value ∷ second ∷ values) = None
 
 -- all of these, where each has an answer
-abbrev pub all_given : Chars → Option (Option Chars) → Option (Option Chars) → Option (Option Chars) → Option (Option Chars) → Option (Option Chars) → Option Given
-all_given last (Some syntax) (Some format) (Some graph) (Some context) (Some base) =
-    Some (record { syntax = syntax; format = format; graph = graph; context = context; base = base; last = last })
-all_given last syntax format graph context base = None
+abbrev pub all_given : Option (Option Chars) → Option (Option Chars) → Option (Option Chars) → Option (Option Chars) → Option (Option Chars) → Option Given
+all_given (Some syntax) (Some format) (Some graph) (Some context) (Some base) =
+    Some (record { syntax = syntax; format = format; graph = graph; context = context; base = base })
+all_given syntax format graph context base = None
 
-abbrev pub given_with : List (Chars × Chars) → Chars → Option Given
-given_with options last =
-    all_given last (at_most_one (values syntax_word options)) (at_most_one (values format_word options)) (at_most_one (values graph_word options)) (at_most_one (values context_word options))
+-- what the options give; no answer where one is given twice
+abbrev pub given_by : List (Chars × Chars) → Option Given
+given_by options =
+    all_given (at_most_one (values syntax_word options)) (at_most_one (values format_word options)) (at_most_one (values graph_word options)) (at_most_one (values context_word options))
     (at_most_one (values base_word options))
 
-abbrev pub given_of : Arguments → Option Given
-given_of words = if are_options words.options then given_with words.options words.last else None
+-- options, and one word more
+pub record Arguments : Type 0 where
+  pub options : Given
+  pub last : Chars
 
--- what the words behind the task give
-abbrev pub given : List Chars → Option Given
-given words = option_and_then given_of (arguments words)
+abbrev pub arguments_with : List Chars → Given → Option Arguments
+arguments_with (last ∷ []) options = Some (record { options = options; last = last })
+arguments_with words options = None
 
--- the page has a name, and so has the context file, where there is one
+-- what the words behind a task give that is done with one page: options, and the page behind them
+abbrev pub given : List Chars → Option Arguments
+given words = option_and_then (arguments_with (behind words)) (given_by (leading words))
+
+-- the context file has a name, where there is one
+abbrev pub is_file_if_any : Option Chars → Bool
+is_file_if_any None = true
+is_file_if_any (Some file) = is_file_name file
+
+-- the page has a name too
 abbrev pub are_names : Option Chars → Chars → Bool
-are_names None page = is_page_name page
-are_names (Some file) page = is_file_name file && is_page_name page
+are_names file page = is_file_if_any file && is_page_name page
 
 -- the syntax of this name, which is HTML where none is given
 abbrev pub syntax_of : Option Chars → Option Syntax
@@ -159,33 +178,71 @@ is_graph format None = true
 is_graph format (Some name) = names_graphs format && is_iri name
 
 -- `[--syntax html|xhtml] [--format nquads|turtle|nested|jsonld] [--graph IRI] [--context FILE] --base IRI PAGE`
-abbrev pub extraction_with : Option Syntax → Option Format → Option Chars → Given → Option Asked
+abbrev pub extraction_with : Option Syntax → Option Format → Option Chars → Arguments → Option Asked
 extraction_with (Some syntax) (Some format) (Some address) words =
-    if is_graph format words.graph && (is_iri address && are_names words.context words.last)
-    then Some (record { task = extracts (record { syntax = syntax; format = format; graph = words.graph; address = address }); context = words.context; page = words.last })
+    if is_graph format words.options.graph && (is_iri address && are_names words.options.context words.last)
+    then Some (record { task = extracts (record { syntax = syntax; format = format; graph = words.options.graph; address = address }); context = words.options.context; page = words.last })
     else None
 extraction_with syntax format base words = None
 
-abbrev pub extraction : Given → Option Asked
-extraction words = extraction_with (syntax_of words.syntax) (format_of words.format) words.base words
+abbrev pub extraction : Arguments → Option Asked
+extraction words = extraction_with (syntax_of words.options.syntax) (format_of words.options.format) words.options.base words
 
 -- `[--syntax html|xhtml] --base IRI PAGE`
-abbrev pub itemization_with : Option Syntax → Option Chars → Option Chars → Option Chars → Option Chars → Given → Option Asked
+abbrev pub itemization_with : Option Syntax → Option Chars → Option Chars → Option Chars → Option Chars → Arguments → Option Asked
 itemization_with (Some syntax) None None None (Some address) words =
     if is_iri address && is_page_name words.last then Some (record { task = itemizes (record { syntax = syntax; address = address }); context = None; page = words.last }) else None
 itemization_with syntax format graph context base words = None
 
-abbrev pub itemization : Given → Option Asked
-itemization words = itemization_with (syntax_of words.syntax) words.format words.graph words.context words.base words
+abbrev pub itemization : Arguments → Option Asked
+itemization words = itemization_with (syntax_of words.options.syntax) words.options.format words.options.graph words.options.context words.options.base words
 
 -- `[--syntax html|xhtml] [--context FILE] PAGE`
-abbrev pub checking_with : Option Syntax → Option Chars → Option Chars → Option Chars → Given → Option Asked
+abbrev pub checking_with : Option Syntax → Option Chars → Option Chars → Option Chars → Arguments → Option Asked
 checking_with (Some syntax) None None None words =
-    if are_names words.context words.last then Some (record { task = checks syntax; context = words.context; page = words.last }) else None
+    if are_names words.options.context words.last then Some (record { task = checks syntax; context = words.options.context; page = words.last }) else None
 checking_with syntax format graph base words = None
 
-abbrev pub checking : Given → Option Asked
-checking words = checking_with (syntax_of words.syntax) words.format words.graph words.base words
+abbrev pub checking : Arguments → Option Asked
+checking words = checking_with (syntax_of words.options.syntax) words.options.format words.options.graph words.options.base words
+
+-- the words in pairs, each a page's address and its name; no answer where a word is left
+abbrev pub paired : List Chars → Option (List Listed)
+paired [] = Some []
+paired (word ∷ []) = None
+paired (address ∷ page ∷ words) = option_map (λ pages. record { address = address; page = page } ∷ pages) (paired words)
+
+-- a page whose address is an IRI, and which has a name
+abbrev pub is_listed : Listed → Bool
+is_listed page = is_iri page.address && is_page_name page.page
+
+abbrev pub if_listed : List Listed → Option (List Listed)
+if_listed pages = if list_all is_listed pages then Some pages else None
+
+-- the pages of the words, where each is one
+abbrev pub listed : List Chars → Option (List Listed)
+listed words = option_and_then if_listed (paired words)
+
+abbrev pub most_pages : ℕ
+most_pages = 1000
+
+-- from one page to 1,000
+abbrev pub are_few : List Listed → Bool
+are_few pages = nat_le 1 (length pages) && nat_le (length pages) most_pages
+
+-- `[--syntax html|xhtml] [--context FILE] IRI PAGE [IRI PAGE ..]`
+abbrev pub gathering_with : Option Syntax → Option Chars → Option Chars → Option Chars → Option Chars → Option (List Listed) → Option Gathering
+gathering_with (Some syntax) None None None context (Some pages) =
+    if is_file_if_any context && are_few pages then Some (record { syntax = syntax; context = context; pages = pages }) else None
+gathering_with syntax format graph base context pages = None
+
+abbrev pub gathering : List Chars → Given → Option Gathering
+gathering words options = gathering_with (syntax_of options.syntax) options.format options.graph options.base options.context (listed words)
+
+-- What the words behind `many` ask for: options, and the pages behind them. An option behind a page would be the address of
+-- one, which is no IRI.
+abbrev pub several : List Chars → Option Gathering
+several words = option_and_then (gathering (behind words)) (given_by (leading words))
 
 abbrev pub digit_zero : ℕ
 digit_zero = 48
@@ -208,21 +265,33 @@ sampling [] = None
 sampling (word ∷ []) = option_map samples (count_of word)
 sampling (word ∷ second ∷ words) = None
 
--- `sample` and a number, or `extract`, `items` or `check` with its options, in any order, and the page; any other list
--- asks for nothing
+-- `sample` and a number; `many`, its options and the pages; or `extract`, `items` or `check` with its options, in any order,
+-- and the page; any other list asks for nothing
 abbrev pub job : List Chars → Option Job
 job [] = None
 job (task ∷ words) =
     if is_word task (codes "sample") then sampling words
+    else (if is_word task (codes "many") then option_map gathers (several words)
     else (if is_word task (codes "extract") then option_map reads (option_and_then extraction (given words))
     else (if is_word task (codes "items") then option_map reads (option_and_then itemization (given words))
-    else (if is_word task (codes "check") then option_map reads (option_and_then checking (given words)) else None)))
+    else (if is_word task (codes "check") then option_map reads (option_and_then checking (given words)) else None))))
 
 -- the page that is asked for
 abbrev pub page_in : Option Job → Option Asked
 page_in None = None
 page_in (Some (reads asked)) = Some asked
+page_in (Some (gathers pages)) = None
 page_in (Some (samples count)) = None
 
 abbrev pub page_asked : List Chars → Option Asked
 page_asked words = page_in (job words)
+
+-- the pages that are asked for together
+abbrev pub gathering_in : Option Job → Option Gathering
+gathering_in None = None
+gathering_in (Some (reads asked)) = None
+gathering_in (Some (gathers pages)) = Some pages
+gathering_in (Some (samples count)) = None
+
+abbrev pub gathering_asked : List Chars → Option Gathering
+gathering_asked words = gathering_in (job words)

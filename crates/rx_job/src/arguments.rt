@@ -1,10 +1,18 @@
-//! The options and the last word behind a task.
-ghost use Rattle.std.specs.Prelude.{◌≡◌, ◌<◌, ◌∷◌, MatchOption, length, None, Some};
-ghost use Rattle.rx_job.specs.Words.{given};
-ghost use Rattle.rx_job.specs.Jobs.{given_seen};
+//! The options behind a task, and what stands behind them.
+ghost use Rattle.std.specs.Prelude.{◌≡◌, ◌<◌, [], ◌∷◌, MatchOption, length, None, Some};
+ghost use Rattle.rx_job.specs.Words.{Given, arguments_with, given, given_by, leading};
+ghost use Rattle.rx_job.specs.Options.{NoOption, word_of};
+ghost use Rattle.rx_job.specs.Jobs.{given_seen, Leads};
 
-use crate::options::Options;
+use crate::options::{Name, Options, named};
 use rx_terms::Text;
+
+/// The values of the options at the front of some words, and the words behind them.
+#[derive(Clone, Copy, Debug)]
+pub(crate) struct Front<'a> {
+    pub(crate) options: Options<'a>,
+    pub(crate) behind: &'a [Text],
+}
 
 /// The values of the options, and the word behind them.
 #[derive(Clone, Copy, Debug)]
@@ -13,9 +21,35 @@ pub(crate) struct Arguments<'a> {
     pub(crate) last: &'a Text,
 }
 
-/// Reads words in pairs of an option and its value. None where there is a word that is no option, or one comes twice.
+/// Reads the options and the one word behind them. None where there are more words or none, or an option comes twice.
 pub(crate) fn arguments_of(words: &[Text]) -> Option<Arguments<'_>>
     ensures { MatchOption result (given words.now ≡ None) (λ found. given words.now ≡ Some (given_seen found)) }
+{
+    let Some(front) = front_of(words) else {
+        return None;
+    };
+    let Some(last) = only(front.behind) else {
+        return None;
+    };
+    Some(Arguments {
+        options: front.options,
+        last,
+    })
+}
+
+/// The one word of a list that has no other.
+fn only(words: &[Text]) -> Option<&Text>
+    ensures { MatchOption result ((options : Given) → arguments_with words.now options ≡ None) (λ last. words.now ≡ last.now ∷ []) }
+{
+    let [last] = words else {
+        return None;
+    };
+    Some(last)
+}
+
+/// Reads the options at the front of the words. None where one comes twice.
+pub(crate) fn front_of(words: &[Text]) -> Option<Front<'_>>
+    ensures { MatchOption result (given_by (leading words.now) ≡ None) (λ front. Leads words.now front) }
 {
     let mut left = words;
     let mut syntax = None;
@@ -23,7 +57,7 @@ pub(crate) fn arguments_of(words: &[Text]) -> Option<Arguments<'_>>
     let mut graph = None;
     let mut context = None;
     let mut base = None;
-    while let Some((word, value, rest)) = next_pair(left) {
+    while let Some((name, value, rest)) = next_option(left) {
         let options = Options {
             syntax,
             format,
@@ -31,7 +65,7 @@ pub(crate) fn arguments_of(words: &[Text]) -> Option<Arguments<'_>>
             context,
             base,
         };
-        let Some(more) = options.put(word, value) else {
+        let Some(more) = options.put(name, value) else {
             return None;
         };
         syntax = more.syntax;
@@ -41,9 +75,6 @@ pub(crate) fn arguments_of(words: &[Text]) -> Option<Arguments<'_>>
         base = more.base;
         left = rest;
     }
-    let Some((last, _none)) = left.split_first() else {
-        return None;
-    };
     let options = Options {
         syntax,
         format,
@@ -51,11 +82,27 @@ pub(crate) fn arguments_of(words: &[Text]) -> Option<Arguments<'_>>
         context,
         base,
     };
-    Some(Arguments { options, last })
+    Some(Front {
+        options,
+        behind: left,
+    })
+}
+
+/// The option that the words begin with, its value, and the words behind it.
+fn next_option(words: &[Text]) -> Option<(Name, &Text, &[Text])>
+    ensures { MatchOption result (NoOption words.now) (λ found. words.now ≡ word_of found.0 ∷ (found.1.now ∷ found.2.now)) }
+{
+    let Some((word, value, rest)) = next_pair(words) else {
+        return None;
+    };
+    let Some(name) = named(word) else {
+        return None;
+    };
+    Some((name, value, rest))
 }
 
 /// The first two words and those behind them.
-fn next_pair(words: &[Text]) -> Option<(&Text, &Text, &[Text])>
+pub(crate) fn next_pair(words: &[Text]) -> Option<(&Text, &Text, &[Text])>
     ensures { MatchOption result (length words.now < 2) (λ pair. words.now ≡ pair.0.now ∷ (pair.1.now ∷ pair.2.now)) }
 {
     let [name, value, rest @ ..] = words else {

@@ -1,15 +1,18 @@
 //! What the words of the command line ask for.
-ghost use Rattle.std.specs.Prelude.{◌≡◌, MatchResult, MatchOption, IfOk, Some, true, option_map};
-ghost use Rattle.rx_job.specs.Words.{job, reads, samples, extraction, itemization, checking, sampling, syntax_of, is_graph};
-ghost use Rattle.rx_job.specs.Jobs.{asked_by, page_by, given_seen, text_in, FailsJob, FailsGraph, ReadsPage};
+ghost use Rattle.std.specs.Prelude.{◌≡◌, MatchResult, Some, option_map};
+ghost use Rattle.rx_job.specs.Words.{job, reads, gathers, extraction, itemization, checking, sampling, several};
+ghost use Rattle.rx_job.specs.Jobs.{asked_by, page_by, given_seen, text_in, FailsJob};
 
-use crate::arguments::{Arguments, arguments_of};
-use crate::formats::{Format, format_of, names_graphs};
-use crate::words::{are_names, count_of, is_page_name, is_word};
+use crate::arguments::{Arguments, arguments_of, front_of};
+use crate::errors::JobError;
+use crate::formats::{Format, format_of};
+use crate::listing::{are_few, pages_of};
+use crate::pages::Pages;
+use crate::values::{copied, graph_of, syntax_of};
+use crate::words::{are_names, count_of, is_file_if_any, is_page_name, is_word};
 use rx_chars::Syntax;
-use rx_terms::{Iri, IriError, NoMemory, Text};
+use rx_terms::{Iri, IriError, Text};
 use std::alloc::Global;
-use thiserror::Error;
 
 /// What is asked for.
 #[derive(Debug, Drop)]
@@ -36,21 +39,17 @@ pub enum Job {
         context: Option<Text>,
         page: Text,
     },
+    /// The dataset of the pages, each with its address, in this syntax, with the names of a context file or the standard
+    /// ones.
+    Many {
+        syntax: Syntax,
+        context: Option<Text>,
+        pages: Pages,
+    },
     /// The sample page of so many items, from 1 to 100,000.
     Sample {
         count: u32,
     },
-}
-
-/// Why the words are no job.
-#[derive(Clone, Copy, Debug, PartialEq, Eq, Error)]
-pub enum JobError {
-    /// The words ask for nothing that the program does.
-    #[error("the words are not understood")]
-    Usage,
-    /// There was no memory.
-    #[error("there was no memory")]
-    NoMemory,
 }
 
 impl Job {
@@ -64,6 +63,9 @@ impl Job {
         };
         if is_word(task, "sample") {
             return Job::sampling(behind);
+        }
+        if is_word(task, "many") {
+            return Job::gathering(alloc, behind);
         }
         let Some(arguments) = arguments_of(behind) else {
             return Err(JobError::Usage);
@@ -190,6 +192,47 @@ impl Job {
         }
     }
 
+    fn gathering(alloc: Global, words: &[Text]) -> Result<Job, JobError>
+        ensures { MatchResult result (λ found. option_map gathers (several words.now) ≡ Some (asked_by found)) (FailsJob (option_map gathers (several words.now))) }
+    {
+        let Some(front) = front_of(words) else {
+            return Err(JobError::Usage);
+        };
+        let given = front.options;
+        let Some(syntax) = syntax_of(given.syntax) else {
+            return Err(JobError::Usage);
+        };
+        let None = given.format else {
+            return Err(JobError::Usage);
+        };
+        let None = given.graph else {
+            return Err(JobError::Usage);
+        };
+        let None = given.base else {
+            return Err(JobError::Usage);
+        };
+        if !is_file_if_any(given.context) {
+            return Err(JobError::Usage);
+        }
+        let pages = match pages_of(alloc, front.behind) {
+            Ok(pages) => pages,
+            Err(error) => return Err(error),
+        };
+        if !are_few(&pages) {
+            drop(pages);
+            return Err(JobError::Usage);
+        }
+        let Ok(context) = copied(given.context) else {
+            drop(pages);
+            return Err(JobError::NoMemory);
+        };
+        Ok(Job::Many {
+            syntax,
+            context,
+            pages,
+        })
+    }
+
     fn sampling(words: &[Text]) -> Result<Job, JobError>
         ensures { MatchResult result (λ found. sampling words.now ≡ Some (asked_by found)) (FailsJob (sampling words.now)) }
     {
@@ -202,16 +245,6 @@ impl Job {
         }
     }
 
-    /// How many items the sample page has, from 1 to 100,000; None exactly where a page is to be read.
-    pub fn sample_count(&self) -> Option<u32>
-        ensures { MatchOption result (ReadsPage self.now) (λ count. asked_by self.now ≡ samples count) }
-    {
-        match self {
-            Job::Sample { count } => Some(*count),
-            _ => None,
-        }
-    }
-
     /// The name of the context file, where one is named. A job of items has none, nor has a sample.
     pub fn context(&self) -> Option<&Text>
         ensures { text_in result ≡ (page_by self.now).context }
@@ -220,53 +253,8 @@ impl Job {
             Job::Extract { context, .. } => context.as_ref(),
             Job::Items { .. } => None,
             Job::Check { context, .. } => context.as_ref(),
+            Job::Many { context, .. } => context.as_ref(),
             Job::Sample { .. } => None,
         }
-    }
-}
-
-/// The text that is lent, as one of its own.
-fn copied(text: Option<&Text>) -> Result<Option<Text>, NoMemory>
-    ensures { IfOk result (λ copy. copy ≡ text_in text.entry) }
-{
-    match text {
-        None => Ok(None),
-        Some(text) => match text.try_clone() {
-            Ok(text) => Ok(Some(text)),
-            Err(_) => Err(NoMemory),
-        },
-    }
-}
-
-/// The syntax of this name, which is HTML where none is given.
-fn syntax_of(name: Option<&Text>) -> Option<Syntax>
-    ensures { result ≡ syntax_of (text_in name.entry) }
-{
-    let Some(name) = name else {
-        return Some(Syntax::Html);
-    };
-    if is_word(name, "html") {
-        return Some(Syntax::Html);
-    }
-    if is_word(name, "xhtml") {
-        return Some(Syntax::Xhtml);
-    }
-    None
-}
-
-/// The name of the graph, where one is given. Usage comes exactly where the format can't say it, or it is no IRI.
-fn graph_of(alloc: Global, format: Format, name: Option<&Text>) -> Result<Option<Iri>, JobError>
-    ensures { MatchResult result (λ graph. (is_graph format (text_in name.entry) ≡ true) × (graph ≡ text_in name.entry)) (FailsGraph format (text_in name.entry)) }
-{
-    let Some(name) = name else {
-        return Ok(None);
-    };
-    if !names_graphs(format) {
-        return Err(JobError::Usage);
-    }
-    match Iri::of(alloc, name.as_str()) {
-        Ok(graph) => Ok(Some(graph)),
-        Err(IriError::NoMemory) => Err(JobError::NoMemory),
-        Err(_) => Err(JobError::Usage),
     }
 }

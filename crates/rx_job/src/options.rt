@@ -1,6 +1,5 @@
 //! The options of a command, and their values.
 ghost use Rattle.std.specs.Prelude.{◌≡◌, option_map};
-ghost use Rattle.rx_terms.specs.Text.{Chars};
 ghost use Rattle.rx_job.specs.Jobs.{options_seen, text_in};
 ghost use Rattle.rx_job.specs.Options.{named, put, value_of, with_value};
 
@@ -28,7 +27,7 @@ pub(crate) struct Options<'a> {
 }
 
 /// The option of this name.
-fn named(word: &Text) -> Option<Name>
+pub(crate) fn named(word: &Text) -> Option<Name>
     ensures { result ≡ named word.now }
 {
     if is_word(word, "--syntax") {
@@ -50,13 +49,10 @@ fn named(word: &Text) -> Option<Name>
 }
 
 impl<'a> Options<'a> {
-    /// These options, and the one of this name besides. None where the word names none, or one that was given.
-    pub(crate) fn put(self, word: &Text, value: &'a Text) -> Option<Options<'a>>
-        ensures { (last : Chars) → option_map (λ options. options_seen options last) result ≡ put word.now value.now (options_seen self.entry last) }
+    /// These options, and this one besides. None where it was given.
+    pub(crate) fn put(self, name: Name, value: &'a Text) -> Option<Options<'a>>
+        ensures { option_map options_seen result ≡ put name value.now (options_seen self.entry) }
     {
-        let Some(name) = named(word) else {
-            return None;
-        };
         match self.value(name) {
             Some(_given) => None,
             None => Some(self.with(name, value)),
@@ -65,7 +61,7 @@ impl<'a> Options<'a> {
 
     /// The value of an option, where it was given.
     fn value(&self, name: Name) -> Option<&'a Text>
-        ensures { (last : Chars) → text_in result ≡ value_of name (options_seen self.now last) }
+        ensures { text_in result ≡ value_of name (options_seen self.now) }
     {
         match name {
             Name::Syntax => self.syntax,
@@ -78,7 +74,7 @@ impl<'a> Options<'a> {
 
     /// These options, and this one besides.
     fn with(self, name: Name, value: &'a Text) -> Options<'a>
-        ensures { (last : Chars) → options_seen result last ≡ with_value name value.now (options_seen self.entry last) }
+        ensures { options_seen result ≡ with_value name value.now (options_seen self.entry) }
     {
         let value = Some(value);
         match name {

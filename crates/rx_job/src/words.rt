@@ -5,7 +5,7 @@ ghost use Rattle.std.specs.List.{list_all};
 ghost use Rattle.std.specs.Char.{is_ascii_digit};
 ghost use Rattle.std.specs.Str.{chars};
 ghost use Rattle.rx_terms.specs.Ascii.{is_ascii};
-ghost use Rattle.rx_job.specs.Words.{are_names, count_of, is_file_name, is_number, is_page_name};
+ghost use Rattle.rx_job.specs.Words.{are_names, count_of, is_file_if_any, is_file_name, is_number, is_page_name};
 ghost use Rattle.rx_job.specs.Jobs.{text_in};
 
 use rx_terms::Text;
@@ -32,9 +32,16 @@ pub(crate) fn is_page_name(page: &str) -> bool
 pub(crate) fn are_names(file: Option<&Text>, page: &Text) -> bool
     ensures { result ≡ are_names (text_in file.entry) page.now }
 {
+    is_file_if_any(file) && is_page_name(page.as_str())
+}
+
+/// Whether the context file has a name, where there is one.
+pub(crate) fn is_file_if_any(file: Option<&Text>) -> bool
+    ensures { result ≡ is_file_if_any (text_in file.entry) }
+{
     match file {
-        None => is_page_name(page.as_str()),
-        Some(file) => is_file_name(file.as_str()) && is_page_name(page.as_str()),
+        None => true,
+        Some(file) => is_file_name(file.as_str()),
     }
 }
 

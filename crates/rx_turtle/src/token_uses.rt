@@ -16,10 +16,7 @@ ghost use Rattle.rx_shorts.specs.Verbs.{iris_of_verb};
 use rx_graph::{Graph, Resource};
 use rx_nesting::Token;
 use rx_pieces::{is_writable, is_writable_blank, is_writable_iri, is_writable_literal};
-use rx_shorts::{
-    Shorts, mark_iri, mark_kind,
-    mark_predicate, unmarked,
-};
+use rx_shorts::{Shorts, mark_iri, mark_kind, mark_predicate, unmarked};
 use rx_terms::NoMemory;
 use std::alloc::Global;
 

@@ -11,7 +11,7 @@ use std::alloc::Global;
 /// More bytes than any row writes.
 const ROOM: usize = 2_000_000;
 
-/// The words of a list of texts.
+/// The words of a list of texts, in which two words that come many times stand as a list of both and their count.
 pub(crate) fn words_of(alloc: Global, value: Option<&Value>) -> Result<Vec<Text>, RowError> {
     let Some(list) = value.and_then(Value::as_array) else {
         return Err(RowError::Form);
@@ -28,7 +28,25 @@ pub(crate) fn words_of(alloc: Global, value: Option<&Value>) -> Result<Vec<Text>
 
 fn push_words(alloc: Global, words: &mut Vec<Text>, list: &[Value]) -> Result<(), RowError> {
     for value in list {
-        push_word(alloc, words, value)?;
+        match value.as_array() {
+            Some(repeated) => push_repeated(alloc, words, repeated.as_slice())?,
+            None => push_word(alloc, words, value)?,
+        }
+    }
+    Ok(())
+}
+
+/// Two words, so many times.
+fn push_repeated(alloc: Global, words: &mut Vec<Text>, list: &[Value]) -> Result<(), RowError> {
+    let [first, second, count] = list else {
+        return Err(RowError::Form);
+    };
+    let Some(count) = count.as_u64() else {
+        return Err(RowError::Form);
+    };
+    for _ in 0..count {
+        push_word(alloc, words, first)?;
+        push_word(alloc, words, second)?;
     }
     Ok(())
 }

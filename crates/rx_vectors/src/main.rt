@@ -29,6 +29,7 @@ const TOPICS: &[&str] = &[
     "large",
     "lists",
     "literals",
+    "many",
     "names",
     "nested",
     "omitted_ends",

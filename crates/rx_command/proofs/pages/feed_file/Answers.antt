@@ -1,11 +1,11 @@
 use Rattle.std.proofs.Common.{arith, rules, ap, inl, ◌≡◌, ◌≤◌, ◌+◌, [], length, refl, Err}
-use Rattle.rx_ports.proofs.MoveLemmas.{moves_weaker, moves_then}
+use Rattle.rx_ports.proofs.MoveLemmas.{moves_same, moves_weaker, moves_then}
 use Rattle.rx_command.specs.Files.{HasRead, TakesOf}
 use Rattle.rx_command.specs.declared.errors.InputError.TheVariants.{Failed}
 use Rattle.rx_command.proofs.InputLemmas.{rose_before}
-use Rattle.rx_command.specs.Reading.{way_for, ReadsClean}
+use Rattle.rx_command.specs.Reading.{way_for, ReadsClean, TakesToFirst}
 use Rattle.rx_command.proofs.FileLemmas.{read_start, takes_none, takes_more}
-use Rattle.rx_command.proofs.ReadLemmas.{more_so_far, not_longer, next_found, file_fed, unread_clean}
+use Rattle.rx_command.proofs.ReadLemmas.{more_so_far, not_longer, next_found, file_fed, unread_clean, unread_first, to_first}
 use Rattle.rx_command.proofs.pages.feed_file.Goals as goal
 
 pub returns-in_default-start_file-clause-takes : goal.returns-in_default-start_file-clause-takes
@@ -72,3 +72,22 @@ unreachable-requires g c =
 
 pub returns-in-Err-clause-failed : goal.returns-in-Err-clause-failed
 returns-in-Err-clause-failed g c is = let e : c.in-Err.error ≡ Failed = (cc) in inl (rose_before _ _ _ c.loop-taken.invariant.later (c.in-Err.ensures.failed (ap Err e)))
+
+pub returns-in_default-clause-to_first : goal.returns-in_default-clause-to_first
+returns-in_default-clause-to_first g c syntax aim r = moves_same (TakesToFirst (way_for syntax aim) c.args.name.now) (λ x. unread_first (way_for syntax aim) c.args.name.now x x (omega arith)) (g.F.Shelf.told c.args.shelf.now)
+
+pub returns-in_default-start_file-clause-to_first : goal.returns-in_default-start_file-clause-to_first
+returns-in_default-start_file-clause-to_first g c syntax aim r =
+    moves_weaker (TakesToFirst (way_for syntax aim) c.args.name.now) (λ x y s. unread_first (way_for syntax aim) c.args.name.now x y (omega (arith, s.taken))) c.in_default-start_file.ensures.told
+
+pub returns-in-Ok-eq0-clause-to_first : goal.returns-in-Ok-eq0-clause-to_first
+returns-in-Ok-eq0-clause-to_first g c syntax aim r =
+    let s = c.loop-taken.invariant.so_far syntax aim r in
+    let small : length c.deref_mut.result.now ≤ 65536 = omega (arith, c.deref_mut.ensures.len, c.loop-taken.invariant.piece) in
+    moves_then (TakesToFirst (way_for syntax aim) c.args.name.now) (λ x y z h t. to_first syntax aim c.args.name.now c.loop-taken.reader s.bytes (length c.deref_mut.result.now) x y z s.reached h t small) s.read c.in-Ok-eq0.ensures.takes
+
+pub returns-in-Err-clause-to_first : goal.returns-in-Err-clause-to_first
+returns-in-Err-clause-to_first g c syntax aim r =
+    let s = c.loop-taken.invariant.so_far syntax aim r in
+    let small : length c.deref_mut.result.now ≤ 65536 = omega (arith, c.deref_mut.ensures.len, c.loop-taken.invariant.piece) in
+    moves_then (TakesToFirst (way_for syntax aim) c.args.name.now) (λ x y z h t. to_first syntax aim c.args.name.now c.loop-taken.reader s.bytes (length c.deref_mut.result.now) x y z s.reached h t small) s.read c.in-Err.ensures.takes

@@ -1,5 +1,8 @@
-use Rattle.rx_command.specs.Reading.{for_triples, GivesList}
-use Rattle.rx_command.proofs.ReadLemmas.{limits_are, start_reached, fed_ends}
+use Rattle.std.proofs.Common.{arith}
+use Rattle.rx_ports.proofs.MoveLemmas.{moves_same}
+use Rattle.rx_command.specs.Reading.{for_triples, GivesList, TakesToFirst}
+use Rattle.rx_command.specs.Ways.{way_of}
+use Rattle.rx_command.proofs.ReadLemmas.{limits_are, start_reached, fed_ends, unread_first}
 use Rattle.rx_command.proofs.pages.read_page.Goals as goal
 
 pub feed_file-requires : goal.feed_file-requires
@@ -27,3 +30,19 @@ returns-in-Err-clause-gives g c =
     let a = c.args.approach in
     let limits = limits_are c.standard.result c.standard.ensures.depth c.standard.ensures.tag c.standard.ensures.page in
     c.in-Err.ensures.gives a.syntax (for_triples a.context a.address) (start_reached a.syntax a.context a.address c.standard.result c.in-Ok.walk limits c.in-Ok.ensures)
+
+pub returns-in_default-clause-to_first : goal.returns-in_default-clause-to_first
+returns-in_default-clause-to_first g c =
+    moves_same (TakesToFirst (way_of c.args.approach) c.args.name.now) (λ x. unread_first (way_of c.args.approach) c.args.name.now x x (omega arith)) (g.F.Shelf.told c.args.shelf.now)
+
+pub returns-in-Ok-feed_file-clause-to_first : goal.returns-in-Ok-feed_file-clause-to_first
+returns-in-Ok-feed_file-clause-to_first g c =
+    let a = c.args.approach in
+    let limits = limits_are c.standard.result c.standard.ensures.depth c.standard.ensures.tag c.standard.ensures.page in
+    c.in-Ok-feed_file.ensures.to_first a.syntax (for_triples a.context a.address) (start_reached a.syntax a.context a.address c.standard.result c.in-Ok.walk limits c.in-Ok.ensures)
+
+pub returns-in-Err-clause-to_first : goal.returns-in-Err-clause-to_first
+returns-in-Err-clause-to_first g c =
+    let a = c.args.approach in
+    let limits = limits_are c.standard.result c.standard.ensures.depth c.standard.ensures.tag c.standard.ensures.page in
+    c.in-Err.ensures.to_first a.syntax (for_triples a.context a.address) (start_reached a.syntax a.context a.address c.standard.result c.in-Ok.walk limits c.in-Ok.ensures)

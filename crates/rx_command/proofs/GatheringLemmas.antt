@@ -1,0 +1,342 @@
+-- Several pages that are read one after another.
+use Rattle.std.proofs.Common.{◌≡◌, ◌∙◌, ◌+◌, ◌-◌, ◌≤◌, ◌⊎◌, inl, inr, ℕ, zero, suc, nat_eq, List, [], ◌∷◌, ◌++◌, length, take, drop, sym, ap, subst, refl, arith, Option, Some, None, Result, Ok, Err, encode_utf8_all, append_assoc}
+use Rattle.std.specs.Prelude.{slice_get}
+use Rattle.rx_ports.specs.Counts.{Rose}
+use Rattle.rx_ports.specs.Files.{file_of}
+use Rattle.rx_ports.specs.Told.{Told, Moves, Lacks}
+use Rattle.rx_ports.proofs.MoveLemmas.{moves_then}
+use Rattle.rx_chars.specs.declared.syntax.Syntax.{Syntax}
+use Rattle.rx_grammar.specs.declared.faults.Fault.{Fault}
+use Rattle.rx_terms.specs.Text.{Chars}
+use Rattle.rx_terms.specs.declared.triples.Triple.{Triple as CodeTriple}
+use Rattle.rx_model.specs.Copied.{copied}
+use Rattle.rx_model.specs.Numbered.{numbered, Renamed}
+use Rattle.rx_model.specs.Seen.{triples_seen}
+use Rattle.rx_model.specs.Terms.{Triple, set_of}
+use Rattle.rx_rdfa.specs.Names.{Context}
+use Rattle.rx_rdfa.specs.Whole.{graph_of}
+use Rattle.rx_rdfa.proofs.Whole.{written_denotes}
+use Rattle.rx_many.specs.Pages.{Page, Judgement, refused, accepted, refused_page, accepted_page}
+use Rattle.rx_job.specs.Words.{Gathering, Listed}
+use Rattle.rx_reading.specs.Ways.{Way}
+use Rattle.rx_command.specs.declared.pages.Approach.{Approach}
+use Rattle.rx_command.specs.Reading.{for_triples, way_for, HasFirst, GivesList, ReadsWhole, Finds, TakesToFirst}
+use Rattle.rx_command.specs.Files.{TakesOf, size_of}
+use Rattle.rx_command.specs.Contexts.{IsContext, HasContext, LacksContext, TakesContext, ReadsContext}
+use Rattle.rx_command.specs.Inputs.{TellsThat}
+use Rattle.rx_command.specs.Outcome.{LacksPage, LacksOne, base_in, facts_in}
+use Rattle.rx_command.specs.Ways.{way_of}
+use Rattle.rx_command.specs.Gathering.{FileList, page_way, GivesTriples, GivesGraph, IsJudged, Judges, JudgesEach, IsPart, AreParts, total, TakesGathering, IsThat, TakesPart, TakesParts, ReadsListed, ReadsEach, AddsPage, AddsPages, GathersPages}
+use Rattle.rx_command.proofs.InputLemmas.{one_context, has_context, rose_before}
+use Rattle.rx_command.proofs.MadeLemmas.{list_written}
+
+-- ---- lists
+
+front_suc : {A : Type 0} (xs : List A) (i : ℕ) (x : A) → slice_get xs i ≡ Some x → take (suc i) xs ≡ take i xs ++ x ∷ []
+front_suc [] i x e = absurd (cc)
+front_suc (y ∷ xs) zero x e = let same : y ≡ x = (cc) in ap (λ z. z ∷ []) same
+front_suc (y ∷ xs) (suc i) x e = ap (λ z. y ∷ z) (front_suc xs i x e)
+
+front_more : {A : Type 0} (xs : List A) (i : ℕ) (x : A) → slice_get xs i ≡ Some x → take i xs ++ x ∷ [] ≡ take (i + 1) xs
+front_more xs i x e = let up : suc i ≡ i + 1 = omega arith in sym (front_suc xs i x e) ∙ ap (λ n. take n xs) up
+
+front_and_rest : {A : Type 0} (n : ℕ) (xs : List A) → take n xs ++ drop n xs ≡ xs
+front_and_rest zero xs = refl
+front_and_rest (suc n) [] = refl
+front_and_rest (suc n) (x ∷ xs) = ap (λ z. x ∷ z) (front_and_rest n xs)
+
+all_of : {A : Type 0} (n : ℕ) (xs : List A) → length xs ≤ n → take n xs ≡ xs
+all_of zero [] l = refl
+all_of zero (x ∷ xs) l = absurd (omega (arith, l))
+all_of (suc n) [] l = refl
+all_of (suc n) (x ∷ xs) l = ap (λ z. x ∷ z) (all_of n xs (omega (arith, l)))
+
+-- ---- parts
+
+total_both : (a b : List ℕ) → total (a ++ b) ≡ total a + total b
+total_both [] b = omega arith
+total_both (n ∷ a) b = let t : total (a ++ b) ≡ total a + total b = total_both a b in omega (arith, t)
+
+-- nothing of each page
+abbrev none_of : List Listed → List ℕ
+none_of [] = []
+none_of (listed ∷ more) = 0 ∷ none_of more
+
+total_none : (listed : List Listed) → total (none_of listed) ≡ 0
+total_none [] = refl
+total_none (one ∷ more) = let rest : total (none_of more) ≡ 0 = total_none more in omega (arith, rest)
+
+module _ (holds : Context → Type 0) (syntax : Syntax) (files : FileList) where
+  nothing_of : (one : Listed) → IsPart holds syntax files one 0
+  nothing_of one = record { size = omega arith; most = omega arith; to_fault = λ context h bytes f fault first. omega arith }
+
+  are_none : (listed : List Listed) → AreParts holds syntax files listed (none_of listed)
+  are_none [] = tt
+  are_none (one ∷ more) = (nothing_of one, are_none more)
+
+  parts_both : (listed more : List Listed) (parts rest : List ℕ) → AreParts holds syntax files listed parts → AreParts holds syntax files more rest → AreParts holds syntax files (listed ++ more) (parts ++ rest)
+  parts_both [] more [] rest a b = b
+  parts_both [] more (n ∷ parts) rest a b = absurd a
+  parts_both (one ∷ listed) more [] rest a b = absurd a
+  parts_both (one ∷ listed) more (n ∷ parts) rest a b = (a.0, parts_both listed more parts rest a.1 b)
+
+  -- under other contexts
+  parts_under : (other : Context → Type 0) → ((k : Context) → other k → holds k) → (listed : List Listed) (parts : List ℕ) → AreParts holds syntax files listed parts → AreParts other syntax files listed parts
+  parts_under other f [] [] a = tt
+  parts_under other f [] (n ∷ parts) a = absurd a
+  parts_under other f (one ∷ listed) [] a = absurd a
+  parts_under other f (one ∷ listed) (n ∷ parts) a =
+      (record { size = (a.0).size; most = (a.0).most; to_fault = λ k h. (a.0).to_fault k (f k h) }, parts_under other f listed parts a.1)
+
+-- ---- judgements
+
+module _ (gives : Syntax → Context → Chars → List ℕ → List (Triple ℕ) → Type 0) (syntax : Syntax) (context : Context) (files : FileList) where
+  judges_both : (listed more : List Listed) (pages rest : List Page) → JudgesEach gives syntax context files listed pages → JudgesEach gives syntax context files more rest → JudgesEach gives syntax context files (listed ++ more) (pages ++ rest)
+  judges_both [] more [] rest a b = b
+  judges_both [] more (page ∷ pages) rest a b = absurd a
+  judges_both (one ∷ listed) more [] rest a b = absurd a
+  judges_both (one ∷ listed) more (page ∷ pages) rest a b = (a.0, judges_both listed more pages rest a.1 b)
+
+-- what is written denotes the page's graph
+judged_graph : (syntax : Syntax) (context : Context) (address : Chars) (bytes : List ℕ) (judgement : Judgement) → IsJudged GivesTriples syntax context address bytes judgement → IsJudged GivesGraph syntax context address bytes judgement
+judged_graph syntax context address bytes (refused fault) h = h
+judged_graph syntax context address bytes (accepted triples) h = record {
+  tree = h.tree;
+  is = h.is;
+  renamed =
+      subst (λ (ts : List (Triple ℕ)). Renamed (graph_of (base_in address h.tree) (facts_in context h.tree)) (set_of ts)) (sym h.given) (written_denotes (base_in address h.tree) (facts_in context h.tree));
+}
+
+pub judged_graphs : (syntax : Syntax) (context : Context) (files : FileList) (listed : List Listed) (pages : List Page) → JudgesEach GivesTriples syntax context files listed pages → JudgesEach GivesGraph syntax context files listed pages
+judged_graphs syntax context files [] [] a = tt
+judged_graphs syntax context files [] (page ∷ pages) a = absurd a
+judged_graphs syntax context files (one ∷ listed) [] a = absurd a
+judged_graphs syntax context files (one ∷ listed) (page ∷ pages) a =
+    let j = a.0 in
+    (record { bytes = j.bytes; file = j.file; address = j.address; judged = judged_graph syntax context one.address j.bytes page.judgement j.judged }, judged_graphs syntax context files listed pages a.1)
+
+-- ---- a page
+
+both_moves : {first second : Told → Told → Type 0} {a b : Option Told} (both : Told → Told → Type 0) → ((x y : Told) → first x y → second x y → both x y) → Moves first a b → Moves second a b → Moves both a b
+both_moves both f m n = record { same = m.same; taken = λ x y p q. f x y (m.taken x y p q) (n.taken x y p q) }
+
+pub takes_nothing : (context : Context) (syntax : Syntax) (one : Listed) (x : Told) → TakesPart context syntax one x x
+takes_nothing context syntax one x = record { files = refl; part = 0; is = nothing_of (IsThat context) syntax x.files one; taken = omega arith }
+
+module _ (a : Approach) (syntax : Syntax) (context : Context) (address page name : List ℕ) (s : a.syntax ≡ syntax) (k : a.context ≡ context) (n : a.address ≡ address) (named : name ≡ encode_utf8_all page) where
+  abbrev One : Listed
+  One = record { address = address; page = page }
+
+  same_approach : a ≡ record { syntax = syntax; context = context; address = address }
+  same_approach = λ i. record { syntax = s i; context = k i; address = n i }
+
+  same_way : way_of a ≡ page_way syntax context address
+  same_way = ap (λ (b : Approach). way_of b) same_approach
+
+  -- how much of it was read
+  part_of : (x y : Told) → TakesOf name 1073807359 x y → TakesToFirst (way_of a) name x y → TakesPart context syntax One x y
+  part_of x y t f =
+      let size : size_of (file_of x.files name) ≡ size_of (file_of x.files (encode_utf8_all page)) = ap (λ z. size_of (file_of x.files z)) named in
+      record {
+        files = t.files;
+        part = y.taken - x.taken;
+        is = record {
+          size = omega (arith, t.file, size);
+          most = omega (arith, t.most);
+          to_fault = λ other h bytes g fault first.
+              let under : HasFirst (page_way syntax context address) bytes fault = subst (λ (c : Context). HasFirst (page_way syntax c address) bytes fault) (sym h) first in
+              let here : HasFirst (way_of a) bytes fault = subst (λ (w : Way). HasFirst w bytes fault) (sym same_way) under in
+              let most = f bytes (ap (λ z. file_of x.files z) named ∙ g) fault here in
+              omega (arith, most);
+        };
+        taken = omega arith;
+      }
+
+  pub page_takes : (told now : Option Told) → Moves (TakesOf name 1073807359) told now → Moves (TakesToFirst (way_of a) name) told now → Moves (TakesPart context syntax One) told now
+  page_takes told now t f = both_moves (TakesPart context syntax One) (λ x y p q. part_of x y p q) t f
+
+  -- what it gives
+  gives_triples : (list : List CodeTriple) (x y : Told) → ReadsWhole (GivesList a.syntax a.context a.address) name list x y → Judges GivesTriples syntax context x.files One (accepted_page address (numbered nat_eq (copied nat_eq (triples_seen list))))
+  gives_triples list x y c =
+      let triples : List (Triple ℕ) = numbered nat_eq (copied nat_eq (triples_seen list)) in
+      let own : GivesTriples a.syntax a.context a.address c.bytes triples =
+      record { tree = c.gives.tree; is = record { page = c.gives.page; accepted = c.gives.accepted }; given = list_written a.address a.context c.gives.tree list c.gives.made } in
+      record {
+        bytes = c.bytes;
+        file = ap (λ z. file_of x.files z) (sym named) ∙ c.file;
+        address = refl;
+        judged = subst (λ (b : Approach). GivesTriples b.syntax b.context b.address c.bytes triples) same_approach own;
+      }
+
+  gives_fault : (fault : Fault) (x y : Told) → Finds (way_of a) name fault x y → Judges GivesTriples syntax context x.files One (refused_page address fault)
+  gives_fault fault x y c = record {
+    bytes = c.bytes;
+    file = ap (λ z. file_of x.files z) (sym named) ∙ c.file;
+    address = refl;
+    judged = subst (λ (w : Way). HasFirst w c.bytes fault) same_way c.is;
+  }
+
+  pub adds_accepted : (told now : Option Told) (before after : List Page) (list : List CodeTriple) → Moves (TakesOf name 1073807359) told now → Moves (TakesToFirst (way_of a) name) told now
+      → Moves (ReadsWhole (GivesList a.syntax a.context a.address) name list) told now → after ≡ before ++ accepted_page address (numbered nat_eq (copied nat_eq (triples_seen list))) ∷ [] → AddsPage context syntax One before after told now
+  adds_accepted told now before after list t f m e =
+      let page : Page = accepted_page address (numbered nat_eq (copied nat_eq (triples_seen list))) in
+      record { page = page; adds = e; reads = both_moves (ReadsListed context syntax One page) (λ x y c p. record { judged = gives_triples list x y c; takes = p }) m (page_takes told now t f) }
+
+  pub adds_refused : (told now : Option Told) (before after : List Page) (fault : Fault) → Moves (TakesOf name 1073807359) told now → Moves (TakesToFirst (way_of a) name) told now
+      → Moves (Finds (way_of a) name fault) told now → after ≡ before ++ refused_page address fault ∷ [] → AddsPage context syntax One before after told now
+  adds_refused told now before after fault t f m e =
+      let page : Page = refused_page address fault in
+      record { page = page; adds = e; reads = both_moves (ReadsListed context syntax One page) (λ x y c p. record { judged = gives_fault fault x y c; takes = p }) m (page_takes told now t f) }
+
+-- ---- page after page
+
+module _ (context : Context) (syntax : Syntax) where
+  part_then : (listed : List Listed) (one : Listed) (x y z : Told) → TakesParts context syntax listed x y → TakesPart context syntax one y z → TakesParts context syntax (listed ++ one ∷ []) x z
+  part_then listed one x y z p q =
+      let is : IsPart (IsThat context) syntax x.files one q.part = subst (λ (f : FileList). IsPart (IsThat context) syntax f one q.part) p.files q.is in
+      let sum : total (p.parts ++ q.part ∷ []) ≡ total p.parts + (q.part + 0) = total_both p.parts (q.part ∷ []) in
+      record {
+        files = q.files ∙ p.files;
+        parts = p.parts ++ q.part ∷ [];
+        are = parts_both (IsThat context) syntax x.files listed (one ∷ []) p.parts (q.part ∷ []) p.are (is, tt);
+        taken = omega (arith, p.taken, q.taken, sum);
+      }
+
+  -- nothing of those behind
+  part_alone : (listed rest : List Listed) (x y : Told) → TakesParts context syntax listed x y → TakesParts context syntax (listed ++ rest) x y
+  part_alone listed rest x y p =
+      let sum : total (p.parts ++ none_of rest) ≡ total p.parts + total (none_of rest) = total_both p.parts (none_of rest) in
+      record {
+        files = p.files;
+        parts = p.parts ++ none_of rest;
+        are = parts_both (IsThat context) syntax x.files listed rest p.parts (none_of rest) p.are (are_none (IsThat context) syntax x.files rest);
+        taken = omega (arith, p.taken, sum);
+      }
+
+  read_then : (listed : List Listed) (one : Listed) (pages : List Page) (page : Page) (x y z : Told) → ReadsEach context syntax listed pages x y → ReadsListed context syntax one page y z → ReadsEach context syntax (listed ++ one ∷ []) (pages ++ page ∷ []) x z
+  read_then listed one pages page x y z r q =
+      let judged : Judges GivesTriples syntax context x.files one page = subst (λ (f : FileList). Judges GivesTriples syntax context f one page) r.takes.files q.judged in
+      record { judged = judges_both GivesTriples syntax context x.files listed (one ∷ []) pages (page ∷ []) r.judged (judged, tt); takes = part_then listed one x y z r.takes q.takes }
+
+  reads_none : (x : Told) → ReadsEach context syntax [] [] x x
+  reads_none x = record { judged = tt; takes = record { files = refl; parts = []; are = tt; taken = omega arith } }
+
+  -- before the first
+  pub none_added : (now : List Page) (told : Option Told) → AddsPages context syntax [] now now told told
+  none_added now told = record { pages = []; adds = sym (end now); reads = record { same = refl; taken = λ x y p q. at x y (some_told x y (sym p ∙ q)) } }
+    where
+      end : (xs : List Page) → xs ++ [] ≡ xs
+      end [] = refl
+      end (x ∷ xs) = ap (λ z. x ∷ z) (end xs)
+
+      some_told : (x y : Told) → ◌≡◌ {A = Option Told} (Some x) (Some y) → x ≡ y
+      some_told x y e = cc
+
+      at : (x y : Told) → x ≡ y → ReadsEach context syntax [] [] x y
+      at x y e = subst (λ (z : Told). ReadsEach context syntax [] [] x z) e (reads_none x)
+
+  -- one more
+  pub next_added : (listed : List Listed) (i : ℕ) (one : Listed) (before now next : List Page) (told mid late : Option Told) → slice_get listed i ≡ Some one → AddsPages context syntax (take i listed) before now told mid → AddsPage context syntax one now next mid late
+      → AddsPages context syntax (take (i + 1) listed) before next told late
+  next_added listed i one before now next told mid late at a p =
+      subst (λ (ls : List Listed). AddsPages context syntax ls before next told late) (front_more listed i one at)
+      (record {
+        pages = a.pages ++ p.page ∷ [];
+        adds = p.adds ∙ ap (λ z. z ++ p.page ∷ []) a.adds ∙ append_assoc before a.pages (p.page ∷ []);
+        reads = moves_then (ReadsEach context syntax (take i listed ++ one ∷ []) (a.pages ++ p.page ∷ [])) (λ x y z r q. read_then (take i listed) one a.pages p.page x y z r q) a.reads p.reads;
+      })
+
+  -- all
+  pub all_added : (listed : List Listed) (i : ℕ) (before now : List Page) (told late : Option Told) → length listed ≤ i → AddsPages context syntax (take i listed) before now told late → AddsPages context syntax listed before now told late
+  all_added listed i before now told late l a = subst (λ (ls : List Listed). AddsPages context syntax ls before now told late) (all_of i listed l) a
+
+  pub all_taken : (listed : List Listed) (i : ℕ) (before now : List Page) (told late : Option Told) → length listed ≤ i → AddsPages context syntax (take i listed) before now told late → Moves (TakesParts context syntax listed) told late
+  all_taken listed i before now told late l a = let all = all_added listed i before now told late l a in record { same = all.reads.same; taken = λ x y p q. (all.reads.taken x y p q).takes }
+
+  -- those so far, and some of one more
+  pub some_taken : (listed : List Listed) (i : ℕ) (one : Listed) (before now : List Page) (told mid late : Option Told) → slice_get listed i ≡ Some one → AddsPages context syntax (take i listed) before now told mid → Moves (TakesPart context syntax one) mid late
+      → Moves (TakesParts context syntax listed) told late
+  some_taken listed i one before now told mid late at a p =
+      moves_then (TakesParts context syntax listed)
+      (λ x y z r q.
+      subst (λ (ls : List Listed). TakesParts context syntax ls x z) (front_and_rest (i + 1) listed)
+      (part_alone (take (i + 1) listed) (drop (i + 1) listed) x z
+      (subst (λ (ls : List Listed). TakesParts context syntax ls x z) (front_more listed i one at) (part_then (take i listed) one x y z r.takes q)))) a.reads p
+
+lacks_at : (files : FileList) (listed : List Listed) (i : ℕ) (one : Listed) → slice_get listed i ≡ Some one → file_of files (encode_utf8_all one.page) ≡ None → LacksPage files listed
+lacks_at files [] i one e f = absurd (cc)
+lacks_at files (first ∷ listed) zero one e f = let same : first ≡ one = (cc) in inl (ap (λ (k : Listed). file_of files (encode_utf8_all k.page)) same ∙ f)
+lacks_at files (first ∷ listed) (suc i) one e f = inr (lacks_at files listed i one e f)
+
+lacks_listed : (context : Context) (syntax : Syntax) (front listed : List Listed) (pages : List Page) (i : ℕ) (one : Listed) (told mid : Option Told) → slice_get listed i ≡ Some one → Moves (ReadsEach context syntax front pages) told mid → Lacks mid (encode_utf8_all one.page)
+    → TellsThat (λ t. LacksPage t.files listed) told
+lacks_listed context syntax front listed pages i one told None at m l = absurd l
+lacks_listed context syntax front listed pages i one None (Some y) at m l = let e = m.same in absurd (cc)
+lacks_listed context syntax front listed pages i one (Some x) (Some y) at m l =
+    let r = m.taken x y refl refl in
+    lacks_at x.files listed i one at (sym (ap (λ f. file_of f (encode_utf8_all one.page)) r.takes.files) ∙ l)
+
+-- a page that could not be read
+pub listed_failed : (context : Context) (syntax : Syntax) (listed : List Listed) (i : ℕ) (one : Listed) (before now : List Page) (told mid : Option Told) (m n k : ℕ) → slice_get listed i ≡ Some one → AddsPages context syntax (take i listed) before now told mid → m ≤ n
+    → Rose n k ⊎ Lacks mid (encode_utf8_all one.page) → Rose m k ⊎ TellsThat (λ t. LacksPage t.files listed) told
+listed_failed context syntax listed i one before now told mid m n k at a low (inl rose) = inl (rose_before m n k low rose)
+listed_failed context syntax listed i one before now told mid m n k at a low (inr lacks) = inr (lacks_listed context syntax (take i listed) listed a.pages i one told mid at a.reads lacks)
+
+-- ---- the context file before them
+
+module _ (g : Gathering) where
+  pub context_taken : (x y : Told) → TakesContext g.context x y → TakesGathering g x y
+  context_taken x y t =
+      let none : total (none_of g.pages) ≡ 0 = total_none g.pages in
+      record {
+        files = t.files;
+        parts = none_of g.pages;
+        are = are_none (IsContext g.context x) g.syntax x.files g.pages;
+        size = omega (arith, t.size, none);
+        most = omega (arith, t.most, none);
+      }
+
+  gathering_taken : (context : Context) (x y z : Told) → ReadsContext g.context context x y → TakesParts context g.syntax g.pages y z → TakesGathering g x z
+  gathering_taken context x y z r p =
+      let here : AreParts (IsThat context) g.syntax x.files g.pages p.parts = subst (λ (f : FileList). AreParts (IsThat context) g.syntax f g.pages p.parts) r.takes.files p.are in
+      record {
+        files = p.files ∙ r.takes.files;
+        parts = p.parts;
+        are = parts_under (IsThat context) g.syntax x.files (IsContext g.context x) (λ k h. one_context g.context x context k r.is h) g.pages p.parts here;
+        size = omega (arith, p.taken, r.takes.size);
+        most = omega (arith, p.taken, r.takes.most);
+      }
+
+  pub gathering_takes : (context : Context) (told mid late : Option Told) → Moves (ReadsContext g.context context) told mid → Moves (TakesParts context g.syntax g.pages) mid late → Moves (TakesGathering g) told late
+  gathering_takes context told mid late r p = moves_then (TakesGathering g) (λ x y z c q. gathering_taken context x y z c q) r p
+
+  pub gathers_pages : (context : Context) (before now : List Page) (told mid late : Option Told) → before ≡ [] → Moves (ReadsContext g.context context) told mid → AddsPages context g.syntax g.pages before now mid late → Moves (GathersPages g now) told late
+  gathers_pages context before now told mid late none r a =
+      let same : a.pages ≡ now = sym (a.adds ∙ ap (λ b. b ++ a.pages) none) in
+      moves_then (GathersPages g now)
+      (λ x y z c q. record {
+        context = context;
+        holds = c.is;
+        judged =
+            subst (λ (ps : List Page). JudgesEach GivesTriples g.syntax context x.files g.pages ps) same
+            (subst (λ (f : FileList). JudgesEach GivesTriples g.syntax context f g.pages a.pages) c.takes.files q.judged);
+      }) r a.reads
+
+  context_lacks : (told : Option Told) → TellsThat (LacksContext g.context) told → TellsThat (LacksOne g) told
+  context_lacks None l = l
+  context_lacks (Some x) l = inl l
+
+  pub context_failed : (told : Option Told) (m n : ℕ) → Rose m n ⊎ TellsThat (LacksContext g.context) told → Rose m n ⊎ TellsThat (LacksOne g) told
+  context_failed told m n (inl rose) = inl rose
+  context_failed told m n (inr lacks) = inr (context_lacks told lacks)
+
+  page_lacks : (context : Context) (told mid : Option Told) → Moves (ReadsContext g.context context) told mid → TellsThat (λ t. LacksPage t.files g.pages) mid → TellsThat (LacksOne g) told
+  page_lacks context told None r l = absurd l
+  page_lacks context None (Some y) r l = let e = r.same in absurd (cc)
+  page_lacks context (Some x) (Some y) r l =
+      let c = r.taken x y refl refl in
+      inr (has_context g.context x context c.is, subst (λ (f : FileList). LacksPage f g.pages) c.takes.files l)
+
+  pub gathering_failed : (context : Context) (told mid : Option Told) (m n k : ℕ) → Moves (ReadsContext g.context context) told mid → m ≤ n → Rose n k ⊎ TellsThat (λ t. LacksPage t.files g.pages) mid → Rose m k ⊎ TellsThat (LacksOne g) told
+  gathering_failed context told mid m n k r low (inl rose) = inl (rose_before m n k low rose)
+  gathering_failed context told mid m n k r low (inr lacks) = inr (page_lacks context told mid r lacks)

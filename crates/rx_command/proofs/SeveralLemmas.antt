@@ -1,0 +1,266 @@
+-- How a job of several pages ends, and what that says of a run.
+use Rattle.std.proofs.Common.{◌≡◌, ◌≢◌, ◌∙◌, ℕ, ◌⊎◌, inl, inr, List, [], ◌∷◌, sym, ap, subst, refl, Option, Some, None, is_some, true, false, encode_utf8_all}
+use Rattle.std.specs.Str.{chars}
+use Rattle.rx_ports.specs.Counts.{Rose}
+use Rattle.rx_ports.specs.Files.{file_of}
+use Rattle.rx_ports.specs.Told.{Told, Moves, GrowsBy, GrowsByPart, Stays}
+use Rattle.rx_ports.proofs.MoveLemmas.{moves_at, moves_weaker}
+use Rattle.rx_grammar.specs.declared.faults.Fault.{Fault}
+use Rattle.rx_rdfa.specs.Names.{Context}
+use Rattle.rx_chars.specs.declared.syntax.Syntax.{Syntax}
+use Rattle.rx_many.specs.Pages.{Page}
+use Rattle.rx_many.specs.Writing.{gathered}
+use Rattle.rx_many.specs.Dataset.{DenotesPages}
+use Rattle.rx_job.specs.Words.{Job, Gathering, Listed, gathers, samples, job, page_in, page_asked, gathering_in, gathering_asked}
+use Rattle.rx_command.specs.Contexts.{IsContext, HasContext, HasOther, LacksContext, TakesContext, context_in, context_asked}
+use Rattle.rx_command.specs.Outcome.{HasPageFault, Meets, LacksPage, LacksOne, JobLacks, LacksFile, HasBadContext}
+use Rattle.rx_command.specs.Gathering.{FileList, GivesTriples, JudgesEach, IsGathered, DenotesGathered, GatheredText, HasPages, HasAll, TakesGathering, GathersPages}
+use Rattle.rx_command.specs.Samples.{Yields, YieldsGraph}
+use Rattle.rx_command.specs.Inputs.{TellsThat, WhereTold}
+use Rattle.rx_command.specs.declared.statuses.Status.{Status}
+use Rattle.rx_command.specs.declared.statuses.Status.TheVariants as status
+use Rattle.rx_command.specs.Runs.{Devices, EndsAs, SaysAs, GatheringEnds, SampleEnds, ReadCause, TakesJob, TakesToFault, StopsCleanly, IsAtEnd, Says, reads_files, usage_line, refused_line, context_line}
+use Rattle.rx_command.proofs.InputLemmas.{has_context}
+use Rattle.rx_command.proofs.GatheringLemmas.{judged_graphs}
+use Rattle.rx_command.proofs.RunLemmas.{there, not_other, not_missing, meets}
+
+-- ---- how it ends
+
+where_moved : {step : Told → Told → Type 0} (holds : Told → Type 0) (told now : Option Told) → ((x y : Told) → step x y → holds x) → Moves step told now → WhereTold holds told
+where_moved holds None now f m = tt
+where_moved holds (Some t) now f m = let r = moves_at t m refl in f t r.0 r.1
+
+is_gathered : (g : Gathering) (pages : List Page) (text : List ℕ) → text ≡ encode_utf8_all (gathered pages) → (x y : Told) → GathersPages g pages x y → IsGathered g text x
+is_gathered g pages text e x y p = record { context = p.context; holds = p.holds; pages = pages; judged = p.judged; spelled = e }
+
+denotes_gathered : (g : Gathering) (pages : List Page) (text : List ℕ) → DenotesPages (chars text) pages → (x y : Told) → GathersPages g pages x y → DenotesGathered g text x
+denotes_gathered g pages text d x y p = record { context = p.context; holds = p.holds; pages = pages; judged = judged_graphs g.syntax p.context x.files g.pages pages p.judged; denotes = d }
+
+module _ (g : Gathering) (old new : Devices) where
+  pub ends_done : (pages : List Page) (text piece : List ℕ) → piece ≡ text → text ≡ encode_utf8_all (gathered pages) → DenotesPages (chars text) pages → Moves (GathersPages g pages) old.told new.told → Moves (TakesGathering g) old.told new.told
+      → Moves (GrowsBy piece) old.held new.held → Moves Stays old.said new.said → GatheringEnds g status.Done old new
+  ends_done pages text piece same e d m t w s = record {
+    ends = (
+      text,
+      where_moved (IsGathered g text) old.told new.told (λ x y p. is_gathered g pages text e x y p) m,
+      where_moved (DenotesGathered g text) old.told new.told (λ x y p. denotes_gathered g pages text d x y p) m,
+      subst (λ z. Moves (GrowsBy z) old.held new.held) same w,
+    );
+    takes = t;
+    says = s;
+  }
+
+  pub ends_partly : (pages : List Page) (text piece : List ℕ) → piece ≡ text → text ≡ encode_utf8_all (gathered pages) → Moves (GathersPages g pages) old.told new.told → Moves (TakesGathering g) old.told new.told
+      → Moves (GrowsByPart piece) old.held new.held → Rose old.write_faults new.write_faults → Moves Stays old.said new.said → GatheringEnds g status.WriteFault old new
+  ends_partly pages text piece same e m t w rose s = record {
+    ends = (text, where_moved (IsGathered g text) old.told new.told (λ x y p. is_gathered g pages text e x y p) m, subst (λ z. Moves (GrowsByPart z) old.held new.held) same w, rose);
+    takes = t;
+    says = s;
+  }
+
+-- ---- files that are there and missing
+
+other_context : (file : Option (List ℕ)) (shelf : Told) → LacksContext file shelf → HasOther file shelf → ⊥
+other_context None shelf l o = o
+other_context (Some name) shelf l o = there _ o.bytes o.file l
+
+has_pages : (syntax : Syntax) (context : Context) (files : FileList) (listed : List Listed) (pages : List Page) → JudgesEach GivesTriples syntax context files listed pages → HasPages files listed
+has_pages syntax context files [] [] j = tt
+has_pages syntax context files [] (page ∷ pages) j = absurd j
+has_pages syntax context files (one ∷ listed) [] j = absurd j
+has_pages syntax context files (one ∷ listed) (page ∷ pages) j = (ap is_some (j.0).file, has_pages syntax context files listed pages j.1)
+
+some_none : (file : Option (List ℕ)) → is_some file ≡ true → file ≡ None → ⊥
+some_none file e f = let g : false ≡ true = sym (ap is_some f) ∙ e in absurd (cc)
+
+not_page : (files : FileList) (listed : List Listed) → HasPages files listed → LacksPage files listed → ⊥
+not_page files [] h l = l
+not_page files (one ∷ listed) h (inl l) = some_none _ h.0 l
+not_page files (one ∷ listed) h (inr l) = not_page files listed h.1 l
+
+module _ (g : Gathering) (t : Told) where
+  not_lacks : HasContext g.context t → HasPages t.files g.pages → LacksOne g t → ⊥
+  not_lacks c p (inl l) = not_missing g.context t c l
+  not_lacks c p (inr l) = not_page t.files g.pages p l.1
+
+  gathered_lacks : (text : List ℕ) → IsGathered g text t → LacksOne g t → ⊥
+  gathered_lacks text i l = not_lacks (has_context g.context t i.context i.holds) (has_pages g.syntax i.context t.files g.pages i.pages i.judged) l
+
+  gathered_other : (text : List ℕ) → IsGathered g text t → HasOther g.context t → ⊥
+  gathered_other text i o = not_other g.context t (has_context g.context t i.context i.holds) o
+
+  other_lacks : HasOther g.context t → LacksOne g t → ⊥
+  other_lacks o (inl l) = other_context g.context t l o
+  other_lacks o (inr l) = not_other g.context t l.0 o
+
+where_at : (holds : Told → Type 0) (told : Option Told) (t : Told) → told ≡ Some t → WhereTold holds told → holds t
+where_at holds told t e w = subst (WhereTold holds) e w
+
+tells_at : (holds : Told → Type 0) (told : Option Told) (t : Told) → told ≡ Some t → TellsThat holds told → holds t
+tells_at holds told t e w = subst (TellsThat holds) e w
+
+-- ---- what that says of each status
+
+module _ (g : Gathering) (old new : Devices) (t : Told) (tells : old.told ≡ Some t) where
+  when_lacking : (s : Status) → EndsAs g s old new → LacksOne g t → (s ≡ status.ReadFault) ⊎ (s ≡ status.Memory)
+  when_lacking status.Done e l = absurd (gathered_lacks g t e.0 (where_at (IsGathered g e.0) old.told t tells e.1) l)
+  when_lacking status.WriteFault e l = absurd (gathered_lacks g t e.0 (where_at (IsGathered g e.0) old.told t tells e.1) l)
+  when_lacking status.ReadFault e l = inl refl
+  when_lacking status.BadContext e l = absurd (other_lacks g t (where_at (HasOther g.context) old.told t tells e.1) l)
+  when_lacking status.Memory e l = inr refl
+  when_lacking (status.Refused fault) e l = absurd e
+  when_lacking status.Usage e l = absurd e
+
+  when_other : (s : Status) → EndsAs g s old new → HasOther g.context t → ¬ Rose old.read_faults new.read_faults → (s ≡ status.BadContext) ⊎ (s ≡ status.Memory)
+  when_other status.Done e o quiet = absurd (gathered_other g t e.0 (where_at (IsGathered g e.0) old.told t tells e.1) o)
+  when_other status.WriteFault e o quiet = absurd (gathered_other g t e.0 (where_at (IsGathered g e.0) old.told t tells e.1) o)
+  when_other status.ReadFault (inl rose, held) o quiet = absurd (quiet rose)
+  when_other status.ReadFault (inr lacks, held) o quiet = absurd (other_lacks g t o (tells_at (LacksOne g) old.told t tells lacks))
+  when_other status.BadContext e o quiet = inl refl
+  when_other status.Memory e o quiet = inr refl
+  when_other (status.Refused fault) e o quiet = absurd e
+  when_other status.Usage e o quiet = absurd e
+
+  when_there : (s : Status) → EndsAs g s old new → HasContext g.context t → HasPages t.files g.pages → ¬ Rose old.read_faults new.read_faults → ¬ Rose old.write_faults new.write_faults → (s ≡ status.Done) ⊎ (s ≡ status.Memory)
+  when_there status.Done e c p quiet calm = inl refl
+  when_there status.WriteFault e c p quiet calm = absurd (calm e.3)
+  when_there status.ReadFault (inl rose, held) c p quiet calm = absurd (quiet rose)
+  when_there status.ReadFault (inr lacks, held) c p quiet calm = absurd (not_lacks g t c p (tells_at (LacksOne g) old.told t tells lacks))
+  when_there status.BadContext e c p quiet calm = absurd (not_other g.context t c (where_at (HasOther g.context) old.told t tells e.1))
+  when_there status.Memory e c p quiet calm = inr refl
+  when_there (status.Refused fault) e c p quiet calm = absurd e
+  when_there status.Usage e c p quiet calm = absurd e
+
+ends_unwritten : (g : Gathering) (old new : Devices) (s : Status) → EndsAs g s old new → s ≢ status.Done → s ≢ status.WriteFault → Moves Stays old.held new.held
+ends_unwritten g old new status.Done e d w = absurd (d refl)
+ends_unwritten g old new status.WriteFault e d w = absurd (w refl)
+ends_unwritten g old new status.ReadFault e d w = e.1
+ends_unwritten g old new status.BadContext e d w = e.3
+ends_unwritten g old new status.Memory e d w = e
+ends_unwritten g old new (status.Refused fault) e d w = absurd e
+ends_unwritten g old new status.Usage e d w = absurd e
+
+ends_unsaid : (old new : Devices) (s : Status) → SaysAs s old new → s ≢ status.BadContext → Moves Stays old.said new.said
+ends_unsaid old new status.Done e b = e
+ends_unsaid old new status.WriteFault e b = e
+ends_unsaid old new status.ReadFault e b = e
+ends_unsaid old new status.BadContext e b = absurd (b refl)
+ends_unsaid old new status.Memory e b = e
+ends_unsaid old new (status.Refused fault) e b = e
+ends_unsaid old new status.Usage e b = e
+
+-- ---- the run
+
+module _ (words : List (List ℕ)) (g : Gathering) (j : job words ≡ Some (gathers g)) (s : Status) (old new : Devices) (e : GatheringEnds g s old new) where
+  asks_several : gathering_asked words ≡ Some g
+  asks_several = ap gathering_in j
+
+  no_page : page_asked words ≡ None
+  no_page = ap page_in j
+
+  its_context : context_asked words ≡ g.context
+  its_context = ap context_in j
+
+  ends_at : (k : Status) → s ≡ k → EndsAs g k old new
+  ends_at k is = subst (λ (z : Status). EndsAs g z old new) is e.ends
+
+  pub never_usage : s ≡ status.Usage → ⊥
+  never_usage is = ends_at status.Usage is
+
+  pub never_refused : (fault : Fault) → s ≡ status.Refused fault → ⊥
+  never_refused fault is = ends_at (status.Refused fault) is
+
+  pub never_nothing : job words ≡ None → ⊥
+  never_nothing none = let both : None ≡ Some (gathers g) = sym none ∙ j in absurd (cc)
+
+  pub never_sample : (count : ℕ) → job words ≡ Some (samples count) → ⊥
+  never_sample count is = let both : Some (samples count) ≡ Some (gathers g) = sym is ∙ j in absurd (cc)
+
+  no_fault_of_page : (fault : Fault) → HasPageFault words old.told fault → ⊥
+  no_fault_of_page fault r = let both : None ≡ Some r.page.asked = sym no_page ∙ r.page.asks in absurd (cc)
+
+  pub several_faultless : (fault : Fault) → HasPageFault words old.told fault → ⊥
+  several_faultless fault r = no_fault_of_page fault r
+
+  pub several_done : s ≡ status.Done → (t : Told) → old.told ≡ Some t → (text : List ℕ) × Yields words old.told text × Moves (GrowsBy text) old.held new.held
+  several_done is t tells =
+      let d = ends_at status.Done is in
+      (d.0, inr (inr (record { gathering = g; shelf = t; asks = asks_several; tells = tells; is = where_at (IsGathered g d.0) old.told t tells d.1 })), d.3)
+
+  pub several_denote : s ≡ status.Done → (t : Told) → old.told ≡ Some t → (text : List ℕ) × YieldsGraph words old.told text × Moves (GrowsBy text) old.held new.held
+  several_denote is t tells =
+      let d = ends_at status.Done is in
+      (d.0, inr (inr (record { gathering = g; shelf = t; asks = asks_several; tells = tells; denotes = where_at (DenotesGathered g d.0) old.told t tells d.2 })), d.3)
+
+  pub several_partly : s ≡ status.WriteFault → (t : Told) → old.told ≡ Some t → (text : List ℕ) × Yields words old.told text × Moves (GrowsByPart text) old.held new.held
+  several_partly is t tells =
+      let d = ends_at status.WriteFault is in
+      (d.0, inr (inr (record { gathering = g; shelf = t; asks = asks_several; tells = tells; is = where_at (IsGathered g d.0) old.told t tells d.1 })), d.2)
+
+  pub several_at_end : IsAtEnd (page_asked words) new.told
+  several_at_end = subst (λ k. IsAtEnd k new.told) (sym no_page) tt
+
+  pub several_cleanly : Moves (StopsCleanly (page_asked words)) old.told new.told
+  several_cleanly = subst (λ k. Moves (StopsCleanly k) old.told new.told) (sym no_page) (moves_weaker (StopsCleanly None) (λ x y t. tt) e.takes)
+
+  cause_of : Rose old.read_faults new.read_faults ⊎ TellsThat (LacksOne g) old.told → Rose old.read_faults new.read_faults ⊎ LacksFile words old.told
+  cause_of (inl rose) = inl rose
+  cause_of (inr lacks) = inr (meets words old.told (Some (gathers g)) JobLacks j lacks)
+
+  pub several_failed : s ≡ status.ReadFault → ReadCause words old.told old.read_faults new.read_faults
+  several_failed is = let d = ends_at status.ReadFault is in record { asks = ap reads_files j; cause = cause_of d.0 }
+
+  pub several_lacking : LacksFile words old.told → (s ≡ status.ReadFault) ⊎ (s ≡ status.Memory)
+  several_lacking l = when_lacking g old new l.shelf l.tells s e.ends (subst (λ k. JobLacks k l.shelf) j l.holds)
+
+  pub several_write_fault : s ≡ status.WriteFault → Rose old.write_faults new.write_faults
+  several_write_fault is = (ends_at status.WriteFault is).3
+
+  pub several_unwritten : s ≢ status.Done → s ≢ status.WriteFault → Moves Stays old.held new.held
+  several_unwritten d w = ends_unwritten g old new s e.ends d w
+
+  pub several_name_context : s ≡ status.BadContext → is_some (context_asked words) ≡ true
+  several_name_context is = ap is_some its_context ∙ (ends_at status.BadContext is).0
+
+  pub several_bad_context : s ≡ status.BadContext → (t : Told) → old.told ≡ Some t → HasBadContext words old.told
+  several_bad_context is t tells =
+      let d = ends_at status.BadContext is in
+      record { shelf = t; tells = tells; holds = subst (λ k. HasOther k t) (sym its_context) (where_at (HasOther g.context) old.told t tells d.1) }
+
+  pub several_refuse_context : HasBadContext words old.told → ¬ Rose old.read_faults new.read_faults → (s ≡ status.BadContext) ⊎ (s ≡ status.Memory)
+  several_refuse_context b quiet = when_other g old new b.shelf b.tells s e.ends (subst (λ k. HasOther k b.shelf) its_context b.holds) quiet
+
+  pub several_take_context : s ≡ status.BadContext → Moves (TakesContext (context_asked words)) old.told new.told
+  several_take_context is = subst (λ k. Moves (TakesContext k) old.told new.told) (sym its_context) (ends_at status.BadContext is).2
+
+  pub several_say_context : s ≡ status.BadContext → Says context_line old.said new.said old.say_faults new.say_faults
+  several_say_context is = subst (λ (z : Status). SaysAs z old new) is e.says
+
+  pub several_say_nothing : s ≢ status.BadContext → Moves Stays old.said new.said
+  several_say_nothing b = ends_unsaid old new s e.says b
+
+  pub several_take : Moves (TakesJob (job words)) old.told new.told
+  several_take = subst (λ k. Moves (TakesJob k) old.told new.told) (sym j) e.takes
+
+  same_gathering : (other : Gathering) → gathering_asked words ≡ Some other → other ≡ g
+  same_gathering other o = let both : Some other ≡ Some g = sym o ∙ asks_several in (cc)
+
+  pub several_complete_all : HasAll words old.told → ¬ Rose old.read_faults new.read_faults → ¬ Rose old.write_faults new.write_faults → (s ≡ status.Done) ⊎ (s ≡ status.Memory)
+  several_complete_all h quiet calm =
+      let same : h.gathering ≡ g = same_gathering h.gathering h.asks in
+      when_there g old new h.shelf h.tells s e.ends (subst (λ (k : Gathering). HasContext k.context h.shelf) same h.context) (subst (λ (k : Gathering). HasPages h.shelf.files k.pages) same h.pages) quiet calm
+
+  all_there : (text : List ℕ) → GatheredText words old.told text → HasAll words old.told
+  all_there text y = record {
+    gathering = y.gathering;
+    shelf = y.shelf;
+    asks = y.asks;
+    tells = y.tells;
+    context = has_context y.gathering.context y.shelf y.is.context y.is.holds;
+    pages = has_pages y.gathering.syntax y.is.context y.shelf.files y.gathering.pages y.is.pages y.is.judged;
+  }
+
+  pub several_complete : (text : List ℕ) → Yields words old.told text → ¬ Rose old.read_faults new.read_faults → ¬ Rose old.write_faults new.write_faults → (s ≡ status.Done) ⊎ (s ≡ status.Memory)
+  several_complete text (inl y) quiet calm = let both : None ≡ Some y.page.asked = sym no_page ∙ y.page.asks in absurd (cc)
+  several_complete text (inr (inl y)) quiet calm = absurd (never_sample y.count y.asks)
+  several_complete text (inr (inr y)) quiet calm = several_complete_all (all_there text y) quiet calm

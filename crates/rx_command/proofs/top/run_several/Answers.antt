@@ -1,0 +1,52 @@
+use Rattle.std.proofs.Common.{ap, refl, Err}
+use Rattle.rx_ports.specs.Told.{Stays}
+use Rattle.rx_ports.proofs.MoveLemmas.{moves_same}
+use Rattle.rx_job.specs.Jobs.{several_seen}
+use Rattle.rx_command.proofs.SeveralLemmas.{ends_done, ends_partly}
+use Rattle.rx_command.proofs.top.run_several.Goals as goal
+
+pub returns-in-Ok-put_all : goal.returns-in-Ok-put_all
+returns-in-Ok-put_all g c =
+    ends_done (several_seen c.args.several) _ _ c.in-Ok.many c.in-Ok-text.text.items c.as_slice.result.now c.as_slice.ensures.value c.in-Ok-text.ensures.bytes c.in-Ok-text.ensures.denotes c.in-Ok.ensures.ok c.gather.ensures.takes c.in-Ok-put_all.ensures.ok
+    (moves_same Stays (λ x. refl) (g.E.Sink.held c.args.err.now))
+
+pub returns-in-Ok-text : goal.returns-in-Ok-text
+returns-in-Ok-text g c =
+    ends_partly (several_seen c.args.several) _ _ c.in-Ok.many c.in-Ok-text.text.items c.as_slice.result.now c.as_slice.ensures.value c.in-Ok-text.ensures.bytes c.in-Ok.ensures.ok c.gather.ensures.takes c.in-Err-put_all.ensures.err c.in-Err-put_all.ensures.cause
+    (moves_same Stays (λ x. refl) (g.E.Sink.held c.args.err.now))
+
+pub returns-in-Err-Failed : goal.returns-in-Err-Failed
+returns-in-Err-Failed g c = record {
+  ends = (c.in-Err-Failed.ensures.failed (ap Err c.in-Err-Failed.field-0-is), moves_same Stays (λ x. refl) (g.O.Sink.held c.args.out.now));
+  takes = c.gather.ensures.takes;
+  says = moves_same Stays (λ x. refl) (g.E.Sink.held c.args.err.now);
+}
+
+pub returns-in-Err-BadContext : goal.returns-in-Err-BadContext
+returns-in-Err-BadContext g c = record {
+  ends = (
+    c.in-Err-BadContext.ensures.named (ap Err c.in-Err-BadContext.field-0-is),
+    c.in-Err-BadContext.ensures.bad (ap Err c.in-Err-BadContext.field-0-is),
+    c.in-Err-BadContext.ensures.bad_takes (ap Err c.in-Err-BadContext.field-0-is),
+    moves_same Stays (λ x. refl) (g.O.Sink.held c.args.out.now),
+  );
+  takes = c.gather.ensures.takes;
+  says = c.say.ensures;
+}
+
+pub returns-in-Err-NoMemory : goal.returns-in-Err-NoMemory
+returns-in-Err-NoMemory g c = record {
+  ends = moves_same Stays (λ x. refl) (g.O.Sink.held c.args.out.now);
+  takes = c.gather.ensures.takes;
+  says = moves_same Stays (λ x. refl) (g.E.Sink.held c.args.err.now);
+}
+
+pub returns : goal.returns
+returns g c = record {
+  ends = moves_same Stays (λ x. refl) (g.O.Sink.held c.args.out.now);
+  takes = c.gather.ensures.takes;
+  says = moves_same Stays (λ x. refl) (g.E.Sink.held c.args.err.now);
+}
+
+pub unreachable-requires : goal.unreachable-requires
+unreachable-requires g c = c.in-Err-Refused.ensures.not_refused c.in-Err-Refused._fault (ap Err c.in-Err-Refused.field-0-is)

@@ -1,0 +1,168 @@
+//! Several pages in one dataset: the context file is read, and then each page in order.
+ghost use Rattle.std.specs.Prelude.{◌≡◌, ◌≤◌, ◌⊎◌, ◌++◌, [], ◌∷◌, nat_eq, IfOk, OnOk, IsErrOf, Err, is_some, true, encode_utf8_all};
+ghost use Rattle.rx_model.specs.Copied.{copied};
+ghost use Rattle.rx_model.specs.Numbered.{numbered};
+ghost use Rattle.rx_model.specs.Seen.{triples_seen};
+ghost use Rattle.rx_many.specs.Pages.{accepted_page, refused_page};
+ghost use Rattle.rx_ports.specs.Counts.{Rose};
+ghost use Rattle.rx_ports.specs.Told.{Moves, Lacks};
+ghost use Rattle.rx_job.specs.Jobs.{several_seen};
+ghost use Rattle.rx_command.specs.declared.errors.InputError as errors;
+ghost use Rattle.rx_command.specs.Contexts.{HasOther, TakesContext};
+ghost use Rattle.rx_command.specs.Gathering.{AddsPage, AddsPages, GathersPages, TakesGathering, TakesPart, TakesParts};
+ghost use Rattle.rx_command.specs.Inputs.{TellsThat, WhereTold};
+ghost use Rattle.rx_command.specs.Outcome.{LacksOne, LacksPage};
+
+use crate::errors::InputError;
+use crate::inputs::read_context;
+use crate::outcomes::graph_of;
+use crate::pages::{Approach, read_page};
+use rx_job::{Pages, Several};
+use rx_many::Many;
+use rx_names::Context;
+use rx_ports::Shelf;
+use rx_terms::{Iri, NoMemory, Text, TripleList};
+use rx_walk::{Fault, Syntax};
+use std::alloc::Global;
+
+/// What the pages give that are listed. A page that is refused is kept with its fault; one that can't be read ends the job.
+pub(crate) fn gather<F: Shelf>(
+    alloc: Global,
+    shelf: &mut F,
+    several: Several<'_>,
+) -> Result<Many, InputError>
+    ensures ok { IfOk result (λ many. Moves (GathersPages (several_seen several.entry) many) (F.told shelf.old) (F.told shelf.new)) }
+    ensures not_refused { (fault : Fault) → result ≡ Err (InputError.Refused fault) → ⊥ }
+    ensures takes { Moves (TakesGathering (several_seen several.entry)) (F.told shelf.old) (F.told shelf.new) }
+    ensures bad { IsErrOf result InputError.BadContext → WhereTold (HasOther (several_seen several.entry).context) (F.told shelf.old) }
+    ensures bad_takes { IsErrOf result InputError.BadContext → Moves (TakesContext (several_seen several.entry).context) (F.told shelf.old) (F.told shelf.new) }
+    ensures named { IsErrOf result InputError.BadContext → is_some (several_seen several.entry).context ≡ true }
+    ensures failed { IsErrOf result InputError.Failed → Rose (F.faults shelf.old) (F.faults shelf.new) ⊎ TellsThat (LacksOne (several_seen several.entry)) (F.told shelf.old) }
+{
+    let Several {
+        syntax,
+        context,
+        pages,
+    } = several;
+    let context = match read_context(alloc, shelf, context) {
+        Ok(context) => context,
+        Err(error) => return Err(error),
+    };
+    let Ok(mut many) = Many::new(alloc) else {
+        drop(context);
+        return Err(InputError::NoMemory);
+    };
+    match gather_pages(alloc, shelf, syntax, &context, pages, &mut many) {
+        Ok(()) => {
+            drop(context);
+            Ok(many)
+        }
+        Err(error) => {
+            drop(context);
+            drop(many);
+            Err(error)
+        }
+    }
+}
+
+/// Reads the pages one after another, and adds what each gives.
+fn gather_pages<F: Shelf>(
+    alloc: Global,
+    shelf: &mut F,
+    syntax: Syntax,
+    context: &Context,
+    pages: &Pages,
+    many: &mut Many,
+) -> Result<(), InputError>
+    ensures ok { OnOk result (AddsPages context.now syntax pages.now many.old many.new (F.told shelf.old) (F.told shelf.new)) }
+    ensures takes { Moves (TakesParts context.now syntax pages.now) (F.told shelf.old) (F.told shelf.new) }
+    ensures not_refused { (fault : Fault) → result ≡ Err (InputError.Refused fault) → ⊥ }
+    ensures no_context { IsErrOf result InputError.BadContext → ⊥ }
+    ensures failed { IsErrOf result InputError.Failed → Rose (F.faults shelf.old) (F.faults shelf.new) ⊎ TellsThat (λ told. LacksPage told.files pages.now) (F.told shelf.old) }
+{
+    for i in 0..pages.len() {
+        let (address, page) = pages.at(i);
+        match gather_page(alloc, shelf, syntax, context, address, page, many) {
+            Ok(()) => {}
+            Err(error) => return Err(error),
+        }
+    }
+    Ok(())
+}
+
+/// Reads a page, and adds what it gives.
+fn gather_page<F: Shelf>(
+    alloc: Global,
+    shelf: &mut F,
+    syntax: Syntax,
+    context: &Context,
+    address: &Iri,
+    page: &Text,
+    many: &mut Many,
+) -> Result<(), InputError>
+    ensures ok { OnOk result (AddsPage context.now syntax (record { address = address.now; page = page.now }) many.old many.new (F.told shelf.old) (F.told shelf.new)) }
+    ensures takes { Moves (TakesPart context.now syntax (record { address = address.now; page = page.now })) (F.told shelf.old) (F.told shelf.new) }
+    ensures not_refused { (fault : Fault) → result ≡ Err (InputError.Refused fault) → ⊥ }
+    ensures no_context { IsErrOf result InputError.BadContext → ⊥ }
+    ensures failed { IsErrOf result InputError.Failed → Rose (F.faults shelf.old) (F.faults shelf.new) ⊎ Lacks (F.told shelf.old) (encode_utf8_all page.now) }
+    ensures later { F.faults shelf.old ≤ F.faults shelf.new }
+{
+    let Ok(approach) = approach_of(alloc, syntax, context, address) else {
+        return Err(InputError::NoMemory);
+    };
+    match read_page(alloc, shelf, page.as_str(), approach) {
+        Ok(list) => match accept(alloc, address, list, many) {
+            Ok(()) => Ok(()),
+            Err(NoMemory) => Err(InputError::NoMemory),
+        },
+        Err(InputError::Refused(fault)) => match refuse(address, fault, many) {
+            Ok(()) => Ok(()),
+            Err(error) => Err(error),
+        },
+        Err(InputError::Failed) => Err(InputError::Failed),
+        Err(InputError::BadContext) => unreachable!(),
+        Err(InputError::NoMemory) => Err(InputError::NoMemory),
+    }
+}
+
+/// How a page of this address is read, with names of its own.
+fn approach_of(
+    alloc: Global,
+    syntax: Syntax,
+    context: &Context,
+    address: &Iri,
+) -> Result<Approach, NoMemory>
+    ensures syntax { IfOk result (λ approach. approach.syntax ≡ syntax) }
+    ensures context { IfOk result (λ approach. approach.context ≡ context.now) }
+    ensures address { IfOk result (λ approach. approach.address ≡ address.now) }
+{
+    let context = context.try_clone(alloc)?;
+    let Ok(address) = address.try_clone() else {
+        drop(context);
+        return Err(NoMemory);
+    };
+    Ok(Approach {
+        syntax,
+        context,
+        address,
+    })
+}
+
+/// Adds the page of this address, which gives the graph of the triples.
+fn accept(alloc: Global, address: &Iri, list: TripleList, many: &mut Many) -> Result<(), NoMemory>
+    ensures { OnOk result (many.new ≡ many.old ++ accepted_page address.now (numbered nat_eq (copied nat_eq (triples_seen list))) ∷ []) }
+{
+    let graph = graph_of(alloc, list)?;
+    many.add_owned(address, graph)
+}
+
+/// Adds the page of this address, which has this fault.
+fn refuse(address: &Iri, fault: Fault, many: &mut Many) -> Result<(), InputError>
+    ensures ok { OnOk result (many.new ≡ many.old ++ refused_page address.now fault ∷ []) }
+    ensures memory { (error : errors.InputError) → result ≡ Err error → error ≡ InputError.NoMemory }
+{
+    match many.refuse(address, fault) {
+        Ok(()) => Ok(()),
+        Err(NoMemory) => Err(InputError::NoMemory),
+    }
+}
