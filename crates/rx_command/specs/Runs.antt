@@ -13,8 +13,6 @@ use Rattle.rx_command.specs.Gathering.{IsGathered, DenotesGathered, TakesGatheri
 use Rattle.rx_command.specs.Inputs.{StopsClean, TellsThat, WhereTold}
 use Rattle.rx_command.specs.Samples.{IsSample}
 use Rattle.rx_grammar.specs.declared.faults.Fault.{Fault}
-use Rattle.rx_grammar.specs.declared.faults.Kind.{Kind}
-use Rattle.rx_grammar.specs.declared.faults.Kind.TheVariants as kind
 use Rattle.rx_command.specs.Reading.{page_limit}
 use Rattle.rx_command.specs.declared.statuses.Status.{Status}
 use Rattle.rx_command.specs.declared.statuses.Status.TheVariants as status
@@ -75,32 +73,6 @@ usage_line = codes "usage: rdfax extract|items|check|sample\n"
 
 abbrev pub context_line : List ℕ
 context_line = codes "refused: context file\n"
-
-abbrev pub kind_name : Kind → List ℕ
-kind_name kind.NotUtf8 = codes "NotUtf8"
-kind_name kind.Nul = codes "Nul"
-kind_name kind.BadTag = codes "BadTag"
-kind_name kind.Mismatch = codes "Mismatch"
-kind_name kind.NothingOpen = codes "NothingOpen"
-kind_name kind.SelfClosed = codes "SelfClosed"
-kind_name kind.UnknownReference = codes "UnknownReference"
-kind_name kind.BadReference = codes "BadReference"
-kind_name kind.TooDeep = codes "TooDeep"
-kind_name kind.TagTooLong = codes "TagTooLong"
-kind_name kind.Outside = codes "Outside"
-kind_name kind.RootNotHtml = codes "RootNotHtml"
-kind_name kind.BadDoctype = codes "BadDoctype"
-kind_name kind.Unended = codes "Unended"
-kind_name kind.RepeatedAttribute = codes "RepeatedAttribute"
-kind_name kind.StrictText = codes "StrictText"
-kind_name kind.Plaintext = codes "Plaintext"
-kind_name kind.PageTooLong = codes "PageTooLong"
-kind_name kind.RelativeVocab = codes "RelativeVocab"
-kind_name kind.XmlLiteral = codes "XmlLiteral"
-kind_name kind.HtmlLiteral = codes "HtmlLiteral"
-kind_name kind.Cycle = codes "Cycle"
-kind_name kind.ItemsTooNested = codes "ItemsTooNested"
-kind_name kind.ItemsTooMany = codes "ItemsTooMany"
 
 abbrev pub refused_line : Fault → List ℕ
 refused_line fault = codes "refused: " ++ kind_name fault.kind ++ codes " at byte " ++ decimal fault.at ++ codes " in token " ++ decimal fault.token ++ codes "\n"

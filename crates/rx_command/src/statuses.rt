@@ -1,40 +1,7 @@
 //! How a run ends.
 ghost use Rattle.std.specs.Prelude.{◌≡◌};
-ghost use Rattle.rx_command.specs.Runs.{kind_name};
 
-use rx_walk::{Fault, Kind};
-
-/// The kind's name, as it is said on a refusal.
-pub(crate) fn name_of(kind: Kind) -> &'static str
-    ensures { result.now ≡ kind_name kind }
-{
-    match kind {
-        Kind::NotUtf8 => "NotUtf8",
-        Kind::Nul => "Nul",
-        Kind::BadTag => "BadTag",
-        Kind::Mismatch => "Mismatch",
-        Kind::NothingOpen => "NothingOpen",
-        Kind::SelfClosed => "SelfClosed",
-        Kind::UnknownReference => "UnknownReference",
-        Kind::BadReference => "BadReference",
-        Kind::TooDeep => "TooDeep",
-        Kind::TagTooLong => "TagTooLong",
-        Kind::Outside => "Outside",
-        Kind::RootNotHtml => "RootNotHtml",
-        Kind::BadDoctype => "BadDoctype",
-        Kind::Unended => "Unended",
-        Kind::RepeatedAttribute => "RepeatedAttribute",
-        Kind::StrictText => "StrictText",
-        Kind::Plaintext => "Plaintext",
-        Kind::PageTooLong => "PageTooLong",
-        Kind::RelativeVocab => "RelativeVocab",
-        Kind::XmlLiteral => "XmlLiteral",
-        Kind::HtmlLiteral => "HtmlLiteral",
-        Kind::Cycle => "Cycle",
-        Kind::ItemsTooNested => "ItemsTooNested",
-        Kind::ItemsTooMany => "ItemsTooMany",
-    }
-}
+use rx_walk::Fault;
 
 /// How a run ended.
 #[derive(Clone, Copy, Debug, PartialEq, Eq)]
