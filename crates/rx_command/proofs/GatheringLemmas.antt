@@ -1,5 +1,5 @@
 -- Several pages that are read one after another.
-use Rattle.std.proofs.Common.{◌≡◌, ◌∙◌, ◌+◌, ◌-◌, ◌≤◌, ◌⊎◌, inl, inr, ℕ, zero, suc, nat_eq, List, [], ◌∷◌, ◌++◌, length, take, drop, sym, ap, subst, refl, arith, Option, Some, None, Result, Ok, Err, encode_utf8_all, append_assoc}
+use Rattle.std.proofs.Common.{◌≡◌, ◌∙◌, ◌+◌, ◌-◌, ◌≤◌, ◌⊎◌, inl, inr, ℕ, zero, suc, nat_eq, List, [], ◌∷◌, ◌++◌, length, take, drop, sym, ap, subst, refl, arith, Option, Some, None, encode_utf8_all, append_assoc}
 use Rattle.std.specs.Prelude.{slice_get}
 use Rattle.rx_ports.specs.Counts.{Rose}
 use Rattle.rx_ports.specs.Files.{file_of}
@@ -20,9 +20,9 @@ use Rattle.rx_many.specs.Pages.{Page, Judgement, refused, accepted, refused_page
 use Rattle.rx_job.specs.Words.{Gathering, Listed}
 use Rattle.rx_reading.specs.Ways.{Way}
 use Rattle.rx_command.specs.declared.pages.Approach.{Approach}
-use Rattle.rx_command.specs.Reading.{for_triples, way_for, HasFirst, GivesList, ReadsWhole, Finds, TakesToFirst}
+use Rattle.rx_command.specs.Reading.{HasFirst, GivesList, ReadsWhole, Finds, TakesToFirst}
 use Rattle.rx_command.specs.Files.{TakesOf, size_of}
-use Rattle.rx_command.specs.Contexts.{IsContext, HasContext, LacksContext, TakesContext, ReadsContext}
+use Rattle.rx_command.specs.Contexts.{IsContext, LacksContext, TakesContext, ReadsContext}
 use Rattle.rx_command.specs.Inputs.{TellsThat}
 use Rattle.rx_command.specs.Outcome.{LacksPage, LacksOne, base_in, facts_in}
 use Rattle.rx_command.specs.Ways.{way_of}

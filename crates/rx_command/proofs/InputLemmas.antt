@@ -1,5 +1,4 @@
 -- From what was read of the files that a job names to what they are.
-use Rattle.std.specs.Str.{chars}
 use Rattle.std.specs.Prelude.{option_map}
 use Rattle.std.proofs.Common.{nat_eq, ◌≡◌, ◌∙◌, ◌+◌, ◌≤◌, ◌<◌, ◌⊎◌, inl, inr, ℕ, nat_le, Bool, true, false, ◌&&◌, List, [], ◌++◌, length, sym, ap, subst, refl, arith, Option, Some, None, Result, Ok, Err, IfOk, is_some, encode_utf8_all, length-append, append-nil}
 use Rattle.std.proofs.lemmas.Bool.Decides.{nat_tests}

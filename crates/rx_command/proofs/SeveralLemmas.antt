@@ -2,7 +2,6 @@
 use Rattle.std.proofs.Common.{◌≡◌, ◌≢◌, ◌∙◌, ℕ, ◌⊎◌, inl, inr, List, [], ◌∷◌, sym, ap, subst, refl, Option, Some, None, is_some, true, false, encode_utf8_all}
 use Rattle.std.specs.Str.{chars}
 use Rattle.rx_ports.specs.Counts.{Rose}
-use Rattle.rx_ports.specs.Files.{file_of}
 use Rattle.rx_ports.specs.Told.{Told, Moves, GrowsBy, GrowsByPart, Stays}
 use Rattle.rx_ports.proofs.MoveLemmas.{moves_at, moves_weaker}
 use Rattle.rx_grammar.specs.declared.faults.Fault.{Fault}
@@ -11,15 +10,15 @@ use Rattle.rx_chars.specs.declared.syntax.Syntax.{Syntax}
 use Rattle.rx_many.specs.Pages.{Page}
 use Rattle.rx_many.specs.Writing.{gathered}
 use Rattle.rx_many.specs.Dataset.{DenotesPages}
-use Rattle.rx_job.specs.Words.{Job, Gathering, Listed, gathers, samples, job, page_in, page_asked, gathering_in, gathering_asked}
-use Rattle.rx_command.specs.Contexts.{IsContext, HasContext, HasOther, LacksContext, TakesContext, context_in, context_asked}
-use Rattle.rx_command.specs.Outcome.{HasPageFault, Meets, LacksPage, LacksOne, JobLacks, LacksFile, HasBadContext}
+use Rattle.rx_job.specs.Words.{Gathering, Listed, gathers, samples, job, page_in, page_asked, gathering_in, gathering_asked}
+use Rattle.rx_command.specs.Contexts.{HasContext, HasOther, LacksContext, TakesContext, context_in, context_asked}
+use Rattle.rx_command.specs.Outcome.{HasPageFault, LacksPage, LacksOne, JobLacks, LacksFile, HasBadContext}
 use Rattle.rx_command.specs.Gathering.{FileList, GivesTriples, JudgesEach, IsGathered, DenotesGathered, GatheredText, HasPages, HasAll, TakesGathering, GathersPages}
 use Rattle.rx_command.specs.Samples.{Yields, YieldsGraph}
 use Rattle.rx_command.specs.Inputs.{TellsThat, WhereTold}
 use Rattle.rx_command.specs.declared.statuses.Status.{Status}
 use Rattle.rx_command.specs.declared.statuses.Status.TheVariants as status
-use Rattle.rx_command.specs.Runs.{Devices, EndsAs, SaysAs, GatheringEnds, SampleEnds, ReadCause, TakesJob, TakesToFault, StopsCleanly, IsAtEnd, Says, reads_files, usage_line, refused_line, context_line}
+use Rattle.rx_command.specs.Runs.{Devices, EndsAs, SaysAs, GatheringEnds, ReadCause, TakesJob, StopsCleanly, IsAtEnd, Says, reads_files, context_line}
 use Rattle.rx_command.proofs.InputLemmas.{has_context}
 use Rattle.rx_command.proofs.GatheringLemmas.{judged_graphs}
 use Rattle.rx_command.proofs.RunLemmas.{there, not_other, not_missing, meets}
