@@ -25,7 +25,8 @@ use rx_terms::{Iri, NoMemory, Text, TripleList};
 use rx_walk::{Fault, Syntax};
 use std::alloc::Global;
 
-/// What the pages give that are listed. A page that is refused is kept with its fault; one that can't be read ends the job.
+/// What the pages give that are listed. A page that is refused is kept with its fault; one that can't be read ends the
+/// job.
 pub(crate) fn gather<F: Shelf>(
     alloc: Global,
     shelf: &mut F,

@@ -1,8 +1,8 @@
 //! The command: from the words of a command line to a status, a text on one sink and a line on another.
 //!
 //! [`run`] carries the promise of the whole program as its contract: what is written of a page is the text of the graph
-//! that RDFa's rules give its tree, any other page is refused with its first fault, and each status comes exactly where
-//! its clause says.
+//! that RDFa's rules give its tree, any other page is refused with its first fault, several pages give one document, and
+//! each status comes exactly where its clause says.
 #![tactic(auto)]
 
 ghost use Rattle.rx_command.specs.Samples.{SamplesArePages};

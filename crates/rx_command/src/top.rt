@@ -33,7 +33,8 @@ const BAD_CONTEXT: &[u8] = b"refused: context file\n";
 ///
 /// What is said of the files' bytes is said of a shelf that tells its files, and what is said of the bytes written of
 /// a sink that tells what it holds. What a run meets first decides: the words, then the context file, then the page,
-/// or page after page, then writing. Want of memory may come in place of any other answer, at any place before the first byte is written.
+/// or page after page, then writing. Want of memory may come in place of any other answer, at any place before the
+/// first byte is written.
 pub fn run<F: Shelf, O: Sink, E: Sink>(
     alloc: Global,
     words: &[Text],
