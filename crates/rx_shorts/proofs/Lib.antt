@@ -1,4 +1,5 @@
 pub mod Finding
+pub mod SlotLemmas
 pub mod PlaceLemmas
 pub mod AddLemmas
 pub mod UseLemmas

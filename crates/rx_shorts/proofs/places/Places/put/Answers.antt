@@ -1,0 +1,12 @@
+use Rattle.std.proofs.Common.{◌∙◌, sym}
+use Rattle.rx_graph.proofs.SetLemmas.{of_ok}
+use Rattle.rx_shorts.proofs.PlaceLemmas.{on_ok_then, put_bytes}
+use Rattle.rx_shorts.proofs.places.Places.put.Goals as goal
+
+pub returns : goal.returns
+returns c =
+    on_ok_then c.add.result
+    (λ sizes. put_bytes c.args.iri.now c.args.place c.args.self.now _
+    (λ bytes. (of_ok c.insert.result (sym c.is_err.ensures.value ∙ c.if-is_err.false) c.insert.ensures.updates).0 (record { ref_ptr = c.args.iri.ref_ptr; now = bytes }))
+    sizes c.put.ensures c.end_with.ensures.ends c.end_with.ensures.others)
+    c.add.ensures
