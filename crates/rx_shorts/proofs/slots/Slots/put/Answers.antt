@@ -1,5 +1,6 @@
+use Rattle.std.proofs.Common.{refl}
 use Rattle.rx_shorts.proofs.SlotLemmas.{tells_put}
 use Rattle.rx_shorts.proofs.slots.Slots.put.Goals as goal
 
 pub returns : goal.returns
-returns c = rw (← c.self.view_is) (tells_put c.self.inside.slots.items _ c.slot_of-slot.result c.index.result.now c.args.iri c.args.place (rw c.self.view_is c.slot_of-slot.ensures.slot) (rw c.self.view_is c.slot_of-slot.ensures.within) c.index.ensures _)
+returns c = rw (← c.self.view_is) (tells_put c.self.inside.slots.items _ c.slot_of-slot.result c.index.result.now c.args.iri c.args.place (rw c.self.view_is c.slot_of-slot.ensures.slot) (rw c.self.view_is c.slot_of-slot.ensures.within) c.index.ensures refl)
