@@ -154,7 +154,7 @@ pub plain_none : (context : Prefixes) (places : Places) (byte : ℕ) → Finds 0
     → (bytes : List ℕ) (end : ℕ) → 0 < end → end ≤ length bytes → get_or bytes (end - 1) 0 ≡ byte → place_at context bytes end ≡ None
 plain_none context places byte h plain bytes end some within last = ap (λ (o : Option ℕ). if begins_local (get_or bytes end 0) then o else None) (sym (h.each (take end bytes)) ∙ nothing (found_in places (take end bytes)) refl) ∙ neither (begins_local (get_or bytes end 0))
   where
-    neither : (b : Bool) → (if b then None {A = ℕ} else None) ≡ None
+    neither : (b : Bool) → cond {A = Option ℕ} b None None ≡ None
     neither true = refl
     neither false = refl
 

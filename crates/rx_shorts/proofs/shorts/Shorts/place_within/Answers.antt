@@ -7,7 +7,7 @@ pub loop-left-preserved-then-is_plain : goal.loop-left-preserved-then-is_plain
 loop-left-preserved-then-is_plain c = (
   omega (arith, c.loop-left.invariant.0),
   goes_on c.args.self.now c.args.bytes.now c.loop-left.left (place_below c.args.self.now c.args.bytes.now (length c.args.bytes.now)) (omega (arith, c.loop-left-test.true))
-      (c.if-is_plain.ensures.none c.args.bytes.now c.loop-left.left (omega (arith, c.loop-left-test.true)) c.loop-left.invariant.0 refl) c.if-is_plain.ensures.name c.loop-left.invariant.1,
+      (c.if-is_plain.ensures.none refl c.args.bytes.now c.loop-left.left (omega (arith, c.loop-left-test.true)) c.loop-left.invariant.0 refl) (c.if-is_plain.ensures.name refl) c.loop-left.invariant.1,
 )
 
 pub returns : goal.returns
