@@ -1,5 +1,5 @@
 -- Marks of bytes.
-use Rattle.std.proofs.Common.{◌≡◌, ℕ, zero, suc, Bool, true, false, get_or, replicate, refl, sym, ◌∙◌, true≢false}
+use Rattle.std.proofs.Common.{◌≡◌, ℕ, zero, suc, true, false, get_or, replicate, refl, sym, ◌∙◌, true≢false}
 use Rattle.rx_notation.specs.Short.{is_name_char}
 
 no_mark : (n i : ℕ) → get_or (replicate n false) i false ≡ false

@@ -1,7 +1,8 @@
 -- An index of the prefixes by IRI.
 use Rattle.std.specs.Prelude.{◌≡◌, ℕ, ◌-◌, ◌<◌, true, false, nat_eq, List, length, get_or, Option, Some, if◌then◌else◌}
-use Rattle.std.specs.Cmp.Lexicographic.{pointwise}
-use Rattle.std.specs.HashMap.{get_by}
+use Rattle.std.specs.Cmp.Lexicographic.{pointwise, slice_cmp}
+use Rattle.std.specs.Ordering.{nat_cmp}
+use Rattle.std.specs.BTreeMap.{get_by}
 use Rattle.rx_notation.specs.Short.{Prefix, Prefixes, is_name_char}
 use Rattle.rx_shorts.specs.declared.places.Places.{Places}
 use Rattle.rx_shorts.specs.Shorts.{stands_for, place_from}
@@ -9,7 +10,7 @@ use Rattle.rx_shorts.specs.Slots.{Tells}
 
 -- what the index has for the bytes
 abbrev pub found_in : Places → List ℕ → Option ℕ
-found_in places bytes = get_by (λ iri. pointwise nat_eq bytes iri.now) places.by_iri
+found_in places bytes = get_by (λ iri. slice_cmp nat_cmp bytes iri.now) places.by_iri
 
 -- What is found has a length that the index knows, its slot tells no other place, and it ends with a byte that isn't plain.
 -- Plain bytes are characters of names.

@@ -11,17 +11,16 @@ use crate::lengths::Lengths;
 use crate::names::is_prefix_name;
 use crate::plain::Plain;
 use crate::slots::Slots;
-use indexmap::IndexMap;
 use rx_names::Context;
 use rx_terms::NoMemory;
 use std::alloc::Global;
-use std::hash::{BuildHasherDefault, DefaultHasher};
+use std::collections::BTreeMap;
 
 /// For IRIs the places of the prefixes that stand for them.
 #[derive(Drop)]
 pub(crate) struct Places<'a> {
-    // A job's context has these IRIs. SipHash makes it hard to choose many with one hash.
-    by_iri: IndexMap<&'a [u8], usize, BuildHasherDefault<DefaultHasher>>,
+    // A job's context has these IRIs. Whatever they are, a look-up takes a number of steps that grows by a logarithm.
+    by_iri: BTreeMap<&'a [u8], usize>,
     /// How many bytes the IRIs have: a text of another length isn't looked up, however long it is.
     lengths: Lengths,
     slots: Slots<'a>,
@@ -35,7 +34,7 @@ impl<'a> Places<'a> {
         ensures rows { IfOk result (λ places. AreRows context.now.prefixes) }
     {
         let mut places = Places {
-            by_iri: IndexMap::with_hasher(alloc, BuildHasherDefault::new()),
+            by_iri: BTreeMap::new(alloc),
             lengths: Lengths::new(alloc),
             slots: Slots::new(alloc, context.prefix_count())?,
             plain: Plain::new(),
@@ -82,6 +81,9 @@ impl<'a> Places<'a> {
     pub(crate) fn find(&self, iri: &[u8]) -> Option<usize>
         ensures { (place : ℕ) (context : Prefixes) → Finds place context self.now → result ≡ place_from place context iri.now }
     {
+        if !self.lengths.contains(iri.len()) {
+            return None;
+        }
         match self.slots.told(iri) {
             Some(place) => place,
             None => self.look_up(iri),
@@ -94,9 +96,6 @@ impl<'a> Places<'a> {
     fn look_up(&self, iri: &[u8]) -> Option<usize>
         ensures { (place : ℕ) (context : Prefixes) → Finds place context self.now → result ≡ place_from place context iri.now }
     {
-        if !self.lengths.contains(iri.len()) {
-            return None;
-        }
         self.by_iri.get(iri).copied()
     }
 }

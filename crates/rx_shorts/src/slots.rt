@@ -8,7 +8,7 @@ use std::alloc::Global;
 use std::marker::Model;
 
 /// How many prefixes have slots of their own, four for each.
-const MOST: usize = 4096;
+const MOST: usize = 2048;
 
 /// How many more slots there are.
 const SPARE: usize = 180;
