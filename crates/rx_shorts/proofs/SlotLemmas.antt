@@ -1,5 +1,5 @@
 -- What slots tell.
-use Rattle.std.proofs.Common.{◌≡◌, ◌∙◌, ℕ, zero, suc, ◌-◌, ◌<◌, Bool, true, false, nat_eq, List, length, get_or, slice_set, replicate, bit_and, Option, Some, None, refl, sym, ap, ap₂, subst, true≢false, arith, if◌then◌else◌}
+use Rattle.std.proofs.Common.{◌≡◌, ◌∙◌, ℕ, ◌-◌, ◌<◌, Bool, true, false, nat_eq, List, length, get_or, slice_set, bit_and, Option, Some, None, refl, sym, ap, ap₂, subst, true≢false, arith, if◌then◌else◌}
 use Rattle.std.specs.Cmp.Lexicographic.{pointwise}
 use Rattle.std.proofs.lemmas.Bool.Decides.{nat_tests}
 use Rattle.std.proofs.lemmas.List.{get_or-set_same, get_or-set_other, get_or_default, length-set}
@@ -9,18 +9,6 @@ use Rattle.rx_shorts.specs.declared.slots.Slot.{Slot}
 use Rattle.rx_shorts.specs.declared.slots.Slot.TheVariants.{Free, One, Many}
 use Rattle.rx_shorts.specs.Slots.{number_of, slot_of, told_by, told, with_iri, IsSo, Tells}
 use denote.Ref.{Bor}
-
--- ---- free slots
-
-free_at : (n i : ℕ) (bytes : List ℕ) → IsSo (told_by (get_or (replicate n Free) i Many) bytes) None
-free_at zero i bytes = tt
-free_at (suc n) zero bytes = refl
-free_at (suc n) (suc i) bytes = free_at n i bytes
-
-pub tells_nothing : (n : ℕ) (slots : List Slot) → slots ≡ replicate n Free → Tells slots (λ bytes. None)
-tells_nothing n slots e = record { each = λ bytes. subst (λ (z : List Slot). IsSo (told_by (get_or z (slot_of slots bytes) Many) bytes) None) (sym e) (free_at n (slot_of slots bytes) bytes) }
-
--- ---- one IRI more
 
 pub so_also : (told : Option (Option ℕ)) (a b : Option ℕ) → a ≡ b → IsSo told a → IsSo told b
 so_also None a b e h = h
