@@ -147,28 +147,37 @@ from_start context bytes n whole e h = sym (h ∙ ap (from_here context bytes) e
     or_none None = refl
     or_none (Some p) = refl
 
--- ---- plain bytes
+-- ---- what can't be the end of a prefix's IRI
+
+neither : (b : Bool) → cond {A = Option ℕ} b None None ≡ None
+neither true = refl
+neither false = refl
+
+nothing_at : (context : Prefixes) (places : Places) → Finds 0 context places → (bytes : List ℕ) (end : ℕ) → ((p : ℕ) → found_in places (take end bytes) ≡ Some p → ⊥) → place_at context bytes end ≡ None
+nothing_at context places h bytes end never = ap (λ (o : Option ℕ). if begins_local (get_or bytes end 0) then o else None) (sym (h.each (take end bytes)) ∙ nothing (found_in places (take end bytes)) refl) ∙ neither (begins_local (get_or bytes end 0))
+  where
+    nothing : (o : Option ℕ) → found_in places (take end bytes) ≡ o → found_in places (take end bytes) ≡ None
+    nothing None e = e
+    nothing (Some p) e = absurd (never p e)
+
+-- no prefix's IRI has another length than those that are known
+pub length_none : (context : Prefixes) (places : Places) (size : ℕ) → Finds 0 context places → get_or places.lengths size false ≡ false → (bytes : List ℕ) → size ≤ length bytes → place_at context bytes size ≡ None
+length_none context places size h unknown bytes within =
+    nothing_at context places h bytes size
+    (λ p e. true≢false (sym (h.known.length_of (take size bytes) p e) ∙ ap (λ n. get_or places.lengths n false) (length-take-le size bytes within) ∙ unknown))
 
 -- no prefix's IRI ends with a plain byte
 pub plain_none : (context : Prefixes) (places : Places) (byte : ℕ) → Finds 0 context places → get_or places.plain byte false ≡ true
     → (bytes : List ℕ) (end : ℕ) → 0 < end → end ≤ length bytes → get_or bytes (end - 1) 0 ≡ byte → place_at context bytes end ≡ None
-plain_none context places byte h plain bytes end some within last = ap (λ (o : Option ℕ). if begins_local (get_or bytes end 0) then o else None) (sym (h.each (take end bytes)) ∙ nothing (found_in places (take end bytes)) refl) ∙ neither (begins_local (get_or bytes end 0))
+plain_none context places byte h plain bytes end some within last =
+    nothing_at context places h bytes end
+    (λ p e. true≢false (sym plain ∙ ap (λ b. get_or places.plain b false) (sym ends) ∙ h.known.ends (take end bytes) p e (omega (arith, size, some))))
   where
-    neither : (b : Bool) → cond {A = Option ℕ} b None None ≡ None
-    neither true = refl
-    neither false = refl
-
     size : length (take end bytes) ≡ end
     size = length-take-le end bytes within
 
     ends : get_or (take end bytes) (length (take end bytes) - 1) 0 ≡ byte
     ends = ap (λ n. get_or (take end bytes) (n - 1) 0) size ∙ get_or-take end bytes (end - 1) 0 (omega (arith, some)) ∙ last
-
-    nothing : (o : Option ℕ) → found_in places (take end bytes) ≡ o → found_in places (take end bytes) ≡ None
-    nothing None e = e
-    nothing (Some p) e =
-        let stops : get_or places.plain byte false ≡ false = ap (λ b. get_or places.plain b false) (sym ends) ∙ h.known.ends (take end bytes) p e (omega (arith, size, some)) in
-        absurd (true≢false (sym plain ∙ stops))
 
 pub on_ok_then : {A E P Q : Type 0} (r : Result A E) → (P → Q) → OnOk r P → OnOk r Q
 on_ok_then (Ok a) f h = f h

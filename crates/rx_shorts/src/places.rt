@@ -21,7 +21,7 @@ use std::collections::BTreeMap;
 pub(crate) struct Places<'a> {
     // A job's context has these IRIs. Whatever they are, a look-up takes a number of steps that grows by a logarithm.
     by_iri: BTreeMap<&'a [u8], usize>,
-    /// How many bytes the IRIs have: a text of another length isn't looked up, however long it is.
+    /// How many bytes the IRIs have.
     lengths: Lengths,
     slots: Slots<'a>,
     plain: Plain,
@@ -76,14 +76,19 @@ impl<'a> Places<'a> {
         self.plain.contains(byte)
     }
 
+    /// Whether the IRI of a prefix has so many bytes.
+    #[inline(always)]
+    pub(crate) fn has_length(&self, size: usize) -> bool
+        ensures { result ≡ get_or self.now.lengths size false }
+    {
+        self.lengths.contains(size)
+    }
+
     /// The place of the prefix that stands for the IRI of these bytes.
     #[inline(always)]
     pub(crate) fn find(&self, iri: &[u8]) -> Option<usize>
         ensures { (place : ℕ) (context : Prefixes) → Finds place context self.now → result ≡ place_from place context iri.now }
     {
-        if !self.lengths.contains(iri.len()) {
-            return None;
-        }
         match self.slots.told(iri) {
             Some(place) => place,
             None => self.look_up(iri),

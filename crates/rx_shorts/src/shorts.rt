@@ -1,5 +1,5 @@
 //! Short forms of IRIs under a context's prefixes.
-ghost use Rattle.std.specs.Prelude.{◌≡◌, ◌<◌, ◌≤◌, ◌-◌, length, true, IfOk, MatchOption, None, Some, slice_get, get_or, List, ℕ, drop, encode_utf8_all};
+ghost use Rattle.std.specs.Prelude.{◌≡◌, ◌<◌, ◌≤◌, ◌-◌, length, true, false, IfOk, MatchOption, None, Some, slice_get, get_or, List, ℕ, drop, encode_utf8_all};
 ghost use Rattle.std.specs.Str.{chars};
 ghost use Rattle.rx_terms.specs.Iri.{IsIri};
 ghost use Rattle.rx_terms.specs.Text.{begins_with};
@@ -100,11 +100,22 @@ impl<'a> Shorts<'a> {
         self.places.is_plain(byte)
     }
 
+    /// Whether the IRI of a prefix has so many bytes. A text of another length isn't looked up, however long it is.
+    #[inline(always)]
+    fn has_length(&self, size: usize) -> bool
+        ensures { result ≡ false → (bytes : List ℕ) → size ≤ length bytes → place_at self.now bytes size ≡ None }
+    {
+        self.places.has_length(size)
+    }
+
     /// The place of the prefix that stands for the first bytes, where a local name can begin behind them.
     fn place_at(&self, bytes: &[u8], end: usize) -> Option<usize>
         requires { end ≤ length bytes.now }
         ensures { result ≡ place_at self.now bytes.now end }
     {
+        if !self.has_length(end) {
+            return None;
+        }
         if end >= bytes.len() {
             return None;
         }
