@@ -23,7 +23,9 @@ pub(crate) struct Places<'a> {
     by_iri: BTreeMap<&'a [u8], usize>,
     /// How many bytes the IRIs have.
     lengths: Lengths,
+    /// Asked before the map.
     slots: Slots<'a>,
+    /// With which bytes none of the IRIs ends.
     plain: Plain,
 }
 

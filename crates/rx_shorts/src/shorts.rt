@@ -60,7 +60,7 @@ impl<'a> Shorts<'a> {
     }
 
     /// The place of the prefix that makes the IRI's short form, where it has one. The time is that of the local name's
-    /// length, and of each text as long as some prefix's IRI that can stand before a local name.
+    /// length, and of each text as long as some prefix's IRI that ends as one and can stand before a local name.
     pub fn place(&self, iri: &Iri) -> Option<usize>
         ensures place { result ≡ place_of self.now iri.now }
         ensures is { IsPlace self.now (prefix_of self.now iri.now) result }
