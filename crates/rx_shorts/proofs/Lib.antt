@@ -1,4 +1,6 @@
 pub mod Finding
+pub mod SlotLemmas
+pub mod PlainLemmas
 pub mod PlaceLemmas
 pub mod AddLemmas
 pub mod UseLemmas

@@ -1,4 +1,5 @@
 pub mod Shorts
+pub mod Slots
 pub mod Places
 pub mod Rows
 pub mod Uses

@@ -1,18 +1,24 @@
 -- An index of the prefixes by IRI.
-use Rattle.std.specs.Prelude.{◌≡◌, ℕ, true, false, nat_eq, List, length, get_or, Option, Some, if◌then◌else◌}
-use Rattle.std.specs.Cmp.Lexicographic.{pointwise}
-use Rattle.std.specs.HashMap.{get_by}
-use Rattle.rx_notation.specs.Short.{Prefix, Prefixes}
-use Rattle.rx_shorts.specs.declared.shorts.Places.{Places}
+use Rattle.std.specs.Prelude.{◌≡◌, ℕ, ◌-◌, ◌<◌, true, false, nat_eq, List, length, get_or, Option, Some, if◌then◌else◌}
+use Rattle.std.specs.Cmp.Lexicographic.{pointwise, slice_cmp}
+use Rattle.std.specs.Ordering.{nat_cmp}
+use Rattle.std.specs.BTreeMap.{get_by}
+use Rattle.rx_notation.specs.Short.{Prefix, Prefixes, is_name_char}
+use Rattle.rx_shorts.specs.declared.places.Places.{Places}
 use Rattle.rx_shorts.specs.Shorts.{stands_for, place_from}
+use Rattle.rx_shorts.specs.Slots.{Tells}
 
 -- what the index has for the bytes
 abbrev pub found_in : Places → List ℕ → Option ℕ
-found_in places bytes = get_by (λ iri. pointwise nat_eq bytes iri.now) places.by_iri
+found_in places bytes = get_by (λ iri. slice_cmp nat_cmp bytes iri.now) places.by_iri
 
--- what is found has a length that the index knows
+-- What is found has a length that the index knows, its slot tells no other place, and it ends with a byte that isn't plain.
+-- Plain bytes are characters of names.
 pub record Knows (places : Places) : Type 0 where
   pub length_of : (bytes : List ℕ) (place : ℕ) → found_in places bytes ≡ Some place → get_or places.lengths (length bytes) false ≡ true
+  pub told : Tells places.slots (found_in places)
+  pub ends : (bytes : List ℕ) (place : ℕ) → found_in places bytes ≡ Some place → 0 < length bytes → get_or places.plain (get_or bytes (length bytes - 1) 0) false ≡ false
+  pub names : (byte : ℕ) → get_or places.plain byte false ≡ true → is_name_char byte ≡ true
 
 -- new is old with a place for these bytes
 pub record PutsBytes (iri : List ℕ) (place : ℕ) (old new : Places) : Type 0 where

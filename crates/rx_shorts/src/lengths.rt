@@ -31,6 +31,7 @@ impl Lengths {
         }
     }
 
+    #[inline(always)]
     pub(crate) fn contains(&self, size: usize) -> bool
         ensures { result ≡ get_or self.now size false }
     {

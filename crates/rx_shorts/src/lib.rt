@@ -7,8 +7,11 @@
 
 mod lengths;
 mod names;
+mod places;
+mod plain;
 mod prefixes;
 mod shorts;
+mod slots;
 mod terms;
 mod uses;
 

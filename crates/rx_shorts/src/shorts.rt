@@ -1,78 +1,18 @@
 //! Short forms of IRIs under a context's prefixes.
-ghost use Rattle.std.specs.Prelude.{◌≡◌, ◌<◌, length, true, IfOk, OnOk, MatchOption, None, Some, slice_get, ℕ, drop, encode_utf8_all};
+ghost use Rattle.std.specs.Prelude.{◌≡◌, ◌<◌, ◌≤◌, ◌-◌, length, true, false, IfOk, MatchOption, None, Some, slice_get, get_or, List, ℕ, drop, encode_utf8_all};
 ghost use Rattle.std.specs.Str.{chars};
 ghost use Rattle.rx_terms.specs.Iri.{IsIri};
 ghost use Rattle.rx_terms.specs.Text.{begins_with};
-ghost use Rattle.rx_notation.specs.Short.{Prefixes, prefix_of, names_rise};
-ghost use Rattle.rx_shorts.specs.Shorts.{place_from, place_at, place_below, place_of, IsPlace, IsShort};
-ghost use Rattle.rx_shorts.specs.Places.{Finds, Puts, PutsBytes};
-ghost use Rattle.rx_shorts.specs.Rows.{IsRow, AreRows};
+ghost use Rattle.rx_notation.specs.Short.{is_name_char, prefix_of, names_rise};
+ghost use Rattle.rx_shorts.specs.Shorts.{place_at, place_below, place_of, IsPlace, IsShort};
+ghost use Rattle.rx_shorts.specs.Rows.{AreRows};
 
-use crate::lengths::Lengths;
-use crate::names::{begins_local, is_name_byte, is_prefix_name};
-use indexmap::IndexMap;
+use crate::names::{begins_local, is_name_byte};
+use crate::places::Places;
 use rx_names::Context;
 use rx_terms::{Iri, NoMemory};
 use std::alloc::Global;
-use std::hash::{BuildHasherDefault, DefaultHasher};
 use std::marker::Model;
-
-/// For IRIs the places of the prefixes that stand for them.
-#[derive(Drop)]
-struct Places<'a> {
-    // A job's context has these IRIs. SipHash makes it hard to choose many with one hash.
-    by_iri: IndexMap<&'a [u8], usize, BuildHasherDefault<DefaultHasher>>,
-    /// How many bytes the IRIs have: a text of another length isn't looked up, however long it is.
-    lengths: Lengths,
-}
-
-impl<'a> Places<'a> {
-    /// Those of a context. Of prefixes that stand for one IRI the first has its place here.
-    fn of(alloc: Global, context: &'a Context) -> Result<Places<'a>, NoMemory>
-        ensures finds { IfOk result (λ places. Finds 0 context.now.prefixes places) }
-        ensures rows { IfOk result (λ places. AreRows context.now.prefixes) }
-    {
-        let mut places = Places {
-            by_iri: IndexMap::with_hasher(alloc, BuildHasherDefault::new()),
-            lengths: Lengths::new(alloc),
-        };
-        for place in (0..context.prefix_count()).rev() {
-            let (name, iri) = context.prefix_at(place);
-            places.add(name, iri, place)?;
-        }
-        Ok(places)
-    }
-
-    /// Adds a place in front of the others.
-    fn add(&mut self, name: &str, iri: &'a str, place: usize) -> Result<(), NoMemory>
-        ensures puts { OnOk result (Puts (chars name.now, chars iri.now) place self.old self.new) }
-        ensures row { IsIri (chars iri.now) → IsRow (chars name.now, chars iri.now) }
-    {
-        if !is_prefix_name(name) {
-            return Ok(());
-        }
-        self.put(iri.as_bytes(), place)
-    }
-
-    fn put(&mut self, iri: &'a [u8], place: usize) -> Result<(), NoMemory>
-        ensures { OnOk result (PutsBytes iri.now place self.old self.new) }
-    {
-        if self.by_iri.insert(iri, place).is_err() {
-            return Err(NoMemory);
-        }
-        self.lengths.add(iri.len())
-    }
-
-    /// The place of the prefix that stands for the IRI of these bytes.
-    fn find(&self, iri: &[u8]) -> Option<usize>
-        ensures { (place : ℕ) (context : Prefixes) → Finds place context self.now → result ≡ place_from place context iri.now }
-    {
-        if !self.lengths.contains(iri.len()) {
-            return None;
-        }
-        self.by_iri.get(iri).copied()
-    }
-}
 
 /// A context with the places of its prefixes by IRI. A contract sees the context's prefixes.
 #[derive(Drop)]
@@ -120,7 +60,7 @@ impl<'a> Shorts<'a> {
     }
 
     /// The place of the prefix that makes the IRI's short form, where it has one. The time is that of the local name's
-    /// length, and of each text as long as some prefix's IRI that can stand before a local name.
+    /// length, and of each text as long as some prefix's IRI that ends as one and can stand before a local name.
     pub fn place(&self, iri: &Iri) -> Option<usize>
         ensures place { result ≡ place_of self.now iri.now }
         ensures is { IsPlace self.now (prefix_of self.now iri.now) result }
@@ -134,24 +74,51 @@ impl<'a> Shorts<'a> {
     fn place_within(&self, bytes: &[u8]) -> Option<usize>
         ensures { result ≡ place_below self.now bytes.now (length bytes.now) }
     {
-        let mut end = bytes.len();
-        while end > 0 {
-            end -= 1;
-            if !is_name_byte(bytes[end]) {
-                return None;
+        let mut left = bytes.len();
+        while left > 0 {
+            let end = left;
+            left -= 1;
+            if self.is_plain(bytes[left]) {
+                continue;
             }
             if let Some(place) = self.place_at(bytes, end) {
                 return Some(place);
             }
+            if !is_name_byte(bytes[left]) {
+                return None;
+            }
         }
-        None
+        self.place_at(bytes, 0)
     }
 
-    /// The place of the prefix that stands for the bytes before this one, where a local name can begin here.
+    /// Whether the byte is a character of names with which no prefix's IRI ends.
+    #[inline(always)]
+    fn is_plain(&self, byte: u8) -> bool
+        ensures name { result ≡ true → is_name_char byte ≡ true }
+        ensures none { result ≡ true → (bytes : List ℕ) (end : ℕ) → 0 < end → end ≤ length bytes → get_or bytes (end - 1) 0 ≡ byte → place_at self.now bytes end ≡ None }
+    {
+        self.places.is_plain(byte)
+    }
+
+    /// Whether the IRI of a prefix has so many bytes. A text of another length isn't looked up, however long it is.
+    #[inline(always)]
+    fn has_length(&self, size: usize) -> bool
+        ensures { result ≡ false → (bytes : List ℕ) → size ≤ length bytes → place_at self.now bytes size ≡ None }
+    {
+        self.places.has_length(size)
+    }
+
+    /// The place of the prefix that stands for the first bytes, where a local name can begin behind them.
     fn place_at(&self, bytes: &[u8], end: usize) -> Option<usize>
-        requires { end < length bytes.now }
+        requires { end ≤ length bytes.now }
         ensures { result ≡ place_at self.now bytes.now end }
     {
+        if !self.has_length(end) {
+            return None;
+        }
+        if end >= bytes.len() {
+            return None;
+        }
         if !begins_local(bytes[end]) {
             return None;
         }

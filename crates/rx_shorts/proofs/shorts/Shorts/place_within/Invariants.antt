@@ -1,9 +1,10 @@
 use Rattle.std.proofs.Common.{◌≡◌, ◌≤◌, length}
-use Rattle.rx_shorts.specs.Shorts.{place_below}
+use Rattle.std.specs.Option.{option_or}
+use Rattle.rx_shorts.specs.Shorts.{place_at, place_below}
 use Rattle.rx_shorts.proofs.shorts.Shorts.place_within.Given as goal
 
-abbrev pub invariant-loop-end : goal.invariant-loop-end
-invariant-loop-end l = (l.end ≤ length l.bytes) × (place_below l.self l.bytes (length l.bytes) ≡ place_below l.self l.bytes l.end)
+abbrev pub invariant-loop-left : goal.invariant-loop-left
+invariant-loop-left l = (l.left ≤ length l.bytes) × (place_below l.self l.bytes (length l.bytes) ≡ option_or (place_at l.self l.bytes l.left) (place_below l.self l.bytes l.left))
 
-abbrev pub decreases-loop-end : goal.decreases-loop-end
-decreases-loop-end l = l.end
+abbrev pub decreases-loop-left : goal.decreases-loop-left
+decreases-loop-left l = l.left

@@ -1,6 +1,6 @@
 use Rattle.std.proofs.Common.{arith}
 use Rattle.rx_shorts.proofs.PlaceLemmas.{finds_one_more, rows_one_more}
-use Rattle.rx_shorts.proofs.shorts.Places.of.Goals as goal
+use Rattle.rx_shorts.proofs.places.Places.of.Goals as goal
 
 pub loop-place-preserved : goal.loop-place-preserved
 loop-place-preserved c = (

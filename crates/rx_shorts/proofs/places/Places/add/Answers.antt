@@ -1,6 +1,6 @@
 use Rattle.std.proofs.Common.{◌∙◌, sym}
 use Rattle.rx_shorts.proofs.PlaceLemmas.{put_named, on_ok_then, row_of}
-use Rattle.rx_shorts.proofs.shorts.Places.add.Goals as goal
+use Rattle.rx_shorts.proofs.places.Places.add.Goals as goal
 
 pub returns-then-not-is_prefix_name-clause-row : goal.returns-then-not-is_prefix_name-clause-row
 returns-then-not-is_prefix_name-clause-row c = row_of c.args.name.now c.args.iri.now c.utf8.name c.utf8.iri
