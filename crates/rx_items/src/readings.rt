@@ -69,7 +69,7 @@ fn reference_value(alloc: Global, base: &Iri, reference: &str) -> Result<Value, 
 }
 
 /// The text as a string.
-fn text_value(alloc: Global, text: &str) -> Result<Value, NoMemory>
+pub(crate) fn text_value(alloc: Global, text: &str) -> Result<Value, NoMemory>
     ensures { IfOk result (λ json. view json ≡ string_of (chars text.now)) }
 {
     let value = string_value(alloc, text)?;
