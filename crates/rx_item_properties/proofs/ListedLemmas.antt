@@ -1,7 +1,8 @@
 -- Places that rise, and among which an item's own isn't.
-use Rattle.std.proofs.Common.{◌≡◌, ◌∙◌, ◌<◌, ◌≤◌, ℕ, Bool, true, false, not, ◌==◌, cond, List, [], ◌∷◌, ◌++◌, length, filter, Contains, ◌↔◌, refl, sym, ap, subst, arith, nat_lt, nat_cmp, Less, ltb-true}
+use Rattle.std.proofs.Common.{◌≡◌, ◌∙◌, ◌<◌, ◌≤◌, ℕ, suc, Bool, true, false, not, ◌==◌, cond, List, [], ◌∷◌, ◌++◌, length, filter, Contains, ◌↔◌, refl, sym, ap, subst, arith, nat_lt, nat_cmp, Less, ltb-true}
 use Rattle.std.specs.List.{AllByRecursion}
 use Rattle.std.specs.List.Sorted.{IsStrictlySortedBy}
+use Rattle.std.proofs.lemmas.Bool.Decides.{nat_tests}
 use Rattle.std.proofs.lemmas.List.{append-nil}
 use Rattle.rx_microdata.proofs.Lists.{and_parts}
 use Rattle.rx_item_properties.specs.Properties.{part, gathered, is_other, is_next, rise_behind, are_listed}
@@ -49,10 +50,14 @@ listed_others place (m ∷ ms) e =
     let p = and_parts (not (m == place)) (rise_behind place m ms) e in
     ap (λ b. cond b (m ∷ filter (is_other place) ms) (filter (is_other place) ms)) p.0 ∙ ap (λ (l : List ℕ). m ∷ l) (others_behind place m ms p.1)
 
+not_none : (n : ℕ) → (suc n == 0) ≡ false
+not_none n = grind (arith, nat_tests)
+
 -- what stands in one run
 pub listed_same : (members : List ℕ) (own : Run) (others : List Run) (place : ℕ) (list : List ℕ) (alone : Bool) → alone ≡ (length others == 0) → alone ≡ true → list ≡ part members own
     → are_listed place list ≡ true → (x : ℕ) → Contains list x ↔ Contains (gathered members (own ∷ others) place) x
-listed_same members own (run ∷ others) place list alone is e same listed x = let clash : false ≡ true = sym is ∙ e in absurd (cc (clash))
+listed_same members own (run ∷ others) place list alone is e same listed x =
+    let clash : true ≡ false = sym e ∙ is ∙ not_none (length others) in absurd (cc (clash))
 listed_same members own [] place list alone is e same listed x =
     let all : list ≡ gathered members (own ∷ []) place = sym (listed_others place list listed) ∙ ap (filter (is_other place)) (same ∙ sym (append-nil (part members own))) in (
       (λ c. subst (λ (l : List ℕ). Contains l x) all c),

@@ -6,6 +6,7 @@ use Rattle.std.proofs.lemmas.List.{append-nil, take_all}
 use Rattle.std.proofs.lemmas.List.Elements.{Contains-append_left, Contains-append_right, Contains-append_cases, Contains-push, Contains-push_cases}
 use Rattle.std.proofs.lemmas.Option.{slice_get-get_or, slice_get_past}
 use Rattle.std.proofs.lemmas.Bool.{cases_lt}
+use Rattle.std.proofs.lemmas.Bool.Decides.{nat_tests}
 use Rattle.rx_terms.specs.Text.{Chars}
 use Rattle.rx_grammar.specs.Trees.{Tree}
 use Rattle.rx_microdata.specs.Elements.{Placed, is_item, names_of}
@@ -154,9 +155,12 @@ same_default [] i d e lt = absurd (omega (arith, lt))
 same_default (x ∷ xs) zero d e lt = refl
 same_default (x ∷ xs) (suc i) d e lt = same_default xs i d e (omega (arith, lt))
 
+not_none : (n : ℕ) → (suc n == 0) ≡ false
+not_none n = grind (arith, nat_tests)
+
 pub no_starts : (starts : List ℕ) (none : Bool) → none ≡ (length starts == 0) → none ≡ true → starts ≡ []
 no_starts [] none is e = refl
-no_starts (x ∷ starts) none is e = let clash : false ≡ true = sym is ∙ e in absurd (cc (clash))
+no_starts (x ∷ starts) none is e = let clash : true ≡ false = sym e ∙ is ∙ not_none (length starts) in absurd (cc (clash))
 
 pub some_starts : (starts : List ℕ) (none : Bool) → none ≡ (length starts == 0) → none ≡ false → starts ≡ [] → ⊥
 some_starts [] none is e empty = let clash : true ≡ false = sym is ∙ e in absurd (cc (clash))

@@ -13,7 +13,7 @@ pub fn listed<'a>(members: &'a [usize], reach: &Reach, place: usize) -> Option<&
     ensures rise { IfSome result (λ list. IsStrictlySortedBy nat_cmp list.now) }
     ensures same { IfSome result (λ list. (x : ℕ) → Contains list.now x ↔ Contains (gathered members.now (reach.now.own ∷ reach.now.others.items) place) x) }
 {
-    if !reach.others.is_empty() {
+    if !reach.others.as_slice().is_empty() {
         return None;
     }
     let list = part(members, reach.own);

@@ -15,15 +15,15 @@ use Rattle.rx_item_properties.proofs.PropertyLemmas.{properties_are}
 use Rattle.rx_item_properties.proofs.BuildLemmas.{same_there}
 use Rattle.rx_item_properties.proofs.elements.built.Goals as goal
 
-pub returns-then-not-is_item : goal.returns-then-not-is_item
-returns-then-not-is_item c text times tree members sorted up looks =
+pub returns-then-not-row : goal.returns-then-not-row
+returns-then-not-row c text times tree members sorted up looks =
     let ps = rows_of tree in
     let r = row_shown c.args.words.now text times c.args.rows.now ps c.args.place nothing_kept sorted.shows c.requires in
     record {
       shown = λ p there. c.in_ok-plain.ensures.shown text times p
           (subst (λ (q : Placed). ShowsRow c.args.words.now text times (get_or c.args.rows.now c.args.place nothing_kept) q) (same_there ps c.args.place r.0 p r.1 there) r.2);
       reach = λ p there item.
-          absurd (true≢false (sym item ∙ sym (ap (λ (q : Placed). q.facts.is_item) (same_there ps c.args.place r.0 p r.1 there)) ∙ sym r.2.is_item ∙ c.if-not-is_item.true));
+          absurd (true≢false (sym item ∙ sym (ap (λ (q : Placed). q.facts.is_item) (same_there ps c.args.place r.0 p r.1 there)) ∙ sym r.2.is_item ∙ c.if-not-row.true));
     }
 
 pub returns : goal.returns
