@@ -1,4 +1,4 @@
-use Rattle.std.proofs.Common.{◌≡◌, ◌∙◌, ◌++◌, ℕ, suc, List, [], ◌∷◌, ap, sym, subst, rules, Some, Result, Err, Ok, map, take}
+use Rattle.std.proofs.Common.{◌≡◌, ◌∙◌, ◌++◌, ℕ, suc, List, [], ◌∷◌, ap, sym, subst, rules, Contains, ◌↔◌, Some, Result, Err, Ok, map, take}
 use Rattle.std.specs.Str.{chars}
 use Rattle.std.proofs.lemmas.Str.{encodes-chars}
 use Rattle.rx_terms.specs.Text.{Chars}
@@ -11,6 +11,7 @@ use Rattle.rx_microdata.specs.Facts.{said}
 use Rattle.rx_microdata.specs.Visits.{visits_from}
 use Rattle.rx_microdata.specs.Json.{string_of, json_of_item}
 use Rattle.rx_item_table.specs.Rows.{properties_in}
+use Rattle.rx_item_properties.specs.Properties.{gathered}
 use Rattle.rx_item_properties.specs.Held.{ShowsTokens}
 use Rattle.rx_item_properties.specs.declared.kept.Tokens.TheVariants as tokens
 use Rattle.rx_items.specs.Groups.{with_last}
@@ -29,8 +30,8 @@ add_named-returns-in_err-value-clause-finds t c rows base above left e done star
     (named_err rows base above left start c.args.trail.now.visits done e (chars c.args.name.now) (members_view c.args.group.now.entries) c.in_err-value.field-0.0 did
     (c.in_err-value.ensures.finds rows base above left e at row found))
 
-pub add_named-returns-in-Ok-clause-finds : goal.add_named-returns-in-Ok-clause-finds
-add_named-returns-in-Ok-clause-finds t c rows base above left e done start at row found did =
+pub add_named-returns-clause-finds : goal.add_named-returns-clause-finds
+add_named-returns-clause-finds t c rows base above left e done start at row found did =
     let value = c.in_ok-value.ensures.finds rows base above left e at row found in
     did_more rows base above left start c.args.trail.now.visits c.value_of.new.trail.visits done e (chars c.args.name.now) (members_view c.args.group.now.entries) (members_view c.add_value.new.group.entries) did value.0
     (c.in-Ok.ensures ∙ (λ i. with_last (sym (encodes-chars c.args.name.now c.utf8.name) i) (value.1 i) (members_view c.args.group.now.entries)))
@@ -38,11 +39,11 @@ add_named-returns-in-Ok-clause-finds t c rows base above left e done start at ro
 pub add_each-returns-in_err-add_named-clause-finds : goal.add_each-returns-in_err-add_named-clause-finds
 add_each-returns-in_err-add_named-clause-finds t c rows base above left e done start at row found names did =
     let l = c.loop-name in
-    let inner = c.in_err-add_named.ensures.finds rows base above left e (done ++ map (with_name e) (take l.name-index l.names)) start (at_path l.trail.path.items l.invariant.path at) row found
+    let inner = c.in_err-add_named.ensures.finds rows base above left e (done ++ map (with_name e) (take l.name-index c.args.names.now)) start (at_path l.trail.path.items l.invariant.path at) row found
     (l.invariant.did rows base above left e done start at row found names did) in
     err_told (λ r. Goes rows base above left start (done ++ steps_of e) c.add_named.new.trail.visits (members_view c.add_named.new.group.entries) r) c.from_residual.result c.in_err-add_named.field-0.0 c.from_residual.ensures.1
     (each_err rows base above left start done e c.args.names.now l.name-index c.name-item.result c.in_err-add_named.field-0.0 names c.loop-name-test.true c.name-item.is
-    (subst (λ (n : Chars). Told start (visits_in rows base above left ((done ++ map (with_name e) (take l.name-index l.names)) ++ with_name e n ∷ [])) c.in_err-add_named.field-0.0) c.as_str.ensures.characters inner))
+    (subst (λ (n : Chars). Told start (visits_in rows base above left ((done ++ map (with_name e) (take l.name-index c.args.names.now)) ++ with_name e n ∷ [])) c.in_err-add_named.field-0.0) c.as_str.ensures.characters inner))
 
 pub add_each-loop-name-preserved : goal.add_each-loop-name-preserved
 add_each-loop-name-preserved t c =
@@ -50,10 +51,10 @@ add_each-loop-name-preserved t c =
     record {
       path = c.in_ok-add_named.ensures.path ∙ l.invariant.path;
       did = λ rows base above left e done start at row found names did.
-          let inner = c.in_ok-add_named.ensures.finds rows base above left e (done ++ map (with_name e) (take l.name-index l.names)) start (at_path l.trail.path.items l.invariant.path at) row found
+          let inner = c.in_ok-add_named.ensures.finds rows base above left e (done ++ map (with_name e) (take l.name-index c.args.names.now)) start (at_path l.trail.path.items l.invariant.path at) row found
           (l.invariant.did rows base above left e done start at row found names did) in
           each_on rows base above left start c.add_named.new.trail.visits done e c.args.names.now l.name-index c.name-item.result (members_view c.add_named.new.group.entries) c.loop-name-test.true c.name-item.is
-          (subst (λ (n : Chars). Did rows base above left start ((done ++ map (with_name e) (take l.name-index l.names)) ++ with_name e n ∷ []) c.add_named.new.trail.visits (members_view c.add_named.new.group.entries)) c.as_str.ensures.characters inner);
+          (subst (λ (n : Chars). Did rows base above left start ((done ++ map (with_name e) (take l.name-index c.args.names.now)) ++ with_name e n ∷ []) c.add_named.new.trail.visits (members_view c.add_named.new.group.entries)) c.as_str.ensures.characters inner);
     }
 
 pub add_each-returns-clause-finds : goal.add_each-returns-clause-finds
@@ -64,14 +65,14 @@ add_each-returns-clause-finds t c rows base above left e done start at row found
 pub add_values-returns-in-One-clause-finds : goal.add_values-returns-in-One-clause-finds
 add_values-returns-in-One-clause-finds t c rows base above left e done start at row found did =
     let shown = shown_in c.args.place c.args.element.now e at row found in
-    let one : ShowsTokens c.args.kept.now.words (tokens.One c.in-One.span.now) (names_of e) = rw c.in-One.is at shown.names in
+    let one : ShowsTokens c.args.kept.now.words (tokens.One c.in-One.span) (names_of e) = rw c.in-One.is at shown.names in
     one_name rows base above left start c.add_named.new.trail.visits done e (chars c.text_of-name.result.now) one.0 (members_view c.add_named.new.group.entries) c.add_named.result one.1
     (c.text_of-name.ensures one.2.front one.0 one.2.rest one.2.is_run) (c.add_named.ensures.finds rows base above left e done start at row found did)
 
 pub add_values-returns-in-Many-clause-finds : goal.add_values-returns-in-Many-clause-finds
 add_values-returns-in-Many-clause-finds t c rows base above left e done start at row found did =
     let shown = shown_in c.args.place c.args.element.now e at row found in
-    let many : c.in-Many.names.now.items ≡ names_of e = rw c.in-Many.is at shown.names in
+    let many : c.in-Many.names.items ≡ names_of e = rw c.in-Many.is at shown.names in
     c.add_each.ensures.finds rows base above left e done start at row found (c.as_slice.ensures.value ∙ many) did
 
 pub fill-returns-in_err-add_property-clause-finds : goal.fill-returns-in_err-add_property-clause-finds
@@ -103,11 +104,14 @@ fill-returns-clause-finds t c rows base above left es at is stand none =
 
 pub fill_item-returns-in-Some-clause-finds : goal.fill_item-returns-in-Some-clause-finds
 fill_item-returns-in-Some-clause-finds t c rows base above left root at row found item none =
-    let list = list_is c.args.kept.now rows base root c.args.element.now c.args.place c.in-Some.list.now at.holds row found item c.in-Some.ensures.rise (rw c.as_slice.ensures.value at c.in-Some.ensures.same) in
+    let runs = c.args.element.now.reach.own ∷ c.args.element.now.reach.others.items in
+    let same : (x : ℕ) → Contains c.in-Some.list.now x ↔ Contains (gathered c.as_slice.result.now runs c.args.place) x = c.in-Some.ensures.same in
+    let all = subst (λ (ms : List ℕ). (x : ℕ) → Contains c.in-Some.list.now x ↔ Contains (gathered ms runs c.args.place) x) c.as_slice.ensures.value same in
+    let list = list_is c.args.kept.now rows base root c.args.element.now c.args.place c.in-Some.list.now at.holds row found item c.in-Some.ensures.rise all in
     c.fill.ensures.finds rows base above left (properties_in rows root) at list (all_stand _ rows at.holds.numbered) none
 
-pub fill_sorted-returns-in-Ok-clause-finds : goal.fill_sorted-returns-in-Ok-clause-finds
-fill_sorted-returns-in-Ok-clause-finds t c rows base above left root at row found item none =
+pub fill_sorted-returns-clause-finds : goal.fill_sorted-returns-clause-finds
+fill_sorted-returns-clause-finds t c rows base above left root at row found item none =
     let list = list_is c.args.kept.now rows base root c.args.element.now c.args.place c.in-Ok.list.items at.holds row found item c.in-Ok.ensures.rise (rw c.as_slice.ensures.value at c.in-Ok.ensures.same) in
     c.fill.ensures.finds rows base above left (properties_in rows root) at (c.as_slice-2.ensures.value ∙ list) (all_stand _ rows at.holds.numbered) none
 
