@@ -76,10 +76,10 @@ module _ (rows : List Placed) (base : Chars) (above : Visit) (left : ℕ) where
       subst (λ (steps : List Step). Did rows base above left start steps after new) all d
 
   -- the only name
-  pub one_name : (start visits : ℕ) (done : List Step) (e : Placed) (name token : Chars) (members : Members) (r : Result (Unit {0}) Stop) → names_of e ≡ token ∷ [] → name ≡ token
-      → Goes rows base above left start (done ++ with_name e name ∷ []) visits members r → Goes rows base above left start (done ++ steps_of e) visits members r
-  one_name start visits done e name token members r names is g =
-      subst (λ (steps : List Step). Goes rows base above left start (done ++ steps) visits members r) (ap (λ (n : Chars). with_name e n ∷ []) is ∙ sym (ap (map (with_name e)) names)) g
+  pub one_name : (start visits : ℕ) (done : List Step) (e : Placed) (token : Chars) (members : Members) (r : Result (Unit {0}) Stop) → names_of e ≡ token ∷ []
+      → Goes rows base above left start (done ++ with_name e token ∷ []) visits members r → Goes rows base above left start (done ++ steps_of e) visits members r
+  one_name start visits done e token members r names g =
+      subst (λ (steps : List Step). Goes rows base above left start (done ++ steps) visits members r) (sym (ap (map (with_name e)) names)) g
 
   pub names_end : (start visits : ℕ) (done : List Step) (e : Placed) (names : List Chars) (i : ℕ) (members : Members) → names ≡ names_of e → length names ≤ i
       → Did rows base above left start (done ++ map (with_name e) (take i names)) visits members → Did rows base above left start (done ++ steps_of e) visits members

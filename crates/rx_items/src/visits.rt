@@ -1,7 +1,7 @@
 //! The visits of a page's items, and the JSON that they come to.
 ghost use Rattle.std.specs.Prelude.{◌≡◌, ⊤, suc, ◌+◌, ◌++◌, ◌∷◌, [], ℕ, List, Option, Some, None, true, slice_get, length, ◌==◌, nat_le, IfOk, OnOk, MatchResult};
 ghost use Rattle.std.specs.List.{list_any};
-ghost use Rattle.std.specs.Str.{chars};
+ghost use Rattle.std.specs.Str.{encode_utf8_all};
 ghost use Rattle.serde_json.specs.Data.{Data, Members, no_members};
 ghost use Rattle.serde_json.specs.View.{members_view, view};
 ghost use Rattle.rx_terms.specs.Text.{Chars};
@@ -15,10 +15,9 @@ ghost use Rattle.rx_items.specs.Expanding.{At, Enters, Did, Finds, Goes, Step, d
 
 use crate::groups::add_value;
 use crate::objects::item_object;
-use crate::readings::{id_value, plain_value};
+use crate::readings::{id_value, plain_value, token_at};
 use rx_grammar::{Fault, Kind};
 use rx_item_properties::{Element, Kept, Tokens, listed, properties};
-use rx_item_table::text_of;
 use rx_tags::Stop;
 use rx_terms::{NoMemory, Text};
 use serde_json::{Map, Value};
@@ -242,7 +241,7 @@ fn add_values(
 {
     match &element.names {
         Tokens::One(span) => {
-            let name = text_of(&kept.words, *span);
+            let name = token_at(&kept.words, *span);
             add_named(alloc, kept, trail, group, element, place, name)
         }
         Tokens::Many(names) => {
@@ -286,9 +285,10 @@ fn add_named(
     name: &str,
 ) -> Result<(), Stop>
     ensures path { OnOk result (trail.new.path.items ≡ trail.old.path.items) }
-    ensures finds { (rows : List Placed) (base : Chars) (above : Visit) (left : ℕ) (e : Placed) (done : List Step) (start : ℕ) → At kept.now rows base trail.old.path.items above left
-        → slice_get rows place ≡ Some e → slice_get kept.now.elements.items place ≡ Some element.now → Did rows base above left start done trail.old.visits (members_view group.old.entries)
-        → Goes rows base above left start (done ++ with_name e (chars name.now) ∷ []) trail.new.visits (members_view group.new.entries) result }
+    ensures finds { (rows : List Placed) (base : Chars) (above : Visit) (left : ℕ) (e : Placed) (token : Chars) (done : List Step) (start : ℕ) → At kept.now rows base trail.old.path.items above left
+        → slice_get rows place ≡ Some e → slice_get kept.now.elements.items place ≡ Some element.now → name.now ≡ encode_utf8_all token
+        → Did rows base above left start done trail.old.visits (members_view group.old.entries)
+        → Goes rows base above left start (done ++ with_name e token ∷ []) trail.new.visits (members_view group.new.entries) result }
 {
     let value = value_of(alloc, kept, trail, element, place)?;
     let Ok(()) = add_value(alloc, group, name, value) else {

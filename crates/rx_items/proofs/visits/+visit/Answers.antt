@@ -1,7 +1,4 @@
 use Rattle.std.proofs.Common.{◌≡◌, ◌∙◌, ◌++◌, ℕ, suc, List, [], ◌∷◌, ap, sym, subst, rules, Contains, ◌↔◌, Some, Result, Err, Ok, map, take}
-use Rattle.std.specs.Str.{chars}
-use Rattle.std.proofs.lemmas.Str.{encodes-chars}
-use Rattle.rx_terms.specs.Text.{Chars}
 use Rattle.rx_microdata.specs.Elements.{names_of}
 use Rattle.serde_json.specs.Data.{no_members}
 use Rattle.serde_json.specs.View.{view, members_view}
@@ -25,25 +22,24 @@ pub add_property-returns-in-None-clause-finds : goal.add_property-returns-in-Non
 add_property-returns-in-None-clause-finds t c rows base above left e done start at row did = absurd (no_element c.args.place e at row (rw c.deref.ensures.value at c.in-None.ensures.lookup.3))
 
 pub add_named-returns-in_err-value-clause-finds : goal.add_named-returns-in_err-value-clause-finds
-add_named-returns-in_err-value-clause-finds t c rows base above left e done start at row found did =
-    err_told (λ r. Goes rows base above left start (done ++ with_name e (chars c.args.name.now) ∷ []) c.value_of.new.trail.visits (members_view c.args.group.now.entries) r) c.from_residual.result c.in_err-value.field-0.0 c.from_residual.ensures.1
-    (named_err rows base above left start c.args.trail.now.visits done e (chars c.args.name.now) (members_view c.args.group.now.entries) c.in_err-value.field-0.0 did
+add_named-returns-in_err-value-clause-finds t c rows base above left e token done start at row found named did =
+    err_told (λ r. Goes rows base above left start (done ++ with_name e token ∷ []) c.value_of.new.trail.visits (members_view c.args.group.now.entries) r) c.from_residual.result c.in_err-value.field-0.0 c.from_residual.ensures.1
+    (named_err rows base above left start c.args.trail.now.visits done e token (members_view c.args.group.now.entries) c.in_err-value.field-0.0 did
     (c.in_err-value.ensures.finds rows base above left e at row found))
 
 pub add_named-returns-clause-finds : goal.add_named-returns-clause-finds
-add_named-returns-clause-finds t c rows base above left e done start at row found did =
+add_named-returns-clause-finds t c rows base above left e token done start at row found named did =
     let value = c.in_ok-value.ensures.finds rows base above left e at row found in
-    did_more rows base above left start c.args.trail.now.visits c.value_of.new.trail.visits done e (chars c.args.name.now) (members_view c.args.group.now.entries) (members_view c.add_value.new.group.entries) did value.0
-    (c.in-Ok.ensures ∙ (λ i. with_last (sym (encodes-chars c.args.name.now c.utf8.name) i) (value.1 i) (members_view c.args.group.now.entries)))
+    did_more rows base above left start c.args.trail.now.visits c.value_of.new.trail.visits done e token (members_view c.args.group.now.entries) (members_view c.add_value.new.group.entries) did value.0
+    (c.in-Ok.ensures ∙ (λ i. with_last (named i) (value.1 i) (members_view c.args.group.now.entries)))
 
 pub add_each-returns-in_err-add_named-clause-finds : goal.add_each-returns-in_err-add_named-clause-finds
 add_each-returns-in_err-add_named-clause-finds t c rows base above left e done start at row found names did =
     let l = c.loop-name in
-    let inner = c.in_err-add_named.ensures.finds rows base above left e (done ++ map (with_name e) (take l.name-index c.args.names.now)) start (at_path l.trail.path.items l.invariant.path at) row found
-    (l.invariant.did rows base above left e done start at row found names did) in
+    let inner = c.in_err-add_named.ensures.finds rows base above left e c.name-item.result (done ++ map (with_name e) (take l.name-index c.args.names.now)) start (at_path l.trail.path.items l.invariant.path at) row found
+    c.as_str.ensures.bytes (l.invariant.did rows base above left e done start at row found names did) in
     err_told (λ r. Goes rows base above left start (done ++ steps_of e) c.add_named.new.trail.visits (members_view c.add_named.new.group.entries) r) c.from_residual.result c.in_err-add_named.field-0.0 c.from_residual.ensures.1
-    (each_err rows base above left start done e c.args.names.now l.name-index c.name-item.result c.in_err-add_named.field-0.0 names c.loop-name-test.true c.name-item.is
-    (subst (λ (n : Chars). Told start (visits_in rows base above left ((done ++ map (with_name e) (take l.name-index c.args.names.now)) ++ with_name e n ∷ [])) c.in_err-add_named.field-0.0) c.as_str.ensures.characters inner))
+    (each_err rows base above left start done e c.args.names.now l.name-index c.name-item.result c.in_err-add_named.field-0.0 names c.loop-name-test.true c.name-item.is inner)
 
 pub add_each-loop-name-preserved : goal.add_each-loop-name-preserved
 add_each-loop-name-preserved t c =
@@ -51,10 +47,9 @@ add_each-loop-name-preserved t c =
     record {
       path = c.in_ok-add_named.ensures.path ∙ l.invariant.path;
       did = λ rows base above left e done start at row found names did.
-          let inner = c.in_ok-add_named.ensures.finds rows base above left e (done ++ map (with_name e) (take l.name-index c.args.names.now)) start (at_path l.trail.path.items l.invariant.path at) row found
-          (l.invariant.did rows base above left e done start at row found names did) in
           each_on rows base above left start c.add_named.new.trail.visits done e c.args.names.now l.name-index c.name-item.result (members_view c.add_named.new.group.entries) c.loop-name-test.true c.name-item.is
-          (subst (λ (n : Chars). Did rows base above left start ((done ++ map (with_name e) (take l.name-index c.args.names.now)) ++ with_name e n ∷ []) c.add_named.new.trail.visits (members_view c.add_named.new.group.entries)) c.as_str.ensures.characters inner);
+          (c.in_ok-add_named.ensures.finds rows base above left e c.name-item.result (done ++ map (with_name e) (take l.name-index c.args.names.now)) start (at_path l.trail.path.items l.invariant.path at) row found
+          c.as_str.ensures.bytes (l.invariant.did rows base above left e done start at row found names did));
     }
 
 pub add_each-returns-clause-finds : goal.add_each-returns-clause-finds
@@ -66,8 +61,8 @@ pub add_values-returns-in-One-clause-finds : goal.add_values-returns-in-One-clau
 add_values-returns-in-One-clause-finds t c rows base above left e done start at row found did =
     let shown = shown_in c.args.place c.args.element.now e at row found in
     let one : ShowsTokens c.args.kept.now.words (tokens.One c.in-One.span) (names_of e) = rw c.in-One.is at shown.names in
-    one_name rows base above left start c.add_named.new.trail.visits done e (chars c.text_of-name.result.now) one.0 (members_view c.add_named.new.group.entries) c.add_named.result one.1
-    (c.text_of-name.ensures one.2.front one.0 one.2.rest one.2.is_run) (c.add_named.ensures.finds rows base above left e done start at row found did)
+    one_name rows base above left start c.add_named.new.trail.visits done e one.0 (members_view c.add_named.new.group.entries) c.add_named.result one.1
+    (c.add_named.ensures.finds rows base above left e one.0 done start at row found (c.token_at-name.ensures one.0 one.2) did)
 
 pub add_values-returns-in-Many-clause-finds : goal.add_values-returns-in-Many-clause-finds
 add_values-returns-in-Many-clause-finds t c rows base above left e done start at row found did =
@@ -112,7 +107,10 @@ fill_item-returns-in-Some-clause-finds t c rows base above left root at row foun
 
 pub fill_sorted-returns-clause-finds : goal.fill_sorted-returns-clause-finds
 fill_sorted-returns-clause-finds t c rows base above left root at row found item none =
-    let list = list_is c.args.kept.now rows base root c.args.element.now c.args.place c.in-Ok.list.items at.holds row found item c.in-Ok.ensures.rise (rw c.as_slice.ensures.value at c.in-Ok.ensures.same) in
+    let runs = c.args.element.now.reach.own ∷ c.args.element.now.reach.others.items in
+    let same : (x : ℕ) → Contains c.in-Ok.list.items x ↔ Contains (gathered c.as_slice.result.now runs c.args.place) x = c.in-Ok.ensures.same in
+    let all = subst (λ (ms : List ℕ). (x : ℕ) → Contains c.in-Ok.list.items x ↔ Contains (gathered ms runs c.args.place) x) c.as_slice.ensures.value same in
+    let list = list_is c.args.kept.now rows base root c.args.element.now c.args.place c.in-Ok.list.items at.holds row found item c.in-Ok.ensures.rise all in
     c.fill.ensures.finds rows base above left (properties_in rows root) at (c.as_slice-2.ensures.value ∙ list) (all_stand _ rows at.holds.numbered) none
 
 pub group_of-returns-in_err-fill_item-clause-finds : goal.group_of-returns-in_err-fill_item-clause-finds
