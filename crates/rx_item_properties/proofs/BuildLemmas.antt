@@ -1,5 +1,5 @@
 -- The elements of a table's rows, one after another.
-use Rattle.std.proofs.Common.{◌≡◌, ◌∙◌, ◌+◌, ◌<◌, ◌≤◌, ℕ, zero, suc, List, [], ◌∷◌, ◌++◌, length, take, get_or, Contains, ◌↔◌, Option, Some, None, refl, sym, ap, subst, arith}
+use Rattle.std.proofs.Common.{◌≡◌, ◌∙◌, ◌+◌, ◌<◌, ◌≤◌, ℕ, zero, suc, true, List, [], ◌∷◌, ◌++◌, length, take, get_or, Contains, ◌↔◌, Option, Some, None, refl, sym, ap, subst, arith}
 use Rattle.std.specs.Prelude.{slice_get, filter_map}
 use mathlib.Core.Logic.{◌⊎◌, inl, inr}
 use Rattle.std.proofs.lemmas.Bool.{cases_lt}
@@ -63,18 +63,18 @@ built_turn words text times ps members i p old new e there b h pushed =
     shown =
         subst (ShowsElements words text times (old ++ e ∷ [])) (sym (one_more ps i p lies.0 ∙ ap (λ (q : Placed). take i ps ++ q ∷ []) lies.1)) (shown_more words text times old (take i ps) e p b.shown (h.shown p there))
 
-    reach : (j : ℕ) (q : Placed) (d : Element) → slice_get ps j ≡ Some q → slice_get (old ++ e ∷ []) j ≡ Some d → Reaches ps members j d.reach.items q
-    reach j q d g f = by (at_end old e d j f)
+    reach : (j : ℕ) (q : Placed) (d : Element) → slice_get ps j ≡ Some q → slice_get (old ++ e ∷ []) j ≡ Some d → is_item q ≡ true → Reaches ps members j (d.reach.own ∷ d.reach.others.items) q
+    reach j q d g f item = by (at_end old e d j f)
       where
-        by : slice_get old j ≡ Some d ⊎ ((j ≡ length old) × (e ≡ d)) → Reaches ps members j d.reach.items q
-        by (inl k) = b.reach j q d g k
+        by : slice_get old j ≡ Some d ⊎ ((j ≡ length old) × (e ≡ d)) → Reaches ps members j (d.reach.own ∷ d.reach.others.items) q
+        by (inl k) = b.reach j q d g k item
         by (inr k) =
             let at : j ≡ i = k.0 ∙ size in
-            subst (λ (x : Element). Reaches ps members j x.reach.items q) k.1 (subst (λ n. Reaches ps members n e.reach.items q) (sym at) (h.reach q (ap (slice_get ps) (sym at) ∙ g)))
+            subst (λ (x : Element). Reaches ps members j (x.reach.own ∷ x.reach.others.items) q) k.1 (subst (λ n. Reaches ps members n (e.reach.own ∷ e.reach.others.items) q) (sym at) (h.reach q (ap (slice_get ps) (sym at) ∙ g) item))
 
 pub built_first : (words text : Chars) (times : List Chars) (ps : List Placed) (members : List ℕ) (es : List Element) → es ≡ [] → Built words text times ps members 0 es
 built_first words text times ps members es none =
-    subst (Built words text times ps members 0) (sym none) (record { shown = tt; reach = λ i p e g f. absurd (cc (f)) })
+    subst (Built words text times ps members 0) (sym none) (record { shown = tt; reach = λ i p e g f item. absurd (cc (f)) })
 
 -- all of them are held
 pub all_held : (kept : Kept) (ps : List Placed) (base : Chars) (count : ℕ) → count ≡ length ps → Built kept.words kept.text kept.times.items ps kept.members.items count kept.elements.items → Numbered 0 ps → kept.base ≡ base
@@ -83,7 +83,7 @@ all_held kept ps base count whole b n same = record {
   shown = subst (ShowsElements kept.words kept.text kept.times.items kept.elements.items) (take_all count ps (omega (arith, whole))) b.shown;
   base_is = same;
   numbered = n;
-  reached = λ root e row element item x. b.reach root.place root e row element x;
+  reached = λ root e row element item x. b.reach root.place root e row element item x;
 }
 
 pub built_end : (words text : Chars) (times : List Chars) (ps : List Placed) (members : List ℕ) (i n : ℕ) (es : List Element) → i ≤ n → n ≤ i → Built words text times ps members i es → Built words text times ps members n es

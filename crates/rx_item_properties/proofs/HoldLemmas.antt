@@ -79,11 +79,11 @@ places_rise f k (p ∷ ps) n = by (f p) (above f (suc k) p.place ps (let e = n.0
 -- what an item's runs give are the places of its properties
 pub list_is : (kept : Kept) (rows : List Placed) (base : Chars) (root : Placed) (e : Element) (place : ℕ) (list : List ℕ) → HoldsRows kept rows base
     → slice_get rows place ≡ Some root → slice_get kept.elements.items place ≡ Some e → is_item root ≡ true → Rises list
-    → ((x : ℕ) → Contains list x ↔ Contains (gathered kept.members.items e.reach.items place) x) → list ≡ places (properties_in rows root)
+    → ((x : ℕ) → Contains list x ↔ Contains (gathered kept.members.items (e.reach.own ∷ e.reach.others.items) place) x) → list ≡ places (properties_in rows root)
 list_is kept rows base root e place list h row element item rise same =
     let at = place_is rows place root h.numbered row in
     let reached = h.reached root e (ap (slice_get rows) at ∙ row) (ap (slice_get kept.elements.items) at ∙ element) item in
-    let back : (x : ℕ) → Contains (gathered kept.members.items e.reach.items place) x ↔ Contains (places (properties_in rows root)) x =
-    subst (λ (n : ℕ). (x : ℕ) → Contains (gathered kept.members.items e.reach.items n) x ↔ Contains (places (properties_in rows root)) x) at reached in
+    let back : (x : ℕ) → Contains (gathered kept.members.items (e.reach.own ∷ e.reach.others.items) place) x ↔ Contains (places (properties_in rows root)) x =
+    subst (λ (n : ℕ). (x : ℕ) → Contains (gathered kept.members.items (e.reach.own ∷ e.reach.others.items) n) x ↔ Contains (places (properties_in rows root)) x) at reached in
     same_rising list (places (properties_in rows root)) rise (places_rise _ 0 rows h.numbered)
     (λ x c. (back x).0 ((same x).0 c)) (λ x c. (same x).1 ((back x).1 c))

@@ -1,5 +1,7 @@
 mod DistinctLemmas
+mod TokenLemmas
 mod RisingLemmas
+mod ListedLemmas
 pub mod TakeLemmas
 pub mod HoldLemmas
 mod NestLemmas

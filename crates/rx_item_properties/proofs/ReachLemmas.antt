@@ -1,11 +1,12 @@
 -- The runs of an item's starts, one after another.
-use Rattle.std.proofs.Common.{◌≡◌, ◌∙◌, ◌+◌, ◌<◌, ◌≤◌, ℕ, zero, suc, Bool, true, false, cond, List, [], ◌∷◌, ◌++◌, length, take, get_or, Contains, ◌↔◌, Option, Some, None, refl, sym, ap, subst, arith, append_assoc}
+use Rattle.std.proofs.Common.{◌≡◌, ◌∙◌, ◌+◌, ◌<◌, ◌≤◌, ℕ, zero, suc, Bool, true, false, cond, ◌==◌, List, [], ◌∷◌, ◌++◌, length, take, get_or, Contains, ◌↔◌, Option, Some, None, refl, sym, ap, subst, arith, append_assoc}
 use Rattle.std.specs.Prelude.{slice_get}
 use mathlib.Core.Logic.{◌⊎◌, inl, inr}
 use Rattle.std.proofs.lemmas.List.{append-nil, take_all}
 use Rattle.std.proofs.lemmas.List.Elements.{Contains-append_left, Contains-append_right, Contains-append_cases, Contains-push, Contains-push_cases}
 use Rattle.std.proofs.lemmas.Option.{slice_get-get_or, slice_get_past}
 use Rattle.std.proofs.lemmas.Bool.{cases_lt}
+use Rattle.std.proofs.lemmas.Bool.Decides.{nat_tests}
 use Rattle.rx_terms.specs.Text.{Chars}
 use Rattle.rx_grammar.specs.Trees.{Tree}
 use Rattle.rx_microdata.specs.Elements.{Placed, is_item, names_of}
@@ -110,6 +111,14 @@ module _ (words gathered : Chars) (times : List Chars) (rows : List Row) (tree :
       back is f (inl o) = subst (λ (l : List ℕ). Contains l x) (sym is) (f o)
       back is f (inr a) = absurd (no_place a.place a.among)
 
+  -- where there is no start
+  pub reach_alone : (place : ℕ) (starts : List ℕ) (run : Run) (others : List Run) → starts ≡ [] → others ≡ [] → RunOf keys (Some place) 0 (length rows) run
+      → (x : ℕ) → Contains (in_runs members (run ∷ others)) x ↔ RunsReach (rows_of tree) place starts x
+  reach_alone place starts run others none alone r x =
+      subst (λ (l : List ℕ). Contains (in_runs members (run ∷ others)) x ↔ RunsReach (rows_of tree) place l x) (sym none)
+      (subst (λ (l : List Run). Contains (in_runs members (run ∷ l)) x ↔ RunsReach (rows_of tree) place [] x) (sym alone)
+      (reach_begins place [] (run ∷ []) run refl (λ ms. append-nil (part ms run)) r x))
+
   pub reach_turn : (place : ℕ) (starts : List ℕ) (i start : ℕ) (old new : List Run) (run : Run) → i < length starts → start ≡ get_or starts i start
       → ((members : List ℕ) → in_runs members new ≡ in_runs members old ++ part members run) → ((x : ℕ) → Contains (part members run) x ↔ StartAt (rows_of tree) start x)
       → ((x : ℕ) → Contains (in_runs members old) x ↔ RunsReach (rows_of tree) place (take i starts) x) → (x : ℕ) → Contains (in_runs members new) x ↔ RunsReach (rows_of tree) place (take (i + 1) starts) x
@@ -145,3 +154,14 @@ pub same_default : (xs : List ℕ) (i d e : ℕ) → i < length xs → get_or xs
 same_default [] i d e lt = absurd (omega (arith, lt))
 same_default (x ∷ xs) zero d e lt = refl
 same_default (x ∷ xs) (suc i) d e lt = same_default xs i d e (omega (arith, lt))
+
+not_none : (n : ℕ) → (suc n == 0) ≡ false
+not_none n = grind (arith, nat_tests)
+
+pub no_starts : (starts : List ℕ) (none : Bool) → none ≡ (length starts == 0) → none ≡ true → starts ≡ []
+no_starts [] none is e = refl
+no_starts (x ∷ starts) none is e = let clash : true ≡ false = sym e ∙ is ∙ not_none (length starts) in absurd (cc (clash))
+
+pub some_starts : (starts : List ℕ) (none : Bool) → none ≡ (length starts == 0) → none ≡ false → starts ≡ [] → ⊥
+some_starts [] none is e empty = let clash : true ≡ false = sym is ∙ e in absurd (cc (clash))
+some_starts (x ∷ starts) none is e empty = absurd (cc (empty))

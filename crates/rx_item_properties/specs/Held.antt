@@ -3,10 +3,17 @@ use Rattle.std.specs.Prelude.{◌≡◌, ⊤, ℕ, suc, true, List, [], ◌∷�
 use Rattle.rx_terms.specs.Text.{Chars}
 use Rattle.rx_microdata.specs.Elements.{Placed, is_item, names_of, is_top_level}
 use Rattle.rx_item_table.specs.Rows.{properties_in}
-use Rattle.rx_item_table.specs.Showing.{ShowsWord, ShowsValue}
+use Rattle.rx_item_table.specs.Showing.{Stands, ShowsWord, ShowsValue}
 use Rattle.rx_item_properties.specs.Properties.{gathered}
 use Rattle.rx_item_properties.specs.declared.kept.Element.{Element}
 use Rattle.rx_item_properties.specs.declared.kept.Kept.{Kept}
+use Rattle.rx_item_properties.specs.declared.kept.Tokens.{Tokens}
+use Rattle.rx_item_properties.specs.declared.kept.Tokens.TheVariants as tokens
+
+-- the tokens of an attribute, by what is kept of tags
+abbrev pub ShowsTokens : Chars → Tokens → List Chars → Type 0
+ShowsTokens words (tokens.One span) texts = (token : Chars) × (texts ≡ token ∷ []) × Stands words span token
+ShowsTokens words (tokens.Many list) texts = list.items ≡ texts
 
 -- by what is kept of tags, the text that was gathered, and the own texts of times
 pub record ShowsElement (words gathered : Chars) (times : List Chars) (e : Element) (p : Placed) : Type 0 where
@@ -14,8 +21,8 @@ pub record ShowsElement (words gathered : Chars) (times : List Chars) (e : Eleme
   pub at : e.at ≡ p.facts.at
   pub is_item : e.is_item ≡ is_item p
   pub is_top : e.is_top ≡ is_top_level p
-  pub names : e.names.items ≡ names_of p
-  pub types : e.types.items ≡ p.facts.types
+  pub names : ShowsTokens words e.names (names_of p)
+  pub types : ShowsTokens words e.types p.facts.types
   pub item_id : ShowsWord words e.item_id p.facts.item_id
   pub value : ShowsValue words gathered times e.value p.facts.value
 
@@ -43,4 +50,4 @@ pub record HoldsRows (kept : Kept) (rows : List Placed) (base : Chars) : Type 0 
   pub base_is : kept.base ≡ base
   pub numbered : Numbered 0 rows
   pub reached : (root : Placed) (e : Element) → slice_get rows root.place ≡ Some root → slice_get kept.elements.items root.place ≡ Some e → is_item root ≡ true
-      → (x : ℕ) → Contains (gathered kept.members.items e.reach.items root.place) x ↔ Contains (places (properties_in rows root)) x
+      → (x : ℕ) → Contains (gathered kept.members.items (e.reach.own ∷ e.reach.others.items) root.place) x ↔ Contains (places (properties_in rows root)) x

@@ -1,43 +1,54 @@
 //! The tokens of a text, each once.
-ghost use Rattle.std.specs.Prelude.{◌≡◌, ℕ, List, [], ◌∷◌, ◌++◌, ◌||◌, not, IfOk, IfSome, OnOk};
+ghost use Rattle.std.specs.Prelude.{◌≡◌, ℕ, List, [], ◌∷◌, ◌++◌, ◌||◌, not, true, IfOk, OnOk};
+ghost use Rattle.std.specs.Char.{is_ascii_whitespace};
+ghost use Rattle.std.specs.List.{position};
 ghost use Rattle.std.specs.Str.{chars};
-ghost use Rattle.rx_terms.specs.Text.{tokens};
+ghost use Rattle.rx_terms.specs.Text.{Chars, tokens};
 ghost use Rattle.rx_grammar.specs.Names.{same};
 ghost use Rattle.rx_microdata.specs.Facts.{distinct_tokens};
+ghost use Rattle.rx_item_table.specs.Showing.{Stands};
 ghost use Rattle.rx_item_properties.specs.Distinct.{has_text};
+ghost use Rattle.rx_item_properties.specs.Held.{ShowsTokens};
 
+use crate::kept::Tokens;
+use rx_item_table::{Span, text_of};
 use rx_terms::{NoMemory, Text};
+use rx_values::TextStore;
 use rx_words::first_token;
 use std::alloc::Global;
 use std::collections::BTreeSet;
 
-/// The tokens of a text in order, without those that stood before.
-pub(crate) fn distinct(alloc: Global, text: &str) -> Result<Vec<Text>, NoMemory>
-    ensures { IfOk result (λ list. list.items ≡ distinct_tokens (chars text.now)) }
+/// The tokens of an attribute's value, which stands there in what is kept of tags, without those that stood before.
+pub(crate) fn tokens_at(alloc: Global, words: &TextStore, span: Span) -> Result<Tokens, NoMemory>
+    ensures { (part : Chars) → Stands words.now span part → IfOk result (λ tokens. ShowsTokens words.now tokens (distinct_tokens part)) }
 {
-    // most texts have one, for which no set is needed
-    let Some(token) = only_token(text) else {
-        return distinct_of_many(alloc, text);
-    };
-    let mut list = Vec::new(alloc);
-    push_text(alloc, &mut list, token)?;
-    Ok(list)
+    let text = text_of(words, span);
+    // most are, and need no memory of their own
+    if is_token(text) {
+        return Ok(Tokens::One(span));
+    }
+    let list = distinct(alloc, text)?;
+    Ok(Tokens::Many(list))
 }
 
-/// The token of a text that has no other.
-fn only_token(text: &str) -> Option<&str>
-    ensures { IfSome result (λ token. tokens (chars text.now) ≡ chars token.now ∷ []) }
+/// Whether the text is a token and nothing else.
+fn is_token(text: &str) -> bool
+    ensures { result ≡ true → tokens (chars text.now) ≡ chars text.now ∷ [] }
 {
-    let Some((token, behind)) = first_token(text) else {
-        return None;
-    };
-    match first_token(behind) {
-        Some(_) => None,
-        None => Some(token),
+    match first_white(text) {
+        Some(_) => false,
+        None => !text.is_empty(),
     }
 }
 
-fn distinct_of_many(alloc: Global, text: &str) -> Result<Vec<Text>, NoMemory>
+fn first_white(text: &str) -> Option<usize>
+    ensures { result ≡ position is_ascii_whitespace text.now }
+{
+    text.bytes().position(|b| b.is_ascii_whitespace())
+}
+
+/// The tokens of a text in order, without those that stood before.
+fn distinct(alloc: Global, text: &str) -> Result<Vec<Text>, NoMemory>
     ensures { IfOk result (λ list. list.items ≡ distinct_tokens (chars text.now)) }
 {
     let mut seen = BTreeSet::new(alloc);

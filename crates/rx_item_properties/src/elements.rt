@@ -9,15 +9,15 @@ ghost use Rattle.rx_item_properties.specs.Built.{Builds, Built};
 ghost use Rattle.rx_terms.specs.Text.{Chars};
 ghost use Rattle.rx_microdata.specs.Elements.{Placed};
 ghost use Rattle.rx_microdata.specs.Facts.{distinct_tokens};
-ghost use Rattle.rx_item_properties.specs.Held.{ShowsElement};
+ghost use Rattle.rx_item_properties.specs.Held.{ShowsElement, ShowsTokens};
 ghost use Rattle.rx_item_table.specs.Showing.{ShowsRow, ShowsWord};
 
-use crate::distinct::distinct;
-use crate::kept::{Element, Run};
-use crate::reaches::reach_of;
+use crate::distinct::tokens_at;
+use crate::kept::{Element, Reach, Tokens};
+use crate::reaches::{no_reach, reach_of};
 use crate::references::starts_of;
-use rx_item_table::{Row, Span, text_of};
-use rx_terms::{NoMemory, Text};
+use rx_item_table::{Row, Span};
+use rx_terms::NoMemory;
 use rx_values::TextStore;
 use std::alloc::Global;
 use std::collections::BTreeMap;
@@ -33,7 +33,7 @@ pub(crate) fn elements_of(
     ensures { (text : Chars) (times : List Chars) (tree : Tree) (members : List ℕ) → Sorted words.now text times rows.now (rows_of tree) keys.now members → IsNonDecreasing keys.now
         → Looks ids.now (look_in (rows_of tree)) → IfOk result (λ elements. Built words.now text times (rows_of tree) members (length rows.now) elements.items) }
 {
-    let mut elements = Vec::new(alloc);
+    let mut elements = Vec::with_capacity(alloc, rows.len())?;
     for place in 0..rows.len() {
         let element = built(alloc, words, rows, keys, ids, place)?;
         add_element(&mut elements, element)?;
@@ -67,6 +67,10 @@ fn built(
         → Looks ids.now (look_in (rows_of tree)) → IfOk result (λ element. Builds words.now text times (rows_of tree) members place element) }
 {
     let row = &rows[place];
+    if !row.head.is_item {
+        let plain = element_of(alloc, words, row, no_reach(alloc))?;
+        return Ok(plain);
+    }
     let starts = starts_of(alloc, words, ids, row.head.words.references)?;
     let reach = reach_of(alloc, rows, keys, starts.as_slice(), place)?;
     let element = element_of(alloc, words, row, reach)?;
@@ -78,7 +82,7 @@ fn element_of(
     alloc: Global,
     words: &TextStore,
     row: &Row,
-    reach: Vec<Run>,
+    reach: Reach,
 ) -> Result<Element, NoMemory>
     ensures shown { (gathered : Chars) (times : List Chars) (p : Placed) → ShowsRow words.now gathered times row.now p → IfOk result (λ element. ShowsElement words.now gathered times element p) }
     ensures reach { IfOk result (λ element. element.reach ≡ reach) }
@@ -105,12 +109,12 @@ fn element_of(
     })
 }
 
-/// The tokens of a text, each once, where there is one.
-fn tokens_of(alloc: Global, words: &TextStore, span: Option<Span>) -> Result<Vec<Text>, NoMemory>
-    ensures { (word : Option Chars) → ShowsWord words.now span word → IfOk result (λ list. list.items ≡ distinct_tokens (unwrap_or word [])) }
+/// The tokens of an attribute's value, each once, where there is one.
+fn tokens_of(alloc: Global, words: &TextStore, span: Option<Span>) -> Result<Tokens, NoMemory>
+    ensures { (word : Option Chars) → ShowsWord words.now span word → IfOk result (λ tokens. ShowsTokens words.now tokens (distinct_tokens (unwrap_or word []))) }
 {
     match span {
-        Some(span) => distinct(alloc, text_of(words, span)),
-        None => Ok(Vec::new(alloc)),
+        Some(span) => tokens_at(alloc, words, span),
+        None => Ok(Tokens::Many(Vec::new(alloc))),
     }
 }

@@ -1,24 +1,69 @@
 //! The properties of an item.
-ghost use Rattle.std.specs.Prelude.{◌≡◌, ◌++◌, ℕ, Contains, ◌↔◌, IfOk, OnOk, filter, take, drop};
+ghost use Rattle.std.specs.Prelude.{◌≡◌, ◌++◌, ℕ, Contains, ◌↔◌, ◌∷◌, IfOk, IfSome, OnOk, filter, take, drop};
 ghost use Rattle.std.specs.Ordering.{nat_cmp};
 ghost use Rattle.std.specs.List.Sorted.{IsStrictlySortedBy};
-ghost use Rattle.rx_item_properties.specs.Properties.{part, gathered, in_runs, is_other};
+ghost use Rattle.rx_item_properties.specs.Properties.{part, gathered, is_other, are_listed, rise_behind, is_next};
 
-use crate::kept::Run;
+use crate::kept::{Reach, Run};
 use rx_terms::NoMemory;
 use std::alloc::Global;
 
-/// The places of an item's properties, which rise: those in these runs of members, but for the item's own.
+/// The places of an item's properties, which rise, where they stand so among the members.
+pub fn listed<'a>(members: &'a [usize], reach: &Reach, place: usize) -> Option<&'a [usize]>
+    ensures rise { IfSome result (λ list. IsStrictlySortedBy nat_cmp list.now) }
+    ensures same { IfSome result (λ list. (x : ℕ) → Contains list.now x ↔ Contains (gathered members.now (reach.now.own ∷ reach.now.others.items) place) x) }
+{
+    if !reach.others.as_slice().is_empty() {
+        return None;
+    }
+    let list = part(members, reach.own);
+    if are_listed(list, place) {
+        Some(list)
+    } else {
+        None
+    }
+}
+
+/// Whether the places rise and none of them is this one.
+fn are_listed(list: &[usize], place: usize) -> bool
+    ensures { result ≡ are_listed place list.now }
+{
+    match list.split_first() {
+        Some((first, rest)) => *first != place && rise_behind(*first, rest, place),
+        None => true,
+    }
+}
+
+fn rise_behind(first: usize, list: &[usize], place: usize) -> bool
+    ensures { result ≡ rise_behind place first list.now }
+{
+    let mut before = first;
+    for member in list {
+        if !is_next(before, *member, place) {
+            return false;
+        }
+        before = *member;
+    }
+    true
+}
+
+fn is_next(before: usize, member: usize, place: usize) -> bool
+    ensures { result ≡ is_next place before member }
+{
+    before < member && member != place
+}
+
+/// The places of an item's properties, which rise: those of the members that it reaches, but for its own.
 pub fn properties(
     alloc: Global,
     members: &[usize],
-    runs: &[Run],
+    reach: &Reach,
     place: usize,
 ) -> Result<Vec<usize>, NoMemory>
     ensures rise { IfOk result (λ list. IsStrictlySortedBy nat_cmp list.items) }
-    ensures same { IfOk result (λ list. (x : ℕ) → Contains list.items x ↔ Contains (gathered members.now runs.now place) x) }
+    ensures same { IfOk result (λ list. (x : ℕ) → Contains list.items x ↔ Contains (gathered members.now (reach.now.own ∷ reach.now.others.items) place) x) }
 {
-    let mut list = gathered(alloc, members, runs, place)?;
+    let mut list = gathered(alloc, members, reach, place)?;
     list.sort_unstable();
     list.dedup();
     Ok(list)
@@ -27,13 +72,14 @@ pub fn properties(
 fn gathered(
     alloc: Global,
     members: &[usize],
-    runs: &[Run],
+    reach: &Reach,
     place: usize,
 ) -> Result<Vec<usize>, NoMemory>
-    ensures { IfOk result (λ list. list.items ≡ gathered members.now runs.now place) }
+    ensures { IfOk result (λ list. list.items ≡ gathered members.now (reach.now.own ∷ reach.now.others.items) place) }
 {
     let mut list = Vec::new(alloc);
-    for run in runs {
+    add_others(&mut list, part(members, reach.own), place)?;
+    for run in &reach.others {
         add_others(&mut list, part(members, *run), place)?;
     }
     Ok(list)

@@ -10,6 +10,24 @@ pub struct Run {
     pub to: usize,
 }
 
+/// The members that an item reaches, of which its properties are those other than itself. The runs share none.
+#[derive(Drop)]
+pub struct Reach {
+    /// Those of which the item is the nearest one around, where it refers to no element; else none.
+    pub own: Run,
+    /// All of them, where it refers to some.
+    pub others: Vec<Run>,
+}
+
+/// The tokens of an attribute, each once.
+#[derive(Drop)]
+pub enum Tokens {
+    /// The only one, where it stands in what is kept of tags.
+    One(Span),
+    /// None, or several.
+    Many(Vec<Text>),
+}
+
 /// An element that matters.
 #[derive(Drop)]
 pub struct Element {
@@ -17,14 +35,12 @@ pub struct Element {
     pub at: u64,
     pub is_item: bool,
     pub is_top: bool,
-    /// Its property names, each once.
-    pub names: Vec<Text>,
-    /// Its types, each once.
-    pub types: Vec<Text>,
+    pub names: Tokens,
+    pub types: Tokens,
     pub item_id: Option<Span>,
     pub value: RowValue,
-    /// The members that are properties of this item.
-    pub reach: Vec<Run>,
+    /// Of an item, what it reaches.
+    pub reach: Reach,
 }
 
 /// The elements that matter, those with names once more by the items around them, the texts of both, and the base.

@@ -16,8 +16,8 @@ mod reaches;
 mod references;
 mod starts;
 
-pub use gathering::properties;
-pub use kept::{Element, Kept, Run};
+pub use gathering::{listed, properties};
+pub use kept::{Element, Kept, Reach, Run, Tokens};
 pub use parts::kept_of;
 pub use rx_item_table::{PageRows, RowValue, Span, TextStore};
 pub use rx_terms::{Iri, NoMemory, Text};

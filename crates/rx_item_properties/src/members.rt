@@ -83,7 +83,7 @@ pub(crate) fn between(keys: &[u128], scope: Option<usize>, from: usize, to: usiz
 pub(crate) fn places_of(alloc: Global, keys: &[u128]) -> Result<Vec<usize>, NoMemory>
     ensures { IfOk result (λ places. places.items ≡ map (λ key. key % 18446744073709551615) keys.now) }
 {
-    let mut places = Vec::new(alloc);
+    let mut places = Vec::with_capacity(alloc, keys.len())?;
     for key in keys {
         let Ok(()) = places.push((*key % PLACES) as usize) else {
             return Err(NoMemory);

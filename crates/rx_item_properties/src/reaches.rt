@@ -1,5 +1,5 @@
 //! The runs of members that are properties of an item.
-ghost use Rattle.std.specs.Prelude.{◌≡◌, ◌++◌, ℕ, List, Contains, ◌↔◌, IfOk, OnOk};
+ghost use Rattle.std.specs.Prelude.{◌≡◌, ◌≢◌, ◌++◌, [], ◌∷◌, ℕ, List, Contains, ◌↔◌, IfOk, OnOk};
 ghost use Rattle.std.specs.List.Sorted.{IsNonDecreasing};
 ghost use Rattle.rx_terms.specs.Text.{Chars};
 ghost use Rattle.rx_grammar.specs.Trees.{Tree};
@@ -10,14 +10,49 @@ ghost use Rattle.rx_item_properties.specs.Properties.{in_runs, part};
 ghost use Rattle.rx_item_properties.specs.Starts.{RunsReach};
 
 use crate::disjoint::{disjoint, sort_by_begin};
-use crate::kept::Run;
+use crate::kept::{Reach, Run};
 use crate::starts::{own_run, start_run};
 use rx_item_table::Row;
 use rx_terms::NoMemory;
 use std::alloc::Global;
 
-/// The members that the item at this place has below it, and those that these starts reach, in runs that share none.
+/// The members that the item at this place has below it, and those that these starts reach.
 pub(crate) fn reach_of(
+    alloc: Global,
+    rows: &[Row],
+    keys: &[u128],
+    starts: &[usize],
+    place: usize,
+) -> Result<Reach, NoMemory>
+    ensures reach { (words gathered : Chars) (times : List Chars) (tree : Tree) (members : List ℕ) → Sorted words gathered times rows.now (rows_of tree) keys.now members → IsNonDecreasing keys.now
+        → IfOk result (λ reach. (x : ℕ) → Contains (in_runs members (reach.own ∷ reach.others.items)) x ↔ RunsReach (rows_of tree) place starts.now x) }
+    ensures apart { IfOk result (λ reach. Apart 0 reach.others.items) }
+    ensures one { starts.now ≡ [] → IfOk result (λ reach. reach.others.items ≡ []) }
+    ensures many { starts.now ≢ [] → IfOk result (λ reach. reach.own ≡ record { from = 0; to = 0 }) }
+{
+    if starts.is_empty() {
+        return Ok(Reach {
+            own: own_run(rows, keys, place),
+            others: Vec::new(alloc),
+        });
+    }
+    let others = runs_apart(alloc, rows, keys, starts, place)?;
+    Ok(Reach {
+        own: Run { from: 0, to: 0 },
+        others,
+    })
+}
+
+/// What an element reaches that is no item.
+pub(crate) fn no_reach(alloc: Global) -> Reach {
+    Reach {
+        own: Run { from: 0, to: 0 },
+        others: Vec::new(alloc),
+    }
+}
+
+/// The same members in runs that share none.
+fn runs_apart(
     alloc: Global,
     rows: &[Row],
     keys: &[u128],

@@ -19,12 +19,11 @@ use Rattle.rx_microdata.specs.Visits.{Visit, visits_from, standard_bounds, fault
 use Rattle.rx_microdata.specs.Json.{string_of, item_of, json_of_item, refused, Refused}
 use Rattle.rx_item_table.specs.Rows.{properties_in}
 use Rattle.rx_item_properties.specs.Held.{AllStand, HoldsRows, ShowsElement, places}
-use Rattle.rx_items.specs.Groups.{with_last}
 use Rattle.rx_items.specs.Expanding.{At, path_of, kind_of, NoFault, FaultIs, Told, Finds, Did, Goes, Enters, Step, with_name, steps_of, steps_in, visits_of, visits_in, data_of, pair_of, grouped_in}
 use Rattle.rx_item_properties.specs.declared.kept.Element.{Element}
 use Rattle.rx_item_properties.specs.declared.kept.Kept.{Kept}
 use Rattle.rx_items.specs.declared.visits.Trail.{Trail}
-use Rattle.rx_items.proofs.FoundLemmas.{none_then, none_at_all, fault_is, path_size, steps_pairs, steps_visits, did_more, fault_more, fault_stays}
+use Rattle.rx_items.proofs.FoundLemmas.{none_then, none_at_all, fault_is, path_size, steps_pairs, steps_visits, fault_more, fault_stays}
 use Rattle.rx_item_properties.proofs.TakeLemmas.{cut_at, one_more}
 use Rattle.rx_item_properties.proofs.HoldLemmas.{list_is, has_element, shows_at, all_stand, place_is}
 
@@ -48,30 +47,39 @@ shown_in {kept} {rows} place element e at row found = shows_at kept.words kept.t
 module _ (rows : List Placed) (base : Chars) (above : Visit) (left : ℕ) where
   -- ---- a property under each of its names
 
-  pub value_err : (start before : ℕ) (done : List Step) (e : Placed) (names : List Chars) (i : ℕ) (old : Members) (x : Stop) → names ≡ names_of e → i < length names
-      → Did rows base above left start (done ++ map (with_name e) (take i names)) before old → Told before (visits_of rows base above left e) x
-      → Told start (visits_in rows base above left (done ++ steps_of e)) x
-  value_err start before done e names i old stop.NoMemory is lt d f = tt
-  value_err start before done e names i old (stop.Fault fault) is lt d f =
-      let name = get_or names i [] in
-      let all : done ++ steps_of e ≡ (done ++ map (with_name e) (take i names)) ++ (with_name e name ∷ map (with_name e) (drop (i + 1) names)) =
-      ap (λ (ns : List Chars). done ++ map (with_name e) ns) (sym is ∙ cut_at names i [] lt)
-      ∙ ap (λ (l : List Step). done ++ l) (map-append (with_name e) (take i names) (name ∷ drop (i + 1) names))
-      ∙ sym (append_assoc done (map (with_name e) (take i names)) (with_name e name ∷ map (with_name e) (drop (i + 1) names))) in
-      subst (λ (steps : List Step). FaultIs start (visits_in rows base above left steps) fault) (sym all)
-      (fault_more rows base above left start before (done ++ map (with_name e) (take i names)) (map (with_name e) (drop (i + 1) names)) e name old fault d f)
+  pub named_err : (start before : ℕ) (done : List Step) (e : Placed) (name : Chars) (old : Members) (x : Stop) → Did rows base above left start done before old
+      → Told before (visits_of rows base above left e) x → Told start (visits_in rows base above left (done ++ with_name e name ∷ [])) x
+  named_err start before done e name old stop.NoMemory d f = tt
+  named_err start before done e name old (stop.Fault fault) d f = fault_more rows base above left start before done [] e name old fault d f
 
-  pub value_on : (start before after : ℕ) (done : List Step) (e : Placed) (names : List Chars) (i : ℕ) (name : Chars) (old new : Members) → i < length names → name ≡ get_or names i name
-      → Did rows base above left start (done ++ map (with_name e) (take i names)) before old → NoFault before (visits_of rows base above left e) after
-      → new ≡ with_last (encode_utf8_all name) (data_of rows base above left e) old
+  pub each_err : (start : ℕ) (done : List Step) (e : Placed) (names : List Chars) (i : ℕ) (name : Chars) (x : Stop) → names ≡ names_of e → i < length names → name ≡ get_or names i name
+      → Told start (visits_in rows base above left ((done ++ map (with_name e) (take i names)) ++ with_name e name ∷ [])) x → Told start (visits_in rows base above left (done ++ steps_of e)) x
+  each_err start done e names i name stop.NoMemory is lt at f = tt
+  each_err start done e names i name (stop.Fault fault) is lt at f =
+      let front = done ++ map (with_name e) (take i names) in
+      let all : done ++ steps_of e ≡ (front ++ with_name e name ∷ []) ++ map (with_name e) (drop (i + 1) names) =
+      ap (λ (ns : List Chars). done ++ map (with_name e) ns) (sym is ∙ cut_at names i name lt ∙ ap (λ (n : Chars). take i names ++ (n ∷ drop (i + 1) names)) (sym at))
+      ∙ ap (λ (l : List Step). done ++ l) (map-append (with_name e) (take i names) (name ∷ drop (i + 1) names))
+      ∙ sym (append_assoc done (map (with_name e) (take i names)) (with_name e name ∷ map (with_name e) (drop (i + 1) names)))
+      ∙ sym (append_assoc front (with_name e name ∷ []) (map (with_name e) (drop (i + 1) names))) in
+      subst (λ (steps : List Step). FaultIs start (visits_in rows base above left steps) fault) (sym all)
+      (fault_stays rows base above left start (front ++ with_name e name ∷ []) (map (with_name e) (drop (i + 1) names)) fault f)
+
+  pub each_on : (start after : ℕ) (done : List Step) (e : Placed) (names : List Chars) (i : ℕ) (name : Chars) (new : Members) → i < length names → name ≡ get_or names i name
+      → Did rows base above left start ((done ++ map (with_name e) (take i names)) ++ with_name e name ∷ []) after new
       → Did rows base above left start (done ++ map (with_name e) (take (i + 1) names)) after new
-  value_on start before after done e names i name old new lt is d f g =
+  each_on start after done e names i name new lt is d =
       let all : (done ++ map (with_name e) (take i names)) ++ with_name e name ∷ [] ≡ done ++ map (with_name e) (take (i + 1) names) =
       append_assoc done (map (with_name e) (take i names)) (with_name e name ∷ [])
       ∙ ap (λ (l : List Step). done ++ l) (sym (map-append (with_name e) (take i names) (name ∷ [])))
       ∙ ap (λ (ns : List Chars). done ++ map (with_name e) ns) (ap (λ (n : Chars). take i names ++ n ∷ []) is ∙ sym (one_more names i name lt)) in
-      subst (λ (steps : List Step). Did rows base above left start steps after new) all
-      (did_more rows base above left start before after (done ++ map (with_name e) (take i names)) e name old new d f g)
+      subst (λ (steps : List Step). Did rows base above left start steps after new) all d
+
+  -- the only name
+  pub one_name : (start visits : ℕ) (done : List Step) (e : Placed) (token : Chars) (members : Members) (r : Result (Unit {0}) Stop) → names_of e ≡ token ∷ []
+      → Goes rows base above left start (done ++ with_name e token ∷ []) visits members r → Goes rows base above left start (done ++ steps_of e) visits members r
+  one_name start visits done e token members r names g =
+      subst (λ (steps : List Step). Goes rows base above left start (done ++ steps) visits members r) (sym (ap (map (with_name e)) names)) g
 
   pub names_end : (start visits : ℕ) (done : List Step) (e : Placed) (names : List Chars) (i : ℕ) (members : Members) → names ≡ names_of e → length names ≤ i
       → Did rows base above left start (done ++ map (with_name e) (take i names)) visits members → Did rows base above left start (done ++ steps_of e) visits members

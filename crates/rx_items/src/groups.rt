@@ -88,7 +88,7 @@ pub(crate) fn push_to(list: &mut Vec<Value>, value: Value) -> Result<(), NoMemor
 }
 
 /// An array of one value.
-fn one_value(alloc: Global, value: Value) -> Result<Value, NoMemory>
+pub(crate) fn one_value(alloc: Global, value: Value) -> Result<Value, NoMemory>
     ensures { IfOk result (λ values. view values ≡ array (item (view value) no_items)) }
 {
     let mut list = Vec::new(alloc);

@@ -1,11 +1,17 @@
 //! The JSON of an item, of its parts.
-ghost use Rattle.std.specs.Prelude.{◌≡◌, map, option_map, codes, IfOk, OnOk};
-ghost use Rattle.serde_json.specs.Data.{Data, Members, array, member, no_members, object, put, string};
+ghost use Rattle.std.specs.Prelude.{◌≡◌, List, map, option_map, codes, IfOk, OnOk};
+ghost use Rattle.std.specs.Str.{chars};
+ghost use Rattle.serde_json.specs.Data.{Data, Members, array, item, member, no_items, no_members, object, put, string};
 ghost use Rattle.serde_json.specs.View.{items_view, members_view, view};
 ghost use Rattle.rx_microdata.specs.Json.{list_of, string_of, with_types};
-ghost use Rattle.rx_items.specs.Objects.{object_of, with_id_value};
+ghost use Rattle.rx_terms.specs.Text.{Chars};
+ghost use Rattle.rx_item_properties.specs.Held.{ShowsTokens};
+ghost use Rattle.rx_items.specs.Objects.{object_of, types_data, with_id_value};
 
-use crate::groups::push_to;
+use crate::groups::{one_value, push_to};
+use crate::readings::text_value;
+use rx_item_properties::Tokens;
+use rx_item_table::{TextStore, text_of};
 use rx_terms::{NoMemory, Text};
 use serde_json::{Map, Value};
 use std::alloc::Global;
@@ -14,13 +20,14 @@ use std::alloc::Global;
 pub(crate) fn item_object(
     alloc: Global,
     id: Option<Value>,
-    types: &[Text],
+    words: &TextStore,
+    types: &Tokens,
     properties: Map<String, Value>,
 ) -> Result<Value, NoMemory>
-    ensures { IfOk result (λ value. view value ≡ object_of (option_map view id) types.now (members_view properties.entries)) }
+    ensures { (texts : List Chars) → ShowsTokens words.now types.now texts → IfOk result (λ value. view value ≡ object_of (option_map view id) texts (members_view properties.entries)) }
 {
     let members = with_properties(alloc, properties)?;
-    let members = with_types(alloc, members, types)?;
+    let members = with_types(alloc, members, words, types)?;
     let members = with_id(alloc, members, id)?;
     Ok(Value::Object(members))
 }
@@ -49,17 +56,52 @@ fn with_properties(
 fn with_types(
     alloc: Global,
     members: Map<String, Value>,
-    types: &[Text],
+    words: &TextStore,
+    types: &Tokens,
 ) -> Result<Map<String, Value>, NoMemory>
-    ensures { IfOk result (λ new. (properties : Data) → members_view members.entries ≡ member (codes "properties") properties no_members
-        → members_view new.entries ≡ member (codes "properties") properties (with_types types.now no_members)) }
+    ensures { (texts : List Chars) → ShowsTokens words.now types.now texts → IfOk result (λ new. (properties : Data) → members_view members.entries ≡ member (codes "properties") properties no_members
+        → members_view new.entries ≡ member (codes "properties") properties (with_types texts no_members)) }
 {
-    if types.is_empty() {
+    let Ok(value) = types_value(alloc, words, types) else {
+        drop(members);
+        return Err(NoMemory);
+    };
+    let Some(value) = value else {
         return Ok(members);
-    }
+    };
     let mut members = members;
-    put(alloc, &mut members, "type", texts_value(alloc, types)?)?;
+    put(alloc, &mut members, "type", value)?;
     Ok(members)
+}
+
+/// The list of an item's types, where it has any.
+fn types_value(alloc: Global, words: &TextStore, types: &Tokens) -> Result<Option<Value>, NoMemory>
+    ensures { (texts : List Chars) → ShowsTokens words.now types.now texts → IfOk result (λ value. option_map view value ≡ types_data texts) }
+{
+    match types {
+        Tokens::One(span) => {
+            let value = one_text(alloc, text_of(words, *span))?;
+            Ok(Some(value))
+        }
+        Tokens::Many(list) => many_texts(alloc, list.as_slice()),
+    }
+}
+
+fn one_text(alloc: Global, text: &str) -> Result<Value, NoMemory>
+    ensures { IfOk result (λ value. view value ≡ array (item (string_of (chars text.now)) no_items)) }
+{
+    let value = text_value(alloc, text)?;
+    one_value(alloc, value)
+}
+
+fn many_texts(alloc: Global, texts: &[Text]) -> Result<Option<Value>, NoMemory>
+    ensures { IfOk result (λ value. option_map view value ≡ types_data texts.now) }
+{
+    if texts.is_empty() {
+        return Ok(None);
+    }
+    let value = texts_value(alloc, texts)?;
+    Ok(Some(value))
 }
 
 /// With the id where there is one.

@@ -1,13 +1,13 @@
 //! The value of a property that is no item, and the id of an item, as JSON.
 ghost use Rattle.std.specs.Prelude.{◌≡◌, [], IfOk, Option, option_map, slice_get, unwrap_or};
-ghost use Rattle.std.specs.Str.{chars};
+ghost use Rattle.std.specs.Str.{chars, encode_utf8_all};
 ghost use Rattle.serde_json.specs.View.{view};
 ghost use Rattle.rx_terms.specs.Text.{Chars};
 ghost use Rattle.rx_refs.specs.Resolve.{resolved};
 ghost use Rattle.rx_microdata.specs.Facts.{said};
 ghost use Rattle.rx_microdata.specs.Facts as facts;
 ghost use Rattle.rx_microdata.specs.Json.{string_of};
-ghost use Rattle.rx_item_table.specs.Showing.{ShowsValue, ShowsWord};
+ghost use Rattle.rx_item_table.specs.Showing.{ShowsValue, ShowsWord, Stands};
 
 use crate::objects::string_value;
 use rx_item_properties::Kept;
@@ -49,6 +49,13 @@ pub(crate) fn id_value(
     Ok(Some(value))
 }
 
+/// The token that stands there in what is kept of tags.
+pub(crate) fn token_at(words: &TextStore, span: Span) -> &str
+    ensures { (token : Chars) → Stands words.now span token → result.now ≡ encode_utf8_all token }
+{
+    text_of(words, span)
+}
+
 /// The own text of a `time`, by its number.
 fn own_value(alloc: Global, times: &[TextStore], number: usize) -> Result<Value, NoMemory>
     ensures { IfOk result (λ json. view json ≡ string_of (unwrap_or (slice_get times.now number) [])) }
@@ -69,7 +76,7 @@ fn reference_value(alloc: Global, base: &Iri, reference: &str) -> Result<Value, 
 }
 
 /// The text as a string.
-fn text_value(alloc: Global, text: &str) -> Result<Value, NoMemory>
+pub(crate) fn text_value(alloc: Global, text: &str) -> Result<Value, NoMemory>
     ensures { IfOk result (λ json. view json ≡ string_of (chars text.now)) }
 {
     let value = string_value(alloc, text)?;

@@ -1,24 +1,25 @@
 //! The visits of a page's items, and the JSON that they come to.
 ghost use Rattle.std.specs.Prelude.{◌≡◌, ⊤, suc, ◌+◌, ◌++◌, ◌∷◌, [], ℕ, List, Option, Some, None, true, slice_get, length, ◌==◌, nat_le, IfOk, OnOk, MatchResult};
 ghost use Rattle.std.specs.List.{list_any};
+ghost use Rattle.std.specs.Str.{encode_utf8_all};
 ghost use Rattle.serde_json.specs.Data.{Data, Members, no_members};
 ghost use Rattle.serde_json.specs.View.{members_view, view};
 ghost use Rattle.rx_terms.specs.Text.{Chars};
 ghost use Rattle.rx_grammar.specs.declared.faults.Kind.{Kind};
-ghost use Rattle.rx_microdata.specs.Elements.{Placed, is_item};
+ghost use Rattle.rx_microdata.specs.Elements.{Placed, is_item, names_of};
 ghost use Rattle.rx_microdata.specs.Visits.{Visit, visits_from};
 ghost use Rattle.rx_microdata.specs.Json.{grouped, item_of, json_of_item};
 ghost use Rattle.rx_item_table.specs.Rows.{properties_in};
 ghost use Rattle.rx_item_properties.specs.Held.{AllStand, HoldsRows, ShowsElement, places};
-ghost use Rattle.rx_items.specs.Expanding.{At, Enters, Did, Finds, Goes, Step, data_of, grouped_in, kind_of, steps_in, steps_of, visits_in, visits_of};
+ghost use Rattle.rx_items.specs.Expanding.{At, Enters, Did, Finds, Goes, Step, data_of, grouped_in, kind_of, steps_in, steps_of, visits_in, visits_of, with_name};
 
 use crate::groups::add_value;
 use crate::objects::item_object;
-use crate::readings::{id_value, plain_value};
+use crate::readings::{id_value, plain_value, token_at};
 use rx_grammar::{Fault, Kind};
-use rx_item_properties::{Element, Kept, properties};
+use rx_item_properties::{Element, Kept, Tokens, listed, properties};
 use rx_tags::Stop;
-use rx_terms::NoMemory;
+use rx_terms::{NoMemory, Text};
 use serde_json::{Map, Value};
 use std::alloc::Global;
 
@@ -133,17 +134,54 @@ fn group_of(
         → Finds trail.old.visits (visits_in rows base above left (steps_in (properties_in rows root))) trail.new.visits
         (λ group. members_view group.entries ≡ grouped_in rows base above left (steps_in (properties_in rows root))) result }
 {
-    let Ok(list) = properties(
-        alloc,
-        kept.members.as_slice(),
-        element.reach.as_slice(),
-        place,
-    ) else {
+    let mut group = Map::new(alloc);
+    fill_item(alloc, kept, trail, &mut group, element, place)?;
+    Ok(group)
+}
+
+/// Puts the values of an item's properties under their names.
+#[cycle(visit)]
+fn fill_item(
+    alloc: Global,
+    kept: &Kept,
+    trail: &mut Trail,
+    group: &mut Map<String, Value>,
+    element: &Element,
+    place: usize,
+) -> Result<(), Stop>
+    ensures path { OnOk result (trail.new.path.items ≡ trail.old.path.items) }
+    ensures finds { (rows : List Placed) (base : Chars) (above : Visit) (left : ℕ) (root : Placed) → At kept.now rows base trail.old.path.items above left
+        → slice_get rows place ≡ Some root → slice_get kept.now.elements.items place ≡ Some element.now → is_item root ≡ true → members_view group.old.entries ≡ no_members
+        → Finds trail.old.visits (visits_in rows base above left (steps_in (properties_in rows root))) trail.new.visits
+        (λ done. members_view group.new.entries ≡ grouped_in rows base above left (steps_in (properties_in rows root))) result }
+{
+    // most items refer to no element, and then the places stand in a row already
+    match listed(kept.members.as_slice(), &element.reach, place) {
+        Some(list) => fill(alloc, kept, trail, group, list),
+        None => fill_sorted(alloc, kept, trail, group, element, place),
+    }
+}
+
+/// The same, of places that have to be sorted first.
+#[cycle(visit)]
+fn fill_sorted(
+    alloc: Global,
+    kept: &Kept,
+    trail: &mut Trail,
+    group: &mut Map<String, Value>,
+    element: &Element,
+    place: usize,
+) -> Result<(), Stop>
+    ensures path { OnOk result (trail.new.path.items ≡ trail.old.path.items) }
+    ensures finds { (rows : List Placed) (base : Chars) (above : Visit) (left : ℕ) (root : Placed) → At kept.now rows base trail.old.path.items above left
+        → slice_get rows place ≡ Some root → slice_get kept.now.elements.items place ≡ Some element.now → is_item root ≡ true → members_view group.old.entries ≡ no_members
+        → Finds trail.old.visits (visits_in rows base above left (steps_in (properties_in rows root))) trail.new.visits
+        (λ done. members_view group.new.entries ≡ grouped_in rows base above left (steps_in (properties_in rows root))) result }
+{
+    let Ok(list) = properties(alloc, kept.members.as_slice(), &element.reach, place) else {
         return Err(Stop::NoMemory);
     };
-    let mut group = Map::new(alloc);
-    fill(alloc, kept, trail, &mut group, list.as_slice())?;
-    Ok(group)
+    fill(alloc, kept, trail, group, list.as_slice())
 }
 
 /// Puts the values of these properties under their names.
@@ -201,12 +239,61 @@ fn add_values(
         → slice_get rows place ≡ Some e → slice_get kept.now.elements.items place ≡ Some element.now → Did rows base above left start done trail.old.visits (members_view group.old.entries)
         → Goes rows base above left start (done ++ steps_of e) trail.new.visits (members_view group.new.entries) result }
 {
-    for name in &element.names {
-        let value = value_of(alloc, kept, trail, element, place)?;
-        let Ok(()) = add_value(alloc, group, name.as_str(), value) else {
-            return Err(Stop::NoMemory);
-        };
+    match &element.names {
+        Tokens::One(span) => {
+            let name = token_at(&kept.words, *span);
+            add_named(alloc, kept, trail, group, element, place, name)
+        }
+        Tokens::Many(names) => {
+            add_each(alloc, kept, trail, group, element, place, names.as_slice())
+        }
     }
+}
+
+/// Puts a value of a property under each of these names, which are all that it has.
+#[cycle(visit)]
+fn add_each(
+    alloc: Global,
+    kept: &Kept,
+    trail: &mut Trail,
+    group: &mut Map<String, Value>,
+    element: &Element,
+    place: usize,
+    names: &[Text],
+) -> Result<(), Stop>
+    ensures path { OnOk result (trail.new.path.items ≡ trail.old.path.items) }
+    ensures finds { (rows : List Placed) (base : Chars) (above : Visit) (left : ℕ) (e : Placed) (done : List Step) (start : ℕ) → At kept.now rows base trail.old.path.items above left
+        → slice_get rows place ≡ Some e → slice_get kept.now.elements.items place ≡ Some element.now → names.now ≡ names_of e
+        → Did rows base above left start done trail.old.visits (members_view group.old.entries)
+        → Goes rows base above left start (done ++ steps_of e) trail.new.visits (members_view group.new.entries) result }
+{
+    for name in names {
+        add_named(alloc, kept, trail, group, element, place, name.as_str())?;
+    }
+    Ok(())
+}
+
+/// Puts a value of a property under a name.
+#[cycle(visit)]
+fn add_named(
+    alloc: Global,
+    kept: &Kept,
+    trail: &mut Trail,
+    group: &mut Map<String, Value>,
+    element: &Element,
+    place: usize,
+    name: &str,
+) -> Result<(), Stop>
+    ensures path { OnOk result (trail.new.path.items ≡ trail.old.path.items) }
+    ensures finds { (rows : List Placed) (base : Chars) (above : Visit) (left : ℕ) (e : Placed) (token : Chars) (done : List Step) (start : ℕ) → At kept.now rows base trail.old.path.items above left
+        → slice_get rows place ≡ Some e → slice_get kept.now.elements.items place ≡ Some element.now → name.now ≡ encode_utf8_all token
+        → Did rows base above left start done trail.old.visits (members_view group.old.entries)
+        → Goes rows base above left start (done ++ with_name e token ∷ []) trail.new.visits (members_view group.new.entries) result }
+{
+    let value = value_of(alloc, kept, trail, element, place)?;
+    let Ok(()) = add_value(alloc, group, name, value) else {
+        return Err(Stop::NoMemory);
+    };
     Ok(())
 }
 
@@ -247,5 +334,5 @@ fn finish(
         drop(group);
         return Err(NoMemory);
     };
-    item_object(alloc, id, element.types.as_slice(), group)
+    item_object(alloc, id, &kept.words, &element.types, group)
 }

@@ -1,16 +1,13 @@
-use Rattle.std.proofs.Common.{◌≡◌}
-use Rattle.rx_item_properties.specs.Disjoint.{unshared}
-use Rattle.rx_item_properties.proofs.DisjointLemmas.{same_members, unshared_apart}
+use Rattle.rx_item_properties.proofs.ReachLemmas.{reach_alone, no_starts, some_starts}
 use Rattle.rx_item_properties.proofs.reaches.reach_of.Goals as goal
 
-pub returns-clause-reach : goal.returns-clause-reach
-returns-clause-reach c words gathered times tree members sorted up x =
-    let runs = c.in_ok-runs.ensures words gathered times tree members sorted up x in
-    let list : c.in_ok-list.list.items ≡ unshared 0 c.sort_by_begin.new.runs.items = rw c.as_slice.ensures.value at c.in_ok-list.ensures in
-    let same = same_members c.in_ok-runs.runs.items c.sort_by_begin.new.runs.items c.in_ok-list.list.items c.sort_by_begin.ensures.same c.sort_by_begin.ensures.sorted list members x in (
-      (λ d. runs.0 (same.0 d)),
-      (λ d. same.1 (runs.1 d)),
-    )
+pub returns-then-is_empty-clause-reach : goal.returns-then-is_empty-clause-reach
+returns-then-is_empty-clause-reach c words gathered times tree members sorted up x =
+    reach_alone words gathered times c.args.rows.now tree c.args.keys.now members sorted c.args.place c.args.starts.now c.own_run.result _
+    (no_starts c.args.starts.now c.is_empty.result c.is_empty.ensures c.if-is_empty.true) c.new.ensures.items (c.own_run.ensures up) x
 
-pub returns-clause-apart : goal.returns-clause-apart
-returns-clause-apart c = rw c.in_ok-list.ensures (unshared_apart 0 c.as_slice.result.now)
+pub returns-then-is_empty-clause-many : goal.returns-then-is_empty-clause-many
+returns-then-is_empty-clause-many c some = absurd (some (no_starts c.args.starts.now c.is_empty.result c.is_empty.ensures c.if-is_empty.true))
+
+pub returns-clause-one : goal.returns-clause-one
+returns-clause-one c none = absurd (some_starts c.args.starts.now c.is_empty.result c.is_empty.ensures c.if-is_empty.false none)

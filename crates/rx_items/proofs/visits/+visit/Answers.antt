@@ -1,4 +1,5 @@
-use Rattle.std.proofs.Common.{◌≡◌, ◌∙◌, ◌++◌, ℕ, suc, List, [], ◌∷◌, ap, sym, subst, rules, Some, Result, Err, Ok, map, take}
+use Rattle.std.proofs.Common.{◌≡◌, ◌∙◌, ◌++◌, ℕ, suc, List, [], ◌∷◌, ap, sym, subst, rules, Contains, ◌↔◌, Some, Result, Err, Ok, map, take}
+use Rattle.rx_microdata.specs.Elements.{names_of}
 use Rattle.serde_json.specs.Data.{no_members}
 use Rattle.serde_json.specs.View.{view, members_view}
 use Rattle.serde_json.specs.declared.value.Value.{Value}
@@ -7,41 +8,67 @@ use Rattle.rx_microdata.specs.Facts.{said}
 use Rattle.rx_microdata.specs.Visits.{visits_from}
 use Rattle.rx_microdata.specs.Json.{string_of, json_of_item}
 use Rattle.rx_item_table.specs.Rows.{properties_in}
+use Rattle.rx_item_properties.specs.Properties.{gathered}
+use Rattle.rx_item_properties.specs.Held.{ShowsTokens}
+use Rattle.rx_item_properties.specs.declared.kept.Tokens.TheVariants as tokens
 use Rattle.rx_items.specs.Groups.{with_last}
 use Rattle.rx_items.specs.Expanding.{Told, Finds, Goes, Did, NoFault, pair_of, steps_in, steps_of, visits_of, visits_in, data_of, grouped_in, with_name}
 use Rattle.rx_item_properties.proofs.HoldLemmas.{list_is, all_stand, place_is}
-use Rattle.rx_items.proofs.VisitLemmas.{err_told, at_path, no_element, shown_in, value_err, value_on, names_end, property_err, property_on, properties_end, value_item, value_plain, row_at, list_end, told, enter_err, enter_ok, group_err, group_ok, json_is}
+use Rattle.rx_items.proofs.FoundLemmas.{did_more}
+use Rattle.rx_items.proofs.VisitLemmas.{err_told, at_path, no_element, shown_in, named_err, each_err, each_on, names_end, one_name, property_err, property_on, properties_end, value_item, value_plain, row_at, list_end, told, enter_err, enter_ok, group_err, group_ok, json_is}
 use Rattle.rx_items.proofs.visits.+visit.Goals as goal
 
 pub add_property-returns-in-None-clause-finds : goal.add_property-returns-in-None-clause-finds
 add_property-returns-in-None-clause-finds t c rows base above left e done start at row did = absurd (no_element c.args.place e at row (rw c.deref.ensures.value at c.in-None.ensures.lookup.3))
 
-pub add_values-returns-in_err-value-clause-finds : goal.add_values-returns-in_err-value-clause-finds
-add_values-returns-in_err-value-clause-finds t c rows base above left e done start at row found did =
-    let l = c.loop-name in
-    let shown = shown_in c.args.place c.args.element.now e at row found in
-    err_told (λ r. Goes rows base above left start (done ++ steps_of e) c.value_of.new.trail.visits (members_view l.group.entries) r) c.from_residual.result c.in_err-value.field-0.0 c.from_residual.ensures.1
-    (value_err rows base above left start l.trail.visits done e c.args.element.now.names.items l.name-index (members_view l.group.entries) c.in_err-value.field-0.0 shown.names (rw c.deref-name-items.ensures.value at c.loop-name-test.true) (l.invariant.did rows base above left e done start at row found did)
-    (c.in_err-value.ensures.finds rows base above left e (at_path l.trail.path.items l.invariant.path at) row found))
+pub add_named-returns-in_err-value-clause-finds : goal.add_named-returns-in_err-value-clause-finds
+add_named-returns-in_err-value-clause-finds t c rows base above left e token done start at row found named did =
+    err_told (λ r. Goes rows base above left start (done ++ with_name e token ∷ []) c.value_of.new.trail.visits (members_view c.args.group.now.entries) r) c.from_residual.result c.in_err-value.field-0.0 c.from_residual.ensures.1
+    (named_err rows base above left start c.args.trail.now.visits done e token (members_view c.args.group.now.entries) c.in_err-value.field-0.0 did
+    (c.in_err-value.ensures.finds rows base above left e at row found))
 
-pub add_values-loop-name-preserved : goal.add_values-loop-name-preserved
-add_values-loop-name-preserved t c =
+pub add_named-returns-clause-finds : goal.add_named-returns-clause-finds
+add_named-returns-clause-finds t c rows base above left e token done start at row found named did =
+    let value = c.in_ok-value.ensures.finds rows base above left e at row found in
+    did_more rows base above left start c.args.trail.now.visits c.value_of.new.trail.visits done e token (members_view c.args.group.now.entries) (members_view c.add_value.new.group.entries) did value.0
+    (c.in-Ok.ensures ∙ (λ i. with_last (named i) (value.1 i) (members_view c.args.group.now.entries)))
+
+pub add_each-returns-in_err-add_named-clause-finds : goal.add_each-returns-in_err-add_named-clause-finds
+add_each-returns-in_err-add_named-clause-finds t c rows base above left e done start at row found names did =
+    let l = c.loop-name in
+    let inner = c.in_err-add_named.ensures.finds rows base above left e c.name-item.result (done ++ map (with_name e) (take l.name-index c.args.names.now)) start (at_path l.trail.path.items l.invariant.path at) row found
+    c.as_str.ensures.bytes (l.invariant.did rows base above left e done start at row found names did) in
+    err_told (λ r. Goes rows base above left start (done ++ steps_of e) c.add_named.new.trail.visits (members_view c.add_named.new.group.entries) r) c.from_residual.result c.in_err-add_named.field-0.0 c.from_residual.ensures.1
+    (each_err rows base above left start done e c.args.names.now l.name-index c.name-item.result c.in_err-add_named.field-0.0 names c.loop-name-test.true c.name-item.is inner)
+
+pub add_each-loop-name-preserved : goal.add_each-loop-name-preserved
+add_each-loop-name-preserved t c =
     let l = c.loop-name in
     record {
-      path = c.in_ok-value.ensures.path ∙ l.invariant.path;
-      did = λ rows base above left e done start at row found did.
-          let shown = shown_in c.args.place c.args.element.now e at row found in
-          let value = c.in_ok-value.ensures.finds rows base above left e (at_path l.trail.path.items l.invariant.path at) row found in
-          value_on rows base above left start l.trail.visits c.value_of.new.trail.visits done e c.args.element.now.names.items l.name-index c.name-item.result (members_view l.group.entries) (members_view c.add_value.new.group.entries)
-          (rw c.deref-name-items.ensures.value at c.loop-name-test.true) (rw c.deref-name-items.ensures.value at c.name-item.is) (l.invariant.did rows base above left e done start at row found did) value.0
-          (c.in-Ok.ensures ∙ (λ i. with_last (c.as_str.ensures.bytes i) (value.1 i) (members_view l.group.entries)));
+      path = c.in_ok-add_named.ensures.path ∙ l.invariant.path;
+      did = λ rows base above left e done start at row found names did.
+          each_on rows base above left start c.add_named.new.trail.visits done e c.args.names.now l.name-index c.name-item.result (members_view c.add_named.new.group.entries) c.loop-name-test.true c.name-item.is
+          (c.in_ok-add_named.ensures.finds rows base above left e c.name-item.result (done ++ map (with_name e) (take l.name-index c.args.names.now)) start (at_path l.trail.path.items l.invariant.path at) row found
+          c.as_str.ensures.bytes (l.invariant.did rows base above left e done start at row found names did));
     }
 
-pub add_values-returns-clause-finds : goal.add_values-returns-clause-finds
-add_values-returns-clause-finds t c rows base above left e done start at row found did =
+pub add_each-returns-clause-finds : goal.add_each-returns-clause-finds
+add_each-returns-clause-finds t c rows base above left e done start at row found names did =
     let l = c.loop-name in
+    names_end rows base above left start l.trail.visits done e c.args.names.now l.name-index (members_view l.group.entries) names c.loop-name-test.false (l.invariant.did rows base above left e done start at row found names did)
+
+pub add_values-returns-in-One-clause-finds : goal.add_values-returns-in-One-clause-finds
+add_values-returns-in-One-clause-finds t c rows base above left e done start at row found did =
     let shown = shown_in c.args.place c.args.element.now e at row found in
-    names_end rows base above left start l.trail.visits done e c.args.element.now.names.items l.name-index (members_view l.group.entries) shown.names (rw c.deref-name-items.ensures.value at c.loop-name-test.false) (l.invariant.did rows base above left e done start at row found did)
+    let one : ShowsTokens c.args.kept.now.words (tokens.One c.in-One.span) (names_of e) = rw c.in-One.is at shown.names in
+    one_name rows base above left start c.add_named.new.trail.visits done e one.0 (members_view c.add_named.new.group.entries) c.add_named.result one.1
+    (c.add_named.ensures.finds rows base above left e one.0 done start at row found (c.token_at-name.ensures one.0 one.2) did)
+
+pub add_values-returns-in-Many-clause-finds : goal.add_values-returns-in-Many-clause-finds
+add_values-returns-in-Many-clause-finds t c rows base above left e done start at row found did =
+    let shown = shown_in c.args.place c.args.element.now e at row found in
+    let many : c.in-Many.names.items ≡ names_of e = rw c.in-Many.is at shown.names in
+    c.add_each.ensures.finds rows base above left e done start at row found (c.as_slice.ensures.value ∙ many) did
 
 pub fill-returns-in_err-add_property-clause-finds : goal.fill-returns-in_err-add_property-clause-finds
 fill-returns-in_err-add_property-clause-finds t c rows base above left es at is stand none =
@@ -70,16 +97,30 @@ fill-returns-clause-finds t c rows base above left es at is stand none =
     properties_end rows base above left c.args.trail.now.visits l.trail.visits es l.place-index (members_view l.group.entries) (list_end c.args.list.now es l.place-index is c.loop-place-test.false)
     (l.invariant.did rows base above left es at is stand none)
 
-pub group_of-returns-in_err-fill-clause-finds : goal.group_of-returns-in_err-fill-clause-finds
-group_of-returns-in_err-fill-clause-finds t c rows base above left root at row found item =
-    let list = list_is c.args.kept.now rows base root c.args.element.now c.args.place c.in-Ok.list.items at.holds row found item c.in-Ok.ensures.rise (rw (c.as_slice.ensures.value, c.as_slice-2.ensures.value) at c.in-Ok.ensures.same) in
-    told c.args.trail.now.visits c.fill.new.trail.visits (visits_in rows base above left (steps_in (properties_in rows root))) _ c.from_residual.result c.in_err-fill.field-0.0 c.from_residual.ensures.1
-    (c.in_err-fill.ensures.finds rows base above left (properties_in rows root) at (c.as_slice-3.ensures.value ∙ list) (all_stand _ rows at.holds.numbered) (ap members_view c.new-group.ensures.empty))
+pub fill_item-returns-in-Some-clause-finds : goal.fill_item-returns-in-Some-clause-finds
+fill_item-returns-in-Some-clause-finds t c rows base above left root at row found item none =
+    let runs = c.args.element.now.reach.own ∷ c.args.element.now.reach.others.items in
+    let same : (x : ℕ) → Contains c.in-Some.list.now x ↔ Contains (gathered c.as_slice.result.now runs c.args.place) x = c.in-Some.ensures.same in
+    let all = subst (λ (ms : List ℕ). (x : ℕ) → Contains c.in-Some.list.now x ↔ Contains (gathered ms runs c.args.place) x) c.as_slice.ensures.value same in
+    let list = list_is c.args.kept.now rows base root c.args.element.now c.args.place c.in-Some.list.now at.holds row found item c.in-Some.ensures.rise all in
+    c.fill.ensures.finds rows base above left (properties_in rows root) at list (all_stand _ rows at.holds.numbered) none
+
+pub fill_sorted-returns-clause-finds : goal.fill_sorted-returns-clause-finds
+fill_sorted-returns-clause-finds t c rows base above left root at row found item none =
+    let runs = c.args.element.now.reach.own ∷ c.args.element.now.reach.others.items in
+    let same : (x : ℕ) → Contains c.in-Ok.list.items x ↔ Contains (gathered c.as_slice.result.now runs c.args.place) x = c.in-Ok.ensures.same in
+    let all = subst (λ (ms : List ℕ). (x : ℕ) → Contains c.in-Ok.list.items x ↔ Contains (gathered ms runs c.args.place) x) c.as_slice.ensures.value same in
+    let list = list_is c.args.kept.now rows base root c.args.element.now c.args.place c.in-Ok.list.items at.holds row found item c.in-Ok.ensures.rise all in
+    c.fill.ensures.finds rows base above left (properties_in rows root) at (c.as_slice-2.ensures.value ∙ list) (all_stand _ rows at.holds.numbered) none
+
+pub group_of-returns-in_err-fill_item-clause-finds : goal.group_of-returns-in_err-fill_item-clause-finds
+group_of-returns-in_err-fill_item-clause-finds t c rows base above left root at row found item =
+    told c.args.trail.now.visits c.fill_item.new.trail.visits (visits_in rows base above left (steps_in (properties_in rows root))) _ c.from_residual.result c.in_err-fill_item.field-0.0 c.from_residual.ensures.1
+    (c.in_err-fill_item.ensures.finds rows base above left root at row found item (ap members_view c.new-group.ensures.empty))
 
 pub group_of-returns-clause-finds : goal.group_of-returns-clause-finds
 group_of-returns-clause-finds t c rows base above left root at row found item =
-    let list = list_is c.args.kept.now rows base root c.args.element.now c.args.place c.in-Ok.list.items at.holds row found item c.in-Ok.ensures.rise (rw (c.as_slice.ensures.value, c.as_slice-2.ensures.value) at c.in-Ok.ensures.same) in
-    c.in_ok-fill.ensures.finds rows base above left (properties_in rows root) at (c.as_slice-3.ensures.value ∙ list) (all_stand _ rows at.holds.numbered) (ap members_view c.new-group.ensures.empty)
+    c.in_ok-fill_item.ensures.finds rows base above left root at row found item (ap members_view c.new-group.ensures.empty)
 
 pub value_of-returns-then-element-clause-finds : goal.value_of-returns-then-element-clause-finds
 value_of-returns-then-element-clause-finds t c rows base above left e at row found =

@@ -10,22 +10,34 @@ use Rattle.rx_items.specs.Expanding.{At, Did, Step, with_name, steps_in}
 use Rattle.rx_items.proofs.visits.+visit.Given as goal
 
 abbrev pub decreases-visit : goal.decreases-visit
-decreases-visit l = 6 * (41 - length l.trail.now.path.items)
-
-abbrev pub decreases-group_of : goal.decreases-group_of
-decreases-group_of l = 6 * (41 - length l.trail.now.path.items) + 5
-
-abbrev pub decreases-fill : goal.decreases-fill
-decreases-fill l = 6 * (41 - length l.trail.now.path.items) + 4
-
-abbrev pub decreases-add_property : goal.decreases-add_property
-decreases-add_property l = 6 * (41 - length l.trail.now.path.items) + 3
-
-abbrev pub decreases-add_values : goal.decreases-add_values
-decreases-add_values l = 6 * (41 - length l.trail.now.path.items) + 2
+decreases-visit l = 10 * (41 - length l.trail.now.path.items)
 
 abbrev pub decreases-value_of : goal.decreases-value_of
-decreases-value_of l = 6 * (41 - length l.trail.now.path.items) + 1
+decreases-value_of l = 10 * (41 - length l.trail.now.path.items) + 1
+
+abbrev pub decreases-add_named : goal.decreases-add_named
+decreases-add_named l = 10 * (41 - length l.trail.now.path.items) + 2
+
+abbrev pub decreases-add_each : goal.decreases-add_each
+decreases-add_each l = 10 * (41 - length l.trail.now.path.items) + 3
+
+abbrev pub decreases-add_values : goal.decreases-add_values
+decreases-add_values l = 10 * (41 - length l.trail.now.path.items) + 4
+
+abbrev pub decreases-add_property : goal.decreases-add_property
+decreases-add_property l = 10 * (41 - length l.trail.now.path.items) + 5
+
+abbrev pub decreases-fill : goal.decreases-fill
+decreases-fill l = 10 * (41 - length l.trail.now.path.items) + 6
+
+abbrev pub decreases-fill_sorted : goal.decreases-fill_sorted
+decreases-fill_sorted l = 10 * (41 - length l.trail.now.path.items) + 7
+
+abbrev pub decreases-fill_item : goal.decreases-fill_item
+decreases-fill_item l = 10 * (41 - length l.trail.now.path.items) + 8
+
+abbrev pub decreases-group_of : goal.decreases-group_of
+decreases-group_of l = 10 * (41 - length l.trail.now.path.items) + 9
 
 abbrev pub invariant-fill-loop-place : goal.invariant-fill-loop-place
 invariant-fill-loop-place l = record {
@@ -34,10 +46,11 @@ invariant-fill-loop-place l = record {
       → members_view l.initial.group.entries ≡ no_members → Did rows base above left l.initial.trail.visits (steps_in (take l.place-index es)) l.trail.visits (members_view l.group.entries);
 }
 
-abbrev pub invariant-add_values-loop-name : goal.invariant-add_values-loop-name
-invariant-add_values-loop-name l = record {
+abbrev pub invariant-add_each-loop-name : goal.invariant-add_each-loop-name
+invariant-add_each-loop-name l = record {
   path : l.trail.path.items ≡ l.initial.trail.path.items;
   did : (rows : List Placed) (base : Chars) (above : Visit) (left : ℕ) (e : Placed) (done : List Step) (start : ℕ) → At l.kept rows base l.initial.trail.path.items above left
-      → slice_get rows l.place ≡ Some e → slice_get l.kept.elements.items l.place ≡ Some l.element → Did rows base above left start done l.initial.trail.visits (members_view l.initial.group.entries)
-      → Did rows base above left start (done ++ map (with_name e) (take l.name-index l.element.names.items)) l.trail.visits (members_view l.group.entries);
+      → slice_get rows l.place ≡ Some e → slice_get l.kept.elements.items l.place ≡ Some l.element → l.names ≡ names_of e
+      → Did rows base above left start done l.initial.trail.visits (members_view l.initial.group.entries)
+      → Did rows base above left start (done ++ map (with_name e) (take l.name-index l.names)) l.trail.visits (members_view l.group.entries);
 }

@@ -4,7 +4,7 @@ use Rattle.rx_terms.specs.Text.{Chars, tokens}
 use Rattle.rx_grammar.specs.Names.{is_among}
 use Rattle.rx_microdata.specs.Facts.{distinct_tokens, without_repeats_of}
 use Rattle.rx_item_properties.specs.Distinct.{has_text}
-use Rattle.rx_item_properties.proofs.distinct.distinct_of_many.Given as goal
+use Rattle.rx_item_properties.proofs.distinct.distinct.Given as goal
 use denote.Text.{Utf8}
 use denote.Shadow.{shadow}
 
