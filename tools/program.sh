@@ -2,7 +2,7 @@
 # What ./rdfax, ./build and ./install share. Before they read this they set `here` to the top of the repository.
 
 # How long ./build takes where nothing is kept from an earlier run.
-time_of_build="about half an hour on four processors"
+time_of_build="about 20 minutes on four processors, if nothing else runs on them"
 
 # The proved program, once it is built.
 program=$here/crates/rdfax/out/rdfax
