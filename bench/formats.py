@@ -72,7 +72,7 @@ def turtle(given, folder):
 def many(given, folder):
     pages = [items_file(folder, given.each, f"page-{number}") for number in range(1000)]
     words = [word for number, path in enumerate(pages) for word in (f"http://h.example/{number}", path)]
-    begun = instructions([given.program, "sample", "1"])
+    begun = instructions([given.program], status=2)
     one = instructions([given.program, "extract", "--base", "http://h.example/0", pages[0]]) - begun
     all_pages = instructions([given.program, "many"] + words) - begun
     print(f"1,000 pages of {given.each} items: one extraction {one} instructions, many {all_pages / 1e6:.1f} million, {all_pages / (1000 * one):.2f} times 1,000 of these")

@@ -46,12 +46,12 @@ def product_file(folder, count):
     return path
 
 
-def instructions(words):
-    """How many instructions a program takes, by callgrind."""
+def instructions(words, status=0):
+    """How many instructions a program takes that ends with this status, by callgrind."""
     with tempfile.NamedTemporaryFile() as out:
         tool = ["valgrind", "--tool=callgrind", f"--callgrind-out-file={out.name}"]
         run = subprocess.run(tool + words, stdout=subprocess.DEVNULL, stderr=subprocess.PIPE, text=True, check=False)
-    if run.returncode != 0:
+    if run.returncode != status:
         sys.exit(f"{words} ends with {run.returncode}")
     return int(re.search(r"Collected : (\d+)", run.stderr).group(1))
 
