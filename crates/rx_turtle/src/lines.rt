@@ -1,17 +1,16 @@
 //! Statements, one after another.
-ghost use Rattle.std.specs.Prelude.{◌≡◌, ◌==◌, [], codes, length, map, if◌then◌else◌};
+ghost use Rattle.std.specs.Prelude.{◌≡◌, ◌==◌, [], length, map, if◌then◌else◌};
 ghost use Rattle.std.specs.Str.{chars};
 ghost use Rattle.rx_model.specs.Seen.{triple_seen};
 ghost use Rattle.rx_graph.specs.Resources.{resource_seen};
-ghost use Rattle.rx_notation.specs.Layout.{separated};
 ghost use Rattle.rx_pieces.specs.Underway.{delivery};
 ghost use Rattle.rx_pieces.specs.Writable.{Adds};
-ghost use Rattle.rx_turtle.specs.Written.{statement_seen, objects_text, group_text, said_text, plan_text, text_of};
+ghost use Rattle.rx_groups.specs.Runs.{said_in};
+ghost use Rattle.rx_turtle.specs.Written.{objects_text, group_text, lines_text, said_text, statements_text, text_of};
 
 use crate::plan::Plan;
-use crate::statements::Statement;
 use rx_graph::Resource;
-use rx_groups::Groups;
+use rx_groups::{By, cut};
 use rx_pieces::{Pieces, push};
 use rx_ports::Sink;
 use rx_shorts::{Shorts, push_key, push_object, push_prefixes, push_resource};
@@ -23,43 +22,57 @@ pub(crate) fn push_plan<S: Sink>(out: &mut Pieces, sink: &mut S, plan: &Plan)
     ensures { Adds (delivery out.old (S.held sink.old) (S.faults sink.old)) (delivery out.new (S.held sink.new) (S.faults sink.new)) (text_of plan.now) }
 {
     push_prefixes(out, sink, &plan.shorts, &plan.marks);
-    push_statements(out, sink, &plan.shorts, &plan.statements);
+    push_statements(out, sink, &plan.shorts, &plan.triples);
 }
 
-/// Adds the statements. Once the sink has failed, the rest isn't made.
-fn push_statements<S: Sink>(
-    out: &mut Pieces,
-    sink: &mut S,
-    shorts: &Shorts,
-    statements: &[Statement],
-)
-    ensures { Adds (delivery out.old (S.held sink.old) (S.faults sink.old)) (delivery out.new (S.held sink.new) (S.faults sink.new)) (plan_text shorts.now (map statement_seen statements.now)) }
+/// Adds a statement for each subject. The triples of a subject stand side by side, and of these those of a predicate. Once
+/// the sink has failed, the rest isn't made.
+fn push_statements<S: Sink>(out: &mut Pieces, sink: &mut S, shorts: &Shorts, triples: &[&Triple])
+    ensures { Adds (delivery out.old (S.held sink.old) (S.faults sink.old)) (delivery out.new (S.held sink.new) (S.faults sink.new)) (statements_text shorts.now (map (λ t. triple_seen t.now) triples.now)) }
 {
-    for i in 0..statements.len() {
+    let mut rest = triples;
+    while let Some(run) = cut(rest, By::Subject) {
         if out.has_failed() {
             return;
         }
-        push_statement(out, sink, shorts, &statements[i]);
+        push_statement(out, sink, shorts, run.key, run.triples);
+        rest = run.rest;
     }
 }
 
-fn push_statement<S: Sink>(out: &mut Pieces, sink: &mut S, shorts: &Shorts, statement: &Statement)
-    ensures { Adds (delivery out.old (S.held sink.old) (S.faults sink.old)) (delivery out.new (S.held sink.new) (S.faults sink.new)) (said_text shorts.now (statement_seen statement.now)) }
+fn push_statement<S: Sink>(
+    out: &mut Pieces,
+    sink: &mut S,
+    shorts: &Shorts,
+    subject: Resource,
+    triples: &[&Triple],
+)
+    ensures { Adds (delivery out.old (S.held sink.old) (S.faults sink.old)) (delivery out.new (S.held sink.new) (S.faults sink.new)) (said_text shorts.now (said_in (resource_seen subject.entry, map (λ t. triple_seen t.now) triples.now))) }
 {
-    push_resource(out, sink, shorts, statement.subject);
+    push_resource(out, sink, shorts, subject);
     push(out, sink, " ");
-    push_groups(out, sink, shorts, &statement.said);
+    push_lines(out, sink, shorts, triples);
     push(out, sink, " .\n");
 }
 
 /// Adds a subject's predicates with their objects.
-fn push_groups<S: Sink>(out: &mut Pieces, sink: &mut S, shorts: &Shorts, groups: &Groups)
-    ensures { Adds (delivery out.old (S.held sink.old) (S.faults sink.old)) (delivery out.new (S.held sink.new) (S.faults sink.new)) (separated (codes " ;\n    ") (map (group_text shorts.now) groups.now)) }
+fn push_lines<S: Sink>(out: &mut Pieces, sink: &mut S, shorts: &Shorts, triples: &[&Triple])
+    ensures { Adds (delivery out.old (S.held sink.old) (S.faults sink.old)) (delivery out.new (S.held sink.new) (S.faults sink.new)) (lines_text shorts.now (map (λ t. triple_seen t.now) triples.now)) }
 {
-    for i in 0..groups.len() {
-        push_unless_first(out, sink, i, " ;\n    ");
-        let (predicate, triples) = groups.at(i);
-        push_group(out, sink, shorts, predicate, triples);
+    let mut rest = triples;
+    while let Some(run) = cut(rest, By::Predicate) {
+        push_group(out, sink, shorts, run.key, run.triples);
+        push_unless_last(out, sink, run.rest, " ;\n    ");
+        rest = run.rest;
+    }
+}
+
+/// Adds the words, but behind the last of some things.
+fn push_unless_last<S: Sink>(out: &mut Pieces, sink: &mut S, rest: &[&Triple], words: &str)
+    ensures { Adds (delivery out.old (S.held sink.old) (S.faults sink.old)) (delivery out.new (S.held sink.new) (S.faults sink.new)) (if length rest.now == 0 then [] else chars words.now) }
+{
+    if !rest.is_empty() {
+        push(out, sink, words);
     }
 }
 

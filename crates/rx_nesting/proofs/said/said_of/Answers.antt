@@ -1,6 +1,6 @@
 use Rattle.std.proofs.Common.{◌∙◌, ap, map}
 use Rattle.rx_model.specs.Seen.{node_seen, triples_seen}
-use Rattle.rx_groups.specs.declared.groups.By.TheVariants as by
+use Rattle.rx_groups.specs.declared.keys.By.TheVariants as by
 use Rattle.rx_groups.specs.Groups.{grouped}
 use Rattle.rx_groups.proofs.GroupLemmas.{lent_seen}
 use Rattle.rx_nesting.proofs.SaidLemmas.{said_is}
