@@ -1,6 +1,7 @@
 -- Stacks of tasks, and what is pushed on them.
-use Rattle.std.proofs.Common.{◌≡◌, ◌∙◌, ◌↔◌, ℕ, zero, suc, ◌<◌, ◌≤◌, ◌==◌, Bool, false, true≢false, List, [], ◌∷◌, ◌++◌, length, drop, drop_of_length-le, slice_get, Option, Some, None, option_to_list, IsSome, MatchOption, refl, sym, ap, ap₂, arith, append_assoc, if◌then◌else◌}
+use Rattle.std.proofs.Common.{◌≡◌, ◌∙◌, ◌↔◌, ℕ, zero, suc, ◌+◌, ◌-◌, ◌<◌, ◌≤◌, ◌==◌, Bool, true, false, true≢false, List, [], ◌∷◌, ◌++◌, map, length, Bor, slice_get, Option, Some, None, option_to_list, IsSome, MatchOption, refl, sym, ap, ap₂, arith, append_assoc, if◌then◌else◌}
 use Rattle.std.proofs.lemmas.Bool.Decides.{nat_tests}
+use Rattle.rx_terms.specs.declared.triples.Triple.{Triple as CodeTriple}
 use Rattle.rx_model.specs.Terms.{Node, Term, Triple}
 use Rattle.rx_nesting.specs.declared.stack.Task.{Task}
 use Rattle.rx_nesting.specs.declared.tokens.Words.{Words}
@@ -8,9 +9,10 @@ use Rattle.rx_nesting.specs.declared.tokens.Words.TheVariants as fixed
 use Rattle.rx_groups.specs.declared.keys.By.TheVariants as by
 use Rattle.rx_groups.specs.Groups.{Keyed, key_by, has_key}
 use Rattle.rx_groups.specs.Runs.{put_before, runs}
-use Rattle.rx_groups.proofs.ArrangedLemmas.{first_key}
+use Rattle.rx_groups.proofs.GroupLemmas.{lent_seen}
+use Rattle.rx_groups.proofs.ArrangedLemmas.{first_key, seen_length}
 use Rattle.rx_nesting.specs.Tokens.{Fixed, Noun, Verb}
-use Rattle.rx_nesting.specs.Due.{Due, Say, Object, task_seen, due_on, behind, object_due, line_due, lines_due, verb_due, behind_due, tail_due, first_due, tail_at, bracket_due, item_due, rest_due, statement_due}
+use Rattle.rx_nesting.specs.Due.{Due, Say, Object, task_seen, due_on, behind, object_due, line_due, lines_due, verb_due, behind_due, tail_due, next_due, first_due, tail_at, bracket_due, item_due, rest_due, statement_due}
 
 -- ---- the stack
 
@@ -46,21 +48,30 @@ module _ (gap : Words) where
   none_behind (s ∷ t ∷ more) zero past = absurd (omega (arith, past))
   none_behind (s ∷ t ∷ more) (suc i) past = let less : length (t ∷ more) ≤ suc i = omega (arith, past) in none_behind (t ∷ more) i less
 
-  pub tail_start : (list : List (Triple ℕ)) (i : ℕ) (start : List Due) → length list ≤ suc i → start ≡ tail_at gap i list ++ start
-  tail_start list i start past = ap (λ z. z ++ start) (sym (none_behind list i past))
+  pub tail_start : (list : List (Bor CodeTriple)) (i : ℕ) (start : List Due) → i ≡ length list - 1 → start ≡ tail_at gap i (map lent_seen list) ++ start
+  tail_start list i start last =
+      let size : length (map lent_seen list) ≡ length list = seen_length list in
+      ap (λ z. z ++ start) (sym (none_behind (map lent_seen list) i (omega (arith, size, last))))
 
-  one_behind : (list : List (Triple ℕ)) (i : ℕ) (s t : Triple ℕ) → slice_get list i ≡ Some s → slice_get list (suc i) ≡ Some t → tail_at gap i list ≡ behind_due gap s t ++ tail_at gap (suc i) list
-  one_behind [] i s t at next = absurd (cc)
-  one_behind (x ∷ []) zero s t at next = absurd (cc)
-  one_behind (x ∷ y ∷ more) zero s t at next = let first : x ≡ s = cc in let second : y ≡ t = cc in ap₂ (λ a b. behind_due gap a b ++ tail_due gap y more) first second
-  one_behind (x ∷ list) (suc i) s t at next = one_behind list i s t at next
+  one_behind : (list : List (Triple ℕ)) (i : ℕ) → tail_at gap i list ≡ next_due gap i list ++ tail_at gap (suc i) list
+  one_behind [] i = refl
+  one_behind (s ∷ []) zero = refl
+  one_behind (s ∷ t ∷ more) zero = refl
+  one_behind (s ∷ more) (suc i) = one_behind more i
 
-  pub tail_turn : (list : List (Triple ℕ)) (n i : ℕ) (s t : Triple ℕ) (old new start : List Due) → n ≡ suc i → slice_get list i ≡ Some s → slice_get list (i + 1) ≡ Some t → new ≡ behind_due gap s t ++ old
-      → old ≡ tail_at gap n list ++ start → new ≡ tail_at gap i list ++ start
-  tail_turn list n i s t old new start up at next turn before =
-      let one_up : suc i ≡ i + 1 = omega arith in
-      turn ∙ ap (λ z. behind_due gap s t ++ z) (before ∙ ap (λ m. tail_at gap m list ++ start) up)
-      ∙ sym (append_assoc (behind_due gap s t) (tail_at gap (suc i) list) start) ∙ ap (λ z. z ++ start) (sym (one_behind list i s t at (ap (slice_get list) one_up ∙ next)))
+  pub tail_turn : (list : List (Triple ℕ)) (n i : ℕ) (old new start : List Due) → n ≡ suc i → new ≡ next_due gap i list ++ old → old ≡ tail_at gap n list ++ start → new ≡ tail_at gap i list ++ start
+  tail_turn list n i old new start up turn before =
+      turn ∙ ap (λ z. next_due gap i list ++ z) (before ∙ ap (λ m. tail_at gap m list ++ start) up)
+      ∙ sym (append_assoc (next_due gap i list) (tail_at gap (suc i) list) start) ∙ ap (λ z. z ++ start) (sym (one_behind list i))
+
+  pub next_is : (list : List (Triple ℕ)) (i : ℕ) (s t : Triple ℕ) → slice_get list i ≡ Some s → slice_get list (i + 1) ≡ Some t → behind_due gap s t ≡ next_due gap i list
+  next_is list i s t at next = let up : suc i ≡ i + 1 = omega arith in go list i at (ap (slice_get list) up ∙ next)
+    where
+      go : (list : List (Triple ℕ)) (i : ℕ) → slice_get list i ≡ Some s → slice_get list (suc i) ≡ Some t → behind_due gap s t ≡ next_due gap i list
+      go [] i at next = absurd (cc)
+      go (x ∷ []) zero at next = absurd (cc)
+      go (x ∷ y ∷ more) zero at next = let first : x ≡ s = cc in let second : y ≡ t = cc in ap₂ (λ a b. behind_due gap a b) (sym first) (sym second)
+      go (x ∷ more) (suc i) at next = go more i at next
 
   -- the objects of the first predicate behind its first one, and the other predicates
   tail_is : (t : Triple ℕ) (more : List (Triple ℕ)) → (objects : List (Triple ℕ)) × (groups : List Keyed) × (runs by.Predicate (t ∷ more) ≡ (key_by by.Predicate t, t ∷ objects) ∷ groups)
@@ -106,9 +117,9 @@ pub no_brackets : (list : List (Triple ℕ)) (old : List Due) → length list �
 no_brackets [] old e = refl
 no_brackets (t ∷ list) old e = absurd (omega (arith, e))
 
-pub some_brackets : (list : List (Triple ℕ)) (old mid new : List Due) → ¬ (length list ≡ 0) → mid ≡ Say (Fixed fixed.Close) ∷ old → new ≡ lines_due fixed.InsideGap (runs by.Predicate list) ++ mid
+pub some_brackets : (list : List (Triple ℕ)) (old mid new : List Due) → 0 < length list → mid ≡ Say (Fixed fixed.Close) ∷ old → new ≡ lines_due fixed.InsideGap (runs by.Predicate list) ++ mid
     → Say (Fixed fixed.Open) ∷ new ≡ bracket_due (runs by.Predicate list) ++ old
-some_brackets [] old mid new some e h = absurd (some refl)
+some_brackets [] old mid new some e h = absurd (omega (arith, some))
 some_brackets (t ∷ list) old mid new some e h =
     let first = first_key by.Predicate t (runs by.Predicate list) in
     ap (λ z. Say (Fixed fixed.Open) ∷ z) (h ∙ ap (λ (z : List Keyed). lines_due fixed.InsideGap z ++ mid) first.2)

@@ -85,6 +85,13 @@ abbrev pub first_due : List (Triple ℕ) → List Due
 first_due [] = []
 first_due (t ∷ more) = verb_due t ++ Object t.object ∷ []
 
+-- the one behind the one at this place
+abbrev pub next_due : Words → ℕ → List (Triple ℕ) → List Due
+next_due gap place [] = []
+next_due gap zero (s ∷ []) = []
+next_due gap zero (s ∷ t ∷ more) = behind_due gap s t
+next_due gap (suc place) (s ∷ more) = next_due gap place more
+
 -- those behind the one at this place
 abbrev pub tail_at : Words → ℕ → List (Triple ℕ) → List Due
 tail_at gap place [] = []

@@ -1,12 +1,11 @@
 //! What is said of a node, as tasks. What comes last is put on the stack first.
-ghost use Rattle.std.specs.Prelude.{◌≡◌, ◌+◌, ◌<◌, ◌∷◌, ◌++◌, ℕ, length, map, OnOk, Some, slice_get};
+ghost use Rattle.std.specs.Prelude.{◌≡◌, ◌+◌, ◌-◌, ◌<◌, ◌++◌, length, map, OnOk, Some, slice_get};
 ghost use Rattle.rx_model.specs.Seen.{triple_seen};
-ghost use Rattle.rx_model.specs.Terms.{Triple};
 ghost use Rattle.rx_graph.specs.Resources.{resource_seen};
 ghost use Rattle.rx_groups.specs.Groups.{grouped};
 ghost use Rattle.rx_groups.specs.Runs.{runs};
 ghost use Rattle.rx_groups.specs.declared.keys.By.TheVariants as by;
-ghost use Rattle.rx_nesting.specs.Due.{lines_due, statement_due, verb_due, behind_due, first_due};
+ghost use Rattle.rx_nesting.specs.Due.{lines_due, statement_due, verb_due, behind_due, next_due, first_due};
 
 use crate::stack::{Stack, Task};
 use crate::tokens::{Token, Words};
@@ -51,11 +50,18 @@ pub(crate) fn push_lines<'a>(
 ) -> Result<(), NoMemory>
     ensures { OnOk result (stack.new ≡ lines_due gap (runs by.Predicate (map (λ t. triple_seen t.now) said.now)) ++ stack.old) }
 {
-    for i in (0..said.len().saturating_sub(1)).rev() {
+    for i in (0..count_before(said)).rev() {
         push_next(stack, said, i, gap)?;
     }
     push_first(stack, said)?;
     Ok(())
+}
+
+/// How many triples have another behind them.
+fn count_before(said: &[&Triple]) -> usize
+    ensures { result ≡ length said.now - 1 }
+{
+    said.len().saturating_sub(1)
 }
 
 /// The object of the triple behind the one at this place, and what stands before it.
@@ -66,9 +72,16 @@ fn push_next<'a>(
     gap: Words,
 ) -> Result<(), NoMemory>
     requires { place + 1 < length said.now }
-    ensures { (s t : Triple ℕ) → slice_get (map (λ t. triple_seen t.now) said.now) place ≡ Some s → slice_get (map (λ t. triple_seen t.now) said.now) (place + 1) ≡ Some t → OnOk result (stack.new ≡ behind_due gap s t ++ stack.old) }
+    ensures { OnOk result (stack.new ≡ next_due gap place (map (λ t. triple_seen t.now) said.now) ++ stack.old) }
 {
-    push_behind(stack, said[place], said[place + 1], gap)
+    push_behind(stack, one_at(said, place), one_at(said, place + 1), gap)
+}
+
+fn one_at<'a>(said: &[&'a Triple], place: usize) -> &'a Triple
+    requires { place < length said.now }
+    ensures { slice_get (map (λ t. triple_seen t.now) said.now) place ≡ Some (triple_seen result.now) }
+{
+    said[place]
 }
 
 fn push_behind<'a>(
