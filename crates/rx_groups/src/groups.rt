@@ -5,6 +5,7 @@ ghost use Rattle.rx_model.specs.Seen.{triple_seen};
 ghost use Rattle.rx_graph.specs.Resources.{resource_seen, node_added, number_in, AreDistinct};
 ghost use Rattle.rx_groups.specs.Groups.{Keyed, keys_in, grouped, put_in, taken_in};
 
+use crate::hints::Hints;
 use crate::keys::{By, are_same, key_of};
 use rx_graph::{Nodes, Resource};
 use rx_terms::{NoMemory, Triple};
@@ -40,9 +41,12 @@ impl<'a> Groups<'a> {
     {
         let mut groups = Groups::none(alloc);
         let mut keys = Nodes::new(alloc);
-        let mut last = 0;
+        let mut hints = Hints::new(alloc, triples.len(), by)?;
         for i in 0..triples.len() {
-            last = groups.take(alloc, &mut keys, triples[i], by, last)?;
+            let triple = triples[i];
+            let key = key_of(triple, by);
+            let place = groups.take(alloc, &mut keys, triple, by, hints.place(key))?;
+            hints.keep(key, place);
         }
         Ok(groups)
     }
@@ -56,14 +60,14 @@ impl<'a> Groups<'a> {
     }
 
     /// Adds the triple to the group of its key, which is made where there is none, and gives that group's place. Where that
-    /// is the last triple's, the key isn't looked up.
+    /// is the place of the hint, the key isn't looked up.
     fn take(
         &mut self,
         alloc: Global,
         keys: &mut Nodes<'a>,
         triple: &'a Triple,
         by: By,
-        last: usize,
+        hint: usize,
     ) -> Result<usize, NoMemory>
         requires keys { keys.old ≡ keys_in self.old }
         requires once { AreDistinct (keys_in self.old) }
@@ -71,9 +75,9 @@ impl<'a> Groups<'a> {
         ensures keys { OnOk result (keys.new ≡ keys_in self.new) }
     {
         let key = key_of(triple, by);
-        if self.is_at(last, key) {
-            self.put_within(last, triple)?;
-            return Ok(last);
+        if self.is_at(hint, key) {
+            self.put_within(hint, triple)?;
+            return Ok(hint);
         }
         match keys.number(key) {
             Some(place) => self.take_known(triple, place),

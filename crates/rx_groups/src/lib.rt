@@ -7,6 +7,7 @@
 mod arranging;
 mod cuts;
 mod groups;
+mod hints;
 mod keys;
 mod lent;
 

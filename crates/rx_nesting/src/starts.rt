@@ -46,7 +46,7 @@ fn start_term<'a>(
 {
     match term {
         Term::Iri(iri) => Ok(iri_token(iri)),
-        Term::Blank(blank) => start_node(source, stack, *blank, source.shapes.shape(*blank)),
+        Term::Blank(blank) => start_node(source, stack, *blank, shape_of(source, *blank)),
         Term::Literal(literal) => Ok(Token::Quoted(literal)),
     }
 }
@@ -59,6 +59,12 @@ fn iri_token<'a>(iri: &'a Iri) -> Token<'a>
         return Token::Fixed(Words::Nil);
     }
     Token::Noun(Resource::Iri(iri))
+}
+
+fn shape_of(source: &Source, blank: Blank) -> Shape
+    ensures { result ≡ shapes_of source.now blank.0 }
+{
+    source.shapes.shape(blank)
 }
 
 /// A blank node as an object, of this shape.

@@ -1,7 +1,10 @@
 use Rattle.std.proofs.Common.{◌-◌, arith, map}
 use Rattle.rx_groups.proofs.GroupLemmas.{lent_seen}
-use Rattle.rx_nesting.proofs.DueLemmas.{tail_turn, lines_pushed}
+use Rattle.rx_nesting.proofs.DueLemmas.{tail_start, tail_turn, lines_pushed}
 use Rattle.rx_nesting.proofs.due.push_lines.Goals as goal
+
+pub loop-i-init : goal.loop-i-init
+loop-i-init c = tail_start c.args.gap c.args.said.now c.count_before-i.result c.args.stack.now c.count_before-i.ensures
 
 pub loop-i-preserved : goal.loop-i-preserved
 loop-i-preserved c =

@@ -18,8 +18,8 @@ pub loop-i-preserved : goal.loop-i-preserved
 loop-i-preserved c = (
   taken_turn c.args.by c.args.triples.now c.loop-i.i c.index-triples-i.result c.loop-i.groups _
       (slice_get_read c.args.triples.now _ c.loop-i.i c.index-triples-i.result refl c.loop-i-test.true c.index-triples-i.is)
-      c.in_ok-last.ensures.taken c.loop-i.invariant.0,
-  c.in_ok-last.ensures.keys,
+      c.in_ok-place.ensures.taken c.loop-i.invariant.0,
+  c.in_ok-place.ensures.keys,
 )
 
 pub returns : goal.returns

@@ -6,7 +6,7 @@ use Rattle.rx_groups.proofs.TakenLemmas.{keys_put, keys_begun, on_ok_then, on_ok
 use Rattle.rx_groups.proofs.groups.Groups.take.Goals as goal
 
 pub returns-then-is_at-clause-keys : goal.returns-then-is_at-clause-keys
-returns-then-is_at-clause-keys c = c.requires.keys ∙ keys_put c.args.self.now c.args.last (triple_seen c.args.triple.now) ∙ ap keys_in (sym c.in_ok-put_within.ensures)
+returns-then-is_at-clause-keys c = c.requires.keys ∙ keys_put c.args.self.now c.args.hint (triple_seen c.args.triple.now) ∙ ap keys_in (sym c.in_ok-put_within.ensures)
 
 pub returns-in-Some-clause-keys : goal.returns-in-Some-clause-keys
 returns-in-Some-clause-keys c =
