@@ -1,5 +1,5 @@
 -- The text of triples that are in groups.
-use Rattle.std.specs.Prelude.{ℕ, List, ◌++◌, map, flat_map, codes}
+use Rattle.std.specs.Prelude.{ℕ, List, [], ◌∷◌, ◌++◌, map, flat_map, codes}
 use Rattle.rx_terms.specs.Text.{Chars}
 use Rattle.rx_model.specs.Terms.{Triple}
 use Rattle.rx_model.specs.Seen.{triple_seen}
@@ -26,17 +26,27 @@ abbrev pub said_text : Prefixes → Said → Chars
 said_text context said =
     resource_text context said.0 ++ (codes " " ++ (separated (codes " ;\n    ") (map (group_text context) said.1) ++ codes " .\n"))
 
--- a subject's triples, in which those of one predicate stand side by side
-abbrev pub lines_text : Prefixes → List (Triple ℕ) → Chars
-lines_text context list = separated (codes " ;\n    ") (map (group_text context) (runs by.Predicate list))
-
 abbrev pub plan_text : Prefixes → List Said → Chars
 plan_text context said = flat_map (said_text context) said
 
--- triples in which those of one subject stand side by side, and of these those of one predicate
-abbrev pub statements_text : Prefixes → List (Triple ℕ) → Chars
-statements_text context list = plan_text context (map said_in (runs by.Subject list))
+-- ---- triples that are cut where the subject changes, and each part where the predicate does
+
+abbrev pub statements_text : Prefixes → List Keyed → Chars
+statements_text context parts = plan_text context (map said_in parts)
+
+abbrev pub first_statement : Prefixes → List Keyed → Chars
+first_statement context [] = []
+first_statement context (part ∷ parts) = said_text context (said_in part)
+
+abbrev pub first_line : Prefixes → List Keyed → Chars
+first_line context [] = []
+first_line context (part ∷ parts) = group_text context part
+
+-- all but the first
+abbrev pub later : List Keyed → List Keyed
+later [] = []
+later (part ∷ parts) = parts
 
 -- the text of a plan
 abbrev pub text_of : Plan → Chars
-text_of plan = prefixes_text (chosen plan.marks.items plan.shorts) ++ statements_text plan.shorts (map (λ t. triple_seen t.now) plan.triples.items)
+text_of plan = prefixes_text (chosen plan.marks.items plan.shorts) ++ statements_text plan.shorts (runs by.Subject (map (λ t. triple_seen t.now) plan.triples.items))

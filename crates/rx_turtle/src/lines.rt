@@ -1,12 +1,14 @@
 //! Statements, one after another.
-ghost use Rattle.std.specs.Prelude.{◌≡◌, ◌==◌, [], length, map, if◌then◌else◌};
+ghost use Rattle.std.specs.Prelude.{◌≡◌, ◌==◌, ◌+◌, ◌<◌, ◌≤◌, [], codes, drop, length, map, if◌then◌else◌};
 ghost use Rattle.std.specs.Str.{chars};
 ghost use Rattle.rx_model.specs.Seen.{triple_seen};
 ghost use Rattle.rx_graph.specs.Resources.{resource_seen};
 ghost use Rattle.rx_pieces.specs.Underway.{delivery};
 ghost use Rattle.rx_pieces.specs.Writable.{Adds};
-ghost use Rattle.rx_groups.specs.Runs.{said_in};
-ghost use Rattle.rx_turtle.specs.Written.{objects_text, group_text, lines_text, said_text, statements_text, text_of};
+ghost use Rattle.rx_notation.specs.Layout.{separated};
+ghost use Rattle.rx_groups.specs.declared.keys.By.TheVariants as by;
+ghost use Rattle.rx_groups.specs.Runs.{runs, said_in};
+ghost use Rattle.rx_turtle.specs.Written.{objects_text, group_text, first_line, said_text, statements_text, first_statement, later, text_of};
 
 use crate::plan::Plan;
 use rx_graph::Resource;
@@ -28,16 +30,37 @@ pub(crate) fn push_plan<S: Sink>(out: &mut Pieces, sink: &mut S, plan: &Plan)
 /// Adds a statement for each subject. The triples of a subject stand side by side, and of these those of a predicate. Once
 /// the sink has failed, the rest isn't made.
 fn push_statements<S: Sink>(out: &mut Pieces, sink: &mut S, shorts: &Shorts, triples: &[&Triple])
-    ensures { Adds (delivery out.old (S.held sink.old) (S.faults sink.old)) (delivery out.new (S.held sink.new) (S.faults sink.new)) (statements_text shorts.now (map (λ t. triple_seen t.now) triples.now)) }
+    ensures { Adds (delivery out.old (S.held sink.old) (S.faults sink.old)) (delivery out.new (S.held sink.new) (S.faults sink.new)) (statements_text shorts.now (runs by.Subject (map (λ t. triple_seen t.now) triples.now))) }
 {
-    let mut rest = triples;
-    while let Some(run) = cut(rest, By::Subject) {
+    let mut at = 0;
+    while at < triples.len() {
         if out.has_failed() {
             return;
         }
-        push_statement(out, sink, shorts, run.key, run.triples);
-        rest = run.rest;
+        at = push_next_statement(out, sink, shorts, triples, at);
     }
+}
+
+/// Adds the statement that begins with the triple at this place. Gives the place behind it.
+fn push_next_statement<S: Sink>(
+    out: &mut Pieces,
+    sink: &mut S,
+    shorts: &Shorts,
+    triples: &[&Triple],
+    at: usize,
+) -> usize
+    requires { at < length triples.now }
+    ensures text { Adds (delivery out.old (S.held sink.old) (S.faults sink.old)) (delivery out.new (S.held sink.new) (S.faults sink.new)) (first_statement shorts.now (runs by.Subject (drop at (map (λ t. triple_seen t.now) triples.now)))) }
+    ensures next { runs by.Subject (drop result (map (λ t. triple_seen t.now) triples.now)) ≡ later (runs by.Subject (drop at (map (λ t. triple_seen t.now) triples.now))) }
+    ensures more { at < result }
+    ensures within { result ≤ length triples.now }
+{
+    let (_before, rest) = triples.split_at(at);
+    let Some(run) = cut(rest, By::Subject) else {
+        return triples.len();
+    };
+    push_statement(out, sink, shorts, run.key, run.triples);
+    place_before(triples, run.rest)
 }
 
 fn push_statement<S: Sink>(
@@ -57,23 +80,43 @@ fn push_statement<S: Sink>(
 
 /// Adds a subject's predicates with their objects.
 fn push_lines<S: Sink>(out: &mut Pieces, sink: &mut S, shorts: &Shorts, triples: &[&Triple])
-    ensures { Adds (delivery out.old (S.held sink.old) (S.faults sink.old)) (delivery out.new (S.held sink.new) (S.faults sink.new)) (lines_text shorts.now (map (λ t. triple_seen t.now) triples.now)) }
+    ensures { Adds (delivery out.old (S.held sink.old) (S.faults sink.old)) (delivery out.new (S.held sink.new) (S.faults sink.new)) (separated (codes " ;\n    ") (map (group_text shorts.now) (runs by.Predicate (map (λ t. triple_seen t.now) triples.now)))) }
 {
-    let mut rest = triples;
-    while let Some(run) = cut(rest, By::Predicate) {
-        push_group(out, sink, shorts, run.key, run.triples);
-        push_unless_last(out, sink, run.rest, " ;\n    ");
-        rest = run.rest;
+    let mut at = 0;
+    while at < triples.len() {
+        push_unless_first(out, sink, at, " ;\n    ");
+        at = push_next_line(out, sink, shorts, triples, at);
     }
 }
 
-/// Adds the words, but behind the last of some things.
-fn push_unless_last<S: Sink>(out: &mut Pieces, sink: &mut S, rest: &[&Triple], words: &str)
-    ensures { Adds (delivery out.old (S.held sink.old) (S.faults sink.old)) (delivery out.new (S.held sink.new) (S.faults sink.new)) (if length rest.now == 0 then [] else chars words.now) }
+/// Adds the predicate of the triple at this place, with its objects. Gives the place behind them.
+fn push_next_line<S: Sink>(
+    out: &mut Pieces,
+    sink: &mut S,
+    shorts: &Shorts,
+    triples: &[&Triple],
+    at: usize,
+) -> usize
+    requires { at < length triples.now }
+    ensures text { Adds (delivery out.old (S.held sink.old) (S.faults sink.old)) (delivery out.new (S.held sink.new) (S.faults sink.new)) (first_line shorts.now (runs by.Predicate (drop at (map (λ t. triple_seen t.now) triples.now)))) }
+    ensures next { runs by.Predicate (drop result (map (λ t. triple_seen t.now) triples.now)) ≡ later (runs by.Predicate (drop at (map (λ t. triple_seen t.now) triples.now))) }
+    ensures more { at < result }
+    ensures within { result ≤ length triples.now }
 {
-    if !rest.is_empty() {
-        push(out, sink, words);
-    }
+    let (_before, rest) = triples.split_at(at);
+    let Some(run) = cut(rest, By::Predicate) else {
+        return triples.len();
+    };
+    push_group(out, sink, shorts, run.key, run.triples);
+    place_before(triples, run.rest)
+}
+
+/// The place in a list at which so many triples are left.
+fn place_before(triples: &[&Triple], rest: &[&Triple]) -> usize
+    requires { length rest.now ≤ length triples.now }
+    ensures { result + length rest.now ≡ length triples.now }
+{
+    triples.len() - rest.len()
 }
 
 /// Adds the words, but before the first of some things.

@@ -1,15 +1,22 @@
-use Rattle.std.proofs.Common.{map}
-use Rattle.rx_pieces.proofs.Adding.{adds_then}
-use Rattle.rx_graph.specs.Resources.{resource_seen}
+use Rattle.std.proofs.Common.{◌≡◌, map, length, arith}
+use Rattle.rx_groups.specs.declared.keys.By.TheVariants as by
 use Rattle.rx_groups.proofs.GroupLemmas.{lent_seen}
-use Rattle.rx_turtle.proofs.CutLemmas.{remains_start, remains_less, remains_none, lines_next, no_lines}
+use Rattle.rx_groups.proofs.ArrangedLemmas.{seen_length}
+use Rattle.rx_pieces.proofs.Adding.{adds_then}
+use Rattle.rx_turtle.proofs.CutLemmas.{remains_start, remains_less, remains_none, lines_next, no_lines, none_left}
 use Rattle.rx_turtle.proofs.lines.push_lines.Goals as goal
 
-pub loop-run-init : goal.loop-run-init
-loop-run-init g c = remains_start _ _
+pub loop-at-init : goal.loop-at-init
+loop-at-init g c = remains_start _ _
 
-pub loop-run-preserved : goal.loop-run-preserved
-loop-run-preserved g c =
-    remains_less _ _ c.loop-run.invariant
-    (lines_next c.args.shorts.now (map lent_seen c.loop-run.rest.now) (map lent_seen c.in-Some.run.triples.now) c.in-Some.run.rest.now (resource_seen c.in-Some.run.key) c.in-Some.ensures.runs)
-    (adds_then c.push_group.ensures c.push_unless_last.ensures)
+pub loop-at-preserved : goal.loop-at-preserved
+loop-at-preserved g c =
+    let size : length (map lent_seen c.args.triples.now) ≡ length c.args.triples.now = seen_length c.args.triples.now in
+    remains_less _ _ c.loop-at.invariant
+    (lines_next c.args.shorts.now (map lent_seen c.args.triples.now) c.loop-at.at c.push_next_line.result (omega (arith, size, c.loop-at-test.true)) c.push_next_line.ensures.more c.push_next_line.ensures.next)
+    (adds_then c.push_unless_first.ensures c.push_next_line.ensures.text)
+
+pub returns : goal.returns
+returns g c =
+    let size : length (map lent_seen c.args.triples.now) ≡ length c.args.triples.now = seen_length c.args.triples.now in
+    remains_none c.loop-at.invariant (no_lines c.args.shorts.now c.loop-at.at _ (none_left by.Predicate (map lent_seen c.args.triples.now) c.loop-at.at (omega (arith, size, c.loop-at-test.false))))
