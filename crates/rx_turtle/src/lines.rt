@@ -56,11 +56,11 @@ fn push_next_statement<S: Sink>(
     ensures within { result ≤ length triples.now }
 {
     let (_before, rest) = triples.split_at(at);
-    let Some(run) = cut(rest, By::Subject) else {
+    let Some(part) = cut(rest, By::Subject) else {
         return triples.len();
     };
-    push_statement(out, sink, shorts, run.key, run.triples);
-    place_before(triples, run.rest)
+    push_statement(out, sink, shorts, part.key, part.triples);
+    place_before(triples, part.rest)
 }
 
 fn push_statement<S: Sink>(
@@ -104,11 +104,11 @@ fn push_next_line<S: Sink>(
     ensures within { result ≤ length triples.now }
 {
     let (_before, rest) = triples.split_at(at);
-    let Some(run) = cut(rest, By::Predicate) else {
+    let Some(part) = cut(rest, By::Predicate) else {
         return triples.len();
     };
-    push_group(out, sink, shorts, run.key, run.triples);
-    place_before(triples, run.rest)
+    push_group(out, sink, shorts, part.key, part.triples);
+    place_before(triples, part.rest)
 }
 
 /// The place in a list at which so many triples are left.

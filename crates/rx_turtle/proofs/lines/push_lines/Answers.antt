@@ -13,8 +13,8 @@ pub loop-at-preserved : goal.loop-at-preserved
 loop-at-preserved g c =
     let size : length (map lent_seen c.args.triples.now) ≡ length c.args.triples.now = seen_length c.args.triples.now in
     remains_less _ _ c.loop-at.invariant
-    (lines_next c.args.shorts.now (map lent_seen c.args.triples.now) c.loop-at.at c.push_next_line.result (omega (arith, size, c.loop-at-test.true)) c.push_next_line.ensures.more c.push_next_line.ensures.next)
-    (adds_then c.push_unless_first.ensures c.push_next_line.ensures.text)
+    (lines_next c.args.shorts.now (map lent_seen c.args.triples.now) c.loop-at.at c.push_next_line-at.result (omega (arith, size, c.loop-at-test.true)) c.push_next_line-at.ensures.more c.push_next_line-at.ensures.next)
+    (adds_then c.push_unless_first.ensures c.push_next_line-at.ensures.text)
 
 pub returns : goal.returns
 returns g c =

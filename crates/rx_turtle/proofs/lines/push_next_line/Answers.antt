@@ -11,10 +11,10 @@ returns-clause-text g c =
     adds_by
     (sym
     (ap (first_line c.args.shorts.now)
-    (here_runs by.Predicate c.args.triples.now c.args.at c.split_at.result.1.now c.in-Some.run.triples.now c.in-Some.run.rest.now (resource_seen c.in-Some.run.key) c.split_at.ensures.back c.in-Some.ensures.runs)))
+    (here_runs by.Predicate c.args.triples.now c.args.at c.split_at.result.1.now c.in-Some.part.triples.now c.in-Some.part.rest.now (resource_seen c.in-Some.part.key) c.split_at.ensures.back c.in-Some.ensures.runs)))
     c.push_group.ensures
 
 pub returns-clause-next : goal.returns-clause-next
 returns-clause-next g c =
-    later_runs by.Predicate c.args.triples.now c.args.at c.split_at.result.1.now c.in-Some.run.triples.now c.in-Some.run.rest.now (resource_seen c.in-Some.run.key) c.split_at.ensures.back c.in-Some.ensures.runs
+    later_runs by.Predicate c.args.triples.now c.args.at c.split_at.result.1.now c.in-Some.part.triples.now c.in-Some.part.rest.now (resource_seen c.in-Some.part.key) c.split_at.ensures.back c.in-Some.ensures.runs
     c.place_before.result c.place_before.ensures

@@ -16,8 +16,8 @@ returns-then-has_failed g c = remains_failed c.loop-at.invariant (sym c.has_fail
 pub loop-at-preserved : goal.loop-at-preserved
 loop-at-preserved g c =
     remains_less _ _ c.loop-at.invariant
-    (statements_next c.args.shorts.now (runs by.Subject (drop c.loop-at.at (map lent_seen c.args.triples.now))) (runs by.Subject (drop c.push_next_statement.result (map lent_seen c.args.triples.now))) c.push_next_statement.ensures.next)
-    c.push_next_statement.ensures.text
+    (statements_next c.args.shorts.now (runs by.Subject (drop c.loop-at.at (map lent_seen c.args.triples.now))) (runs by.Subject (drop c.push_next_statement-at.result (map lent_seen c.args.triples.now))) c.push_next_statement-at.ensures.next)
+    c.push_next_statement-at.ensures.text
 
 pub returns : goal.returns
 returns g c =
