@@ -9,9 +9,9 @@ use Rattle.rx_model.specs.Seen.{triple_seen}
 use Rattle.rx_model.proofs.Exact.{exact_nodes, exact_numbers}
 use Rattle.rx_graph.specs.Resources.{resource_seen, node_added, number_in, AreDistinct}
 use Rattle.rx_graph.proofs.SetLemmas.{same_truth, distinct_grows, one_more}
-use Rattle.rx_groups.specs.declared.groups.By.{By}
+use Rattle.rx_groups.specs.declared.keys.By.{By}
 use Rattle.rx_groups.specs.declared.groups.Group.{Group}
-use Rattle.rx_groups.specs.Groups.{Keyed, group_seen, key_by, has_key, keys_by, grouped, put_in, filed_in}
+use Rattle.rx_groups.specs.Groups.{Keyed, group_seen, key_by, has_key, keys_by, grouped, put_in}
 
 abbrev pub lent_seen : Bor CodeTriple → Triple ℕ
 lent_seen t = triple_seen t.now
@@ -43,14 +43,6 @@ module _ (kind : By) where
 
   pub keys_more : (list : List (Triple ℕ)) (t : Triple ℕ) → keys_by kind (list ++ t ∷ []) ≡ node_added (keys_by kind list) (key_by kind t)
   keys_more list t = ap (distinct (same_node nat_eq)) (map-append (key_by kind) list (t ∷ [])) ∙ distinct_grows (same_node nat_eq) (exact_nodes nat_eq exact_numbers) (map (key_by kind) list) (key_by kind t)
-
-  pub keys_turn : (list : List (Bor CodeTriple)) (i : ℕ) (t : Bor CodeTriple) (key : Node ℕ) (old new : List (Node ℕ)) → slice_get list i ≡ Some t → key ≡ key_by kind (lent_seen t) → new ≡ node_added old key
-      → old ≡ keys_by kind (map lent_seen (take i list)) → new ≡ keys_by kind (map lent_seen (take (i + 1) list))
-  keys_turn list i t key old new at is turn before =
-      turn ∙ ap₂ node_added before is ∙ sym (ap (keys_by kind) (lent_more list i t at) ∙ keys_more (map lent_seen (take i list)) (lent_seen t))
-
-  pub keys_end : (list : List (Bor CodeTriple)) (i : ℕ) (keys : List (Node ℕ)) → length list ≤ i → keys ≡ keys_by kind (map lent_seen (take i list)) → keys ≡ keys_by kind (map lent_seen list)
-  keys_end list i keys past h = h ∙ ap (λ z. keys_by kind (map lent_seen z)) (take_all i list past)
 
   -- ---- the triples of each key
 
@@ -93,20 +85,6 @@ module _ (kind : By) where
           ap (λ z. put_in (paired f (x ∷ keys)) z t) (sym next) ∙ ap₂ (λ (r : List (Triple ℕ)) (z : List Keyed). (x, r) ∷ z) row (ih m q)
       go false e None q k ih = absurd (cc)
 
-  none_there : (keys : List (Node ℕ)) (s : Node ℕ) → number_in keys s ≡ None → contains (same_node nat_eq) keys s ≡ false
-  none_there [] s h = refl
-  none_there (x ∷ keys) s h = go (same_node nat_eq x s) refl (number_in keys s) refl h (none_there keys s)
-    where
-      go : (b : Bool) → same_node nat_eq x s ≡ b → (o : Option ℕ) → number_in keys s ≡ o → (if b then Some 0 else option_map suc o) ≡ None
-          → (number_in keys s ≡ None → contains (same_node nat_eq) keys s ≡ false) → (same_node nat_eq x s || contains (same_node nat_eq) keys s) ≡ false
-      go true e o q k ih = absurd (cc)
-      go false e None q k ih = rw e (ih q)
-      go false e (Some m) q k ih = absurd (cc)
-
-  one_filed : (f : Node ℕ → List (Triple ℕ)) (t : Triple ℕ) (keys : List (Node ℕ)) (o : Option ℕ) → AreDistinct keys → number_in keys (key_by kind t) ≡ o → filed_in (paired f keys) o t ≡ paired (with_last f t) keys
-  one_filed f t keys (Some n) d h = one_put f t keys n d h
-  one_filed f t keys None d h = sym (others_stay f t keys (none_there keys (key_by kind t) h))
-
   abbrev pub rows_by : List (Triple ℕ) → List (Node ℕ) → List Keyed
   rows_by list keys = paired (λ key. filter (has_key kind key) list) keys
 
@@ -115,18 +93,6 @@ module _ (kind : By) where
   last_in list t (x ∷ keys) =
       let row : filter (has_key kind x) (list ++ t ∷ []) ≡ with_last (λ key. filter (has_key kind key) list) t x = filter-append (has_key kind x) list (t ∷ []) in
       ap₂ (λ (r : List (Triple ℕ)) (z : List Keyed). (x, r) ∷ z) row (last_in list t keys)
-
-  pub filed_turn : (list : List (Bor CodeTriple)) (i : ℕ) (t : Bor CodeTriple) (keys : List (Node ℕ)) (key : Node ℕ) (o : Option ℕ) (old new : List Keyed) → AreDistinct keys → slice_get list i ≡ Some t
-      → key ≡ key_by kind (lent_seen t) → o ≡ number_in keys key → new ≡ filed_in old o (lent_seen t)
-      → old ≡ rows_by (map lent_seen (take i list)) keys → new ≡ rows_by (map lent_seen (take (i + 1) list)) keys
-  filed_turn list i t keys key o old new d at is number turn before =
-      turn ∙ ap (λ z. filed_in z o (lent_seen t)) before
-      ∙ one_filed (λ k. filter (has_key kind k) (map lent_seen (take i list))) (lent_seen t) keys o d (sym (number ∙ ap (number_in keys) is))
-      ∙ sym (last_in (map lent_seen (take i list)) (lent_seen t) keys) ∙ ap (λ z. rows_by z keys) (sym (lent_more list i t at))
-
-  pub filed_end : (list : List (Bor CodeTriple)) (i : ℕ) (keys : List (Node ℕ)) (rows : List Keyed) → length list ≤ i → keys ≡ keys_by kind (map lent_seen list)
-      → rows ≡ rows_by (map lent_seen (take i list)) keys → rows ≡ grouped kind (map lent_seen list)
-  filed_end list i keys rows past are h = h ∙ ap₂ (λ z k. rows_by (map lent_seen z) k) (take_all i list past) are
 
 -- ---- groups
 
@@ -150,14 +116,6 @@ put_seen r groups i old now t within is key fine grown =
     let triples : map lent_seen now.triples.items ≡ map lent_seen old.triples.items ++ lent_seen t ∷ [] = pushed r old.triples.items now.triples.items t fine grown in
     let here : group_seen now ≡ ((group_seen old).0, (group_seen old).1 ++ lent_seen t ∷ []) = λ j. (resource_seen (key j), triples j) in
     set_seen groups i old now (lent_seen t) within (here ∙ ap (λ (g : Group). ((group_seen g).0, (group_seen g).1 ++ lent_seen t ∷ [])) is)
-
-pub added_turn : (keys : List (Node ℕ)) (i : ℕ) (key : Node ℕ) (old new : List Keyed) → slice_get keys i ≡ Some key → new ≡ old ++ (key, []) ∷ [] → old ≡ map {B = Keyed} (λ k. (k, [])) (take i keys)
-    → new ≡ map {B = Keyed} (λ k. (k, [])) (take (i + 1) keys)
-added_turn keys i key old new at turn before =
-    turn ∙ ap (λ z. z ++ (key, []) ∷ []) before ∙ sym (ap (map {B = Keyed} (λ k. (k, []))) (one_more keys i key at) ∙ map-append {B = Keyed} (λ k. (k, [])) (take i keys) (key ∷ []))
-
-pub added_end : (keys : List (Node ℕ)) (i : ℕ) (rows : List Keyed) → length keys ≤ i → rows ≡ map {B = Keyed} (λ k. (k, [])) (take i keys) → rows ≡ map {B = Keyed} (λ k. (k, [])) keys
-added_end keys i rows past h = h ∙ ap (map {B = Keyed} (λ k. (k, []))) (take_all i keys past)
 
 -- ---- lists that are looked at twice
 

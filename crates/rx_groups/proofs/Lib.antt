@@ -1,3 +1,4 @@
 pub mod GroupLemmas
-pub mod FewLemmas
+pub mod TakenLemmas
+pub mod ArrangedLemmas
 pub mod BorrowLemmas

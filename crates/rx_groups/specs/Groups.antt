@@ -4,8 +4,8 @@ use Rattle.rx_model.specs.Sets.{distinct}
 use Rattle.rx_model.specs.Terms.{Node, Iri, Triple, same_node}
 use Rattle.rx_model.specs.Seen.{triple_seen}
 use Rattle.rx_graph.specs.Resources.{resource_seen, number_in}
-use Rattle.rx_groups.specs.declared.groups.By.{By}
-use Rattle.rx_groups.specs.declared.groups.By.TheVariants as by
+use Rattle.rx_groups.specs.declared.keys.By.{By}
+use Rattle.rx_groups.specs.declared.keys.By.TheVariants as by
 use Rattle.rx_groups.specs.declared.groups.Group.{Group}
 
 abbrev pub key_by : By → Triple ℕ → Node ℕ
@@ -32,11 +32,6 @@ abbrev pub put_in : List Keyed → ℕ → Triple ℕ → List Keyed
 put_in [] place t = []
 put_in (group ∷ groups) zero t = (group.0, group.1 ++ t ∷ []) ∷ groups
 put_in (group ∷ groups) (suc place) t = group ∷ put_in groups place t
-
--- the same where there is such a group
-abbrev pub filed_in : List Keyed → Option ℕ → Triple ℕ → List Keyed
-filed_in groups (Some place) t = put_in groups place t
-filed_in groups None t = groups
 
 -- the keys of groups
 abbrev pub keys_in : List Keyed → List (Node ℕ)

@@ -1,27 +1,16 @@
 //! Triples in groups.
-ghost use Rattle.std.specs.Prelude.{◌≡◌, ◌<◌, [], ◌∷◌, ◌++◌, length, map, nat_eq, IfOk, OnOk, Some, slice_get};
-ghost use Rattle.rx_model.specs.Sets.{distinct};
+ghost use Rattle.std.specs.Prelude.{◌≡◌, ◌<◌, [], ◌∷◌, ◌++◌, true, length, map, nat_eq, IfOk, OnOk, Some, slice_get};
 ghost use Rattle.rx_model.specs.Terms.{same_node};
 ghost use Rattle.rx_model.specs.Seen.{triple_seen};
-ghost use Rattle.rx_graph.specs.Resources.{resource_seen, number_in, AreDistinct};
-ghost use Rattle.rx_groups.specs.Groups.{Keyed, key_by, keys_by, keys_in, grouped, put_in, filed_in, taken_in};
+ghost use Rattle.rx_graph.specs.Resources.{resource_seen, node_added, number_in, AreDistinct};
+ghost use Rattle.rx_groups.specs.Groups.{Keyed, keys_in, grouped, put_in, taken_in};
 
+use crate::hints::Hints;
+use crate::keys::{By, are_same, key_of};
 use rx_graph::{Nodes, Resource};
 use rx_terms::{NoMemory, Triple};
 use std::alloc::Global;
 use std::marker::Model;
-
-/// How many triples are put into groups without an index: then looking through the groups costs less.
-const FEW: usize = 8;
-
-/// What the triples of a group have in common.
-#[derive(Clone, Copy)]
-pub enum By {
-    /// They have one subject.
-    Subject,
-    /// They have one predicate.
-    Predicate,
-}
 
 /// Triples that have one subject or one predicate, and which.
 #[derive(Drop)]
@@ -50,22 +39,14 @@ impl<'a> Groups<'a> {
     pub fn of(alloc: Global, triples: &[&'a Triple], by: By) -> Result<Groups<'a>, NoMemory>
         ensures { IfOk result (λ groups. groups ≡ grouped by (map (λ t. triple_seen t.now) triples.now)) }
     {
-        if triples.len() <= FEW {
-            return Groups::of_few(alloc, triples, by);
-        }
-        let keys = keys_of(alloc, triples, by)?;
-        let groups = Groups::file_all(alloc, triples, by, &keys)?;
-        Ok(groups)
-    }
-
-    /// The same without an index. The time is that of the square of their number.
-    fn of_few(alloc: Global, triples: &[&'a Triple], by: By) -> Result<Groups<'a>, NoMemory>
-        ensures { IfOk result (λ groups. groups ≡ grouped by (map (λ t. triple_seen t.now) triples.now)) }
-    {
         let mut groups = Groups::none(alloc);
+        let mut keys = Nodes::new(alloc);
+        let mut hints = Hints::new(alloc, triples.len(), by)?;
         for i in 0..triples.len() {
             let triple = triples[i];
-            groups.take(alloc, triple, by)?;
+            let key = key_of(triple, by);
+            let place = groups.take(alloc, &mut keys, triple, by, hints.place(key))?;
+            hints.keep(key, place);
         }
         Ok(groups)
     }
@@ -78,27 +59,64 @@ impl<'a> Groups<'a> {
         }
     }
 
-    /// Adds the triple to the group of its key, which is made where there is none.
-    fn take(&mut self, alloc: Global, triple: &'a Triple, by: By) -> Result<(), NoMemory>
-        ensures { OnOk result (self.new ≡ taken_in by self.old (triple_seen triple.now)) }
+    /// Adds the triple to the group of its key, which is made where there is none, and gives that group's place. Where that
+    /// is the place of the hint, the key isn't looked up.
+    fn take(
+        &mut self,
+        alloc: Global,
+        keys: &mut Nodes<'a>,
+        triple: &'a Triple,
+        by: By,
+        hint: usize,
+    ) -> Result<usize, NoMemory>
+        requires keys { keys.old ≡ keys_in self.old }
+        requires once { AreDistinct (keys_in self.old) }
+        ensures taken { OnOk result (self.new ≡ taken_in by self.old (triple_seen triple.now)) }
+        ensures keys { OnOk result (keys.new ≡ keys_in self.new) }
     {
         let key = key_of(triple, by);
-        match self.place_of(key) {
-            Some(place) => self.put_within(place, triple),
-            None => self.begin(alloc, key, triple),
+        if self.is_at(hint, key) {
+            self.put_within(hint, triple)?;
+            return Ok(hint);
+        }
+        match keys.number(key) {
+            Some(place) => self.take_known(triple, place),
+            None => self.take_new(alloc, keys, key, triple),
         }
     }
 
-    /// The place of the group with this key.
-    fn place_of(&self, key: Resource) -> Option<usize>
-        ensures { result ≡ number_in (keys_in self.now) (resource_seen key.entry) }
+    fn take_known(&mut self, triple: &'a Triple, place: usize) -> Result<usize, NoMemory>
+        ensures { OnOk result (self.new ≡ put_in self.old place (triple_seen triple.now)) }
     {
-        for i in 0..self.len() {
-            if self.has_key(i, key) {
-                return Some(i);
-            }
+        self.put_within(place, triple)?;
+        Ok(place)
+    }
+
+    fn take_new(
+        &mut self,
+        alloc: Global,
+        keys: &mut Nodes<'a>,
+        key: Resource<'a>,
+        triple: &'a Triple,
+    ) -> Result<usize, NoMemory>
+        ensures taken { OnOk result (self.new ≡ self.old ++ (resource_seen key.entry, triple_seen triple.now ∷ []) ∷ []) }
+        ensures keys { OnOk result (keys.new ≡ node_added keys.old (resource_seen key.entry)) }
+    {
+        let place = self.len();
+        keys.add(key)?;
+        self.add(alloc, key)?;
+        self.put_within(place, triple)?;
+        Ok(place)
+    }
+
+    /// Whether the group at this place has the key.
+    fn is_at(&self, place: usize, key: Resource) -> bool
+        ensures { result ≡ true → AreDistinct (keys_in self.now) → number_in (keys_in self.now) (resource_seen key.entry) ≡ Some place }
+    {
+        if place >= self.len() {
+            return false;
         }
-        None
+        self.has_key(place, key)
     }
 
     /// Whether the group has this key.
@@ -108,52 +126,6 @@ impl<'a> Groups<'a> {
     {
         let (found, _triples) = self.at(place);
         are_same(found, key)
-    }
-
-    /// Adds a group of one triple.
-    fn begin(
-        &mut self,
-        alloc: Global,
-        key: Resource<'a>,
-        triple: &'a Triple,
-    ) -> Result<(), NoMemory>
-        ensures { OnOk result (self.new ≡ self.old ++ (resource_seen key.entry, triple_seen triple.now ∷ []) ∷ []) }
-    {
-        let place = self.len();
-        self.add(alloc, key)?;
-        self.put_within(place, triple)
-    }
-
-    /// The same where the keys are at hand.
-    fn file_all(
-        alloc: Global,
-        triples: &[&'a Triple],
-        by: By,
-        keys: &Nodes<'a>,
-    ) -> Result<Groups<'a>, NoMemory>
-        requires { keys.now ≡ keys_by by (map (λ t. triple_seen t.now) triples.now) }
-        ensures { IfOk result (λ groups. groups ≡ grouped by (map (λ t. triple_seen t.now) triples.now)) }
-    {
-        let mut groups = Groups::empty(alloc, keys)?;
-        for i in 0..triples.len() {
-            let triple = triples[i];
-            groups.file(keys.number(key_of(triple, by)), triple)?;
-        }
-        Ok(groups)
-    }
-
-    /// A group of no triples for each key.
-    fn empty(alloc: Global, keys: &Nodes<'a>) -> Result<Groups<'a>, NoMemory>
-        ensures groups { IfOk result (λ groups. groups ≡ map {B = Keyed} (λ key. (key, [])) keys.now) }
-        ensures once { IfOk result (λ groups. AreDistinct keys.now) }
-    {
-        let mut groups = Groups {
-            groups: Vec::with_capacity(alloc, keys.len())?,
-        };
-        for i in 0..keys.len() {
-            groups.add(alloc, keys.at(i))?;
-        }
-        Ok(groups)
     }
 
     /// Adds a group of no triples.
@@ -167,16 +139,6 @@ impl<'a> Groups<'a> {
         match self.groups.push(group) {
             Ok(()) => Ok(()),
             Err(_refused) => Err(NoMemory),
-        }
-    }
-
-    /// Adds the triple at the end of a group, where there is such a group.
-    fn file(&mut self, place: Option<usize>, triple: &'a Triple) -> Result<(), NoMemory>
-        ensures { OnOk result (self.new ≡ filed_in self.old place (triple_seen triple.now)) }
-    {
-        match place {
-            Some(place) => self.put_within(place, triple),
-            None => Ok(()),
         }
     }
 
@@ -213,31 +175,5 @@ impl<'a> Groups<'a> {
     {
         let group = &self.groups[place];
         (group.key, group.triples.as_slice())
-    }
-}
-
-/// The keys of the triples.
-fn keys_of<'a>(alloc: Global, triples: &[&'a Triple], by: By) -> Result<Nodes<'a>, NoMemory>
-    ensures { IfOk result (λ keys. keys ≡ keys_by by (map (λ t. triple_seen t.now) triples.now)) }
-{
-    let mut keys = Nodes::new(alloc);
-    for i in 0..triples.len() {
-        keys.add(key_of(triples[i], by))?;
-    }
-    Ok(keys)
-}
-
-fn are_same(one: Resource, other: Resource) -> bool
-    ensures { result ≡ same_node nat_eq (resource_seen one.entry) (resource_seen other.entry) }
-{
-    one == other
-}
-
-fn key_of<'a>(triple: &'a Triple, by: By) -> Resource<'a>
-    ensures { resource_seen result ≡ key_by by (triple_seen triple.now) }
-{
-    match by {
-        By::Subject => Resource::of_node(&triple.subject),
-        By::Predicate => Resource::Iri(&triple.predicate),
     }
 }

@@ -14,7 +14,7 @@ use Rattle.rx_notation.proofs.Grouped.{subject_says}
 use Rattle.rx_nested.specs.Laws.{HaveShapes}
 use Rattle.rx_nested.specs.Nesting.{is_top, statement_of}
 use Rattle.rx_nested.specs.Pieces.{Piece, statement_pieces, all_pieces}
-use Rattle.rx_groups.specs.declared.groups.By.TheVariants as by
+use Rattle.rx_groups.specs.declared.keys.By.TheVariants as by
 use Rattle.rx_nesting.specs.declared.source.Source.{Source}
 use Rattle.rx_nesting.specs.declared.tokens.Token.{Token}
 use Rattle.rx_groups.specs.Groups.{Keyed, has_key, keys_by, grouped}

@@ -10,7 +10,7 @@ use Rattle.rx_shapes.specs.Places.{places_of}
 use Rattle.rx_shapes.specs.Table.{Table, AreShapes, places_in}
 use Rattle.rx_shapes.proofs.RowLemmas.{positions_same}
 use Rattle.rx_notation.specs.Layout.{about, has_subject, has_predicate}
-use Rattle.rx_groups.specs.declared.groups.By.TheVariants as by
+use Rattle.rx_groups.specs.declared.keys.By.TheVariants as by
 use Rattle.rx_groups.specs.Groups.{Keyed, grouped}
 use Rattle.rx_nesting.specs.Said.{picked, object_by, found, first_of, object_with, said_of}
 use Rattle.rx_groups.proofs.GroupLemmas.{same_back}

@@ -19,7 +19,7 @@ use Rattle.rx_nested.specs.Steps.{Step, say, object_steps, after_steps, item_ste
 use Rattle.rx_nested.specs.Steps as step
 use Rattle.rx_nested.proofs.Nodes.{CellOf, cell_of, rest_each}
 use Rattle.rx_nested.proofs.Stepping.{steps_are_pieces}
-use Rattle.rx_groups.specs.declared.groups.By.TheVariants as by
+use Rattle.rx_groups.specs.declared.keys.By.TheVariants as by
 use Rattle.rx_nesting.specs.declared.tokens.Words.{Words}
 use Rattle.rx_nesting.specs.declared.tokens.Words.TheVariants as fixed
 use Rattle.rx_groups.specs.Groups.{Keyed, has_key}

@@ -1,5 +1,5 @@
 -- What is due: the tokens that are still to come, of which some are known and others come of an object or of a cell.
-use Rattle.std.specs.Prelude.{◌≡◌, ℕ, List, [], ◌∷◌, ◌++◌, map, bytes_eq, Option, Some, None, Bool, true, false, if◌then◌else◌}
+use Rattle.std.specs.Prelude.{◌≡◌, ℕ, zero, suc, List, [], ◌∷◌, ◌++◌, map, bytes_eq, Option, Some, None, Bool, true, false, if◌then◌else◌}
 use Rattle.rx_terms.specs.Text.{Chars}
 use Rattle.rx_model.specs.Sets.{Among}
 use Rattle.rx_model.specs.Seen.{term_seen, triples_seen}
@@ -20,7 +20,8 @@ use Rattle.rx_nesting.specs.declared.source.Source.{Source}
 use Rattle.rx_nesting.specs.declared.tokens.Token.{Token}
 use Rattle.rx_nesting.specs.declared.tokens.Words.{Words}
 use Rattle.rx_nesting.specs.declared.tokens.Words.TheVariants as fixed
-use Rattle.rx_groups.specs.Groups.{Keyed}
+use Rattle.rx_groups.specs.declared.keys.By.TheVariants as by
+use Rattle.rx_groups.specs.Groups.{Keyed, key_by, has_key}
 use Rattle.rx_nesting.specs.Said.{object_with, said_of}
 use Rattle.rx_nesting.specs.Tokens.{Shown, Fixed, Noun, Verb, Quoted, token_seen, tokens_seen, piece_of, pieces_of}
 
@@ -63,6 +64,39 @@ line_due group = Say (Verb group.0) ∷ Say (Fixed fixed.Space) ∷ objects_due 
 
 abbrev pub lines_due : Words → List Keyed → List Due
 lines_due gap groups = parted line_due gap groups
+
+-- ---- the same of triples in which those of one predicate stand side by side
+
+-- a predicate, before its first object
+abbrev pub verb_due : Triple ℕ → List Due
+verb_due t = Say (Verb (key_by by.Predicate t)) ∷ Say (Fixed fixed.Space) ∷ []
+
+-- a triple behind another
+abbrev pub behind_due : Words → Triple ℕ → Triple ℕ → List Due
+behind_due gap s t = if has_key by.Predicate (key_by by.Predicate t) s then Say (Fixed fixed.Comma) ∷ Object t.object ∷ [] else Say (Fixed gap) ∷ (verb_due t ++ Object t.object ∷ [])
+
+-- triples behind another
+abbrev pub tail_due : Words → Triple ℕ → List (Triple ℕ) → List Due
+tail_due gap s [] = []
+tail_due gap s (t ∷ more) = behind_due gap s t ++ tail_due gap t more
+
+-- the first of them
+abbrev pub first_due : List (Triple ℕ) → List Due
+first_due [] = []
+first_due (t ∷ more) = verb_due t ++ Object t.object ∷ []
+
+-- the one behind the one at this place
+abbrev pub next_due : Words → ℕ → List (Triple ℕ) → List Due
+next_due gap place [] = []
+next_due gap zero (s ∷ []) = []
+next_due gap zero (s ∷ t ∷ more) = behind_due gap s t
+next_due gap (suc place) (s ∷ more) = next_due gap place more
+
+-- those behind the one at this place
+abbrev pub tail_at : Words → ℕ → List (Triple ℕ) → List Due
+tail_at gap place [] = []
+tail_at gap zero (s ∷ more) = tail_due gap s more
+tail_at gap (suc place) (s ∷ more) = tail_at gap place more
 
 -- ---- what is due of a node
 

@@ -5,7 +5,7 @@ use Rattle.rx_terms.specs.Text.{Chars}
 use Rattle.rx_model.specs.Terms.{Node, Term, Triple}
 use Rattle.rx_shapes.specs.Shapes.{rdf_first, rdf_rest}
 use Rattle.rx_notation.specs.Layout.{about, has_predicate, objects_of}
-use Rattle.rx_groups.specs.declared.groups.By.TheVariants as by
+use Rattle.rx_groups.specs.declared.keys.By.TheVariants as by
 use Rattle.rx_nesting.specs.declared.said.Half.{Half}
 use Rattle.rx_nesting.specs.declared.said.Half.TheVariants as half
 use Rattle.rx_groups.specs.Groups.{Keyed, grouped}

@@ -1,15 +1,16 @@
 //! What is said of a node, as tasks. What comes last is put on the stack first.
-ghost use Rattle.std.specs.Prelude.{◌≡◌, ◌++◌, map, OnOk};
+ghost use Rattle.std.specs.Prelude.{◌≡◌, ◌+◌, ◌-◌, ◌<◌, ◌++◌, length, map, OnOk, Some, slice_get};
 ghost use Rattle.rx_model.specs.Seen.{triple_seen};
 ghost use Rattle.rx_graph.specs.Resources.{resource_seen};
 ghost use Rattle.rx_groups.specs.Groups.{grouped};
-ghost use Rattle.rx_groups.specs.declared.groups.By.TheVariants as by;
-ghost use Rattle.rx_nesting.specs.Due.{objects_due, line_due, lines_due, statement_due};
+ghost use Rattle.rx_groups.specs.Runs.{runs};
+ghost use Rattle.rx_groups.specs.declared.keys.By.TheVariants as by;
+ghost use Rattle.rx_nesting.specs.Due.{lines_due, statement_due, verb_due, behind_due, next_due, first_due};
 
 use crate::stack::{Stack, Task};
 use crate::tokens::{Token, Words};
 use rx_graph::Resource;
-use rx_groups::{By, Groups};
+use rx_groups::by_predicate;
 use rx_terms::{NoMemory, Triple};
 use std::alloc::Global;
 
@@ -22,7 +23,7 @@ pub(crate) fn push_statement<'a>(
 ) -> Result<(), NoMemory>
     ensures { OnOk result (stack.new ≡ statement_due (resource_seen subject.entry) (grouped by.Predicate (map (λ t. triple_seen t.now) triples.now)) ++ stack.old) }
 {
-    let said = Groups::of(alloc, triples, By::Predicate)?;
+    let said = by_predicate(alloc, triples)?;
     push_said(stack, subject, &said)?;
     Ok(())
 }
@@ -30,9 +31,9 @@ pub(crate) fn push_statement<'a>(
 fn push_said<'a>(
     stack: &mut Stack<'a>,
     subject: Resource<'a>,
-    said: &Groups<'a>,
+    said: &[&'a Triple],
 ) -> Result<(), NoMemory>
-    ensures { OnOk result (stack.new ≡ statement_due (resource_seen subject.entry) said.now ++ stack.old) }
+    ensures { OnOk result (stack.new ≡ statement_due (resource_seen subject.entry) (runs by.Predicate (map (λ t. triple_seen t.now) said.now)) ++ stack.old) }
 {
     stack.say(Words::End)?;
     push_lines(stack, said, Words::LineGap)?;
@@ -41,42 +42,79 @@ fn push_said<'a>(
     Ok(())
 }
 
-/// Predicates with their objects, and these words between them.
+/// Predicates with their objects, and these words between them. Triples of one predicate stand side by side.
 pub(crate) fn push_lines<'a>(
     stack: &mut Stack<'a>,
-    said: &Groups<'a>,
+    said: &[&'a Triple],
     gap: Words,
 ) -> Result<(), NoMemory>
-    ensures { OnOk result (stack.new ≡ lines_due gap said.now ++ stack.old) }
+    ensures { OnOk result (stack.new ≡ lines_due gap (runs by.Predicate (map (λ t. triple_seen t.now) said.now)) ++ stack.old) }
 {
-    for i in (0..said.len()).rev() {
-        let (predicate, triples) = said.at(i);
-        push_line(stack, predicate, triples)?;
-        stack.say_unless_first(i, gap)?;
+    for i in (0..count_before(said)).rev() {
+        push_next(stack, said, i, gap)?;
     }
+    push_first(stack, said)?;
     Ok(())
 }
 
-fn push_line<'a>(
+/// How many triples have another behind them.
+fn count_before(said: &[&Triple]) -> usize
+    ensures { result ≡ length said.now - 1 }
+{
+    said.len().saturating_sub(1)
+}
+
+/// The object of the triple behind the one at this place, and what stands before it.
+fn push_next<'a>(
     stack: &mut Stack<'a>,
-    predicate: Resource<'a>,
-    triples: &[&'a Triple],
+    said: &[&'a Triple],
+    place: usize,
+    gap: Words,
 ) -> Result<(), NoMemory>
-    ensures { OnOk result (stack.new ≡ line_due (resource_seen predicate.entry, map (λ t. triple_seen t.now) triples.now) ++ stack.old) }
+    requires { place + 1 < length said.now }
+    ensures { OnOk result (stack.new ≡ next_due gap place (map (λ t. triple_seen t.now) said.now) ++ stack.old) }
 {
-    push_objects(stack, triples)?;
-    stack.say(Words::Space)?;
-    stack.push(Task::Say(Token::Verb(predicate)))?;
-    Ok(())
+    push_behind(stack, one_at(said, place), one_at(said, place + 1), gap)
 }
 
-fn push_objects<'a>(stack: &mut Stack<'a>, triples: &[&'a Triple]) -> Result<(), NoMemory>
-    ensures { OnOk result (stack.new ≡ objects_due (map (λ t. triple_seen t.now) triples.now) ++ stack.old) }
+fn one_at<'a>(said: &[&'a Triple], place: usize) -> &'a Triple
+    requires { place < length said.now }
+    ensures { slice_get (map (λ t. triple_seen t.now) said.now) place ≡ Some (triple_seen result.now) }
 {
-    for i in (0..triples.len()).rev() {
-        let triple = triples[i];
-        stack.push(Task::Object(&triple.object))?;
-        stack.say_unless_first(i, Words::Comma)?;
+    said[place]
+}
+
+fn push_behind<'a>(
+    stack: &mut Stack<'a>,
+    before: &Triple,
+    triple: &'a Triple,
+    gap: Words,
+) -> Result<(), NoMemory>
+    ensures { OnOk result (stack.new ≡ behind_due gap (triple_seen before.now) (triple_seen triple.now) ++ stack.old) }
+{
+    stack.push(Task::Object(&triple.object))?;
+    if before.predicate == triple.predicate {
+        return stack.say(Words::Comma);
     }
-    Ok(())
+    push_verb(stack, triple)?;
+    stack.say(gap)
+}
+
+fn push_verb<'a>(stack: &mut Stack<'a>, triple: &'a Triple) -> Result<(), NoMemory>
+    ensures { OnOk result (stack.new ≡ verb_due (triple_seen triple.now) ++ stack.old) }
+{
+    stack.say(Words::Space)?;
+    stack.push(Task::Say(Token::Verb(Resource::Iri(&triple.predicate))))
+}
+
+/// The predicate and object of the first triple.
+fn push_first<'a>(stack: &mut Stack<'a>, said: &[&'a Triple]) -> Result<(), NoMemory>
+    ensures { OnOk result (stack.new ≡ first_due (map (λ t. triple_seen t.now) said.now) ++ stack.old) }
+{
+    if said.is_empty() {
+        return Ok(());
+    }
+    let triple = said[0];
+    stack.push(Task::Object(&triple.object))?;
+    push_verb(stack, triple)
 }

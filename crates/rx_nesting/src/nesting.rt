@@ -5,7 +5,7 @@ ghost use Rattle.rx_graph.specs.Resources.{resource_seen};
 ghost use Rattle.rx_shapes.specs.Table.{shape_in};
 ghost use Rattle.rx_nested.specs.Nesting.{is_top, is_top_by};
 ghost use Rattle.rx_groups.specs.Groups.{grouped};
-ghost use Rattle.rx_groups.specs.declared.groups.By.TheVariants as by;
+ghost use Rattle.rx_groups.specs.declared.keys.By.TheVariants as by;
 ghost use Rattle.rx_nesting.specs.Due.{list_of, IsSource, AreCells, Comes, Says, AreTokens, IsSubject};
 
 use crate::due::push_statement;

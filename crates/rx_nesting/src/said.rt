@@ -2,10 +2,12 @@
 ghost use Rattle.std.specs.Prelude.{◌≡◌, ◌++◌, map, IfOk, OnOk, slice_get, option_map, option_to_list, bytes_eq, if◌then◌else◌};
 ghost use Rattle.rx_model.specs.Seen.{node_seen, term_seen, triple_seen, triples_seen};
 ghost use Rattle.rx_shapes.specs.Table.{AreShapes};
+ghost use Rattle.rx_groups.specs.Runs.{runs};
+ghost use Rattle.rx_groups.specs.declared.keys.By.TheVariants as by;
 ghost use Rattle.rx_nesting.specs.Said.{picked, predicate_of, object_by, found, said_of};
 
 use rx_graph::Graph;
-use rx_groups::{By, Groups};
+use rx_groups::by_predicate;
 use rx_shapes::{Shapes, is_first, is_rest};
 use rx_terms::{Iri, NoMemory, Node, Term, Triple};
 use std::alloc::Global;
@@ -17,18 +19,18 @@ pub(crate) enum Half {
     Rest,
 }
 
-/// What is said of the node, by predicate. The time is that of the number of its triples.
+/// The triples of the node, with those of one predicate side by side. The time is that of their number.
 pub(crate) fn said_of<'a>(
     alloc: Global,
     graph: &'a Graph,
     shapes: &Shapes,
     node: &Node,
-) -> Result<Groups<'a>, NoMemory>
+) -> Result<Vec<&'a Triple>, NoMemory>
     requires { AreShapes (triples_seen graph.now) shapes.now }
-    ensures { IfOk result (λ said. said ≡ said_of (triples_seen graph.now) (node_seen node.now)) }
+    ensures { IfOk result (λ said. runs by.Predicate (map (λ t. triple_seen t.now) said.items) ≡ said_of (triples_seen graph.now) (node_seen node.now)) }
 {
     let triples = picked(alloc, graph, shapes.places(node))?;
-    let said = Groups::of(alloc, &triples, By::Predicate)?;
+    let said = by_predicate(alloc, &triples)?;
     Ok(said)
 }
 

@@ -1,6 +1,8 @@
 //! The first token of a task, and what is due after it.
-ghost use Rattle.std.specs.Prelude.{◌≡◌, [], ◌∷◌, ◌++◌, IfOk};
-ghost use Rattle.rx_model.specs.Seen.{term_seen};
+ghost use Rattle.std.specs.Prelude.{◌≡◌, [], ◌∷◌, ◌++◌, map, IfOk};
+ghost use Rattle.rx_model.specs.Seen.{term_seen, triple_seen};
+ghost use Rattle.rx_groups.specs.Runs.{runs};
+ghost use Rattle.rx_groups.specs.declared.keys.By.TheVariants as by;
 ghost use Rattle.rx_model.specs.Terms as model;
 ghost use Rattle.rx_shapes.specs.declared.shapes.Shape.TheVariants as shape;
 ghost use Rattle.rx_nesting.specs.Said.{said_of};
@@ -14,9 +16,8 @@ use crate::source::Source;
 use crate::stack::{Stack, Task};
 use crate::tokens::{Token, Words};
 use rx_graph::Resource;
-use rx_groups::Groups;
 use rx_shapes::{Shape, is_nil};
-use rx_terms::{Blank, Iri, NoMemory, Node, Term};
+use rx_terms::{Blank, Iri, NoMemory, Node, Term, Triple};
 
 /// Gives the first token of a task, and puts the rest of it on the stack.
 pub(crate) fn start<'a>(
@@ -44,7 +45,7 @@ fn start_term<'a>(
 {
     match term {
         Term::Iri(iri) => Ok(iri_token(iri)),
-        Term::Blank(blank) => start_node(source, stack, *blank, source.shapes.shape(*blank)),
+        Term::Blank(blank) => start_node(source, stack, *blank, shape_of(source, *blank)),
         Term::Literal(literal) => Ok(Token::Quoted(literal)),
     }
 }
@@ -57,6 +58,12 @@ fn iri_token<'a>(iri: &'a Iri) -> Token<'a>
         return Token::Fixed(Words::Nil);
     }
     Token::Noun(Resource::Iri(iri))
+}
+
+fn shape_of(source: &Source, blank: Blank) -> Shape
+    ensures { result ≡ shapes_of source.now blank.0 }
+{
+    source.shapes.shape(blank)
 }
 
 /// A blank node as an object, of this shape.
@@ -95,10 +102,10 @@ fn start_inside<'a>(
 }
 
 /// A node of which this is said, in brackets.
-fn start_brackets<'a>(stack: &mut Stack<'a>, said: &Groups<'a>) -> Result<Token<'a>, NoMemory>
-    ensures { IfOk result (λ token. Say (token_seen token) ∷ stack.new ≡ bracket_due said.now ++ stack.old) }
+fn start_brackets<'a>(stack: &mut Stack<'a>, said: &[&'a Triple]) -> Result<Token<'a>, NoMemory>
+    ensures { IfOk result (λ token. Say (token_seen token) ∷ stack.new ≡ bracket_due (runs by.Predicate (map (λ t. triple_seen t.now) said.now)) ++ stack.old) }
 {
-    if said.len() == 0 {
+    if said.is_empty() {
         return Ok(Token::Fixed(Words::Empty));
     }
     stack.say(Words::Close)?;

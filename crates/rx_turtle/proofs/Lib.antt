@@ -1,3 +1,3 @@
-pub mod StatementLemmas
+pub mod CutLemmas
 pub mod TextLemmas
 pub mod NestedLemmas

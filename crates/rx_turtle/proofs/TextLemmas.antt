@@ -10,9 +10,10 @@ use Rattle.rx_notation.specs.Laws.{IsContext, IsWritable, proper_triple}
 use Rattle.rx_notation.specs.Meaning.{Turtle}
 use Rattle.rx_notation.proofs.LayoutMeaning.{layout_denotes}
 use Rattle.rx_notation.proofs.Ordered.{rising}
-use Rattle.rx_groups.specs.declared.groups.By.TheVariants as by
+use Rattle.rx_groups.specs.declared.keys.By.TheVariants as by
 use Rattle.rx_groups.specs.Groups.{Keyed, has_key, keys_by, grouped}
-use Rattle.rx_turtle.specs.Written.{Said, said_by, plan, group_text, said_text, plan_text}
+use Rattle.rx_groups.specs.Runs.{Said, said_by}
+use Rattle.rx_turtle.specs.Written.{plan, group_text, said_text, plan_text}
 use Rattle.rx_shorts.specs.Rows.{AreRows}
 use Rattle.rx_shorts.specs.Uses.{used_marks, chosen}
 use Rattle.rx_groups.proofs.GroupLemmas.{map_twice}

@@ -12,7 +12,6 @@ mod lines;
 mod nested_plan;
 mod nested_writing;
 mod plan;
-mod statements;
 mod token_texts;
 mod token_uses;
 mod writing;

@@ -1,17 +1,18 @@
 //! Statements, one after another.
-ghost use Rattle.std.specs.Prelude.{◌≡◌, ◌==◌, [], codes, length, map, if◌then◌else◌};
+ghost use Rattle.std.specs.Prelude.{◌≡◌, ◌==◌, ◌+◌, ◌<◌, ◌≤◌, [], codes, drop, length, map, if◌then◌else◌};
 ghost use Rattle.std.specs.Str.{chars};
 ghost use Rattle.rx_model.specs.Seen.{triple_seen};
 ghost use Rattle.rx_graph.specs.Resources.{resource_seen};
-ghost use Rattle.rx_notation.specs.Layout.{separated};
 ghost use Rattle.rx_pieces.specs.Underway.{delivery};
 ghost use Rattle.rx_pieces.specs.Writable.{Adds};
-ghost use Rattle.rx_turtle.specs.Written.{statement_seen, objects_text, group_text, said_text, plan_text, text_of};
+ghost use Rattle.rx_notation.specs.Layout.{separated};
+ghost use Rattle.rx_groups.specs.declared.keys.By.TheVariants as by;
+ghost use Rattle.rx_groups.specs.Runs.{runs, said_in};
+ghost use Rattle.rx_turtle.specs.Written.{objects_text, group_text, first_line, said_text, statements_text, first_statement, later, text_of};
 
 use crate::plan::Plan;
-use crate::statements::Statement;
 use rx_graph::Resource;
-use rx_groups::Groups;
+use rx_groups::{By, cut};
 use rx_pieces::{Pieces, push};
 use rx_ports::Sink;
 use rx_shorts::{Shorts, push_key, push_object, push_prefixes, push_resource};
@@ -23,44 +24,99 @@ pub(crate) fn push_plan<S: Sink>(out: &mut Pieces, sink: &mut S, plan: &Plan)
     ensures { Adds (delivery out.old (S.held sink.old) (S.faults sink.old)) (delivery out.new (S.held sink.new) (S.faults sink.new)) (text_of plan.now) }
 {
     push_prefixes(out, sink, &plan.shorts, &plan.marks);
-    push_statements(out, sink, &plan.shorts, &plan.statements);
+    push_statements(out, sink, &plan.shorts, &plan.triples);
 }
 
-/// Adds the statements. Once the sink has failed, the rest isn't made.
-fn push_statements<S: Sink>(
-    out: &mut Pieces,
-    sink: &mut S,
-    shorts: &Shorts,
-    statements: &[Statement],
-)
-    ensures { Adds (delivery out.old (S.held sink.old) (S.faults sink.old)) (delivery out.new (S.held sink.new) (S.faults sink.new)) (plan_text shorts.now (map statement_seen statements.now)) }
+/// Adds a statement for each subject. The triples of a subject stand side by side, and of these those of a predicate. Once
+/// the sink has failed, the rest isn't made.
+fn push_statements<S: Sink>(out: &mut Pieces, sink: &mut S, shorts: &Shorts, triples: &[&Triple])
+    ensures { Adds (delivery out.old (S.held sink.old) (S.faults sink.old)) (delivery out.new (S.held sink.new) (S.faults sink.new)) (statements_text shorts.now (runs by.Subject (map (λ t. triple_seen t.now) triples.now))) }
 {
-    for i in 0..statements.len() {
+    let mut at = 0;
+    while at < triples.len() {
         if out.has_failed() {
             return;
         }
-        push_statement(out, sink, shorts, &statements[i]);
+        at = push_next_statement(out, sink, shorts, triples, at);
     }
 }
 
-fn push_statement<S: Sink>(out: &mut Pieces, sink: &mut S, shorts: &Shorts, statement: &Statement)
-    ensures { Adds (delivery out.old (S.held sink.old) (S.faults sink.old)) (delivery out.new (S.held sink.new) (S.faults sink.new)) (said_text shorts.now (statement_seen statement.now)) }
+/// Adds the statement that begins with the triple at this place. Gives the place behind it.
+fn push_next_statement<S: Sink>(
+    out: &mut Pieces,
+    sink: &mut S,
+    shorts: &Shorts,
+    triples: &[&Triple],
+    at: usize,
+) -> usize
+    requires { at < length triples.now }
+    ensures text { Adds (delivery out.old (S.held sink.old) (S.faults sink.old)) (delivery out.new (S.held sink.new) (S.faults sink.new)) (first_statement shorts.now (runs by.Subject (drop at (map (λ t. triple_seen t.now) triples.now)))) }
+    ensures next { runs by.Subject (drop result (map (λ t. triple_seen t.now) triples.now)) ≡ later (runs by.Subject (drop at (map (λ t. triple_seen t.now) triples.now))) }
+    ensures more { at < result }
+    ensures within { result ≤ length triples.now }
 {
-    push_resource(out, sink, shorts, statement.subject);
+    let (_before, rest) = triples.split_at(at);
+    let Some(part) = cut(rest, By::Subject) else {
+        return triples.len();
+    };
+    push_statement(out, sink, shorts, part.key, part.triples);
+    place_before(triples, part.rest)
+}
+
+fn push_statement<S: Sink>(
+    out: &mut Pieces,
+    sink: &mut S,
+    shorts: &Shorts,
+    subject: Resource,
+    triples: &[&Triple],
+)
+    ensures { Adds (delivery out.old (S.held sink.old) (S.faults sink.old)) (delivery out.new (S.held sink.new) (S.faults sink.new)) (said_text shorts.now (said_in (resource_seen subject.entry, map (λ t. triple_seen t.now) triples.now))) }
+{
+    push_resource(out, sink, shorts, subject);
     push(out, sink, " ");
-    push_groups(out, sink, shorts, &statement.said);
+    push_lines(out, sink, shorts, triples);
     push(out, sink, " .\n");
 }
 
 /// Adds a subject's predicates with their objects.
-fn push_groups<S: Sink>(out: &mut Pieces, sink: &mut S, shorts: &Shorts, groups: &Groups)
-    ensures { Adds (delivery out.old (S.held sink.old) (S.faults sink.old)) (delivery out.new (S.held sink.new) (S.faults sink.new)) (separated (codes " ;\n    ") (map (group_text shorts.now) groups.now)) }
+fn push_lines<S: Sink>(out: &mut Pieces, sink: &mut S, shorts: &Shorts, triples: &[&Triple])
+    ensures { Adds (delivery out.old (S.held sink.old) (S.faults sink.old)) (delivery out.new (S.held sink.new) (S.faults sink.new)) (separated (codes " ;\n    ") (map (group_text shorts.now) (runs by.Predicate (map (λ t. triple_seen t.now) triples.now)))) }
 {
-    for i in 0..groups.len() {
-        push_unless_first(out, sink, i, " ;\n    ");
-        let (predicate, triples) = groups.at(i);
-        push_group(out, sink, shorts, predicate, triples);
+    let mut at = 0;
+    while at < triples.len() {
+        push_unless_first(out, sink, at, " ;\n    ");
+        at = push_next_line(out, sink, shorts, triples, at);
     }
+}
+
+/// Adds the predicate of the triple at this place, with its objects. Gives the place behind them.
+fn push_next_line<S: Sink>(
+    out: &mut Pieces,
+    sink: &mut S,
+    shorts: &Shorts,
+    triples: &[&Triple],
+    at: usize,
+) -> usize
+    requires { at < length triples.now }
+    ensures text { Adds (delivery out.old (S.held sink.old) (S.faults sink.old)) (delivery out.new (S.held sink.new) (S.faults sink.new)) (first_line shorts.now (runs by.Predicate (drop at (map (λ t. triple_seen t.now) triples.now)))) }
+    ensures next { runs by.Predicate (drop result (map (λ t. triple_seen t.now) triples.now)) ≡ later (runs by.Predicate (drop at (map (λ t. triple_seen t.now) triples.now))) }
+    ensures more { at < result }
+    ensures within { result ≤ length triples.now }
+{
+    let (_before, rest) = triples.split_at(at);
+    let Some(part) = cut(rest, By::Predicate) else {
+        return triples.len();
+    };
+    push_group(out, sink, shorts, part.key, part.triples);
+    place_before(triples, part.rest)
+}
+
+/// The place in a list at which so many triples are left.
+fn place_before(triples: &[&Triple], rest: &[&Triple]) -> usize
+    requires { length rest.now ≤ length triples.now }
+    ensures { result + length rest.now ≡ length triples.now }
+{
+    triples.len() - rest.len()
 }
 
 /// Adds the words, but before the first of some things.

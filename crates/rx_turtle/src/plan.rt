@@ -7,19 +7,19 @@ ghost use Rattle.rx_notation.specs.Laws.{proper_triple};
 ghost use Rattle.rx_notation.specs.Meaning.{Turtle};
 ghost use Rattle.rx_turtle.specs.Written.{text_of};
 
-use crate::statements::{Statement, statements_of};
 use rx_graph::Graph;
+use rx_groups::arranged;
 use rx_names::Context;
 use rx_shorts::{Shorts, used_marks};
-use rx_terms::NoMemory;
+use rx_terms::{NoMemory, Triple};
 use std::alloc::Global;
 
-/// The short forms of IRIs, which prefixes are used, and what is said of each subject.
+/// The short forms of IRIs, which prefixes are used, and the triples in the order in which they are written.
 #[derive(Drop)]
 pub(crate) struct Plan<'a> {
     pub(crate) shorts: Shorts<'a>,
     pub(crate) marks: Vec<bool>,
-    pub(crate) statements: Vec<Statement<'a>>,
+    pub(crate) triples: Vec<&'a Triple>,
 }
 
 impl<'a> Plan<'a> {
@@ -38,7 +38,7 @@ impl<'a> Plan<'a> {
             drop(shorts);
             return Err(NoMemory);
         };
-        let Ok(statements) = statements_of(alloc, graph) else {
+        let Ok(triples) = arranged(alloc, graph) else {
             drop(shorts);
             drop(marks);
             return Err(NoMemory);
@@ -46,7 +46,7 @@ impl<'a> Plan<'a> {
         Ok(Plan {
             shorts,
             marks,
-            statements,
+            triples,
         })
     }
 }

@@ -1,7 +1,7 @@
-use Rattle.std.proofs.Common.{◌≡◌, ◌++◌}
-use Rattle.rx_nesting.specs.Due.{line_due}
-use Rattle.rx_nesting.proofs.DueLemmas.{from}
+use Rattle.std.proofs.Common.{◌≡◌, ◌++◌, map}
+use Rattle.rx_groups.proofs.GroupLemmas.{lent_seen}
+use Rattle.rx_nesting.specs.Due.{tail_at}
 use Rattle.rx_nesting.proofs.due.push_lines.Given as goal
 
 abbrev pub invariant-loop-i : goal.invariant-loop-i
-invariant-loop-i l = l.stack ≡ from line_due l.gap l.i l.said ++ l.fn.stack
+invariant-loop-i l = l.stack ≡ tail_at l.gap l.i (map lent_seen l.said) ++ l.fn.stack

@@ -2,10 +2,13 @@ use Rattle.std.proofs.Common.{ap, map}
 use Rattle.rx_notation.specs.Layout.{prefixes_text}
 use Rattle.rx_pieces.proofs.Adding.{adds_then, adds_by}
 use Rattle.rx_shorts.specs.Uses.{chosen}
-use Rattle.rx_turtle.specs.Written.{statement_seen, plan_text}
+use Rattle.rx_groups.specs.declared.keys.By.TheVariants as by
+use Rattle.rx_groups.specs.Runs.{runs}
+use Rattle.rx_groups.proofs.GroupLemmas.{lent_seen}
+use Rattle.rx_turtle.specs.Written.{statements_text}
 use Rattle.rx_turtle.proofs.lines.push_plan.Goals as goal
 
 pub returns : goal.returns
 returns g c =
     adds_then (adds_by (ap (λ z. prefixes_text (chosen z c.args.plan.now.shorts)) c.deref.ensures.value) c.push_prefixes.ensures)
-    (adds_by (ap (λ z. plan_text c.args.plan.now.shorts (map statement_seen z)) c.deref-2.ensures.value) c.push_statements.ensures)
+    (adds_by (ap (λ z. statements_text c.args.plan.now.shorts (runs by.Subject (map lent_seen z))) c.deref-2.ensures.value) c.push_statements.ensures)

@@ -1,9 +1,16 @@
-use Rattle.std.proofs.Common.{take, map}
+use Rattle.std.proofs.Common.{◌-◌, drop, map, length}
 use Rattle.rx_pieces.specs.Underway.{delivery}
-use Rattle.rx_pieces.specs.Writable.{Adds}
-use Rattle.rx_turtle.specs.Written.{statement_seen, plan_text}
+use Rattle.rx_groups.specs.declared.keys.By.TheVariants as by
+use Rattle.rx_groups.specs.Runs.{runs}
+use Rattle.rx_groups.proofs.GroupLemmas.{lent_seen}
+use Rattle.rx_turtle.specs.Written.{statements_text}
+use Rattle.rx_turtle.proofs.CutLemmas.{Remains}
 use Rattle.rx_turtle.proofs.lines.push_statements.Given as goal
 
-abbrev pub invariant-loop-i : goal.invariant-loop-i
-invariant-loop-i g l =
-    Adds (delivery l.fn.out (g.S.Sink.held l.fn.sink) (g.S.Sink.faults l.fn.sink)) (delivery l.out (g.S.Sink.held l.sink) (g.S.Sink.faults l.sink)) (plan_text l.shorts (take l.i (map statement_seen l.statements)))
+abbrev pub invariant-loop-at : goal.invariant-loop-at
+invariant-loop-at g l =
+    Remains (delivery l.fn.out (g.S.Sink.held l.fn.sink) (g.S.Sink.faults l.fn.sink)) (delivery l.out (g.S.Sink.held l.sink) (g.S.Sink.faults l.sink))
+    (statements_text l.shorts (runs by.Subject (map lent_seen l.triples))) (statements_text l.shorts (runs by.Subject (drop l.at (map lent_seen l.triples))))
+
+abbrev pub decreases-loop-at : goal.decreases-loop-at
+decreases-loop-at g l = length l.triples - l.at

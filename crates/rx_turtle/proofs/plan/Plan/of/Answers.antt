@@ -8,7 +8,7 @@ use Rattle.rx_turtle.proofs.plan.Plan.of.Goals as goal
 
 pub returns-clause-text : goal.returns-clause-text
 returns-clause-text c =
-    text_is c.in_ok-shorts.shorts (triples_seen c.args.graph.now) _ _ c.in-Ok.ensures.in_order c.in-Ok.ensures.marks c.in-Ok-statements_of.ensures
+    text_is c.in_ok-shorts.shorts (triples_seen c.args.graph.now) _ _ c.in-Ok.ensures.in_order c.in-Ok.ensures.marks c.in-Ok-arranged.ensures
     ∙ ap (λ z. turtle z (triples_seen c.args.graph.now)) c.in_ok-shorts.ensures.prefixes
 
 pub returns-clause-sizes : goal.returns-clause-sizes
