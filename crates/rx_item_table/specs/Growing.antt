@@ -1,5 +1,5 @@
 -- The table while its page is read: what each event makes of it.
-use Rattle.std.specs.Prelude.{◌≡◌, ℕ, Bool, true, false, ◌-◌, ◌||◌, nat_lt, List, [], ◌∷◌, ◌++◌, length, take, slice_index_or, slice_set, Option, Some, None, is_some, codes, if◌then◌else◌}
+use Rattle.std.specs.Prelude.{◌≡◌, ℕ, Bool, true, false, ◌-◌, not, ◌&&◌, ◌||◌, nat_lt, List, [], ◌∷◌, ◌++◌, length, take, slice_index_or, slice_set, Option, Some, None, is_some, codes, if◌then◌else◌}
 use Rattle.rx_terms.specs.Text.{Chars}
 use Rattle.rx_grammar.specs.Tokens.{Tag, value_of}
 use Rattle.rx_item_table.specs.Spans.{mark_of}
@@ -78,6 +78,10 @@ head_of text tag token at = record {
   named = is_named tag.attributes;
   words = words_of text tag.attributes;
 }
+
+-- a property that is no item
+abbrev pub is_asked_of : Head → Bool
+is_asked_of head = not head.is_item && head.named
 
 -- an element begins
 abbrev pub begun : Growing → Tag → ℕ → ℕ → Growing

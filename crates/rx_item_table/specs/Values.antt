@@ -50,8 +50,14 @@ text_by rule.Time text attributes = word_text text (value_of attributes (codes "
 text_by rule.Text text attributes = text
 
 -- where it is asked for
+abbrev pub taken_if : Bool → Chars → Tag → Taken
+taken_if asked text tag = if asked then taken_by (rule_of tag.name) text tag.attributes else taken.Empty
+
+abbrev pub text_if : Bool → Chars → Tag → Chars
+text_if asked text tag = if asked then text_by (rule_of tag.name) text tag.attributes else text
+
 abbrev pub taken_of : Chars → Tag → Taken
-taken_of text tag = if is_asked tag.attributes then taken_by (rule_of tag.name) text tag.attributes else taken.Empty
+taken_of text tag = taken_if (is_asked tag.attributes) text tag
 
 abbrev pub text_taken : Chars → Tag → Chars
-text_taken text tag = if is_asked tag.attributes then text_by (rule_of tag.name) text tag.attributes else text
+text_taken text tag = text_if (is_asked tag.attributes) text tag

@@ -73,7 +73,7 @@ impl Table {
             return self.pass();
         }
         let head = head_of(&mut self.words, tag)?;
-        let taken = take_value(&mut self.words, tag)?;
+        let taken = take_value(&mut self.words, tag, is_asked(head))?;
         self.add(alloc, head, taken)
     }
 
@@ -243,6 +243,13 @@ fn head_of(words: &mut TextStore, tag: &Tag<'_>) -> Result<Head, NoMemory>
         named: is_named(tag),
         words,
     })
+}
+
+/// Whether the value of a row is asked for, which is a property and no item.
+fn is_asked(head: Head) -> bool
+    ensures { result ≡ growing.is_asked_of head }
+{
+    !head.is_item && head.named
 }
 
 fn row_value(taken: Taken, mark: usize, times: usize) -> RowValue

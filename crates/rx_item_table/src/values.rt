@@ -2,7 +2,7 @@
 ghost use Rattle.std.specs.Prelude.{◌≡◌, IfOk, OnOk};
 ghost use Rattle.std.specs.Str.{chars};
 ghost use Rattle.rx_tags.specs.Seen.{tag_seen};
-ghost use Rattle.rx_item_table.specs.Values.{taken_by, taken_of, text_by, text_taken, written, referred, own_unless, is_named, is_asked};
+ghost use Rattle.rx_item_table.specs.Values.{taken_by, taken_if, text_by, text_if, written, referred, own_unless, is_named};
 ghost use Rattle.rx_item_table.specs.Rules.{rule_of as the_rule};
 
 use crate::rules::{ValueRule, rule_of};
@@ -65,22 +65,16 @@ pub(crate) fn is_named(tag: &Tag<'_>) -> bool
     }
 }
 
-/// Whether the value of an element is asked for, which is a property and no item.
-fn is_asked(tag: &Tag<'_>) -> bool
-    ensures { result ≡ is_asked (tag_seen tag.now).attributes }
-{
-    if attribute(tag, "itemscope").is_some() {
-        return false;
-    }
-    is_named(tag)
-}
-
 /// Keeps the value of an element where it is asked for and stands in the tag.
-pub(crate) fn take_value(words: &mut TextStore, tag: &Tag<'_>) -> Result<Taken, NoMemory>
-    ensures text { OnOk result (words.new ≡ text_taken words.old (tag_seen tag.now)) }
-    ensures value { IfOk result (λ taken. taken ≡ taken_of words.old (tag_seen tag.now)) }
+pub(crate) fn take_value(
+    words: &mut TextStore,
+    tag: &Tag<'_>,
+    is_asked: bool,
+) -> Result<Taken, NoMemory>
+    ensures text { OnOk result (words.new ≡ text_if is_asked words.old (tag_seen tag.now)) }
+    ensures value { IfOk result (λ taken. taken ≡ taken_if is_asked words.old (tag_seen tag.now)) }
 {
-    if !is_asked(tag) {
+    if !is_asked {
         return Ok(Taken::Empty);
     }
     take_by(words, tag, rule_for(tag))

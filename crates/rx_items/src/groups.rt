@@ -91,7 +91,11 @@ pub(crate) fn push_to(list: &mut Vec<Value>, value: Value) -> Result<(), NoMemor
 pub(crate) fn one_value(alloc: Global, value: Value) -> Result<Value, NoMemory>
     ensures { IfOk result (λ values. view values ≡ array (item (view value) no_items)) }
 {
-    let mut list = Vec::new(alloc);
+    // most names have no other
+    let Ok(mut list) = Vec::with_capacity(alloc, 1) else {
+        drop(value);
+        return Err(NoMemory);
+    };
     push_to(&mut list, value)?;
     Ok(Value::Array(list))
 }

@@ -140,6 +140,7 @@ fn group_of(
 }
 
 /// Puts the values of an item's properties under their names.
+#[inline]
 #[cycle(visit)]
 fn fill_item(
     alloc: Global,
@@ -225,6 +226,7 @@ fn add_property(
     }
 }
 
+#[inline]
 #[cycle(visit)]
 fn add_values(
     alloc: Global,
@@ -274,6 +276,7 @@ fn add_each(
 }
 
 /// Puts a value of a property under a name.
+#[inline]
 #[cycle(visit)]
 fn add_named(
     alloc: Global,
@@ -298,6 +301,7 @@ fn add_named(
 }
 
 /// The value of a property: an item, or a text.
+#[inline]
 #[cycle(visit)]
 fn value_of(
     alloc: Global,
