@@ -1,11 +1,12 @@
 -- What the tokens of a value print, and values in a row.
-use Rattle.std.proofs.Common.{◌≡◌, ◌∙◌, Bool, true, false, List, [], ◌∷◌, ◌++◌, ℕ, refl, sym, ap, append_assoc, append-nil}
+use Rattle.std.proofs.Common.{◌≡◌, ◌∙◌, Bool, true, false, List, [], ◌∷◌, ◌++◌, ℕ, refl, sym, ap, codes, append_assoc, append-nil}
 use Rattle.json.specs.Token.{Token}
 use Rattle.json.specs.Print.{print, print_from, quoted}
 use Rattle.serde_json.specs.Data.{Data, null, boolean, number, string, array, object, Items, no_items, item, Members, no_members, member}
 use Rattle.serde_json.specs.View.{items_of}
 use Rattle.serde_json.specs.Written.{comma_if, compact_text, items_text, members_text}
 use Rattle.rx_jsonld.specs.Tokens.{data_tokens, items_tokens, members_tokens, each_tokens}
+use Rattle.rx_jsonld.specs.Value.{list_value}
 
 -- ---- the print
 
@@ -86,3 +87,26 @@ array_made old begun each new ds b e n =
   where
     regrouped : (o e : List Token) → ((o ++ Token.begin_array ∷ []) ++ e) ++ Token.end_array ∷ [] ≡ o ++ Token.begin_array ∷ (e ++ Token.end_array ∷ [])
     regrouped o e = append_assoc (o ++ Token.begin_array ∷ []) e (Token.end_array ∷ []) ∙ append_assoc o (Token.begin_array ∷ []) (e ++ Token.end_array ∷ [])
+
+-- a key before it
+pub group_made : (old keyed begun each new : List Token) (name : List ℕ) (ds : List Data) → keyed ≡ old ++ Token.key name ∷ [] → begun ≡ keyed ++ Token.begin_array ∷ [] → each ≡ begun ++ each_tokens ds
+    → new ≡ each ++ Token.end_array ∷ [] → new ≡ old ++ Token.key name ∷ data_tokens (array (items_of ds))
+group_made old keyed begun each new name ds k b e n =
+    array_made keyed begun each new ds b e n ∙ ap (λ ts. ts ++ data_tokens (array (items_of ds))) k ∙ append_assoc old (Token.key name ∷ []) (data_tokens (array (items_of ds)))
+
+-- ---- a list object
+
+abbrev list_begun : List Token
+list_begun = Token.begin_object ∷ Token.key (codes "@list") ∷ Token.begin_array ∷ []
+
+abbrev list_ended : List Token
+list_ended = Token.end_array ∷ Token.end_object ∷ []
+
+last_ends : (ts : List Token) → ts ++ list_ended ≡ ((ts ++ Token.end_array ∷ []) ++ []) ++ Token.end_object ∷ []
+last_ends ts = sym (ap (λ us. us ++ Token.end_object ∷ []) (append-nil (ts ++ Token.end_array ∷ [])) ∙ append_assoc ts (Token.end_array ∷ []) (Token.end_object ∷ []))
+
+pub list_made : (old begun each new : List Token) (ds : List Data) → begun ≡ old ++ list_begun → each ≡ begun ++ each_tokens ds → new ≡ each ++ list_ended → new ≡ old ++ data_tokens (list_value ds)
+list_made old begun each new ds b e n =
+    n ∙ ap (λ ts. ts ++ list_ended) (e ∙ ap (λ ts. ts ++ each_tokens ds) b) ∙ append_assoc (old ++ list_begun) (each_tokens ds) list_ended
+    ∙ append_assoc old list_begun (each_tokens ds ++ list_ended) ∙ ap (λ ts. old ++ (list_begun ++ ts)) (last_ends (each_tokens ds))
+    ∙ ap (λ ts. old ++ (list_begun ++ (((ts ++ Token.end_array ∷ []) ++ []) ++ Token.end_object ∷ []))) (sym (each_items ds))
