@@ -1,10 +1,11 @@
 //! The JSON-LD of a graph as a text.
-ghost use Rattle.std.specs.Prelude.{◌≡◌, ◌++◌, [], ◌∷◌, map, codes, IfOk, OnOk};
+ghost use Rattle.std.specs.Prelude.{◌≡◌, ◌++◌, [], ◌∷◌, map, nat_eq, codes, IfOk, OnOk};
 ghost use Rattle.json.specs.Token as token;
 ghost use Rattle.serde_json.specs.Data.{array, member, object};
 ghost use Rattle.serde_json.specs.View.{items_of};
 ghost use Rattle.serde_json.specs.Written.{compact_text};
 ghost use Rattle.rx_model.specs.Seen.{node_seen, triples_seen};
+ghost use Rattle.rx_shapes.specs.Places.{places_of};
 ghost use Rattle.rx_shapes.specs.Table.{AreShapes, shape_in};
 ghost use Rattle.rx_notation.specs.Laws.{IsWritable, proper_triple};
 ghost use Rattle.rx_jsonld.specs.Groups.{grouped, value_at, values_at};
@@ -100,27 +101,30 @@ fn write_first(
     requires writable { IsWritable (triples_seen graph.now) }
     ensures { OnOk result (out.new ≡ out.old ++ each_tokens (node_at (triples_seen graph.now) (shape_in shapes.now) place (node_seen subject.now))) }
 {
-    if !begins_node(graph, shapes, cells, place, subject) {
+    let places = shapes.places(subject);
+    if !begins_node(graph, shapes, cells, places, place, subject) {
         return Ok(());
     }
-    write_node(alloc, graph, shapes, subject, out)
+    write_node(alloc, graph, shapes, subject, places, out)
 }
 
 // ---- one node object
 
-/// Writes the node object of a subject.
+/// Writes the node object of a subject that has these places.
 fn write_node(
     alloc: Global,
     graph: &Graph,
     shapes: &Shapes,
     subject: &Node,
+    places: &[usize],
     out: &mut JsonText,
 ) -> Result<(), NoMemory>
     requires shapes { AreShapes (triples_seen graph.now) shapes.now }
+    requires places { places.now ≡ places_of nat_eq (triples_seen graph.now) (node_seen subject.now) }
     requires writable { IsWritable (triples_seen graph.now) }
     ensures { OnOk result (out.new ≡ out.old ++ data_tokens (node_value (triples_seen graph.now) (shape_in shapes.now) (node_seen subject.now))) }
 {
-    let groups = groups_of(alloc, graph, shapes.places(subject))?;
+    let groups = groups_of(alloc, graph, places)?;
     let written = write_object(alloc, graph, shapes, subject, &groups, out);
     drop(groups);
     written

@@ -1,5 +1,7 @@
-use Rattle.std.proofs.Common.{◌∙◌, ap, sym}
-use Rattle.rx_jsonld.specs.Groups.{grouped}
+use denote.Ref.{Bor}
+use Rattle.std.proofs.Common.{◌≡◌, ◌∙◌, ℕ, List, Vec, Global, BTreeMap, ap, sym}
+use Rattle.rx_jsonld.specs.Groups.{grouped, places_under, value_at}
+use Rattle.rx_jsonld.specs.Value.{with_last}
 use Rattle.rx_jsonld.proofs.GroupLemmas.{put_behind}
 use Rattle.rx_jsonld.proofs.MemberLemmas.{then_ok}
 use Rattle.rx_jsonld.proofs.groups.put_place.Goals as goal
@@ -12,4 +14,9 @@ returns-in-Some c list shapes =
     c.push_place.ensures
 
 pub returns-in-None : goal.returns-in-None
-returns-in-None c list shapes = then_ok c.start_group.result (λ put. put (sym c.in-None.ensures.value)) (c.start_group.ensures list shapes)
+returns-in-None c list shapes =
+    let back : c.get_mut.follows.lender-at-none ≡ c.args.groups.now = c.get_mut.follows.holds-at-none in
+    then_ok c.start_group.result
+    (λ put. put (ap (λ (groups : BTreeMap (Bor (List ℕ)) (Vec ℕ Global)). places_under groups c.args.key.now) back ∙ sym c.in-None.ensures.value)
+    ∙ ap (λ (groups : BTreeMap (Bor (List ℕ)) (Vec ℕ Global)). with_last c.args.key.now (value_at list shapes c.args.place) (grouped list shapes groups.entries)) back)
+    (c.start_group.ensures list shapes)

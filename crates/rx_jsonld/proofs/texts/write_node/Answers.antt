@@ -15,6 +15,6 @@ returns c =
     let list = triples_seen c.args.graph.now in
     let shapes = shape_in c.args.shapes.now in
     let subject = node_seen c.args.subject.now in
-    let said = c.in_ok-groups.ensures shapes ∙ ap (λ places. with_places list shapes places no_members) (c.places.ensures ∙ c.requires.shapes.places subject) ∙ said_found list shapes subject no_members in
+    let said = c.in_ok-groups.ensures shapes ∙ ap (λ places. with_places list shapes places no_members) c.requires.places ∙ said_found list shapes subject no_members in
     let whole = ap (λ (ms : Members). object (member (codes "@id") (string_of (id_text subject)) ms)) said ∙ node_made list shapes subject c.requires.writable in
     then_ok c.write_object-written.result (λ written. written ∙ ap (λ d. c.args.out.now ++ data_tokens d) whole) c.write_object-written.ensures
