@@ -1,6 +1,6 @@
 -- Places that are put behind those of their keys, and the name of a node before them.
 use denote.Ref.{Bor}
-use Rattle.std.proofs.Common.{◌≡◌, ◌∙◌, ◌<◌, refl, sym, ap, ℕ, List, [], ◌∷◌, ◌++◌, Bool, true, false, true≢false, map, codes, slice_get, Option, Some, None, Ordering, Less, Equal, Greater, nat_eq, nat_cmp, Global, Vec, encode_utf8_all, inl, inr, arith}
+use Rattle.std.proofs.Common.{◌≡◌, ◌∙◌, ◌<◌, refl, sym, ap, ℕ, List, [], ◌∷◌, ◌++◌, Bool, true, false, true≢false, codes, slice_get, Option, Some, None, Ordering, Less, Equal, Greater, nat_eq, nat_cmp, Global, Vec, encode_utf8_all, inl, inr, arith}
 use Rattle.std.proofs.lemmas.Bool.Decides.{nat_tests}
 use Rattle.std.proofs.lemmas.Cmp.{nat_list_cmp_total}
 use Rattle.std.proofs.lemmas.Str.{encode_ascii}
@@ -9,7 +9,7 @@ use Rattle.std.specs.List.{AllByRecursion}
 use Rattle.std.specs.List.Sorted.{IsStrictlySortedBy}
 use Rattle.std.specs.Map.{keys_of, lookup, set_value}
 use Rattle.std.specs.BTreeMap.{insert_entry, is_at}
-use Rattle.serde_json.specs.Data.{Data, array, object, no_items, item, Members, no_members, member}
+use Rattle.serde_json.specs.Data.{Data, array, object, item, Members, no_members, member}
 use Rattle.serde_json.specs.View.{items_of}
 use Rattle.rx_terms.specs.Ascii.{is_letter}
 use Rattle.rx_terms.specs.Iri.{IsIri, begins_with_scheme}
@@ -22,7 +22,7 @@ use Rattle.rx_notation.specs.Layout.{has_subject, about}
 use Rattle.rx_notation.specs.Laws.{IsWritable}
 use Rattle.rx_jsonld.specs.Groups.{key_by, key_of, value_by, value_said, value_at, values_at, grouped}
 use Rattle.rx_jsonld.specs.Places.{with_found}
-use Rattle.rx_jsonld.specs.Value.{id_text, behind, items_and, object_value, string_of, type_of, with_last, said_by, with_said, with_all, node_value}
+use Rattle.rx_jsonld.specs.Value.{id_text, behind, items_and, string_of, type_of, with_last, said_by, with_said, with_all, node_value}
 
 abbrev Group : Type 0
 Group = Bor (List ℕ) × Vec ℕ Global
