@@ -7,4 +7,5 @@ pub mod Docs
 pub mod Denotes
 pub mod PlaceLemmas
 pub mod MemberLemmas
-pub mod TextLemmas
+pub mod TokenLemmas
+pub mod GroupLemmas

@@ -5,4 +5,5 @@ pub mod Document
 pub mod Meaning
 pub mod Laws
 pub mod Rows
-pub mod Texts
+pub mod Tokens
+pub mod Groups

@@ -9,10 +9,13 @@ ghost use Rattle.rx_jsonld.specs.Meaning.{DenotesOne};
 ghost use Rattle.rx_jsonld.specs.Rows.{RowsHold};
 
 mod chains;
+mod groups;
+mod json_texts;
 mod listed;
 mod members;
 mod nodes;
 mod objects;
+mod said;
 mod terms;
 mod texts;
 mod values;

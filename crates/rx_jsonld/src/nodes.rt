@@ -1,8 +1,7 @@
 //! The node objects of a graph.
-ghost use Rattle.std.specs.Prelude.{◌≡◌, ◌++◌, [], map, nat_eq, not, ◌&&◌, slice_get, IfOk, OnOk};
+ghost use Rattle.std.specs.Prelude.{◌≡◌, ◌++◌, [], map, not, ◌&&◌, slice_get, IfOk, OnOk};
 ghost use Rattle.serde_json.specs.View.{members_view, view};
 ghost use Rattle.rx_model.specs.Seen.{node_seen, triples_seen};
-ghost use Rattle.rx_shapes.specs.Places.{places_of};
 ghost use Rattle.rx_shapes.specs.Table.{AreShapes, shape_in};
 ghost use Rattle.rx_jsonld.specs.Lists.{is_listed, listed};
 ghost use Rattle.rx_jsonld.specs.Places.{node_at, nodes_added, starts, with_found, with_places};
@@ -52,25 +51,27 @@ fn add_node(
     requires listed { cells.now ≡ nodes_added [] (listed (shape_in shapes.now) (triples_seen graph.now)) }
     ensures { OnOk result (map view nodes.new.items ≡ map view nodes.old.items ++ node_at (triples_seen graph.now) (shape_in shapes.now) place (node_seen subject.now)) }
 {
-    if !begins_node(graph, shapes, cells, place, subject) {
+    let places = shapes.places(subject);
+    if !begins_node(graph, shapes, cells, places, place, subject) {
         return Ok(());
     }
     let node = node_value(alloc, graph, shapes, subject)?;
     push_to(nodes, node)
 }
 
+/// Whether the node has its node object at a place: this is the first one of its places, and it is no listed cell.
 pub(crate) fn begins_node(
     graph: &Graph,
     shapes: &Shapes,
     cells: &Nodes,
+    places: &[usize],
     place: usize,
     subject: &Node,
 ) -> bool
-    requires shapes { AreShapes (triples_seen graph.now) shapes.now }
     requires listed { cells.now ≡ nodes_added [] (listed (shape_in shapes.now) (triples_seen graph.now)) }
-    ensures { result ≡ (starts (places_of nat_eq (triples_seen graph.now) (node_seen subject.now)) place && not (is_listed (shape_in shapes.now) (triples_seen graph.now) (node_seen subject.now))) }
+    ensures { result ≡ (starts places.now place && not (is_listed (shape_in shapes.now) (triples_seen graph.now) (node_seen subject.now))) }
 {
-    starts(shapes.places(subject), place) && !is_listed(graph, shapes, cells, subject)
+    starts(places, place) && !is_listed(graph, shapes, cells, subject)
 }
 
 fn starts(places: &[usize], place: usize) -> bool

@@ -34,7 +34,7 @@ pub(crate) fn add_said(
 }
 
 /// The node that the triple gives as a type.
-fn type_of(triple: &Triple) -> Option<Resource<'_>>
+pub(crate) fn type_of(triple: &Triple) -> Option<Resource<'_>>
     ensures { option_map resource_seen result ≡ type_of (triple_seen triple.now) }
 {
     if is_type(&triple.predicate) {
@@ -106,7 +106,7 @@ fn plain_value(alloc: Global, predicate: &Iri, object: &Term) -> Result<Value, N
 }
 
 /// Whether the object is rdf:nil and is written as a list of no items.
-fn is_empty_list(predicate: &Iri, object: &Term) -> bool
+pub(crate) fn is_empty_list(predicate: &Iri, object: &Term) -> bool
     ensures { result ≡ is_empty_list predicate.now (term_seen object.now) }
 {
     match object {

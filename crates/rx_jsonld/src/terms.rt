@@ -1,5 +1,5 @@
 //! Terms as JSON.
-ghost use Rattle.std.specs.Prelude.{◌≡◌, map, codes, IfOk, OnOk, []};
+ghost use Rattle.std.specs.Prelude.{◌≡◌, map, codes, encode_utf8_all, string_bytes, IfOk, OnOk, []};
 ghost use Rattle.serde_json.specs.Data.{member, no_members, object, put, string};
 ghost use Rattle.serde_json.specs.View.{members_view, view};
 ghost use Rattle.rx_terms.specs.Text.{Chars};
@@ -87,8 +87,15 @@ pub(crate) fn id_value(alloc: Global, node: Resource) -> Result<Value, NoMemory>
 fn label_value(alloc: Global, blank: Blank) -> Result<Value, NoMemory>
     ensures { IfOk result (λ value. view value ≡ string_of (blank_text blank.0)) }
 {
+    Ok(Value::String(label(alloc, blank)?))
+}
+
+/// `_:b` and the number.
+pub(crate) fn label(alloc: Global, blank: Blank) -> Result<String, NoMemory>
+    ensures { IfOk result (λ label. string_bytes label ≡ encode_utf8_all (blank_text blank.0)) }
+{
     let number = blank.0;
-    Ok(Value::String(format!(in alloc; "_:b{number}")?))
+    Ok(format!(in alloc; "_:b{number}")?)
 }
 
 fn string_value(alloc: Global, text: &str) -> Result<Value, NoMemory>

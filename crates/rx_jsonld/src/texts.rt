@@ -1,129 +1,217 @@
 //! The JSON-LD of a graph as a text.
-ghost use Rattle.std.specs.Prelude.{◌≡◌, [], ◌∷◌, ◌++◌, List, false, map, nat_eq, IfOk, OnOk};
-ghost use Rattle.serde_json.specs.Data.{Data};
-ghost use Rattle.serde_json.specs.View.{view};
-ghost use Rattle.serde_json.specs.Written.{compact_text, has_float};
+ghost use Rattle.std.specs.Prelude.{◌≡◌, ◌++◌, [], ◌∷◌, map, nat_eq, codes, IfOk, OnOk};
+ghost use Rattle.json.specs.Token as token;
+ghost use Rattle.serde_json.specs.Data.{array, member, object};
+ghost use Rattle.serde_json.specs.View.{items_of};
+ghost use Rattle.serde_json.specs.Written.{compact_text};
 ghost use Rattle.rx_model.specs.Seen.{node_seen, triples_seen};
+ghost use Rattle.rx_shapes.specs.Places.{places_of};
 ghost use Rattle.rx_shapes.specs.Table.{AreShapes, shape_in};
-ghost use Rattle.rx_notation.specs.Laws.{proper_triple};
+ghost use Rattle.rx_notation.specs.Laws.{IsWritable, proper_triple};
+ghost use Rattle.rx_jsonld.specs.Groups.{grouped, value_at, values_at};
 ghost use Rattle.rx_jsonld.specs.Lists.{listed};
 ghost use Rattle.rx_jsonld.specs.Meaning.{JsonLd};
 ghost use Rattle.rx_jsonld.specs.Places.{node_at, nodes_added};
-ghost use Rattle.rx_jsonld.specs.Texts.{begun, closed, opener};
-ghost use Rattle.rx_jsonld.specs.Value.{jsonld, node_value, tops};
+ghost use Rattle.rx_jsonld.specs.Tokens.{data_tokens, each_tokens, members_tokens};
+ghost use Rattle.rx_jsonld.specs.Value.{id_text, jsonld, node_value, string_of, tops};
 
+use crate::groups::groups_of;
+use crate::json_texts::JsonText;
 use crate::listed::listed_cells;
-use crate::nodes::{begins_node, node_value};
-use rx_graph::{Graph, Nodes};
+use crate::nodes::begins_node;
+use crate::said::{write_id, write_said};
+use rx_graph::{Graph, Nodes, Resource};
 use rx_shapes::Shapes;
 use rx_terms::{NoMemory, Node};
-use serde_json::Value;
 use std::alloc::Global;
+use std::collections::BTreeMap;
 
-/// The compact text of a graph's JSON-LD, which is that of [`value`](crate::value). The bytes are UTF-8. One node object at a
-/// time is made as a value, so beside the text no more is in memory. The one error is want of memory.
+/// The compact text of a graph's JSON-LD, which is that of [`value`](crate::value). The bytes are UTF-8. It is written piece by
+/// piece, so beside the text no more is in memory than the places of one node's triples. The one error is want of memory.
 pub fn text(alloc: Global, graph: &Graph, shapes: &Shapes) -> Result<Vec<u8>, NoMemory>
     requires shapes { AreShapes (triples_seen graph.now) shapes.now }
     ensures text { IfOk result (λ text. text.items ≡ compact_text (jsonld (triples_seen graph.now) (shape_in shapes.now))) }
     ensures denotes { IfOk result (λ text. JsonLd (jsonld (triples_seen graph.now) (shape_in shapes.now)) (map proper_triple (triples_seen graph.now))) }
 {
     let listed = listed_cells(alloc, graph, shapes)?;
-    match node_texts(alloc, graph, shapes, &listed) {
-        Ok(text) => {
+    let mut out = JsonText::new(alloc);
+    match write_nodes(alloc, graph, shapes, &listed, &mut out) {
+        Ok(()) => {
             drop(listed);
-            let text = closed(text)?;
-            Ok(text)
+            Ok(out.into_bytes())
         }
         Err(NoMemory) => {
             drop(listed);
+            drop(out);
             Err(NoMemory)
         }
     }
 }
 
-/// The texts of the node objects, each behind the array's bracket or a comma.
-fn node_texts(
+/// Writes the array of the node objects.
+fn write_nodes(
     alloc: Global,
     graph: &Graph,
     shapes: &Shapes,
     cells: &Nodes,
-) -> Result<Vec<u8>, NoMemory>
+    out: &mut JsonText,
+) -> Result<(), NoMemory>
     requires shapes { AreShapes (triples_seen graph.now) shapes.now }
     requires listed { cells.now ≡ nodes_added [] (listed (shape_in shapes.now) (triples_seen graph.now)) }
-    ensures { IfOk result (λ text. text.items ≡ begun (map (node_value (triples_seen graph.now) (shape_in shapes.now)) (tops (triples_seen graph.now) (shape_in shapes.now)))) }
+    requires writable { IsWritable (triples_seen graph.now) }
+    ensures { OnOk result (out.new ≡ out.old ++ data_tokens (jsonld (triples_seen graph.now) (shape_in shapes.now))) }
 {
-    let mut text = Vec::new(alloc);
-    for i in 0..graph.len() {
-        let subject = &graph.at(i).subject;
-        put_node(alloc, graph, shapes, cells, i, subject, &mut text)?;
-    }
-    Ok(text)
+    out.begin_array()?;
+    write_each(alloc, graph, shapes, cells, out)?;
+    out.end_array()
 }
 
-/// Adds the text of the node object of a triple's subject, where this is the subject's first triple and it is no listed cell.
-fn put_node(
+/// Writes the node objects, in order of first occurrence as a subject.
+fn write_each(
+    alloc: Global,
+    graph: &Graph,
+    shapes: &Shapes,
+    cells: &Nodes,
+    out: &mut JsonText,
+) -> Result<(), NoMemory>
+    requires shapes { AreShapes (triples_seen graph.now) shapes.now }
+    requires listed { cells.now ≡ nodes_added [] (listed (shape_in shapes.now) (triples_seen graph.now)) }
+    requires writable { IsWritable (triples_seen graph.now) }
+    ensures { OnOk result (out.new ≡ out.old ++ each_tokens (map (node_value (triples_seen graph.now) (shape_in shapes.now)) (tops (triples_seen graph.now) (shape_in shapes.now)))) }
+{
+    for i in 0..graph.len() {
+        let subject = &graph.at(i).subject;
+        write_first(alloc, graph, shapes, cells, i, subject, out)?;
+    }
+    Ok(())
+}
+
+/// Writes the node object of a triple's subject, where this is the subject's first triple and it is no listed cell.
+fn write_first(
     alloc: Global,
     graph: &Graph,
     shapes: &Shapes,
     cells: &Nodes,
     place: usize,
     subject: &Node,
-    text: &mut Vec<u8>,
+    out: &mut JsonText,
 ) -> Result<(), NoMemory>
     requires shapes { AreShapes (triples_seen graph.now) shapes.now }
     requires listed { cells.now ≡ nodes_added [] (listed (shape_in shapes.now) (triples_seen graph.now)) }
-    ensures { (nodes : List Data) → text.old.items ≡ begun nodes → OnOk result (text.new.items ≡ begun (nodes ++ node_at (triples_seen graph.now) (shape_in shapes.now) place (node_seen subject.now))) }
+    requires writable { IsWritable (triples_seen graph.now) }
+    ensures { OnOk result (out.new ≡ out.old ++ each_tokens (node_at (triples_seen graph.now) (shape_in shapes.now) place (node_seen subject.now))) }
 {
-    if !begins_node(graph, shapes, cells, place, subject) {
+    let places = shapes.places(subject);
+    if !begins_node(graph, shapes, cells, places, place, subject) {
         return Ok(());
     }
-    let node = node_value(alloc, graph, shapes, subject)?;
-    let put = put_value(alloc, &node, text);
-    drop(node);
-    put
+    write_node(alloc, graph, shapes, subject, places, out)
 }
 
-/// Adds a value's compact text, behind the array's bracket or a comma.
-fn put_value(alloc: Global, value: &Value, text: &mut Vec<u8>) -> Result<(), NoMemory>
-    ensures { OnOk result (has_float (view value.now) ≡ false → text.new.items ≡ text.old.items ++ opener text.old.items ∷ compact_text (view value.now)) }
+// ---- one node object
+
+/// Writes the node object of a subject that has these places.
+fn write_node(
+    alloc: Global,
+    graph: &Graph,
+    shapes: &Shapes,
+    subject: &Node,
+    places: &[usize],
+    out: &mut JsonText,
+) -> Result<(), NoMemory>
+    requires shapes { AreShapes (triples_seen graph.now) shapes.now }
+    requires places { places.now ≡ places_of nat_eq (triples_seen graph.now) (node_seen subject.now) }
+    requires writable { IsWritable (triples_seen graph.now) }
+    ensures { OnOk result (out.new ≡ out.old ++ data_tokens (node_value (triples_seen graph.now) (shape_in shapes.now) (node_seen subject.now))) }
 {
-    let compact = value.to_vec(alloc)?;
-    let separator = opener(text);
-    push(text, separator)?;
-    let Ok(()) = text.extend_from_slice(&compact) else {
-        return Err(NoMemory);
-    };
+    let groups = groups_of(alloc, graph, places)?;
+    let written = write_object(alloc, graph, shapes, subject, &groups, out);
+    drop(groups);
+    written
+}
+
+/// Writes the object that has the node's name and these groups.
+fn write_object(
+    alloc: Global,
+    graph: &Graph,
+    shapes: &Shapes,
+    subject: &Node,
+    groups: &BTreeMap<&str, Vec<usize>>,
+    out: &mut JsonText,
+) -> Result<(), NoMemory>
+    requires { AreShapes (triples_seen graph.now) shapes.now }
+    ensures { OnOk result (out.new ≡ out.old ++ data_tokens (object (member (codes "@id") (string_of (id_text (node_seen subject.now))) (grouped (triples_seen graph.now) (shape_in shapes.now) groups.now.entries)))) }
+{
+    out.begin_object()?;
+    out.key("@id")?;
+    write_id(alloc, Resource::of_node(subject), out)?;
+    write_groups(alloc, graph, shapes, groups, out)?;
+    out.end_object()
+}
+
+fn write_groups(
+    alloc: Global,
+    graph: &Graph,
+    shapes: &Shapes,
+    groups: &BTreeMap<&str, Vec<usize>>,
+    out: &mut JsonText,
+) -> Result<(), NoMemory>
+    requires { AreShapes (triples_seen graph.now) shapes.now }
+    ensures { OnOk result (out.new ≡ out.old ++ members_tokens (grouped (triples_seen graph.now) (shape_in shapes.now) groups.now.entries)) }
+{
+    for (key, places) in groups.iter() {
+        write_group(alloc, graph, shapes, key, places, out)?;
+    }
     Ok(())
 }
 
-/// What stands before a value behind this text: the array's bracket, or a comma.
-fn opener(text: &Vec<u8>) -> u8
-    ensures { result ≡ opener text.now.items }
+/// Writes a key and the array of what is said under it.
+fn write_group(
+    alloc: Global,
+    graph: &Graph,
+    shapes: &Shapes,
+    key: &str,
+    places: &[usize],
+    out: &mut JsonText,
+) -> Result<(), NoMemory>
+    requires { AreShapes (triples_seen graph.now) shapes.now }
+    ensures { OnOk result (out.new ≡ out.old ++ token.key key.now ∷ data_tokens (array (items_of (values_at (triples_seen graph.now) (shape_in shapes.now) places.now)))) }
 {
-    if text.as_slice().len() == 0 {
-        b'['
-    } else {
-        b','
-    }
+    out.key(key)?;
+    out.begin_array()?;
+    write_places(alloc, graph, shapes, places, out)?;
+    out.end_array()
 }
 
-/// The text with the array's last bracket.
-fn closed(text: Vec<u8>) -> Result<Vec<u8>, NoMemory>
-    ensures { IfOk result (λ whole. whole.items ≡ closed text.items) }
+/// Writes what the triples at these places put under their key.
+fn write_places(
+    alloc: Global,
+    graph: &Graph,
+    shapes: &Shapes,
+    places: &[usize],
+    out: &mut JsonText,
+) -> Result<(), NoMemory>
+    requires { AreShapes (triples_seen graph.now) shapes.now }
+    ensures { OnOk result (out.new ≡ out.old ++ each_tokens (values_at (triples_seen graph.now) (shape_in shapes.now) places.now)) }
 {
-    let mut text = text;
-    if text.as_slice().len() == 0 {
-        push(&mut text, b'[')?;
+    for place in places {
+        write_place(alloc, graph, shapes, *place, out)?;
     }
-    push(&mut text, b']')?;
-    Ok(text)
+    Ok(())
 }
 
-fn push(text: &mut Vec<u8>, byte: u8) -> Result<(), NoMemory>
-    ensures { OnOk result (text.new.items ≡ text.old.items ++ byte ∷ []) }
+fn write_place(
+    alloc: Global,
+    graph: &Graph,
+    shapes: &Shapes,
+    place: usize,
+    out: &mut JsonText,
+) -> Result<(), NoMemory>
+    requires { AreShapes (triples_seen graph.now) shapes.now }
+    ensures { OnOk result (out.new ≡ out.old ++ data_tokens (value_at (triples_seen graph.now) (shape_in shapes.now) place)) }
 {
-    match text.push(byte) {
-        Ok(()) => Ok(()),
-        Err(_refused) => Err(NoMemory),
+    if place >= graph.len() {
+        return out.null();
     }
+    write_said(alloc, graph, shapes, graph.at(place), out)
 }

@@ -1,14 +1,19 @@
-use Rattle.std.proofs.Common.{◌∙◌, ap}
+use Rattle.std.proofs.Common.{◌∙◌, ◌++◌, List, ap}
+use Rattle.json.specs.Token.{Token}
+use Rattle.json.specs.Print.{print}
 use Rattle.rx_model.specs.Seen.{triples_seen}
 use Rattle.rx_shapes.specs.Table.{shape_in}
-use Rattle.rx_jsonld.specs.Texts.{closed}
+use Rattle.rx_jsonld.specs.Tokens.{data_tokens}
+use Rattle.rx_jsonld.specs.Value.{jsonld}
 use Rattle.rx_jsonld.proofs.Denotes.{value_denotes}
-use Rattle.rx_jsonld.proofs.TextLemmas.{begun_closed}
+use Rattle.rx_jsonld.proofs.TokenLemmas.{print_data}
 use Rattle.rx_jsonld.proofs.texts.text.Goals as goal
 
-pub returns-in_ok-text-in-Ok-clause-text : goal.returns-in_ok-text-in-Ok-clause-text
-returns-in_ok-text-in-Ok-clause-text c = c.in_ok-text-in-Ok.ensures ∙ ap closed c.in-Ok.ensures ∙ begun_closed _
+pub returns-in-Ok-clause-text : goal.returns-in-Ok-clause-text
+returns-in-Ok-clause-text c =
+    let value = jsonld (triples_seen c.args.graph.now) (shape_in c.args.shapes.now) in
+    c.into_bytes.ensures ∙ ap print (c.in-Ok.ensures ∙ ap (λ (ts : List Token). ts ++ data_tokens value) c.new-out.ensures) ∙ print_data value
 
-pub returns-in_ok-text-in-Ok-clause-denotes : goal.returns-in_ok-text-in-Ok-clause-denotes
-returns-in_ok-text-in-Ok-clause-denotes c =
+pub returns-in-Ok-clause-denotes : goal.returns-in-Ok-clause-denotes
+returns-in-Ok-clause-denotes c =
     value_denotes (triples_seen c.args.graph.now) (shape_in c.args.shapes.now) c.in_ok-listed.ensures.writable c.in_ok-listed.ensures.once c.requires.shapes.shape

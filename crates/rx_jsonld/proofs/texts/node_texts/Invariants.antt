@@ -1,8 +1,0 @@
-use Rattle.std.proofs.Common.{◌≡◌, take}
-use Rattle.rx_shapes.specs.Table.{shape_in}
-use Rattle.rx_jsonld.specs.Texts.{begun}
-use Rattle.rx_jsonld.proofs.PlaceLemmas.{nodes_until}
-use Rattle.rx_jsonld.proofs.texts.node_texts.Given as goal
-
-abbrev pub invariant-loop-i : goal.invariant-loop-i
-invariant-loop-i l = l.text.items ≡ begun (nodes_until l.graph (shape_in l.shapes) (take l.i l.graph))

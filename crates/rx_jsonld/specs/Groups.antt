@@ -1,0 +1,48 @@
+-- What is said of a node, by places under keys.
+use denote.Ref.{Bor}
+use Rattle.std.specs.Prelude.{ℕ, List, [], ◌∷◌, map, codes, encode_utf8_all, slice_get, Option, Some, None, Vec}
+use Rattle.std.specs.Global.{Global}
+use Rattle.std.specs.BTreeMap.{BTreeMap, get_by}
+use Rattle.std.specs.Cmp.Lexicographic.{slice_cmp}
+use Rattle.std.specs.Ordering.{nat_cmp}
+use Rattle.serde_json.specs.Data.{Data, null, array, Members, no_members, member}
+use Rattle.serde_json.specs.View.{items_of}
+use Rattle.rx_model.specs.Terms.{Node, Triple}
+use Rattle.rx_shapes.specs.declared.shapes.Shape.{Shape}
+use Rattle.rx_jsonld.specs.Value.{id_text, object_value, string_of, type_of}
+
+-- the key under which a triple speaks
+abbrev pub key_by : Triple ℕ → Option (Node ℕ) → List ℕ
+key_by t (Some node) = codes "@type"
+key_by t None = encode_utf8_all t.predicate
+
+abbrev pub key_of : Triple ℕ → List ℕ
+key_of t = key_by t (type_of t)
+
+-- the places that stand under a key
+abbrev pub places_under : BTreeMap (Bor (List ℕ)) (Vec ℕ Global) → List ℕ → Option (Vec ℕ Global)
+places_under groups key = get_by (λ first. slice_cmp nat_cmp key first.now) groups
+
+module _ (list : List (Triple ℕ)) (shapes : ℕ → Shape) where
+  abbrev pub value_by : Triple ℕ → Option (Node ℕ) → Data
+  value_by t (Some node) = string_of (id_text node)
+  value_by t None = object_value list shapes t
+
+  -- the value that a triple puts under its key
+  abbrev pub value_said : Triple ℕ → Data
+  value_said t = value_by t (type_of t)
+
+  abbrev pub value_if : Option (Triple ℕ) → Data
+  value_if (Some t) = value_said t
+  value_if None = null
+
+  abbrev pub value_at : ℕ → Data
+  value_at place = value_if (slice_get list place)
+
+  abbrev pub values_at : List ℕ → List Data
+  values_at places = map value_at places
+
+  -- the members for which places under their keys stand
+  abbrev pub grouped : List (Bor (List ℕ) × Vec ℕ Global) → Members
+  grouped [] = no_members
+  grouped (group ∷ more) = member group.0.now (array (items_of (values_at group.1.items))) (grouped more)
