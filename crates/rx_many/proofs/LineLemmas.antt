@@ -151,21 +151,21 @@ numbered_more lines l =
 
 -- ---- one line more
 
-pub stands_empty : (d : Document) → d.text.items ≡ [] → d.blanks ≡ [] → d.statements ≡ [] → Stands d []
+pub stands_empty : (d : Document) → d.text ≡ [] → d.blanks ≡ [] → d.statements ≡ [] → Stands d []
 stands_empty d e f g = record {
   numbers = f;
   keeps = record { spelled = e; held = λ line. ap (λ z. contains same_line z line) g; writable = λ line m. absurd m };
 }
 
 module _ (d new : Document) (lines : List (Line PageBlank)) (s : Stands d lines) where
-  pub stands_comment : (address : Chars) (fault : Fault) → new.text.items ≡ d.text.items ++ encode_utf8_all (line_text (comment address fault)) → new.blanks ≡ d.blanks → new.statements ≡ d.statements → WritableComment address fault
+  pub stands_comment : (address : Chars) (fault : Fault) → new.text ≡ d.text ++ encode_utf8_all (line_text (comment address fault)) → new.blanks ≡ d.blanks → new.statements ≡ d.statements → WritableComment address fault
       → Stands new (lines ++ comment address fault ∷ [])
   stands_comment address fault e f g w =
       let l : Line PageBlank = comment address fault in
-      let keeps : Keeps new.text.items d.statements (numbered_lines lines ++ comment address fault ∷ []) = keeps_comment d.text.items d.statements (numbered_lines lines) s.keeps address fault new.text.items e w in
+      let keeps : Keeps new.text d.statements (numbered_lines lines ++ comment address fault ∷ []) = keeps_comment d.text d.statements (numbered_lines lines) s.keeps address fault new.text e w in
       record {
         numbers = f ∙ s.numbers ∙ table_more lines l;
-        keeps = subst (λ (z : List (Line ℕ)). Keeps new.text.items z (numbered_lines (lines ++ l ∷ []))) (sym g) (subst (λ (z : List (Line ℕ)). Keeps new.text.items d.statements z) (numbered_more lines l) keeps);
+        keeps = subst (λ (z : List (Line ℕ)). Keeps new.text z (numbered_lines (lines ++ l ∷ []))) (sym g) (subst (λ (z : List (Line ℕ)). Keeps new.text d.statements z) (numbered_more lines l) keeps);
       }
 
   module _ (place : ℕ) (name : Chars) (t : Triple ℕ) (u : Triple ℕ) (grows : new.blanks ≡ known same_blank d.blanks (blanks_of (rename (at_place place) t)))
@@ -178,25 +178,25 @@ module _ (d new : Document) (lines : List (Line PageBlank)) (s : Stands d lines)
         ap (λ z. numbered_lines lines ++ statement name z ∷ []) (renamed ∙ ap (λ z. rename (place_in same_blank z) (rename (at_place place) t)) numbers_now)
         ∙ numbered_more lines (statement_at place name t)
 
-    pub stands_old : contains same_line d.statements (statement name u) ≡ true → new.text.items ≡ d.text.items → new.statements ≡ d.statements → Stands new (lines ++ statement_at place name t ∷ [])
+    pub stands_old : contains same_line d.statements (statement name u) ≡ true → new.text ≡ d.text → new.statements ≡ d.statements → Stands new (lines ++ statement_at place name t ∷ [])
     stands_old there e g =
         let l : Line PageBlank = statement_at place name t in
-        let keeps : Keeps d.text.items d.statements (numbered_lines lines ++ statement name u ∷ []) = keeps_old d.text.items d.statements (numbered_lines lines) s.keeps (statement name u) there in
-        let moved : Keeps new.text.items d.statements (numbered_lines lines ++ statement name u ∷ []) = subst (λ (z : List ℕ). Keeps z d.statements (numbered_lines lines ++ statement name u ∷ [])) (sym e) keeps in
+        let keeps : Keeps d.text d.statements (numbered_lines lines ++ statement name u ∷ []) = keeps_old d.text d.statements (numbered_lines lines) s.keeps (statement name u) there in
+        let moved : Keeps new.text d.statements (numbered_lines lines ++ statement name u ∷ []) = subst (λ (z : List ℕ). Keeps z d.statements (numbered_lines lines ++ statement name u ∷ [])) (sym e) keeps in
         record {
           numbers = numbers_now;
-          keeps = subst (λ (z : List (Line ℕ)). Keeps new.text.items z (numbered_lines (lines ++ l ∷ []))) (sym g) (subst (λ (z : List (Line ℕ)). Keeps new.text.items d.statements z) line_now moved);
+          keeps = subst (λ (z : List (Line ℕ)). Keeps new.text z (numbered_lines (lines ++ l ∷ []))) (sym g) (subst (λ (z : List (Line ℕ)). Keeps new.text d.statements z) line_now moved);
         }
 
-    pub stands_new : contains same_line d.statements (statement name u) ≡ false → new.text.items ≡ d.text.items ++ encode_utf8_all (line_text (statement name u))
+    pub stands_new : contains same_line d.statements (statement name u) ≡ false → new.text ≡ d.text ++ encode_utf8_all (line_text (statement name u))
         → new.statements ≡ (if contains same_line d.statements (statement name u) then d.statements else d.statements ++ statement name u ∷ []) → WritableTriple (Some name) u
         → Stands new (lines ++ statement_at place name t ∷ [])
     stands_new lacks e g w =
         let added : new.statements ≡ d.statements ++ statement name u ∷ [] = g ∙ ap (λ b. if b then d.statements else d.statements ++ statement name u ∷ []) lacks in
-        let keeps : Keeps new.text.items new.statements (numbered_lines lines ++ statement name u ∷ []) = keeps_new d.text.items d.statements (numbered_lines lines) s.keeps (statement name u) new.text.items new.statements lacks e added w in
+        let keeps : Keeps new.text new.statements (numbered_lines lines ++ statement name u ∷ []) = keeps_new d.text d.statements (numbered_lines lines) s.keeps (statement name u) new.text new.statements lacks e added w in
         record {
           numbers = numbers_now;
-          keeps = subst (λ (z : List (Line ℕ)). Keeps new.text.items new.statements z) line_now keeps;
+          keeps = subst (λ (z : List (Line ℕ)). Keeps new.text new.statements z) line_now keeps;
         }
 
 -- ---- the triples of a page, and the pages
@@ -233,10 +233,10 @@ pages_more pages i page at =
 -- the same where the name is at hand by another name
 module _ (d new : Document) (lines : List (Line PageBlank)) (s : Stands d lines) (place : ℕ) (name named : Chars) (same : named ≡ name) (t u : Triple ℕ)
     (grows : new.blanks ≡ known same_blank d.blanks (blanks_of (rename (at_place place) t))) (renamed : u ≡ rename (place_in same_blank new.blanks) (rename (at_place place) t)) where
-  pub old_statement : contains same_line d.statements (statement named u) ≡ true → new.text.items ≡ d.text.items → new.statements ≡ d.statements → Stands new (lines ++ statement_at place name t ∷ [])
+  pub old_statement : contains same_line d.statements (statement named u) ≡ true → new.text ≡ d.text → new.statements ≡ d.statements → Stands new (lines ++ statement_at place name t ∷ [])
   old_statement there e g = subst (λ (n : Chars). Stands new (lines ++ statement_at place n t ∷ [])) same (stands_old d new lines s place named t u grows renamed there e g)
 
-  pub new_statement : contains same_line d.statements (statement named u) ≡ false → new.text.items ≡ d.text.items ++ encode_utf8_all (line_text (statement named u))
+  pub new_statement : contains same_line d.statements (statement named u) ≡ false → new.text ≡ d.text ++ encode_utf8_all (line_text (statement named u))
       → new.statements ≡ (if contains same_line d.statements (statement named u) then d.statements else d.statements ++ statement named u ∷ []) → WritableTriple (Some named) u
       → Stands new (lines ++ statement_at place name t ∷ [])
   new_statement lacks e g w = subst (λ (n : Chars). Stands new (lines ++ statement_at place n t ∷ [])) same (stands_new d new lines s place named t u grows renamed lacks e g w)

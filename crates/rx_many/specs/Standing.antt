@@ -27,4 +27,4 @@ pub record Keeps (text : List ℕ) (statements lines : List (Line ℕ)) : Type 0
 -- the document is that of these lines
 pub record Stands (document : Document) (lines : List (Line PageBlank)) : Type 0 where
   pub numbers : document.blanks ≡ table lines
-  pub keeps : Keeps document.text.items document.statements (numbered_lines lines)
+  pub keeps : Keeps document.text document.statements (numbered_lines lines)

@@ -12,7 +12,7 @@ use crate::refusals::comment_on;
 use crate::statements::{Statement, Statements};
 use rx_grammar::Fault;
 use rx_graph::Graph;
-use rx_nquads::put_quad;
+use rx_nquads::Lines;
 use rx_refs::without_fragment;
 use rx_terms::{Iri, NoMemory, Triple};
 use std::alloc::Global;
@@ -20,7 +20,7 @@ use std::alloc::Global;
 /// A document so far: its text, the numbers of its blank nodes, and what it states.
 #[derive(Drop)]
 pub(crate) struct Document {
-    pub(crate) text: Vec<u8>,
+    pub(crate) text: Lines,
     pub(crate) blanks: Blanks,
     pub(crate) statements: Statements,
 }
@@ -29,7 +29,7 @@ pub(crate) struct Document {
 pub(crate) fn document_of(alloc: Global, pages: &[Page]) -> Result<Document, NoMemory>
     ensures { IfOk result (λ document. Stands document (lines_from 0 (map page_seen pages.now))) }
 {
-    let mut document = Document::new(alloc);
+    let mut document = Document::new(alloc)?;
     for i in 0..pages.len() {
         let Ok(()) = document.put_page(alloc, i, &pages[i]) else {
             drop(document);
@@ -40,14 +40,15 @@ pub(crate) fn document_of(alloc: Global, pages: &[Page]) -> Result<Document, NoM
 }
 
 impl Document {
-    fn new(alloc: Global) -> Document
-        ensures { Stands result [] }
+    fn new(alloc: Global) -> Result<Document, NoMemory>
+        ensures { IfOk result (λ document. Stands document []) }
     {
-        Document {
-            text: Vec::new(alloc),
+        let text = Lines::new(alloc)?;
+        Ok(Document {
+            text,
             blanks: Blanks::new(alloc),
             statements: Statements::new(alloc),
-        }
+        })
     }
 
     /// Adds the lines of the page at this place.
@@ -64,10 +65,9 @@ impl Document {
         ensures { (lines : List (Line PageBlank)) → Stands self.old lines → OnOk result (Stands self.new (lines ++ comment address.now fault ∷ [])) }
     {
         let line = comment_on(alloc, address, fault)?;
-        let Ok(()) = self.text.extend_from_slice(line.as_bytes()) else {
-            return Err(NoMemory);
-        };
-        Ok(())
+        let put = self.text.put_bytes(line.as_bytes());
+        drop(line);
+        put
     }
 
     /// Adds the triples of the page of this address, in the graph of the address without fragment.
@@ -116,12 +116,7 @@ impl Document {
         if self.statements.contains(&statement) {
             return Ok(());
         }
-        put_quad(
-            alloc,
-            &mut self.text,
-            &statement.triple,
-            Some(&statement.name),
-        )?;
+        self.text.put(&statement.triple, Some(&statement.name))?;
         self.statements.add(statement)
     }
 }

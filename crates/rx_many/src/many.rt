@@ -100,6 +100,7 @@ impl Many {
         } = document_of(alloc, self.pages.as_slice())?;
         drop(blanks);
         drop(statements);
-        Ok(text)
+        let bytes = text.into_bytes()?;
+        Ok(bytes)
     }
 }

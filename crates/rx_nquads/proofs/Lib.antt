@@ -4,3 +4,4 @@ pub mod Adding
 pub mod Denoting
 pub mod Proper
 pub mod Joining
+pub mod LinesLemmas

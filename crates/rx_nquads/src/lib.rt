@@ -9,9 +9,11 @@
 ghost use Rattle.rx_nquads.specs.Document.{StatesOne, DenotesOne};
 ghost use Rattle.rx_nquads.specs.Quads.{ProperStays};
 
+mod lines;
 mod terms;
 mod writing;
 
+pub use lines::Lines;
 pub use rx_pieces::WriteError;
 pub use writing::{put_quad, text, write};
 

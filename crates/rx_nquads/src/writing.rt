@@ -114,7 +114,12 @@ fn push_lines<S: Sink>(out: &mut Pieces, sink: &mut S, graph: &Graph, name: Opti
 
 /// Adds the line of a triple in the graph of this name.
 #[inline(always)]
-fn push_line<S: Sink>(out: &mut Pieces, sink: &mut S, triple: &Triple, name: Option<&Iri>)
+pub(crate) fn push_line<S: Sink>(
+    out: &mut Pieces,
+    sink: &mut S,
+    triple: &Triple,
+    name: Option<&Iri>,
+)
     ensures adds { Adds (delivery out.old (S.held sink.old) (S.faults sink.old)) (delivery out.new (S.held sink.new) (S.faults sink.new)) (line_text (option_map (λ iri. iri.now) name.entry) (triple_seen triple.now)) }
     ensures writable { WritableTriple (option_map (λ iri. iri.now) name.entry) (triple_seen triple.now) }
 {

@@ -1,4 +1,4 @@
-use Rattle.std.proofs.Common.{List, map, subst}
+use Rattle.std.proofs.Common.{ℕ, List, map, subst, sym}
 use Rattle.std.specs.Str.{chars}
 use Rattle.rx_many.specs.Dataset.{DenotesPages}
 use Rattle.rx_many.specs.Seen.{page_seen}
@@ -9,5 +9,6 @@ use Rattle.rx_many.proofs.many.Many.text.Goals as goal
 pub returns-clause-denotes : goal.returns-clause-denotes
 returns-clause-denotes c =
     rw (← c.self.view_is)
-    (subst (λ (z : List Page). DenotesPages (chars c.in_ok-text.field-0.text.items) (map page_seen z)) c.as_slice.ensures.value
-    (denotes_pages (map page_seen c.as_slice.result.now) c.in_ok-text.field-0.text.items c.in_ok-text.field-0.statements c.in_ok-text.ensures.keeps))
+    (subst (λ (z : List ℕ). DenotesPages (chars z) (map page_seen c.self.inside.pages.items)) (sym c.in_ok-bytes.ensures)
+    (subst (λ (z : List Page). DenotesPages (chars c.in_ok-text.field-0.text) (map page_seen z)) c.as_slice.ensures.value
+    (denotes_pages (map page_seen c.as_slice.result.now) c.in_ok-text.field-0.text c.in_ok-text.field-0.statements c.in_ok-text.ensures.keeps)))
