@@ -1,7 +1,8 @@
 -- The keys of the code's sets, and what they are in the model.
-use Rattle.std.proofs.Common.{◌≡◌, ℕ, ◌+◌, Bool, true, List, [], ◌∷◌, ◌++◌, map, refl, sym, ap, ap₂, ◌∙◌, rules, nat_eq, bytes_eq, cond, arith, true≢false, if◌then◌else◌}
+use Rattle.std.proofs.Common.{◌≡◌, ℕ, ◌+◌, Bool, true, false, not, ◌<◌, List, [], ◌∷◌, ◌++◌, length, slice_get, Some, option_map, map, suc, refl, sym, ap, ap₂, ◌∙◌, rules, nat_eq, bytes_eq, cond, arith, true≢false, if◌then◌else◌}
 use Rattle.std.specs.List.{list_any, position_or_len}
 use Rattle.std.proofs.lemmas.List.Recursion.{is_position_or_len}
+use Rattle.std.proofs.lemmas.Option.{slice_get-map}
 use Rattle.indexmap.specs.IndexSet.{insert_key}
 use Rattle.rx_terms.specs.Text.{Chars}
 use Rattle.rx_model.specs.Sets.{IsExact, contains}
@@ -20,6 +21,7 @@ use Rattle.rx_many.specs.contracts.statements.StatementPartialEq.TheImpl as stat
 use Rattle.rx_many.specs.Lines.{Line, PageBlank, comment, statement, same_blank, same_line}
 use Rattle.rx_many.specs.Numbering.{known_one, known}
 use Rattle.rx_many.specs.Seen.{blank_seen, statement_seen}
+use Rattle.rx_many.specs.Standing.{IsAdded}
 use Rattle.rx_many.proofs.Growing.{all_known, kept_known, place_of_known}
 
 -- ---- blank nodes of pages
@@ -116,3 +118,27 @@ statement_added list s = insert_seen statement_seen statement_eq same_line state
 
 pub statement_among : (list : List Statement) (s : Statement) → list_any (statement_eq s) list ≡ contains same_line (map statement_seen list) (statement_seen s)
 statement_among list s = any_seen statement_seen statement_eq same_line statements_agree list s
+
+length_map : {X Y : Type 0} (f : X → Y) (list : List X) → length (map f list) ≡ length list
+length_map f [] = refl
+length_map f (x ∷ list) = ap suc (length_map f list)
+
+-- a statement that wasn't there is the last one
+pub statement_new : (old new : List Statement) (s : Statement) (place : ℕ) (k : Statement) → not (list_any (statement_eq s) old) ≡ true → slice_get new place ≡ Some k → statement_eq s k ≡ true → place < length new
+    → IsAdded (map statement_seen old) (statement_seen s) (map statement_seen new) place
+statement_new old new s place k fresh at same below = record {
+  lacks = sym (statement_among old s) ∙ not_true (list_any (statement_eq s) old) fresh;
+  at = slice_get-map statement_seen new place ∙ ap (option_map statement_seen) at ∙ ap (λ z. Some (statement_seen z)) (sym ((exact_statements s k).0 same));
+  within = omega (arith, below, length_map statement_seen new);
+}
+  where
+    not_true : (b : Bool) → not b ≡ true → b ≡ false
+    not_true true h = absurd (true≢false (sym h))
+    not_true false h = refl
+
+pub statement_old : (old : List Statement) (s : Statement) → not (list_any (statement_eq s) old) ≡ false → contains same_line (map statement_seen old) (statement_seen s) ≡ true
+statement_old old s known = sym (statement_among old s) ∙ not_false (list_any (statement_eq s) old) known
+  where
+    not_false : (b : Bool) → not b ≡ false → b ≡ true
+    not_false true h = refl
+    not_false false h = absurd (true≢false h)

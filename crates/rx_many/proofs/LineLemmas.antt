@@ -1,5 +1,5 @@
 -- A document that grows by one line.
-use Rattle.std.proofs.Common.{◌≡◌, ℕ, suc, zero, ◌+◌, Bool, true, false, ◌||◌, List, [], ◌∷◌, ◌++◌, map, flat_map, take, slice_get, Result, Ok, Err, OnOk, Some, refl, sym, ap, ap₂, ◌∙◌, inl, inr, subst, if◌then◌else◌, append_assoc, append-nil, arith}
+use Rattle.std.proofs.Common.{◌≡◌, ℕ, suc, zero, ◌+◌, Bool, true, false, ◌||◌, List, [], ◌∷◌, ◌++◌, map, flat_map, take, slice_get, Result, Ok, Err, OnOk, Option, Some, refl, sym, ap, ap₂, ◌∙◌, inl, inr, subst, if◌then◌else◌, append_assoc, append-nil, arith}
 use Rattle.std.specs.Str.{encode_utf8_all}
 use Rattle.std.proofs.lemmas.Str.{encodes-append}
 use Rattle.std.proofs.lemmas.List.{map-append}
@@ -19,7 +19,7 @@ use Rattle.rx_many.specs.Numbering.{known}
 use Rattle.rx_refs.specs.Resolve.{without_fragment}
 use Rattle.rx_many.specs.Pages.{accepted_page}
 use Rattle.rx_many.specs.Seen.{page_seen}
-use Rattle.rx_many.specs.Standing.{WritableComment, WritableLine, Keeps, Stands}
+use Rattle.rx_many.specs.Standing.{WritableComment, WritableLine, Keeps, Stands, Writes}
 use Rattle.rx_many.specs.Writing.{line_text, text_of}
 use Rattle.rx_many.specs.declared.documents.Document.{Document}
 use Rattle.rx_many.specs.declared.pages.Page.{Page as CodePage}
@@ -244,3 +244,10 @@ module _ (d new : Document) (lines : List (Line PageBlank)) (s : Stands d lines)
 pub in_graph : (new : Document) (lines : List (Line PageBlank)) (place : ℕ) (address name : Chars) (triples : List (Triple ℕ)) → name ≡ without_fragment address
     → Stands new (lines ++ map (statement_at place name) triples) → Stands new (lines ++ lines_of place (accepted_page address triples))
 in_graph new lines place address name triples e s = subst (λ (n : Chars). Stands new (lines ++ map (statement_at place n) triples)) e s
+
+-- the line of a statement that stands at a place
+pub writes_by : (old new : Document) (line said : Line ℕ) (o : Option (Line ℕ)) → o ≡ Some line → o ≡ Some said → new.text ≡ old.text ++ encode_utf8_all (line_text said) → WritableLine said
+    → new.blanks ≡ old.blanks → new.statements ≡ old.statements → Writes old line new
+writes_by old new line said o e d text w blanks statements =
+    let same : said ≡ line = cc in
+    subst (λ (l : Line ℕ). Writes old l new) same (record { text = text; writable = w; blanks = blanks; statements = statements })

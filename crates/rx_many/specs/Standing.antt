@@ -1,11 +1,11 @@
 -- A document of which some lines are there.
-use Rattle.std.specs.Prelude.{◌≡◌, ℕ, ◌<◌, ◌^◌, List, Some, encode_utf8_all}
+use Rattle.std.specs.Prelude.{◌≡◌, ℕ, ◌<◌, ◌^◌, false, List, ◌++◌, length, slice_get, Some, encode_utf8_all}
 use Rattle.rx_terms.specs.Text.{Chars}
 use Rattle.rx_grammar.specs.declared.faults.Fault.{Fault}
 use Rattle.rx_model.specs.Sets.{Among, contains}
 use Rattle.rx_pieces.specs.Writable.{WritableIri, WritableTriple}
 use Rattle.rx_many.specs.Lines.{Line, PageBlank, comment, statement, table, numbered_lines, same_line, kept}
-use Rattle.rx_many.specs.Writing.{text_of}
+use Rattle.rx_many.specs.Writing.{line_text, text_of}
 use Rattle.rx_many.specs.declared.documents.Document.{Document}
 
 -- what every comment of the code is: its address is an IRI, and its places are numbers of 64 bits
@@ -28,3 +28,16 @@ pub record Keeps (text : List ℕ) (statements lines : List (Line ℕ)) : Type 0
 pub record Stands (document : Document) (lines : List (Line PageBlank)) : Type 0 where
   pub numbers : document.blanks ≡ table lines
   pub keeps : Keeps document.text document.statements (numbered_lines lines)
+
+-- the line was added at its end, where it isn't among them, and stands at this place
+pub record IsAdded (old : List (Line ℕ)) (line : Line ℕ) (new : List (Line ℕ)) (place : ℕ) : Type 0 where
+  pub lacks : contains same_line old line ≡ false
+  pub at : slice_get new place ≡ Some line
+  pub within : place < length new
+
+-- the line's text was added
+pub record Writes (old : Document) (line : Line ℕ) (new : Document) : Type 0 where
+  pub text : new.text ≡ old.text ++ encode_utf8_all (line_text line)
+  pub writable : WritableLine line
+  pub blanks : new.blanks ≡ old.blanks
+  pub statements : new.statements ≡ old.statements

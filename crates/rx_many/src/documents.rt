@@ -1,10 +1,10 @@
 //! A document that is being written.
-ghost use Rattle.std.specs.Prelude.{[], ◌∷◌, ◌++◌, List, IfOk, OnOk, map};
+ghost use Rattle.std.specs.Prelude.{◌≡◌, ◌<◌, ℕ, [], ◌∷◌, ◌++◌, List, IfOk, OnOk, Some, length, map, slice_get};
 ghost use Rattle.rx_model.specs.Seen.{triple_seen, triples_seen};
 ghost use Rattle.rx_many.specs.Lines.{Line, PageBlank, comment, statement_at, lines_of, lines_from};
 ghost use Rattle.rx_many.specs.Pages.{accepted_page};
 ghost use Rattle.rx_many.specs.Seen.{page_seen};
-ghost use Rattle.rx_many.specs.Standing.{Stands};
+ghost use Rattle.rx_many.specs.Standing.{Stands, Writes};
 
 use crate::blanks::Blanks;
 use crate::pages::{Judgement, Page};
@@ -81,42 +81,37 @@ impl Document {
         ensures { (lines : List (Line PageBlank)) → Stands self.old lines → OnOk result (Stands self.new (lines ++ lines_of place (accepted_page address.now (triples_seen graph.now)))) }
     {
         let name = without_fragment(alloc, address)?;
-        self.put_triples(alloc, place, &name, graph)
+        self.put_triples(place, &name, graph)
     }
 
     /// Adds the triples of the page at this place, in the graph of this name.
-    fn put_triples(
-        &mut self,
-        alloc: Global,
-        place: usize,
-        name: &Iri,
-        graph: &Graph,
-    ) -> Result<(), NoMemory>
+    fn put_triples(&mut self, place: usize, name: &Iri, graph: &Graph) -> Result<(), NoMemory>
         ensures { (lines : List (Line PageBlank)) → Stands self.old lines → OnOk result (Stands self.new (lines ++ map (statement_at place name.now) (triples_seen graph.now))) }
     {
         for i in 0..graph.len() {
-            self.put_triple(alloc, place, name, graph.at(i))?;
+            self.put_triple(place, name, graph.at(i))?;
         }
         Ok(())
     }
 
     /// Adds the line of a triple of the page at this place, where no earlier line states it.
-    fn put_triple(
-        &mut self,
-        alloc: Global,
-        place: usize,
-        name: &Iri,
-        triple: &Triple,
-    ) -> Result<(), NoMemory>
+    fn put_triple(&mut self, place: usize, name: &Iri, triple: &Triple) -> Result<(), NoMemory>
         ensures { (lines : List (Line PageBlank)) → Stands self.old lines → OnOk result (Stands self.new (lines ++ statement_at place name.now (triple_seen triple.now) ∷ [])) }
     {
         let triple = self.blanks.numbered(place, triple)?;
         let name = name.try_clone()?;
-        let statement = Statement { name, triple };
-        if self.statements.contains(&statement) {
-            return Ok(());
+        match self.statements.add(Statement { name, triple })? {
+            Some(place) => self.write(place),
+            None => Ok(()),
         }
-        self.text.put(&statement.triple, Some(&statement.name))?;
-        self.statements.add(statement)
+    }
+
+    /// Adds the line of the statement at this place.
+    fn write(&mut self, place: usize) -> Result<(), NoMemory>
+        requires { place < length self.old.statements }
+        ensures { (line : Line ℕ) → slice_get self.old.statements place ≡ Some line → OnOk result (Writes self.old line self.new) }
+    {
+        let statement = self.statements.at(place);
+        self.text.put(&statement.triple, Some(&statement.name))
     }
 }

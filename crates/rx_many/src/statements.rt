@@ -1,8 +1,9 @@
 //! The statements of a document.
-ghost use Rattle.std.specs.Prelude.{◌≡◌, [], ◌∷◌, ◌++◌, OnOk, if◌then◌else◌};
+ghost use Rattle.std.specs.Prelude.{◌≡◌, ◌<◌, [], ◌∷◌, ◌++◌, true, IfOk, OnOk, MatchOption, Some, length, slice_get, if◌then◌else◌};
 ghost use Rattle.rx_model.specs.Sets.{contains};
 ghost use Rattle.rx_many.specs.Lines.{same_line};
 ghost use Rattle.rx_many.specs.Seen.{statement_seen};
+ghost use Rattle.rx_many.specs.Standing.{IsAdded};
 
 use indexmap::IndexSet;
 use rx_terms::{Iri, NoMemory, Triple};
@@ -45,20 +46,25 @@ impl Statements {
         }
     }
 
-    /// Whether the statement is there.
-    pub(crate) fn contains(&self, statement: &Statement) -> bool
-        ensures { result ≡ contains same_line self.now (statement_seen statement.now) }
+    /// Adds the statement at the end, where it isn't there yet, and gives its place then.
+    pub(crate) fn add(&mut self, statement: Statement) -> Result<Option<usize>, NoMemory>
+        ensures list { OnOk result (self.new ≡ (if contains same_line self.old (statement_seen statement) then self.old else self.old ++ statement_seen statement ∷ [])) }
+        ensures place { IfOk result (λ place. MatchOption place (contains same_line self.old (statement_seen statement) ≡ true) (λ i. IsAdded self.old (statement_seen statement) self.new i)) }
     {
-        self.statements.contains(statement)
+        let Ok((place, is_new)) = self.statements.insert_full(statement) else {
+            return Err(NoMemory);
+        };
+        if is_new {
+            return Ok(Some(place));
+        }
+        Ok(None)
     }
 
-    /// Adds the statement at the end, where it isn't there yet.
-    pub(crate) fn add(&mut self, statement: Statement) -> Result<(), NoMemory>
-        ensures { OnOk result (self.new ≡ (if contains same_line self.old (statement_seen statement) then self.old else self.old ++ statement_seen statement ∷ [])) }
+    /// The statement at this place.
+    pub(crate) fn at(&self, place: usize) -> &Statement
+        requires { place < length self.now }
+        ensures { slice_get self.now place ≡ Some (statement_seen result.now) }
     {
-        if self.statements.insert(statement).is_err() {
-            return Err(NoMemory);
-        }
-        Ok(())
+        &self.statements[place]
     }
 }

@@ -1,16 +1,23 @@
-use Rattle.std.proofs.Common.{◌∙◌, refl, sym}
+use Rattle.std.proofs.Common.{◌∙◌, ◌++◌, ◌∷◌, [], refl, sym, ap, if◌then◌else◌}
 use Rattle.rx_model.specs.Seen.{triple_seen}
+use Rattle.rx_model.specs.Numbered.{rename, place_in}
+use Rattle.rx_many.specs.Lines.{statement, at_place, same_blank}
 use Rattle.rx_many.proofs.LineLemmas.{if_ok, old_statement, new_statement}
 use Rattle.rx_many.proofs.documents.Document.put_triple.Goals as goal
 
-pub returns-then-contains : goal.returns-then-contains
-returns-then-contains c lines s =
-    old_statement c.args.self.now _ lines s c.args.place c.args.name.now c.in_ok-name.name c.in_ok-name.ensures (triple_seen c.args.triple.now) (triple_seen c.in_ok-triple.triple)
-    c.in_ok-triple.ensures.known c.in_ok-triple.ensures.renamed (sym c.contains.ensures ∙ c.if-contains.true) refl refl
+pub returns-in-Some : goal.returns-in-Some
+returns-in-Some c lines s =
+    let added = rw c.in-Some.is at c.in_ok-place.ensures.place in
+    if_ok c.write.result
+    (λ w. new_statement c.args.self.now _ lines s c.args.place c.args.name.now c.in_ok-name.name c.in_ok-name.ensures (triple_seen c.args.triple.now) (triple_seen c.in_ok-triple.triple)
+    (w.blanks ∙ c.in_ok-triple.ensures.known)
+    (c.in_ok-triple.ensures.renamed ∙ ap (λ z. rename (place_in same_blank z) (rename (at_place c.args.place) (triple_seen c.args.triple.now))) (sym w.blanks))
+    added.lacks w.text (w.statements ∙ c.in_ok-place.ensures.list) w.writable)
+    (c.write.ensures (statement c.in_ok-name.name (triple_seen c.in_ok-triple.triple)) added.at)
 
-pub returns : goal.returns
-returns c lines s =
-    if_ok c.add.result
-    (λ added. new_statement c.args.self.now _ lines s c.args.place c.args.name.now c.in_ok-name.name c.in_ok-name.ensures (triple_seen c.args.triple.now) (triple_seen c.in_ok-triple.triple)
-    c.in_ok-triple.ensures.known c.in_ok-triple.ensures.renamed (sym c.contains.ensures ∙ c.if-contains.false) c.in_ok-put.ensures.line added c.in_ok-put.ensures.writable)
-    c.add.ensures
+pub returns-in-None : goal.returns-in-None
+returns-in-None c lines s =
+    let there = rw c.in-None.is at c.in_ok-place.ensures.place in
+    old_statement c.args.self.now _ lines s c.args.place c.args.name.now c.in_ok-name.name c.in_ok-name.ensures (triple_seen c.args.triple.now) (triple_seen c.in_ok-triple.triple)
+    c.in_ok-triple.ensures.known c.in_ok-triple.ensures.renamed there refl
+    (c.in_ok-place.ensures.list ∙ ap (λ b. if b then c.args.self.now.statements else c.args.self.now.statements ++ statement c.in_ok-name.name (triple_seen c.in_ok-triple.triple) ∷ []) there)
