@@ -1,5 +1,5 @@
 //! Several pages in one dataset: the context file is read, and then each page in order.
-ghost use Rattle.std.specs.Prelude.{◌≡◌, ◌≤◌, ◌⊎◌, ◌++◌, [], ◌∷◌, nat_eq, IfOk, OnOk, IsErrOf, Err, is_some, true, encode_utf8_all};
+ghost use Rattle.std.specs.Prelude.{◌≡◌, ◌≤◌, ◌⊎◌, ◌++◌, [], ◌∷◌, length, nat_eq, IfOk, OnOk, IsErrOf, Err, is_some, true, encode_utf8_all};
 ghost use Rattle.rx_model.specs.Copied.{copied};
 ghost use Rattle.rx_model.specs.Numbered.{numbered};
 ghost use Rattle.rx_model.specs.Seen.{triples_seen};
@@ -16,7 +16,7 @@ ghost use Rattle.rx_command.specs.Outcome.{LacksOne, LacksPage};
 use crate::errors::InputError;
 use crate::inputs::read_context;
 use crate::outcomes::graph_of;
-use crate::pages::{Approach, read_page};
+use crate::pages::{Approach, new_piece, read_page_by};
 use rx_job::{Pages, Several};
 use rx_many::Many;
 use rx_names::Context;
@@ -53,7 +53,20 @@ pub(crate) fn gather<F: Shelf>(
         drop(context);
         return Err(InputError::NoMemory);
     };
-    match gather_pages(alloc, shelf, syntax, &context, pages, &mut many) {
+    let Ok(mut piece) = new_piece(alloc) else {
+        drop(context);
+        drop(many);
+        return Err(InputError::NoMemory);
+    };
+    match gather_pages(
+        alloc,
+        shelf,
+        syntax,
+        &context,
+        pages,
+        &mut piece[..],
+        &mut many,
+    ) {
         Ok(()) => {
             drop(context);
             Ok(many)
@@ -66,15 +79,17 @@ pub(crate) fn gather<F: Shelf>(
     }
 }
 
-/// Reads the pages one after another, and adds what each gives.
+/// Reads the pages one after another, each by this piece, and adds what each gives.
 fn gather_pages<F: Shelf>(
     alloc: Global,
     shelf: &mut F,
     syntax: Syntax,
     context: &Context,
     pages: &Pages,
+    piece: &mut [u8],
     many: &mut Many,
 ) -> Result<(), InputError>
+    requires { length piece.old ≡ 65536 }
     ensures ok { OnOk result (AddsPages context.now syntax pages.now many.old many.new (F.told shelf.old) (F.told shelf.new)) }
     ensures takes { Moves (TakesParts context.now syntax pages.now) (F.told shelf.old) (F.told shelf.new) }
     ensures not_refused { (fault : Fault) → result ≡ Err (InputError.Refused fault) → ⊥ }
@@ -83,7 +98,7 @@ fn gather_pages<F: Shelf>(
 {
     for i in 0..pages.len() {
         let (address, page) = pages.at(i);
-        match gather_page(alloc, shelf, syntax, context, address, page, many) {
+        match gather_page(alloc, shelf, syntax, context, address, page, piece, many) {
             Ok(()) => {}
             Err(error) => return Err(error),
         }
@@ -99,8 +114,10 @@ fn gather_page<F: Shelf>(
     context: &Context,
     address: &Iri,
     page: &Text,
+    piece: &mut [u8],
     many: &mut Many,
 ) -> Result<(), InputError>
+    requires { length piece.old ≡ 65536 }
     ensures ok { OnOk result (AddsPage context.now syntax (record { address = address.now; page = page.now }) many.old many.new (F.told shelf.old) (F.told shelf.new)) }
     ensures takes { Moves (TakesPart context.now syntax (record { address = address.now; page = page.now })) (F.told shelf.old) (F.told shelf.new) }
     ensures not_refused { (fault : Fault) → result ≡ Err (InputError.Refused fault) → ⊥ }
@@ -111,7 +128,7 @@ fn gather_page<F: Shelf>(
     let Ok(approach) = approach_of(alloc, syntax, context, address) else {
         return Err(InputError::NoMemory);
     };
-    match read_page(alloc, shelf, page.as_str(), approach) {
+    match read_page_by(alloc, shelf, page.as_str(), approach, piece) {
         Ok(list) => match accept(alloc, address, list, many) {
             Ok(()) => Ok(()),
             Err(NoMemory) => Err(InputError::NoMemory),

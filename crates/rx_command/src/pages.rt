@@ -1,5 +1,5 @@
 //! Reading a page as its bytes come.
-ghost use Rattle.std.specs.Prelude.{◌<◌, ◌≤◌, ◌⊎◌, ℕ, List, [], IfOk, IsErrOf, length};
+ghost use Rattle.std.specs.Prelude.{◌≡◌, ◌<◌, ◌≤◌, ◌⊎◌, ℕ, List, [], IfOk, IsErrOf, length, vec_len};
 ghost use Rattle.rx_ports.specs.Counts.{Rose};
 ghost use Rattle.rx_ports.specs.Told.{Moves, Lacks};
 ghost use Rattle.rx_chars.specs.declared.syntax.Syntax as syntaxes;
@@ -14,7 +14,7 @@ use crate::readers::Reader;
 use rx_items::{ItemWalk, Items};
 use rx_names::Context;
 use rx_ports::Shelf;
-use rx_terms::{Iri, TripleList};
+use rx_terms::{Iri, NoMemory, TripleList};
 use rx_walk::{Check, Limits, Stop, Syntax, Walk};
 use std::alloc::Global;
 
@@ -46,6 +46,28 @@ pub(crate) fn read_page<F: Shelf>(
     ensures later { F.faults shelf.old ≤ F.faults shelf.new }
     ensures failed { IsErrOf result InputError.Failed → Rose (F.faults shelf.old) (F.faults shelf.new) ⊎ Lacks (F.told shelf.old) name.now }
 {
+    let Ok(mut piece) = new_piece(alloc) else {
+        drop(approach);
+        return Err(InputError::NoMemory);
+    };
+    read_page_by(alloc, shelf, name, approach, &mut piece[..])
+}
+
+/// Reads a page as [`read_page`] does, by a piece that is lent: who reads many pages makes it once.
+pub(crate) fn read_page_by<F: Shelf>(
+    alloc: Global,
+    shelf: &mut F,
+    name: &str,
+    approach: Approach,
+    piece: &mut [u8],
+) -> Result<TripleList, InputError>
+    requires { length piece.old ≡ 65536 }
+    ensures gives { PageGives (way_of approach) (GivesList approach.syntax approach.context approach.address) name.now result (F.told shelf.old) (F.told shelf.new) }
+    ensures takes { Moves (TakesOf name.now 1073807359) (F.told shelf.old) (F.told shelf.new) }
+    ensures to_first { Moves (TakesToFirst (way_of approach) name.now) (F.told shelf.old) (F.told shelf.new) }
+    ensures later { F.faults shelf.old ≤ F.faults shelf.new }
+    ensures failed { IsErrOf result InputError.Failed → Rose (F.faults shelf.old) (F.faults shelf.new) ⊎ Lacks (F.told shelf.old) name.now }
+{
     let Approach {
         syntax,
         context,
@@ -55,7 +77,7 @@ pub(crate) fn read_page<F: Shelf>(
         return Err(InputError::NoMemory);
     };
     let mut reader = Reader::Walks(walk);
-    match feed_file(alloc, shelf, name, &mut reader) {
+    match feed_file_by(shelf, name, &mut reader, piece) {
         Ok(()) => list_of(reader),
         Err(error) => {
             drop(reader);
@@ -116,6 +138,14 @@ pub(crate) fn check_page<F: Shelf>(
     }
 }
 
+/// Room for one read.
+pub(crate) fn new_piece(alloc: Global) -> Result<Vec<u8>, NoMemory>
+    ensures { IfOk result (λ piece. vec_len piece ≡ 65536) }
+{
+    let piece = vec![in alloc; 0u8; PIECE]?;
+    Ok(piece)
+}
+
 // Feeds the reader the whole file.
 fn feed_file<F: Shelf>(
     alloc: Global,
@@ -130,15 +160,33 @@ fn feed_file<F: Shelf>(
     ensures later { F.faults shelf.old ≤ F.faults shelf.new }
     ensures failed { IsErrOf result InputError.Failed → Rose (F.faults shelf.old) (F.faults shelf.new) ⊎ Lacks (F.told shelf.old) name.now }
 {
-    let Ok(mut piece) = vec![in alloc; 0u8; PIECE] else {
+    let Ok(mut piece) = new_piece(alloc) else {
         return Err(InputError::NoMemory);
     };
+    feed_file_by(shelf, name, reader, &mut piece[..])
+}
+
+// Feeds the reader the whole file by this piece.
+fn feed_file_by<F: Shelf>(
+    shelf: &mut F,
+    name: &str,
+    reader: &mut Reader,
+    piece: &mut [u8],
+) -> Result<(), InputError>
+    requires starts { Starts reader.old }
+    requires room { length piece.old ≡ 65536 }
+    ensures gives { (syntax : syntaxes.Syntax) (aim : Aim) → Reached syntax aim reader.old [] → FileGives syntax aim name.now result reader.new (F.told shelf.old) (F.told shelf.new) }
+    ensures takes { Moves (TakesOf name.now 1073807359) (F.told shelf.old) (F.told shelf.new) }
+    ensures to_first { (syntax : syntaxes.Syntax) (aim : Aim) → Reached syntax aim reader.old [] → Moves (TakesToFirst (way_for syntax aim) name.now) (F.told shelf.old) (F.told shelf.new) }
+    ensures later { F.faults shelf.old ≤ F.faults shelf.new }
+    ensures failed { IsErrOf result InputError.Failed → Rose (F.faults shelf.old) (F.faults shelf.new) ⊎ Lacks (F.told shelf.old) name.now }
+{
     let Ok(()) = shelf.start_file(name) else {
         return Err(InputError::Failed);
     };
     let mut taken = 0;
     while taken <= LARGEST_PAGE {
-        match feed_next(shelf, reader, &mut piece[..]) {
+        match feed_next(shelf, reader, piece) {
             Ok(0) => return Ok(()),
             Ok(count) => taken += count,
             Err(error) => return Err(error),

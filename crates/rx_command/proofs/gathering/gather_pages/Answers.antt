@@ -5,12 +5,13 @@ use Rattle.rx_command.proofs.GatheringLemmas.{none_added, next_added, all_added,
 use Rattle.rx_command.proofs.gathering.gather_pages.Goals as goal
 
 pub loop-i-init : goal.loop-i-init
-loop-i-init g c = record { adds = none_added c.args.context.now c.args.syntax c.args.many.now (g.F.Shelf.told c.args.shelf.now); later = omega arith }
+loop-i-init g c = record { piece = c.requires; adds = none_added c.args.context.now c.args.syntax c.args.many.now (g.F.Shelf.told c.args.shelf.now); later = omega arith }
 
 pub loop-i-preserved : goal.loop-i-preserved
 loop-i-preserved g c =
     let one : Listed = record { address = c.at.result.0.now; page = c.at.result.1.now } in
     record {
+      piece = omega (arith, c.gather_page.auto.piece, c.loop-i.invariant.piece);
       adds = next_added c.args.context.now c.args.syntax c.args.pages.now c.loop-i.i one _ _ _ _ _ _ c.at.ensures c.loop-i.invariant.adds c.in-Ok.ensures.ok;
       later = omega (arith, c.loop-i.invariant.later, c.in-Ok.ensures.later);
     }

@@ -1,9 +1,10 @@
-use Rattle.std.proofs.Common.{◌≤◌, take}
+use Rattle.std.proofs.Common.{◌≡◌, ◌≤◌, length, take}
 use Rattle.rx_command.specs.Gathering.{AddsPages}
 use Rattle.rx_command.proofs.gathering.gather_pages.Given as goal
 
 abbrev pub invariant-loop-i : goal.invariant-loop-i
 invariant-loop-i g l = record {
+  piece : length l.piece ≡ 65536;
   adds : AddsPages l.context l.syntax (take l.i l.pages) l.fn.many l.many (g.F.Shelf.told l.fn.shelf) (g.F.Shelf.told l.shelf);
   later : g.F.Shelf.faults l.fn.shelf ≤ g.F.Shelf.faults l.shelf;
 }

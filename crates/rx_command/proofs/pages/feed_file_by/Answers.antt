@@ -1,0 +1,90 @@
+use Rattle.std.proofs.Common.{arith, ap, inl, ◌≡◌, ◌≤◌, ◌+◌, [], length, refl, Err}
+use Rattle.rx_ports.proofs.MoveLemmas.{moves_weaker, moves_then}
+use Rattle.rx_command.specs.Files.{HasRead, TakesOf}
+use Rattle.rx_command.specs.declared.errors.InputError.TheVariants.{Failed}
+use Rattle.rx_command.proofs.InputLemmas.{rose_before}
+use Rattle.rx_command.specs.Reading.{way_for, ReadsClean, TakesToFirst}
+use Rattle.rx_command.proofs.FileLemmas.{read_start, takes_none, takes_more}
+use Rattle.rx_command.proofs.ReadLemmas.{more_so_far, not_longer, next_found, file_fed, unread_clean, unread_first, to_first}
+use Rattle.rx_command.proofs.pages.feed_file_by.Goals as goal
+
+pub returns-in_default-clause-takes : goal.returns-in_default-clause-takes
+returns-in_default-clause-takes g c = moves_weaker _ (λ x y s. takes_none _ _ _ x y s) c.in_default.ensures.told
+
+pub returns-in_default-clause-gives : goal.returns-in_default-clause-gives
+returns-in_default-clause-gives g c syntax aim r = moves_weaker (ReadsClean (way_for syntax aim) c.args.name.now) (λ x y s. unread_clean syntax aim c.args.name.now x y (omega (arith, s.taken))) c.in_default.ensures.told
+
+pub loop-taken-init : goal.loop-taken-init
+loop-taken-init g c =
+    record {
+      piece = c.requires.room;
+      most = omega arith;
+      so_far = λ syntax aim r. record {
+        bytes = [];
+        size = refl;
+        reached = r;
+        read = moves_weaker (HasRead c.args.name.now []) (λ x y s. read_start c.args.name.now [] x y refl s) c.in-Ok.ensures.told;
+      };
+      later = c.in-Ok.ensures.later;
+    }
+
+pub returns-in-Ok-eq0-clause-gives : goal.returns-in-Ok-eq0-clause-gives
+returns-in-Ok-eq0-clause-gives g c syntax aim r =
+    let s = c.loop-taken.invariant.so_far syntax aim r in
+    let small : length c.loop-taken.piece ≤ 65536 = omega (arith, c.loop-taken.invariant.piece) in
+    file_fed syntax aim c.args.name.now c.loop-taken.reader c.feed_next.new.reader c.loop-taken.taken c.in-Ok-eq0.field-0 _ _ _ s (c.in-Ok-eq0.ensures.gives syntax aim s.bytes s.reached small) c.in-Ok-eq0.field-0-test
+
+pub returns-in-Ok-eq0-clause-takes : goal.returns-in-Ok-eq0-clause-takes
+returns-in-Ok-eq0-clause-takes g c =
+    let s = c.loop-taken.invariant.so_far c.requires.starts.syntax c.requires.starts.aim c.requires.starts.reached in
+    let within : length s.bytes + length c.loop-taken.piece ≤ 1073807360 = omega (arith, s.size, c.loop-taken-test.true, c.loop-taken.invariant.piece) in
+    moves_then (TakesOf c.args.name.now 1073807359) (λ x y z h t. takes_more c.args.name.now s.bytes 1073807359 (length c.loop-taken.piece) x y z h t within) s.read c.in-Ok-eq0.ensures.takes
+
+pub loop-taken-preserved : goal.loop-taken-preserved
+loop-taken-preserved g c =
+    let small : length c.loop-taken.piece ≤ 65536 = omega (arith, c.loop-taken.invariant.piece) in
+    record {
+      piece = omega (arith, c.feed_next.auto.piece, c.loop-taken.invariant.piece);
+      most = omega (arith, c.loop-taken-test.true, c.in-Ok-feed_next.ensures.bound, c.feed_next.auto.piece, c.loop-taken.invariant.piece);
+      so_far = λ syntax aim r.
+          let s = c.loop-taken.invariant.so_far syntax aim r in
+          more_so_far syntax aim c.args.name.now c.loop-taken.reader c.feed_next.new.reader c.loop-taken.taken c.in-Ok-feed_next.count _ _ _ s (c.in-Ok-feed_next.ensures.gives syntax aim s.bytes s.reached small);
+      later = omega (arith, c.loop-taken.invariant.later, c.in-Ok-feed_next.ensures.later);
+    }
+
+pub returns-in-Err-clause-gives : goal.returns-in-Err-clause-gives
+returns-in-Err-clause-gives g c syntax aim r =
+    let s = c.loop-taken.invariant.so_far syntax aim r in
+    let small : length c.loop-taken.piece ≤ 65536 = omega (arith, c.loop-taken.invariant.piece) in
+    next_found syntax aim c.args.name.now c.loop-taken.reader c.feed_next.new.reader c.loop-taken.taken c.in-Err.error _ _ _ s (c.in-Err.ensures.gives syntax aim s.bytes s.reached small)
+
+pub returns-in-Err-clause-takes : goal.returns-in-Err-clause-takes
+returns-in-Err-clause-takes g c =
+    let s = c.loop-taken.invariant.so_far c.requires.starts.syntax c.requires.starts.aim c.requires.starts.reached in
+    let within : length s.bytes + length c.loop-taken.piece ≤ 1073807360 = omega (arith, s.size, c.loop-taken-test.true, c.loop-taken.invariant.piece) in
+    moves_then (TakesOf c.args.name.now 1073807359) (λ x y z h t. takes_more c.args.name.now s.bytes 1073807359 (length c.loop-taken.piece) x y z h t within) s.read c.in-Err.ensures.takes
+
+pub unreachable-requires : goal.unreachable-requires
+unreachable-requires g c =
+    let s = c.loop-taken.invariant.so_far c.requires.starts.syntax c.requires.starts.aim c.requires.starts.reached in
+    let small = not_longer c.requires.starts.syntax c.requires.starts.aim c.loop-taken.reader s.bytes s.reached in
+    omega (arith, small, s.size, c.loop-taken-test.false)
+
+pub returns-in-Err-clause-failed : goal.returns-in-Err-clause-failed
+returns-in-Err-clause-failed g c is = let e : c.in-Err.error ≡ Failed = (cc) in inl (rose_before _ _ _ c.loop-taken.invariant.later (c.in-Err.ensures.failed (ap Err e)))
+
+pub returns-in_default-clause-to_first : goal.returns-in_default-clause-to_first
+returns-in_default-clause-to_first g c syntax aim r =
+    moves_weaker (TakesToFirst (way_for syntax aim) c.args.name.now) (λ x y s. unread_first (way_for syntax aim) c.args.name.now x y (omega (arith, s.taken))) c.in_default.ensures.told
+
+pub returns-in-Ok-eq0-clause-to_first : goal.returns-in-Ok-eq0-clause-to_first
+returns-in-Ok-eq0-clause-to_first g c syntax aim r =
+    let s = c.loop-taken.invariant.so_far syntax aim r in
+    let small : length c.loop-taken.piece ≤ 65536 = omega (arith, c.loop-taken.invariant.piece) in
+    moves_then (TakesToFirst (way_for syntax aim) c.args.name.now) (λ x y z h t. to_first syntax aim c.args.name.now c.loop-taken.reader s.bytes (length c.loop-taken.piece) x y z s.reached h t small) s.read c.in-Ok-eq0.ensures.takes
+
+pub returns-in-Err-clause-to_first : goal.returns-in-Err-clause-to_first
+returns-in-Err-clause-to_first g c syntax aim r =
+    let s = c.loop-taken.invariant.so_far syntax aim r in
+    let small : length c.loop-taken.piece ≤ 65536 = omega (arith, c.loop-taken.invariant.piece) in
+    moves_then (TakesToFirst (way_for syntax aim) c.args.name.now) (λ x y z h t. to_first syntax aim c.args.name.now c.loop-taken.reader s.bytes (length c.loop-taken.piece) x y z s.reached h t small) s.read c.in-Err.ensures.takes
