@@ -123,6 +123,12 @@ both_moves both f m n = record { same = m.same; taken = λ x y p q. f x y (m.tak
 pub takes_nothing : (context : Context) (syntax : Syntax) (one : Listed) (x : Told) → TakesPart context syntax one x x
 takes_nothing context syntax one x = record { files = refl; part = 0; is = nothing_of (IsThat context) syntax x.files one; taken = omega arith }
 
+-- nor of any of them
+pub none_taken : (context : Context) (syntax : Syntax) (listed : List Listed) (x : Told) → TakesParts context syntax listed x x
+none_taken context syntax listed x =
+    let none : total (none_of listed) ≡ 0 = total_none listed in
+    record { files = refl; parts = none_of listed; are = are_none (IsThat context) syntax x.files listed; taken = omega (arith, none) }
+
 module _ (a : Approach) (syntax : Syntax) (context : Context) (address page name : List ℕ) (s : a.syntax ≡ syntax) (k : a.context ≡ context) (n : a.address ≡ address) (named : name ≡ encode_utf8_all page) where
   abbrev One : Listed
   One = record { address = address; page = page }

@@ -53,20 +53,7 @@ pub(crate) fn gather<F: Shelf>(
         drop(context);
         return Err(InputError::NoMemory);
     };
-    let Ok(mut piece) = new_piece(alloc) else {
-        drop(context);
-        drop(many);
-        return Err(InputError::NoMemory);
-    };
-    match gather_pages(
-        alloc,
-        shelf,
-        syntax,
-        &context,
-        pages,
-        &mut piece[..],
-        &mut many,
-    ) {
+    match gather_pages(alloc, shelf, syntax, &context, pages, &mut many) {
         Ok(()) => {
             drop(context);
             Ok(many)
@@ -79,8 +66,29 @@ pub(crate) fn gather<F: Shelf>(
     }
 }
 
-/// Reads the pages one after another, each by this piece, and adds what each gives.
+/// Reads the pages one after another, all by one piece, and adds what each gives.
 fn gather_pages<F: Shelf>(
+    alloc: Global,
+    shelf: &mut F,
+    syntax: Syntax,
+    context: &Context,
+    pages: &Pages,
+    many: &mut Many,
+) -> Result<(), InputError>
+    ensures ok { OnOk result (AddsPages context.now syntax pages.now many.old many.new (F.told shelf.old) (F.told shelf.new)) }
+    ensures takes { Moves (TakesParts context.now syntax pages.now) (F.told shelf.old) (F.told shelf.new) }
+    ensures not_refused { (fault : Fault) → result ≡ Err (InputError.Refused fault) → ⊥ }
+    ensures no_context { IsErrOf result InputError.BadContext → ⊥ }
+    ensures failed { IsErrOf result InputError.Failed → Rose (F.faults shelf.old) (F.faults shelf.new) ⊎ TellsThat (λ told. LacksPage told.files pages.now) (F.told shelf.old) }
+{
+    let Ok(mut piece) = new_piece(alloc) else {
+        return Err(InputError::NoMemory);
+    };
+    gather_by(alloc, shelf, syntax, context, pages, &mut piece[..], many)
+}
+
+/// Reads the pages one after another by this piece, and adds what each gives.
+fn gather_by<F: Shelf>(
     alloc: Global,
     shelf: &mut F,
     syntax: Syntax,

@@ -17,9 +17,6 @@ returns-in-Err-clause-failed g c is =
 pub returns-in_default-clause-takes : goal.returns-in_default-clause-takes
 returns-in_default-clause-takes g c = moves_weaker (TakesGathering (several_seen c.args.several)) (λ x y t. context_taken (several_seen c.args.several) x y t) c.read_context.ensures.takes
 
-pub returns-in_default-new_piece-clause-takes : goal.returns-in_default-new_piece-clause-takes
-returns-in_default-new_piece-clause-takes g c = moves_weaker (TakesGathering (several_seen c.args.several)) (λ x y t. context_taken (several_seen c.args.several) x y t) c.read_context.ensures.takes
-
 pub returns-in-Ok-gather_pages-clause-ok : goal.returns-in-Ok-gather_pages-clause-ok
 returns-in-Ok-gather_pages-clause-ok g c =
     gathers_pages (several_seen c.args.several) c.in-Ok.context _ _ _ _ _ c.in-Ok-new.ensures c.in-Ok.ensures.ok c.in-Ok-gather_pages.ensures.ok

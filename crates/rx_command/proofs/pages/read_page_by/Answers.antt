@@ -5,8 +5,8 @@ use Rattle.rx_command.specs.Ways.{way_of}
 use Rattle.rx_command.proofs.ReadLemmas.{limits_are, start_reached, fed_ends, unread_first}
 use Rattle.rx_command.proofs.pages.read_page_by.Goals as goal
 
-pub feed_file_by-requires-starts : goal.feed_file_by-requires-starts
-feed_file_by-requires-starts g c =
+pub feed_file_by-requires-clause-starts : goal.feed_file_by-requires-clause-starts
+feed_file_by-requires-clause-starts g c =
     let a = c.args.approach in
     let limits = limits_are c.standard.result c.standard.ensures.depth c.standard.ensures.tag c.standard.ensures.page in
     record { syntax = a.syntax; aim = for_triples a.context a.address; reached = start_reached a.syntax a.context a.address c.standard.result c.in-Ok.walk limits c.in-Ok.ensures }

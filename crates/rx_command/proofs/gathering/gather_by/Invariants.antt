@@ -1,6 +1,6 @@
 use Rattle.std.proofs.Common.{◌≡◌, ◌≤◌, length, take}
 use Rattle.rx_command.specs.Gathering.{AddsPages}
-use Rattle.rx_command.proofs.gathering.gather_pages.Given as goal
+use Rattle.rx_command.proofs.gathering.gather_by.Given as goal
 
 abbrev pub invariant-loop-i : goal.invariant-loop-i
 invariant-loop-i g l = record {
