@@ -3,6 +3,7 @@ ghost use Rattle.std.specs.Prelude.{◌≤◌};
 
 use crate::contents::content_of;
 use crate::rows::RowError;
+use crate::turns::{Device, Turn};
 use rx_ports::{FileList, MemShelf, MemSink};
 use rx_terms::Text;
 use serde_json::Value;
@@ -69,10 +70,15 @@ fn push_word(alloc: Global, words: &mut Vec<Text>, value: &Value) -> Result<(), 
 
 /// The shelf of the row's files. Its `reads` says how many bytes a read gives at most, where not the piece's, and which
 /// call fails.
-pub(crate) fn shelf_of(alloc: Global, row: &Value, piece: usize) -> Result<MemShelf, RowError> {
-    let reads = row.get("reads");
-    let failing = failing(alloc, reads)?;
-    match files_of(alloc, row.get("files")) {
+pub(crate) fn shelf_of(
+    alloc: Global,
+    row: &Value,
+    piece: usize,
+    turn: Turn,
+) -> Result<MemShelf, RowError> {
+    let reads = row.get(Device::Reads.behavior());
+    let failing = failing(alloc, reads, turn.failing_call(Device::Reads))?;
+    match files_of(alloc, row.get("files"), turn.length()) {
         Ok(files) => Ok(MemShelf::new(files, chunk(reads, piece), failing)),
         Err(error) => {
             drop(failing);
@@ -81,23 +87,42 @@ pub(crate) fn shelf_of(alloc: Global, row: &Value, piece: usize) -> Result<MemSh
     }
 }
 
-/// A sink with room for all that a row writes. Where a value is given, it says how many bytes a write takes at most, and
-/// which call fails.
-pub(crate) fn sink_of(alloc: Global, writes: Option<&Value>) -> Result<MemSink, RowError> {
-    let failing = failing(alloc, writes)?;
+/// A sink with room for all that a row writes or says. Where the row tells how it behaves, that says how many bytes a
+/// write takes at most, and which call fails.
+pub(crate) fn sink_of(
+    alloc: Global,
+    row: &Value,
+    device: Device,
+    turn: Turn,
+) -> Result<MemSink, RowError> {
+    let writes = row.get(device.behavior());
+    let failing = failing(alloc, writes, turn.failing_call(device))?;
     match MemSink::with_room(alloc, ROOM, chunk(writes, ROOM), failing) {
         Ok(sink) => Ok(sink),
         Err(_no_memory) => Err(RowError::NoMemory),
     }
 }
 
-fn files_of(alloc: Global, value: Option<&Value>) -> Result<FileList, RowError> {
+/// The most bytes that the row's sink has taken after so many writes.
+pub(crate) fn taken_by(row: &Value, device: Device, writes: u64) -> usize {
+    let chunk = chunk(row.get(device.behavior()), ROOM);
+    usize::try_from(writes)
+        .unwrap_or(ROOM)
+        .saturating_mul(chunk)
+}
+
+/// The files of the row, of which only so many bytes are there where a length is given.
+fn files_of(
+    alloc: Global,
+    value: Option<&Value>,
+    length: Option<usize>,
+) -> Result<FileList, RowError> {
     let Some(members) = value.and_then(Value::as_object) else {
         return Err(RowError::Form);
     };
     let mut files = FileList::new(alloc);
     for (name, value) in members.iter() {
-        if let Err(error) = push_file(alloc, &mut files, name.as_str(), value) {
+        if let Err(error) = push_file(alloc, &mut files, name.as_str(), value, length) {
             drop(files);
             return Err(error);
         }
@@ -110,8 +135,12 @@ fn push_file(
     files: &mut FileList,
     name: &str,
     value: &Value,
+    length: Option<usize>,
 ) -> Result<(), RowError> {
-    let content = content_of(alloc, value)?;
+    let mut content = content_of(alloc, value)?;
+    if let Some(length) = length {
+        content.truncate(length);
+    }
     match files.push(name, content.as_slice()) {
         Ok(()) => Ok(()),
         Err(_no_memory) => Err(RowError::NoMemory),
@@ -128,10 +157,10 @@ fn chunk(device: Option<&Value>, standard: usize) -> usize
     }
 }
 
-/// The numbers of the calls of a device that fail.
-fn failing(alloc: Global, device: Option<&Value>) -> Result<Vec<u64>, RowError> {
+/// The numbers of the calls of a device that fail: of the turn's, where there is one, else of the row's own.
+fn failing(alloc: Global, device: Option<&Value>, call: Option<u64>) -> Result<Vec<u64>, RowError> {
     let mut numbers = Vec::new(alloc);
-    if let Some(number) = number_at(device, "fails") {
+    if let Some(number) = call.or(number_at(device, "fails")) {
         if numbers.push(number).is_err() {
             return Err(RowError::NoMemory);
         }

@@ -4,9 +4,12 @@
 //! and the last line counts the rows that hold.
 #![tactic(auto)]
 
+mod answers;
 mod contents;
 mod devices;
+mod fronts;
 mod rows;
+mod turns;
 
 use crate::rows::{Row, RowError};
 use serde_json::Value;
@@ -22,7 +25,9 @@ const TOPICS: &[&str] = &[
     "contexts",
     "copying",
     "devices",
+    "failing",
     "faults",
+    "fronts",
     "hanging",
     "items",
     "jsonld",

@@ -1,6 +1,9 @@
 //! A row, and what comes of it.
+use crate::answers::Answer;
 use crate::contents::content_of;
 use crate::devices::{shelf_of, sink_of, words_of};
+use crate::fronts::tokens_of;
+use crate::turns::{DEVICES, Device, Turn};
 use rx_command::run;
 use rx_ports::{MemShelf, MemSink};
 use rx_terms::Text;
@@ -17,7 +20,9 @@ pub(crate) enum RowError {
 }
 
 /// A row: `name`, `words`, `files`, `status`, `written` and `said`; `whole` where its files come in pieces of one size
-/// alone; `reads` and `writes` where a device behaves in its own way.
+/// alone; `reads`, `writes` and `says` where a device behaves in its own way. `each_read`, `each_write` and `each_say`
+/// tell how many calls of a device there are, each of which then fails in turn. Where the row has `fronts` its page,
+/// `page.html`, is its only file, and ends too early in turn after each number of its bytes.
 #[derive(Clone, Copy)]
 pub(crate) struct Row<'a> {
     pub(crate) value: &'a Value,
@@ -48,40 +53,92 @@ impl Row<'_> {
         PIECES
     }
 
-    /// Whether what comes of the row's words and files is what it says.
+    /// Whether what comes of the row's words and files is what it says, in each of its turns.
     pub(crate) fn try_in_pieces(&self, alloc: Global, piece: usize) -> Result<bool, RowError> {
-        let found = self.found(alloc, piece)?;
-        let holds = self.is_met_by(alloc, &found);
+        if !self.try_turn(alloc, piece, Turn::Plain)? {
+            return Ok(false);
+        }
+        for device in DEVICES {
+            if !self.try_failures(alloc, piece, *device)? {
+                return Ok(false);
+            }
+        }
+        match self.value.get("fronts") {
+            Some(fronts) => self.try_fronts(alloc, piece, fronts),
+            None => Ok(true),
+        }
+    }
+
+    /// Where the row says how many calls of the device there are: each of them fails in turn, and then the one behind
+    /// them, which doesn't come.
+    fn try_failures(&self, alloc: Global, piece: usize, device: Device) -> Result<bool, RowError> {
+        if self.value.get(device.failures()).is_none() {
+            return Ok(true);
+        }
+        let Some(calls) = device.calls(self.value) else {
+            return Err(RowError::Form);
+        };
+        for done in 0..calls.saturating_add(1) {
+            if !self.try_turn(alloc, piece, Turn::Failing(device, done))? {
+                return Ok(false);
+            }
+        }
+        Ok(true)
+    }
+
+    /// The page ends after each number of its bytes.
+    fn try_fronts(&self, alloc: Global, piece: usize, fronts: &Value) -> Result<bool, RowError> {
+        let tokens = tokens_of(alloc, fronts)?;
+        let tried = self.try_cuts(alloc, piece, tokens.as_slice());
+        drop(tokens);
+        tried
+    }
+
+    fn try_cuts(&self, alloc: Global, piece: usize, tokens: &[u64]) -> Result<bool, RowError> {
+        for (length, token) in tokens.iter().enumerate() {
+            let token = *token;
+            if !self.try_turn(alloc, piece, Turn::Cut { length, token })? {
+                return Ok(false);
+            }
+        }
+        Ok(tokens.len() == self.page_length(alloc)?)
+    }
+
+    /// How many bytes the page has of a row of fronts.
+    fn page_length(&self, alloc: Global) -> Result<usize, RowError> {
+        let page = self
+            .value
+            .get("files")
+            .and_then(|files| files.get("page.html"));
+        match page {
+            Some(page) => Ok(content_of(alloc, page)?.len()),
+            None => Err(RowError::Form),
+        }
+    }
+
+    fn try_turn(&self, alloc: Global, piece: usize, turn: Turn) -> Result<bool, RowError> {
+        let answer = Answer::of(alloc, self.value, turn)?;
+        let found = match self.found(alloc, piece, turn) {
+            Ok(found) => found,
+            Err(error) => {
+                drop(answer);
+                return Err(error);
+            }
+        };
+        let holds = answer.is(found.status, found.out.held(), found.err.held());
         drop(found);
-        holds
-    }
-
-    fn is_met_by(&self, alloc: Global, found: &Found) -> Result<bool, RowError> {
-        let Some(status) = self.value.get("status").and_then(Value::as_u64) else {
-            return Err(RowError::Form);
-        };
-        let written = self.holds(alloc, "written", found.out.held())?;
-        let said = self.holds(alloc, "said", found.err.held())?;
-        Ok(status == u64::from(found.status) && written && said)
-    }
-
-    /// Whether the member of this name tells these bytes.
-    fn holds(&self, alloc: Global, name: &str, bytes: &[u8]) -> Result<bool, RowError> {
-        let Some(value) = self.value.get(name) else {
-            return Err(RowError::Form);
-        };
-        let content = content_of(alloc, value)?;
-        Ok(content.as_slice() == bytes)
+        drop(answer);
+        Ok(holds)
     }
 
     /// What comes of the words and files.
-    fn found(&self, alloc: Global, piece: usize) -> Result<Found, RowError> {
+    fn found(&self, alloc: Global, piece: usize, turn: Turn) -> Result<Found, RowError> {
         let mut found = Found {
             status: 255,
-            out: sink_of(alloc, self.value.get("writes"))?,
-            err: sink_of(alloc, None)?,
+            out: sink_of(alloc, self.value, Device::Writes, turn)?,
+            err: sink_of(alloc, self.value, Device::Says, turn)?,
         };
-        match self.run(alloc, piece, &mut found) {
+        match self.run(alloc, piece, turn, &mut found) {
             Ok(()) => Ok(found),
             Err(error) => {
                 drop(found);
@@ -90,9 +147,15 @@ impl Row<'_> {
         }
     }
 
-    fn run(&self, alloc: Global, piece: usize, found: &mut Found) -> Result<(), RowError> {
+    fn run(
+        &self,
+        alloc: Global,
+        piece: usize,
+        turn: Turn,
+        found: &mut Found,
+    ) -> Result<(), RowError> {
         let words = words_of(alloc, self.value.get("words"))?;
-        let Ok(mut shelf) = shelf_of(alloc, self.value, piece) else {
+        let Ok(mut shelf) = shelf_of(alloc, self.value, piece, turn) else {
             drop(words);
             return Err(RowError::Form);
         };
