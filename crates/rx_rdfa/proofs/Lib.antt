@@ -1,6 +1,7 @@
 pub mod Exact
 pub mod Made
 pub mod Whole
+pub mod Proper
 pub mod Tables
 pub mod Local
 pub mod Machine

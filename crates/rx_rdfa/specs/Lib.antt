@@ -16,6 +16,7 @@ pub mod Element
 pub mod Lists
 pub mod Made
 pub mod Whole
+pub mod Proper
 pub mod Local
 pub mod Machine
 pub mod Calls

@@ -4,12 +4,15 @@
 //! Definitions are in `specs/`. Each function here is a law about them, and does nothing when it is called.
 #![tactic(auto)]
 
-ghost use Rattle.rx_model.specs.Terms.{Term};
-ghost use Rattle.rx_rdfa.specs.Blanks.{Bnode, Owner};
+ghost use Rattle.rx_model.specs.Copied.{CopiesPatterns, LeadsAlong};
+ghost use Rattle.rx_model.specs.Numbered.{NumbersOneToOne};
+ghost use Rattle.rx_model.specs.Terms.{Term, same_node};
+ghost use Rattle.rx_rdfa.specs.Blanks.{Bnode, Owner, same_bnode};
 ghost use Rattle.rx_rdfa.specs.Calls.{CallsRead, FramesAreContexts};
 ghost use Rattle.rx_rdfa.specs.Local.{ListsAreLocal};
 ghost use Rattle.rx_rdfa.specs.Machine.{ReadingMakes};
 ghost use Rattle.rx_rdfa.specs.Made.{MadeIsRaw};
+ghost use Rattle.rx_rdfa.specs.Proper.{LiteralsAreProper};
 ghost use Rattle.rx_rdfa.specs.Renaming.{MadeRenames};
 ghost use Rattle.rx_rdfa.specs.Tables.{TablesAreLists};
 ghost use Rattle.rx_rdfa.specs.Whole.{WrittenDenotes};
@@ -23,6 +26,26 @@ pub fn made_is_raw()
 /// to one.
 pub fn written_denotes()
     ensures { WrittenDenotes }
+{}
+
+/// Under the model's names the set of the copied list is the patterned set of the list.
+pub fn copying_follows_patterns()
+    ensures { CopiesPatterns same_bnode }
+{}
+
+/// Under these names the test of what live copy triples lead to is that of the relation.
+pub fn pairs_lead_along()
+    ensures { LeadsAlong (same_node same_bnode) }
+{}
+
+/// Numbering renames these names one to one.
+pub fn numbering_renames()
+    ensures { NumbersOneToOne same_bnode }
+{}
+
+/// No literal that is written of a tree is typed xsd:string.
+pub fn literals_are_proper()
+    ensures { LiteralsAreProper }
 {}
 
 /// The lists of an owner have no entry from outside its element.

@@ -1,9 +1,10 @@
 -- Where a text is cut at a mark, in bytes and in characters.
-use Rattle.std.proofs.Common.{◌≡◌, ◌∙◌, ℕ, true, List, [], ◌∷◌, ◌++◌, length, take, drop, refl, sym, ap, subst}
+use Rattle.std.proofs.Common.{◌≡◌, ◌∙◌, ℕ, true, List, [], ◌∷◌, ◌++◌, length, take, drop, refl, sym, ap, subst, arith}
 use Rattle.std.proofs.Math.Seq.{take-append_seam, drop-append_seam}
 use Rattle.std.specs.Str.{chars, IsUtf8, IsCharBoundary, encode_utf8_all, all_scalars}
 use Rattle.std.proofs.lemmas.Bool.{and_parts, and_from}
-use Rattle.std.proofs.lemmas.Str.{encodes-chars, scalars-chars, chars-encodes, encodes-append, IsCharBoundary-at_seam}
+use Rattle.std.proofs.lemmas.List.{take-append-drop, length-take}
+use Rattle.std.proofs.lemmas.Str.{encodes-chars, scalars-chars, chars-append, chars-encodes, encodes-append, IsUtf8-take, IsCharBoundary-at_seam}
 use Rattle.rx_values.specs.Marks.{CutAt}
 
 front_scalars : (front rest : List ℕ) → all_scalars (front ++ rest) ≡ true → all_scalars front ≡ true
@@ -52,3 +53,12 @@ behind text bs mark front rest u e at =
     let b = cut_bytes_at text bs mark front rest u e at in
     ap (λ (n : ℕ). chars (drop n bs)) b.size ∙ ap (λ (x : List ℕ). chars (drop (length (encode_utf8_all front)) x)) b.whole
     ∙ ap chars (drop-append_seam (encode_utf8_all front) (encode_utf8_all rest)) ∙ chars-encodes rest b.rest_is
+
+-- at a boundary the text is cut
+pub cut_there : (text bs : List ℕ) (mark : ℕ) → IsUtf8 bs → chars bs ≡ text → IsCharBoundary bs mark → CutAt text mark (chars (take mark bs)) (chars (drop mark bs))
+cut_there text bs mark u e at =
+    let front : IsUtf8 (take mark bs) = IsUtf8-take bs mark u at in
+    record {
+      whole = sym e ∙ ap chars (sym (take-append-drop mark bs)) ∙ chars-append (take mark bs) (drop mark bs) front;
+      size = omega (arith, at.0, length-take mark bs, ap length (encodes-chars (take mark bs) front));
+    }

@@ -7,3 +7,7 @@ use Rattle.rx_terms.specs.Text.{Chars}
 pub record CutAt (text : Chars) (mark : ℕ) (front rest : Chars) : Type 0 where
   pub whole : text ≡ front ++ rest
   pub size : mark ≡ length (encode_utf8_all front)
+
+-- no front of the text takes so many bytes
+abbrev pub NoCut : Chars → ℕ → Type 0
+NoCut text mark = (front rest : Chars) → ¬ (CutAt text mark front rest)

@@ -2,7 +2,7 @@
 ghost use Rattle.std.specs.Prelude.{◌≡◌, [], ◌++◌, length, OnOk, OnErr, encode_utf8_all};
 ghost use Rattle.std.specs.Str.{chars};
 ghost use Rattle.rx_terms.specs.Text.{Chars};
-ghost use Rattle.rx_values.specs.Marks.{CutAt};
+ghost use Rattle.rx_values.specs.Marks.{CutAt, NoCut};
 
 use rx_terms::NoMemory;
 use std::alloc::Global;
@@ -54,7 +54,8 @@ impl TextStore {
     /// The text behind the mark, which is the length in bytes of a front of what is kept. Behind any other number there
     /// is none.
     pub fn since(&self, mark: usize) -> &str
-        ensures { (front rest : Chars) → CutAt self.now mark front rest → chars result.now ≡ rest }
+        ensures rest { (front rest : Chars) → CutAt self.now mark front rest → chars result.now ≡ rest }
+        ensures none { NoCut self.now mark → result.now ≡ [] }
     {
         match self.text.as_str().split_at_checked(mark) {
             Some((_front, rest)) => rest,
@@ -65,7 +66,8 @@ impl TextStore {
     /// Drops the text behind the mark, which is the length in bytes of a front of what is kept. Any other number drops
     /// nothing.
     pub fn cut(&mut self, mark: usize)
-        ensures { (front rest : Chars) → CutAt self.old mark front rest → self.new ≡ front }
+        ensures front { (front rest : Chars) → CutAt self.old mark front rest → self.new ≡ front }
+        ensures stays { NoCut self.old mark → self.new ≡ self.old }
     {
         if self.text.as_str().is_char_boundary(mark) {
             self.text.truncate(mark);

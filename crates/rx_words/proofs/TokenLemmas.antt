@@ -1,5 +1,5 @@
 -- The first token of a text, in bytes and in characters.
-use Rattle.std.proofs.Common.{◌≡◌, ◌∙◌, ℕ, suc, ◌<◌, ◌≤◌, Bool, true, false, not, ◌==◌, List, [], ◌∷◌, ◌++◌, length, take, drop, get_or, sym, ap, refl, arith, Option, ⊎_elim}
+use Rattle.std.proofs.Common.{◌≡◌, ◌≢◌, ◌∙◌, ℕ, suc, ◌<◌, ◌≤◌, Bool, true, false, not, ◌==◌, List, [], ◌∷◌, ◌++◌, length, take, drop, get_or, sym, ap, refl, arith, Option, ⊎_elim}
 use Rattle.std.specs.Prelude.{unwrap_or, nat_lt}
 use Rattle.std.specs.Char.{is_ascii_whitespace, encode_utf8}
 use Rattle.std.specs.List.{list_all, position, position_or_len}
@@ -15,11 +15,9 @@ use Rattle.rx_terms.specs.Text.{Chars, tokens, ends_token, onto_first}
 use Rattle.rx_terms.proofs.CharLemmas.{ascii-chars, ascii-utf8, chars-end}
 use Rattle.rx_refs.proofs.PartLemmas.{by_test}
 use Rattle.rx_refs.proofs.TrimLemmas.{same-white, each-white, white-ascii, nonempty-bytes}
+use Rattle.rx_words.specs.Tokens.{is_filled, IsFirstToken}
 
 -- Lists
-
-abbrev pub is_filled : ℕ → Bool
-is_filled c = not (is_white_space c)
 
 tokens-white : (front text : Chars) → list_all is_white_space front ≡ true → tokens (front ++ text) ≡ tokens text
 tokens-white [] text h = refl
@@ -34,6 +32,13 @@ tokens-word c (d ∷ word) rest h w e =
     let p = and_parts (is_filled d) (list_all is_filled word) w in
     let dark = filled-false d p.0 in
     rw (h, dark) (ap (onto_first c) (sym (rw dark refl) ∙ tokens-word d word rest dark p.1 e))
+
+-- the first token of a text is the first of its tokens
+pub tokens-first : (text token rest : Chars) → IsFirstToken text token rest → tokens text ≡ token ∷ tokens rest
+tokens-first text token rest f = ap tokens f.whole ∙ tokens-white f.front (token ++ rest) f.white ∙ go token f.some f.filled where
+  go : (word : Chars) → word ≢ [] → list_all is_filled word ≡ true → tokens (word ++ rest) ≡ word ∷ tokens rest
+  go [] some filled = absurd (some refl)
+  go (c ∷ word) some filled = let p = and_parts (is_filled c) (list_all is_filled word) filled in tokens-word c word rest (filled-false c p.0) p.1 f.ends
 
 -- Bytes
 
@@ -114,9 +119,20 @@ ends-chars r u h = go (chars r) (encodes-chars r u) where
       let same : c ≡ get_or r 0 0 = char_from_byte r (encode_utf8_all cs) c (sym e) small some in
       sym (same-white c) ∙ ap is_ascii_whitespace same ∙ white
 
--- the token that a text without white space at its front begins with
-pub cut-token : (r : List ℕ) (n : ℕ) → IsUtf8 r → n ≡ position_or_len is_ascii_whitespace r → 0 < length r → is_ascii_whitespace (get_or r 0 0) ≡ false
-    → (0 < n) × (tokens (chars r) ≡ chars (take n r) ∷ tokens (chars (drop n r)))
+-- bytes that are there have a character
+some-chars : (xs : List ℕ) → IsUtf8 xs → 0 < length xs → chars xs ≢ []
+some-chars xs u l e = let none : 0 ≡ length xs = ap length (sym (ap encode_utf8_all e) ∙ encodes-chars xs u) in omega (arith, none)
+
+-- the text begins with a token of so many bytes
+record StartsWith (r : List ℕ) (n : ℕ) : Type 0 where
+  size : 0 < n
+  whole : chars r ≡ chars (take n r) ++ chars (drop n r)
+  some : chars (take n r) ≢ []
+  filled : list_all is_filled (chars (take n r)) ≡ true
+  ends : ends_token (chars (drop n r)) ≡ true
+
+-- a text without white space at its front begins with a token
+cut-token : (r : List ℕ) (n : ℕ) → IsUtf8 r → n ≡ position_or_len is_ascii_whitespace r → 0 < length r → is_ascii_whitespace (get_or r 0 0) ≡ false → StartsWith r n
 cut-token r n u e l first =
     let at = end-boundary r n e in
     let most : n ≤ length r = at.0 in
@@ -135,18 +151,15 @@ cut-token r n u e l first =
     let behind : ends_token (chars (drop n r)) ≡ true = ends-chars (drop n r) rest_utf8 (λ w.
     let here : get_or (drop n r) 0 0 ≡ get_or r n 0 = get_or-drop n r 0 0 ∙ ap (λ (k : ℕ). get_or r k 0) (omega arith) in
     ap is_ascii_whitespace here ∙ ends (omega (arith, length-drop n r))) in
-    let whole : chars r ≡ chars front ++ chars (drop n r) = ap chars (sym (take-append-drop n r)) ∙ chars-append front (drop n r) front_utf8 in
-    (some, ap tokens whole ∙ go (chars front) (encodes-chars front front_utf8) size some filled behind) where
+    record {
+      size = some;
+      whole = ap chars (sym (take-append-drop n r)) ∙ chars-append front (drop n r) front_utf8;
+      some = some-chars front front_utf8 (omega arith);
+      filled = filled-chars (chars front) (ap (list_all is_filled) (encodes-chars front front_utf8) ∙ filled);
+      ends = behind;
+    } where
       both : (b : Bool) → b ≡ true → b ≡ false → ⊥
       both b p q = cc
-
-      go : (cs : Chars) → encode_utf8_all cs ≡ take n r → length (take n r) ≡ n → 0 < n → list_all is_filled (take n r) ≡ true → ends_token (chars (drop n r)) ≡ true
-          → tokens (cs ++ chars (drop n r)) ≡ cs ∷ tokens (chars (drop n r))
-      go [] f size some filled behind = absurd (omega (arith, ap length f))
-      go (c ∷ cs) f size some filled behind =
-          let all : list_all is_filled (c ∷ cs) ≡ true = filled-chars (c ∷ cs) (ap (list_all is_filled) f ∙ filled) in
-          let p = and_parts (is_filled c) (list_all is_filled cs) all in
-          tokens-word c cs (chars (drop n r)) (filled-false c p.0) p.1 behind
 
 first-filled : (s r : List ℕ) → IsTrimAsciiStart s r → 0 < length r → is_ascii_whitespace (get_or r 0 0) ≡ false
 first-filled s r t l =
@@ -156,8 +169,11 @@ first-filled s r t l =
 
 -- the first token of a text, and what stands behind it
 pub first-token : (s r front rest : List ℕ) (n : ℕ) (b : Bool) → IsUtf8 s → IsUtf8 r → IsTrimAsciiStart s r → b ≡ (length r == 0) → b ≡ false
-    → n ≡ position_or_len is_ascii_whitespace r → front ≡ take n r → rest ≡ drop n r → (tokens (chars s) ≡ chars front ∷ tokens (chars rest)) × (length rest < length s)
+    → n ≡ position_or_len is_ascii_whitespace r → front ≡ take n r → rest ≡ drop n r → IsFirstToken (chars s) (chars front) (chars rest) × (length rest < length s)
 first-token s r front rest n b u v t e h end f g =
     let some : 0 < length r = grind (arith, nat_tests) in
     let cut = cut-token r n v end some (first-filled s r t some) in
-    (tokens-trimmed s r u v t ∙ cut.1 ∙ rw (f, g) refl, omega (arith, cut.0, t.2, ap length g, length-drop n r))
+    let white = white-front s r u v t in
+    let parts : IsFirstToken (chars s) (chars (take n r)) (chars (drop n r)) =
+    record { front = white.0; whole = white.2 ∙ ap (λ (x : Chars). white.0 ++ x) cut.whole; white = white.1; some = cut.some; filled = cut.filled; ends = cut.ends } in
+    (rw (f, g) parts, omega (arith, cut.size, t.2, ap length g, length-drop n r))

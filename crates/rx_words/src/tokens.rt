@@ -4,11 +4,13 @@ ghost use Rattle.std.specs.List.{position, position_or_len};
 ghost use Rattle.std.specs.Char.{is_ascii_whitespace};
 ghost use Rattle.std.specs.Str.{chars};
 ghost use Rattle.rx_terms.specs.Text.{tokens};
+ghost use Rattle.rx_words.specs.Tokens.{IsFirstToken};
 
 /// The first token and what stands behind it, or `None` exactly where the text has no token: a token is a maximal run
-/// without white space.
+/// without white space (HTML Standard, 2.3.7).
 pub fn first_token(text: &str) -> Option<(&str, &str)>
     ensures token { MatchOption result (tokens (chars text.now) ≡ []) (λ cut. tokens (chars text.now) ≡ chars cut.0.now ∷ tokens (chars cut.1.now)) }
+    ensures parts { IfSome result (λ cut. IsFirstToken (chars text.now) (chars cut.0.now) (chars cut.1.now)) }
     ensures shorter { IfSome result (λ cut. length cut.1.now < length text.now) }
 {
     let text = text.trim_ascii_start();

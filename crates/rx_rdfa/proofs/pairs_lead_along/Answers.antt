@@ -1,0 +1,9 @@
+use Rattle.rx_model.specs.Terms.{same_node}
+use Rattle.rx_model.proofs.Exact.{exact_nodes}
+use Rattle.rx_model.proofs.Leads.{leads_along}
+use Rattle.rx_rdfa.specs.Blanks.{same_bnode}
+use Rattle.rx_rdfa.proofs.Exact.{exact_bnodes}
+use Rattle.rx_rdfa.proofs.pairs_lead_along.Goals as goal
+
+pub returns : goal.returns
+returns c = leads_along (same_node same_bnode) (exact_nodes same_bnode exact_bnodes)
