@@ -14,5 +14,8 @@ pub mod StandLemmas
 pub mod RunLemmas
 pub mod QuietLemmas
 pub mod FeedLemmas
+pub mod LaneLemmas
+pub mod PlainLemmas
+pub mod SaidLemmas
 pub mod FrontLemmas
 pub mod LoopLemmas

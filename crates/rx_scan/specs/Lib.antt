@@ -1,5 +1,6 @@
 pub mod Buffers
 pub mod Places
+pub mod Plain
 pub mod Scanner
 pub mod Bytes
 pub mod Entries

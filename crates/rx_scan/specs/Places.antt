@@ -24,6 +24,6 @@ cut p = record { at = p.at; starts = p.starts; token = p.token; started = p.star
 abbrev pub fed : ℕ → Place → Place
 fed n p = record { at = p.at + n; starts = p.at + n; token = p.token; started = true; after_return = false; two = p.two; last = p.last }
 
--- behind so many characters of text of which none is a `]`
+-- behind so many bytes of text of which none is a `]`
 abbrev pub said : ℕ → Place → Place
 said n p = record { at = p.at + n; starts = p.at + n; token = p.token; started = true; after_return = false; two = false; last = false }

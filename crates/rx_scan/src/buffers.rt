@@ -1,8 +1,6 @@
 //! Text that is gathered a character at a time.
 ghost use Rattle.std.specs.Prelude.{◌≡◌, ◌+◌, ◌≤◌, true, [], ◌∷◌, ◌++◌, length, IfOk, IsOk, OnErr, OnOk, encode_utf8_all};
-ghost use Rattle.std.specs.List.{list_all};
 ghost use Rattle.std.specs.Str.{chars};
-ghost use Rattle.rx_terms.specs.Ascii.{is_ascii};
 ghost use Rattle.rx_terms.specs.Text.{is_empty};
 
 use rx_terms::NoMemory;
@@ -60,16 +58,13 @@ impl Buffer {
         Ok(())
     }
 
-    /// Characters of ASCII behind the text.
-    pub(crate) fn push_ascii(&mut self, bytes: &[u8]) -> Result<(), NoMemory>
-        requires { list_all is_ascii bytes.now ≡ true }
-        ensures ok { OnOk result (self.new.text ≡ self.old.text ++ bytes.now) }
-        ensures size { OnOk result (self.new.size ≡ self.old.size + length bytes.now) }
+    /// Text behind this one.
+    pub(crate) fn push_text(&mut self, text: &str) -> Result<(), NoMemory>
+        ensures ok { OnOk result (self.new.text ≡ self.old.text ++ chars text.now) }
+        ensures size { OnOk result (self.new.size ≡ self.old.size + length text.now) }
         ensures room { self.old.room ≤ self.new.room }
-        ensures fits { self.old.size + length bytes.now ≤ self.old.room → IsOk result }
+        ensures fits { self.old.size + length text.now ≤ self.old.room → IsOk result }
     {
-        // ASCII is UTF-8, so the bytes aren't looked at again.
-        let text = unsafe { str::from_utf8_unchecked(bytes) };
         if self.text.push_str(text).is_err() {
             return Err(NoMemory);
         }

@@ -1,53 +1,19 @@
 //! Plain text at the front of some bytes, and characters of a tag, which are taken at once.
 ghost use Rattle.std.specs.Prelude.{◌≡◌, ◌+◌, ◌<◌, ◌≤◌, ◌^◌, true, ◌==◌, MatchBool, length, take};
 ghost use Rattle.rx_tags.specs.TagBufs.{MayStep};
-ghost use Rattle.std.specs.List.{list_all};
-ghost use Rattle.rx_scan.specs.Fronts.{FeedsFront, IsFront, TakesFront, TellsFront, has_text, is_plain};
+ghost use Rattle.rx_scan.specs.Fronts.{FeedsFront, IsFront, TakesFront, TellsFront, TellsPlain, has_text};
 
+use crate::plain::plain_text;
 use crate::readers::Reader;
 use crate::runs::ROOM;
 use rx_grammar::Content;
 use rx_marks::Mark;
-
-// A character that means nothing but itself in each content that has text, where no line feed is dropped and no CR stands
-// before it. Most are letters, which are told first.
-fn is_plain(byte: u8) -> bool
-    ensures { result ≡ is_plain byte }
-{
-    if byte > b'>' {
-        return byte <= b'~' && byte != b']';
-    }
-    if byte < b' ' {
-        return matches!(byte, b'\t' | b'\n');
-    }
-    !matches!(byte, b'&' | b'<' | b'>')
-}
 
 // Outside the root white space alone is text.
 fn has_text(inside: Content) -> bool
     ensures { result ≡ has_text inside }
 {
     inside != Content::Outside
-}
-
-// How many bytes at the front are plain, but no more than `most`.
-#[inline(always)]
-fn plain_length(bytes: &[u8], most: usize) -> usize
-    ensures most { result ≤ most }
-    ensures fits { result ≤ length bytes.now }
-    ensures plain { list_all is_plain (take result bytes.now) ≡ true }
-{
-    let mut count = 0;
-    for byte in bytes {
-        if count == most {
-            return count;
-        }
-        if !is_plain(*byte) {
-            return count;
-        }
-        count += 1;
-    }
-    count
 }
 
 // The lesser of both.
@@ -125,36 +91,48 @@ impl Reader {
     }
 
     // How many bytes of text have room, and aren't past the page's limit.
-    fn front_limit(&self) -> usize
+    fn front_limit(&self, length: usize) -> usize
         requires { self.now.text.size + 4 ≤ ROOM }
+        ensures fits { result ≤ length }
         ensures room { (self.now.text.size + result) + 4 ≤ ROOM }
         ensures page { 0 < result → self.now.place.at + result ≤ self.now.setting.limits.page }
         ensures place { 0 < result → self.now.place.at + result < 2 ^ 64 }
     {
         let room = ROOM - 4 - self.text.len();
-        at_most(left_of(self.setting.limits.page, self.place.at), room)
+        let rest = left_of(self.setting.limits.page, self.place.at);
+        at_most(rest, at_most(room as u64, length))
     }
 
-    // How many bytes at the front are text that is told at once. Where a tag comes next, which is often, nothing else is
-    // looked at.
-    fn front(&self, bytes: &[u8]) -> usize
+    // Whether plain text is told at once where no token is begun. A byte order mark may stand first, and a line feed may be
+    // dropped or belong to a CR before it.
+    fn tells_plain(&self) -> bool
+        ensures { result ≡ true → TellsPlain self.now }
+    {
+        if !self.utf8.is_whole() {
+            return false;
+        }
+        if self.setting.drops || self.place.after_return || !self.place.started {
+            return false;
+        }
+        has_text(self.setting.inside)
+    }
+
+    // The text at the front that is told at once. Where a tag comes next, which is often, nothing else is looked at.
+    fn front<'a>(&self, bytes: &'a [u8]) -> &'a str
         requires between { self.now.pending.mark ≡ Mark.Nothing }
         requires size { self.now.text.size + 4 ≤ ROOM }
-        ensures fits { result ≤ length bytes.now }
-        ensures room { (self.now.text.size + result) + 4 ≤ ROOM }
-        ensures may { 0 < result → IsFront self.now (take result bytes.now) }
-        ensures place { 0 < result → self.now.place.at + result < 2 ^ 64 }
+        ensures front { result.now ≡ take (length result.now) bytes.now }
+        ensures room { (self.now.text.size + length result.now) + 4 ≤ ROOM }
+        ensures may { 0 < length result.now → IsFront self.now result.now }
+        ensures place { 0 < length result.now → self.now.place.at + length result.now < 2 ^ 64 }
     {
         if matches!(bytes.first(), None | Some(b'<')) {
-            return 0;
+            return "";
         }
-        if !self.utf8.is_whole() {
-            return 0;
+        if !self.tells_plain() {
+            return "";
         }
-        if !has_text(self.setting.inside) || self.setting.drops || self.place.after_return {
-            return 0;
-        }
-        plain_length(bytes, self.front_limit())
+        plain_text(&bytes[..self.front_limit(bytes.len())])
     }
 
     // Takes the plain text at the front, as far as it has room, and tells how many bytes it has.
@@ -168,11 +146,12 @@ impl Reader {
         ensures room { ROOM ≤ self.new.text.room }
         ensures says { MatchBool (result == 0) (self.new ≡ self.old) (TellsFront self.old (take result bytes.now) self.new) }
     {
-        let count = self.front(bytes);
+        let text = self.front(bytes);
+        let count = text.len();
         if count == 0 {
             return 0;
         }
-        if self.text.push_ascii(&bytes[..count]).is_err() {
+        if self.text.push_text(text).is_err() {
             return 0;
         }
         self.place = self.place.said(count as u64);

@@ -16,6 +16,7 @@ mod goings;
 mod judgements;
 mod pending;
 mod places;
+mod plain;
 mod readers;
 mod runs;
 mod scans;

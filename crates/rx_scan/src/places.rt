@@ -123,7 +123,7 @@ impl Place {
         }
     }
 
-    /// Behind so many characters of text of which each has one byte, and none is a `]`.
+    /// Behind so many bytes of whole characters of text of which none is a CR or a `]`.
     pub(crate) fn said(self, count: u64) -> Place
         requires { self.at + count < 2 ^ 64 }
         ensures { result ≡ places.said count self }

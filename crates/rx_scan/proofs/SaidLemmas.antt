@@ -1,0 +1,306 @@
+-- A plain character that is told at once is read like its bytes one after another.
+use Rattle.std.proofs.Common.{◌≡◌, ◌∙◌, ℕ, ◌+◌, ◌≤◌, ◌<◌, Bool, true, false, List, [], ◌∷◌, ◌++◌, length, refl, ap, sym, subst, Ok, append_assoc, append-nil, arith, encode_utf8, encode_utf8_all}
+use Rattle.std.specs.Prelude.{◌&&◌, ◌||◌, ◌==◌, not, nat_le, MatchBool}
+use Rattle.std.specs.Char.{IsScalar}
+use Rattle.std.specs.List.{list_all}
+use Rattle.std.specs.Str.{all_scalars}
+use Rattle.std.proofs.lemmas.Bool.{cond-true, cond-false, lt-leb, and_parts, or_from}
+use Rattle.std.proofs.lemmas.List.{length-append}
+use Rattle.std.proofs.lemmas.Str.{length-encode, len_utf8_bounds}
+use Rattle.rx_chars.specs.Characters.{as_line_end}
+use Rattle.rx_chars.specs.Utf8.{answer_of}
+use Rattle.rx_chars.specs.declared.utf8.Utf8Step.{Utf8Step}
+use Rattle.rx_chars.specs.declared.utf8.Utf8Step.TheVariants.{Char, More}
+use Rattle.rx_chars.proofs.Utf8Exact.{answer_is}
+use Rattle.rx_chars.proofs.Utf8Forms.{tables_agree}
+use Rattle.rx_grammar.specs.declared.contents.Content.{Content}
+use Rattle.rx_grammar.specs.declared.contents.Content.TheVariants as content
+use Rattle.rx_grammar.specs.Items.{is_strict_literal}
+use Rattle.rx_grammar.specs.Spelling.{has_references, is_text}
+use Rattle.rx_grammar.specs.Tokens.{character}
+use Rattle.rx_marks.specs.declared.marks.Mark.{Mark}
+use Rattle.rx_marks.specs.declared.marks.Mark.TheVariants as mark
+use Rattle.rx_marks.specs.declared.marks.Move.{Move}
+use Rattle.rx_marks.specs.declared.marks.Move.TheVariants as move
+use Rattle.rx_marks.specs.KnownTags as known_tags
+use Rattle.rx_marks.specs.Marks as marks
+use Rattle.rx_marks.specs.Pending.{Pending}
+use Rattle.rx_marks.proofs.Snoc.{and_false, either_way}
+use Rattle.rx_pages.specs.PageReader as reader
+use Rattle.rx_scan.specs.declared.answers.What.TheVariants as what
+use Rattle.rx_scan.specs.declared.places.Place.{Place}
+use Rattle.rx_scan.specs.Entries as entries
+use Rattle.rx_scan.specs.Fronts.{has_text}
+use Rattle.rx_scan.specs.Places.{said, ended, holding}
+use Rattle.rx_scan.specs.Plain.{is_plain}
+use Rattle.rx_scan.specs.Scanner.{Reading}
+use Rattle.rx_scan.proofs.FeedLemmas.{chosen}
+use Rattle.rx_scan.proofs.PlainLemmas.{is_none}
+use Rattle.rx_scan.proofs.RunLemmas.{ReadsOn, reads_more}
+
+-- in a content that has text a plain character is text
+is_said : (i : Content) (c : ℕ) → has_text i ≡ true → is_plain c ≡ true → marks.of_first (marks.at_first i c) ≡ move.Says
+is_said i c t h =
+    ap marks.of_first (cond-false _ _ _ (is_none c 60 h refl) ∙ (cond-false _ _ _ (ap (λ x. x && has_references i) (is_none c 38 h refl)) ∙ cond-true _ _ _ (text i t)))
+  where
+    text : (i : Content) → has_text i ≡ true → is_text i c ≡ true
+    text content.Outside t = absurd (cc)
+    text content.Html t = rw (is_none c 60 h refl, is_none c 38 h refl) refl
+    text content.Foreign t = rw (is_none c 60 h refl, is_none c 38 h refl) refl
+    text content.Strict t = rw (is_none c 60 h refl, is_none c 38 h refl) refl
+    text (content.Raw name) t = rw (is_none c 60 h refl) refl
+    text (content.Rcdata name) t = rw (is_none c 60 h refl, is_none c 38 h refl) refl
+
+-- and no bracket that counts
+no_literal_at : (d : ℕ) (i : Content) (c : ℕ) → (d == c) ≡ false → is_strict_literal d i (character c) ≡ false
+no_literal_at d content.Outside c h = refl
+no_literal_at d content.Html c h = refl
+no_literal_at d content.Foreign c h = refl
+no_literal_at d content.Strict c h = h
+no_literal_at d (content.Raw name) c h = refl
+no_literal_at d (content.Rcdata name) c h = refl
+
+said_one : (p : Place) (bracket : Bool) → bracket ≡ false → said 1 p ≡ ended false bracket p
+said_one p bracket e =
+    let last : false ≡ bracket = sym e in
+    let two : false ≡ (p.last && bracket) = sym (ap (λ x. p.last && x) e ∙ and_false p.last) in
+    λ i. record { at = p.at + 1; starts = p.at + 1; token = p.token; started = true; after_return = false; two = two i; last = last i }
+
+unmarked : (p : Pending) → p.mark ≡ mark.Nothing → p ≡ entries.marked mark.Nothing p
+unmarked p e = λ i. record { mark = e i; run = p.run; tag = p.tag }
+
+-- Behind the held bytes of a plain character these are left of it, and with the last one it is told.
+record Leads (v : Reading) (held rest : List ℕ) (c : ℕ) (new : Reading) : Type 0 where
+  between : v.pending.mark ≡ mark.Nothing
+  inside : has_text v.setting.inside ≡ true
+  undropped : v.setting.drops ≡ false
+  started : v.place.started ≡ true
+  on_a_line : v.place.after_return ≡ false
+  held_is : v.held ≡ held
+  plain : is_plain c ≡ true
+  scalar : IsScalar c
+  spelled : encode_utf8 c ≡ held ++ rest
+  page : v.place.at + length rest ≤ v.setting.limits.page
+  text : new.text.text ≡ v.text.text ++ c ∷ []
+  size : new.text.size ≤ v.text.size + 4
+  room : v.text.room ≤ new.text.room
+  is : new ≡ entries.with_parts v (entries.undropped v.setting) (said (length rest) v.place) v.pending new.text
+
+-- the last byte
+module _ (l new : Reading) (held : List ℕ) (b c : ℕ) (t : Leads l held (b ∷ []) c new) where
+  no_bracket : entries.is_bracket l.setting c ≡ false
+  no_bracket = no_literal_at 93 l.setting.inside c (either_way 93 c ∙ is_none c 93 t.plain refl)
+
+  tells : entries.TellsOne l (ended false (entries.is_bracket l.setting c) l.place) new c
+  tells =
+      record {
+        text = record { text = t.text; size = t.size; room = t.room };
+        is = t.is
+            ∙ (ap (λ (p : Place). entries.with_parts l (entries.undropped l.setting) p l.pending new.text) (said_one l.place (entries.is_bracket l.setting c) no_bracket)
+            ∙ ap (λ (p : Pending). entries.with_parts l (entries.undropped l.setting) (ended false (entries.is_bracket l.setting c) l.place) p new.text) (unmarked l.pending t.between));
+      }
+
+  move_is : entries.move_at l c ≡ move.Says
+  move_is =
+      ap (λ (x : Mark). entries.judged l.setting l.place.two c (marks.move_of l.setting.syntax l.setting.inside x c)) t.between
+      ∙ (ap (entries.judged l.setting l.place.two c) (is_said l.setting.inside c t.inside t.plain)
+      ∙ cond-false _ _ _ (ap (λ x. l.place.two && x) (no_literal_at 62 l.setting.inside c (either_way 62 c ∙ is_none c 62 t.plain refl)) ∙ and_false l.place.two))
+
+  says : entries.Enters l c false (entries.move_at l c) (Ok what.Nothing) new
+  says =
+      subst (λ (x : Move). entries.Enters l c false x (Ok what.Nothing) new) (sym move_is)
+      (ap (λ x. x && (c == 10)) t.undropped, tells)
+
+  enters : entries.Enters l (as_line_end c) (c == 13) (entries.move_at l (as_line_end c)) (Ok what.Nothing) new
+  enters =
+      subst (λ (x : Bool). entries.Enters l (as_line_end c) x (entries.move_at l (as_line_end c)) (Ok what.Nothing) new) (sym (is_none c 13 t.plain refl))
+      (subst (λ (x : ℕ). entries.Enters l x false (entries.move_at l x) (Ok what.Nothing) new) (sym (cond-false _ _ _ (is_none c 13 t.plain refl))) says)
+
+  not_long : entries.is_long l (known_tags.is_tag l.pending.mark) ≡ false
+  not_long = ap (λ (x : Mark). entries.is_long l (known_tags.is_tag x)) t.between
+
+  not_long_with : entries.is_long l (known_tags.is_tag_with l.setting.syntax l.setting.inside l.pending.mark (as_line_end c)) ≡ false
+  not_long_with = ap (λ (x : Mark). entries.is_long l (known_tags.is_tag_with l.setting.syntax l.setting.inside x (as_line_end c))) t.between
+
+  not_passed : entries.is_passed l.place c ≡ false
+  not_passed = or_from _ _ (ap (λ x. not x && (c == 65279)) t.started) (ap (λ x. x && (c == 10)) t.on_a_line)
+
+  as_char : entries.ReadsAnswer l (held ++ b ∷ []) (Char c) (Ok what.Nothing) new
+  as_char =
+      chosen (c == 0) _ _ (is_none c 0 t.plain refl)
+      (chosen (entries.is_long l (known_tags.is_tag l.pending.mark)) _ _ not_long
+      (chosen (entries.is_passed l.place c) _ _ not_passed
+      (chosen (entries.is_long l (known_tags.is_tag_with l.setting.syntax l.setting.inside l.pending.mark (as_line_end c))) _ _ not_long_with enters)))
+
+  answers : Char c ≡ answer_of (held ++ b ∷ [])
+  answers = answer_is (held ++ b ∷ []) (Char c) ((tables_agree (held ++ b ∷ []) c).1 (t.scalar, t.spelled))
+
+  reads_last : entries.Reads l b (Ok what.Nothing) new
+  reads_last =
+      chosen (nat_le l.setting.limits.page l.place.at) _ _ (lt-leb l.setting.limits.page l.place.at (omega (arith, t.page)))
+      (subst (λ (x : List ℕ). entries.ReadsAnswer l (x ++ b ∷ []) (answer_of (x ++ b ∷ [])) (Ok what.Nothing) new) (sym t.held_is)
+      (subst (λ (a : Utf8Step). entries.ReadsAnswer l (held ++ b ∷ []) a (Ok what.Nothing) new) answers as_char))
+
+holding_on : (m n : ℕ) (p : Place) → m ≡ n + 1 → said m p ≡ said n (holding p)
+holding_on m n p q =
+    let e : p.at + m ≡ (p.at + 1) + n = omega (arith, q) in
+    λ i. record { at = e i; starts = e i; token = p.token; started = true; after_return = false; two = false; last = false }
+
+-- a byte before it
+module _ (l new : Reading) (held : List ℕ) (b d : ℕ) (rest : List ℕ) (c : ℕ) (t : Leads l held (b ∷ d ∷ rest) c new) where
+  abbrev next : Reading
+  next = entries.with_held l (held ++ b ∷ [])
+
+  spelled_on : encode_utf8 c ≡ (held ++ b ∷ []) ++ d ∷ rest
+  spelled_on = t.spelled ∙ sym (append_assoc held (b ∷ []) (d ∷ rest))
+
+  is_begun : More ≡ answer_of (held ++ b ∷ [])
+  is_begun =
+      answer_is (held ++ b ∷ []) More
+      (record { more = d ∷ rest; value = c; longer = λ e. cc; character = (tables_agree ((held ++ b ∷ []) ++ d ∷ rest) c).1 (t.scalar, spelled_on) })
+
+  in_text : entries.is_long l (known_tags.is_tag l.pending.mark) ≡ false
+  in_text = ap (λ (x : Mark). entries.is_long l (known_tags.is_tag x)) t.between
+
+  reads_held : entries.Reads l b (Ok what.Nothing) next
+  reads_held =
+      chosen (nat_le l.setting.limits.page l.place.at) _ _ (lt-leb l.setting.limits.page l.place.at (omega (arith, t.page)))
+      (subst (λ (x : List ℕ). entries.ReadsAnswer l (x ++ b ∷ []) (answer_of (x ++ b ∷ [])) (Ok what.Nothing) next) (sym t.held_is)
+      (subst (λ (a : Utf8Step). entries.ReadsAnswer l (held ++ b ∷ []) a (Ok what.Nothing) next) is_begun
+      (chosen (entries.is_long l (known_tags.is_tag l.pending.mark)) _ _ in_text (refl, refl))))
+
+  leads_on : Leads next (held ++ b ∷ []) (d ∷ rest) c new
+  leads_on =
+      record {
+        between = t.between;
+        inside = t.inside;
+        undropped = t.undropped;
+        started = t.started;
+        on_a_line = t.on_a_line;
+        held_is = refl;
+        plain = t.plain;
+        scalar = t.scalar;
+        spelled = spelled_on;
+        page = omega (arith, t.page);
+        text = t.text;
+        size = t.size;
+        room = t.room;
+        is = t.is ∙ ap (λ (p : Place). entries.with_parts l (entries.undropped l.setting) p l.pending new.text) (holding_on (length (b ∷ d ∷ rest)) (length (d ∷ rest)) l.place (omega arith));
+      }
+
+-- Plain characters are told, each of which is text between tokens.
+pub record TellsChars (v : Reading) (cs : List ℕ) (new : Reading) : Type 0 where
+  pub between : v.pending.mark ≡ mark.Nothing
+  pub held : v.held ≡ []
+  pub inside : has_text v.setting.inside ≡ true
+  pub undropped : v.setting.drops ≡ false
+  pub started : v.place.started ≡ true
+  pub on_a_line : v.place.after_return ≡ false
+  pub plain : list_all is_plain cs ≡ true
+  pub scalars : all_scalars cs ≡ true
+  pub page : v.place.at + length (encode_utf8_all cs) ≤ v.setting.limits.page
+  pub text : new.text.text ≡ v.text.text ++ cs
+  pub size : new.text.size ≡ v.text.size + length (encode_utf8_all cs)
+  pub room : v.text.room ≤ new.text.room
+  pub is : new ≡ entries.with_parts v (entries.undropped v.setting) (said (length (encode_utf8_all cs)) v.place) v.pending new.text
+
+-- behind the first one
+abbrev middle : Reading → ℕ → ℕ → Reading
+middle l c room =
+    entries.with_parts l (entries.undropped l.setting) (said (length (encode_utf8 c)) l.place) l.pending (record { text = l.text.text ++ c ∷ []; size = l.text.size + length (encode_utf8 c); room = room })
+
+said_on : (m n k : ℕ) (p : Place) → m ≡ k + n → said m p ≡ said n (said k p)
+said_on m n k p q =
+    let e : p.at + m ≡ (p.at + k) + n = omega (arith, q) in
+    λ i. record { at = e i; starts = e i; token = p.token; started = true; after_return = false; two = false; last = false }
+
+module _ (l new : Reading) (c : ℕ) (t : TellsChars l (c ∷ []) new) where
+  only : encode_utf8_all (c ∷ []) ≡ encode_utf8 c
+  only = append-nil (encode_utf8 c)
+
+  leads_one : Leads l [] (encode_utf8 c) c new
+  leads_one =
+      record {
+        between = t.between;
+        inside = t.inside;
+        undropped = t.undropped;
+        started = t.started;
+        on_a_line = t.on_a_line;
+        held_is = t.held;
+        plain = (and_parts (is_plain c) true t.plain).0;
+        scalar = (and_parts _ true t.scalars).0;
+        spelled = refl;
+        page = subst (λ (x : List ℕ). l.place.at + length x ≤ l.setting.limits.page) only t.page;
+        text = t.text;
+        size = omega (arith, t.size, ap length only, length-encode c, len_utf8_bounds c);
+        room = t.room;
+        is = subst (λ (x : List ℕ). new ≡ entries.with_parts l (entries.undropped l.setting) (said (length x) l.place) l.pending new.text) only t.is;
+      }
+
+module _ (l new : Reading) (c d : ℕ) (cs : List ℕ) (t : TellsChars l (c ∷ d ∷ cs) new) where
+  sizes : length (encode_utf8_all (c ∷ d ∷ cs)) ≡ length (encode_utf8 c) + length (encode_utf8_all (d ∷ cs))
+  sizes = length-append (encode_utf8 c) (encode_utf8_all (d ∷ cs))
+
+  first_leads : Leads l [] (encode_utf8 c) c (middle l c new.text.room)
+  first_leads =
+      record {
+        between = t.between;
+        inside = t.inside;
+        undropped = t.undropped;
+        started = t.started;
+        on_a_line = t.on_a_line;
+        held_is = t.held;
+        plain = (and_parts (is_plain c) _ t.plain).0;
+        scalar = (and_parts _ _ t.scalars).0;
+        spelled = refl;
+        page = omega (arith, t.page, sizes);
+        text = refl;
+        size = omega (arith, length-encode c, len_utf8_bounds c);
+        room = t.room;
+        is = refl;
+      }
+
+  rest_tells : TellsChars (middle l c new.text.room) (d ∷ cs) new
+  rest_tells =
+      record {
+        between = t.between;
+        held = refl;
+        inside = t.inside;
+        undropped = refl;
+        started = refl;
+        on_a_line = refl;
+        plain = (and_parts (is_plain c) _ t.plain).1;
+        scalars = (and_parts _ _ t.scalars).1;
+        page = omega (arith, t.page, sizes);
+        text = t.text ∙ sym (append_assoc l.text.text (c ∷ []) (d ∷ cs));
+        size = omega (arith, t.size, sizes);
+        room = omega arith;
+        is = t.is
+            ∙ ap (λ (p : Place). entries.with_parts l (entries.undropped l.setting) p l.pending new.text)
+            (said_on (length (encode_utf8_all (c ∷ d ∷ cs))) (length (encode_utf8_all (d ∷ cs))) (length (encode_utf8 c)) l.place sizes);
+      }
+
+module _ (old : Reading) (s : reader.Scanning) where
+  -- the bytes of one character
+  bytes_on : (new : Reading) (c : ℕ) (rest : List ℕ) (held : List ℕ) (b : ℕ) (l : Reading) (bytes : List ℕ) → ReadsOn old s bytes l → Leads l held (b ∷ rest) c new → ReadsOn old s (bytes ++ b ∷ rest) new
+  bytes_on new c [] held b l bytes r t = reads_more old l s bytes r b new (reads_last l new held b c t)
+  bytes_on new c (d ∷ rest) held b l bytes r t =
+      subst (λ (x : List ℕ). ReadsOn old s x new) (append_assoc bytes (b ∷ []) (d ∷ rest))
+      (bytes_on new c rest (held ++ b ∷ []) d (entries.with_held l (held ++ b ∷ [])) (bytes ++ b ∷ []) (reads_more old l s bytes r b (entries.with_held l (held ++ b ∷ [])) (reads_held l new held b d rest c t)) (leads_on l new held b d rest c t))
+
+  -- which are some
+  char_on : (new : Reading) (c : ℕ) (l : Reading) (bytes : List ℕ) → ReadsOn old s bytes l → Leads l [] (encode_utf8 c) c new → ReadsOn old s (bytes ++ encode_utf8 c) new
+  char_on new c l bytes r t = by (encode_utf8 c) refl t
+    where
+      by : (form : List ℕ) → encode_utf8 c ≡ form → Leads l [] form c new → ReadsOn old s (bytes ++ form) new
+      by [] e t = absurd (omega (arith, ap length e, length-encode c, len_utf8_bounds c))
+      by (b ∷ rest) e t = bytes_on new c rest [] b l bytes r t
+
+  -- the characters one after another
+  pub chars_on : (new : Reading) (cs : List ℕ) (c : ℕ) (l : Reading) (bytes : List ℕ) → ReadsOn old s bytes l → TellsChars l (c ∷ cs) new → ReadsOn old s (bytes ++ encode_utf8_all (c ∷ cs)) new
+  chars_on new [] c l bytes r t =
+      subst (λ (x : List ℕ). ReadsOn old s (bytes ++ x) new) (sym (only l new c t)) (char_on new c l bytes r (leads_one l new c t))
+  chars_on new (d ∷ cs) c l bytes r t =
+      let next : Reading = middle l c new.text.room in
+      subst (λ (x : List ℕ). ReadsOn old s x new) (append_assoc bytes (encode_utf8 c) (encode_utf8_all (d ∷ cs)))
+      (chars_on new cs d next (bytes ++ encode_utf8 c) (char_on next c l bytes r (first_leads l new c d cs t)) (rest_tells l new c d cs t))
