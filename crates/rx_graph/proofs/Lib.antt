@@ -5,8 +5,9 @@ pub mod CodeEq
 pub mod NumberLemmas
 pub mod NodeLemmas
 pub mod PatternLemmas
-pub mod ReachLemmas
 pub mod PlaceLemmas
+pub mod WayLemmas
+pub mod CopyLemmas
 pub mod NumberedLemmas
 pub mod FirstLemmas
 pub mod GivenLemmas

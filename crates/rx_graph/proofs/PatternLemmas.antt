@@ -1,8 +1,9 @@
 -- The patterns of a list, from left to right.
-use Rattle.std.proofs.Common.{◌≡◌, ℕ, suc, zero, ◌+◌, ◌≤◌, Bool, true, false, ◌&&◌, ◌||◌, nat_eq, List, [], ◌∷◌, ◌++◌, map, filter_map, flat_map, length, take, slice_get, Option, Some, None, option_map, refl, sym, ap, ap₂, subst, ◌∙◌, true≢false, arith, if◌then◌else◌, append-nil, bytes_eq}
+use Rattle.std.proofs.Common.{◌≡◌, ℕ, suc, zero, ◌+◌, ◌<◌, ◌≤◌, Bool, true, false, ◌&&◌, ◌||◌, nat_eq, List, [], ◌∷◌, ◌++◌, filter_map, flat_map, length, take, slice_get, Option, Some, None, option_map, refl, sym, ap, ap₂, subst, ◌∙◌, true≢false, arith, if◌then◌else◌, append-nil, bytes_eq}
 use Rattle.std.proofs.lemmas.Bool.{or_parts}
 use Rattle.std.proofs.lemmas.List.Elements.{filter_map-append}
 use Rattle.std.proofs.lemmas.List.{take_all}
+use Rattle.std.proofs.lemmas.Option.{slice_get_within}
 use Rattle.std.specs.List.{cons_option, list_any}
 use Rattle.rx_terms.specs.declared.triples.Triple.{Triple as CodeTriple}
 use Rattle.rx_model.specs.Sets.{contains, distinct}
@@ -10,9 +11,9 @@ use Rattle.rx_model.specs.Terms.{Node, Iri, Term, Resource, Literal, Triple, sam
 use Rattle.rx_model.specs.Copied.{rdf_type, rdfa_copy, rdfa_pattern, type_pattern, is_pattern, pattern_object, live, edge, says_pattern, is_referenced, replaced, treated, copied}
 use Rattle.rx_model.specs.Seen.{triple_seen, triples_seen}
 use Rattle.rx_model.proofs.Exact.{exact_numbers, exact_nodes}
-use Rattle.rx_graph.specs.Resources.{node_added, number_in, object_by, live_by, AreDistinct}
-use Rattle.rx_graph.specs.Rows.{pushed, empty_rows}
-use Rattle.rx_graph.specs.Patterns.{copies, places, has_subject, places_of, ArePatterns, AreReferenced, edge_by, edges_by}
+use Rattle.rx_graph.specs.Resources.{node_added, number_in, object_by, live_by}
+use Rattle.rx_graph.specs.Rows.{empty_rows}
+use Rattle.rx_graph.specs.Patterns.{copies, places, ArePatterns, AreReferenced, edge_by, edges_by}
 use Rattle.rx_graph.proofs.SetLemmas.{seen_more}
 
 -- ---- one more element
@@ -105,7 +106,7 @@ edges_are (u ∷ list) whole nodes h = ap₂ cons_option (ap (option_map (λ (to
 
 -- ---- what is copied
 
-edges_more : (nodes : List (Node ℕ)) (list : List CodeTriple) (i : ℕ) (u : CodeTriple) → slice_get list i ≡ Some u
+pub edges_more : (nodes : List (Node ℕ)) (list : List CodeTriple) (i : ℕ) (u : CodeTriple) → slice_get list i ≡ Some u
     → edges_by nodes (triples_seen (take (i + 1) list)) ≡ edges_by nodes (triples_seen (take i list)) ++ edges_by nodes (triple_seen u ∷ [])
 edges_more nodes list i u at = ap (edges_by nodes) (seen_more list i u at) ∙ filter_map-append (edge_by nodes) (triples_seen (take i list)) (triple_seen u ∷ [])
 
@@ -140,10 +141,6 @@ pub empty_more : (n : ℕ) → empty_rows (n + 1) ≡ empty_rows n ++ [] ∷ []
 empty_more zero = refl
 empty_more (suc n) = let up : suc n + 1 ≡ suc (n + 1) = omega arith in ap empty_rows up ∙ ap (λ z. [] ∷ z) (empty_more n)
 
-pub empty_start : (nodes : List (Node ℕ)) → empty_rows (length nodes) ≡ map (places_of []) nodes
-empty_start [] = refl
-empty_start (t ∷ nodes) = ap (λ z. [] ∷ z) (empty_start nodes)
-
 pub places_more : (test : Triple ℕ → Bool) (j : ℕ) (list : List (Triple ℕ)) (u : Triple ℕ) → places test j (list ++ u ∷ []) ≡ places test j list ++ (if test u then (j + length list) ∷ [] else [])
 places_more test j [] u = let same : j ≡ j + 0 = omega arith in ap (λ n. if test u then n ∷ [] else []) same
 places_more test j (t ∷ list) u = go (test t) (places_more test (suc j) list u)
@@ -156,36 +153,12 @@ places_more test j (t ∷ list) u = go (test t) (places_more test (suc j) list u
     go true ih = ap (λ z. j ∷ z) (ih ∙ ap (λ n. places test (suc j) list ++ (if test u then n ∷ [] else [])) further)
     go false ih = ih ∙ ap (λ n. places test (suc j) list ++ (if test u then n ∷ [] else [])) further
 
--- the rows after a place of s
-rows_with : (Node ℕ → List ℕ) → ℕ → Node ℕ → Node ℕ → List ℕ
-rows_with f i s t = f t ++ (if same_node nat_eq t s then i ∷ [] else [])
+pub length_so_far : (list : List CodeTriple) (i : ℕ) (u : CodeTriple) → slice_get list i ≡ Some u → 0 + length (triples_seen (take i list)) ≡ i
+length_so_far [] i u at = cc
+length_so_far (t ∷ list) zero u at = refl
+length_so_far (t ∷ list) (suc i) u at = let rest = length_so_far list i u at in omega (arith, rest)
 
-rows_same : (f : Node ℕ → List ℕ) (i : ℕ) (s : Node ℕ) (nodes : List (Node ℕ)) → contains (same_node nat_eq) nodes s ≡ false → map (rows_with f i s) nodes ≡ map f nodes
-unfolding rows_with
-rows_same f i s [] h = refl
-rows_same f i s (t ∷ nodes) h = go (same_node nat_eq t s) refl h (rows_same f i s nodes)
-  where
-    go : (b : Bool) → same_node nat_eq t s ≡ b → (b || contains (same_node nat_eq) nodes s) ≡ false → (contains (same_node nat_eq) nodes s ≡ false → map (rows_with f i s) nodes ≡ map f nodes)
-        → rows_with f i s t ∷ map (rows_with f i s) nodes ≡ f t ∷ map f nodes
-    go true e k ih = absurd (true≢false k)
-    go false e k ih = ap₂ ◌∷◌ (rw e (append-nil (f t))) (ih k)
-
-rows_pushed : (f : Node ℕ → List ℕ) (i : ℕ) (s : Node ℕ) (nodes : List (Node ℕ)) (n : ℕ) → AreDistinct nodes → number_in nodes s ≡ Some n → pushed (map f nodes) n i ≡ map (rows_with f i s) nodes
-unfolding rows_with
-rows_pushed f i s [] n d h = cc
-rows_pushed f i s (t ∷ nodes) n d h = go (same_node nat_eq t s) refl (number_in nodes s) refl h (λ m. rows_pushed f i s nodes m d.1)
-  where
-    go : (b : Bool) → same_node nat_eq t s ≡ b → (o : Option ℕ) → number_in nodes s ≡ o → (if b then Some 0 else option_map suc o) ≡ Some n → ((m : ℕ) → number_in nodes s ≡ Some m → pushed (map f nodes) m i ≡ map (rows_with f i s) nodes)
-        → pushed (f t ∷ map f nodes) n i ≡ rows_with f i s t ∷ map (rows_with f i s) nodes
-    go true e o q k ih =
-        let first : 0 ≡ n = cc in
-        let same : t ≡ s = (exact_nodes nat_eq exact_numbers t s).0 e in
-        ap (λ m. pushed (f t ∷ map f nodes) m i) (sym first)
-        ∙ ap₂ ◌∷◌ (rw e refl) (sym (rows_same f i s nodes (ap (contains (same_node nat_eq) nodes) (sym same) ∙ d.0)))
-    go false e (Some m) q k ih =
-        let next : suc m ≡ n = cc in
-        ap (λ z. pushed (f t ∷ map f nodes) z i) (sym next) ∙ ap₂ ◌∷◌ (rw e (sym (append-nil (f t)))) (ih m q)
-    go false e None q k ih = cc
+-- ---- a node is found by its number
 
 none_there : (nodes : List (Node ℕ)) (s : Node ℕ) → number_in nodes s ≡ None → contains (same_node nat_eq) nodes s ≡ false
 none_there [] s h = refl
@@ -196,55 +169,35 @@ none_there (t ∷ nodes) s h = go (same_node nat_eq t s) refl (number_in nodes s
     go false e None q k ih = rw e (ih q)
     go false e (Some m) q k ih = cc
 
-places_turn : (list : List CodeTriple) (i : ℕ) (u : CodeTriple) → slice_get list i ≡ Some u → (nodes : List (Node ℕ)) → map (places_of (triples_seen (take (i + 1) list))) nodes ≡ map (rows_with (places_of (triples_seen (take i list))) i (triple_seen u).subject) nodes
-unfolding rows_with
-places_turn list i u at [] = refl
-places_turn list i u at (t ∷ nodes) = ap₂ ◌∷◌
-    (ap (λ z. places_of z t) (seen_more list i u at) ∙ places_more (has_subject t) 0 (triples_seen (take i list)) (triple_seen u) ∙ ap (λ n. places_of (triples_seen (take i list)) t ++ (if has_subject t (triple_seen u) then n ∷ [] else [])) (length_so_far list i u at))
-    (places_turn list i u at nodes)
+pub number_node : (nodes : List (Node ℕ)) (s : Node ℕ) (n : ℕ) → number_in nodes s ≡ Some n → slice_get nodes n ≡ Some s
+number_node [] s n h = cc
+number_node (t ∷ nodes) s n h = go (same_node nat_eq t s) refl (number_in nodes s) refl h (λ m. number_node nodes s m)
   where
-    length_so_far : (list : List CodeTriple) (i : ℕ) (u : CodeTriple) → slice_get list i ≡ Some u → 0 + length (triples_seen (take i list)) ≡ i
-    length_so_far [] i u at = cc
-    length_so_far (t ∷ list) zero u at = refl
-    length_so_far (t ∷ list) (suc i) u at = let rest = length_so_far list i u at in omega (arith, rest)
-
-pub rows_found : (list : List CodeTriple) (i : ℕ) (u : CodeTriple) (nodes : List (Node ℕ)) (n : ℕ) (old new : List (List ℕ)) → slice_get list i ≡ Some u → AreDistinct nodes
-    → number_in nodes (triple_seen u).subject ≡ Some n → new ≡ pushed old n i
-    → old ≡ map (places_of (triples_seen (take i list))) nodes → new ≡ map (places_of (triples_seen (take (i + 1) list))) nodes
-rows_found list i u nodes n old new at d found grows before =
-    grows ∙ ap (λ z. pushed z n i) before ∙ rows_pushed (places_of (triples_seen (take i list))) i (triple_seen u).subject nodes n d found ∙ sym (places_turn list i u at nodes)
-
-pub rows_kept : (list : List CodeTriple) (i : ℕ) (u : CodeTriple) (nodes : List (Node ℕ)) (old : List (List ℕ)) → slice_get list i ≡ Some u
-    → number_in nodes (triple_seen u).subject ≡ None
-    → old ≡ map (places_of (triples_seen (take i list))) nodes → old ≡ map (places_of (triples_seen (take (i + 1) list))) nodes
-rows_kept list i u nodes old at none before =
-    before ∙ sym (places_turn list i u at nodes ∙ rows_same (places_of (triples_seen (take i list))) i (triple_seen u).subject nodes (none_there nodes (triple_seen u).subject none))
-
-pub rows_end : (list : List CodeTriple) (i : ℕ) (nodes : List (Node ℕ)) (rows : List (List ℕ)) → length list ≤ i
-    → rows ≡ map (places_of (triples_seen (take i list))) nodes → rows ≡ map (places_of (triples_seen list)) nodes
-rows_end list i nodes rows all h = h ∙ ap (λ z. map (places_of (triples_seen z)) nodes) (take_all i list all)
-
--- ---- a row is found by its number
-
-pub number_row : (f : Node ℕ → List ℕ) (nodes : List (Node ℕ)) (s : Node ℕ) (n : ℕ) → number_in nodes s ≡ Some n → slice_get (map f nodes) n ≡ Some (f s)
-number_row f [] s n h = cc
-number_row f (t ∷ nodes) s n h = go (same_node nat_eq t s) refl (number_in nodes s) refl h (λ m. number_row f nodes s m)
-  where
-    go : (b : Bool) → same_node nat_eq t s ≡ b → (o : Option ℕ) → number_in nodes s ≡ o → (if b then Some 0 else option_map suc o) ≡ Some n → ((m : ℕ) → number_in nodes s ≡ Some m → slice_get (map f nodes) m ≡ Some (f s)) → slice_get (f t ∷ map f nodes) n ≡ Some (f s)
+    go : (b : Bool) → same_node nat_eq t s ≡ b → (o : Option ℕ) → number_in nodes s ≡ o → (if b then Some 0 else option_map suc o) ≡ Some n → ((m : ℕ) → number_in nodes s ≡ Some m → slice_get nodes m ≡ Some s) → slice_get (t ∷ nodes) n ≡ Some s
     go true e o q k ih =
         let first : 0 ≡ n = cc in
         let same : t ≡ s = (exact_nodes nat_eq exact_numbers t s).0 e in
-        ap (slice_get (f t ∷ map f nodes)) (sym first) ∙ ap (λ z. Some (f z)) same
+        ap (slice_get (t ∷ nodes)) (sym first) ∙ ap Some same
     go false e (Some m) q k ih =
         let next : suc m ≡ n = cc in
-        ap (slice_get (f t ∷ map f nodes)) (sym next) ∙ ih m q
+        ap (slice_get (t ∷ nodes)) (sym next) ∙ ih m q
     go false e None q k ih = cc
+
+pub number_same : (nodes : List (Node ℕ)) (s t : Node ℕ) (n : ℕ) → number_in nodes s ≡ Some n → number_in nodes t ≡ Some n → s ≡ t
+number_same nodes s t n h k = let both : Some s ≡ Some t = sym (number_node nodes s n h) ∙ number_node nodes t n k in cc
+
+pub number_small : (nodes : List (Node ℕ)) (s : Node ℕ) (n : ℕ) → number_in nodes s ≡ Some n → n < length nodes
+number_small nodes s n h = slice_get_within nodes n s (number_node nodes s n h)
+
+pub number_there : (nodes : List (Node ℕ)) (s : Node ℕ) → contains (same_node nat_eq) nodes s ≡ true → (n : ℕ) × (number_in nodes s ≡ Some n)
+number_there nodes s h = go (number_in nodes s) refl
+  where
+    go : (o : Option ℕ) → number_in nodes s ≡ o → (n : ℕ) × (number_in nodes s ≡ Some n)
+    go (Some n) e = (n, e)
+    go None e = absurd (true≢false (sym h ∙ none_there nodes s e))
 
 pub no_number : (list : List (Triple ℕ)) (nodes : List (Node ℕ)) (s : Node ℕ) → ArePatterns list nodes → is_pattern nat_eq list s ≡ true → number_in nodes s ≡ None → ⊥
 no_number list nodes s h p none = true≢false (sym p ∙ sym (h.each s) ∙ none_there nodes s none)
-
-pub number_row_by : (f : Node ℕ → List ℕ) (nodes : List (Node ℕ)) (rows : List (List ℕ)) (s : Node ℕ) (n : ℕ) → rows ≡ map f nodes → number_in nodes s ≡ Some n → slice_get rows n ≡ Some (f s)
-number_row_by f nodes rows s n e h = ap (λ (z : List (List ℕ)). slice_get z n) e ∙ number_row f nodes s n h
 
 -- ---- where nothing is copied
 

@@ -1,29 +1,62 @@
 -- Places in order, and what is given there.
-use Rattle.std.proofs.Common.{◌≡◌, ℕ, suc, ◌+◌, ◌<◌, ◌≤◌, Bool, true, false, not, ◌&&◌, ◌||◌, nat_eq, nat_lt, List, [], ◌∷◌, ◌++◌, flat_map, filter_map, length, take, get_or, slice_get, Option, Some, None, is_none, refl, sym, ap, ap₂, subst, ◌∙◌, true≢false, arith, if◌then◌else◌, append-nil, append_assoc}
+use Rattle.std.proofs.Common.{◌≡◌, ℕ, zero, suc, ◌+◌, ◌<◌, ◌≤◌, Bool, true, false, not, ◌&&◌, ◌||◌, nat_eq, nat_lt, List, [], ◌∷◌, ◌++◌, flat_map, filter_map, length, take, get_or, slice_get, Option, Some, None, is_none, refl, sym, ap, ap₂, subst, ◌∙◌, true≢false, arith, if◌then◌else◌, append-nil, append_assoc, length-append, inl, inr}
 use Rattle.std.proofs.Common.{Result, Ok, Err, IfOk}
 use Rattle.std.specs.List.{sum_by, cons_option}
 use Rattle.std.specs.Option.{option_to_list}
 use Rattle.std.specs.List.Sorted.{IsPermutation, IsNonDecreasing}
 use Rattle.std.proofs.lemmas.Bool.Decides.{nat_tests}
-use Rattle.std.proofs.lemmas.List.{take_all}
+use Rattle.std.proofs.lemmas.List.{take_all, length-map}
 use Rattle.std.proofs.lemmas.List.Elements.{filter_map-append}
 use Rattle.std.proofs.lemmas.List.Sorted.{IsPermutation-refl, IsPermutation-trans, IsPermutation-cons, IsPermutation-middle, IsPermutation-append, sum_by-IsPermutation}
 use Rattle.std.proofs.lemmas.List.Sums.{sum_by-cons}
 use Rattle.std.proofs.lemmas.Grind.{flat_map-append}
 use Rattle.rx_terms.specs.declared.triples.Triple.{Triple as CodeTriple}
-use Rattle.rx_model.specs.Sets.{contains, distinct}
+use Rattle.rx_model.specs.Sets.{Among, contains, distinct}
 use Rattle.rx_model.specs.Terms.{Node, Triple, same_node, same_triple}
 use Rattle.rx_model.specs.Copied.{live, edges, leads, given, treated, copied, is_referenced, says_pattern, spo}
 use Rattle.rx_model.specs.Seen.{triple_seen, triples_seen}
-use Rattle.rx_model.proofs.Exact.{exact_numbers, exact_nodes}
-use Rattle.rx_model.proofs.Sets.{Among-contains, Among_by_contains}
-use Rattle.rx_model.proofs.Leads.{leads_along}
+use Rattle.rx_model.proofs.Exact.{exact_numbers}
+use Rattle.rx_model.proofs.Sets.{Among-contains, or_cases, or_left, or_right}
 use Rattle.rx_graph.specs.Graph.{added, added_all}
-use Rattle.rx_graph.specs.Resources.{AreDistinct}
-use Rattle.rx_graph.specs.Patterns.{places, has_subject, has_subject_in, places_of, places_in, ArePatterns, AreReferenced, IsReach, edges_by, given_one}
-use Rattle.rx_graph.proofs.SetLemmas.{one_more, seen_more, same_truth, graph_grows}
+use Rattle.rx_graph.specs.Patterns.{places, ArePatterns, AreReferenced, edges_by, given_one}
+use Rattle.rx_graph.specs.Copying.{gives, contents, given_from, given_at}
+use Rattle.rx_graph.specs.Ways.{EachOnce}
+use Rattle.rx_graph.proofs.SetLemmas.{one_more, seen_more, graph_grows}
 use Rattle.rx_graph.proofs.PatternLemmas.{edges_are}
-use Rattle.rx_graph.proofs.ReachLemmas.{triple_at}
+
+-- ---- places and triples
+
+-- each triple that passes has a place
+pub place_for : (test : Triple ℕ → Bool) (front list : List (Triple ℕ)) (u : Triple ℕ) → Among list u → test u ≡ true
+    → (i : ℕ) × Among (places test (length front) list) i × (slice_get (front ++ list) i ≡ Some u)
+place_for test front [] u h p = absurd h
+place_for test front (t ∷ list) u h p = go (test t) refl h (λ m. further (place_for test (front ++ t ∷ []) list u m p))
+  where
+    longer : length (front ++ t ∷ []) ≡ suc (length front)
+    longer = omega (arith, length-append front (t ∷ []))
+
+    further : (i : ℕ) × Among (places test (length (front ++ t ∷ [])) list) i × (slice_get ((front ++ t ∷ []) ++ list) i ≡ Some u) → (i : ℕ) × Among (places test (suc (length front)) list) i × (slice_get (front ++ t ∷ list) i ≡ Some u)
+    further (i, m, at) = (i, subst (λ n. Among (places test n list) i) longer m, ap (λ z. slice_get z i) (sym (append_assoc front (t ∷ []) list)) ∙ at)
+
+    middle : (front : List (Triple ℕ)) → slice_get (front ++ t ∷ list) (length front) ≡ Some t
+    middle [] = refl
+    middle (x ∷ front) = middle front
+
+    go : (b : Bool) → test t ≡ b → Among (t ∷ list) u
+        → (Among list u → (i : ℕ) × Among (places test (suc (length front)) list) i × (slice_get (front ++ t ∷ list) i ≡ Some u))
+        → (i : ℕ) × Among (if b then length front ∷ places test (suc (length front)) list else places test (suc (length front)) list) i × (slice_get (front ++ t ∷ list) i ≡ Some u)
+    go true e (inl q) ih = (length front, inl refl, middle front ∙ ap Some q)
+    go true e (inr m) ih = let r = ih m in (r.0, inr r.1, r.2)
+    go false e (inl q) ih = absurd (true≢false (sym p ∙ sym (ap test q) ∙ e))
+    go false e (inr m) ih = ih m
+
+same_some : {A : Type 0} (o : Option A) (a b : A) → o ≡ Some a → o ≡ Some b → a ≡ b
+same_some o a b h k = let both : Some a ≡ Some b = sym h ∙ k in cc
+
+pub triple_at : (list : List CodeTriple) (i : ℕ) (t : CodeTriple) → slice_get list i ≡ Some t → slice_get (triples_seen list) i ≡ Some (triple_seen t)
+triple_at [] i t h = cc
+triple_at (x ∷ list) zero t h = ap Some (ap triple_seen (same_some (Some x) x t refl h))
+triple_at (x ∷ list) (suc i) t h = triple_at list i t h
 
 -- ---- two tests that no triple passes both
 
@@ -43,14 +76,32 @@ no_places : (j : ℕ) (list : List (Triple ℕ)) → places (λ t. false) j list
 no_places j [] = refl
 no_places j (t ∷ list) = no_places (suc j) list
 
-gathered : (list : List (Triple ℕ)) (nodes : List (Node ℕ)) → AreDistinct nodes → IsPermutation (flat_map (places_of list) nodes) (places_in nodes list)
-gathered list [] d = subst (IsPermutation []) (sym (no_places 0 list)) (IsPermutation-refl [])
-gathered list (x ∷ nodes) d = IsPermutation-trans _ _ _
-    (IsPermutation-append (places_of list x) (places_of list x) (flat_map (places_of list) nodes) (places_in nodes list) (IsPermutation-refl (places_of list x)) (gathered list nodes d.1))
-    (merge (has_subject x) (has_subject_in nodes) apart 0 list)
+-- a triple passes one of the tests
+abbrev pub any_of : (ℕ → Triple ℕ → Bool) → List ℕ → Triple ℕ → Bool
+any_of test [] t = false
+any_of test (x ∷ numbers) t = test x t || any_of test numbers t
+
+pub any_has : (test : ℕ → Triple ℕ → Bool) (numbers : List ℕ) (t : Triple ℕ) → any_of test numbers t ≡ true → (x : ℕ) × Among numbers x × (test x t ≡ true)
+any_has test [] t h = absurd (true≢false (sym h))
+any_has test (x ∷ numbers) t h = elim (or_cases (test x t) (any_of test numbers t) h) [ inl e ↦ (x, inl refl, e) | inr k ↦ (let r = any_has test numbers t k in (r.0, inr r.1, r.2)) ]
+
+pub any_by : (test : ℕ → Triple ℕ → Bool) (numbers : List ℕ) (t : Triple ℕ) (x : ℕ) → Among numbers x → test x t ≡ true → any_of test numbers t ≡ true
+any_by test [] t x m h = absurd m
+any_by test (y ∷ numbers) t x (inl e) h = or_left (test y t) (any_of test numbers t) (ap (λ (z : ℕ). test z t) e ∙ h)
+any_by test (y ∷ numbers) t x (inr m) h = or_right (test y t) (any_of test numbers t) (any_by test numbers t x m h)
+
+gathered : (test : ℕ → Triple ℕ → Bool) → ((x y : ℕ) (t : Triple ℕ) → test x t ≡ true → test y t ≡ true → x ≡ y) → (list : List (Triple ℕ)) (numbers : List ℕ) → EachOnce numbers
+    → IsPermutation (flat_map (λ (x : ℕ). places (test x) 0 list) numbers) (places (any_of test numbers) 0 list)
+gathered test tells list [] d = subst (IsPermutation []) (sym (no_places 0 list)) (IsPermutation-refl [])
+gathered test tells list (x ∷ numbers) d = IsPermutation-trans _ _ _
+    (IsPermutation-append (places (test x) 0 list) (places (test x) 0 list) (flat_map (λ (y : ℕ). places (test y) 0 list) numbers) (places (any_of test numbers) 0 list) (IsPermutation-refl (places (test x) 0 list)) (gathered test tells list numbers d.1))
+    (merge (test x) (any_of test numbers) apart 0 list)
   where
-    apart : (t : Triple ℕ) → has_subject x t ≡ true → has_subject_in nodes t ≡ true → ⊥
-    apart t h k = true≢false (sym (ap (contains (same_node nat_eq) nodes) ((exact_nodes nat_eq exact_numbers x t.subject).0 h) ∙ k) ∙ d.0)
+    apart : (t : Triple ℕ) → test x t ≡ true → any_of test numbers t ≡ true → ⊥
+    apart t h k =
+        let r = any_has test numbers t k in
+        let there : Among numbers x = subst (Among numbers) (sym (tells x r.0 t h r.2)) r.1 in
+        true≢false (sym (Among-contains nat_eq exact_numbers numbers x there) ∙ d.0)
 
 -- ---- ascending lists with the same elements
 
@@ -144,20 +195,34 @@ places_ascend test j (t ∷ list) = go (test t) (places_ascend test (suc j) list
     go true ih = (places_least test j (suc j) list (omega arith), ih)
     go false ih = ih
 
+-- rows that are places
+rows_are : (rows : List (List ℕ)) (test : ℕ → Triple ℕ → Bool) (list : List (Triple ℕ)) (numbers : List ℕ) → ((x : ℕ) → Among numbers x → get_or rows x [] ≡ places (test x) 0 list)
+    → flat_map (λ (x : ℕ). get_or rows x []) numbers ≡ flat_map (λ (x : ℕ). places (test x) 0 list) numbers
+rows_are rows test list [] h = refl
+rows_are rows test list (x ∷ numbers) h = ap₂ ◌++◌ (h x (inl refl)) (rows_are rows test list numbers (λ y m. h y (inr m)))
+
 -- sorted, what was gathered is the places of all
-pub sorted_places : (list : List (Triple ℕ)) (nodes : List (Node ℕ)) (all sorted : List ℕ) → AreDistinct nodes → all ≡ flat_map (places_of list) nodes → IsPermutation all sorted → IsNonDecreasing sorted → sorted ≡ places_in nodes list
-sorted_places list nodes all sorted d e p rises =
-    same_counts sorted (places_in nodes list) (from_steps sorted rises) (places_ascend (has_subject_in nodes) 0 list)
-    (λ v. sym (count_sum v sorted) ∙ sum_by-IsPermutation (λ x. if nat_eq x v then 1 else 0) all sorted p
-    ∙ ap (sum_by (λ x. if nat_eq x v then 1 else 0)) e
-    ∙ sym (sum_by-IsPermutation (λ x. if nat_eq x v then 1 else 0) (flat_map (places_of list) nodes) (places_in nodes list) (gathered list nodes d))
-    ∙ count_sum v (places_in nodes list))
+pub sorted_places : (rows : List (List ℕ)) (test : ℕ → Triple ℕ → Bool) → ((x y : ℕ) (t : Triple ℕ) → test x t ≡ true → test y t ≡ true → x ≡ y) → (list : List (Triple ℕ)) (numbers sorted : List ℕ) → EachOnce numbers
+    → ((x : ℕ) → Among numbers x → get_or rows x [] ≡ places (test x) 0 list) → IsPermutation (flat_map (λ (x : ℕ). get_or rows x []) numbers) sorted → IsNonDecreasing sorted → sorted ≡ places (any_of test numbers) 0 list
+sorted_places rows test tells list numbers sorted d are p rises =
+    same_counts sorted (places (any_of test numbers) 0 list) (from_steps sorted rises) (places_ascend (any_of test numbers) 0 list)
+    (λ v. sym (count_sum v sorted) ∙ sum_by-IsPermutation (λ x. if nat_eq x v then 1 else 0) (flat_map (λ (x : ℕ). get_or rows x []) numbers) sorted p
+    ∙ ap (sum_by (λ x. if nat_eq x v then 1 else 0)) (rows_are rows test list numbers are)
+    ∙ sym (sum_by-IsPermutation (λ x. if nat_eq x v then 1 else 0) (flat_map (λ (x : ℕ). places (test x) 0 list) numbers) (places (any_of test numbers) 0 list) (gathered test tells list numbers d))
+    ∙ count_sum v (places (any_of test numbers) 0 list))
 
-pub gathered_more : (list : List (Triple ℕ)) (nodes : List (Node ℕ)) (i : ℕ) (t : Node ℕ) → slice_get nodes i ≡ Some t → flat_map (places_of list) (take (i + 1) nodes) ≡ flat_map (places_of list) (take i nodes) ++ places_of list t
-gathered_more list nodes i t at = ap (flat_map (places_of list)) (one_more nodes i t at) ∙ flat_map-append (places_of list) (take i nodes) (t ∷ []) ∙ ap (λ z. flat_map (places_of list) (take i nodes) ++ z) (append-nil (places_of list t))
+pub gathered_more : (rows : List (List ℕ)) (numbers : List ℕ) (i x : ℕ) → slice_get numbers i ≡ Some x → flat_map (λ (a : ℕ). get_or rows a []) (take (i + 1) numbers) ≡ flat_map (λ (a : ℕ). get_or rows a []) (take i numbers) ++ get_or rows x []
+gathered_more rows numbers i x at =
+    ap (flat_map (λ (a : ℕ). get_or rows a [])) (one_more numbers i x at) ∙ flat_map-append (λ (a : ℕ). get_or rows a []) (take i numbers) (x ∷ [])
+    ∙ ap (λ z. flat_map (λ (a : ℕ). get_or rows a []) (take i numbers) ++ z) (append-nil (get_or rows x []))
 
-pub gathered_end : (list : List (Triple ℕ)) (nodes : List (Node ℕ)) (i : ℕ) (places : List ℕ) → length nodes ≤ i → places ≡ flat_map (places_of list) (take i nodes) → places ≡ flat_map (places_of list) nodes
-gathered_end list nodes i places past h = h ∙ ap (flat_map (places_of list)) (take_all i nodes past)
+pub gathered_end : (rows : List (List ℕ)) (numbers : List ℕ) (i : ℕ) (places : List ℕ) → length numbers ≤ i → places ≡ flat_map (λ (a : ℕ). get_or rows a []) (take i numbers) → places ≡ flat_map (λ (a : ℕ). get_or rows a []) numbers
+gathered_end rows numbers i places past h = h ∙ ap (flat_map (λ (a : ℕ). get_or rows a [])) (take_all i numbers past)
+
+-- two tests that agree on a list have the same places
+pub same_places : (p q : Triple ℕ → Bool) (j : ℕ) (list : List (Triple ℕ)) → ((t : Triple ℕ) → Among list t → p t ≡ q t) → places p j list ≡ places q j list
+same_places p q j [] h = refl
+same_places p q j (t ∷ list) h = ap₂ (λ (b : Bool) (z : List ℕ). if b then j ∷ z else z) (h t (inl refl)) (same_places p q (suc j) list (λ u m. h u (inr m)))
 
 -- ---- what is added, one list after another
 
@@ -172,33 +237,35 @@ added_distinct list (t ∷ more) = ap (λ z. added_all z more) (graph_grows list
 
 -- ---- what is given at the places
 
--- what s gets by the triple at a place
-pub given_at : List (Triple ℕ) → Node ℕ → ℕ → Option (Triple ℕ)
-given_at list s i = given_from list s (slice_get list i)
-  where
-    given_from : List (Triple ℕ) → Node ℕ → Option (Triple ℕ) → Option (Triple ℕ)
-    given_from list s None = None
-    given_from list s (Some u) = given_one list s u
-
-given_here : (list : List (Triple ℕ)) (s : Node ℕ) (i : ℕ) (u : Triple ℕ) → slice_get list i ≡ Some u → given_at list s i ≡ given_one list s u
-unfolding given_at
-given_here list s i u at = rw at refl
+listed : (o : Option (Triple ℕ)) → cons_option o [] ≡ option_to_list o
+listed None = refl
+listed (Some t) = refl
 
 -- one place more
-pub given_turn : (list : List CodeTriple) (s : Node ℕ) (places : List ℕ) (k i : ℕ) (u : CodeTriple) (start old new : List (Triple ℕ)) → slice_get places k ≡ Some i → slice_get list i ≡ Some u
-    → new ≡ added_all old (option_to_list (given_one (triples_seen list) s (triple_seen u)))
-    → old ≡ added_all start (filter_map (given_at (triples_seen list) s) (take k places)) → new ≡ added_all start (filter_map (given_at (triples_seen list) s) (take (k + 1) places))
-given_turn list s places k i u start old new at here_is turn before =
-    turn ∙ ap (λ z. added_all z (option_to_list (given_one (triples_seen list) s (triple_seen u)))) before
-    ∙ sym (added_append start (filter_map (given_at (triples_seen list) s) (take k places)) (option_to_list (given_one (triples_seen list) s (triple_seen u))))
-    ∙ ap (added_all start) (ap (λ z. filter_map (given_at (triples_seen list) s) (take k places) ++ z) (sym last) ∙ sym (filter_map-append (given_at (triples_seen list) s) (take k places) (i ∷ [])) ∙ ap (filter_map (given_at (triples_seen list) s)) (sym (one_more places k i at)))
-  where
-    listed : (o : Option (Triple ℕ)) → cons_option o [] ≡ option_to_list o
-    listed None = refl
-    listed (Some t) = refl
+pub given_turn : (list : List (Triple ℕ)) (s : Node ℕ) (places : List ℕ) (k i : ℕ) (start old new : List (Triple ℕ)) → slice_get places k ≡ Some i
+    → new ≡ added_all old (option_to_list (given_at list s i))
+    → old ≡ added_all start (filter_map (given_at list s) (take k places)) → new ≡ added_all start (filter_map (given_at list s) (take (k + 1) places))
+given_turn list s places k i start old new at turn before =
+    turn ∙ ap (λ z. added_all z (option_to_list (given_at list s i))) before
+    ∙ sym (added_append start (filter_map (given_at list s) (take k places)) (option_to_list (given_at list s i)))
+    ∙ ap (added_all start) (ap (λ z. filter_map (given_at list s) (take k places) ++ z) (sym (listed (given_at list s i))) ∙ sym (filter_map-append (given_at list s) (take k places) (i ∷ [])) ∙ ap (filter_map (given_at list s)) (sym (one_more places k i at)))
 
-    last : filter_map (given_at (triples_seen list) s) (i ∷ []) ≡ option_to_list (given_one (triples_seen list) s (triple_seen u))
-    last = ap (λ o. cons_option o []) (given_here (triples_seen list) s i (triple_seen u) (triple_at list i u here_is)) ∙ listed (given_one (triples_seen list) s (triple_seen u))
+pub given_all : (list : List (Triple ℕ)) (s : Node ℕ) (places : List ℕ) (k : ℕ) (start new : List (Triple ℕ)) → length places ≤ k
+    → new ≡ added_all start (filter_map (given_at list s) (take k places)) → new ≡ added_all start (filter_map (given_at list s) places)
+given_all list s places k start new past h = h ∙ ap (λ z. added_all start (filter_map (given_at list s) z)) (take_all k places past)
+
+-- nothing is given beyond the list
+pub given_beyond : (list : List CodeTriple) (s : Node ℕ) (i : ℕ) → length list ≤ i → given_at (triples_seen list) s i ≡ None
+given_beyond list s i past = ap (given_from (triples_seen list) s) (nothing (triples_seen list) i (omega (arith, past, length-map list triple_seen)))
+  where
+    nothing : (xs : List (Triple ℕ)) (i : ℕ) → length xs ≤ i → slice_get xs i ≡ None
+    nothing [] zero h = refl
+    nothing [] (suc i) h = refl
+    nothing (x ∷ xs) zero h = absurd (omega (arith, h))
+    nothing (x ∷ xs) (suc i) h = nothing xs i (omega (arith, h))
+
+pub given_here : (list : List CodeTriple) (s : Node ℕ) (i : ℕ) (u : CodeTriple) → slice_get list i ≡ Some u → given_at (triples_seen list) s i ≡ given_one (triples_seen list) s (triple_seen u)
+given_here list s i u at = ap (given_from (triples_seen list) s) (triple_at list i u at)
 
 if_given : (list : List (Triple ℕ)) (s : Node ℕ) (test : Triple ℕ → Bool) → Triple ℕ → Option (Triple ℕ)
 if_given list s test u = if test u then given_one list s u else None
@@ -218,33 +285,27 @@ all_given whole s test j (t ∷ list) h = go (test t) refl (all_given whole s te
 
     go : (b : Bool) → test t ≡ b → filter_map (given_at whole s) (places test (suc j) list) ≡ filter_map (if_given whole s test) list
         → filter_map (given_at whole s) (if test t then j ∷ places test (suc j) list else places test (suc j) list) ≡ cons_option (if test t then given_one whole s t else None) (filter_map (if_given whole s test) list)
-    go true e ih = rw e (ap₂ cons_option (given_here whole s j t own) ih)
+    go true e ih = rw e (ap₂ cons_option (ap (given_from whole s) own) ih)
     go false e ih = rw e ih
 
--- where the reached nodes are those that pairs lead to, that is what the definition gives
-reach_test : (list : List (Triple ℕ)) (t : Node ℕ) (reached : List (Node ℕ)) → IsReach list t reached → (v : Node ℕ) → contains (same_node nat_eq) reached v ≡ leads (same_node nat_eq) (edges nat_eq list) t v
-reach_test list t reached h v =
-    let along = leads_along (same_node nat_eq) (exact_nodes nat_eq exact_numbers) (edges nat_eq list) t v in
-    same_truth (contains (same_node nat_eq) reached v) (leads (same_node nat_eq) (edges nat_eq list) t v)
-    (λ m. along.1 ((h.each v).0 (Among_by_contains (same_node nat_eq) (exact_nodes nat_eq exact_numbers) reached v m)))
-    (λ l. Among-contains (same_node nat_eq) (exact_nodes nat_eq exact_numbers) reached v ((h.each v).1 (along.0 l)))
-
-nested : (a b c : Bool) (u : Triple ℕ) → (if a then (if b && c then Some u else None) else None) ≡ (if a && b && c then Some u else None)
-nested true b c u = refl
+nested : (a b c : Bool) (u : Triple ℕ) → (if a && (b && c) then (if b && c then Some u else None) else None) ≡ (if a && b && c then Some u else None)
+nested true true true u = refl
+nested true true false u = refl
+nested true false c u = refl
 nested false b c u = refl
 
-given_is : (list : List (Triple ℕ)) (s t : Node ℕ) (reached : List (Node ℕ)) → IsReach list t reached → (rest : List (Triple ℕ)) → filter_map (if_given list s (has_subject_in reached)) rest ≡ filter_map (given nat_eq list (edges nat_eq list) s t) rest
+-- at the places of what t gives, that is what the definition gives
+given_is : (list : List (Triple ℕ)) (s t : Node ℕ) (rest : List (Triple ℕ)) → filter_map (if_given list s (gives list t)) rest ≡ filter_map (given nat_eq list (edges nat_eq list) s t) rest
 unfolding if_given
-given_is list s t reached h [] = refl
-given_is list s t reached h (u ∷ rest) = ap₂ cons_option
-    (ap (λ b. if b then given_one list s u else None) (reach_test list t reached h u.subject)
-    ∙ nested (leads (same_node nat_eq) (edges nat_eq list) t u.subject) (not (says_pattern nat_eq u.predicate u.object)) (is_none (live nat_eq list u.predicate u.object)) (spo s u.predicate u.object))
-    (given_is list s t reached h rest)
+given_is list s t [] = refl
+given_is list s t (u ∷ rest) = ap₂ cons_option
+    (nested (leads (same_node nat_eq) (edges nat_eq list) t u.subject) (not (says_pattern nat_eq u.predicate u.object)) (is_none (live nat_eq list u.predicate u.object)) (spo s u.predicate u.object))
+    (given_is list s t rest)
 
-pub given_end : (list : List (Triple ℕ)) (s t : Node ℕ) (reached : List (Node ℕ)) (row : List ℕ) (k : ℕ) (start new : List (Triple ℕ)) → IsReach list t reached → row ≡ places_in reached list → length row ≤ k
-    → new ≡ added_all start (filter_map (given_at list s) (take k row)) → new ≡ added_all start (filter_map (given nat_eq list (edges nat_eq list) s t) list)
-given_end list s t reached row k start new h e past turn =
-    turn ∙ ap (added_all start) (ap (filter_map (given_at list s)) (take_all k row past ∙ e) ∙ all_given list s (has_subject_in reached) 0 list (λ n. zero_more n) ∙ given_is list s t reached h list)
+pub given_end : (list : List (Triple ℕ)) (s t : Node ℕ) (found : List ℕ) (start new : List (Triple ℕ)) → found ≡ contents list t
+    → new ≡ added_all start (filter_map (given_at list s) found) → new ≡ added_all start (filter_map (given nat_eq list (edges nat_eq list) s t) list)
+given_end list s t found start new e turn =
+    turn ∙ ap (added_all start) (ap (filter_map (given_at list s)) e ∙ all_given list s (gives list t) 0 list (λ n. zero_more n) ∙ given_is list s t list)
   where
     zero_more : (n : ℕ) → slice_get list (0 + n) ≡ slice_get list n
     zero_more n = let same : 0 + n ≡ n = omega arith in ap (slice_get list) same

@@ -6,3 +6,5 @@ pub mod Numbering
 pub mod Resources
 pub mod Rows
 pub mod Patterns
+pub mod Ways
+pub mod Copying

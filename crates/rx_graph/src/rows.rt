@@ -1,6 +1,6 @@
 //! Lists of numbers.
-ghost use Rattle.std.specs.Prelude.{◌≡◌, ◌<◌, [], ◌∷◌, ◌++◌, length, OnOk, Some, slice_get};
-ghost use Rattle.rx_graph.specs.Rows.{pushed};
+ghost use Rattle.std.specs.Prelude.{◌≡◌, ◌<◌, [], ◌∷◌, ◌++◌, length, IfOk, OnOk, Some, slice_get, slice_set, get_or};
+ghost use Rattle.rx_graph.specs.Rows.{pushed, empty_rows};
 
 use rx_terms::NoMemory;
 use std::alloc::Global;
@@ -64,5 +64,44 @@ impl Rows {
         ensures { slice_get self.now row ≡ Some result.now }
     {
         &self.rows[row]
+    }
+    /// The same, and no number where there is no such row.
+    pub(crate) fn numbers(&self, row: usize) -> &[usize]
+        ensures { result.now ≡ get_or self.now row [] }
+    {
+        if row >= self.rows.len() {
+            return &[];
+        }
+        self.row(row)
+    }
+
+    /// Adds the number at the end of a row, where there is such a row.
+    pub(crate) fn put(&mut self, row: usize, number: usize) -> Result<(), NoMemory>
+        ensures { OnOk result (self.new ≡ pushed self.old row number) }
+    {
+        if row >= self.len() {
+            return Ok(());
+        }
+        self.push(row, number)
+    }
+
+    /// So many empty rows.
+    pub(crate) fn empty(alloc: Global, len: usize) -> Result<Rows, NoMemory>
+        ensures { IfOk result (λ rows. rows ≡ empty_rows len) }
+    {
+        let mut rows = Rows::new(alloc);
+        for _ in 0..len {
+            rows.add(alloc)?;
+        }
+        Ok(rows)
+    }
+    /// Puts other numbers in the place of a row, where there is such a row.
+    pub(crate) fn fill(&mut self, row: usize, numbers: Vec<usize>)
+        ensures { self.new ≡ slice_set self.old row numbers.items }
+    {
+        if row >= self.len() {
+            return;
+        }
+        self.rows[row] = numbers;
     }
 }

@@ -1,0 +1,334 @@
+-- What is copied from patterns, by their numbers.
+use Rattle.std.proofs.Common.{◌≡◌, ◌⊎◌, ⊎_elim, ℕ, zero, suc, ◌+◌, ◌<◌, ◌≤◌, Bool, true, false, not, ◌&&◌, ◌||◌, nat_eq, nat_lt, ◌==◌, List, [], ◌∷◌, ◌++◌, flat_map, length, take, get_or, slice_get, slice_set, Option, Some, None, option_map, is_none, refl, sym, ap, ap₂, subst, ◌∙◌, inl, inr, true≢false, arith, if◌then◌else◌, append-nil}
+use Rattle.std.specs.List.{cons_option}
+use Rattle.std.specs.List.Sorted.{IsPermutation, IsNonDecreasing}
+use Rattle.std.proofs.lemmas.Bool.{cases_lt}
+use Rattle.std.proofs.lemmas.Bool.Decides.{nat_tests, Decides-eqb}
+use Rattle.std.proofs.lemmas.List.{take_all}
+use Rattle.rx_terms.specs.declared.triples.Triple.{Triple as CodeTriple}
+use Rattle.rx_model.specs.Sets.{Among}
+use Rattle.rx_model.specs.Terms.{Node, Triple, same_node}
+use Rattle.rx_model.specs.Copied.{Leads, here, onward, leads, edges, live, says_pattern}
+use Rattle.rx_model.specs.Seen.{triple_seen, triples_seen}
+use Rattle.rx_model.proofs.Exact.{exact_numbers, exact_nodes}
+use Rattle.rx_model.proofs.Leads.{leads_along}
+use Rattle.rx_model.proofs.Copied.{of_pair, pattern_true}
+use Rattle.rx_model.proofs.Sets.{Among_left, Among_right, Among_cases, or_cases, and_left, and_right, and_both}
+use Rattle.rx_graph.specs.Rows.{pushed, empty_rows}
+use Rattle.rx_graph.specs.Resources.{number_in, live_by}
+use Rattle.rx_graph.specs.Patterns.{places, edges_by, ArePatterns, AreReferenced}
+use Rattle.rx_graph.specs.Ways.{mark_at, Step, Goes, stays, goes_on, all_led, Led, led_here, led_on, EachOnce, IsWalk}
+use Rattle.rx_graph.specs.Copying.{link_to, number_of, linked, AreLinks, gives_by, own_key, put_at, is_key, owned, AreOwn, gives, contents, IsIndex, IsContent, AreContents}
+use Rattle.rx_graph.proofs.SetLemmas.{seen_more, same_truth}
+use Rattle.rx_graph.proofs.PatternLemmas.{edges_more, edges_are, live_is, places_more, length_so_far, number_same, number_small, number_there}
+use Rattle.rx_graph.proofs.PlaceLemmas.{place_for, any_of, any_has, any_by, sorted_places, same_places}
+use Rattle.rx_graph.proofs.WayLemmas.{goes_trans, goes_by, step_within, pushed_old, pushed_new, pushed_cases, pushed_length, pushed_beyond, pushed_row, empty_none, empty_row, empty_length}
+
+-- ---- the links
+
+pub links_start : (nodes : List (Node ℕ)) (rows : List (List ℕ)) (n : ℕ) → n ≡ length nodes → rows ≡ empty_rows n → AreLinks [] nodes rows
+links_start nodes rows n size e = record {
+  size = ap length e ∙ empty_length n ∙ size;
+  sound = λ a b s. absurd (empty_none n a b (subst (λ (z : List (List ℕ)). Step z a b) e s));
+  complete = λ s t a b m. absurd m;
+}
+
+same_number : (o : Option ℕ) (a b : ℕ) → o ≡ Some a → o ≡ Some b → a ≡ b
+same_number o a b h k = let both : Some a ≡ Some b = sym h ∙ k in cc
+
+-- a pair more
+module _ (pairs : List (Node ℕ × Node ℕ)) (nodes : List (Node ℕ)) (old : List (List ℕ)) (h : AreLinks pairs nodes old) (s t : Node ℕ) where
+  abbrev more : List (Node ℕ × Node ℕ)
+  more = pairs ++ (s, t) ∷ []
+
+  lifted : (a b : ℕ) → Step old a b → (x y : Node ℕ) × (number_in nodes x ≡ Some a) × (number_in nodes y ≡ Some b) × Among more (x, y)
+  lifted a b k = let r = h.sound a b k in (r.0, r.1, r.2, r.3, Among_left pairs ((s, t) ∷ []) (r.0, r.1) r.4)
+
+  -- the pair is an old one or the new one
+  which : (x y : Node ℕ) → Among more (x, y) → Among pairs (x, y) ⊎ ((s ≡ x) × (t ≡ y))
+  which x y m = elim (Among_cases pairs ((s, t) ∷ []) (x, y) m) [ inl k ↦ inl k | inr k ↦ elim k [ inl e ↦ inr (ap (λ (p : Node ℕ × Node ℕ). p.0) e, ap (λ (p : Node ℕ × Node ℕ). p.1) e) | inr n ↦ absurd n ] ]
+
+  -- a pair of which one has no number
+  unlinked : ((a b : ℕ) → number_in nodes s ≡ Some a → number_in nodes t ≡ Some b → ⊥) → AreLinks more nodes old
+  unlinked none = record {
+    size = h.size;
+    sound = lifted;
+    complete = λ x y a b m p q. elim (which x y m) [
+      | inl k ↦ h.complete x y a b k p q
+      | inr e ↦ absurd (none a b (ap (number_in nodes) e.0 ∙ p) (ap (number_in nodes) e.1 ∙ q))
+    ];
+  }
+
+  links_found : (to from : Option ℕ) → number_in nodes t ≡ to → number_in nodes s ≡ from → AreLinks more nodes (link_to old to from)
+  links_found None from p q = unlinked (λ a b m n. not_some b (sym p ∙ n))
+    where
+      not_some : (b : ℕ) → None ≡ Some b → ⊥
+      not_some b e = cc
+  links_found (Some to) None p q = unlinked (λ a b m n. not_some a (sym q ∙ m))
+    where
+      not_some : (b : ℕ) → None ≡ Some b → ⊥
+      not_some b e = cc
+  links_found (Some to) (Some from) p q = record {
+    size = pushed_length old from to ∙ h.size;
+    sound = λ a b k. elim (pushed_cases old from to a b k) [
+      | inl k ↦ lifted a b k
+      | inr e ↦ (s, t, q ∙ ap Some (sym e.0), p ∙ ap Some (sym e.1), Among_right pairs ((s, t) ∷ []) (s, t) (inl refl))
+    ];
+    complete = λ x y a b m na nb. elim (which x y m) [
+      | inl k ↦ pushed_old old from to a b (h.complete x y a b k na nb)
+      | inr e ↦ (
+          let first : a ≡ from = same_number (number_in nodes s) a from (ap (number_in nodes) e.0 ∙ na) q in
+          let second : b ≡ to = same_number (number_in nodes t) b to (ap (number_in nodes) e.1 ∙ nb) p in
+          let room : from < length old = subst (λ (z : ℕ). from < z) (sym h.size) (number_small nodes s from q) in
+          subst (λ (z : ℕ). Step (pushed old from to) z b) (sym first) (subst (λ (z : ℕ). Step (pushed old from to) from z) (sym second) (pushed_new old from to room))
+          )
+    ];
+  }
+
+-- one triple more
+pub links_turn : (list : List CodeTriple) (i : ℕ) (u : CodeTriple) (nodes : List (Node ℕ)) (old new : List (List ℕ)) → slice_get list i ≡ Some u → new ≡ linked nodes old (triple_seen u)
+    → AreLinks (edges_by nodes (triples_seen (take i list))) nodes old → AreLinks (edges_by nodes (triples_seen (take (i + 1) list))) nodes new
+links_turn list i u nodes old new at turn h =
+    subst (λ (z : List (Node ℕ × Node ℕ)). AreLinks z nodes new) (sym (edges_more nodes list i u at)) (subst (AreLinks (edges_by nodes (triples_seen (take i list)) ++ edges_by nodes (triple_seen u ∷ [])) nodes) (sym turn) (go (live_by nodes (triple_seen u))))
+  where
+    go : (o : Option (Node ℕ)) → AreLinks (edges_by nodes (triples_seen (take i list)) ++ cons_option (option_map {U = Node ℕ × Node ℕ} (λ (to : Node ℕ). ((triple_seen u).subject, to)) o) []) nodes (link_to old (number_of nodes o) (number_in nodes (triple_seen u).subject))
+    go None = subst (λ (z : List (Node ℕ × Node ℕ)). AreLinks z nodes old) (sym (append-nil (edges_by nodes (triples_seen (take i list))))) h
+    go (Some t) = links_found (edges_by nodes (triples_seen (take i list))) nodes old h (triple_seen u).subject t (number_in nodes t) (number_in nodes (triple_seen u).subject) refl refl
+
+pub links_end : (list : List CodeTriple) (i : ℕ) (nodes : List (Node ℕ)) (rows : List (List ℕ)) → length list ≤ i
+    → AreLinks (edges_by nodes (triples_seen (take i list))) nodes rows → AreLinks (edges_by nodes (triples_seen list)) nodes rows
+links_end list i nodes rows past h = subst (λ (z : List CodeTriple). AreLinks (edges_by nodes (triples_seen z)) nodes rows) (take_all i list past) h
+
+-- ---- the places of what is given
+
+has_key : (key : Triple ℕ → Option ℕ) → ℕ → Triple ℕ → Bool
+has_key key a u = is_key a (key u)
+
+put_row : (rows : List (List ℕ)) (o : Option ℕ) (place a : ℕ) → a < length rows → get_or (put_at rows o place) a [] ≡ get_or rows a [] ++ (if is_key a o then place ∷ [] else [])
+put_row rows None place a l = sym (append-nil (get_or rows a []))
+put_row rows (Some b) place a l = ⊎_elim (λ inside. pushed_row rows b place a inside) (λ past. beyond past (nat_eq a b) refl) (cases_lt b (length rows))
+  where
+    beyond : length rows ≤ b → (t : Bool) → nat_eq a b ≡ t → get_or (pushed rows b place) a [] ≡ get_or rows a [] ++ (if nat_eq a b then place ∷ [] else [])
+    beyond past true e = absurd (omega (arith, (Decides-eqb a b).0 e, past, l))
+    beyond past false e = rw e (ap (λ (z : List (List ℕ)). get_or z a []) (pushed_beyond rows b place past) ∙ sym (append-nil (get_or rows a [])))
+
+put_length : (rows : List (List ℕ)) (o : Option ℕ) (place : ℕ) → length (put_at rows o place) ≡ length rows
+put_length rows None place = refl
+put_length rows (Some b) place = pushed_length rows b place
+
+pub own_start : (nodes : List (Node ℕ)) (roots : List ℕ) (rows : List (List ℕ)) (n : ℕ) → n ≡ length roots → rows ≡ empty_rows n → AreOwn [] nodes roots rows
+own_start nodes roots rows n size e = record { size = ap length e ∙ empty_length n ∙ size; each = λ a l. ap (λ (z : List (List ℕ)). get_or z a []) e ∙ empty_row n a }
+
+pub own_turn : (list : List CodeTriple) (i : ℕ) (u : CodeTriple) (nodes : List (Node ℕ)) (roots : List ℕ) (old new : List (List ℕ)) → slice_get list i ≡ Some u
+    → new ≡ put_at old (own_key nodes roots (triple_seen u)) i → AreOwn (triples_seen (take i list)) nodes roots old → AreOwn (triples_seen (take (i + 1) list)) nodes roots new
+own_turn list i u nodes roots old new at turn h = subst (AreOwn (triples_seen (take (i + 1) list)) nodes roots) (sym turn) (record {
+  size = put_length old (own_key nodes roots (triple_seen u)) i ∙ h.size;
+  each = λ a l.
+      let inside : a < length old = subst (λ (z : ℕ). a < z) (put_length old (own_key nodes roots (triple_seen u)) i) l in
+      put_row old (own_key nodes roots (triple_seen u)) i a inside
+      ∙ ap (λ z. z ++ (if owned nodes roots a (triple_seen u) then i ∷ [] else [])) (h.each a inside)
+      ∙ ap (λ (n : ℕ). places (owned nodes roots a) 0 (triples_seen (take i list)) ++ (if owned nodes roots a (triple_seen u) then n ∷ [] else [])) (sym (length_so_far list i u at))
+      ∙ sym (places_more (owned nodes roots a) 0 (triples_seen (take i list)) (triple_seen u))
+      ∙ ap (places (owned nodes roots a) 0) (sym (seen_more list i u at));
+})
+
+pub own_end : (list : List CodeTriple) (i : ℕ) (nodes : List (Node ℕ)) (roots : List ℕ) (rows : List (List ℕ)) → length list ≤ i → AreOwn (triples_seen (take i list)) nodes roots rows → AreOwn (triples_seen list) nodes roots rows
+own_end list i nodes roots rows past h = subst (λ (z : List CodeTriple). AreOwn (triples_seen z) nodes roots rows) (take_all i list past) h
+
+-- ---- ways by numbers are ways by pairs
+
+going_leads : (pairs : List (Node ℕ × Node ℕ)) (nodes : List (Node ℕ)) (rows : List (List ℕ)) → AreLinks pairs nodes rows → (t : Node ℕ) (k v : ℕ) → number_in nodes t ≡ Some k → Goes rows k v
+    → (u : Node ℕ) × (number_in nodes u ≡ Some v) × Leads pairs t u
+going_leads pairs nodes rows h t k _ e stays = (t, e, here)
+going_leads pairs nodes rows h t k _ e (goes_on b c g s) =
+    let i = going_leads pairs nodes rows h t k b e g in
+    let l = h.sound b c s in
+    let same : l.0 ≡ i.0 = number_same nodes l.0 i.0 b l.2 i.1 in
+    (l.1, l.3, onward i.0 l.1 i.2 (subst (λ (z : Node ℕ). Among pairs (z, l.1)) same l.4))
+
+leads_going : (pairs : List (Node ℕ × Node ℕ)) (nodes : List (Node ℕ)) (rows : List (List ℕ)) → AreLinks pairs nodes rows → ((x y : Node ℕ) → Among pairs (x, y) → (n : ℕ) × (number_in nodes y ≡ Some n))
+    → (t u : Node ℕ) (k : ℕ) → number_in nodes t ≡ Some k → Leads pairs t u → (v : ℕ) × (number_in nodes u ≡ Some v) × Goes rows k v
+leads_going pairs nodes rows h known t _ k e here = (k, e, stays)
+leads_going pairs nodes rows h known t _ k e (onward b c l m) =
+    let i = leads_going pairs nodes rows h known t b k e l in
+    let n = known b c m in
+    (n.0, n.1, goes_on i.0 n.0 i.2 (h.complete b c i.0 n.0 m i.1 n.1))
+
+-- ---- what an index leads to
+
+module _ (list : List (Triple ℕ)) (nodes : List (Node ℕ)) (roots lead : List ℕ) (nexts own : List (List ℕ)) (x : IsIndex list nodes roots lead nexts own) where
+  pairs_are : edges_by nodes list ≡ edges nat_eq list
+  pairs_are = edges_are list list nodes x.patterns
+
+  -- what a pair leads to is a pattern
+  known : (s t : Node ℕ) → Among (edges_by nodes list) (s, t) → (n : ℕ) × (number_in nodes t ≡ Some n)
+  known s t m = number_there nodes t (x.patterns.each t ∙ pattern_true nat_eq exact_numbers list t (of_pair nat_eq exact_numbers list (s, t) (subst (λ (z : List (Node ℕ × Node ℕ)). Among z (s, t)) pairs_are m)).1)
+
+  -- the root stands for itself, or gives nothing and leads to nothing but to what stands for it
+  led_cases : (a : ℕ) → a < length nexts → (mark_at lead a ≡ a) ⊎ ((length (get_or own a []) ≡ 0) × (all_led lead (mark_at lead a) (get_or nexts a []) ≡ true))
+  led_cases a l = elim (or_cases (nat_eq (mark_at lead a) a) (nat_eq (length (get_or own a [])) 0 && all_led lead (mark_at lead a) (get_or nexts a [])) (x.led.each a l)) [
+    | inl e ↦ inl ((Decides-eqb (mark_at lead a) a).0 e)
+    | inr e ↦ inr ((Decides-eqb (length (get_or own a [])) 0).0 (and_left (nat_eq (length (get_or own a [])) 0) (all_led lead (mark_at lead a) (get_or nexts a [])) e), and_right (nat_eq (length (get_or own a [])) 0) (all_led lead (mark_at lead a) (get_or nexts a [])) e)
+  ]
+
+  all_cases : (to : ℕ) (row : List ℕ) (b : ℕ) → all_led lead to row ≡ true → Among row b → mark_at lead b < length lead → mark_at lead b ≡ to
+  all_cases to [] b h m l = absurd m
+  all_cases to (c ∷ row) b h (inr m) l = all_cases to row b (and_right (not (nat_lt (mark_at lead c) (length lead)) || nat_eq (mark_at lead c) to) (all_led lead to row) h) m l
+  all_cases to (c ∷ row) b h (inl e) l = elim (or_cases (not (nat_lt (mark_at lead c) (length lead))) (nat_eq (mark_at lead c) to) (and_left (not (nat_lt (mark_at lead c) (length lead)) || nat_eq (mark_at lead c) to) (all_led lead to row) h)) [
+    | inl q ↦ absurd (true≢false (sym q ∙ ap not (let less : nat_lt (mark_at lead c) (length lead) ≡ true = (let l2 : mark_at lead c < length lead = subst (λ (z : ℕ). mark_at lead z < length lead) (sym e) l in grind (arith, nat_tests, l2)) in less)))
+    | inr q ↦ ap (mark_at lead) (sym e) ∙ (Decides-eqb (mark_at lead c) to).0 q
+  ]
+
+  module _ (t : Node ℕ) (k from : ℕ) (reached : List ℕ) (number : number_in nodes t ≡ Some k) (is : mark_at lead (mark_at roots k) ≡ from) (w : IsWalk nexts lead from reached) where
+    from_small : (a : ℕ) → Led nexts lead from a → from < length lead
+    from_small _ (led_here l) = l
+    from_small _ (led_on a b c h s e l) = from_small a h
+
+    to_from : from < length lead → Goes x.links k from
+    to_from l = subst (Goes x.links k) is (goes_trans x.links k (mark_at roots k) (mark_at lead (mark_at roots k)) (x.joined.up k)
+        (goes_by x.links nexts (mark_at roots k) (mark_at lead (mark_at roots k)) x.nexts_are.sound (x.leads_on.each (mark_at roots k) (subst (λ (z : ℕ). z < length nexts) (sym is) (subst (λ (z : ℕ). from < z) x.leads_on.size l)))))
+
+    led_goes : (a : ℕ) → Led nexts lead from a → Goes x.links k a
+    led_goes _ (led_here l) = to_from l
+    led_goes _ (led_on a b c h s e l) = goes_trans x.links k a c (led_goes a h) (goes_trans x.links a b c (x.nexts_are.sound a b s)
+        (subst (Goes x.links b) e (goes_by x.links nexts b (mark_at lead b) x.nexts_are.sound (x.leads_on.each b (subst (λ (z : ℕ). z < length nexts) (sym e) (subst (λ (z : ℕ). c < z) x.leads_on.size l))))))
+
+    -- what stands for the root of what k leads to is reached
+    led_reached : (v : ℕ) → Goes x.links k v → mark_at lead (mark_at roots v) < length lead → Among reached (mark_at lead (mark_at roots v))
+    led_reached _ stays l = subst (Among reached) (sym is) (w.start (subst (λ (z : ℕ). z < length lead) is l))
+    led_reached _ (goes_on b c g s) l = elim (x.nexts_are.complete b c s) [
+      | inl e ↦ subst (λ (z : ℕ). Among reached (mark_at lead z)) e (led_reached b g (subst (λ (z : ℕ). mark_at lead z < length lead) (sym e) l))
+      | inr st ↦ (
+          let room : mark_at roots b < length nexts = step_within nexts (mark_at roots b) (mark_at roots c) st in
+          elim (led_cases (mark_at roots b) room) [
+            | inl e ↦ (
+                let own_is : Among reached (mark_at roots b) = subst (Among reached) e (led_reached b g (subst (λ (z : ℕ). z < length lead) (sym e) (subst (λ (z : ℕ). mark_at roots b < z) (sym x.leads_on.size) room))) in
+                w.closed (mark_at roots b) (mark_at roots c) own_is st l
+                )
+            | inr h ↦ (
+                let same : mark_at lead (mark_at roots c) ≡ mark_at lead (mark_at roots b) = all_cases (mark_at lead (mark_at roots b)) (get_or nexts (mark_at roots b) []) (mark_at roots c) h.1 st l in
+                subst (Among reached) (sym same) (led_reached b g (subst (λ (z : ℕ). z < length lead) same l))
+                )
+          ]
+          )
+    ]
+
+    gives_is : (u : Triple ℕ) → gives_by nodes u ≡ (not (says_pattern nat_eq u.predicate u.object) && is_none (live nat_eq list u.predicate u.object))
+    gives_is u = ap (λ o. not (says_pattern nat_eq u.predicate u.object) && is_none o) (live_is list nodes x.patterns u)
+
+    leads_is : (u : Node ℕ) → Leads (edges_by nodes list) t u → leads (same_node nat_eq) (edges nat_eq list) t u ≡ true
+    leads_is u l = (leads_along (same_node nat_eq) (exact_nodes nat_eq exact_numbers) (edges nat_eq list) t u).1 (subst (λ (z : List (Node ℕ × Node ℕ)). Leads z t u) pairs_are l)
+
+    is_leads : (u : Node ℕ) → leads (same_node nat_eq) (edges nat_eq list) t u ≡ true → Leads (edges_by nodes list) t u
+    is_leads u h = subst (λ (z : List (Node ℕ × Node ℕ)). Leads z t u) (sym pairs_are) ((leads_along (same_node nat_eq) (exact_nodes nat_eq exact_numbers) (edges nat_eq list) t u).0 h)
+
+    -- what is owned by a number is given, and the number is the root of its subject
+    owned_parts : (a : ℕ) (u : Triple ℕ) → owned nodes roots a u ≡ true → (m : ℕ) × (number_in nodes u.subject ≡ Some m) × (a ≡ mark_at roots m) × (gives_by nodes u ≡ true)
+    owned_parts a u h = go (gives_by nodes u) refl (number_in nodes u.subject) refl h
+      where
+        go : (g : Bool) → gives_by nodes u ≡ g → (o : Option ℕ) → number_in nodes u.subject ≡ o → is_key a (if g then option_map (mark_at roots) o else None) ≡ true
+            → (m : ℕ) × (number_in nodes u.subject ≡ Some m) × (a ≡ mark_at roots m) × (gives_by nodes u ≡ true)
+        go true p (Some m) q k = (m, q, (Decides-eqb a (mark_at roots m)).0 k, p)
+        go true p None q k = absurd (true≢false (sym k))
+        go false p o q k = absurd (true≢false (sym k))
+
+    owned_by : (u : Triple ℕ) (m : ℕ) → number_in nodes u.subject ≡ Some m → gives_by nodes u ≡ true → owned nodes roots (mark_at roots m) u ≡ true
+    owned_by u m p q = ap₂ (λ (g : Bool) (o : Option ℕ). is_key (mark_at roots m) (if g then option_map (mark_at roots) o else None)) q p ∙ (Decides-eqb (mark_at roots m) (mark_at roots m)).1 refl
+
+    reached_given : (u : Triple ℕ) → any_of (owned nodes roots) reached u ≡ true → gives list t u ≡ true
+    reached_given u h =
+        let r = any_has (owned nodes roots) reached u h in
+        let p = owned_parts r.0 u r.2 in
+        let way : Goes x.links k p.0 = goes_trans x.links k (mark_at roots p.0) p.0 (subst (Goes x.links k) p.2 (led_goes r.0 (w.sound r.0 r.1))) (x.joined.down p.0) in
+        let l = going_leads (edges_by nodes list) nodes x.links x.links_are t k p.0 number way in
+        let same : l.0 ≡ u.subject = number_same nodes l.0 u.subject p.0 l.1 p.1 in
+        and_both (leads (same_node nat_eq) (edges nat_eq list) t u.subject) (not (says_pattern nat_eq u.predicate u.object) && is_none (live nat_eq list u.predicate u.object))
+        (leads_is u.subject (subst (Leads (edges_by nodes list) t) same l.2)) (sym (gives_is u) ∙ p.3)
+
+    given_reached : (u : Triple ℕ) → Among list u → gives list t u ≡ true → any_of (owned nodes roots) reached u ≡ true
+    given_reached u m h =
+        let way = leads_going (edges_by nodes list) nodes x.links x.links_are known t u.subject k number
+        (is_leads u.subject (and_left (leads (same_node nat_eq) (edges nat_eq list) t u.subject) (not (says_pattern nat_eq u.predicate u.object) && is_none (live nat_eq list u.predicate u.object)) h)) in
+        let root : ℕ = mark_at roots way.0 in
+        let owns : owned nodes roots (mark_at roots way.0) u ≡ true = owned_by u way.0 way.1 (gives_is u ∙ and_right (leads (same_node nat_eq) (edges nat_eq list) t u.subject) (not (says_pattern nat_eq u.predicate u.object) && is_none (live nat_eq list u.predicate u.object)) h) in
+        let inside : mark_at roots way.0 < length x.links = x.joined.within way.0 (subst (λ (z : ℕ). way.0 < z) (sym x.links_are.size) (number_small nodes u.subject way.0 way.1)) in
+        let room : mark_at roots way.0 < length own = subst (λ (z : ℕ). mark_at roots way.0 < z) (sym (x.own_are.size ∙ x.joined.size)) inside in
+        let place = place_for (owned nodes roots (mark_at roots way.0)) [] list u m owns in
+        let some : Among (get_or own (mark_at roots way.0) []) place.0 = subst (λ (z : List ℕ). Among z place.0) (sym (x.own_are.each (mark_at roots way.0) room)) place.1 in
+        let stands : mark_at lead (mark_at roots way.0) ≡ mark_at roots way.0 = elim (led_cases (mark_at roots way.0) (subst (λ (z : ℕ). mark_at roots way.0 < z) (sym x.nexts_are.size) inside)) [ inl e ↦ e | inr e ↦ absurd (not_empty (get_or own (mark_at roots way.0) []) place.0 some e.0) ] in
+        let small : mark_at lead (mark_at roots way.0) < length lead = subst (λ (z : ℕ). z < length lead) (sym stands) (subst (λ (z : ℕ). mark_at roots way.0 < z) (sym (x.leads_on.size ∙ x.nexts_are.size)) inside) in
+        any_by (owned nodes roots) reached u (mark_at roots way.0) (subst (Among reached) stands (led_reached way.0 way.2 small)) owns
+      where
+        not_empty : (xs : List ℕ) (y : ℕ) → Among xs y → length xs ≡ 0 → ⊥
+        not_empty [] y n e = n
+        not_empty (z ∷ xs) y n e = omega (arith, e)
+
+    same_test : (u : Triple ℕ) → Among list u → any_of (owned nodes roots) reached u ≡ gives list t u
+    same_test u m = same_truth (any_of (owned nodes roots) reached u) (gives list t u) (reached_given u) (given_reached u m)
+
+    tells : (a b : ℕ) (u : Triple ℕ) → owned nodes roots a u ≡ true → owned nodes roots b u ≡ true → a ≡ b
+    tells a b u h k =
+        let p = owned_parts a u h in
+        let q = owned_parts b u k in
+        p.2 ∙ ap (mark_at roots) (same_number (number_in nodes u.subject) p.0 q.0 p.1 q.1) ∙ sym q.2
+
+    own_row : (a : ℕ) → Among reached a → get_or own a [] ≡ places (owned nodes roots a) 0 list
+    own_row a m = x.own_are.each a (subst (λ (z : ℕ). a < z) (x.leads_on.size ∙ x.nexts_are.size ∙ sym (x.own_are.size ∙ x.joined.size)) (w.small a m))
+
+    pub found_are : (found : List ℕ) → EachOnce reached → IsPermutation (flat_map (λ (a : ℕ). get_or own a []) reached) found → IsNonDecreasing found → found ≡ contents list t
+    found_are found once p rises = sorted_places own (owned nodes roots) tells list reached found once own_row p rises ∙ same_places (any_of (owned nodes roots) reached) (gives list t) 0 list same_test
+
+-- what is gathered from what is reached is what is given
+pub content_found : (nodes : List (Node ℕ)) (roots lead : List ℕ) (nexts own : List (List ℕ)) (from : ℕ) (reached found : List ℕ) → IsWalk nexts lead from reached → EachOnce reached
+    → IsPermutation (flat_map (λ (a : ℕ). get_or own a []) reached) found → IsNonDecreasing found → IsContent nodes roots lead nexts own from found
+content_found nodes roots lead nexts own from reached found w once p rises = record {
+  each = λ list t k x number is. found_are list nodes roots lead nexts own x t k from reached number is w found once p rises;
+}
+
+-- ---- the rows of what is given
+
+module _ (nodes : List (Node ℕ)) (roots lead : List ℕ) (nexts own : List (List ℕ)) where
+  pub contents_start : (rows : List (List ℕ)) (n : ℕ) → rows ≡ empty_rows n → AreContents nodes roots lead nexts own rows
+  contents_start rows n e = record { each = λ a. inl (ap (λ (z : List (List ℕ)). get_or z a []) e ∙ empty_row n a) }
+
+  pub contents_turn : (old new : List (List ℕ)) (a : ℕ) (found : List ℕ) → IsContent nodes roots lead nexts own a found → new ≡ slice_set old a found → AreContents nodes roots lead nexts own old → AreContents nodes roots lead nexts own new
+  contents_turn old new a found c turn h = subst (AreContents nodes roots lead nexts own) (sym turn) (record {
+    each = λ b. elim (row_cases old a found b) [
+      | inl e ↦ elim (h.each b) [ inl q ↦ inl (e ∙ q) | inr q ↦ inr (subst (IsContent nodes roots lead nexts own b) (sym e) q) ]
+      | inr e ↦ inr (subst (IsContent nodes roots lead nexts own b) (sym e.1) (subst (λ (z : ℕ). IsContent nodes roots lead nexts own z found) e.0 c))
+    ];
+  })
+    where
+      row_cases : (rows : List (List ℕ)) (a : ℕ) (found : List ℕ) (b : ℕ) → (get_or (slice_set rows a found) b [] ≡ get_or rows b []) ⊎ ((a ≡ b) × (get_or (slice_set rows a found) b [] ≡ found))
+      row_cases [] a found b = inl refl
+      row_cases (y ∷ rows) zero found zero = inr (refl, refl)
+      row_cases (y ∷ rows) zero found (suc b) = inl refl
+      row_cases (y ∷ rows) (suc a) found zero = inl refl
+      row_cases (y ∷ rows) (suc a) found (suc b) = elim (row_cases rows a found b) [ inl e ↦ inl e | inr e ↦ inr (ap suc e.0, e.1) ]
+
+  -- a row that isn't empty is what is given
+  pub contents_at : (rows : List (List ℕ)) (a : ℕ) (row : List ℕ) → row ≡ get_or rows a [] → AreContents nodes roots lead nexts own rows → ¬ (row ≡ []) → IsContent nodes roots lead nexts own a row
+  contents_at rows a row e h some = elim (h.each a) [ inl q ↦ absurd (some (e ∙ q)) | inr q ↦ subst (IsContent nodes roots lead nexts own a) (sym e) q ]
+
+-- ---- what the code asks
+
+pub no_lead : (f : ℕ → ℕ) (o r : Option ℕ) → r ≡ option_map f o → r ≡ None → o ≡ None
+no_lead f None r e h = refl
+no_lead f (Some k) r e h = let both : Some (f k) ≡ None = sym e ∙ h in cc
+
+some_lead : (f : ℕ → ℕ) (o r : Option ℕ) (a : ℕ) → r ≡ option_map f o → r ≡ Some a → (k : ℕ) × (o ≡ Some k) × (f k ≡ a)
+some_lead f None r a e h = let both : None ≡ Some a = sym e ∙ h in cc
+some_lead f (Some k) r a e h = (k, refl, (let both : Some (f k) ≡ Some a = sym e ∙ h in cc))
+
+pub content_of : (list : List (Triple ℕ)) (nodes : List (Node ℕ)) (roots lead : List ℕ) (nexts own : List (List ℕ)) (t : Node ℕ) (from : ℕ) (found : List ℕ) (r : Option ℕ) → IsIndex list nodes roots lead nexts own
+    → IsContent nodes roots lead nexts own from found → r ≡ option_map (λ (k : ℕ). mark_at lead (mark_at roots k)) (number_in nodes t) → r ≡ Some from → found ≡ contents list t
+content_of list nodes roots lead nexts own t from found r x content e h =
+    let k = some_lead (λ (k : ℕ). mark_at lead (mark_at roots k)) (number_in nodes t) r from e h in
+    content.each list t k.0 x k.1 k.2
+
+pub not_nil : (xs : List ℕ) (b : Bool) → b ≡ (length xs == 0) → b ≡ false → ¬ (xs ≡ [])
+not_nil xs b e h nil = true≢false (sym ((Decides-eqb (length xs) 0).1 (ap length nil)) ∙ sym e ∙ h)
+
+-- the pairs are the same by any list of the patterns
+pub same_references : (list : List (Triple ℕ)) (nodes others referenced : List (Node ℕ)) → ArePatterns list nodes → ArePatterns list others → AreReferenced (edges_by nodes list) referenced → AreReferenced (edges_by others list) referenced
+same_references list nodes others referenced h k r = subst (λ (z : List (Node ℕ × Node ℕ)). AreReferenced z referenced) (edges_are list list nodes h ∙ sym (edges_are list list others k)) r

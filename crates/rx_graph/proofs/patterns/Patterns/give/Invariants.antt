@@ -1,8 +1,0 @@
-use Rattle.std.proofs.Common.{◌≡◌, filter_map, take}
-use Rattle.rx_model.specs.Seen.{triples_seen, node_seen}
-use Rattle.rx_graph.specs.Graph.{added_all}
-use Rattle.rx_graph.proofs.PlaceLemmas.{given_at}
-use Rattle.rx_graph.proofs.patterns.Patterns.give.Given as goal
-
-abbrev pub invariant-loop-place : goal.invariant-loop-place
-invariant-loop-place l = triples_seen l.gathering ≡ added_all (triples_seen l.fn.gathering) (filter_map (given_at (triples_seen l.self) (node_seen l.subject)) (take l.place-index l.place-items))

@@ -1,6 +1,0 @@
-use Rattle.std.proofs.Common.{◌∙◌, ◌++◌, ◌∷◌, [], ap, sym}
-use Rattle.rx_graph.proofs.PatternLemmas.{empty_more}
-use Rattle.rx_graph.proofs.patterns.empty_rows.Goals as goal
-
-pub loop-preserved : goal.loop-preserved
-loop-preserved c = c.in_ok-add.ensures ∙ ap (λ z. z ++ [] ∷ []) c.loop.invariant ∙ sym (empty_more c.loop.counter)

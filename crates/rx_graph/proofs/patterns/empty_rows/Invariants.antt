@@ -1,6 +1,0 @@
-use Rattle.std.proofs.Common.{◌≡◌}
-use Rattle.rx_graph.specs.Rows.{empty_rows}
-use Rattle.rx_graph.proofs.patterns.empty_rows.Given as goal
-
-abbrev pub invariant-loop : goal.invariant-loop
-invariant-loop l = l.rows ≡ empty_rows l.counter

@@ -1,0 +1,100 @@
+-- What is copied from patterns, by their numbers.
+use Rattle.std.specs.Prelude.{◌≡◌, ◌⊎◌, ◌<◌, ℕ, Bool, false, not, ◌&&◌, List, [], length, get_or, slice_get, Option, Some, None, option_map, is_none, nat_eq, if◌then◌else◌}
+use Rattle.rx_model.specs.Sets.{Among}
+use Rattle.rx_model.specs.Terms.{Node, Triple, same_node}
+use Rattle.rx_model.specs.Copied.{edges, leads, live, says_pattern}
+use Rattle.rx_graph.specs.Resources.{number_in, live_by}
+use Rattle.rx_graph.specs.Rows.{pushed}
+use Rattle.rx_graph.specs.Patterns.{places, edges_by, given_one, ArePatterns, AreReferenced}
+use Rattle.rx_graph.specs.Ways.{mark_at, Step, Joined, AreNexts, LeadsToMark, AreLed}
+
+-- ---- which patterns copy which
+
+-- from leads to another, where both have a number
+abbrev pub link_to : List (List ℕ) → Option ℕ → Option ℕ → List (List ℕ)
+link_to rows None from = rows
+link_to rows (Some to) None = rows
+link_to rows (Some to) (Some from) = pushed rows from to
+
+abbrev pub number_of : List (Node ℕ) → Option (Node ℕ) → Option ℕ
+number_of nodes None = None
+number_of nodes (Some t) = number_in nodes t
+
+-- with what a triple links
+abbrev pub linked : List (Node ℕ) → List (List ℕ) → Triple ℕ → List (List ℕ)
+linked nodes rows u = link_to rows (number_of nodes (live_by nodes u)) (number_in nodes u.subject)
+
+-- the rows are those of the pairs, by the nodes' numbers
+pub record AreLinks (pairs : List (Node ℕ × Node ℕ)) (nodes : List (Node ℕ)) (rows : List (List ℕ)) : Type 0 where
+  pub size : length rows ≡ length nodes
+  pub sound : (a b : ℕ) → Step rows a b → (s t : Node ℕ) × (number_in nodes s ≡ Some a) × (number_in nodes t ≡ Some b) × Among pairs (s, t)
+  pub complete : (s t : Node ℕ) (a b : ℕ) → Among pairs (s, t) → number_in nodes s ≡ Some a → number_in nodes t ≡ Some b → Step rows a b
+
+-- ---- what is given
+
+-- the triple neither says that something is a pattern nor is a live copy triple
+abbrev pub gives_by : List (Node ℕ) → Triple ℕ → Bool
+gives_by nodes u = not (says_pattern nat_eq u.predicate u.object) && is_none (live_by nodes u)
+
+-- the root of the subject of a triple that is given
+abbrev pub own_key : List (Node ℕ) → List ℕ → Triple ℕ → Option ℕ
+own_key nodes roots u = if gives_by nodes u then option_map (mark_at roots) (number_in nodes u.subject) else None
+
+-- the place at the end of the row of a number
+abbrev pub put_at : List (List ℕ) → Option ℕ → ℕ → List (List ℕ)
+put_at rows None place = rows
+put_at rows (Some a) place = pushed rows a place
+
+abbrev pub is_key : ℕ → Option ℕ → Bool
+is_key a None = false
+is_key a (Some b) = nat_eq a b
+
+-- the triple is given, and this is its subject's root
+abbrev pub owned : List (Node ℕ) → List ℕ → ℕ → Triple ℕ → Bool
+owned nodes roots a u = is_key a (own_key nodes roots u)
+
+-- each row has the places of what is given of those that the root joins
+pub record AreOwn (list : List (Triple ℕ)) (nodes : List (Node ℕ)) (roots : List ℕ) (own : List (List ℕ)) : Type 0 where
+  pub size : length own ≡ length roots
+  pub each : (a : ℕ) → a < length own → get_or own a [] ≡ places (owned nodes roots a) 0 list
+
+-- whether a subject that copies t gets something by the triple
+abbrev pub gives : List (Triple ℕ) → Node ℕ → Triple ℕ → Bool
+gives list t u = leads (same_node nat_eq) (edges nat_eq list) t u.subject && (not (says_pattern nat_eq u.predicate u.object) && is_none (live nat_eq list u.predicate u.object))
+
+-- the places of what is given by copying t
+abbrev pub contents : List (Triple ℕ) → Node ℕ → List ℕ
+contents list t = places (gives list t) 0 list
+
+-- what s gets by the triple at a place
+abbrev pub given_from : List (Triple ℕ) → Node ℕ → Option (Triple ℕ) → Option (Triple ℕ)
+given_from list s None = None
+given_from list s (Some u) = given_one list s u
+
+abbrev pub given_at : List (Triple ℕ) → Node ℕ → ℕ → Option (Triple ℕ)
+given_at list s i = given_from list s (slice_get list i)
+
+-- ---- the index
+
+pub record IsIndex (list : List (Triple ℕ)) (nodes : List (Node ℕ)) (roots lead : List ℕ) (nexts own : List (List ℕ)) : Type 0 where
+  pub patterns : ArePatterns list nodes
+  pub links : List (List ℕ)
+  pub links_are : AreLinks (edges_by nodes list) nodes links
+  pub joined : Joined links roots
+  pub nexts_are : AreNexts links roots nexts
+  pub own_are : AreOwn list nodes roots own
+  pub leads_on : LeadsToMark nexts lead
+  pub led : AreLed nexts own lead
+
+-- the places are what is given by copying any node for which this stands
+pub record IsContent (nodes : List (Node ℕ)) (roots lead : List ℕ) (nexts own : List (List ℕ)) (from : ℕ) (found : List ℕ) : Type 0 where
+  pub each : (list : List (Triple ℕ)) (t : Node ℕ) (k : ℕ) → IsIndex list nodes roots lead nexts own → number_in nodes t ≡ Some k → mark_at lead (mark_at roots k) ≡ from → found ≡ contents list t
+
+-- each row is empty or what is given by copying what it stands for
+pub record AreContents (nodes : List (Node ℕ)) (roots lead : List ℕ) (nexts own : List (List ℕ)) (rows : List (List ℕ)) : Type 0 where
+  pub each : (a : ℕ) → (get_or rows a [] ≡ []) ⊎ IsContent nodes roots lead nexts own a (get_or rows a [])
+
+pub record IsFound (list : List (Triple ℕ)) (referenced nodes : List (Node ℕ)) (roots lead : List ℕ) (nexts own contents : List (List ℕ)) : Type 0 where
+  pub index : IsIndex list nodes roots lead nexts own
+  pub contents_are : AreContents nodes roots lead nexts own contents
+  pub references : AreReferenced (edges_by nodes list) referenced
