@@ -20,7 +20,7 @@ use Rattle.rx_reading.specs.Ways.{Way, IsRefusal}
 use Rattle.rx_reading.proofs.Refusing.{at_from}
 
 -- of two fronts of a list one is a front of the other
-fronts : (a b c d : List ℕ) → a ++ b ≡ c ++ d → ((m : List ℕ) × (c ≡ a ++ m)) ⊎ ((m : List ℕ) × (a ≡ c ++ m))
+pub fronts : (a b c d : List ℕ) → a ++ b ≡ c ++ d → ((m : List ℕ) × (c ≡ a ++ m)) ⊎ ((m : List ℕ) × (a ≡ c ++ m))
 fronts [] b c d e = inl (c, refl)
 fronts (x ∷ a) b [] d e = inr (x ∷ a, refl)
 fronts (x ∷ a) b (y ∷ c) d e =

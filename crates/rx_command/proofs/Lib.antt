@@ -1,6 +1,10 @@
 pub mod FileLemmas
 pub mod InputLemmas
 pub mod RunLemmas
+pub mod KindLemmas
+pub mod OutcomeLemmas
+pub mod TextLemmas
+pub mod HeadlineLemmas
 pub mod FaultLemmas
 pub mod ReadLemmas
 pub mod MadeLemmas

@@ -70,10 +70,10 @@ same_context words told bytes others p q =
     one_context q.asked.context q.shelf p.context q.context
     (subst (λ s. IsContext q.asked.context s p.context) (one_shelf told p.shelf q.shelf p.tells q.tells) (subst (λ k. IsContext k.context p.shelf p.context) (one_asked words p.asked q.asked p.asks q.asks) p.holds)) q.holds
 
-given_not_refused : (value : Data) (fault : Fault) → Given value ≡ Refused fault → ⊥
+pub given_not_refused : (value : Data) (fault : Fault) → Given value ≡ Refused fault → ⊥
 given_not_refused value fault e = cc
 
-refused_same : (a b : Fault) → Refused a ≡ Refused b → a ≡ b
+pub refused_same : (a b : Fault) → Refused a ≡ Refused b → a ≡ b
 refused_same a b e = cc
 
 no_both : (task : Task) (context : Context) (bytes text : List ℕ) (fault : Fault) → TaskGives task context bytes text → TaskRefuses task context bytes fault → ⊥
@@ -84,12 +84,16 @@ no_both (itemizes i) context bytes text fault h (inr n) =
     given_not_refused h.json.value fault (sym h.json.given ∙ (ap (outcome standard_bounds i.address) same ∙ n.refused))
 no_both (checks syntax) context bytes text fault h n = page_has_none (way_in (checks syntax) context) (refuses_so (aim_in (checks syntax) context)) bytes h.tree h.is.page h.is.accepted fault n
 
-same_page : (words : List (List ℕ)) (told : Option Told) (bytes others : List ℕ) (a : Fault) (p : NamesPage words told bytes) (q : NamesPage words told others) → TaskRefuses p.asked.task p.context bytes a → TaskRefuses q.asked.task q.context others a
-same_page words told bytes others a p q r =
+-- what holds of the page that is named holds of it where it is named again
+pub moved : (holds : Task → Context → List ℕ → Type 0) (words : List (List ℕ)) (told : Option Told) (bytes others : List ℕ) (p : NamesPage words told bytes) (q : NamesPage words told others) → holds p.asked.task p.context bytes → holds q.asked.task q.context others
+moved holds words told bytes others p q h =
     let same : bytes ≡ others = one_page words told bytes others p q in
     let asked : p.asked ≡ q.asked = one_asked words p.asked q.asked p.asks q.asks in
     let context = same_context words told bytes others p q in
-    subst (λ k. TaskRefuses k.task q.context others a) asked (subst (λ k. TaskRefuses p.asked.task k others a) context (subst (λ x. TaskRefuses p.asked.task p.context x a) same r))
+    subst (λ k. holds k.task q.context others) asked (subst (λ k. holds p.asked.task k others) context (subst (λ x. holds p.asked.task p.context x) same h))
+
+same_page : (words : List (List ℕ)) (told : Option Told) (bytes others : List ℕ) (a : Fault) (p : NamesPage words told bytes) (q : NamesPage words told others) → TaskRefuses p.asked.task p.context bytes a → TaskRefuses q.asked.task q.context others a
+same_page words told bytes others a p q r = moved (λ task context file. TaskRefuses task context file a) words told bytes others p q r
 
 -- words that ask for a page don't ask for a sample
 pub not_sample : (words : List (List ℕ)) (asked : Asked) (count : ℕ) → page_asked words ≡ Some asked → job words ≡ Some (samples count) → ⊥
@@ -122,7 +126,7 @@ not_both words told text fault (inr (inl y)) r = not_sample words r.page.asked y
 not_both words told text fault (inr (inr y)) r = not_gathering words r.page.asked y.gathering r.page.asks y.asks
 
 -- there is one refusal
-one_of_task : (task : Task) (context : Context) (bytes : List ℕ) (a b : Fault) → TaskRefuses task context bytes a → TaskRefuses task context bytes b → a ≡ b
+pub one_of_task : (task : Task) (context : Context) (bytes : List ℕ) (a b : Fault) → TaskRefuses task context bytes a → TaskRefuses task context bytes b → a ≡ b
 one_of_task (extracts e) context bytes a b p q = one_first (way_in (extracts e) context) (refuses_so (aim_in (extracts e) context)) bytes a b p q
 one_of_task (checks syntax) context bytes a b p q = one_first (way_in (checks syntax) context) (refuses_so (aim_in (checks syntax) context)) bytes a b p q
 one_of_task (itemizes i) context bytes a b (inl p) (inl q) = one_first (way_in (itemizes i) context) (refuses_so (aim_in (itemizes i) context)) bytes a b p q
@@ -314,12 +318,12 @@ module _ (words : List (List ℕ)) (told : Option Told) (asked : Asked) (a : pag
   pub no_gathering_asked : gathering_asked words ≡ None
   no_gathering_asked = ap gathering_in (page_job words asked a)
 
-  named_there : (bytes : List ℕ) → NamesPage words told bytes → TellsThat (IsLacking asked) told → ⊥
+  pub named_there : (bytes : List ℕ) → NamesPage words told bytes → TellsThat (IsLacking asked) told → ⊥
   named_there bytes p l =
       let same : asked ≡ p.asked = one_asked words asked p.asked a p.asks in
       not_lack p.asked bytes p.shelf (has_context p.asked.context p.shelf p.context p.holds) p.file (subst (λ k. IsLacking k p.shelf) same (subst (TellsThat (IsLacking asked)) p.tells l))
 
-  named_right : (bytes : List ℕ) → NamesPage words told bytes → WhereTold (HasOther asked.context) told → ⊥
+  pub named_right : (bytes : List ℕ) → NamesPage words told bytes → WhereTold (HasOther asked.context) told → ⊥
   named_right bytes p w =
       let same : asked ≡ p.asked = one_asked words asked p.asked a p.asks in
       not_other p.asked.context p.shelf (has_context p.asked.context p.shelf p.context p.holds) (subst (λ k. HasOther k.context p.shelf) same (subst (WhereTold (HasOther asked.context)) p.tells w))

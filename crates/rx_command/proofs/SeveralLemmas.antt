@@ -18,7 +18,7 @@ use Rattle.rx_command.specs.Samples.{Yields, YieldsGraph}
 use Rattle.rx_command.specs.Inputs.{TellsThat, WhereTold}
 use Rattle.rx_command.specs.declared.statuses.Status.{Status}
 use Rattle.rx_command.specs.declared.statuses.Status.TheVariants as status
-use Rattle.rx_command.specs.Runs.{Devices, EndsAs, SaysAs, GatheringEnds, ReadCause, TakesJob, StopsCleanly, IsAtEnd, Says, reads_files, context_line}
+use Rattle.rx_command.specs.Runs.{Devices, EndsAs, SaysAs, GatheringEnds, ReadCause, TakesJob, StopsCleanly, IsAtEnd, Says, SaysNothing, reads_files, context_line}
 use Rattle.rx_command.proofs.InputLemmas.{has_context}
 use Rattle.rx_command.proofs.GatheringLemmas.{judged_graphs}
 use Rattle.rx_command.proofs.RunLemmas.{there, not_other, not_missing, meets}
@@ -37,7 +37,7 @@ denotes_gathered g pages text d x y p = record { context = p.context; holds = p.
 
 module _ (g : Gathering) (old new : Devices) where
   pub ends_done : (pages : List Page) (text piece : List ℕ) → piece ≡ text → text ≡ encode_utf8_all (gathered pages) → DenotesPages (chars text) pages → Moves (GathersPages g pages) old.told new.told → Moves (TakesGathering g) old.told new.told
-      → Moves (GrowsBy piece) old.held new.held → Moves Stays old.said new.said → GatheringEnds g status.Done old new
+      → Moves (GrowsBy piece) old.held new.held → SaysNothing old.said new.said old.say_faults new.say_faults → GatheringEnds g status.Done old new
   ends_done pages text piece same e d m t w s = record {
     ends = (
       text,
@@ -50,7 +50,7 @@ module _ (g : Gathering) (old new : Devices) where
   }
 
   pub ends_partly : (pages : List Page) (text piece : List ℕ) → piece ≡ text → text ≡ encode_utf8_all (gathered pages) → Moves (GathersPages g pages) old.told new.told → Moves (TakesGathering g) old.told new.told
-      → Moves (GrowsByPart piece) old.held new.held → Rose old.write_faults new.write_faults → Moves Stays old.said new.said → GatheringEnds g status.WriteFault old new
+      → Moves (GrowsByPart piece) old.held new.held → Rose old.write_faults new.write_faults → SaysNothing old.said new.said old.say_faults new.say_faults → GatheringEnds g status.WriteFault old new
   ends_partly pages text piece same e m t w rose s = record {
     ends = (text, where_moved (IsGathered g text) old.told new.told (λ x y p. is_gathered g pages text e x y p) m, subst (λ z. Moves (GrowsByPart z) old.held new.held) same w, rose);
     takes = t;
@@ -139,7 +139,7 @@ ends_unwritten g old new status.Memory e d w = e
 ends_unwritten g old new (status.Refused fault) e d w = absurd e
 ends_unwritten g old new status.Usage e d w = absurd e
 
-ends_unsaid : (old new : Devices) (s : Status) → SaysAs s old new → s ≢ status.BadContext → Moves Stays old.said new.said
+ends_unsaid : (old new : Devices) (s : Status) → SaysAs s old new → s ≢ status.BadContext → SaysNothing old.said new.said old.say_faults new.say_faults
 ends_unsaid old new status.Done e b = e
 ends_unsaid old new status.WriteFault e b = e
 ends_unsaid old new status.ReadFault e b = e
@@ -235,7 +235,7 @@ module _ (words : List (List ℕ)) (g : Gathering) (j : job words ≡ Some (gath
   pub several_say_context : s ≡ status.BadContext → Says context_line old.said new.said old.say_faults new.say_faults
   several_say_context is = subst (λ (z : Status). SaysAs z old new) is e.says
 
-  pub several_say_nothing : s ≢ status.BadContext → Moves Stays old.said new.said
+  pub several_say_nothing : s ≢ status.BadContext → SaysNothing old.said new.said old.say_faults new.say_faults
   several_say_nothing b = ends_unsaid old new s e.says b
 
   pub several_take : Moves (TakesJob (job words)) old.told new.told

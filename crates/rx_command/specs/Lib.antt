@@ -9,5 +9,6 @@ pub mod Shaped
 pub mod Written
 pub mod Inputs
 pub mod Runs
+pub mod Headline
 pub mod Samples
 pub mod Feeding

@@ -82,6 +82,10 @@ refused_line fault = codes "refused: " ++ kind_name fault.kind ++ codes " at byt
 abbrev pub Says : List ℕ → Option (List ℕ) → Option (List ℕ) → ℕ → ℕ → Type 0
 Says line old new before now = Moves (GrowsBy line) old new ⊎ (Rose before now × Moves (GrowsByPart line) old new)
 
+-- nothing was said, and no writing of it failed
+abbrev pub SaysNothing : Option (List ℕ) → Option (List ℕ) → ℕ → ℕ → Type 0
+SaysNothing old new before now = Moves Stays old new × (now ≡ before)
+
 -- how a sample of so many items ends: its line was written, or a front of it, where out failed; or there was no memory
 abbrev pub SampleEnds : ℕ → Status → Option (List ℕ) → Option (List ℕ) → ℕ → ℕ → Type 0
 SampleEnds count status.Done old new before now = (line : List ℕ) × IsSample count line × Moves (GrowsBy line) old new
@@ -118,7 +122,7 @@ EndsAs gathering status.Usage old new = ⊥
 -- what is said then: a line where the context file is no context, and else nothing
 abbrev pub SaysAs : Status → Devices → Devices → Type 0
 SaysAs status.BadContext old new = Says context_line old.said new.said old.say_faults new.say_faults
-SaysAs s old new = Moves Stays old.said new.said
+SaysAs s old new = SaysNothing old.said new.said old.say_faults new.say_faults
 
 pub record GatheringEnds (gathering : Gathering) (s : Status) (old new : Devices) : Type 0 where
   pub ends : EndsAs gathering s old new

@@ -5,6 +5,7 @@
 //! each status comes exactly where its clause says.
 #![tactic(auto)]
 
+ghost use Rattle.rx_command.specs.Headline.{OneOutcome};
 ghost use Rattle.rx_command.specs.Samples.{SamplesArePages};
 
 mod errors;
@@ -29,4 +30,11 @@ pub use top::run;
 /// The sample page of each number that may be asked for is a page, and none of its start tags is refused.
 pub fn samples_are_pages()
     ensures { SamplesArePages }
+{}
+
+/// Whatever its bytes, a page has under a context exactly one outcome: one tree in which nothing is refused, or one first
+/// fault, which for `extract` and `check` is one of its form or of what a start tag says to RDFa, and for `items` one of its
+/// form or of an item.
+pub fn a_page_has_one_outcome()
+    ensures { OneOutcome }
 {}

@@ -7,9 +7,10 @@ ghost use Rattle.rx_job.specs.Jobs.{several_seen};
 ghost use Rattle.rx_job.specs.Words.{gathering_asked, job, most_items, page_asked, samples};
 ghost use Rattle.rx_command.specs.Contexts.{TakesContext, context_asked};
 ghost use Rattle.rx_command.specs.Gathering.{HasAll};
+ghost use Rattle.rx_command.specs.Headline.{AnswersPage};
 ghost use Rattle.rx_command.specs.Outcome.{HasBadContext, HasPageFault, LacksFile};
 ghost use Rattle.rx_command.specs.Samples.{Yields, YieldsGraph};
-ghost use Rattle.rx_command.specs.Runs.{ReadCause, TakesJob, TakesToFault, StopsCleanly, IsAtEnd, GatheringEnds, SampleEnds, Says, usage_line, refused_line, context_line};
+ghost use Rattle.rx_command.specs.Runs.{ReadCause, TakesJob, TakesToFault, StopsCleanly, IsAtEnd, GatheringEnds, SampleEnds, Says, SaysNothing, usage_line, refused_line, context_line};
 
 use crate::errors::InputError;
 use crate::gathering::gather;
@@ -42,11 +43,20 @@ pub fn run<F: Shelf, O: Sink, E: Sink>(
     out: &mut O,
     err: &mut E,
 ) -> Status
-    // Usage comes only where the words ask for nothing, and then nothing is read. Where they ask for nothing there is no
+    // The promise as one statement. Where the words name a page, their context file, if any, is a context, and the shelf
+    // tells its files, the answer is Done: the page has one tree and nothing in it is refused, out has grown by the one text
+    // that the task makes of it, which denotes exactly the graph that RDFa's rules give that tree (or is the JSON of exactly
+    // its items), and the page was read to its end; or Refused with the one fault that the page has, out unchanged; or the
+    // shelf or out failed; or there was no memory.
+    ensures answers { AnswersPage words.now result
+        (record { told = F.told shelf.old; read_faults = F.faults shelf.old; held = O.held out.old; write_faults = O.faults out.old; said = E.held err.old; say_faults = E.faults err.old })
+        (record { told = F.told shelf.new; read_faults = F.faults shelf.new; held = O.held out.new; write_faults = O.faults out.new; said = E.held err.new; say_faults = E.faults err.new }) }
+
+    // Usage comes only where the words ask for nothing, and then the shelf isn't used. Where they ask for nothing there is no
     // other answer but want of memory.
     ensures usage { result ≡ Status.Usage → job words.now ≡ None }
     ensures only_usage { job words.now ≡ None → (result ≡ Status.Usage) ⊎ (result ≡ Status.Memory) }
-    ensures untouched { result ≡ Status.Usage → Moves Stays (F.told shelf.old) (F.told shelf.new) }
+    ensures untouched { result ≡ Status.Usage → shelf.new ≡ shelf.old }
 
     // Done comes only where there is a text, that of the page, of several pages or of a sample: out has then grown by
     // exactly that, and a page that alone is asked for was read to its end.
@@ -90,23 +100,25 @@ pub fn run<F: Shelf, O: Sink, E: Sink>(
         → (result ≡ Status.BadContext) ⊎ (result ≡ Status.Memory) }
     ensures takes_context { result ≡ Status.BadContext → Moves (TakesContext (context_asked words.now)) (F.told shelf.old) (F.told shelf.new) }
 
-    // What err is told: one line on Usage, on Refused and on BadContext, or a front of it where err failed; on other statuses nothing.
+    // What err is told: one line on Usage, on Refused and on BadContext, or a front of it where err failed. On
+    // other statuses err isn't used.
     ensures says_usage { result ≡ Status.Usage → Says usage_line (E.held err.old) (E.held err.new) (E.faults err.old) (E.faults err.new) }
     ensures says_refused { (fault : Fault) → result ≡ Status.Refused fault →
         Says (refused_line fault) (E.held err.old) (E.held err.new) (E.faults err.old) (E.faults err.new) }
     ensures says_context { result ≡ Status.BadContext → Says context_line (E.held err.old) (E.held err.new) (E.faults err.old) (E.faults err.new) }
-    ensures says_nothing { result ≢ Status.Usage → result ≢ Status.BadContext → ((fault : Fault) → result ≢ Status.Refused fault) → Moves Stays (E.held err.old) (E.held err.new) }
+    ensures says_nothing { result ≢ Status.Usage → result ≢ Status.BadContext → ((fault : Fault) → result ≢ Status.Refused fault) →
+        SaysNothing (E.held err.old) (E.held err.new) (E.faults err.old) (E.faults err.new) }
 
     // How much is read: no more than the named files have together, nor more than a piece past the limit of each page and,
     // where a context file is named, one byte past the largest of these. Of several pages each that has a fault is read no
     // further than a piece past the byte that decides it.
     ensures takes { Moves (TakesJob (job words.now)) (F.told shelf.old) (F.told shelf.new) }
 
-    // A sample reads nothing, and ends with its line written, or a front of it where out failed, or in want of memory,
+    // A sample leaves the shelf as it was, and ends with its line written, or a front of it where out failed, or in want of memory,
     // whatever the shelf and the sinks tell: no page of a sample is refused.
     ensures sample { (count : ℕ) → job words.now ≡ Some (samples count) →
         SampleEnds count result (O.held out.old) (O.held out.new) (O.faults out.old) (O.faults out.new) }
-    ensures sample_reads { (count : ℕ) → job words.now ≡ Some (samples count) → Moves Stays (F.told shelf.old) (F.told shelf.new) }
+    ensures sample_reads { (count : ℕ) → job words.now ≡ Some (samples count) → shelf.new ≡ shelf.old }
 
     // Where nothing failed, a page that has a text, or a sample, is done, and so are several pages that are all there, where
     // the context file is a context; and a page that has a fault is refused; unless memory runs out.

@@ -43,8 +43,8 @@ fn show_end(alloc: Global, walk: Walk) -> Result<String, Fail> {
 }
 
 // The number of a page's triples, or its fault.
-fn read(alloc: Global, page: &[u8], size: usize) -> Result<String, Fail> {
-    let mut walk = start(alloc, Limits::standard())?;
+fn read(alloc: Global, limits: Limits, page: &[u8], size: usize) -> Result<String, Fail> {
+    let mut walk = start(alloc, limits)?;
     match feed(&mut walk, page, size) {
         Ok(()) => show_end(alloc, walk),
         Err(stop) => {
@@ -56,9 +56,15 @@ fn read(alloc: Global, page: &[u8], size: usize) -> Result<String, Fail> {
 
 const SIZES: &[usize] = &[1, 2, 3, 7, 9999];
 
-fn check_page(rt: &impl Abort, alloc: Global, page: &[u8], expected: &str) -> Result<(), Fail> {
+fn check_page(
+    rt: &impl Abort,
+    alloc: Global,
+    limits: Limits,
+    page: &[u8],
+    expected: &str,
+) -> Result<(), Fail> {
     for size in SIZES {
-        let found = read(alloc, page, *size)?;
+        let found = read(alloc, limits, page, *size)?;
         assert_eq!(rt; found.as_str(), expected, "in pieces of {size}");
     }
     Ok(())
@@ -119,7 +125,30 @@ const PAGES: &[(&[u8], &str)] = &[
 #[test]
 fn pages_in_pieces(rt: HostRuntime) -> Result<(), Fail> {
     for (page, expected) in PAGES {
-        check_page(&rt, rt.alloc(), *page, *expected)?;
+        check_page(&rt, rt.alloc(), Limits::standard(), *page, *expected)?;
+    }
+    Ok(())
+}
+
+// Limits of depth, in levels, and of a tag and a page, in bytes; and what a page comes to that meets them or passes one.
+const LIMITED: &[(u32, u64, u64, &[u8], &str)] = &[
+    (2, 1_048_576, 1_073_741_824, b"<html><b><i>", "TooDeep 9 11"),
+    (2, 1_048_576, 1_073_741_824, b"<html><b></b></html>", "0"),
+    (512, 6, 1_073_741_824, b"<html></html>", "TagTooLong 6 12"),
+    (512, 7, 1_073_741_824, b"<html></html>", "0"),
+    (512, 1_048_576, 12, b"<html></html>", "PageTooLong 6 12"),
+    (512, 1_048_576, 13, b"<html></html>", "0"),
+];
+
+#[test]
+fn other_limits(rt: HostRuntime) -> Result<(), Fail> {
+    for (depth, tag, size, page, expected) in LIMITED {
+        let limits = Limits {
+            depth: *depth,
+            tag: *tag,
+            page: *size,
+        };
+        check_page(&rt, rt.alloc(), limits, *page, *expected)?;
     }
     Ok(())
 }
@@ -221,48 +250,6 @@ fn check_fault(rt: &impl Abort, walk: &mut Walk, page: &[u8], fault: Fault) {
     assert_eq!(rt; walk.inherited().is_none(), true);
 }
 
-fn check_limits(
-    rt: &impl Abort,
-    alloc: Global,
-    limits: Limits,
-    page: &[u8],
-    fault: Fault,
-) -> Result<(), Fail> {
-    let mut walk = start(alloc, limits)?;
-    check_fault(rt, &mut walk, page, fault);
-    drop(walk);
-    Ok(())
-}
-
-#[test]
-fn a_long_tag(rt: HostRuntime) -> Result<(), Fail> {
-    let limits = Limits {
-        tag: 16,
-        ..Limits::standard()
-    };
-    let fault = Fault {
-        kind: Kind::TagTooLong,
-        token: 6,
-        at: 22,
-    };
-    let page = b"<html><p title=\"123456789\">";
-    check_limits(&rt, rt.alloc(), limits, page, fault)
-}
-
-#[test]
-fn a_long_page(rt: HostRuntime) -> Result<(), Fail> {
-    let limits = Limits {
-        page: 12,
-        ..Limits::standard()
-    };
-    let fault = Fault {
-        kind: Kind::PageTooLong,
-        token: 6,
-        at: 12,
-    };
-    check_limits(&rt, rt.alloc(), limits, b"<html></html>", fault)
-}
-
 #[test]
 fn a_fault_comes_again(rt: HostRuntime) -> Result<(), Fail> {
     let fault = Fault {
@@ -270,8 +257,10 @@ fn a_fault_comes_again(rt: HostRuntime) -> Result<(), Fail> {
         token: 10,
         at: 13,
     };
-    let page = b"<html><i>x</b></i></html>";
-    check_limits(&rt, rt.alloc(), Limits::standard(), page, fault)
+    let mut walk = start(rt.alloc(), Limits::standard())?;
+    check_fault(&rt, &mut walk, b"<html><i>x</b></i></html>", fault);
+    drop(walk);
+    Ok(())
 }
 
 fn check_no_rows(rt: &impl Abort, walk: &mut Walk) {

@@ -9,6 +9,7 @@ use Rattle.rx_grammar.specs.declared.faults.Fault.{Fault}
 use Rattle.rx_command.specs.declared.statuses.Status.TheVariants.{Refused}
 use Rattle.rx_command.proofs.RunLemmas.{sample_lacks, sample_bad, sample_has_all, took_nothing, takes_files, not_all, no_gathering_asked, failed_no_text, failed_no_fault, failed_not_bad, bad_no_text, bad_no_fault, bad_not_lacking, names_context, bad_context, takes_context, asks_page, yields, yields_graph, refuses, text_not_refused, refused_no_text, refused_so, not_sample, few_asked, sample_nothing, sample_completes, not_lacking, refused_not_lacking, not_bad, refused_not_bad, read_cause, at_end, to_fault, stops_cleanly}
 use Rattle.rx_command.proofs.SeveralLemmas.{never_usage, never_refused, never_nothing, never_sample, several_faultless, several_done, several_denote, several_partly, several_at_end, several_cleanly, several_failed, several_lacking, several_write_fault, several_unwritten, several_name_context, several_bad_context, several_refuse_context, several_take_context, several_say_context, several_say_nothing, several_take, several_complete_all, several_complete}
+use Rattle.rx_command.proofs.HeadlineLemmas.{unused, answers_text, answers_part, answers_fault, answers_failed, names_no_other, names_sample, names_several}
 use Rattle.rx_command.proofs.top.run.Goals as goal
 
 pub returns-in-Ok-write-clause-done : goal.returns-in-Ok-write-clause-done
@@ -262,3 +263,26 @@ returns-in-Err-Usage-clause-takes g c = took_nothing c.args.words.now _
 
 pub returns-in-Err-NoMemory-clause-takes : goal.returns-in-Err-NoMemory-clause-takes
 returns-in-Err-NoMemory-clause-takes g c = took_nothing c.args.words.now _
+
+pub returns-in-Ok-write-clause-answers : goal.returns-in-Ok-write-clause-answers
+returns-in-Ok-write-clause-answers g c = λ bytes page. answers_text c.args.words.now _ (asks_page c.args.words.now c.in-Ok.job c.in-Ok.ensures c.in-Page.ensures) _ _ c.in-Ok-outcome_of_job.outcome _ _ c.in-Ok-outcome_of_job.ensures.ok c.in-Ok-write.ensures.denoted c.in-Ok-write.ensures.ok bytes page
+
+pub returns-in-Err-Failed-write-clause-answers : goal.returns-in-Err-Failed-write-clause-answers
+returns-in-Err-Failed-write-clause-answers g c = λ bytes page. answers_part c.args.words.now _ (asks_page c.args.words.now c.in-Ok.job c.in-Ok.ensures c.in-Page.ensures) _ _ c.in-Ok-outcome_of_job.outcome _ _ _ _ c.in-Ok-outcome_of_job.ensures.ok (c.in-Err-Failed-write.ensures.partly (ap Err c.in-Err-Failed-write.field-0-is)) (c.in-Err-Failed-write.ensures.cause (ap Err c.in-Err-Failed-write.field-0-is)) bytes page
+
+pub returns-in-Ok-line_of-clause-answers : goal.returns-in-Ok-line_of-clause-answers
+returns-in-Ok-line_of-clause-answers g c =
+    let m = c.in-Err-Refused.ensures.refused c.in-Err-Refused.fault (ap Err c.in-Err-Refused.field-0-is) in
+    λ bytes page. answers_fault c.args.words.now _ (asks_page c.args.words.now c.in-Ok.job c.in-Ok.ensures c.in-Page.ensures) _ _ c.in-Err-Refused.fault _ _ m (unused _) bytes page
+
+pub returns-in-Err-Failed-clause-answers : goal.returns-in-Err-Failed-clause-answers
+returns-in-Err-Failed-clause-answers g c = λ bytes page. answers_failed c.args.words.now _ (page_by c.in-Ok.job) (asks_page c.args.words.now c.in-Ok.job c.in-Ok.ensures c.in-Page.ensures) bytes page _ _ _ _ (c.in-Err-Failed.ensures.failed (ap Err c.in-Err-Failed.field-0-is)) (unused _)
+
+pub returns-in-Err-BadContext-clause-answers : goal.returns-in-Err-BadContext-clause-answers
+returns-in-Err-BadContext-clause-answers g c = λ bytes page. names_no_other c.args.words.now _ (page_by c.in-Ok.job) (asks_page c.args.words.now c.in-Ok.job c.in-Ok.ensures c.in-Page.ensures) bytes page (c.in-Err-BadContext.ensures.bad (ap Err c.in-Err-BadContext.field-0-is))
+
+pub returns-in-Sample-clause-answers : goal.returns-in-Sample-clause-answers
+returns-in-Sample-clause-answers g c = λ bytes page. absurd (names_sample c.args.words.now _ bytes page c.in-Sample.count (c.in-Ok.ensures ∙ ap Some c.in-Sample.ensures))
+
+pub returns-in-Several-clause-answers : goal.returns-in-Several-clause-answers
+returns-in-Several-clause-answers g c = λ bytes page. absurd (names_several c.args.words.now _ bytes page _ (c.in-Ok.ensures ∙ ap Some c.in-Several.ensures))

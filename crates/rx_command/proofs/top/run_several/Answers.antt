@@ -8,18 +8,18 @@ use Rattle.rx_command.proofs.top.run_several.Goals as goal
 pub returns-in-Ok-put_all : goal.returns-in-Ok-put_all
 returns-in-Ok-put_all g c =
     ends_done (several_seen c.args.several) _ _ c.in-Ok.many c.in-Ok-text.text.items c.as_slice.result.now c.as_slice.ensures.value c.in-Ok-text.ensures.bytes c.in-Ok-text.ensures.denotes c.in-Ok.ensures.ok c.gather.ensures.takes c.in-Ok-put_all.ensures.ok
-    (moves_same Stays (λ x. refl) (g.E.Sink.held c.args.err.now))
+    (moves_same Stays (λ x. refl) (g.E.Sink.held c.args.err.now), refl)
 
 pub returns-in-Ok-text : goal.returns-in-Ok-text
 returns-in-Ok-text g c =
     ends_partly (several_seen c.args.several) _ _ c.in-Ok.many c.in-Ok-text.text.items c.as_slice.result.now c.as_slice.ensures.value c.in-Ok-text.ensures.bytes c.in-Ok.ensures.ok c.gather.ensures.takes c.in-Err-put_all.ensures.err c.in-Err-put_all.ensures.cause
-    (moves_same Stays (λ x. refl) (g.E.Sink.held c.args.err.now))
+    (moves_same Stays (λ x. refl) (g.E.Sink.held c.args.err.now), refl)
 
 pub returns-in-Err-Failed : goal.returns-in-Err-Failed
 returns-in-Err-Failed g c = record {
   ends = (c.in-Err-Failed.ensures.failed (ap Err c.in-Err-Failed.field-0-is), moves_same Stays (λ x. refl) (g.O.Sink.held c.args.out.now));
   takes = c.gather.ensures.takes;
-  says = moves_same Stays (λ x. refl) (g.E.Sink.held c.args.err.now);
+  says = (moves_same Stays (λ x. refl) (g.E.Sink.held c.args.err.now), refl);
 }
 
 pub returns-in-Err-BadContext : goal.returns-in-Err-BadContext
@@ -38,14 +38,14 @@ pub returns-in-Err-NoMemory : goal.returns-in-Err-NoMemory
 returns-in-Err-NoMemory g c = record {
   ends = moves_same Stays (λ x. refl) (g.O.Sink.held c.args.out.now);
   takes = c.gather.ensures.takes;
-  says = moves_same Stays (λ x. refl) (g.E.Sink.held c.args.err.now);
+  says = (moves_same Stays (λ x. refl) (g.E.Sink.held c.args.err.now), refl);
 }
 
 pub returns : goal.returns
 returns g c = record {
   ends = moves_same Stays (λ x. refl) (g.O.Sink.held c.args.out.now);
   takes = c.gather.ensures.takes;
-  says = moves_same Stays (λ x. refl) (g.E.Sink.held c.args.err.now);
+  says = (moves_same Stays (λ x. refl) (g.E.Sink.held c.args.err.now), refl);
 }
 
 pub unreachable-requires : goal.unreachable-requires
