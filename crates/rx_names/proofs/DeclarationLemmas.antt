@@ -102,3 +102,15 @@ waits rows whole waiting r words token more e none is h =
     let here : pairs_after (seen_slice waiting) words ≡ pairs_after (seen_slice r) more =
     ap (λ (w : Option (Bor (List ℕ))). pairs_after (seen_slice w) words) none ∙ ap (pairs_after None) is ∙ ap (λ (o : Option Chars). pairs_after o more) (split-name token r h) in
     sym (ap (λ (t : Table). rows ++ mapping_rows t) here) ∙ e
+
+-- a token behind its name
+pub pairs_up : (rows new whole : List Row) (waiting : Option (Bor (List ℕ))) (name : Bor (List ℕ)) (words : List Chars) (token : Chars) (more : List Chars) → rows ++ mapping_rows (pairs_after (seen_slice waiting) words) ≡ whole
+    → waiting ≡ Some name → words ≡ token ∷ more → new ≡ rows ++ mapping_rows ((lowered (chars name.now), token) ∷ []) → new ++ mapping_rows (pairs_after None more) ≡ whole
+pairs_up rows new whole waiting name words token more e some is n =
+    let pair : Table = (lowered (chars name.now), token) ∷ [] in
+    let here : pairs_after (seen_slice waiting) words ≡ pair ++ pairs_after None more =
+    ap (λ (w : Option (Bor (List ℕ))). pairs_after (seen_slice w) words) some ∙ ap (pairs_after (Some (chars name.now))) is in
+    ap (λ (x : List Row). x ++ mapping_rows (pairs_after None more)) n
+    ∙ append_assoc rows (mapping_rows pair) (mapping_rows (pairs_after None more))
+    ∙ ap (λ (x : List Row). rows ++ x) (sym (mapping-append pair (pairs_after None more)))
+    ∙ ap (λ (t : Table). rows ++ mapping_rows t) (sym here) ∙ e

@@ -5,4 +5,4 @@ use Rattle.rx_eval.proofs.eval.forget.Goals as goal
 pub returns-then-ends : goal.returns-then-ends
 returns-then-ends c =
     let kept : Bool → List ℕ = λ b. if b then [] else c.args.text.now in
-    c.cut.ensures [] c.args.text.now (record { whole = refl; size = refl }) ∙ ap kept (sym c.if-ends.true)
+    c.cut.ensures.front [] c.args.text.now (record { whole = refl; size = refl }) ∙ ap kept (sym c.if-ends.true)

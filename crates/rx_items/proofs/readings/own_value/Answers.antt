@@ -7,7 +7,7 @@ use Rattle.rx_items.proofs.readings.own_value.Goals as goal
 pub returns-in-Some : goal.returns-in-Some
 returns-in-Some c =
     if_same c.text_value.result _ _
-    (found_time c.args.times.now c.args.number c.in-Some.time.now (chars c.since.result.now) (slice_get-get_or c.args.times.now c.args.number c.in-Some.time.now c.in-Some.ensures.lookup.3.0 ∙ ap Some (sym c.in-Some.ensures.lookup.1)) (c.since.ensures [] c.in-Some.time.now (cut_at_start c.in-Some.time.now)))
+    (found_time c.args.times.now c.args.number c.in-Some.time.now (chars c.since.result.now) (slice_get-get_or c.args.times.now c.args.number c.in-Some.time.now c.in-Some.ensures.lookup.3.0 ∙ ap Some (sym c.in-Some.ensures.lookup.1)) (c.since.ensures.rest [] c.in-Some.time.now (cut_at_start c.in-Some.time.now)))
     c.text_value.ensures
 
 pub returns-in-None : goal.returns-in-None
