@@ -1,5 +1,6 @@
 pub mod Finding
 pub mod SlotLemmas
+pub mod KnownLemmas
 pub mod PlainLemmas
 pub mod PlaceLemmas
 pub mod AddLemmas

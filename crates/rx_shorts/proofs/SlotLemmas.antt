@@ -32,10 +32,10 @@ told_with (One other first) iri place bytes o h = go (pointwise nat_eq other.now
     go false e = tt
 told_with Many iri place bytes o h = tt
 
-nat_is : (a b : ℕ) → nat_eq a b ≡ true → a ≡ b
+pub nat_is : (a b : ℕ) → nat_eq a b ≡ true → a ≡ b
 nat_is a b h = grind (arith, nat_tests)
 
-nat_is_not : (a b : ℕ) → nat_eq a b ≡ false → a ≡ b → ⊥
+pub nat_is_not : (a b : ℕ) → nat_eq a b ≡ false → a ≡ b → ⊥
 nat_is_not a b h e = let same : nat_eq a b ≡ true = grind (arith, nat_tests, e) in true≢false (sym same ∙ h)
 
 pub tells_put : (old new : List Slot) (at : ℕ) (slot : Slot) (iri : Bor (List ℕ)) (place : ℕ) → at ≡ slot_of old iri.now → at < length old → slot ≡ get_or old at slot → new ≡ slice_set old at (with_iri slot iri place)

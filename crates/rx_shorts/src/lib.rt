@@ -5,6 +5,7 @@
 //! named `push` add a term's text to what is being written.
 #![tactic(auto)]
 
+mod known;
 mod lengths;
 mod names;
 mod places;

@@ -6,7 +6,9 @@ ghost use Rattle.rx_terms.specs.Text.{begins_with};
 ghost use Rattle.rx_notation.specs.Short.{is_name_char, prefix_of, names_rise};
 ghost use Rattle.rx_shorts.specs.Shorts.{place_at, place_below, place_of, IsPlace, IsShort};
 ghost use Rattle.rx_shorts.specs.Rows.{AreRows};
+ghost use Rattle.rx_shorts.specs.Slots.{IsSo};
 
+use crate::known::Known;
 use crate::names::{begins_local, is_name_byte};
 use crate::places::Places;
 use rx_names::Context;
@@ -14,22 +16,25 @@ use rx_terms::{Iri, NoMemory};
 use std::alloc::Global;
 use std::marker::Model;
 
-/// A context with the places of its prefixes by IRI. A contract sees the context's prefixes.
+/// A context with the places of its prefixes by IRI, and what was found of the IRIs of a text. A contract sees the context's
+/// prefixes.
 #[derive(Drop)]
 pub struct Shorts<'a> {
     context: &'a Context,
     places: Places<'a>,
+    /// Asked before the places.
+    known: Known<'a>,
 }
 
 impl<'a> Model for Shorts<'a> {
     ghost use Rattle.rx_notation.specs.Short.{Prefixes};
-    ghost use Rattle.rx_shorts.specs.Places.{Finds};
+    ghost use Rattle.rx_shorts.specs.Known.{Shortens};
 
     ghost Value = { Prefixes };
 
     ghost view = { λ shorts. shorts.context.now.prefixes };
 
-    ghost invariant = { λ shorts. Finds 0 shorts.context.now.prefixes shorts.places };
+    ghost invariant = { λ shorts. Shortens shorts.context.now.prefixes shorts.places shorts.known };
 }
 
 impl<'a> Shorts<'a> {
@@ -39,7 +44,15 @@ impl<'a> Shorts<'a> {
         ensures rows { IfOk result (λ shorts. AreRows context.now.prefixes) }
     {
         let places = Places::of(alloc, context)?;
-        Ok(Shorts { context, places })
+        let Ok(known) = Known::new(alloc) else {
+            drop(places);
+            return Err(NoMemory);
+        };
+        Ok(Shorts {
+            context,
+            places,
+            known,
+        })
     }
 
     /// How many prefixes the context has.
@@ -68,6 +81,46 @@ impl<'a> Shorts<'a> {
         if self.context.prefix_count() == 0 {
             return None;
         }
+        self.found(iri)
+    }
+
+    /// The same, and it is kept, so that the IRI isn't shortened again.
+    pub fn learn(&mut self, iri: &'a Iri) -> Result<Option<usize>, NoMemory>
+        ensures place { IfOk result (λ place. place ≡ place_of self.old iri.now) }
+        ensures same { self.new ≡ self.old }
+    {
+        if self.context.prefix_count() == 0 {
+            return Ok(None);
+        }
+        if let Some(place) = self.told(iri) {
+            return Ok(place);
+        }
+        let place = self.searched(iri);
+        self.known.keep(iri, place)?;
+        Ok(place)
+    }
+
+    fn found(&self, iri: &Iri) -> Option<usize>
+        ensures { result ≡ place_of self.now iri.now }
+    {
+        match self.told(iri) {
+            Some(place) => place,
+            None => self.searched(iri),
+        }
+    }
+
+    /// What is known of the IRI.
+    #[inline(always)]
+    fn told(&self, iri: &Iri) -> Option<Option<usize>>
+        ensures { IsSo result (place_of self.now iri.now) }
+    {
+        self.known.told(iri)
+    }
+
+    /// The place, where nothing is known.
+    fn searched(&self, iri: &Iri) -> Option<usize>
+        ensures { result ≡ place_of self.now iri.now }
+    {
         self.place_within(iri.as_str().as_bytes())
     }
 

@@ -1,5 +1,5 @@
 //! Which prefixes a text uses.
-ghost use Rattle.std.specs.Prelude.{◌≡◌, ◌∷◌, [], flat_map, slice_set, true, IfOk};
+ghost use Rattle.std.specs.Prelude.{◌≡◌, ◌∷◌, [], flat_map, slice_set, true, IfOk, OnOk};
 ghost use Rattle.rx_model.specs.Seen.{kind_seen, node_seen, term_seen, triple_seen, triples_seen};
 ghost use Rattle.rx_notation.specs.Laws.{IsWritable};
 ghost use Rattle.rx_notation.specs.Short.{names_rise};
@@ -13,14 +13,19 @@ use rx_shapes::is_type;
 use rx_terms::{Iri, LiteralKind, NoMemory, Node, Term, Triple};
 use std::alloc::Global;
 
-/// For each prefix whether the text of the graph uses it.
-pub fn used_marks(alloc: Global, graph: &Graph, shorts: &Shorts) -> Result<Vec<bool>, NoMemory>
-    ensures marks { IfOk result (λ marks. marks.items ≡ used_marks shorts.now (triples_seen graph.now)) }
+/// For each prefix whether the text of the graph uses it. The graph's IRIs are known then.
+pub fn used_marks<'a>(
+    alloc: Global,
+    graph: &'a Graph,
+    shorts: &mut Shorts<'a>,
+) -> Result<Vec<bool>, NoMemory>
+    ensures marks { IfOk result (λ marks. marks.items ≡ used_marks shorts.old (triples_seen graph.now)) }
     ensures writable { IfOk result (λ marks. IsWritable (triples_seen graph.now)) }
-    ensures in_order { IfOk result (λ marks. names_rise shorts.now ≡ true) }
+    ensures in_order { IfOk result (λ marks. names_rise shorts.old ≡ true) }
+    ensures same { shorts.new ≡ shorts.old }
 {
     let mut marks = unmarked(alloc, shorts)?;
-    mark_all(&mut marks, graph, shorts);
+    mark_all(&mut marks, graph, shorts)?;
     Ok(marks)
 }
 
@@ -38,70 +43,108 @@ pub fn unmarked(alloc: Global, shorts: &Shorts) -> Result<Vec<bool>, NoMemory>
     Ok(marks)
 }
 
-fn mark_all(marks: &mut [bool], graph: &Graph, shorts: &Shorts)
-    ensures marks { marks.new ≡ marked_all shorts.now marks.old (flat_map iris_of (triples_seen graph.now)) }
-    ensures writable { IsWritable (triples_seen graph.now) }
+fn mark_all<'a>(
+    marks: &mut [bool],
+    graph: &'a Graph,
+    shorts: &mut Shorts<'a>,
+) -> Result<(), NoMemory>
+    ensures marks { OnOk result (marks.new ≡ marked_all shorts.old marks.old (flat_map iris_of (triples_seen graph.now))) }
+    ensures writable { OnOk result (IsWritable (triples_seen graph.now)) }
+    ensures same { shorts.new ≡ shorts.old }
 {
     for i in 0..graph.len() {
         let triple = graph.at(i);
-        mark_triple(marks, triple, shorts);
+        mark_triple(marks, triple, shorts)?;
         is_writable(triple);
     }
+    Ok(())
 }
 
-fn mark_triple(marks: &mut [bool], triple: &Triple, shorts: &Shorts)
-    ensures { marks.new ≡ marked_all shorts.now marks.old (iris_of (triple_seen triple.now)) }
+fn mark_triple<'a>(
+    marks: &mut [bool],
+    triple: &'a Triple,
+    shorts: &mut Shorts<'a>,
+) -> Result<(), NoMemory>
+    ensures marks { OnOk result (marks.new ≡ marked_all shorts.old marks.old (iris_of (triple_seen triple.now))) }
+    ensures same { shorts.new ≡ shorts.old }
 {
-    mark_node(marks, &triple.subject, shorts);
-    mark_predicate(marks, &triple.predicate, shorts);
-    mark_term(marks, &triple.object, shorts);
+    mark_node(marks, &triple.subject, shorts)?;
+    mark_predicate(marks, &triple.predicate, shorts)?;
+    mark_term(marks, &triple.object, shorts)
 }
 
-fn mark_node(marks: &mut [bool], node: &Node, shorts: &Shorts)
-    ensures { marks.new ≡ marked_all shorts.now marks.old (iris_of_node (node_seen node.now)) }
+fn mark_node<'a>(
+    marks: &mut [bool],
+    node: &'a Node,
+    shorts: &mut Shorts<'a>,
+) -> Result<(), NoMemory>
+    ensures marks { OnOk result (marks.new ≡ marked_all shorts.old marks.old (iris_of_node (node_seen node.now))) }
+    ensures same { shorts.new ≡ shorts.old }
 {
     match node {
         Node::Iri(iri) => mark_iri(marks, iri, shorts),
-        Node::Blank(_blank) => {}
+        Node::Blank(_blank) => Ok(()),
     }
 }
 
 /// Marks the prefix of a predicate, unless it is written `a`.
-pub fn mark_predicate(marks: &mut [bool], predicate: &Iri, shorts: &Shorts)
-    ensures { marks.new ≡ marked_all shorts.now marks.old (iris_of_predicate predicate.now) }
+pub fn mark_predicate<'a>(
+    marks: &mut [bool],
+    predicate: &'a Iri,
+    shorts: &mut Shorts<'a>,
+) -> Result<(), NoMemory>
+    ensures marks { OnOk result (marks.new ≡ marked_all shorts.old marks.old (iris_of_predicate predicate.now)) }
+    ensures same { shorts.new ≡ shorts.old }
 {
     if is_type(predicate) {
-        return;
+        return Ok(());
     }
-    mark_iri(marks, predicate, shorts);
+    mark_iri(marks, predicate, shorts)
 }
 
-fn mark_term(marks: &mut [bool], term: &Term, shorts: &Shorts)
-    ensures { marks.new ≡ marked_all shorts.now marks.old (iris_of_term (term_seen term.now)) }
+fn mark_term<'a>(
+    marks: &mut [bool],
+    term: &'a Term,
+    shorts: &mut Shorts<'a>,
+) -> Result<(), NoMemory>
+    ensures marks { OnOk result (marks.new ≡ marked_all shorts.old marks.old (iris_of_term (term_seen term.now))) }
+    ensures same { shorts.new ≡ shorts.old }
 {
     match term {
         Term::Iri(iri) => mark_iri(marks, iri, shorts),
-        Term::Blank(_blank) => {}
+        Term::Blank(_blank) => Ok(()),
         Term::Literal(literal) => mark_kind(marks, &literal.kind, shorts),
     }
 }
 
 /// Marks the prefix of a literal's datatype, where it is written.
-pub fn mark_kind(marks: &mut [bool], kind: &LiteralKind, shorts: &Shorts)
-    ensures { marks.new ≡ marked_all shorts.now marks.old (iris_of_kind (kind_seen kind.now)) }
+pub fn mark_kind<'a>(
+    marks: &mut [bool],
+    kind: &'a LiteralKind,
+    shorts: &mut Shorts<'a>,
+) -> Result<(), NoMemory>
+    ensures marks { OnOk result (marks.new ≡ marked_all shorts.old marks.old (iris_of_kind (kind_seen kind.now))) }
+    ensures same { shorts.new ≡ shorts.old }
 {
     match kind {
-        LiteralKind::Plain => {}
-        LiteralKind::Tagged(_tag) => {}
+        LiteralKind::Plain => Ok(()),
+        LiteralKind::Tagged(_tag) => Ok(()),
         LiteralKind::Typed(datatype) => mark_iri(marks, datatype, shorts),
     }
 }
 
-/// Marks the prefix that makes the IRI's short form, where there is one.
-pub fn mark_iri(marks: &mut [bool], iri: &Iri, shorts: &Shorts)
-    ensures { marks.new ≡ marked_all shorts.now marks.old (iri.now ∷ []) }
+/// Marks the prefix that makes the IRI's short form, where there is one. The IRI is known then.
+pub fn mark_iri<'a>(
+    marks: &mut [bool],
+    iri: &'a Iri,
+    shorts: &mut Shorts<'a>,
+) -> Result<(), NoMemory>
+    ensures marks { OnOk result (marks.new ≡ marked_all shorts.old marks.old (iri.now ∷ [])) }
+    ensures same { shorts.new ≡ shorts.old }
 {
-    mark(marks, shorts.place(iri));
+    let place = shorts.learn(iri)?;
+    mark(marks, place);
+    Ok(())
 }
 
 fn mark(marks: &mut [bool], place: Option<usize>)

@@ -43,7 +43,7 @@ impl<'a> NestedPlan<'a> {
         ensures sizes { IfOk result (λ plan. length plan.marks.items ≡ length plan.shorts) }
         ensures denotes { IfOk result (λ plan. NestedTurtle (chars (encode_utf8_all (nested context.now.prefixes (triples_seen graph.now) (shape_in shapes.now)))) (map proper_triple (triples_seen graph.now))) }
     {
-        let shorts = Shorts::of(alloc, context)?;
+        let mut shorts = Shorts::of(alloc, context)?;
         let source = Source {
             alloc,
             graph,
@@ -53,7 +53,7 @@ impl<'a> NestedPlan<'a> {
             drop(shorts);
             return Err(NoMemory);
         };
-        let Ok(marks) = token_marks(alloc, &tokens, &shorts) else {
+        let Ok(marks) = token_marks(alloc, &tokens, &mut shorts) else {
             drop(shorts);
             drop(tokens);
             return Err(NoMemory);

@@ -33,8 +33,8 @@ impl<'a> Plan<'a> {
         ensures sizes { IfOk result (λ plan. length plan.marks.items ≡ length plan.shorts) }
         ensures denotes { IfOk result (λ plan. Turtle (chars (encode_utf8_all (turtle context.now.prefixes (triples_seen graph.now)))) (map proper_triple (triples_seen graph.now))) }
     {
-        let shorts = Shorts::of(alloc, context)?;
-        let Ok(marks) = used_marks(alloc, graph, &shorts) else {
+        let mut shorts = Shorts::of(alloc, context)?;
+        let Ok(marks) = used_marks(alloc, graph, &mut shorts) else {
             drop(shorts);
             return Err(NoMemory);
         };

@@ -1,5 +1,5 @@
 //! Which prefixes the tokens of a text use.
-ghost use Rattle.std.specs.Prelude.{◌≡◌, [], ◌∷◌, true, IfOk, nat_eq};
+ghost use Rattle.std.specs.Prelude.{◌≡◌, [], ◌∷◌, true, IfOk, OnOk, nat_eq};
 ghost use Rattle.rx_model.specs.Seen.{triples_seen};
 ghost use Rattle.rx_model.specs.Sets.{distinct};
 ghost use Rattle.rx_model.specs.Terms.{same_triple};
@@ -20,58 +20,80 @@ use rx_shorts::{Shorts, mark_iri, mark_kind, mark_predicate, unmarked};
 use rx_terms::NoMemory;
 use std::alloc::Global;
 
-/// For each prefix whether the tokens use it.
-pub(crate) fn token_marks(
+/// For each prefix whether the tokens use it. Their IRIs are known then.
+pub(crate) fn token_marks<'a>(
     alloc: Global,
-    tokens: &[Token],
-    shorts: &Shorts,
+    tokens: &[Token<'a>],
+    shorts: &mut Shorts<'a>,
 ) -> Result<Vec<bool>, NoMemory>
-    ensures marks { IfOk result (λ marks. marks.items ≡ marked_all shorts.now (unmarked shorts.now) (iris_of_tokens tokens.now)) }
+    ensures marks { IfOk result (λ marks. marks.items ≡ marked_all shorts.old (unmarked shorts.old) (iris_of_tokens tokens.now)) }
     ensures writable { IfOk result (λ marks. AreWritable tokens.now) }
-    ensures in_order { IfOk result (λ marks. names_rise shorts.now ≡ true) }
+    ensures in_order { IfOk result (λ marks. names_rise shorts.old ≡ true) }
+    ensures same { shorts.new ≡ shorts.old }
 {
     let mut marks = unmarked(alloc, shorts)?;
-    mark_tokens(&mut marks, tokens, shorts);
+    mark_tokens(&mut marks, tokens, shorts)?;
     Ok(marks)
 }
 
-fn mark_tokens(marks: &mut [bool], tokens: &[Token], shorts: &Shorts)
-    ensures marks { marks.new ≡ marked_all shorts.now marks.old (iris_of_tokens tokens.now) }
-    ensures writable { AreWritable tokens.now }
+fn mark_tokens<'a>(
+    marks: &mut [bool],
+    tokens: &[Token<'a>],
+    shorts: &mut Shorts<'a>,
+) -> Result<(), NoMemory>
+    ensures marks { OnOk result (marks.new ≡ marked_all shorts.old marks.old (iris_of_tokens tokens.now)) }
+    ensures writable { OnOk result (AreWritable tokens.now) }
+    ensures same { shorts.new ≡ shorts.old }
 {
     for i in 0..tokens.len() {
         let token = tokens[i];
-        mark_token(marks, token, shorts);
+        mark_token(marks, token, shorts)?;
         is_writable_token(token);
     }
+    Ok(())
 }
 
-fn mark_token(marks: &mut [bool], token: Token, shorts: &Shorts)
-    ensures { marks.new ≡ marked_all shorts.now marks.old (iris_of_shown (token_seen token.entry)) }
+fn mark_token<'a>(
+    marks: &mut [bool],
+    token: Token<'a>,
+    shorts: &mut Shorts<'a>,
+) -> Result<(), NoMemory>
+    ensures marks { OnOk result (marks.new ≡ marked_all shorts.old marks.old (iris_of_shown (token_seen token.entry))) }
+    ensures same { shorts.new ≡ shorts.old }
 {
     match token {
-        Token::Fixed(_words) => {}
+        Token::Fixed(_words) => Ok(()),
         Token::Noun(resource) => mark_noun(marks, resource, shorts),
         Token::Verb(resource) => mark_verb(marks, resource, shorts),
         Token::Quoted(literal) => mark_kind(marks, &literal.kind, shorts),
     }
 }
 
-fn mark_noun(marks: &mut [bool], resource: Resource, shorts: &Shorts)
-    ensures { marks.new ≡ marked_all shorts.now marks.old (iris_of_node (resource_seen resource.entry)) }
+fn mark_noun<'a>(
+    marks: &mut [bool],
+    resource: Resource<'a>,
+    shorts: &mut Shorts<'a>,
+) -> Result<(), NoMemory>
+    ensures marks { OnOk result (marks.new ≡ marked_all shorts.old marks.old (iris_of_node (resource_seen resource.entry))) }
+    ensures same { shorts.new ≡ shorts.old }
 {
     match resource {
         Resource::Iri(iri) => mark_iri(marks, iri, shorts),
-        Resource::Blank(_blank) => {}
+        Resource::Blank(_blank) => Ok(()),
     }
 }
 
-fn mark_verb(marks: &mut [bool], resource: Resource, shorts: &Shorts)
-    ensures { marks.new ≡ marked_all shorts.now marks.old (iris_of_verb (resource_seen resource.entry)) }
+fn mark_verb<'a>(
+    marks: &mut [bool],
+    resource: Resource<'a>,
+    shorts: &mut Shorts<'a>,
+) -> Result<(), NoMemory>
+    ensures marks { OnOk result (marks.new ≡ marked_all shorts.old marks.old (iris_of_verb (resource_seen resource.entry))) }
+    ensures same { shorts.new ≡ shorts.old }
 {
     match resource {
         Resource::Iri(iri) => mark_predicate(marks, iri, shorts),
-        Resource::Blank(_blank) => {}
+        Resource::Blank(_blank) => Ok(()),
     }
 }
 

@@ -1,6 +1,6 @@
 use Rattle.std.proofs.Common.{◌∙◌, ap, sym, subst, length}
 use Rattle.rx_notation.specs.Short.{names_rise, prefix_of}
-use Rattle.rx_shorts.specs.Shorts.{IsPlace, place_below}
+use Rattle.rx_shorts.specs.Shorts.{IsPlace}
 use Rattle.rx_shorts.proofs.Finding.{place_is}
 use Rattle.rx_shorts.proofs.PlaceLemmas.{rises, no_place}
 use Rattle.rx_shorts.proofs.shorts.Shorts.place.Goals as goal
@@ -16,5 +16,5 @@ returns-then-prefix_count-eq0-clause-is c =
 
 pub returns-clause-is : goal.returns-clause-is
 returns-clause-is c =
-    subst (IsPlace c.args.self.now (prefix_of c.args.self.now c.args.iri.now)) (sym (c.place_within.ensures ∙ ap (λ z. place_below c.args.self.now z (length z)) (c.as_bytes.ensures.value ∙ c.as_str.ensures.bytes)))
+    subst (IsPlace c.args.self.now (prefix_of c.args.self.now c.args.iri.now)) (sym c.found.ensures)
     (place_is c.args.self.now c.args.iri.now (ap names_rise (sym c.self.view_is) ∙ rises c.self.inside.context.now.prefixes ∙ c.prefix_count.ensures.in_order))

@@ -10,12 +10,15 @@ use Rattle.rx_turtle.proofs.nested_plan.NestedPlan.of.Goals as goal
 
 pub returns-clause-text : goal.returns-clause-text
 returns-clause-text c =
-    nested_is c.in_ok-shorts.shorts _ c.in-Ok.tokens.items c.in-Ok.ensures _ c.in-Ok-token_marks.ensures.in_order
-    (c.in-Ok-token_marks.ensures.marks ∙ ap (λ z. marked_all c.in_ok-shorts.shorts (unmarked c.in_ok-shorts.shorts) (iris_of_tokens z)) c.deref.ensures.value)
-    ∙ ap (λ z. nested z (triples_seen c.args.graph.now) (shape_in c.args.shapes.now)) c.in_ok-shorts.ensures.prefixes
+    nested_is c.token_marks.new.shorts _ c.in-Ok.tokens.items c.in-Ok.ensures _ (ap names_rise c.token_marks.ensures.same ∙ c.in-Ok-token_marks.ensures.in_order)
+    (c.in-Ok-token_marks.ensures.marks ∙ ap (λ z. marked_all z (unmarked z) (iris_of_tokens c.deref.result.now)) (sym c.token_marks.ensures.same)
+    ∙ ap (λ z. marked_all c.token_marks.new.shorts (unmarked c.token_marks.new.shorts) (iris_of_tokens z)) c.deref.ensures.value)
+    ∙ ap (λ z. nested z (triples_seen c.args.graph.now) (shape_in c.args.shapes.now)) (c.token_marks.ensures.same ∙ c.in_ok-shorts.ensures.prefixes)
 
 pub returns-clause-sizes : goal.returns-clause-sizes
-returns-clause-sizes c = ap length c.in-Ok-token_marks.ensures.marks ∙ marks_long c.in_ok-shorts.shorts c.in-Ok-token_marks.ensures.in_order (iris_of_tokens c.deref.result.now)
+returns-clause-sizes c =
+    ap length c.in-Ok-token_marks.ensures.marks ∙ marks_long c.in_ok-shorts.shorts c.in-Ok-token_marks.ensures.in_order (iris_of_tokens c.deref.result.now)
+    ∙ ap length (sym c.token_marks.ensures.same)
 
 pub returns-clause-denotes : goal.returns-clause-denotes
 returns-clause-denotes c =

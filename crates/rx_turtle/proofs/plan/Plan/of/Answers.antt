@@ -2,17 +2,19 @@ use Rattle.std.proofs.Common.{◌∙◌, ap, sym, length}
 use Rattle.rx_model.specs.Seen.{triples_seen}
 use Rattle.rx_notation.specs.Short.{names_rise}
 use Rattle.rx_notation.specs.Layout.{turtle}
+use Rattle.rx_shorts.specs.Uses.{used_marks}
 use Rattle.rx_turtle.proofs.TextLemmas.{text_is, text_denotes}
 use Rattle.rx_shorts.proofs.UseLemmas.{marks_size}
 use Rattle.rx_turtle.proofs.plan.Plan.of.Goals as goal
 
 pub returns-clause-text : goal.returns-clause-text
 returns-clause-text c =
-    text_is c.in_ok-shorts.shorts (triples_seen c.args.graph.now) _ _ c.in-Ok.ensures.in_order c.in-Ok.ensures.marks c.in-Ok-arranged.ensures
-    ∙ ap (λ z. turtle z (triples_seen c.args.graph.now)) c.in_ok-shorts.ensures.prefixes
+    text_is c.used_marks.new.shorts (triples_seen c.args.graph.now) _ _ (ap names_rise c.used_marks.ensures.same ∙ c.in-Ok.ensures.in_order)
+    (c.in-Ok.ensures.marks ∙ ap (λ z. used_marks z (triples_seen c.args.graph.now)) (sym c.used_marks.ensures.same)) c.in-Ok-arranged.ensures
+    ∙ ap (λ z. turtle z (triples_seen c.args.graph.now)) (c.used_marks.ensures.same ∙ c.in_ok-shorts.ensures.prefixes)
 
 pub returns-clause-sizes : goal.returns-clause-sizes
-returns-clause-sizes c = ap length c.in-Ok.ensures.marks ∙ marks_size c.in_ok-shorts.shorts c.in-Ok.ensures.in_order (triples_seen c.args.graph.now)
+returns-clause-sizes c = ap length c.in-Ok.ensures.marks ∙ marks_size c.in_ok-shorts.shorts c.in-Ok.ensures.in_order (triples_seen c.args.graph.now) ∙ ap length (sym c.used_marks.ensures.same)
 
 pub returns-clause-denotes : goal.returns-clause-denotes
 returns-clause-denotes c =
