@@ -1,6 +1,6 @@
 -- What the visits of a page come to, step by step.
-use Rattle.std.proofs.Common.{◌≡◌, ◌∙◌, ◌+◌, ℕ, zero, suc, Bool, true, false, ◌==◌, ◌||◌, cond, List, [], ◌∷◌, ◌++◌, map, filter, length, take, drop, Option, Some, None, option_map, refl, sym, ap, subst, arith, nat_lt, encode_utf8_all, append_assoc}
-use Rattle.std.specs.Prelude.{flat_map, nat_le, slice_get, Result, Ok, Err}
+use Rattle.std.proofs.Common.{◌≡◌, ◌∙◌, ◌+◌, ℕ, suc, Bool, true, false, ◌==◌, ◌||◌, cond, List, [], ◌∷◌, ◌++◌, map, filter, length, Option, Some, None, option_map, refl, sym, ap, subst, arith, nat_lt, encode_utf8_all, append_assoc}
+use Rattle.std.specs.Prelude.{flat_map, nat_le}
 use Rattle.std.specs.List.{list_any}
 use Rattle.std.specs.Option.{option_or}
 use Rattle.std.proofs.lemmas.List.{append-nil, length-append, map-append}
@@ -10,8 +10,8 @@ use Rattle.rx_grammar.specs.declared.faults.Fault.{Fault}
 use Rattle.rx_grammar.specs.declared.faults.Kind.{Kind}
 use Rattle.rx_grammar.specs.declared.faults.Kind.TheVariants.{Cycle, ItemsTooNested, ItemsTooMany}
 use Rattle.rx_microdata.specs.Elements.{Placed, is_item, names_of}
-use Rattle.rx_microdata.specs.Visits.{Visit, Bounds, visits_from, standard_bounds, fault_of, first_fault, is_cycle, items_in}
-use Rattle.rx_microdata.specs.Json.{grouped, named, refused, Refused}
+use Rattle.rx_microdata.specs.Visits.{Visit, Bounds, visits_from, standard_bounds, fault_of, first_fault, items_in}
+use Rattle.rx_microdata.specs.Json.{grouped, named}
 use Rattle.rx_item_table.specs.Rows.{properties_in}
 use Rattle.rx_items.specs.Groups.{with_last}
 use Rattle.rx_items.specs.Expanding.{path_of, kind_of, NoFault, FaultIs, Did, Step, with_name, steps_of, steps_in, visits_of, visits_in, data_of, pair_of, grouped_in}
@@ -144,7 +144,7 @@ module _ (rows : List Placed) (base : Chars) (above : Visit) (left : ℕ) where
   abbrev only : Placed → Bool → List Visit
   only e b = elim b as (λ item. List Visit) [ true ↦ visits_from (properties_in rows) (suc left) above e | false ↦ [] ]
 
-  no_visits : (e : Placed) (names : List Chars) → is_item e ≡ false → visits_in rows base above left (map (with_name e) names) ≡ []
+  pub no_visits : (e : Placed) (names : List Chars) → is_item e ≡ false → visits_in rows base above left (map (with_name e) names) ≡ []
   no_visits e [] plain = refl
   no_visits e (name ∷ names) plain = (λ i. only e (plain i) ++ no_visits e names plain i)
 

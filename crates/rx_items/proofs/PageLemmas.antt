@@ -1,9 +1,10 @@
 -- The top-level items of a page, one after another.
-use Rattle.std.proofs.Common.{◌≡◌, ◌∙◌, ◌+◌, ◌<◌, ◌≤◌, ℕ, zero, suc, Bool, true, false, cond, List, [], ◌∷◌, ◌++◌, map, filter, length, take, drop, get_or, Option, Some, None, refl, sym, ap, subst, arith, append_assoc}
-use Rattle.std.specs.Prelude.{flat_map, slice_get}
+use Rattle.std.proofs.Common.{◌≡◌, ◌∙◌, ◌+◌, ◌<◌, ◌≤◌, ℕ, zero, suc, Bool, true, false, cond, List, [], ◌∷◌, ◌++◌, map, filter, length, take, drop, get_or, Option, Some, None, refl, sym, ap, subst, arith}
+use Rattle.std.specs.Prelude.{flat_map, slice_get, Result, Err}
 use Rattle.std.proofs.lemmas.List.{append-nil, take_all, map-append}
-use Rattle.serde_json.specs.Data.{Data, Items, array, item, no_items, object, member, no_members}
+use Rattle.serde_json.specs.Data.{Data, Items, array, item, object, member, no_members}
 use Rattle.serde_json.specs.View.{view, items_of, items_view}
+use Rattle.serde_json.specs.Written.{compact_text}
 use Rattle.serde_json.specs.declared.value.Value.{Value}
 use Rattle.std.specs.Prelude.{codes}
 use Rattle.rx_terms.specs.Text.{Chars}
@@ -12,12 +13,12 @@ use Rattle.rx_tags.specs.declared.stops.Stop.{Stop}
 use Rattle.rx_tags.specs.declared.stops.Stop.TheVariants as stop
 use Rattle.rx_microdata.specs.Elements.{Placed, is_item, is_top_level, is_absent}
 use Rattle.rx_microdata.specs.Visits.{Visit, visits_from, visits_by, first_fault, standard_bounds}
-use Rattle.rx_microdata.specs.Json.{Outcome, Given, Refused, json_of_item, json_by, list_of, refused}
+use Rattle.rx_microdata.specs.Json.{Outcome, Given, json_of_item, json_by, list_of, refused}
 use Rattle.rx_microdata.proofs.Lists.{and_parts}
 use Rattle.rx_item_table.specs.Rows.{properties_in, outcome_in}
 use Rattle.rx_item_properties.specs.Held.{ShowsElements, HoldsRows}
-use Rattle.rx_items.specs.Expanding.{At, NoFault, FaultIs, Told}
-use Rattle.rx_items.specs.Pages.{TopsDid, top_visits, top_data}
+use Rattle.rx_items.specs.Expanding.{At, NoFault, FaultIs, Told, Finds}
+use Rattle.rx_items.specs.Pages.{TopsDid, top_visits, top_data, IsTextOf, TextGives, VisitsGive}
 use Rattle.rx_item_properties.specs.declared.kept.Element.{Element}
 use Rattle.rx_item_properties.specs.declared.kept.Kept.{Kept}
 use Rattle.rx_items.proofs.FoundLemmas.{none_then, then_fault, fault_then, none_at_all, flat_append}
@@ -76,7 +77,7 @@ module _ (rows : List Placed) (base : Chars) where
       ∙ ap (λ (l : List Visit). flat_map (top_visits rows base) (take i rows) ++ l) (append-nil (top_visits rows base (get_or rows i e)))
       ∙ ap (λ (x : Placed). flat_map (top_visits rows base) (take i rows) ++ top_visits rows base x) (sym is)
 
-  row_data : (i : ℕ) (e : Placed) → i < length rows → e ≡ get_or rows i e → flat_map (top_data rows base) (take (i + 1) rows) ≡ flat_map (top_data rows base) (take i rows) ++ top_data rows base e
+  pub row_data : (i : ℕ) (e : Placed) → i < length rows → e ≡ get_or rows i e → flat_map (top_data rows base) (take (i + 1) rows) ≡ flat_map (top_data rows base) (take i rows) ++ top_data rows base e
   row_data i e lt is =
       ap (flat_map (top_data rows base)) (one_more rows i e lt) ∙ flat_append (top_data rows base) (take i rows) (get_or rows i e ∷ [])
       ∙ ap (λ (l : List Data). flat_map (top_data rows base) (take i rows) ++ l) (append-nil (top_data rows base (get_or rows i e)))
@@ -98,7 +99,7 @@ module _ (rows : List Placed) (base : Chars) where
       by true ih = ap (λ (l : List Visit). visits_from (properties_in rows) 41 [] p ++ l) ih
       by false ih = ih
 
-  all_data : (ps : List Placed) → flat_map (top_data rows base) ps ≡ map (json_of_item (properties_in rows) base 40) (filter is_top_level ps)
+  pub all_data : (ps : List Placed) → flat_map (top_data rows base) ps ≡ map (json_of_item (properties_in rows) base 40) (filter is_top_level ps)
   all_data [] = refl
   all_data (p ∷ ps) = by (is_top_level p) (all_data ps)
     where
@@ -107,16 +108,34 @@ module _ (rows : List Placed) (base : Chars) where
       by true ih = ap (λ (l : List Data). json_of_item (properties_in rows) base 40 p ∷ l) ih
       by false ih = ih
 
-  pub tops_err : (i before : ℕ) (e : Placed) (values : List Value) (why : Stop) → i < length rows → e ≡ get_or rows i e → TopsDid rows base i before values → Told before (top_visits rows base e) why
-      → Told 0 (visits_by (properties_in rows) standard_bounds (filter is_top_level rows)) why
-  tops_err i before e values stop.NoMemory lt is d f = tt
-  tops_err i before e values (stop.Fault fault) lt is d f =
+  pub tops_err : (i before : ℕ) (e : Placed) (why : Stop) → i < length rows → e ≡ get_or rows i e → NoFault 0 (flat_map (top_visits rows base) (take i rows)) before
+      → Told before (top_visits rows base e) why → Told 0 (visits_by (properties_in rows) standard_bounds (filter is_top_level rows)) why
+  tops_err i before e stop.NoMemory lt is d f = tt
+  tops_err i before e (stop.Fault fault) lt is d f =
       let all : flat_map (top_visits rows base) rows ≡ flat_map (top_visits rows base) (take i rows) ++ (top_visits rows base e ++ flat_map (top_visits rows base) (drop (i + 1) rows)) =
       ap (flat_map (top_visits rows base)) (cut_at rows i e lt) ∙ flat_append (top_visits rows base) (take i rows) (get_or rows i e ∷ drop (i + 1) rows)
       ∙ ap (λ (x : Placed). flat_map (top_visits rows base) (take i rows) ++ (top_visits rows base x ++ flat_map (top_visits rows base) (drop (i + 1) rows))) (sym is) in
       subst (λ (vs : List Visit). FaultIs 0 vs fault) (sym all ∙ all_visits rows)
-      (then_fault 0 before (flat_map (top_visits rows base) (take i rows)) (top_visits rows base e ++ flat_map (top_visits rows base) (drop (i + 1) rows)) fault d.no_fault
+      (then_fault 0 before (flat_map (top_visits rows base) (take i rows)) (top_visits rows base e ++ flat_map (top_visits rows base) (drop (i + 1) rows)) fault d
       (fault_then before (top_visits rows base e) (flat_map (top_visits rows base) (drop (i + 1) rows)) fault f))
+
+  pub visited_on : (i before after : ℕ) (e : Placed) → i < length rows → e ≡ get_or rows i e → NoFault 0 (flat_map (top_visits rows base) (take i rows)) before
+      → NoFault before (top_visits rows base e) after → NoFault 0 (flat_map (top_visits rows base) (take (i + 1) rows)) after
+  visited_on i before after e lt is d f =
+      subst (λ (vs : List Visit). NoFault 0 vs after) (sym (row_visits i e lt is)) (none_then 0 before after (flat_map (top_visits rows base) (take i rows)) (top_visits rows base e) d f)
+
+  pub visited_end : (i visits : ℕ) → length rows ≤ i → NoFault 0 (flat_map (top_visits rows base) (take i rows)) visits
+      → first_fault standard_bounds 0 (visits_by (properties_in rows) standard_bounds (filter is_top_level rows)) ≡ None
+  visited_end i visits over d =
+      let whole = take_all i rows over in
+      ap (first_fault standard_bounds 0) (sym (all_visits rows) ∙ sym (ap (flat_map (top_visits rows base)) whole)) ∙ d.none
+
+  pub top_plain : (e : Placed) (visits : ℕ) → is_top_level e ≡ false → NoFault visits (top_visits rows base e) visits
+  top_plain e visits plain = subst (λ b. NoFault visits (visits_when e b) visits) (sym plain) (none_at_all visits)
+
+  pub top_passed : (e : Placed) (before after : ℕ) (r : Result (Unit {0}) Stop) → is_top_level e ≡ true → Finds before (visits_from (properties_in rows) 41 [] e) after (λ done. Unit {0}) r
+      → Finds before (top_visits rows base e) after (λ done. Unit {0}) r
+  top_passed e before after r top f = subst (λ b. Finds {X = Unit {0}} before (visits_when e b) after (λ done. Unit {0}) r) (sym top) f
 
   pub tops_end : (i visits : ℕ) (values : List Value) → length rows ≤ i → TopsDid rows base i visits values
       → (first_fault standard_bounds 0 (visits_by (properties_in rows) standard_bounds (filter is_top_level rows)) ≡ None)
@@ -141,3 +160,15 @@ module _ (rows : List Placed) (base : Chars) where
       ap (λ o. picked o (json_by (properties_in rows) base 40 (filter is_top_level rows))) none
       ∙ ap Given (sym (made ∙ ap (λ (ds : List Data). object (member (codes "items") (array (items_of ds)) no_members)) is
       ∙ ap (λ (is : Items). object (member (codes "items") (array is) no_members)) (same_items (map (json_of_item (properties_in rows) base 40) (filter is_top_level rows)))))
+
+  pub text_given : (text : List ℕ) → first_fault standard_bounds 0 (visits_by (properties_in rows) standard_bounds (filter is_top_level rows)) ≡ None
+      → text ≡ compact_text (json_by (properties_in rows) base 40 (filter is_top_level rows)) → IsTextOf (outcome_in standard_bounds base rows) text
+  text_given text none spelled = record {
+    value = json_by (properties_in rows) base 40 (filter is_top_level rows);
+    given = ap (λ o. picked o (json_by (properties_in rows) base 40 (filter is_top_level rows))) none;
+    spelled = spelled;
+  }
+
+  pub text_refused : (why : Stop) → VisitsGive rows (Err why) → TextGives (outcome_in standard_bounds base rows) (Err why)
+  text_refused stop.NoMemory f = tt
+  text_refused (stop.Fault fault) f = ap (λ o. picked o (json_by (properties_in rows) base 40 (filter is_top_level rows))) f.found ∙ f.is

@@ -1,5 +1,5 @@
 -- The visit of an item, and those of its properties.
-use Rattle.std.proofs.Common.{◌≡◌, ◌∙◌, ◌+◌, ◌<◌, ◌≤◌, ℕ, zero, suc, Bool, true, false, ◌==◌, cond, List, [], ◌∷◌, ◌++◌, map, length, take, drop, get_or, Option, Some, None, option_map, refl, sym, ap, subst, arith, nat_lt, append_assoc, encode_utf8_all}
+use Rattle.std.proofs.Common.{◌≡◌, ◌∙◌, ◌+◌, ◌<◌, ◌≤◌, ℕ, zero, suc, Bool, true, false, ◌==◌, cond, List, [], ◌∷◌, ◌++◌, map, length, take, drop, get_or, Option, Some, None, option_map, refl, sym, ap, subst, arith, nat_lt, append_assoc}
 use Rattle.std.specs.Prelude.{flat_map, nat_le, slice_get, Result, Ok, Err, IsErrAnd}
 use Rattle.std.specs.List.{list_any}
 use Rattle.std.specs.Option.{option_or}
@@ -8,7 +8,6 @@ use Rattle.serde_json.specs.Data.{Data, Members}
 use Rattle.serde_json.specs.View.{view}
 use Rattle.serde_json.specs.declared.value.Value.{Value}
 use Rattle.rx_terms.specs.Text.{Chars}
-use Rattle.rx_grammar.specs.declared.faults.Fault.{Fault}
 use Rattle.rx_grammar.specs.declared.faults.Kind.{Kind}
 use Rattle.rx_grammar.specs.declared.faults.Kind.TheVariants.{Cycle, ItemsTooNested, ItemsTooMany}
 use Rattle.rx_tags.specs.declared.stops.Stop.{Stop}
@@ -16,16 +15,16 @@ use Rattle.rx_tags.specs.declared.stops.Stop.TheVariants as stop
 use Rattle.rx_microdata.specs.Facts.{said}
 use Rattle.rx_microdata.specs.Elements.{Placed, is_item, names_of}
 use Rattle.rx_microdata.specs.Visits.{Visit, visits_from, standard_bounds, fault_of, first_fault, is_cycle, items_in}
-use Rattle.rx_microdata.specs.Json.{string_of, item_of, json_of_item, refused, Refused}
+use Rattle.rx_microdata.specs.Json.{string_of, item_of, json_of_item, Refused}
 use Rattle.rx_item_table.specs.Rows.{properties_in}
-use Rattle.rx_item_properties.specs.Held.{AllStand, HoldsRows, ShowsElement, places}
+use Rattle.rx_item_properties.specs.Held.{AllStand, ShowsElement, places}
 use Rattle.rx_items.specs.Expanding.{At, path_of, kind_of, NoFault, FaultIs, Told, Finds, Did, Goes, Enters, Step, with_name, steps_of, steps_in, visits_of, visits_in, data_of, pair_of, grouped_in}
 use Rattle.rx_item_properties.specs.declared.kept.Element.{Element}
 use Rattle.rx_item_properties.specs.declared.kept.Kept.{Kept}
 use Rattle.rx_items.specs.declared.visits.Trail.{Trail}
-use Rattle.rx_items.proofs.FoundLemmas.{none_then, none_at_all, fault_is, path_size, steps_pairs, steps_visits, fault_more, fault_stays}
+use Rattle.rx_items.proofs.FoundLemmas.{none_at_all, fault_is, path_size, steps_pairs, steps_visits, fault_more, fault_stays}
 use Rattle.rx_item_properties.proofs.TakeLemmas.{cut_at, one_more}
-use Rattle.rx_item_properties.proofs.HoldLemmas.{list_is, has_element, shows_at, all_stand, place_is}
+use Rattle.rx_item_properties.proofs.HoldLemmas.{has_element, shows_at, place_is}
 
 -- what `?` hands on
 pub err_told : {X E : Type 0} (P : Result X E → Type 0) (r : Result X E) (x : E) → IsErrAnd r (λ y. y ≡ x) → P (Err x) → P r
@@ -92,7 +91,7 @@ module _ (rows : List Placed) (base : Chars) (above : Visit) (left : ℕ) where
   steps_append [] ys = refl
   steps_append (x ∷ xs) ys = ap (λ (l : List Step). steps_of x ++ l) (steps_append xs ys) ∙ sym (append_assoc (steps_of x) (steps_in xs) (steps_in ys))
 
-  steps_one : (es : List Placed) (i : ℕ) (e : Placed) → i < length es → e ≡ get_or es i e → steps_in (take (i + 1) es) ≡ steps_in (take i es) ++ steps_of e
+  pub steps_one : (es : List Placed) (i : ℕ) (e : Placed) → i < length es → e ≡ get_or es i e → steps_in (take (i + 1) es) ≡ steps_in (take i es) ++ steps_of e
   steps_one es i e lt is =
       ap steps_in (one_more es i e lt) ∙ steps_append (take i es) (get_or es i e ∷ []) ∙ ap (λ (l : List Step). steps_in (take i es) ++ l) (append-nil (steps_of (get_or es i e)))
       ∙ ap (λ (x : Placed). steps_in (take i es) ++ steps_of x) (sym is)

@@ -1,8 +1,7 @@
 -- The visits of an item's properties, one after another, and the JSON that they come to.
-use Rattle.std.specs.Prelude.{◌≡◌, ⊤, ℕ, zero, suc, ◌+◌, Bool, true, false, ◌==◌, nat_le, List, [], ◌∷◌, ◌++◌, map, flat_map, length, slice_get, Option, Some, None, Result, Ok, Err, if◌then◌else◌}
+use Rattle.std.specs.Prelude.{◌≡◌, ⊤, ℕ, zero, suc, ◌+◌, true, false, ◌==◌, nat_le, List, [], ◌∷◌, ◌++◌, map, flat_map, length, Option, Some, None, Result, Ok, Err, if◌then◌else◌}
 use Rattle.std.specs.List.{list_any}
 use Rattle.serde_json.specs.Data.{Data, Members}
-use Rattle.serde_json.specs.declared.value.Value.{Value}
 use Rattle.rx_terms.specs.Text.{Chars}
 use Rattle.rx_grammar.specs.declared.faults.Fault.{Fault}
 use Rattle.rx_grammar.specs.declared.faults.Kind.{Kind}
@@ -17,6 +16,8 @@ use Rattle.rx_item_table.specs.Rows.{properties_in}
 use Rattle.rx_item_properties.specs.Held.{HoldsRows}
 use Rattle.rx_item_properties.specs.declared.kept.Kept.{Kept}
 use Rattle.rx_item_properties.specs.declared.kept.Element.{Element}
+use Rattle.rx_item_properties.specs.declared.kept.Tokens.{Tokens}
+use Rattle.rx_item_properties.specs.declared.kept.Tokens.TheVariants as tokens
 use Rattle.rx_items.specs.declared.visits.Trail.{Trail}
 
 -- the places of the items on a path, the outermost first
@@ -51,6 +52,16 @@ steps_of e = map (with_name e) (names_of e)
 
 abbrev pub steps_in : List Placed → List Step
 steps_in es = flat_map steps_of es
+
+-- how many tokens an attribute has
+abbrev pub count_of : Tokens → ℕ
+count_of (tokens.One span) = 1
+count_of (tokens.Many list) = length list.items
+
+-- the same visits so many times
+abbrev pub again : ℕ → List Visit → List Visit
+again zero visits = []
+again (suc n) visits = visits ++ again n visits
 
 -- the first fault of visits before which so many stand is this one
 pub record FaultIs (before : ℕ) (visits : List Visit) (fault : Fault) : Type 0 where

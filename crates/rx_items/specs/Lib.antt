@@ -2,6 +2,7 @@ pub mod Collecting
 pub mod Groups
 pub mod Objects
 pub mod Expanding
+pub mod Named
 pub mod Pages
 pub mod Walks
 pub mod JsonLaws

@@ -1,26 +1,41 @@
 -- The top-level items of a page, one after another, and what they come to.
-use Rattle.std.specs.Prelude.{◌≡◌, ⊤, ℕ, true, false, List, [], ◌∷◌, map, filter, flat_map, take, Option, None, Vec, Result, Ok, Err}
+use Rattle.std.specs.Prelude.{◌≡◌, ⊤, ℕ, true, false, List, [], ◌∷◌, map, filter, flat_map, take, None, Vec, Result, Ok, Err}
 use Rattle.std.specs.declared.alloc.Global.{Global}
 use Rattle.serde_json.specs.Data.{Data}
 use Rattle.serde_json.specs.View.{view}
+use Rattle.serde_json.specs.Written.{compact_text}
 use Rattle.serde_json.specs.declared.value.Value.{Value}
 use Rattle.rx_terms.specs.Text.{Chars}
-use Rattle.rx_grammar.specs.Trees.{Tree}
 use Rattle.rx_tags.specs.declared.stops.Stop.{Stop}
 use Rattle.rx_tags.specs.declared.stops.Stop.TheVariants as stop
 use Rattle.rx_microdata.specs.Elements.{Placed, is_top_level}
 use Rattle.rx_microdata.specs.Visits.{Visit, visits_from, visits_by, first_fault, standard_bounds}
 use Rattle.rx_microdata.specs.Json.{Outcome, Given, Refused, json_of_item}
-use Rattle.rx_item_table.specs.Rows.{properties_in, rows_of}
-use Rattle.rx_item_properties.specs.Held.{HoldsRows}
+use Rattle.rx_item_table.specs.Rows.{properties_in}
 use Rattle.rx_items.specs.Expanding.{NoFault, Told}
-use Rattle.rx_item_properties.specs.declared.kept.Kept.{Kept}
 
 -- what is answered is this outcome, where there is memory
 abbrev pub JsonGives : Outcome → Result Value Stop → Type 0
 JsonGives outcome (Ok value) = outcome ≡ Given (view value)
 JsonGives outcome (Err stop.NoMemory) = ⊤
 JsonGives outcome (Err (stop.Fault fault)) = outcome ≡ Refused fault
+
+-- the outcome is a value, and the text is its compact text
+pub record IsTextOf (outcome : Outcome) (text : List ℕ) : Type 0 where
+  pub value : Data
+  pub given : outcome ≡ Given value
+  pub spelled : text ≡ compact_text value
+
+-- what is answered is the text of this outcome, where there is memory
+abbrev pub TextGives : Outcome → Result (Vec ℕ Global) Stop → Type 0
+TextGives outcome (Ok text) = IsTextOf outcome text.items
+TextGives outcome (Err stop.NoMemory) = ⊤
+TextGives outcome (Err (stop.Fault fault)) = outcome ≡ Refused fault
+
+-- no visit is faulty, or the first fault is told
+abbrev pub VisitsGive : List Placed → Result (Unit {0}) Stop → Type 0
+VisitsGive rows (Ok done) = first_fault standard_bounds 0 (visits_by (properties_in rows) standard_bounds (filter is_top_level rows)) ≡ None
+VisitsGive rows (Err why) = Told 0 (visits_by (properties_in rows) standard_bounds (filter is_top_level rows)) why
 
 module _ (rows : List Placed) (base : Chars) where
   -- the visits that begin with an element, where it is a top-level item

@@ -7,9 +7,9 @@ ghost use Rattle.rx_microdata.specs.Json.{outcome_of};
 ghost use Rattle.rx_microdata.specs.Visits.{standard_bounds};
 ghost use Rattle.rx_item_table.specs.Rows.{outcome_in, rows_of};
 ghost use Rattle.rx_item_properties.specs.Held.{HoldsRows};
-ghost use Rattle.rx_items.specs.Pages.{JsonGives};
+ghost use Rattle.rx_items.specs.Pages.{JsonGives, TextGives};
 
-use crate::pages::page_of;
+use crate::pages::{page_of, text_of};
 use rx_item_properties::{Kept, kept_of};
 use rx_item_table::Table;
 use rx_tags::Stop;
@@ -51,5 +51,14 @@ impl Items {
         ensures tree { (tree : Tree) (base : Chars) → HoldsRows self.now (rows_of tree) base → JsonGives (outcome_of standard_bounds (elements_of tree) base) result }
     {
         page_of(alloc, &self.kept)
+    }
+
+    /// The compact text of that JSON, or the same fault. It is written piece by piece, so beside the text no more is in memory
+    /// than the names and places of the properties of each item on one path.
+    pub fn text(&self, alloc: Global) -> Result<Vec<u8>, Stop>
+        ensures rows { (rows : List Placed) (base : Chars) → HoldsRows self.now rows base → TextGives (outcome_in standard_bounds base rows) result }
+        ensures tree { (tree : Tree) (base : Chars) → HoldsRows self.now (rows_of tree) base → TextGives (outcome_of standard_bounds (elements_of tree) base) result }
+    {
+        text_of(alloc, &self.kept)
     }
 }

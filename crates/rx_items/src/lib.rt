@@ -4,13 +4,17 @@
 ghost use Rattle.rx_items.specs.JsonLaws.{JsonIsReadBack, JsonNests};
 
 mod collectors;
+mod faults;
 mod groups;
 mod items;
+mod named;
 mod objects;
 mod pages;
+mod parts;
 mod readings;
 mod visits;
 mod walks;
+mod writing;
 
 pub use items::Items;
 pub use rx_nest::{Fault, Kind, Limits, Syntax};

@@ -7,11 +7,13 @@ ghost use Rattle.rx_microdata.specs.Visits.{standard_bounds};
 ghost use Rattle.rx_item_table.specs.Rows.{outcome_in};
 ghost use Rattle.rx_item_properties.specs.Held.{HoldsRows};
 ghost use Rattle.rx_items.specs.Expanding.{Finds};
-ghost use Rattle.rx_items.specs.Pages.{JsonGives, TopsGive, top_data, top_visits};
+ghost use Rattle.rx_items.specs.Pages.{JsonGives, TextGives, TopsGive, top_data, top_visits};
 
+use crate::faults::visit_all;
 use crate::groups::push_to;
 use crate::objects::page_object;
 use crate::visits::{Trail, visit};
+use crate::writing::written;
 use rx_item_properties::Kept;
 use rx_tags::Stop;
 use rx_terms::NoMemory;
@@ -70,4 +72,19 @@ fn add_top(
         return Err(Stop::NoMemory);
     };
     Ok(())
+}
+
+/// The compact text of a page's JSON, or the fault of the first faulty visit. Faults are found before anything is written,
+/// since they come in tree order, and the text goes by names.
+pub(crate) fn text_of(alloc: Global, kept: &Kept) -> Result<Vec<u8>, Stop>
+    ensures { (rows : List Placed) (base : Chars) → HoldsRows kept.now rows base → TextGives (outcome_in standard_bounds base rows) result }
+{
+    match visit_all(alloc, kept) {
+        Ok(()) => {}
+        Err(stop) => return Err(stop),
+    }
+    match written(alloc, kept) {
+        Ok(text) => Ok(text),
+        Err(NoMemory) => Err(Stop::NoMemory),
+    }
 }

@@ -24,7 +24,7 @@ use serde_json::{Map, Value};
 use std::alloc::Global;
 
 /// How many items may stand on a path.
-const NESTED: usize = 40;
+pub(crate) const NESTED: usize = 40;
 
 /// How many visits there may be.
 const VISITS: u32 = 100_000;
@@ -71,7 +71,7 @@ fn are_many(visits: u32) -> bool
 }
 
 /// A visit begins, or is refused.
-fn enter(trail: &mut Trail, element: &Element, place: usize) -> Result<(), Stop>
+pub(crate) fn enter(trail: &mut Trail, element: &Element, place: usize) -> Result<(), Stop>
     ensures { Enters trail.old trail.new element.now place result }
 {
     if let Some(kind) = kind_of(trail, place) {
@@ -89,7 +89,7 @@ fn enter(trail: &mut Trail, element: &Element, place: usize) -> Result<(), Stop>
 }
 
 /// A visit ends.
-fn leave(trail: &mut Trail)
+pub(crate) fn leave(trail: &mut Trail)
     ensures path { (path : List ℕ) (place : ℕ) → trail.old.path.items ≡ path ++ place ∷ [] → trail.new.path.items ≡ path }
     ensures visits { trail.new.visits ≡ trail.old.visits }
 {

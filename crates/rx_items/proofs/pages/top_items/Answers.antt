@@ -1,6 +1,6 @@
-use Rattle.std.proofs.Common.{◌≡◌, ◌∙◌, ◌<◌, ◌≤◌, ℕ, List, length, ap, subst}
+use Rattle.std.proofs.Common.{◌∙◌, ◌<◌, ◌≤◌, ℕ, List, length, ap, subst}
 use Rattle.rx_item_properties.specs.declared.kept.Element.{Element}
-use Rattle.rx_items.specs.Pages.{TopsGive, top_visits}
+use Rattle.rx_items.specs.Pages.{TopsGive}
 use Rattle.rx_items.proofs.VisitLemmas.{err_told}
 use Rattle.rx_items.proofs.PageLemmas.{as_long, row_there, tops_err, top_on, tops_end}
 use Rattle.rx_items.proofs.pages.top_items.Goals as goal
@@ -11,7 +11,7 @@ returns-in_err-add_top c rows base holds =
     let lt = subst (λ (n : ℕ). l.place < n) (ap (λ (l : List Element). length l) c.as_slice-place-end.ensures.value ∙ as_long c.args.kept.now rows base holds) c.loop-place-test.true in
     let r = row_there rows l.place lt in
     err_told (λ r. TopsGive rows base r) c.from_residual.result c.in_err-add_top.field-0.0 c.from_residual.ensures.1
-    (tops_err rows base l.place l.trail.visits r.row l.items.items c.in_err-add_top.field-0.0 lt r.is (l.invariant.did rows base holds) (c.in_err-add_top.ensures.finds rows base r.row holds l.invariant.path r.row_is))
+    (tops_err rows base l.place l.trail.visits r.row c.in_err-add_top.field-0.0 lt r.is (l.invariant.did rows base holds).no_fault (c.in_err-add_top.ensures.finds rows base r.row holds l.invariant.path r.row_is))
 
 pub loop-place-preserved : goal.loop-place-preserved
 loop-place-preserved c =

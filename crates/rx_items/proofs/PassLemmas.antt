@@ -1,0 +1,87 @@
+-- The visits of a page without its JSON, step by step.
+use Rattle.std.proofs.Common.{◌≡◌, ◌∙◌, ◌+◌, ◌-◌, ◌<◌, ◌≤◌, ℕ, zero, suc, Bool, true, false, List, [], ◌∷◌, ◌++◌, map, length, take, get_or, refl, sym, ap, subst, arith, append_assoc}
+use Rattle.std.specs.Prelude.{Result}
+use Rattle.std.proofs.lemmas.List.{append-nil, take_all}
+use Rattle.rx_terms.specs.Text.{Chars}
+use Rattle.rx_tags.specs.declared.stops.Stop.{Stop}
+use Rattle.rx_tags.specs.declared.stops.Stop.TheVariants as stop
+use Rattle.rx_microdata.specs.Elements.{Placed, is_item, names_of}
+use Rattle.rx_microdata.specs.Visits.{Visit, visits_from}
+use Rattle.rx_item_table.specs.Rows.{properties_in}
+use Rattle.rx_item_properties.specs.Held.{ShowsTokens}
+use Rattle.rx_item_properties.specs.declared.kept.Tokens.{Tokens}
+use Rattle.rx_item_properties.specs.declared.kept.Tokens.TheVariants as tokens
+use Rattle.rx_items.specs.Expanding.{NoFault, FaultIs, Told, Finds, Step, with_name, steps_of, steps_in, visits_of, visits_in, again, count_of}
+use Rattle.rx_items.proofs.FoundLemmas.{none_then, then_fault, fault_then, none_at_all, flat_append, no_visits}
+use Rattle.rx_items.proofs.VisitLemmas.{steps_one, property_err}
+
+-- ---- the same visits so many times
+
+again_both : (n m : ℕ) (vs : List Visit) → again (n + m) vs ≡ again n vs ++ again m vs
+again_both zero m vs = let plain : 0 + m ≡ m = omega arith in ap (λ k. again k vs) plain
+again_both (suc n) m vs =
+    let next : suc n + m ≡ suc (n + m) = omega arith in
+    ap (λ k. again k vs) next ∙ ap (λ (l : List Visit). vs ++ l) (again_both n m vs) ∙ sym (append_assoc vs (again n vs) (again m vs))
+
+again_one : (i : ℕ) (vs : List Visit) → again (i + 1) vs ≡ again i vs ++ vs
+again_one i vs = again_both i 1 vs ∙ ap (λ (l : List Visit). again i vs ++ l) (append-nil vs)
+
+again_cut : (n i : ℕ) (vs : List Visit) → i < n → again n vs ≡ again i vs ++ (vs ++ again (n - (i + 1)) vs)
+again_cut n i vs lt = let e : n ≡ i + suc (n - (i + 1)) = omega (arith, lt) in ap (λ k. again k vs) e ∙ again_both i (suc (n - (i + 1))) vs
+
+pub times_err : (start middle n i : ℕ) (vs : List Visit) (x : Stop) → i < n → NoFault start (again i vs) middle → Told middle vs x → Told start (again n vs) x
+times_err start middle n i vs stop.NoMemory lt p f = tt
+times_err start middle n i vs (stop.Fault fault) lt p f =
+    subst (λ (l : List Visit). FaultIs start l fault) (sym (again_cut n i vs lt))
+    (then_fault start middle (again i vs) (vs ++ again (n - (i + 1)) vs) fault p (fault_then middle vs (again (n - (i + 1)) vs) fault f))
+
+pub times_on : (start middle after i : ℕ) (vs : List Visit) → NoFault start (again i vs) middle → NoFault middle vs after → NoFault start (again (i + 1) vs) after
+times_on start middle after i vs p q = subst (λ (l : List Visit). NoFault start l after) (sym (again_one i vs)) (none_then start middle after (again i vs) vs p q)
+
+pub times_end : (start after n i : ℕ) (vs : List Visit) → i ≤ n → n ≤ i → NoFault start (again i vs) after → NoFault start (again n vs) after
+times_end start after n i vs within over p = let same : i ≡ n = omega (arith, within, over) in subst (λ (k : ℕ). NoFault start (again k vs) after) same p
+
+pub counted : (words : Chars) (ts : Tokens) (texts : List Chars) → ShowsTokens words ts texts → count_of ts ≡ length texts
+counted words (tokens.One span) texts s = sym (ap (λ (l : List Chars). length l) s.1)
+counted words (tokens.Many list) texts s = ap (λ (l : List Chars). length l) s
+
+module _ (rows : List Placed) (base : Chars) (above : Visit) (left : ℕ) where
+  abbrev visits_when : Placed → Bool → List Visit
+  visits_when e b = elim b as (λ item. List Visit) [ true ↦ visits_from (properties_in rows) (suc left) above e | false ↦ [] ]
+
+  item_again : (e : Placed) (names : List Chars) → is_item e ≡ true → visits_in rows base above left (map (with_name e) names) ≡ again (length names) (visits_from (properties_in rows) (suc left) above e)
+  item_again e [] item = refl
+  item_again e (name ∷ names) item = (λ i. visits_when e (item i) ++ item_again e names item i)
+
+  pub item_passed : (e : Placed) (before after count : ℕ) (r : Result (Unit {0}) Stop) → count ≡ length (names_of e) → is_item e ≡ true
+      → Finds before (again count (visits_from (properties_in rows) (suc left) above e)) after (λ done. Unit {0}) r → Finds before (visits_in rows base above left (steps_of e)) after (λ done. Unit {0}) r
+  item_passed e before after count r is item f =
+      subst (λ (vs : List Visit). Finds {X = Unit {0}} before vs after (λ done. Unit {0}) r)
+      (ap (λ (n : ℕ). again n (visits_from (properties_in rows) (suc left) above e)) is ∙ sym (item_again e (names_of e) item)) f
+
+  pub plain_passed : (e : Placed) (n : ℕ) → is_item e ≡ false → NoFault n (visits_in rows base above left (steps_of e)) n
+  plain_passed e n plain = subst (λ (vs : List Visit). NoFault n vs n) (sym (no_visits rows base above left e (names_of e) plain)) (none_at_all n)
+
+  -- ---- properties in a row
+
+  both_visits : (xs ys : List Step) → visits_in rows base above left (xs ++ ys) ≡ visits_in rows base above left xs ++ visits_in rows base above left ys
+  both_visits xs ys = flat_append (λ (s : Step). visits_of rows base above left s.element) xs ys
+
+  pub each_stop : (start middle : ℕ) (es : List Placed) (i : ℕ) (e : Placed) (x : Stop) → i < length es → e ≡ get_or es i e → NoFault start (visits_in rows base above left (steps_in (take i es))) middle
+      → Told middle (visits_in rows base above left (steps_of e)) x → Told start (visits_in rows base above left (steps_in es)) x
+  each_stop start middle es i e stop.NoMemory lt is p f = tt
+  each_stop start middle es i e (stop.Fault fault) lt is p f =
+      property_err rows base above left start es i e (stop.Fault fault) lt is
+      (subst (λ (vs : List Visit). FaultIs start vs fault) (sym (both_visits (steps_in (take i es)) (steps_of e)))
+      (then_fault start middle (visits_in rows base above left (steps_in (take i es))) (visits_in rows base above left (steps_of e)) fault p f))
+
+  pub each_more : (start middle after : ℕ) (es : List Placed) (i : ℕ) (e : Placed) → i < length es → e ≡ get_or es i e → NoFault start (visits_in rows base above left (steps_in (take i es))) middle
+      → NoFault middle (visits_in rows base above left (steps_of e)) after → NoFault start (visits_in rows base above left (steps_in (take (i + 1) es))) after
+  each_more start middle after es i e lt is p q =
+      subst (λ (vs : List Visit). NoFault start vs after)
+      (sym (ap (visits_in rows base above left) (steps_one rows base above left es i e lt is) ∙ both_visits (steps_in (take i es)) (steps_of e)))
+      (none_then start middle after (visits_in rows base above left (steps_in (take i es))) (visits_in rows base above left (steps_of e)) p q)
+
+  pub each_end : (start after : ℕ) (es : List Placed) (i : ℕ) → length es ≤ i → NoFault start (visits_in rows base above left (steps_in (take i es))) after
+      → NoFault start (visits_in rows base above left (steps_in es)) after
+  each_end start after es i over p = subst (λ (xs : List Placed). NoFault start (visits_in rows base above left (steps_in xs)) after) (take_all i es over) p

@@ -1,0 +1,117 @@
+use Rattle.std.proofs.Common.{◌∙◌, ℕ, suc, List, ◌∷◌, ap, sym, subst, Contains, ◌↔◌, Some, arith}
+use Rattle.std.proofs.lemmas.Option.{slice_get-get_or}
+use Rattle.rx_microdata.specs.Visits.{visits_from}
+use Rattle.rx_microdata.specs.Elements.{names_of}
+use Rattle.rx_item_table.specs.Rows.{properties_in}
+use Rattle.rx_item_properties.specs.Properties.{gathered}
+use Rattle.rx_items.specs.Expanding.{Told, NoFault, steps_in, visits_in, again}
+use Rattle.rx_item_properties.proofs.HoldLemmas.{list_is, all_stand, place_is}
+use Rattle.rx_items.proofs.VisitLemmas.{at_path, no_element, shown_in, row_at, list_end, told, enter_err, enter_ok, group_err, group_ok}
+use Rattle.rx_items.proofs.PassLemmas.{times_err, times_on, times_end, counted, item_passed, plain_passed, each_stop, each_more, each_end}
+use Rattle.rx_items.proofs.faults.+pass.Goals as goal
+
+pub pass-returns-in_err-enter-clause-finds : goal.pass-returns-in_err-enter-clause-finds
+pass-returns-in_err-enter-clause-finds t c rows base above left root at row found item =
+    let shown = shown_in c.args.place c.args.element.now root at row found in
+    told c.args.trail.now.visits c.enter.new.trail.visits (visits_from (properties_in rows) (suc left) above root) _ c.from_residual.result c.in_err-enter.field-0.0 c.from_residual.ensures.1
+    (enter_err above root c.args.place left (properties_in rows) c.args.trail.now c.enter.new.trail c.args.element.now c.in_err-enter.field-0.0 at.path_is (place_is rows c.args.place root at.holds.numbered row) shown.token shown.at c.in_err-enter.ensures)
+
+pub pass-returns-in_err-pass_item-clause-finds : goal.pass-returns-in_err-pass_item-clause-finds
+pass-returns-in_err-pass_item-clause-finds t c rows base above left root at row found item =
+    let entered = enter_ok c.args.kept.now rows base above left root c.args.place c.args.trail.now c.enter.new.trail c.args.element.now at row c.in_ok-enter.ensures in
+    let inner = c.in_err-pass_item.ensures.finds rows base (root ∷ above) entered.room root entered.at row found item in
+    told c.args.trail.now.visits c.pass_item.new.trail.visits (visits_from (properties_in rows) (suc left) above root) _ c.from_residual-in_err-pass_item.result c.in_err-pass_item.field-0.0 c.from_residual-in_err-pass_item.ensures.1
+    (subst (λ (n : ℕ). Told c.args.trail.now.visits (visits_from (properties_in rows) (suc n) above root) c.in_err-pass_item.field-0.0) (sym entered.left_is)
+    (group_err rows base above root entered.room c.args.trail.now.visits c.enter.new.trail.visits c.in_err-pass_item.field-0.0 entered.no_fault c.in_ok-enter.ensures.2 inner))
+
+pub pass-returns-clause-finds : goal.pass-returns-clause-finds
+pass-returns-clause-finds t c rows base above left root at row found item =
+    let entered = enter_ok c.args.kept.now rows base above left root c.args.place c.args.trail.now c.enter.new.trail c.args.element.now at row c.in_ok-enter.ensures in
+    let inner = c.in_ok-pass_item.ensures.finds rows base (root ∷ above) entered.room root entered.at row found item in
+    let calm = subst (λ (n : ℕ). NoFault c.enter.new.trail.visits (visits_in rows base (root ∷ above) entered.room (steps_in (properties_in rows root))) n) (sym c.leave.ensures.visits) inner.0 in
+    let all = group_ok rows base above root entered.room c.args.trail.now.visits c.enter.new.trail.visits c.leave.new.trail.visits entered.no_fault c.in_ok-enter.ensures.2 calm in
+    (subst (λ (n : ℕ). NoFault c.args.trail.now.visits (visits_from (properties_in rows) (suc n) above root) c.leave.new.trail.visits) (sym entered.left_is) all, tt)
+
+pub pass_item-returns-in-Some-clause-finds : goal.pass_item-returns-in-Some-clause-finds
+pass_item-returns-in-Some-clause-finds t c rows base above left root at row found item =
+    let runs = c.args.element.now.reach.own ∷ c.args.element.now.reach.others.items in
+    let same : (x : ℕ) → Contains c.in-Some.list.now x ↔ Contains (gathered c.as_slice.result.now runs c.args.place) x = c.in-Some.ensures.same in
+    let all = subst (λ (ms : List ℕ). (x : ℕ) → Contains c.in-Some.list.now x ↔ Contains (gathered ms runs c.args.place) x) c.as_slice.ensures.value same in
+    let list = list_is c.args.kept.now rows base root c.args.element.now c.args.place c.in-Some.list.now at.holds row found item c.in-Some.ensures.rise all in
+    c.pass_each.ensures.finds rows base above left (properties_in rows root) at list (all_stand _ rows at.holds.numbered)
+
+pub pass_sorted-returns-clause-finds : goal.pass_sorted-returns-clause-finds
+pass_sorted-returns-clause-finds t c rows base above left root at row found item =
+    let runs = c.args.element.now.reach.own ∷ c.args.element.now.reach.others.items in
+    let same : (x : ℕ) → Contains c.in-Ok.list.items x ↔ Contains (gathered c.as_slice.result.now runs c.args.place) x = c.in-Ok.ensures.same in
+    let all = subst (λ (ms : List ℕ). (x : ℕ) → Contains c.in-Ok.list.items x ↔ Contains (gathered ms runs c.args.place) x) c.as_slice.ensures.value same in
+    let list = list_is c.args.kept.now rows base root c.args.element.now c.args.place c.in-Ok.list.items at.holds row found item c.in-Ok.ensures.rise all in
+    c.pass_each.ensures.finds rows base above left (properties_in rows root) at (c.as_slice-2.ensures.value ∙ list) (all_stand _ rows at.holds.numbered)
+
+pub pass_each-returns-in_err-pass_property-clause-finds : goal.pass_each-returns-in_err-pass_property-clause-finds
+pass_each-returns-in_err-pass_property-clause-finds t c rows base above left es at is stand =
+    let l = c.loop-place in
+    let r = row_at rows es c.args.list.now l.place-index is stand c.loop-place-test.true in
+    told c.args.trail.now.visits c.pass_property.new.trail.visits (visits_in rows base above left (steps_in es)) _ c.from_residual.result c.in_err-pass_property.field-0.0 c.from_residual.ensures.1
+    (each_stop rows base above left c.args.trail.now.visits l.trail.visits es l.place-index r.row c.in_err-pass_property.field-0.0 r.within r.is (l.invariant.did rows base above left es at is stand)
+    (c.in_err-pass_property.ensures.finds rows base above left r.row (at_path l.trail.path.items l.invariant.path at) r.row_is))
+
+pub pass_each-loop-place-preserved : goal.pass_each-loop-place-preserved
+pass_each-loop-place-preserved t c =
+    let l = c.loop-place in
+    record {
+      path = c.in_ok-pass_property.ensures.path ∙ l.invariant.path;
+      did = λ rows base above left es at is stand.
+          let r = row_at rows es c.args.list.now l.place-index is stand c.loop-place-test.true in
+          let passed = c.in_ok-pass_property.ensures.finds rows base above left r.row (at_path l.trail.path.items l.invariant.path at) r.row_is in
+          each_more rows base above left c.args.trail.now.visits l.trail.visits c.pass_property.new.trail.visits es l.place-index r.row r.within r.is (l.invariant.did rows base above left es at is stand) passed.0;
+    }
+
+pub pass_each-returns-clause-finds : goal.pass_each-returns-clause-finds
+pass_each-returns-clause-finds t c rows base above left es at is stand =
+    let l = c.loop-place in
+    (each_end rows base above left c.args.trail.now.visits l.trail.visits es l.place-index (list_end c.args.list.now es l.place-index is c.loop-place-test.false) (l.invariant.did rows base above left es at is stand), tt)
+
+pub pass_property-returns-in_default-clause-finds : goal.pass_property-returns-in_default-clause-finds
+pass_property-returns-in_default-clause-finds t c rows base above left e at row = absurd (no_element c.args.place e at row (rw c.deref.ensures.value at c.in_default.ensures.lookup.3))
+
+pub pass_property-returns-then-not-element-clause-finds : goal.pass_property-returns-then-not-element-clause-finds
+pass_property-returns-then-not-element-clause-finds t c rows base above left e at row =
+    let lookup = rw c.deref.ensures.value at c.in-Some.ensures.lookup.3 in
+    let found = slice_get-get_or c.args.kept.now.elements.items c.args.place c.in-Some.element.now lookup.0 ∙ ap Some (sym (lookup.1 c.in-Some.element.now)) in
+    let shown = shown_in c.args.place c.in-Some.element.now e at row found in
+    (plain_passed rows base above left e c.args.trail.now.visits (sym shown.is_item ∙ c.if-not-element.true), tt)
+
+pub pass_property-returns-clause-finds : goal.pass_property-returns-clause-finds
+pass_property-returns-clause-finds t c rows base above left e at row =
+    let lookup = rw c.deref.ensures.value at c.in-Some.ensures.lookup.3 in
+    let found = slice_get-get_or c.args.kept.now.elements.items c.args.place c.in-Some.element.now lookup.0 ∙ ap Some (sym (lookup.1 c.in-Some.element.now)) in
+    let shown = shown_in c.args.place c.in-Some.element.now e at row found in
+    let item = sym shown.is_item ∙ c.if-not-element.false in
+    item_passed rows base above left e c.args.trail.now.visits c.pass_times.new.trail.visits c.count.result c.pass_times.result
+    (c.count.ensures ∙ counted c.args.kept.now.words c.in-Some.element.now.names (names_of e) shown.names) item (c.pass_times.ensures.finds rows base above left e at row found item)
+
+pub pass_times-returns-in_err-pass-clause-finds : goal.pass_times-returns-in_err-pass-clause-finds
+pass_times-returns-in_err-pass-clause-finds t c rows base above left root at row found item =
+    let l = c.loop in
+    let visits = visits_from (properties_in rows) (suc left) above root in
+    told c.args.trail.now.visits c.pass.new.trail.visits (again c.args.times visits) _ c.from_residual.result c.in_err-pass.field-0.0 c.from_residual.ensures.1
+    (times_err c.args.trail.now.visits l.trail.visits c.args.times l.counter visits c.in_err-pass.field-0.0 c.loop-test.true (l.invariant.did rows base above left root at row found item)
+    (c.in_err-pass.ensures.finds rows base above left root (at_path l.trail.path.items l.invariant.path at) row found item))
+
+pub pass_times-loop-preserved : goal.pass_times-loop-preserved
+pass_times-loop-preserved t c =
+    let l = c.loop in
+    let lt = c.loop-test.true in
+    record {
+      path = c.in_ok-pass.ensures.path ∙ l.invariant.path;
+      within = omega (arith, lt);
+      did = λ rows base above left root at row found item.
+          let passed = c.in_ok-pass.ensures.finds rows base above left root (at_path l.trail.path.items l.invariant.path at) row found item in
+          times_on c.args.trail.now.visits l.trail.visits c.pass.new.trail.visits l.counter (visits_from (properties_in rows) (suc left) above root) (l.invariant.did rows base above left root at row found item) passed.0;
+    }
+
+pub pass_times-returns-clause-finds : goal.pass_times-returns-clause-finds
+pass_times-returns-clause-finds t c rows base above left root at row found item =
+    let l = c.loop in
+    (times_end c.args.trail.now.visits l.trail.visits c.args.times l.counter (visits_from (properties_in rows) (suc left) above root) l.invariant.within c.loop-test.false (l.invariant.did rows base above left root at row found item), tt)

@@ -1,0 +1,11 @@
+use Rattle.std.proofs.Common.{◌≡◌, ◌++◌, List, drop}
+use Rattle.std.specs.Prelude.{flat_map}
+use Rattle.rx_terms.specs.Text.{Chars}
+use Rattle.rx_microdata.specs.Elements.{Placed}
+use Rattle.rx_item_properties.specs.Held.{HoldsRows}
+use Rattle.rx_items.specs.Named.{keys_at, keys_seen}
+use Rattle.rx_items.proofs.named.named_at.Given as goal
+
+abbrev pub invariant-loop-place : goal.invariant-loop-place
+invariant-loop-place l =
+    (rows : List Placed) (base : Chars) → HoldsRows l.kept rows base → keys_seen l.list.items ++ flat_map (keys_at rows) (drop l.place-index l.places) ≡ flat_map (keys_at rows) l.places

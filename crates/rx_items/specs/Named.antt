@@ -1,0 +1,87 @@
+-- The properties of an item under each of their names, in tree order and by name, and the tokens that they come to.
+use denote.Ref.{Bor}
+use Rattle.std.specs.Prelude.{◌≡◌, ℕ, Bool, List, [], ◌∷◌, ◌++◌, map, flat_map, slice_get, Option, Some, None, option_map, bytes_eq, encode_utf8_all, if◌then◌else◌}
+use Rattle.std.specs.Ordering.{is_lt, nat_cmp}
+use Rattle.std.specs.Cmp.Lexicographic.{slice_cmp}
+use Rattle.std.specs.List.Sorted.{IsSortedBy, IsStableBy}
+use Rattle.json.specs.Token.{Token}
+use Rattle.serde_json.specs.Data.{Data, Members, null, no_members}
+use Rattle.rx_json_text.specs.Tokens.{data_tokens}
+use Rattle.rx_terms.specs.Text.{Chars}
+use Rattle.rx_microdata.specs.Elements.{Placed, names_of}
+use Rattle.rx_microdata.specs.Json.{with_value}
+use Rattle.rx_items.specs.Expanding.{data_of}
+use Rattle.rx_items.specs.declared.named.Named.{Named}
+
+-- a name, as bytes, and the place of the property that has it
+abbrev pub Key : Type 0
+Key = List ℕ × ℕ
+
+abbrev pub keyed : List ℕ → ℕ → Key
+keyed name place = (name, place)
+
+abbrev pub key_at : ℕ → Chars → Key
+key_at place name = keyed (encode_utf8_all name) place
+
+-- a property under each of its names
+abbrev pub keys_of : Placed → List Key
+keys_of e = map (key_at e.place) (names_of e)
+
+abbrev pub keys_in : List Placed → List Key
+keys_in es = flat_map keys_of es
+
+-- the same of the row at a place
+abbrev pub keys_if : Option Placed → List Key
+keys_if None = []
+keys_if (Some e) = keys_of e
+
+abbrev pub keys_at : List Placed → ℕ → List Key
+keys_at rows place = keys_if (slice_get rows place)
+
+abbrev pub key_seen : Named → Key
+key_seen named = keyed named.name.now named.place
+
+abbrev pub keys_seen : List Named → List Key
+keys_seen list = map key_seen list
+
+abbrev pub is_before : Named → Named → Bool
+is_before a b = is_lt (slice_cmp nat_cmp a.name.now b.name.now)
+
+-- these keys in byte order of their names, and those of one name in the order that they had
+pub record ByName (keys : List Key) (list : List Named) : Type 0 where
+  pub found : List Named
+  pub are : keys_seen found ≡ keys
+  pub rise : IsSortedBy is_before list
+  pub keep : IsStableBy is_before found list
+
+abbrev pub name_seen : Option (Bor (List ℕ)) → Option (List ℕ)
+name_seen name = option_map (λ n. n.now) name
+
+-- What stands before a value of this name, behind the values of the name before: nothing where that is the same, else the
+-- end of those values, and the name.
+abbrev pub opening : Option (List ℕ) → List ℕ → List Token
+opening None name = Token.key name ∷ Token.begin_array ∷ []
+opening (Some before) name = if bytes_eq before name then [] else Token.end_array ∷ Token.key name ∷ Token.begin_array ∷ []
+
+abbrev pub ending : Option (List ℕ) → List Token
+ending None = []
+ending (Some before) = Token.end_array ∷ []
+
+module _ (rows : List Placed) (base : Chars) (left : ℕ) where
+  abbrev pub value_if : Option Placed → Data
+  value_if None = null
+  value_if (Some e) = data_of rows base [] left e
+
+  -- the value of the property at a place
+  abbrev pub value_at : ℕ → Data
+  value_at place = value_if (slice_get rows place)
+
+  -- each name with the list of its values
+  abbrev pub grouped_at : List Key → Members
+  grouped_at [] = no_members
+  grouped_at (key ∷ keys) = with_value key.0 (value_at key.1) (grouped_at keys)
+
+  -- the tokens of values one behind another, behind the values of the name before
+  abbrev pub tokens_behind : Option (List ℕ) → List Key → List Token
+  tokens_behind before [] = ending before
+  tokens_behind before (key ∷ keys) = opening before key.0 ++ (data_tokens (value_at key.1) ++ tokens_behind (Some key.0) keys)

@@ -1,0 +1,116 @@
+//! The properties of an item under each of their names, by name.
+ghost use Rattle.std.specs.Prelude.{◌≡◌, ◌∷◌, ◌++◌, [], List, Some, true, map, flat_map, slice_get, IfOk, OnOk};
+ghost use Rattle.std.specs.List.Sorted.{IsSortedBy, IsStableBy};
+ghost use Rattle.rx_terms.specs.Text.{Chars};
+ghost use Rattle.rx_microdata.specs.Elements.{Placed, is_item};
+ghost use Rattle.rx_item_table.specs.Rows.{properties_in};
+ghost use Rattle.rx_item_properties.specs.Held.{HoldsRows};
+ghost use Rattle.rx_items.specs.Named.{ByName, is_before, key_at, keyed, keys_at, keys_in, keys_seen};
+
+use crate::readings::token_at;
+use rx_item_properties::{Element, Kept, Tokens, listed, properties};
+use rx_terms::{NoMemory, Text};
+use std::alloc::Global;
+
+/// A property under one of its names.
+#[derive(Clone, Copy)]
+pub(crate) struct Named<'a> {
+    pub(crate) name: &'a str,
+    pub(crate) place: usize,
+}
+
+/// The properties of an item under each of their names, in byte order of the names, and those of one name in tree order.
+pub(crate) fn by_name<'a>(
+    alloc: Global,
+    kept: &'a Kept,
+    element: &Element,
+    place: usize,
+) -> Result<Vec<Named<'a>>, NoMemory>
+    ensures { (rows : List Placed) (base : Chars) (root : Placed) → HoldsRows kept.now rows base → slice_get rows place ≡ Some root
+        → slice_get kept.now.elements.items place ≡ Some element.now → is_item root ≡ true → IfOk result (λ list. ByName (keys_in (properties_in rows root)) list.items) }
+{
+    let mut list = in_tree_order(alloc, kept, element, place)?;
+    sort(&mut list)?;
+    Ok(list)
+}
+
+fn sort(list: &mut Vec<Named<'_>>) -> Result<(), NoMemory>
+    ensures rise { OnOk result (IsSortedBy is_before list.new.items) }
+    ensures keep { OnOk result (IsStableBy is_before list.old.items list.new.items) }
+{
+    list.sort_by(|a, b| a.name.cmp(b.name))?;
+    Ok(())
+}
+
+/// The same in tree order.
+fn in_tree_order<'a>(
+    alloc: Global,
+    kept: &'a Kept,
+    element: &Element,
+    place: usize,
+) -> Result<Vec<Named<'a>>, NoMemory>
+    ensures { (rows : List Placed) (base : Chars) (root : Placed) → HoldsRows kept.now rows base → slice_get rows place ≡ Some root
+        → slice_get kept.now.elements.items place ≡ Some element.now → is_item root ≡ true → IfOk result (λ list. keys_seen list.items ≡ keys_in (properties_in rows root)) }
+{
+    // most items refer to no element, and then the places stand in a row already
+    match listed(kept.members.as_slice(), &element.reach, place) {
+        Some(list) => named_at(alloc, kept, list),
+        None => named_sorted(alloc, kept, element, place),
+    }
+}
+
+/// The same, where the places have to be sorted first.
+fn named_sorted<'a>(
+    alloc: Global,
+    kept: &'a Kept,
+    element: &Element,
+    place: usize,
+) -> Result<Vec<Named<'a>>, NoMemory>
+    ensures { (rows : List Placed) (base : Chars) (root : Placed) → HoldsRows kept.now rows base → slice_get rows place ≡ Some root
+        → slice_get kept.now.elements.items place ≡ Some element.now → is_item root ≡ true → IfOk result (λ list. keys_seen list.items ≡ keys_in (properties_in rows root)) }
+{
+    let list = properties(alloc, kept.members.as_slice(), &element.reach, place)?;
+    named_at(alloc, kept, list.as_slice())
+}
+
+/// The elements at these places under each of their names.
+fn named_at<'a>(alloc: Global, kept: &'a Kept, places: &[usize]) -> Result<Vec<Named<'a>>, NoMemory>
+    ensures { (rows : List Placed) (base : Chars) → HoldsRows kept.now rows base → IfOk result (λ list. keys_seen list.items ≡ flat_map (keys_at rows) places.now) }
+{
+    let mut list = Vec::with_capacity(alloc, places.len())?;
+    for place in places {
+        add_names(&mut list, kept, *place)?;
+    }
+    Ok(list)
+}
+
+/// Adds the element at a place under each of its names.
+fn add_names<'a>(list: &mut Vec<Named<'a>>, kept: &'a Kept, place: usize) -> Result<(), NoMemory>
+    ensures { (rows : List Placed) (base : Chars) → HoldsRows kept.now rows base → OnOk result (keys_seen list.new.items ≡ keys_seen list.old.items ++ keys_at rows place) }
+{
+    let Some(element) = kept.elements.get(place) else {
+        return Ok(());
+    };
+    match &element.names {
+        Tokens::One(span) => add_name(list, token_at(&kept.words, *span), place),
+        Tokens::Many(names) => add_each(list, names.as_slice(), place),
+    }
+}
+
+fn add_each<'a>(list: &mut Vec<Named<'a>>, names: &'a [Text], place: usize) -> Result<(), NoMemory>
+    ensures { OnOk result (keys_seen list.new.items ≡ keys_seen list.old.items ++ map (key_at place) names.now) }
+{
+    for name in names {
+        add_name(list, name.as_str(), place)?;
+    }
+    Ok(())
+}
+
+fn add_name<'a>(list: &mut Vec<Named<'a>>, name: &'a str, place: usize) -> Result<(), NoMemory>
+    ensures { OnOk result (keys_seen list.new.items ≡ keys_seen list.old.items ++ keyed name.now place ∷ []) }
+{
+    let Ok(()) = list.push(Named { name, place }) else {
+        return Err(NoMemory);
+    };
+    Ok(())
+}

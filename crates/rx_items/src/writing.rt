@@ -1,0 +1,213 @@
+//! The JSON of a page's items, written token by token. No value of it is made.
+ghost use Rattle.std.specs.Prelude.{◌≡◌, ◌++◌, [], ℕ, List, None, Some, true, filter, map, slice_get, IfOk, OnOk};
+ghost use Rattle.serde_json.specs.Data.{object};
+ghost use Rattle.serde_json.specs.Written.{compact_text};
+ghost use Rattle.rx_json_text.specs.Tokens.{data_tokens, each_tokens};
+ghost use Rattle.rx_terms.specs.Text.{Chars};
+ghost use Rattle.rx_microdata.specs.Elements.{Placed, is_item, is_top_level};
+ghost use Rattle.rx_microdata.specs.Json.{json_by, json_of_item};
+ghost use Rattle.rx_item_table.specs.Rows.{properties_in};
+ghost use Rattle.rx_item_properties.specs.Held.{HoldsRows};
+ghost use Rattle.rx_items.specs.Named.{ending, grouped_at, key_seen, keys_in, keys_seen, name_seen, opening, tokens_behind, value_at};
+ghost use Rattle.rx_items.specs.Pages.{top_data};
+
+use crate::named::{Named, by_name};
+use crate::parts::{write_id, write_plain, write_types};
+use crate::visits::NESTED;
+use rx_item_properties::{Element, Kept};
+use rx_json_text::JsonText;
+use rx_terms::NoMemory;
+use std::alloc::Global;
+
+/// The text of a page's top-level items, in which an item that is too deep stands as `null`.
+pub(crate) fn written(alloc: Global, kept: &Kept) -> Result<Vec<u8>, NoMemory>
+    ensures { (rows : List Placed) (base : Chars) → HoldsRows kept.now rows base
+        → IfOk result (λ text. text.items ≡ compact_text (json_by (properties_in rows) base 40 (filter is_top_level rows))) }
+{
+    let mut out = JsonText::new(alloc);
+    match write_page(alloc, kept, &mut out) {
+        Ok(()) => Ok(out.into_bytes()),
+        Err(NoMemory) => {
+            drop(out);
+            Err(NoMemory)
+        }
+    }
+}
+
+/// Writes the object of the page.
+fn write_page(alloc: Global, kept: &Kept, out: &mut JsonText) -> Result<(), NoMemory>
+    ensures { (rows : List Placed) (base : Chars) → HoldsRows kept.now rows base
+        → OnOk result (out.new ≡ out.old ++ data_tokens (json_by (properties_in rows) base 40 (filter is_top_level rows))) }
+{
+    out.begin_object()?;
+    out.key("items")?;
+    out.begin_array()?;
+    write_tops(alloc, kept, out)?;
+    out.end_array()?;
+    out.end_object()
+}
+
+/// Writes each top-level item.
+fn write_tops(alloc: Global, kept: &Kept, out: &mut JsonText) -> Result<(), NoMemory>
+    ensures { (rows : List Placed) (base : Chars) → HoldsRows kept.now rows base
+        → OnOk result (out.new ≡ out.old ++ each_tokens (map (json_of_item (properties_in rows) base 40) (filter is_top_level rows))) }
+{
+    for place in 0..kept.elements.as_slice().len() {
+        write_top(alloc, kept, place, out)?;
+    }
+    Ok(())
+}
+
+/// Writes an element where it is a top-level item.
+fn write_top(alloc: Global, kept: &Kept, place: usize, out: &mut JsonText) -> Result<(), NoMemory>
+    ensures { (rows : List Placed) (base : Chars) (e : Placed) → HoldsRows kept.now rows base → slice_get rows place ≡ Some e
+        → OnOk result (out.new ≡ out.old ++ each_tokens (top_data rows base e)) }
+{
+    let Some(element) = kept.elements.get(place) else {
+        return Ok(());
+    };
+    if !element.is_top {
+        return Ok(());
+    }
+    write_item(alloc, kept, NESTED, element, place, out)
+}
+
+/// Writes the object of an item, in which so many items may nest, itself included.
+#[cycle(write_item)]
+fn write_item(
+    alloc: Global,
+    kept: &Kept,
+    left: usize,
+    element: &Element,
+    place: usize,
+    out: &mut JsonText,
+) -> Result<(), NoMemory>
+    ensures { (rows : List Placed) (base : Chars) (root : Placed) → HoldsRows kept.now rows base → slice_get rows place ≡ Some root
+        → slice_get kept.now.elements.items place ≡ Some element.now → is_item root ≡ true
+        → OnOk result (out.new ≡ out.old ++ data_tokens (json_of_item (properties_in rows) base left root)) }
+{
+    if left == 0 {
+        return out.null();
+    }
+    out.begin_object()?;
+    write_id(alloc, kept, element.item_id, out)?;
+    out.key("properties")?;
+    write_properties(alloc, kept, left - 1, element, place, out)?;
+    write_types(&kept.words, &element.types, out)?;
+    out.end_object()
+}
+
+/// Writes the object that has the properties of an item under their names.
+#[cycle(write_item)]
+fn write_properties(
+    alloc: Global,
+    kept: &Kept,
+    left: usize,
+    element: &Element,
+    place: usize,
+    out: &mut JsonText,
+) -> Result<(), NoMemory>
+    ensures { (rows : List Placed) (base : Chars) (root : Placed) → HoldsRows kept.now rows base → slice_get rows place ≡ Some root
+        → slice_get kept.now.elements.items place ≡ Some element.now → is_item root ≡ true
+        → OnOk result (out.new ≡ out.old ++ data_tokens (object (grouped_at rows base left (keys_in (properties_in rows root))))) }
+{
+    let list = by_name(alloc, kept, element, place)?;
+    out.begin_object()?;
+    write_members(alloc, kept, left, list.as_slice(), out)?;
+    out.end_object()
+}
+
+/// Writes each name once, with the list of its values.
+#[cycle(write_item)]
+fn write_members(
+    alloc: Global,
+    kept: &Kept,
+    left: usize,
+    list: &[Named<'_>],
+    out: &mut JsonText,
+) -> Result<(), NoMemory>
+    ensures { (rows : List Placed) (base : Chars) → HoldsRows kept.now rows base
+        → OnOk result (out.new ≡ out.old ++ tokens_behind rows base left None (keys_seen list.now)) }
+{
+    let mut before = None;
+    for named in list {
+        write_named(alloc, kept, left, before, named, out)?;
+        before = Some(named.name);
+    }
+    end_values(before, out)
+}
+
+/// Writes a value, behind the values of the name before.
+#[cycle(write_item)]
+fn write_named(
+    alloc: Global,
+    kept: &Kept,
+    left: usize,
+    before: Option<&str>,
+    named: &Named<'_>,
+    out: &mut JsonText,
+) -> Result<(), NoMemory>
+    ensures { (rows : List Placed) (base : Chars) → HoldsRows kept.now rows base
+        → OnOk result (out.new ≡ out.old ++ (opening (name_seen before.entry) named.now.name.now ++ data_tokens (value_at rows base left named.now.place))) }
+{
+    open_values(before, named.name, out)?;
+    write_value(alloc, kept, left, named.place, out)
+}
+
+/// Writes the value of the property at a place: an item, or a text.
+#[cycle(write_item)]
+fn write_value(
+    alloc: Global,
+    kept: &Kept,
+    left: usize,
+    place: usize,
+    out: &mut JsonText,
+) -> Result<(), NoMemory>
+    ensures { (rows : List Placed) (base : Chars) → HoldsRows kept.now rows base
+        → OnOk result (out.new ≡ out.old ++ data_tokens (value_at rows base left place)) }
+{
+    let Some(element) = kept.elements.get(place) else {
+        return out.null();
+    };
+    if element.is_item {
+        return write_item(alloc, kept, left, element, place, out);
+    }
+    write_plain(alloc, kept, element.value, out)
+}
+
+/// Before a value of this name, behind the values of the name before.
+fn open_values(before: Option<&str>, name: &str, out: &mut JsonText) -> Result<(), NoMemory>
+    ensures { OnOk result (out.new ≡ out.old ++ opening (name_seen before.entry) name.now) }
+{
+    match before {
+        None => begin_values(name, out),
+        Some(before) => next_values(before, name, out),
+    }
+}
+
+fn begin_values(name: &str, out: &mut JsonText) -> Result<(), NoMemory>
+    ensures { OnOk result (out.new ≡ out.old ++ opening None name.now) }
+{
+    out.key(name)?;
+    out.begin_array()
+}
+
+fn next_values(before: &str, name: &str, out: &mut JsonText) -> Result<(), NoMemory>
+    ensures { OnOk result (out.new ≡ out.old ++ opening (Some before.now) name.now) }
+{
+    if before == name {
+        return Ok(());
+    }
+    out.end_array()?;
+    begin_values(name, out)
+}
+
+/// Behind all values.
+fn end_values(before: Option<&str>, out: &mut JsonText) -> Result<(), NoMemory>
+    ensures { OnOk result (out.new ≡ out.old ++ ending (name_seen before.entry)) }
+{
+    match before {
+        None => Ok(()),
+        Some(_before) => out.end_array(),
+    }
+}
