@@ -3,9 +3,6 @@ use Rattle.std.proofs.Common.{◌≡◌, ◌∙◌, ℕ, suc, Bool, true, false,
 use Rattle.std.specs.declared.alloc.Global.{Global}
 use Rattle.std.specs.Prelude.{Vec, codes, filter, option_map, if◌then◌else◌}
 use Rattle.std.specs.Option.{option_or}
-use Rattle.serde_json.specs.View.{view}
-use Rattle.serde_json.specs.Written.{compact_text, has_float}
-use Rattle.serde_json.specs.declared.value.Value.{Value}
 use Rattle.rx_terms.specs.Text.{Chars}
 use Rattle.rx_grammar.specs.Trees.{Tree}
 use Rattle.rx_grammar.specs.declared.faults.Fault.{Fault}
@@ -19,7 +16,7 @@ use Rattle.rx_microdata.specs.Elements.{elements_of, is_top_level}
 use Rattle.rx_microdata.specs.Json.{Outcome, Given, Refused, json_by, refused, outcome}
 use Rattle.rx_microdata.specs.Properties.{properties}
 use Rattle.rx_microdata.specs.Visits.{Bounds, Visit, standard_bounds, is_cycle, fault_of, first_fault, visits_by}
-use Rattle.rx_items.specs.Pages.{JsonGives}
+use Rattle.rx_items.specs.Pages.{IsTextOf, TextGives}
 use Rattle.rx_item_properties.specs.declared.kept.Kept.{Kept}
 use Rattle.rx_command.specs.JsonTexts.{AreItems, JsonTextGives}
 use Rattle.rx_ports.specs.Files.{file_of}
@@ -30,12 +27,11 @@ use Rattle.rx_command.specs.Inputs.{PageText, PageRefused}
 use Rattle.rx_command.specs.Outcome.{JsonText, HasItems, is_of_items}
 use Rattle.rx_command.specs.Reading.{GivesItems, ReadsWhole}
 use Rattle.rx_command.specs.Written.{text_of}
-use Rattle.rx_command.proofs.JsonLemmas.{no_numbers}
 
-pub json_text : (address : Chars) (tree : Tree) (value : Value) (text : List ℕ) → outcome standard_bounds address tree ≡ Given (view value) → (has_float (view value) ≡ false → text ≡ compact_text (view value) ++ codes "\n") → JsonText address tree text
-json_text address tree value text given spelled = record { value = view value; given = given; spelled = spelled (no_numbers standard_bounds address tree (view value) given) }
+pub json_text : (address : Chars) (tree : Tree) (text line : List ℕ) → IsTextOf (outcome standard_bounds address tree) text → line ≡ text ++ codes "\n" → JsonText address tree line
+json_text address tree text line is ended = record { value = is.value; given = is.given; spelled = ended ∙ ap (λ (t : List ℕ). t ++ codes "\n") is.spelled }
 
-pub json_stops : (address : Chars) (tree : Tree) (why : Stop) → JsonGives (outcome standard_bounds address tree) (Err why) → JsonTextGives {V = Vec ℕ Global} (λ text. text.items) address tree (Err why)
+pub json_stops : (address : Chars) (tree : Tree) (why : Stop) → TextGives (outcome standard_bounds address tree) (Err why) → JsonTextGives {V = Vec ℕ Global} (λ text. text.items) address tree (Err why)
 json_stops address tree (stop.Fault fault) g = g
 json_stops address tree stop.NoMemory g = tt
 

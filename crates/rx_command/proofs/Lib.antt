@@ -15,5 +15,4 @@ pub mod WrittenTokens
 pub mod WrittenNodes
 pub mod SampleTokens
 pub mod SampleNodes
-pub mod JsonLemmas
 pub mod ItemLemmas

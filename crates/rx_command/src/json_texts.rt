@@ -1,7 +1,5 @@
 //! Texts of JSON: of a page's items, and of a graph.
-ghost use Rattle.std.specs.Prelude.{◌≡◌, ◌++◌, IfOk, codes, false};
-ghost use Rattle.serde_json.specs.View.{view};
-ghost use Rattle.serde_json.specs.Written.{compact_text, has_float};
+ghost use Rattle.std.specs.Prelude.{◌≡◌, ◌++◌, IfOk, codes};
 ghost use Rattle.rx_terms.specs.Text.{Chars};
 ghost use Rattle.rx_grammar.specs.Trees.{Tree};
 ghost use Rattle.rx_model.specs.Seen.{triples_seen};
@@ -13,26 +11,19 @@ use rx_items::Items;
 use rx_shapes::Shapes;
 use rx_terms::NoMemory;
 use rx_walk::Stop;
-use serde_json::Value;
 use std::alloc::Global;
 
 /// The compact JSON of the items, and a line feed; or the fault of one.
 pub(crate) fn text_of_items(alloc: Global, items: &Items) -> Result<Vec<u8>, Stop>
     ensures { (address : Chars) (tree : Tree) → AreItems address tree items.now → JsonTextGives (λ text. text.items) address tree result }
 {
-    let value = match items.json(alloc) {
-        Ok(value) => value,
+    let text = match items.text(alloc) {
+        Ok(text) => text,
         Err(stop) => return Err(stop),
     };
-    match text_of_value(alloc, &value) {
-        Ok(text) => {
-            drop(value);
-            Ok(text)
-        }
-        Err(NoMemory) => {
-            drop(value);
-            Err(Stop::NoMemory)
-        }
+    match ended(text) {
+        Ok(line) => Ok(line),
+        Err(NoMemory) => Err(Stop::NoMemory),
     }
 }
 
@@ -45,14 +36,6 @@ pub(crate) fn text_of_graph(alloc: Global, graph: &Graph) -> Result<Vec<u8>, NoM
     let found = rx_jsonld::text(alloc, graph, &shapes);
     drop(shapes);
     let text = ended(found?)?;
-    Ok(text)
-}
-
-/// The compact JSON of the value, and a line feed.
-fn text_of_value(alloc: Global, value: &Value) -> Result<Vec<u8>, NoMemory>
-    ensures { IfOk result (λ text. has_float (view value.now) ≡ false → text.items ≡ compact_text (view value.now) ++ codes "\n") }
-{
-    let text = ended(value.to_vec(alloc)?)?;
     Ok(text)
 }
 

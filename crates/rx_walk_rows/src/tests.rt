@@ -1,1 +1,2 @@
+mod items;
 mod walks;
