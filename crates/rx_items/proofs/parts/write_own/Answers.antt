@@ -11,7 +11,7 @@ pub returns-in-Some : goal.returns-in-Some
 returns-in-Some c =
     then_ok c.write_text.result
     (λ wrote. data_told c.args.out.now c.write_text.new.out (string_of (chars c.since.result.now)) (string_of (unwrap_or (slice_get c.args.times.now c.args.number) []))
-    (found_time c.args.times.now c.args.number c.in-Some.time.now (chars c.since.result.now) (slice_get-get_or c.args.times.now c.args.number c.in-Some.time.now c.in-Some.ensures.lookup.3.0 ∙ ap Some (sym c.in-Some.ensures.lookup.1)) (c.since.ensures [] c.in-Some.time.now (cut_at_start c.in-Some.time.now)))
+    (found_time c.args.times.now c.args.number c.in-Some.time.now (chars c.since.result.now) (slice_get-get_or c.args.times.now c.args.number c.in-Some.time.now c.in-Some.ensures.lookup.3.0 ∙ ap Some (sym c.in-Some.ensures.lookup.1)) (c.since.ensures.rest [] c.in-Some.time.now (cut_at_start c.in-Some.time.now)))
     wrote)
     c.write_text.ensures
 
