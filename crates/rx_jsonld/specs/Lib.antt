@@ -5,5 +5,4 @@ pub mod Document
 pub mod Meaning
 pub mod Laws
 pub mod Rows
-pub mod Tokens
 pub mod Groups

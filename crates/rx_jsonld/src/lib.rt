@@ -10,7 +10,6 @@ ghost use Rattle.rx_jsonld.specs.Rows.{RowsHold};
 
 mod chains;
 mod groups;
-mod json_texts;
 mod listed;
 mod members;
 mod nodes;

@@ -8,14 +8,14 @@ ghost use Rattle.rx_pieces.specs.Writing.{blank_text};
 ghost use Rattle.rx_shapes.specs.Table.{AreShapes, shape_in};
 ghost use Rattle.rx_jsonld.specs.Groups.{value_said};
 ghost use Rattle.rx_jsonld.specs.Lists.{chain};
-ghost use Rattle.rx_jsonld.specs.Tokens.{data_tokens, each_tokens, members_tokens};
+ghost use Rattle.rx_json_text.specs.Tokens.{data_tokens, each_tokens, members_tokens};
 ghost use Rattle.rx_jsonld.specs.Value.{id_text, item_value, list_value, literal_members, object_value, object_with, plain_value, string_of, term_value};
 
 use crate::chains::{Part, chain, first_cell, object_at};
-use crate::json_texts::JsonText;
 use crate::objects::{is_empty_list, type_of};
 use crate::terms::label;
 use rx_graph::{Graph, Resource};
+use rx_json_text::JsonText;
 use rx_shapes::Shapes;
 use rx_terms::{Blank, Iri, Literal, LiteralKind, NoMemory, Term, Triple};
 use std::alloc::Global;

@@ -12,15 +12,15 @@ ghost use Rattle.rx_jsonld.specs.Groups.{grouped, value_at, values_at};
 ghost use Rattle.rx_jsonld.specs.Lists.{listed};
 ghost use Rattle.rx_jsonld.specs.Meaning.{JsonLd};
 ghost use Rattle.rx_jsonld.specs.Places.{node_at, nodes_added};
-ghost use Rattle.rx_jsonld.specs.Tokens.{data_tokens, each_tokens, members_tokens};
+ghost use Rattle.rx_json_text.specs.Tokens.{data_tokens, each_tokens, members_tokens};
 ghost use Rattle.rx_jsonld.specs.Value.{id_text, jsonld, node_value, string_of, tops};
 
 use crate::groups::groups_of;
-use crate::json_texts::JsonText;
 use crate::listed::listed_cells;
 use crate::nodes::begins_node;
 use crate::said::{write_id, write_said};
 use rx_graph::{Graph, Nodes, Resource};
+use rx_json_text::JsonText;
 use rx_shapes::Shapes;
 use rx_terms::{NoMemory, Node};
 use std::alloc::Global;

@@ -1,6 +1,6 @@
 use Rattle.std.proofs.Common.{◌≡◌, ◌++◌, drop, map}
 use Rattle.rx_model.specs.Seen.{triples_seen}
-use Rattle.rx_jsonld.specs.Tokens.{each_tokens}
+use Rattle.rx_json_text.specs.Tokens.{each_tokens}
 use Rattle.rx_jsonld.specs.Value.{item_value}
 use Rattle.rx_jsonld.proofs.said.write_items.Given as goal
 

@@ -3,7 +3,7 @@ use Rattle.rx_model.specs.Seen.{node_seen, triples_seen}
 use Rattle.rx_shapes.specs.Table.{shape_in}
 use Rattle.rx_jsonld.specs.Places.{node_at}
 use Rattle.rx_jsonld.proofs.PlaceLemmas.{nodes_until, node_turn}
-use Rattle.rx_jsonld.proofs.TokenLemmas.{each_turn}
+use Rattle.rx_json_text.proofs.TokenLemmas.{each_turn}
 use Rattle.rx_jsonld.proofs.texts.write_each.Goals as goal
 
 pub loop-i-preserved : goal.loop-i-preserved

@@ -1,6 +1,6 @@
 use Rattle.std.proofs.Common.{◌≡◌, ◌++◌, take}
 use Rattle.rx_shapes.specs.Table.{shape_in}
-use Rattle.rx_jsonld.specs.Tokens.{each_tokens}
+use Rattle.rx_json_text.specs.Tokens.{each_tokens}
 use Rattle.rx_jsonld.proofs.PlaceLemmas.{nodes_until}
 use Rattle.rx_jsonld.proofs.texts.write_each.Given as goal
 

@@ -2,7 +2,7 @@ use Rattle.std.proofs.Common.{◌≡◌, ◌++◌}
 use Rattle.rx_model.specs.Seen.{triples_seen}
 use Rattle.rx_shapes.specs.Table.{shape_in}
 use Rattle.rx_jsonld.specs.Groups.{grouped}
-use Rattle.rx_jsonld.specs.Tokens.{members_tokens}
+use Rattle.rx_json_text.specs.Tokens.{members_tokens}
 use Rattle.rx_jsonld.proofs.texts.write_groups.Given as goal
 
 abbrev pub invariant-loop-key : goal.invariant-loop-key

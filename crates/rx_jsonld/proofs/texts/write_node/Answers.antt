@@ -3,7 +3,7 @@ use Rattle.serde_json.specs.Data.{Members, object, member, no_members}
 use Rattle.rx_model.specs.Seen.{node_seen, triples_seen}
 use Rattle.rx_shapes.specs.Table.{shape_in}
 use Rattle.rx_jsonld.specs.Places.{with_places}
-use Rattle.rx_jsonld.specs.Tokens.{data_tokens}
+use Rattle.rx_json_text.specs.Tokens.{data_tokens}
 use Rattle.rx_jsonld.specs.Value.{id_text, string_of}
 use Rattle.rx_jsonld.proofs.GroupLemmas.{node_made}
 use Rattle.rx_jsonld.proofs.MemberLemmas.{then_ok}

@@ -2,7 +2,7 @@ use Rattle.std.proofs.Common.{◌≡◌, ◌++◌, drop}
 use Rattle.rx_model.specs.Seen.{triples_seen}
 use Rattle.rx_shapes.specs.Table.{shape_in}
 use Rattle.rx_jsonld.specs.Groups.{values_at}
-use Rattle.rx_jsonld.specs.Tokens.{each_tokens}
+use Rattle.rx_json_text.specs.Tokens.{each_tokens}
 use Rattle.rx_jsonld.proofs.texts.write_places.Given as goal
 
 abbrev pub invariant-loop-place : goal.invariant-loop-place
