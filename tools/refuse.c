@@ -1,6 +1,8 @@
 /* Loaded into a program by LD_PRELOAD, this refuses one of its calls: REFUSE says which kind (memory, read, write or say),
- * AT its number, from 1. "write" is a write to standard output, "say" one to standard error. Where COUNTS names a file, how
- * many calls of each kind there were is added to it when the program ends. */
+ * AT its number, from 1, and ERROR the number of the error, EIO where there is none. "write" is a write to standard output,
+ * "say" one to standard error. Where COUNTS names a file, how many calls of each kind there were is added to it when the
+ * program ends. SHORTEN names a kind of which each call moves MOST bytes at the most. CUT names a file that is cut to CUT_TO
+ * bytes before read number AT. */
 #define _GNU_SOURCE
 #include <errno.h>
 #include <fcntl.h>
@@ -18,17 +20,36 @@ enum kind { MEMORY, READ, WRITE, SAY, KINDS };
 static const char *const names[KINDS] = {"memory", "read", "write", "say"};
 static long calls[KINDS];
 static int refused = KINDS;
+static int shortened = KINDS;
 static long number;
+static long most;
+static long error;
+static long cut_to;
+static const char *cut;
 static const char *counts;
 
+static long number_in(const char *variable, long otherwise) {
+    const char *text = getenv(variable);
+    return text ? strtol(text, NULL, 10) : otherwise;
+}
+
+static int kind_in(const char *variable) {
+    const char *text = getenv(variable);
+    int kind = 0;
+    if (!text) return KINDS;
+    while (kind < KINDS && strcmp(text, names[kind]) != 0) kind++;
+    return kind;
+}
+
 __attribute__((constructor)) static void begin(void) {
-    const char *kind = getenv("REFUSE");
-    const char *at = getenv("AT");
     counts = getenv("COUNTS");
-    for (int i = 0; kind && at && i < KINDS; i++) {
-        if (strcmp(kind, names[i]) == 0) refused = i;
-    }
-    number = at ? strtol(at, NULL, 10) : 0;
+    cut = getenv("CUT");
+    cut_to = number_in("CUT_TO", 0);
+    refused = kind_in("REFUSE");
+    number = number_in("AT", 0);
+    error = number_in("ERROR", EIO);
+    shortened = kind_in("SHORTEN");
+    most = number_in("MOST", 0);
     memset(calls, 0, sizeof calls);
 }
 
@@ -45,6 +66,10 @@ __attribute__((destructor)) static void end(void) {
 static int is_refused(enum kind kind) {
     calls[kind]++;
     return (int)kind == refused && calls[kind] == number;
+}
+
+static size_t at_most(enum kind kind, size_t size) {
+    return (int)kind == shortened && size > (size_t)most ? (size_t)most : size;
 }
 
 void *malloc(size_t size) {
@@ -65,18 +90,21 @@ void *realloc(void *block, size_t size) {
 
 ssize_t read(int file, void *bytes, size_t size) {
     if (is_refused(READ)) {
-        errno = EIO;
+        errno = (int)error;
         return -1;
     }
-    return syscall(SYS_read, file, bytes, size);
+    if (cut && calls[READ] == number && truncate(cut, cut_to) < 0) return -1;
+    return syscall(SYS_read, file, bytes, at_most(READ, size));
 }
 
 ssize_t write(int file, const void *bytes, size_t size) {
-    if (file <= 2 && is_refused(file == 2 ? SAY : WRITE)) {
-        errno = EIO;
+    enum kind kind = file == 2 ? SAY : WRITE;
+    if (file > 2) return syscall(SYS_write, file, bytes, size);
+    if (is_refused(kind)) {
+        errno = (int)error;
         return -1;
     }
-    return syscall(SYS_write, file, bytes, size);
+    return syscall(SYS_write, file, bytes, at_most(kind, size));
 }
 
 ssize_t __write(int file, const void *bytes, size_t size) {
