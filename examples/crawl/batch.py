@@ -28,6 +28,10 @@ PAGES = 1000
 # have two megabytes, and one of them 131,071 bytes.
 WORDS, WORD = 1_000_000, 100_000
 
+# As many bytes as the pages of a batch may have. `rdfax many` keeps all quads until it writes them: of pages that are
+# nothing but RDFa ten times as many bytes. A page that is longer is a batch of its own.
+BYTES = 20_000_000
+
 REFUSED = re.compile(rb"# refused: (\w+) at byte (\d+) in token (\d+) of (.*)")
 
 # Statuses of a try that another one may mend: a file couldn't be read, there was no memory, the time was up. So may one
@@ -51,24 +55,49 @@ def rows_of(path):
             yield row
 
 
-def batches_of(rows, pages):
-    """The rows in lists. No graph is in a batch twice, so that what is said of an address is said of one page."""
-    batch, graphs, words = [], set(), 0
+class Batch:
+    """Rows that are read together. No graph is among them twice, so what is said of an address is said of one page."""
+
+    def __init__(self):
+        self.rows, self.graphs, self.words, self.bytes = [], set(), 0, 0
+
+    def takes(self, row, size, pages):
+        """Whether a row more, whose file has this size, is in the limits; then the batch has it."""
+        graph, words = row[0].split(b"#")[0], self.words + len(row[0]) + len(row[1])
+        full = len(self.rows) == pages or words > WORDS or self.bytes + size > BYTES
+        if self.rows and (full or graph in self.graphs):
+            return False
+        self.rows.append(row)
+        self.graphs.add(graph)
+        self.words, self.bytes = words, self.bytes + size
+        return True
+
+
+def size_of(folder, name):
+    """The bytes of a page's file; none where it can't be seen from here."""
+    try:
+        return os.stat(os.path.join(folder, name)).st_size
+    except OSError:
+        return 0
+
+
+def batches_of(rows, folder, pages):
+    """The rows in batches of up to so many pages."""
+    batch = Batch()
     for row in rows:
-        graph, size = row[0].split(b"#")[0], len(row[0]) + len(row[1])
-        if batch and (len(batch) == pages or graph in graphs or words + size > WORDS):
-            yield batch
-            batch, graphs, words = [], set(), 0
-        batch.append(row)
-        graphs.add(graph)
-        words += size
-    if batch:
-        yield batch
+        size = size_of(folder, row[1])
+        if not batch.takes(row, size, pages):
+            yield batch.rows
+            batch = Batch()
+            batch.takes(row, size, pages)
+    if batch.rows:
+        yield batch.rows
 
 
 def cut(table, out, pages):
     """Cuts the table into OUT/batches, a file for each batch, unless an earlier run did."""
     table = os.path.abspath(table)
+    folder = os.fsencode(os.path.dirname(table))
     begun = {"table": table, "bytes": os.path.getsize(table), "pages": pages}
     os.makedirs(out, exist_ok=True)
     if os.path.isdir(f"{out}/batches"):
@@ -77,7 +106,7 @@ def cut(table, out, pages):
         return
     with tempfile.TemporaryDirectory(dir=out) as room:
         os.mkdir(f"{room}/batches")
-        for number, batch in enumerate(batches_of(rows_of(table), pages), 1):
+        for number, batch in enumerate(batches_of(rows_of(table), folder, pages), 1):
             with open(f"{room}/batches/{number:08}", "wb") as rows:
                 rows.writelines(b"%b\t%b\n" % row for row in batch)
         for folder in "quads", "refusals", "failures", "tmp":

@@ -14,7 +14,7 @@ import sys
 import time
 
 import dask
-from distributed import Client, LocalCluster, as_completed
+from distributed import Client, as_completed
 
 import batch
 
@@ -40,27 +40,42 @@ def client_of(words):
     """A client of the scheduler that the words name, or of a cluster of processes on this machine."""
     if words.scheduler:
         return Client(words.scheduler)
-    # (as often as a failed batch is tried again; a scheduler that runs has its own number)
-    dask.config.set({"distributed.scheduler.allowed-failures": 1})
-    cluster = LocalCluster(
+    # (a batch whose worker ends is given back at once; a scheduler that runs already has its own number)
+    dask.config.set({"distributed.scheduler.allowed-failures": 0})
+    return Client(
         n_workers=words.workers, threads_per_worker=1, processes=True, memory_limit=None, dashboard_address=None
     )
-    return Client(cluster)
 
 
-def crawl(client, names, submit):
-    """Has the batches of these names run, a few ahead of the workers, and gives the journal's line of each."""
+def crawl(names, submit, ahead):
+    """Has the batches of these names run, so many at once. Gives each name with the journal's line, or with nothing."""
     left = iter(names)
-    ahead = AHEAD * max(1, sum(client.nthreads().values()))
     running = as_completed(submit(name) for name in itertools.islice(left, ahead))
     for future in running:
+        name = future.key.removeprefix("batch-")
         if future.status == "finished":
-            yield future.result()
+            yield name, future.result()
         else:
-            # (the batch stays undone, and the next run tries it again)
             print(f"{future.key}: {future.exception()!r}", file=sys.stderr)
+            yield name, None
         for name in itertools.islice(left, 1):
             running.add(submit(name))
+
+
+def crawl_twice(client, names, submit):
+    """Has the batches run; gives the journal's lines.
+
+    Those that were lost, most often with their worker, run once more, one at a time: then one that ends its worker
+    takes no other along. What is lost again stays undone, and the next run tries it.
+    """
+    lost = []
+    for name, line in crawl(names, submit, AHEAD * max(1, sum(client.nthreads().values()))):
+        if line is None:
+            lost.append(name)
+        else:
+            yield line
+    for _, line in crawl(lost, submit, 1):
+        yield line or ""
 
 
 def main():
@@ -80,7 +95,7 @@ def main():
             task = out, name, words.rdfax, words.seconds, words.kilobytes
             return client.submit(batch.run, *task, key=f"batch-{name}", retries=1, pure=False)
 
-        for line in crawl(client, [name for name in batch.names_of(out) if name not in done], submit):
+        for line in crawl_twice(client, [name for name in batch.names_of(out) if name not in done], submit):
             if line:
                 print(line, file=journal, flush=True)
                 pages += int(line.split("\t")[1])
@@ -89,4 +104,7 @@ def main():
 
 
 if __name__ == "__main__":
-    main()
+    try:
+        main()
+    except KeyboardInterrupt:
+        sys.exit("crawl_dask.py: interrupted; the same command goes on")
