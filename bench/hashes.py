@@ -1,9 +1,9 @@
 """What a page costs whose keys meet in the program's hash tables, beside a page of the same size with keys at random.
 
     ./build    # proves and builds the program, if it isn't there
-    python3 bench/hashes.py                  # pages of a mebibyte, by seconds; needs cc, and an hour
-    python3 bench/hashes.py --count 10000    # fewer keys
-    python3 bench/hashes.py --instructions --count 10000    # by callgrind
+    python3 bench/hashes.py                  # pages of a mebibyte, by processor time; needs cc, and some ten minutes
+    python3 bench/hashes.py --count 30000    # fewer keys
+    python3 bench/hashes.py --instructions --count 10000    # by callgrind (apt-get install valgrind)
 
 Each shape is a table of the program: `label` finds the labels of blank nodes, `list` the predicates of lists, `quad` the quads
 of several pages, `triple` the triples of a page that copies a pattern, `repeated` those of another page, each of which stands
