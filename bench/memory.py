@@ -4,8 +4,9 @@
     python3 bench/memory.py
 
 A hostile page nests 500 elements over one text, or has one element with many names, and each element and each name has the
-text as its value: by `property` for the triples, by `itemprop` for the items. Memory is the most that the program held at once, without what a program takes that does nothing. Under a limit
-(`ulimit -v`, in kilobytes) the status is printed, and how many bytes were written and said.
+text as its value: by `property` for the triples, by `itemprop` for the items. Memory is the most that the program held at
+once, without what a program takes that does nothing. Under a limit (`ulimit -v`, in kilobytes) the status is printed, and how
+many bytes were written and said.
 """
 
 import argparse
