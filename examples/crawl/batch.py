@@ -269,8 +269,9 @@ def gather(out):
     accepted = pages - refused - failed - undone
     print(f"{pages} pages: {accepted} accepted, {refused} refused, {failed} failed, {undone} undone")
     if undone == 0:
-        for room in os.listdir(f"{out}/tmp"):  # of what was killed
-            shutil.rmtree(f"{out}/tmp/{room}", ignore_errors=True)
+        rooms = os.path.join(out, "tmp")
+        for room in os.listdir(rooms):  # of what was killed
+            shutil.rmtree(os.path.join(rooms, room), ignore_errors=True)
     return undone == 0
 
 
