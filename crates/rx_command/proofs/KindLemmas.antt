@@ -26,24 +26,23 @@ use Rattle.rx_walk.specs.Refused.{refused_in}
 use Rattle.rx_command.specs.Headline.{is_of_meaning}
 use Rattle.rx_command.specs.Outcome.{is_of_items}
 
--- a kind of neither
-pub record IsOfForm (found : Kind) : Type 0 where
-  pub of_items : is_of_items found ≡ false
-  pub of_meaning : is_of_meaning found ≡ false
+-- a kind of a page's form is neither of items nor of meaning
+abbrev pub IsOfForm : Kind → Type 0
+IsOfForm found = (is_of_items found ≡ false) × (is_of_meaning found ≡ false)
 
 run_kind : (syntax : Syntax) (found : Kind) (run : Chars) → RunFault syntax found run → IsOfForm found
-run_kind syntax _ _ (unknown name n m) = record { of_items = refl; of_meaning = refl }
-run_kind syntax _ _ (bad body b n m) = record { of_items = refl; of_meaning = refl }
-run_kind syntax _ _ (no_reference run c x b h) = record { of_items = refl; of_meaning = refl }
+run_kind syntax _ _ (unknown name n m) = (refl, refl)
+run_kind syntax _ _ (bad body b n m) = (refl, refl)
+run_kind syntax _ _ (no_reference run c x b h) = (refl, refl)
 
 value_kind : (syntax : Syntax) (found : Kind) (value : Chars) → ValueFault syntax found value → IsOfForm found
 value_kind syntax _ _ (tags.in_run {kind = found} text run f) = run_kind syntax found run f
-value_kind syntax _ _ (tags.less_than text x) = record { of_items = refl; of_meaning = refl }
+value_kind syntax _ _ (tags.less_than text x) = (refl, refl)
 
 tag_kind : (syntax : Syntax) (found : Kind) (text : Chars) → TagFault syntax found text → IsOfForm found
-tag_kind syntax _ _ (bad_tag front c b none) = record { of_items = refl; of_meaning = refl }
+tag_kind syntax _ _ (bad_tag front c b none) = (refl, refl)
 tag_kind syntax _ _ (tags.in_value {kind = found} front c b d) = value_kind syntax found _ d.faulty
-tag_kind syntax _ _ (repeated chars parts r t) = record { of_items = refl; of_meaning = refl }
+tag_kind syntax _ _ (repeated chars parts r t) = (refl, refl)
 
 -- each row has such a kind
 abbrev AreOfForm : Rows → Type 0
@@ -57,10 +56,10 @@ first_kind ((false, first) ∷ rows) found a e = first_kind rows found a.1 e
 
 start_kinds : (syntax : Syntax) (depth : ℕ) (line : Line) (phase : Phase) (t : Tag) → AreOfForm (start_rows syntax depth line phase t)
 start_kinds syntax depth line phase t =
-    (record { of_items = refl; of_meaning = refl }, (record { of_items = refl; of_meaning = refl }, (record { of_items = refl; of_meaning = refl }, (record { of_items = refl; of_meaning = refl }, (record { of_items = refl; of_meaning = refl }, tt)))))
+    ((refl, refl), ((refl, refl), ((refl, refl), ((refl, refl), ((refl, refl), tt)))))
 
 end_kinds : (syntax : Syntax) (line : Line) (t : Tag) → AreOfForm (end_rows syntax line t)
-end_kinds syntax line t = (record { of_items = refl; of_meaning = refl }, (record { of_items = refl; of_meaning = refl }, tt))
+end_kinds syntax line t = ((refl, refl), ((refl, refl), tt))
 
 whole_kind : (syntax : Syntax) (depth : ℕ) (line : Line) (phase : Phase) (t : Tag) (found : Kind) (closing : Bool)
     → first_row (if closing then end_rows syntax line t else start_rows syntax depth line phase t) ≡ Some found → IsOfForm found
@@ -69,26 +68,26 @@ whole_kind syntax depth line phase t found false e = first_kind (start_rows synt
 
 faulty_kind : (syntax : Syntax) (depth : ℕ) (items : List Item) (line : Line) (phase : Phase) (inside : Content) (found : Kind) (text : Chars) → Faulty syntax depth items line phase inside found text → IsOfForm found
 faulty_kind syntax depth items line phase inside _ _ (faults.in_tag {found = found} text k f) = tag_kind syntax found text f
-faulty_kind syntax depth items line phase inside _ _ (faults.no_markup text c x m b n t) = record { of_items = refl; of_meaning = refl }
+faulty_kind syntax depth items line phase inside _ _ (faults.no_markup text c x m b n t) = (refl, refl)
 faulty_kind syntax depth items line phase inside _ _ (faults.in_run {found = found} run r f) = run_kind syntax found run f
-faulty_kind syntax depth items line phase inside _ _ (faults.in_comment text c x m f n) = record { of_items = refl; of_meaning = refl }
-faulty_kind syntax depth items line phase inside _ _ (faults.section_end i e) = record { of_items = refl; of_meaning = refl }
-faulty_kind syntax depth items line phase inside _ _ (faults.no_doctype keyword text c m k b n) = record { of_items = refl; of_meaning = refl }
-faulty_kind syntax depth items line phase inside _ _ (faults.late_doctype text m d p) = record { of_items = refl; of_meaning = refl }
-faulty_kind syntax depth items line phase inside _ _ (faults.outside_text c i w n) = record { of_items = refl; of_meaning = refl }
-faulty_kind syntax depth items line phase inside _ _ (faults.outside_less_than c x i m) = record { of_items = refl; of_meaning = refl }
-faulty_kind syntax depth items line phase inside _ _ (faults.outside_section x i) = record { of_items = refl; of_meaning = refl }
+faulty_kind syntax depth items line phase inside _ _ (faults.in_comment text c x m f n) = (refl, refl)
+faulty_kind syntax depth items line phase inside _ _ (faults.section_end i e) = (refl, refl)
+faulty_kind syntax depth items line phase inside _ _ (faults.no_doctype keyword text c m k b n) = (refl, refl)
+faulty_kind syntax depth items line phase inside _ _ (faults.late_doctype text m d p) = (refl, refl)
+faulty_kind syntax depth items line phase inside _ _ (faults.outside_text c i w n) = (refl, refl)
+faulty_kind syntax depth items line phase inside _ _ (faults.outside_less_than c x i m) = (refl, refl)
+faulty_kind syntax depth items line phase inside _ _ (faults.outside_section x i) = (refl, refl)
 faulty_kind syntax depth items line phase inside _ _ (faults.at_tag {found = found} chars t s r) = whole_kind syntax depth line phase t found t.closing r
 
 -- faults of a page's form are neither of meaning nor of items
 pub form_kind : (syntax : Syntax) (limits : Limits) (bytes : List ℕ) (fault : Fault) → FaultAt syntax limits bytes fault → IsOfForm fault.kind
-form_kind syntax limits bytes _ (page_too_long token at b p s) = record { of_items = refl; of_meaning = refl }
-form_kind syntax limits bytes _ (not_utf8 token at b p s n) = record { of_items = refl; of_meaning = refl }
-form_kind syntax limits bytes _ (nul token at b p s n z) = record { of_items = refl; of_meaning = refl }
-form_kind syntax limits bytes _ (tag_too_long token at b p k e g) = record { of_items = refl; of_meaning = refl }
-form_kind syntax limits bytes _ (known_too_long whole rest items line phase first more c e r u n k o p) = record { of_items = refl; of_meaning = refl }
+form_kind syntax limits bytes _ (page_too_long token at b p s) = (refl, refl)
+form_kind syntax limits bytes _ (not_utf8 token at b p s n) = (refl, refl)
+form_kind syntax limits bytes _ (nul token at b p s n z) = (refl, refl)
+form_kind syntax limits bytes _ (tag_too_long token at b p k e g) = (refl, refl)
+form_kind syntax limits bytes _ (known_too_long whole rest items line phase first more c e r u n k o p) = (refl, refl)
 form_kind syntax limits bytes _ (decided {found = found} whole rest items line phase run c e r i f s p) = faulty_kind syntax limits.depth items line phase _ found _ f
-form_kind syntax limits bytes _ (unended whole part items line phase run e r i is n size s) = record { of_items = refl; of_meaning = refl }
+form_kind syntax limits bytes _ (unended whole part items line phase run e r i is n size s) = (refl, refl)
 
 refusal_kind : (refused : Refusal) → is_of_items (kind_of refused) ≡ false
 refusal_kind RelativeVocab = refl

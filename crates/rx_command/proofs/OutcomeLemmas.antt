@@ -125,12 +125,12 @@ module _ (way : Way) (law : IsRefusal way.refused) where
 -- what refuses a page for its form or for RDFa isn't of items
 kind_of_first : (task : Task) (context : Context) (aim : Aim) (bytes : List ℕ) (fault : Fault)
     → ((front : List Sign) → refused_for aim front ≡ Some fault → is_of_items fault.kind ≡ false) → Refuses (way_for (syntax_in task) aim) bytes fault → is_of_items fault.kind ≡ false
-kind_of_first task context aim bytes fault of (for_form f n) = (form_kind (syntax_in task) standard bytes fault f).of_items
+kind_of_first task context aim bytes fault of (for_form f n) = (form_kind (syntax_in task) standard bytes fault f).0
 kind_of_first task context aim bytes fault of (for_meaning m n) = of (sees nothing_seen m.now.told).signs m.refused
 
 -- what refuses it for its form where items are wanted isn't of meaning
 form_of_first : (i : Itemization) (context : Context) (bytes : List ℕ) (fault : Fault) → Refuses (way_in (itemizes i) context) bytes fault → is_of_meaning fault.kind ≡ false
-form_of_first i context bytes fault (for_form f n) = (form_kind i.syntax standard bytes fault f).of_meaning
+form_of_first i context bytes fault (for_form f n) = (form_kind i.syntax standard bytes fault f).1
 form_of_first i context bytes fault (for_meaning m n) = let none : None ≡ Some fault = m.refused in absurd (cc)
 
 refusable : (task : Task) (context : Context) (bytes : List ℕ) (fault : Fault) → TaskRefuses task context bytes fault → may_refuse task fault.kind ≡ true

@@ -52,7 +52,7 @@ pub fn run<F: Shelf, O: Sink, E: Sink>(
         (record { told = F.told shelf.old; read_faults = F.faults shelf.old; held = O.held out.old; write_faults = O.faults out.old; said = E.held err.old; say_faults = E.faults err.old })
         (record { told = F.told shelf.new; read_faults = F.faults shelf.new; held = O.held out.new; write_faults = O.faults out.new; said = E.held err.new; say_faults = E.faults err.new }) }
 
-    // Usage comes only where the words ask for nothing, and then the shelf isn't used. Where they ask for nothing there is no
+    // Usage comes only where the words ask for nothing, and then the shelf is as it was. Where they ask for nothing there is no
     // other answer but want of memory.
     ensures usage { result ≡ Status.Usage → job words.now ≡ None }
     ensures only_usage { job words.now ≡ None → (result ≡ Status.Usage) ⊎ (result ≡ Status.Memory) }
@@ -100,8 +100,8 @@ pub fn run<F: Shelf, O: Sink, E: Sink>(
         → (result ≡ Status.BadContext) ⊎ (result ≡ Status.Memory) }
     ensures takes_context { result ≡ Status.BadContext → Moves (TakesContext (context_asked words.now)) (F.told shelf.old) (F.told shelf.new) }
 
-    // What err is told: one line on Usage, on Refused and on BadContext, or a front of it where err failed. On
-    // other statuses err isn't used.
+    // What err is told: one line on Usage, on Refused and on BadContext, or a front of it where err failed. On other
+    // statuses it is told nothing, and didn't fail.
     ensures says_usage { result ≡ Status.Usage → Says usage_line (E.held err.old) (E.held err.new) (E.faults err.old) (E.faults err.new) }
     ensures says_refused { (fault : Fault) → result ≡ Status.Refused fault →
         Says (refused_line fault) (E.held err.old) (E.held err.new) (E.faults err.old) (E.faults err.new) }

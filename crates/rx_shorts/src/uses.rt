@@ -1,5 +1,5 @@
 //! Which prefixes a text uses.
-ghost use Rattle.std.specs.Prelude.{◌≡◌, ◌∷◌, [], flat_map, slice_set, true, IfOk, OnOk};
+ghost use Rattle.std.specs.Prelude.{◌≡◌, ◌∷◌, [], flat_map, slice_set, true, IfOk, OnOk, OnErr};
 ghost use Rattle.rx_model.specs.Seen.{kind_seen, node_seen, term_seen, triple_seen, triples_seen};
 ghost use Rattle.rx_notation.specs.Laws.{IsWritable};
 ghost use Rattle.rx_notation.specs.Short.{names_rise};
@@ -94,6 +94,7 @@ pub fn mark_predicate<'a>(
     shorts: &mut Shorts<'a>,
 ) -> Result<(), NoMemory>
     ensures marks { OnOk result (marks.new ≡ marked_all shorts.old marks.old (iris_of_predicate predicate.now)) }
+    ensures stays { OnErr result (marks.new ≡ marks.old) }
     ensures same { shorts.new ≡ shorts.old }
 {
     if is_type(predicate) {
@@ -124,6 +125,7 @@ pub fn mark_kind<'a>(
     shorts: &mut Shorts<'a>,
 ) -> Result<(), NoMemory>
     ensures marks { OnOk result (marks.new ≡ marked_all shorts.old marks.old (iris_of_kind (kind_seen kind.now))) }
+    ensures stays { OnErr result (marks.new ≡ marks.old) }
     ensures same { shorts.new ≡ shorts.old }
 {
     match kind {
@@ -140,6 +142,7 @@ pub fn mark_iri<'a>(
     shorts: &mut Shorts<'a>,
 ) -> Result<(), NoMemory>
     ensures marks { OnOk result (marks.new ≡ marked_all shorts.old marks.old (iri.now ∷ [])) }
+    ensures stays { OnErr result (marks.new ≡ marks.old) }
     ensures same { shorts.new ≡ shorts.old }
 {
     let place = shorts.learn(iri)?;
