@@ -1,7 +1,7 @@
 # shellcheck shell=sh disable=SC2034,SC2154
 # What ./rdfax, ./build and ./install share. Before they read this they set `here` to the top of the repository.
 
-# How long ./build takes where nothing is kept from an earlier run.
+# How long ./build takes.
 time_of_build="about 20 minutes on four processors, if nothing else runs on them"
 
 # The proved program, once it is built.
