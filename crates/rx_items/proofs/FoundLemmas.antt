@@ -13,7 +13,7 @@ use Rattle.rx_microdata.specs.Elements.{Placed, is_item, names_of}
 use Rattle.rx_microdata.specs.Visits.{Visit, Bounds, visits_from, standard_bounds, fault_of, first_fault, items_in}
 use Rattle.rx_microdata.specs.Json.{grouped, named}
 use Rattle.rx_item_table.specs.Rows.{properties_in}
-use Rattle.rx_items.specs.Groups.{with_last}
+use Rattle.rx_json_text.specs.Members.{with_last}
 use Rattle.rx_items.specs.Expanding.{path_of, kind_of, NoFault, FaultIs, Did, Step, with_name, steps_of, steps_in, visits_of, visits_in, data_of, pair_of, grouped_in}
 use Rattle.rx_items.proofs.GroupLemmas.{grouped_more}
 

@@ -1,5 +1,4 @@
 pub mod Collecting
-pub mod Groups
 pub mod Objects
 pub mod Expanding
 pub mod Named

@@ -5,7 +5,6 @@ ghost use Rattle.rx_items.specs.JsonLaws.{JsonIsReadBack, JsonNests};
 
 mod collectors;
 mod faults;
-mod groups;
 mod items;
 mod named;
 mod objects;

@@ -1,17 +1,17 @@
 //! The JSON of an item, of its parts.
 ghost use Rattle.std.specs.Prelude.{◌≡◌, List, map, option_map, codes, IfOk, OnOk};
 ghost use Rattle.std.specs.Str.{chars};
-ghost use Rattle.serde_json.specs.Data.{Data, Members, array, item, member, no_items, no_members, object, put, string};
+ghost use Rattle.serde_json.specs.Data.{Data, Members, array, item, member, no_items, no_members, object, string};
 ghost use Rattle.serde_json.specs.View.{items_view, members_view, view};
 ghost use Rattle.rx_microdata.specs.Json.{list_of, string_of, with_types};
 ghost use Rattle.rx_terms.specs.Text.{Chars};
 ghost use Rattle.rx_item_properties.specs.Held.{ShowsTokens};
 ghost use Rattle.rx_items.specs.Objects.{object_of, types_data, with_id_value};
 
-use crate::groups::{one_value, push_to};
 use crate::readings::text_value;
 use rx_item_properties::Tokens;
 use rx_item_table::{TextStore, text_of};
+use rx_json_text::{one_value, push_to, put};
 use rx_terms::{NoMemory, Text};
 use serde_json::{Map, Value};
 use std::alloc::Global;
@@ -119,28 +119,6 @@ fn with_id(
     let mut members = members;
     put(alloc, &mut members, "id", id)?;
     Ok(members)
-}
-
-/// Puts a value under a name.
-fn put(
-    alloc: Global,
-    members: &mut Map<String, Value>,
-    name: &str,
-    value: Value,
-) -> Result<(), NoMemory>
-    ensures { OnOk result (members_view members.new.entries ≡ put name.now (view value) (members_view members.old.entries)) }
-{
-    let key = String::from_str(alloc, name)?;
-    match members.insert(key, value) {
-        Ok(replaced) => {
-            drop(replaced);
-            Ok(())
-        }
-        Err(refused) => {
-            drop(refused);
-            Err(NoMemory)
-        }
-    }
 }
 
 /// The texts as an array of strings.

@@ -10,11 +10,11 @@ ghost use Rattle.rx_items.specs.Expanding.{Finds};
 ghost use Rattle.rx_items.specs.Pages.{JsonGives, TextGives, TopsGive, top_data, top_visits};
 
 use crate::faults::visit_all;
-use crate::groups::push_to;
 use crate::objects::page_object;
 use crate::visits::{Trail, visit};
 use crate::writing::written;
 use rx_item_properties::Kept;
+use rx_json_text::push_to;
 use rx_tags::Stop;
 use rx_terms::NoMemory;
 use serde_json::Value;

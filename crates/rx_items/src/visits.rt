@@ -13,11 +13,11 @@ ghost use Rattle.rx_item_table.specs.Rows.{properties_in};
 ghost use Rattle.rx_item_properties.specs.Held.{AllStand, HoldsRows, ShowsElement, places};
 ghost use Rattle.rx_items.specs.Expanding.{At, Enters, Did, Finds, Goes, Step, data_of, grouped_in, kind_of, steps_in, steps_of, visits_in, visits_of, with_name};
 
-use crate::groups::add_value;
 use crate::objects::item_object;
 use crate::readings::{id_value, plain_value, token_at};
 use rx_grammar::{Fault, Kind};
 use rx_item_properties::{Element, Kept, Tokens, listed, properties};
+use rx_json_text::add_value;
 use rx_tags::Stop;
 use rx_terms::{NoMemory, Text};
 use serde_json::{Map, Value};

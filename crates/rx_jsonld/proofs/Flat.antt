@@ -11,7 +11,8 @@ use Rattle.rx_shapes.specs.Shapes.{rdf_first}
 use Rattle.rx_shapes.specs.declared.shapes.Shape.{Shape}
 use Rattle.rx_notation.specs.Layout.{about}
 use Rattle.rx_jsonld.specs.Lists.{object_at, first_cell, cells_at}
-use Rattle.rx_jsonld.specs.Value.{items_and, behind, with_last, string_of, id_text, literal_members, term_value, list_value, item_by, item_value, is_empty_list, plain_value, type_of, object_by, said_by, with_all, node_value, tops, jsonld}
+use Rattle.rx_jsonld.specs.Value.{string_of, id_text, literal_members, term_value, list_value, item_by, item_value, is_empty_list, plain_value, type_of, object_by, said_by, with_all, node_value, tops, jsonld}
+use Rattle.rx_json_text.specs.Members.{items_and, behind, with_last}
 use Rattle.rx_jsonld.specs.Laws.{ValuesAreFlat}
 
 -- the value has so many levels at most, and no number

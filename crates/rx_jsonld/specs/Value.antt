@@ -14,26 +14,8 @@ use Rattle.rx_pieces.specs.Writing.{blank_text}
 use Rattle.rx_shapes.specs.Shapes.{rdf_first, rdf_rest, rdf_nil}
 use Rattle.rx_shapes.specs.declared.shapes.Shape.{Shape}
 use Rattle.rx_notation.specs.Layout.{about, subjects}
+use Rattle.rx_json_text.specs.Members.{with_last}
 use Rattle.rx_jsonld.specs.Lists.{object_at, first_cell, cells_at, is_listed}
-
--- ---- values under their keys
-
--- the values with one more at their end
-abbrev pub items_and : Items → Data → Items
-items_and no_items value = json.item value no_items
-items_and (json.item first values) value = json.item first (items_and values value)
-
--- a value behind those that a key has
-abbrev pub behind : Data → Data → Data
-behind value (array values) = array (items_and values value)
-behind value other = array (json.item value no_items)
-
--- the members in byte order of their keys, with a value behind those of its key
-abbrev pub with_last : List ℕ → Data → Members → Members
-with_last key value no_members = member key (array (json.item value no_items)) no_members
-with_last key value (member first values more) =
-    match_ordering (slice_cmp nat_cmp key first) (member key (array (json.item value no_items)) (member first values more)) (member first (behind value values) more)
-    (member first values (with_last key value more))
 
 -- ---- terms
 

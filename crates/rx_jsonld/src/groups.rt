@@ -6,7 +6,7 @@ ghost use Rattle.rx_model.specs.Terms.{Triple as Said};
 ghost use Rattle.rx_shapes.specs.declared.shapes.Shape.{Shape};
 ghost use Rattle.rx_jsonld.specs.Groups.{grouped, key_of, places_under, value_at};
 ghost use Rattle.rx_jsonld.specs.Places.{with_found, with_places};
-ghost use Rattle.rx_jsonld.specs.Value.{with_last};
+ghost use Rattle.rx_json_text.specs.Members.{with_last};
 
 use crate::objects::type_of;
 use rx_graph::Graph;

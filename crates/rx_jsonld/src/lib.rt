@@ -11,7 +11,6 @@ ghost use Rattle.rx_jsonld.specs.Rows.{RowsHold};
 mod chains;
 mod groups;
 mod listed;
-mod members;
 mod nodes;
 mod objects;
 mod said;

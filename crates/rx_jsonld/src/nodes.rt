@@ -8,10 +8,10 @@ ghost use Rattle.rx_jsonld.specs.Places.{node_at, nodes_added, starts, with_foun
 ghost use Rattle.rx_jsonld.specs.Value.{node_value, tops};
 
 use crate::listed::is_listed;
-use crate::members::push_to;
 use crate::objects::add_said;
 use crate::terms::{id_value, members_with};
 use rx_graph::{Graph, Nodes, Resource};
+use rx_json_text::push_to;
 use rx_shapes::Shapes;
 use rx_terms::{NoMemory, Node};
 use serde_json::{Map, Value};

@@ -4,13 +4,14 @@ ghost use Rattle.serde_json.specs.View.{members_view, view};
 ghost use Rattle.rx_model.specs.Seen.{term_seen, triple_seen, triples_seen};
 ghost use Rattle.rx_graph.specs.Resources.{resource_seen};
 ghost use Rattle.rx_shapes.specs.Table.{AreShapes, shape_in};
-ghost use Rattle.rx_jsonld.specs.Value.{id_text, is_empty_list, item_value, list_value, may_be_empty, object_value, plain_value, string_of, type_of, with_last, with_said};
+ghost use Rattle.rx_jsonld.specs.Value.{id_text, is_empty_list, item_value, list_value, may_be_empty, object_value, plain_value, string_of, type_of, with_said};
+ghost use Rattle.rx_json_text.specs.Members.{with_last};
 ghost use Rattle.rx_jsonld.specs.Lists.{chain};
 
 use crate::chains::{chain, first_cell};
-use crate::members::add_value;
 use crate::terms::{empty_list_value, id_value, list_value, term_value};
 use rx_graph::{Graph, Resource};
+use rx_json_text::add_value;
 use rx_shapes::{Shapes, is_first, is_nil, is_rest, is_type};
 use rx_terms::{Blank, Iri, NoMemory, Term, Triple};
 use serde_json::{Map, Value};

@@ -11,8 +11,8 @@ ghost use Rattle.rx_shapes.specs.Table.{AreShapes};
 ghost use Rattle.rx_jsonld.specs.Value.{id_text, item_value, list_value, literal_members, object_with, string_of, term_value};
 
 use crate::chains::{Part, object_at};
-use crate::members::push_to;
 use rx_graph::{Graph, Resource};
+use rx_json_text::{push_to, put};
 use rx_shapes::Shapes;
 use rx_terms::{Blank, Literal, LiteralKind, NoMemory, Term};
 use serde_json::{Map, Value};
@@ -175,26 +175,4 @@ pub(crate) fn members_with(
     let mut members = Map::new(alloc);
     put(alloc, &mut members, key, value)?;
     Ok(members)
-}
-
-/// Puts a value under a key.
-fn put(
-    alloc: Global,
-    members: &mut Map<String, Value>,
-    key: &str,
-    value: Value,
-) -> Result<(), NoMemory>
-    ensures { OnOk result (members_view members.new.entries ≡ put key.now (view value) (members_view members.old.entries)) }
-{
-    let key = String::from_str(alloc, key)?;
-    match members.insert(key, value) {
-        Ok(replaced) => {
-            drop(replaced);
-            Ok(())
-        }
-        Err(refused) => {
-            drop(refused);
-            Err(NoMemory)
-        }
-    }
 }

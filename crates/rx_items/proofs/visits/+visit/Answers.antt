@@ -11,7 +11,7 @@ use Rattle.rx_item_table.specs.Rows.{properties_in}
 use Rattle.rx_item_properties.specs.Properties.{gathered}
 use Rattle.rx_item_properties.specs.Held.{ShowsTokens}
 use Rattle.rx_item_properties.specs.declared.kept.Tokens.TheVariants as tokens
-use Rattle.rx_items.specs.Groups.{with_last}
+use Rattle.rx_json_text.specs.Members.{with_last}
 use Rattle.rx_items.specs.Expanding.{Told, Finds, Goes, Did, NoFault, pair_of, steps_in, steps_of, visits_of, visits_in, data_of, grouped_in, with_name}
 use Rattle.rx_item_properties.proofs.HoldLemmas.{list_is, all_stand, place_is}
 use Rattle.rx_items.proofs.FoundLemmas.{did_more}
@@ -30,7 +30,7 @@ add_named-returns-in_err-value-clause-finds t c rows base above left e token don
 pub add_named-returns-clause-finds : goal.add_named-returns-clause-finds
 add_named-returns-clause-finds t c rows base above left e token done start at row found named did =
     let value = c.in_ok-value.ensures.finds rows base above left e at row found in
-    did_more rows base above left start c.args.trail.now.visits c.value_of.new.trail.visits done e token (members_view c.args.group.now.entries) (members_view c.add_value.new.group.entries) did value.0
+    did_more rows base above left start c.args.trail.now.visits c.value_of.new.trail.visits done e token (members_view c.args.group.now.entries) (members_view c.add_value.new.members.entries) did value.0
     (c.in-Ok.ensures ∙ (λ i. with_last (named i) (value.1 i) (members_view c.args.group.now.entries)))
 
 pub add_each-returns-in_err-add_named-clause-finds : goal.add_each-returns-in_err-add_named-clause-finds

@@ -1,17 +1,39 @@
-//! Values under their keys, in the order of the keys' bytes.
+//! The members of a JSON object, in the order of their keys' bytes.
 ghost use Rattle.std.specs.Prelude.{◌≡◌, [], ◌∷◌, ◌++◌, IfOk, OnOk, None};
 ghost use Rattle.std.specs.BTreeMap.{get_by_text};
-ghost use Rattle.serde_json.specs.Data.{array, item, no_items};
+ghost use Rattle.serde_json.specs.Data.{array, item, no_items, put};
 ghost use Rattle.serde_json.specs.View.{view, members_view};
-ghost use Rattle.rx_jsonld.specs.Value.{behind, with_last};
+ghost use Rattle.rx_json_text.specs.Members.{behind, with_last};
 
 use rx_terms::NoMemory;
 use serde_json::{Map, Value};
 use std::alloc::Global;
 use std::mem;
 
-/// Puts a value behind those of its key.
-pub(crate) fn add_value(
+/// Puts a value under a key, in place of one that it has.
+pub fn put(
+    alloc: Global,
+    members: &mut Map<String, Value>,
+    key: &str,
+    value: Value,
+) -> Result<(), NoMemory>
+    ensures { OnOk result (members_view members.new.entries ≡ put key.now (view value) (members_view members.old.entries)) }
+{
+    let key = String::from_str(alloc, key)?;
+    match members.insert(key, value) {
+        Ok(replaced) => {
+            drop(replaced);
+            Ok(())
+        }
+        Err(refused) => {
+            drop(refused);
+            Err(NoMemory)
+        }
+    }
+}
+
+/// Puts a value at the end of the array that a key has, or has as one value, where it has none.
+pub fn add_value(
     alloc: Global,
     members: &mut Map<String, Value>,
     key: &str,
@@ -75,7 +97,7 @@ fn with_value(alloc: Global, values: Value, value: Value) -> Result<Value, NoMem
 }
 
 /// A value more at the end.
-pub(crate) fn push_to(list: &mut Vec<Value>, value: Value) -> Result<(), NoMemory>
+pub fn push_to(list: &mut Vec<Value>, value: Value) -> Result<(), NoMemory>
     ensures { OnOk result (list.new.items ≡ list.old.items ++ value ∷ []) }
 {
     match list.push(value) {
@@ -88,10 +110,14 @@ pub(crate) fn push_to(list: &mut Vec<Value>, value: Value) -> Result<(), NoMemor
 }
 
 /// An array of one value.
-fn one_value(alloc: Global, value: Value) -> Result<Value, NoMemory>
+pub fn one_value(alloc: Global, value: Value) -> Result<Value, NoMemory>
     ensures { IfOk result (λ values. view values ≡ array (item (view value) no_items)) }
 {
-    let mut list = Vec::new(alloc);
+    // most keys have no other
+    let Ok(mut list) = Vec::with_capacity(alloc, 1) else {
+        drop(value);
+        return Err(NoMemory);
+    };
     push_to(&mut list, value)?;
     Ok(Value::Array(list))
 }

@@ -1,4 +1,4 @@
--- The values of each name, as they come one after another.
+-- The values of each key of an object, as they come one after another.
 use Rattle.std.specs.Prelude.{ℕ, List}
 use Rattle.std.specs.Ordering.{nat_cmp, match_ordering}
 use Rattle.std.specs.Cmp.Lexicographic.{slice_cmp}
@@ -9,14 +9,14 @@ abbrev pub items_and : Items → Data → Items
 items_and no_items value = item value no_items
 items_and (item first values) value = item first (items_and values value)
 
--- a value behind those that a name has
+-- a value behind those that a key has
 abbrev pub behind : Data → Data → Data
 behind value (array values) = array (items_and values value)
 behind value other = array (item value no_items)
 
--- the members in byte order of their names, with a value behind those of its name
+-- the members in byte order of their keys, with a value behind those of its key
 abbrev pub with_last : List ℕ → Data → Members → Members
-with_last name value no_members = member name (array (item value no_items)) no_members
-with_last name value (member first values more) =
-    match_ordering (slice_cmp nat_cmp name first) (member name (array (item value no_items)) (member first values more)) (member first (behind value values) more)
-    (member first values (with_last name value more))
+with_last key value no_members = member key (array (item value no_items)) no_members
+with_last key value (member first values more) =
+    match_ordering (slice_cmp nat_cmp key first) (member key (array (item value no_items)) (member first values more)) (member first (behind value values) more)
+    (member first values (with_last key value more))

@@ -1,7 +1,7 @@
 use Rattle.std.proofs.Common.{◌∙◌, ap, sym}
 use Rattle.serde_json.specs.View.{view, members_view}
-use Rattle.rx_jsonld.proofs.MemberLemmas.{put_behind, then_ok}
-use Rattle.rx_jsonld.proofs.members.add_value.Goals as goal
+use Rattle.rx_json_text.proofs.MemberLemmas.{put_behind, then_ok}
+use Rattle.rx_json_text.proofs.members.add_value.Goals as goal
 
 pub returns-in-Some : goal.returns-in-Some
 returns-in-Some c =
