@@ -86,6 +86,23 @@ slice-or [] i d l = absurd (omega (arith, l))
 slice-or (x ∷ xs) zero d l = refl
 slice-or (x ∷ xs) (suc i) d l = slice-or xs i d (omega (arith, l))
 
+-- one that passes is the only one, for these pass that are like it
+pub alone :
+    {K : Type 0} (same : K → K → Bool) (test : K → Bool) → ((x y : K) → test x ≡ true → test y ≡ same x y)
+    → (keys : List K) → IsDistinct same keys → (p : ℕ) (x : K) → p < length keys → x ≡ get_or keys p x → test x ≡ true → position test keys ≡ Some p
+alone same test like keys once p x inside at holds = ap (λ (k : ℕ). cond (nat_lt k (length keys)) (Some k) None) first ∙ ap (λ (b : Bool). cond b (Some p) None) (less p (length keys) inside) where
+  less : (a b : ℕ) → a < b → nat_lt a b ≡ true
+  less a b l = grind (arith, nat_tests)
+
+  before : (k : ℕ) → k < p → test (get_or keys k x) ≡ false
+  before k l = by (test (get_or keys k x)) refl where
+    by : (b : Bool) → test (get_or keys k x) ≡ b → b ≡ false
+    by false t = refl
+    by true t = absurd (true≢false (sym holds ∙ ap test at ∙ like (get_or keys k x) (get_or keys p x) t ∙ apart_from_distinct same keys k p x once l inside))
+
+  first : position_or_len test keys ≡ p
+  first = position_or_len_is test keys p x (omega (arith, inside)) before (λ l. ap test (sym at) ∙ holds)
+
 -- the keys behind `next` don't pass the test, and a key of the number stands there
 pub record Sought {K : Type 0} (test : K → Bool) (n : ℕ) (keys : List K) (numbers : List ℕ) (next : Option ℕ) : Type 0 where
   pub past : (i : ℕ) (d : K) → reach next ≤ i → i < length keys → test (get_or keys i d) ≡ false
@@ -147,25 +164,10 @@ module _ {K : Type 0} (same : K → K → Bool) (number : K → ℕ) (test : K �
     here : (i : ℕ) → p ≤ i → i ≤ p → i ≡ p
     here i g h = omega (arith, g, h)
 
-  -- one that passes is the only one, for these pass that are like it
   pub sought-found :
       ((x y : K) → test x ≡ true → test y ≡ same x y)
       → (next : Option ℕ) (p : ℕ) (x : K) → Sought test n keys numbers next → next ≡ Some p → x ≡ get_or keys p x → test x ≡ true → Some p ≡ position test keys
-  sought-found like next p x sought is at holds = sym (ap (λ (k : ℕ). cond (nat_lt k (length keys)) (Some k) None) first ∙ ap (λ (b : Bool). cond b (Some p) None) (less p (length keys) inside)) where
-    inside : p < length keys
-    inside = within next p sought is
-
-    less : (a b : ℕ) → a < b → nat_lt a b ≡ true
-    less a b l = grind (arith, nat_tests)
-
-    before : (k : ℕ) → k < p → test (get_or keys k x) ≡ false
-    before k l = by (test (get_or keys k x)) refl where
-      by : (b : Bool) → test (get_or keys k x) ≡ b → b ≡ false
-      by false t = refl
-      by true t = absurd (true≢false (sym holds ∙ ap test at ∙ like (get_or keys k x) (get_or keys p x) t ∙ apart_from_distinct same keys k p x kept.once l inside))
-
-    first : position_or_len test keys ≡ p
-    first = position_or_len_is test keys p x (omega (arith, inside)) before (λ l. ap test (sym at) ∙ holds)
+  sought-found like next p x sought is at holds = sym (alone same test like keys kept.once p x (within next p sought is) at holds)
 
   pub sought-none : (next : Option ℕ) → Sought test n keys numbers next → next ≡ None → None ≡ position test keys
   sought-none next sought is = absent keys (λ i d inside. sought.past i d (omega (arith, ap reach is)) inside) where

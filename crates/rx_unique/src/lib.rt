@@ -6,6 +6,7 @@
 #![tactic(auto)]
 
 mod hashes;
+mod hints;
 mod places;
 mod unique;
 

@@ -4,11 +4,12 @@ ghost use Rattle.std.specs.List.{list_any, position_or_len, IsDistinct};
 ghost use Rattle.rx_unique.specs.Hashes.{hash_of};
 ghost use Rattle.rx_unique.specs.Unique.{insert_key};
 
-use crate::hashes::hash_of;
+use crate::hashes::{hash_of, quick_hash_of};
+use crate::hints::Hints;
 use crate::places::Places;
-use indexmap::Equivalent;
 use rx_terms::NoMemory;
 use std::alloc::Global;
+use std::collections::hash_map::Equivalent;
 use std::hash::Hash;
 use std::marker::Model;
 
@@ -18,6 +19,8 @@ pub struct Unique<K: Eq + Hash> {
     keys: Vec<K>,
     // of each key its SipHash, so that a look-up goes to the keys of one number alone
     places: Places,
+    // where a key may stand by a quick hash, so that most look-ups of a key that is there end with it
+    hints: Hints,
 }
 
 impl<K: Eq + Hash> Model for Unique<K> {
@@ -40,6 +43,7 @@ impl<K: Eq + Hash> Unique<K> {
         Unique {
             keys: Vec::new(alloc),
             places: Places::new(alloc),
+            hints: Hints::new(alloc),
         }
     }
 
@@ -63,7 +67,10 @@ impl<K: Eq + Hash> Unique<K> {
     pub fn get_index_of<Q: Equivalent<K>>(&self, key: Q) -> Option<usize>
         ensures index { result ≡ position (Q.equivalent key) self.now }
     {
-        self.find(hash_of(&key), key)
+        match self.guess(quick_hash_of(&key), key) {
+            Some(place) => Some(place),
+            None => self.find(hash_of(&key), key),
+        }
     }
 
     /// Whether a key is alike.
@@ -73,7 +80,21 @@ impl<K: Eq + Hash> Unique<K> {
         self.get_index_of(key).is_some()
     }
 
-    /// The same as `get_index_of`, by the key's hash.
+    /// The place of the key that is alike, where a hint for its quick hash tells it.
+    fn guess<Q: Equivalent<K>>(&self, quick_hash: u64, key: Q) -> Option<usize>
+        ensures { IfSome result (λ place. position (Q.equivalent key) self.now ≡ Some place) }
+    {
+        let place = self.hints.place(quick_hash);
+        if place >= self.keys.len() {
+            return None;
+        }
+        if !key.equivalent(&self.keys[place]) {
+            return None;
+        }
+        Some(place)
+    }
+
+    /// The place of the key that is alike, by its hash.
     fn find<Q: Equivalent<K>>(&self, hash: u64, key: Q) -> Option<usize>
         requires { hash ≡ hash_of (Q.hash_input key) }
         ensures { result ≡ position (Q.equivalent key) self.now }
@@ -98,12 +119,16 @@ impl<K: Eq + Hash + Drop> Unique<K> {
         ensures stored { IfOk result (λ r. (k : K) × (slice_get self.new r.0 ≡ Some k) × (K.eq key k ≡ true)) }
         ensures err { OnErr result (self.new ≡ self.old) }
     {
+        let quick_hash = quick_hash_of(&key);
+        if let Some(place) = self.guess(quick_hash, &key) {
+            return Ok((place, false));
+        }
         let hash = hash_of(&key);
         if let Some(place) = self.find(hash, &key) {
             return Ok((place, false));
         }
         let place = self.len();
-        self.push(hash, key)?;
+        self.push(quick_hash, hash, key)?;
         Ok((place, true))
     }
 
@@ -117,8 +142,8 @@ impl<K: Eq + Hash + Drop> Unique<K> {
         Ok(is_new)
     }
 
-    /// Adds a key that is new, by its hash.
-    fn push(&mut self, hash: u64, key: K) -> Result<(), NoMemory>
+    /// Adds a key that is new, by its hashes.
+    fn push(&mut self, quick_hash: u64, hash: u64, key: K) -> Result<(), NoMemory>
         requires hash { hash ≡ hash_of (K.hash_input key) }
         requires fresh { position (K.eq key) self.old ≡ None }
         ensures ok { OnOk result (self.new ≡ self.old ++ key ∷ []) }
@@ -129,6 +154,7 @@ impl<K: Eq + Hash + Drop> Unique<K> {
         let Ok(()) = self.keys.push(key) else {
             return Err(NoMemory);
         };
+        self.hints.note(quick_hash, self.keys.len() - 1);
         Ok(())
     }
 
