@@ -44,7 +44,7 @@ front-length zero xs l = refl
 front-length (suc k) [] l = absurd (omega (arith, l))
 front-length (suc k) (x ∷ xs) l = ap suc (front-length k xs (omega (arith, l)))
 
-front-at : (xs : List ℕ) (k i : ℕ) → i < k → slice_get (take k xs) i ≡ slice_get xs i
+pub front-at : (xs : List ℕ) (k i : ℕ) → i < k → slice_get (take k xs) i ≡ slice_get xs i
 front-at [] zero i l = refl
 front-at [] (suc k) i l = refl
 front-at (x ∷ xs) zero i l = absurd (omega (arith, l))
@@ -236,6 +236,11 @@ module _ {K : Type 0} (test : K → Bool) where
   -- the key at the place
   pub stored-old : (keys : List K) (p : ℕ) (d : K) → HasPlace keys p → (k : K) × (slice_get keys p ≡ Some k) × (test k ≡ true)
   stored-old keys p d has = (get_or keys p d, slice-or keys p d has.inside, ap (λ (i : ℕ). test (get_or keys i d)) (sym has.at) ∙ passes_at_first test keys d (omega (arith, has.inside, has.at)))
+
+  pub stored-still : (keys same_keys : List K) (p : ℕ) (d : K) → same_keys ≡ keys → HasPlace keys p → (k : K) × (slice_get same_keys p ≡ Some k) × (test k ≡ true)
+  stored-still keys same_keys p d same has =
+      let stored = stored-old keys p d has in
+      (stored.0, ap (λ (l : List K). slice_get l p) same ∙ stored.1, stored.2)
 
 -- ---- what is kept
 

@@ -35,6 +35,7 @@ impl Model for Places {
 }
 
 impl Places {
+    /// No number.
     pub fn new(alloc: Global) -> Places
         ensures empty { result ≡ [] }
     {
@@ -44,6 +45,7 @@ impl Places {
         }
     }
 
+    /// Adds the number at the end.
     pub fn push(&mut self, number: u64) -> Result<(), NoMemory>
         ensures ok { OnOk result (self.new ≡ self.old ++ number ∷ []) }
         ensures err { OnErr result (self.new ≡ self.old) }
@@ -59,6 +61,7 @@ impl Places {
         Ok(())
     }
 
+    /// How many numbers there are.
     pub fn len(&self) -> usize
         ensures length { result ≡ length self.now }
     {

@@ -4,7 +4,7 @@ ghost use Rattle.std.specs.List.{list_any, position_or_len, IsDistinct};
 ghost use Rattle.rx_unique.specs.Hashes.{hash_of};
 ghost use Rattle.rx_unique.specs.Unique.{insert_key};
 
-use crate::hashes::{hash_of, quick_hash_of};
+use crate::hashes::hash_of;
 use crate::hints::Hints;
 use crate::places::Places;
 use rx_terms::NoMemory;
@@ -43,7 +43,19 @@ impl<K: Eq + Hash> Unique<K> {
         Unique {
             keys: Vec::new(alloc),
             places: Places::new(alloc),
-            hints: Hints::new(alloc),
+            hints: Hints::new(alloc, false),
+        }
+    }
+
+    /// The same, with hints: they tell most keys that are there faster, and cost time where a key is new, and 16 to 32 bytes
+    /// for each key.
+    pub fn with_hints(alloc: Global) -> Unique<K>
+        ensures empty { result ≡ [] }
+    {
+        Unique {
+            keys: Vec::new(alloc),
+            places: Places::new(alloc),
+            hints: Hints::new(alloc, true),
         }
     }
 
@@ -67,7 +79,7 @@ impl<K: Eq + Hash> Unique<K> {
     pub fn get_index_of<Q: Equivalent<K>>(&self, key: Q) -> Option<usize>
         ensures index { result ≡ position (Q.equivalent key) self.now }
     {
-        match self.guess(quick_hash_of(&key), key) {
+        match self.guess(self.hints.hash_of(&key), key) {
             Some(place) => Some(place),
             None => self.find(hash_of(&key), key),
         }
@@ -119,12 +131,13 @@ impl<K: Eq + Hash + Drop> Unique<K> {
         ensures stored { IfOk result (λ r. (k : K) × (slice_get self.new r.0 ≡ Some k) × (K.eq key k ≡ true)) }
         ensures err { OnErr result (self.new ≡ self.old) }
     {
-        let quick_hash = quick_hash_of(&key);
+        let quick_hash = self.hints.hash_of(&key);
         if let Some(place) = self.guess(quick_hash, &key) {
             return Ok((place, false));
         }
         let hash = hash_of(&key);
         if let Some(place) = self.find(hash, &key) {
+            self.hints.note(quick_hash, place);
             return Ok((place, false));
         }
         let place = self.len();
