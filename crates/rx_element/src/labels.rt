@@ -4,20 +4,16 @@ ghost use Rattle.std.specs.Str.{chars};
 ghost use Rattle.rx_element.specs.Labels.{number_of, Drawn};
 ghost use Rattle.rx_element.specs.Rows.{IsNew};
 
-use indexmap::IndexSet;
 use rx_terms::{NoMemory, Text};
+use rx_unique::Unique;
 use std::alloc::Global;
-use std::hash::{BuildHasherDefault, DefaultHasher};
 use std::marker::Model;
-
-// A page chooses these labels. SipHash makes it hard to choose many with one hash.
-type LabelSet = IndexSet<String, BuildHasherDefault<DefaultHasher>>;
 
 /// The numbers of the blank nodes that authors name by labels. A contract sees the labels with their numbers.
 #[derive(Drop)]
 pub struct Labels {
     alloc: Global,
-    labels: LabelSet,
+    labels: Unique<String>,
     numbers: Vec<u64>,
 }
 
@@ -29,9 +25,9 @@ impl Model for Labels {
 
     ghost use Rattle.rx_element.specs.Rows.{rows};
 
-    ghost view = { λ l. rows (map (λ k. chars (string_bytes k)) l.labels.keys) l.numbers.items };
+    ghost view = { λ l. rows (map (λ k. chars (string_bytes k)) l.labels) l.numbers.items };
 
-    ghost invariant = { λ l. length l.labels.keys ≡ length l.numbers.items };
+    ghost invariant = { λ l. length l.labels ≡ length l.numbers.items };
 }
 
 impl Labels {
@@ -41,7 +37,7 @@ impl Labels {
     {
         Ok(Labels {
             alloc,
-            labels: LabelSet::with_hasher(alloc, BuildHasherDefault::new()),
+            labels: Unique::new(alloc),
             numbers: Vec::new(alloc),
         })
     }
@@ -96,16 +92,16 @@ impl Labels {
 
 /// Adds a new key and its number at the ends.
 fn add_row(
-    keys: &mut LabelSet,
+    keys: &mut Unique<String>,
     numbers: &mut Vec<u64>,
     key: String,
     number: u64,
 ) -> Result<(), NoMemory>
-    requires fresh { IsNew (chars (string_bytes key)) (map (λ k. chars (string_bytes k)) keys.old.keys) }
-    requires even { length keys.old.keys ≡ length numbers.old.items }
-    ensures keys { OnOk result (keys.new.keys ≡ keys.old.keys ++ key ∷ []) }
+    requires fresh { IsNew (chars (string_bytes key)) (map (λ k. chars (string_bytes k)) keys.old) }
+    requires even { length keys.old ≡ length numbers.old.items }
+    ensures keys { OnOk result (keys.new ≡ keys.old ++ key ∷ []) }
     ensures numbers { OnOk result (numbers.new.items ≡ numbers.old.items ++ number ∷ []) }
-    ensures same_keys { OnErr result (keys.new.keys ≡ keys.old.keys) }
+    ensures same_keys { OnErr result (keys.new ≡ keys.old) }
     ensures same_numbers { OnErr result (numbers.new.items ≡ numbers.old.items) }
 {
     numbers.reserve(1)?;

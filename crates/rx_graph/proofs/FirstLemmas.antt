@@ -11,7 +11,7 @@ use Rattle.rx_model.proofs.Seen.{triple_tells}
 use Rattle.rx_graph.specs.Bits.{has_bits}
 use Rattle.rx_graph.specs.Keys.{key_of, TellsRepeats}
 use Rattle.rx_graph.proofs.KeyLemmas.{contains_more}
-use Rattle.indexmap.specs.IndexSet.{insert_key}
+use Rattle.rx_unique.specs.Unique.{insert_key}
 use Rattle.rx_terms.specs.declared.triples.Triple.{Triple as CodeTriple}
 use Rattle.rx_model.specs.Sets.{contains, distinct}
 use Rattle.rx_model.specs.Terms.{Triple, same_triple}

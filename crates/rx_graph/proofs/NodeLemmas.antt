@@ -4,7 +4,7 @@ use Rattle.std.specs.List.{IsDistinct, AllByRecursion, position_or_len}
 use Rattle.std.proofs.lemmas.Bool.Decides.{nat_tests}
 use Rattle.rx_graph.specs.declared.resources.Resource.{Resource}
 use Rattle.rx_graph.specs.Resources.{resource_seen, node_added, number_in, AreDistinct}
-use Rattle.indexmap.specs.IndexSet.{insert_key}
+use Rattle.rx_unique.specs.Unique.{insert_key}
 use Rattle.rx_model.specs.Sets.{contains}
 use Rattle.rx_model.specs.Terms.{same_node}
 use Rattle.rx_graph.proofs.CodeEq.{resource_eq, resources_agree_back}

@@ -10,7 +10,7 @@ use Rattle.rx_graph.specs.Numbering.{known_one, known}
 use Rattle.rx_terms.specs.declared.triples.Blank.{Blank as CodeBlank}
 use Rattle.rx_terms.specs.declared.triples.Triple.{Triple as CodeTriple}
 use Rattle.rx_model.specs.Seen.{triple_seen, triples_seen}
-use Rattle.indexmap.specs.IndexSet.{insert_key}
+use Rattle.rx_unique.specs.Unique.{insert_key}
 use Rattle.std.specs.List.{position_or_len}
 use Rattle.std.proofs.lemmas.List.{map-append}
 use Rattle.std.proofs.lemmas.List.Recursion.{is_position_or_len}

@@ -1,6 +1,5 @@
 -- Places in order, and what is given there.
 use Rattle.std.proofs.Common.{◌≡◌, ℕ, zero, suc, ◌+◌, ◌<◌, ◌≤◌, Bool, true, false, not, ◌&&◌, ◌||◌, nat_eq, nat_lt, List, [], ◌∷◌, ◌++◌, flat_map, filter_map, length, take, get_or, slice_get, Option, Some, None, is_none, refl, sym, ap, ap₂, subst, ◌∙◌, true≢false, arith, if◌then◌else◌, append-nil, append_assoc, length-append, inl, inr}
-use Rattle.std.proofs.Common.{Result, Ok, Err, IfOk}
 use Rattle.std.specs.List.{sum_by, cons_option}
 use Rattle.std.specs.Option.{option_to_list}
 use Rattle.std.specs.List.Sorted.{IsPermutation, IsNonDecreasing}
@@ -339,6 +338,3 @@ treated_end list i new past h =
     let f : Triple ℕ → List (Triple ℕ) = treated nat_eq (triples_seen list) (edges nat_eq (triples_seen list)) in
     h ∙ ap (λ z. added_all [] (flat_map f (triples_seen z))) (take_all i list past) ∙ added_distinct [] (flat_map f (triples_seen list))
 
-pub graph_gathered : {E : Type 0} (gathering : List CodeTriple) (list : List (Triple ℕ)) (r : Result (List CodeTriple) E) → IfOk r (λ g. g ≡ gathering) → triples_seen gathering ≡ list → IfOk r (λ g. triples_seen g ≡ list)
-graph_gathered gathering list (Ok g) is e = ap triples_seen is ∙ e
-graph_gathered gathering list (Err x) is e = is

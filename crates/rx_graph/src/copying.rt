@@ -22,7 +22,7 @@ pub fn copy_patterns(alloc: Global, triples: &TripleList) -> Result<Graph, NoMem
     for i in 0..triples.len() {
         patterns.treat(alloc, triples.at(i), &mut gathering)?;
     }
-    gathering.into_graph(alloc)
+    Ok(gathering.into_graph())
 }
 
 /// The same of a list that is handed over: no triple is copied where none has the predicate rdfa:copy.

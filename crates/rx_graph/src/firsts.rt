@@ -8,23 +8,19 @@ ghost use Rattle.rx_graph.specs.Keys.{key_of, TellsRepeats};
 
 use crate::bits::Bits;
 use crate::keys::repeated;
-use indexmap::IndexSet;
 use rx_terms::{NoMemory, Triple, TripleList};
+use rx_unique::Unique;
 use std::alloc::Global;
-use std::hash::{BuildHasherDefault, DefaultHasher};
 use std::marker::Model;
 
 /// A triple, borrowed from a list.
 #[derive(Clone, Copy, PartialEq, Eq, Hash)]
 struct Lent<'a>(&'a Triple);
 
-// A page chooses these triples. SipHash makes it hard to choose many with one hash.
-type LentTriples<'a> = IndexSet<Lent<'a>, BuildHasherDefault<DefaultHasher>>;
-
 /// Borrowed triples in order of first appearance, each once. A contract sees the list.
 #[derive(Drop)]
 struct Firsts<'a> {
-    triples: LentTriples<'a>,
+    triples: Unique<Lent<'a>>,
 }
 
 impl<'a> Model for Firsts<'a> {
@@ -34,7 +30,7 @@ impl<'a> Model for Firsts<'a> {
 
     ghost Value = { List (Triple ℕ) };
 
-    ghost view = { λ firsts. map lent_seen firsts.triples.keys };
+    ghost view = { λ firsts. map lent_seen firsts.triples };
 }
 
 impl<'a> Firsts<'a> {
@@ -42,7 +38,7 @@ impl<'a> Firsts<'a> {
         ensures { result ≡ [] }
     {
         Firsts {
-            triples: LentTriples::with_hasher(alloc, BuildHasherDefault::new()),
+            triples: Unique::new(alloc),
         }
     }
 

@@ -1,22 +1,18 @@
 //! A graph that is being made.
-ghost use Rattle.std.specs.Prelude.{◌≡◌, [], IfOk, OnOk, nat_eq};
+ghost use Rattle.std.specs.Prelude.{◌≡◌, [], OnOk, nat_eq};
 ghost use Rattle.rx_model.specs.Seen.{triple_seen, triples_seen};
 ghost use Rattle.rx_graph.specs.Graph.{added};
 
 use crate::graphs::Graph;
-use indexmap::IndexSet;
 use rx_terms::{NoMemory, Triple};
+use rx_unique::Unique;
 use std::alloc::Global;
-use std::hash::{BuildHasherDefault, DefaultHasher};
 use std::marker::Model;
-
-// A page chooses these triples. SipHash makes it hard to choose many with one hash.
-type Triples = IndexSet<Triple, BuildHasherDefault<DefaultHasher>>;
 
 /// Triples in order of first appearance, each once. A contract sees the list.
 #[derive(Drop)]
 pub(crate) struct Gathering {
-    triples: Triples,
+    triples: Unique<Triple>,
 }
 
 impl Model for Gathering {
@@ -25,7 +21,7 @@ impl Model for Gathering {
 
     ghost Value = { List Triple };
 
-    ghost view = { λ gathering. gathering.triples.keys };
+    ghost view = { λ gathering. gathering.triples };
 }
 
 impl Gathering {
@@ -33,7 +29,7 @@ impl Gathering {
         ensures { result ≡ [] }
     {
         Gathering {
-            triples: Triples::with_hasher(alloc, BuildHasherDefault::new()),
+            triples: Unique::new(alloc),
         }
     }
 
@@ -48,15 +44,9 @@ impl Gathering {
     }
 
     /// The graph of these triples.
-    pub(crate) fn into_graph(self, alloc: Global) -> Result<Graph, NoMemory>
-        ensures { IfOk result (λ graph. graph ≡ self) }
+    pub(crate) fn into_graph(self) -> Graph
+        ensures { result ≡ self }
     {
-        let mut triples = Vec::with_capacity(alloc, self.triples.len())?;
-        for triple in self.triples {
-            let Ok(()) = triples.push(triple) else {
-                return Err(NoMemory);
-            };
-        }
-        Ok(Graph::of_distinct(triples))
+        Graph::of_distinct(self.triples.into_vec())
     }
 }

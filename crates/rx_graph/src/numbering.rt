@@ -6,10 +6,9 @@ ghost use Rattle.rx_model.specs.Seen.{node_seen, term_seen, triple_seen, triples
 ghost use Rattle.rx_graph.specs.Numbering.{known_one, known, numbers_to};
 
 use crate::graphs::Graph;
-use indexmap::IndexSet;
 use rx_terms::{Blank, NoMemory, Node, Term, Triple};
+use rx_unique::Unique;
 use std::alloc::Global;
-use std::hash::{BuildHasherDefault, DefaultHasher};
 use std::marker::Model;
 
 /// The graph with its blank nodes numbered 0, 1, 2 in order of first occurrence, the subject of a triple before its
@@ -105,13 +104,10 @@ fn next_after_blank(blank: Blank, next: u64) -> Option<u64>
     Some(next + 1)
 }
 
-// A page chooses in part which numbers these have. SipHash makes it hard to choose many with one hash.
-type Blanks = IndexSet<Blank, BuildHasherDefault<DefaultHasher>>;
-
 /// Blank nodes in order of first occurrence. The number of each is its place.
 #[derive(Drop)]
 struct Numbers {
-    blanks: Blanks,
+    blanks: Unique<Blank>,
 }
 
 impl Model for Numbers {
@@ -119,7 +115,7 @@ impl Model for Numbers {
 
     ghost Value = { List ℕ };
 
-    ghost view = { λ numbers. map (λ b. b.0) numbers.blanks.keys };
+    ghost view = { λ numbers. map (λ b. b.0) numbers.blanks };
 }
 
 impl Numbers {
@@ -127,7 +123,7 @@ impl Numbers {
         ensures { result ≡ [] }
     {
         Numbers {
-            blanks: Blanks::with_hasher(alloc, BuildHasherDefault::new()),
+            blanks: Unique::new(alloc),
         }
     }
 

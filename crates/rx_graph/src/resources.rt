@@ -6,10 +6,9 @@ ghost use Rattle.rx_model.specs.Seen.{node_seen, term_seen, triple_seen};
 ghost use Rattle.rx_graph.specs.Resources.{resource_seen, resource_of, node_added, number_in, live_by, AreDistinct};
 
 use crate::vocabulary::copies;
-use indexmap::IndexSet;
 use rx_terms::{Blank, Iri, NoMemory, Node, Term, Triple};
+use rx_unique::Unique;
 use std::alloc::Global;
-use std::hash::{BuildHasherDefault, FoldHasher};
 use std::marker::Model;
 
 /// A node, borrowed from a triple's subject or object.
@@ -45,9 +44,7 @@ impl<'a> Resource<'a> {
 /// Borrowed nodes in order of first appearance, each once. The number of each is its place. A contract sees the list.
 #[derive(Drop)]
 pub struct Nodes<'a> {
-    // An IRI gives its SipHash, and a blank node its number, so a quick hash of these is enough: a page can't choose many
-    // nodes with one hash.
-    nodes: IndexSet<Resource<'a>, BuildHasherDefault<FoldHasher>>,
+    nodes: Unique<Resource<'a>>,
 }
 
 impl<'a> Model for Nodes<'a> {
@@ -57,7 +54,7 @@ impl<'a> Model for Nodes<'a> {
 
     ghost Value = { List (Node ℕ) };
 
-    ghost view = { λ nodes. map resource_seen nodes.nodes.keys };
+    ghost view = { λ nodes. map resource_seen nodes.nodes };
 }
 
 impl<'a> Nodes<'a> {
@@ -66,7 +63,7 @@ impl<'a> Nodes<'a> {
         ensures { result ≡ [] }
     {
         Nodes {
-            nodes: IndexSet::with_hasher(alloc, BuildHasherDefault::new()),
+            nodes: Unique::with_hints(alloc),
         }
     }
 
@@ -93,7 +90,7 @@ impl<'a> Nodes<'a> {
         requires { number < length self.now }
         ensures { slice_get self.now number ≡ Some (resource_seen result) }
     {
-        self.nodes[number]
+        *self.nodes.at(number)
     }
 
     /// The number of the node, if it is there.

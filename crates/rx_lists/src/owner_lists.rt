@@ -9,20 +9,16 @@ ghost use Rattle.rx_lists.specs.Owners.{owned, with_slot, predicates_of, with_li
 use crate::cells::push_list;
 use crate::lists::Finished;
 use crate::slot_rows::SlotRows;
-use indexmap::IndexSet;
 use rx_terms::{Iri, NoMemory, Node, Term, TripleList};
+use rx_unique::Unique;
 use std::alloc::Global;
-use std::hash::{BuildHasherDefault, DefaultHasher};
 use std::marker::Model;
 
-// A page chooses these predicates. SipHash makes it hard to choose many with one hash.
-type Predicates = IndexSet<Iri, BuildHasherDefault<DefaultHasher>>;
-
-/// The lists of one owner, in order of their first slot or touch. A predicate is found by its hash.
+/// The lists of one owner, in order of their first slot or touch.
 #[derive(Drop)]
 pub(crate) struct OwnerLists {
     subject: Node,
-    predicates: Predicates,
+    predicates: Unique<Iri>,
     slots: SlotRows,
 }
 
@@ -34,9 +30,9 @@ impl Model for OwnerLists {
 
     ghost use Rattle.rx_lists.specs.Rows.{rows};
 
-    ghost view = { λ owner. record { subject = owner.subject; lists = rows owner.predicates.keys owner.slots } };
+    ghost view = { λ owner. record { subject = owner.subject; lists = rows owner.predicates owner.slots } };
 
-    ghost invariant = { λ owner. length owner.predicates.keys ≡ length owner.slots };
+    ghost invariant = { λ owner. length owner.predicates ≡ length owner.slots };
 }
 
 impl OwnerLists {
@@ -45,7 +41,7 @@ impl OwnerLists {
     {
         OwnerLists {
             subject,
-            predicates: Predicates::with_hasher(alloc, BuildHasherDefault::new()),
+            predicates: Unique::new(alloc),
             slots: SlotRows::new(alloc),
         }
     }
@@ -129,7 +125,7 @@ impl OwnerLists {
         requires { list < length self.now.lists }
         ensures { result.now ≡ (slice_index_or self.now.lists list ([], [])).0 }
     {
-        &self.predicates[list]
+        self.predicates.at(list)
     }
 
     /// How many lists there are.
@@ -176,15 +172,15 @@ impl OwnerLists {
 
 /// Adds a new key and its row at the ends, or neither.
 fn add_row(
-    keys: &mut Predicates,
+    keys: &mut Unique<Iri>,
     rows: &mut SlotRows,
     key: Iri,
     with_slot: bool,
 ) -> Result<(), NoMemory>
-    requires { FoundAt key keys.old.keys None }
-    ensures keys { OnOk result (keys.new.keys ≡ keys.old.keys ++ key ∷ []) }
+    requires { FoundAt key keys.old None }
+    ensures keys { OnOk result (keys.new ≡ keys.old ++ key ∷ []) }
     ensures rows { OnOk result (rows.new ≡ rows.old ++ first_slots with_slot ∷ []) }
-    ensures same_keys { OnErr result (keys.new.keys ≡ keys.old.keys) }
+    ensures same_keys { OnErr result (keys.new ≡ keys.old) }
     ensures same_rows { OnErr result (rows.new ≡ rows.old) }
 {
     rows.add(with_slot)?;

@@ -5,10 +5,9 @@ ghost use Rattle.rx_many.specs.Lines.{same_line};
 ghost use Rattle.rx_many.specs.Seen.{statement_seen};
 ghost use Rattle.rx_many.specs.Standing.{IsAdded};
 
-use indexmap::IndexSet;
 use rx_terms::{Iri, NoMemory, Triple};
+use rx_unique::Unique;
 use std::alloc::Global;
-use std::hash::{BuildHasherDefault, DefaultHasher};
 use std::marker::Model;
 
 /// A triple in the graph of a name.
@@ -18,13 +17,10 @@ pub(crate) struct Statement {
     pub(crate) triple: Triple,
 }
 
-// Pages choose these. SipHash makes it hard to choose many with one hash.
-type Set = IndexSet<Statement, BuildHasherDefault<DefaultHasher>>;
-
 /// Statements, each once. A contract sees the list.
 #[derive(Drop)]
 pub(crate) struct Statements {
-    statements: Set,
+    statements: Unique<Statement>,
 }
 
 impl Model for Statements {
@@ -34,7 +30,7 @@ impl Model for Statements {
 
     ghost Value = { List (Line ℕ) };
 
-    ghost view = { λ statements. map statement_seen statements.statements.keys };
+    ghost view = { λ statements. map statement_seen statements.statements };
 }
 
 impl Statements {
@@ -42,7 +38,7 @@ impl Statements {
         ensures { result ≡ [] }
     {
         Statements {
-            statements: Set::with_hasher(alloc, BuildHasherDefault::new()),
+            statements: Unique::new(alloc),
         }
     }
 
@@ -65,6 +61,6 @@ impl Statements {
         requires { place < length self.now }
         ensures { slice_get self.now place ≡ Some (statement_seen result.now) }
     {
-        &self.statements[place]
+        self.statements.at(place)
     }
 }

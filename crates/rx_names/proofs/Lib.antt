@@ -1,6 +1,5 @@
 pub mod TagLemmas
 pub mod RowLemmas
-pub mod PlaceLemmas
 pub mod NumberLemmas
 pub mod DeclarationLemmas
 pub mod TableLemmas

@@ -13,8 +13,10 @@ use Rattle.rx_names.specs.declared.rows.Row.TheVariants as row
 use Rattle.rx_terms.specs.Text.{Chars}
 use Rattle.rx_names.specs.Rows.{is_sound, last_of, prefix_in, vocabulary_in, language_in}
 use Rattle.rx_names.specs.Numbers.{number_of, row_number, AreNumbered}
-use Rattle.rx_names.specs.Places.{last_place}
-use Rattle.rx_names.proofs.PlaceLemmas.{last-within}
+use Rattle.rx_unique.specs.Places.{last_place}
+use Rattle.rx_unique.proofs.PlaceLemmas.{last-within}
+pub use Rattle.rx_unique.proofs.SearchLemmas.{reach, nearer}
+use Rattle.rx_unique.proofs.SearchLemmas.{earlier-below, front-at}
 
 pub sound-front : (n : ℕ) (rows : List Row) → list_all is_sound rows ≡ true → list_all is_sound (take n rows) ≡ true
 sound-front n rows h =
@@ -55,24 +57,6 @@ last-before f rows i x t some within at is =
     let one_more : i ≡ suc (i - 1) = omega arith in
     ap (λ (n : ℕ). last_of f (take n rows)) one_more ∙ last-here f rows (i - 1) x t (omega arith) at is
 
--- an earlier place is one before
-earlier-below : (numbers : List ℕ) (p q m : ℕ) → last_place m (take p numbers) ≡ Some q → q < p
-earlier-below numbers p q m e =
-    let inside = slice_get_within (take p numbers) q m (last-within m (take p numbers) q e) in
-    let count : length (take p numbers) ≤ p = length-front p numbers in
-    omega (arith, inside, count) where
-      length-front : (k : ℕ) (xs : List ℕ) → length (take k xs) ≤ k
-      length-front zero xs = omega arith
-      length-front (suc k) [] = omega arith
-      length-front (suc k) (x ∷ xs) = let l = length-front k xs in omega (arith, l)
-
-get-front : (xs : List ℕ) (k i : ℕ) → i < k → slice_get (take k xs) i ≡ slice_get xs i
-get-front [] zero i l = refl
-get-front [] (suc k) i l = refl
-get-front (x ∷ xs) zero i l = absurd (omega (arith, l))
-get-front (x ∷ xs) (suc k) zero l = refl
-get-front (x ∷ xs) (suc k) (suc i) l = get-front xs k i (omega (arith, l))
-
 -- where a number stands, a row stands
 pub row-within : (rows : List Row) (numbers : List ℕ) (p n : ℕ) → AreNumbered rows numbers → slice_get numbers p ≡ Some n → p < length rows
 row-within rows numbers p n numbered here =
@@ -84,11 +68,6 @@ row-within rows numbers p n numbered here =
 abbrev pub through : Option ℕ → List Row → List Row
 through None rows = []
 through (Some place) rows = take (suc place) rows
-
--- how many these are
-abbrev pub reach : Option ℕ → ℕ
-reach None = 0
-reach (Some place) = suc place
 
 -- what all rows tell is told by those through `next`, where a row of this number stands
 pub record Told {A : Type 0} (f : Row → Option A) (n : ℕ) (rows : List Row) (numbers : List ℕ) (next : Option ℕ) : Type 0 where
@@ -132,7 +111,7 @@ module _ {A : Type 0} (f : Row → Option A) (n : ℕ) (others : (x : Row) → (
         ∙ last-numbered (take p rows)
         ∙ ap (λ (o : Option ℕ). last_of f (through o (take p rows))) place
         ∙ shorter before refl;
-    there = λ q e. sym (get-front numbers p q (earlier-below numbers p q n (last e))) ∙ last-within n (take p numbers) q (last e);
+    there = λ q e. sym (front-at numbers p q (earlier-below numbers p q n (last e))) ∙ last-within n (take p numbers) q (last e);
   } where
     last : {o : Option ℕ} → before ≡ o → last_place n (take p numbers) ≡ o
     last e = ap (λ (k : ℕ). last_place k (take p numbers)) (sym (get_or_from_slice_get numbers p n 0 (told.there p is))) ∙ sym found ∙ e
@@ -145,16 +124,6 @@ module _ {A : Type 0} (f : Row → Option A) (n : ℕ) (others : (x : Row) → (
     shorter (Some q) e =
         let inside : q < p = earlier-below numbers p q n (last e) in
         ap (last_of f) (take-take (suc q) p rows (omega (arith, inside)))
-
--- each turn comes nearer to the first row
-pub nearer : (numbers : List ℕ) (next before : Option ℕ) (p m : ℕ) → next ≡ Some p → before ≡ last_place m (take p numbers) → reach before < reach next
-nearer numbers next before p m is found = less before refl where
-  here : reach next ≡ suc p
-  here = ap reach is
-
-  less : (o : Option ℕ) → before ≡ o → reach o < reach next
-  less None e = omega (arith, here)
-  less (Some q) e = let below = earlier-below numbers p q m (sym found ∙ e) in omega (arith, here, below)
 
 -- which rows say nothing
 pub other-prefix : (name : Chars) (x : Row) → (row_number x == number_of name) ≡ false → prefix_in name x ≡ None

@@ -9,9 +9,9 @@ ghost use Rattle.rx_names.specs.Rows.{is_sound, last_of, prefix_in, vocabulary_i
 ghost use Rattle.rx_names.specs.Numbers.{row_number};
 
 use crate::numbers::{LANGUAGE, VOCABULARY, number_of};
-use crate::places::Places;
 use crate::rows::{Row, Rows};
 use rx_terms::NoMemory;
+use rx_unique::Places;
 use std::alloc::Global;
 use std::marker::Model;
 

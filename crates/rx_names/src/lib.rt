@@ -13,7 +13,6 @@ mod declarations;
 mod kept_rows;
 mod names;
 mod numbers;
-mod places;
 mod rows;
 mod standard;
 mod tables;

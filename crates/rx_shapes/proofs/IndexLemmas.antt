@@ -4,7 +4,7 @@ use Rattle.std.specs.List.{position_or_len}
 use Rattle.std.proofs.lemmas.Bool.Decides.{nat_tests}
 use Rattle.std.proofs.lemmas.Option.{slice_get_within}
 use Rattle.std.proofs.lemmas.List.{take_all}
-use Rattle.indexmap.specs.IndexSet.{insert_key}
+use Rattle.rx_unique.specs.Unique.{insert_key}
 use Rattle.rx_terms.specs.declared.triples.Node.{Node as CodeNode}
 use Rattle.rx_terms.specs.declared.triples.Triple.{Triple as CodeTriple}
 use Rattle.rx_terms.specs.contracts.triples.NodePartialEq.TheImpl as node_impl

@@ -4,19 +4,16 @@ ghost use Rattle.rx_model.specs.Seen.{node_seen, term_seen, triple_seen, triples
 ghost use Rattle.rx_graph.specs.Resources.{node_added, number_in};
 ghost use Rattle.rx_shapes.specs.Links.{object_number, triple_added, IsIndex};
 
-use indexmap::IndexSet;
 use rx_graph::Graph;
 use rx_terms::{NoMemory, Node, Term, Triple};
+use rx_unique::Unique;
 use std::alloc::Global;
-use std::hash::{BuildHasherDefault, FoldHasher};
 use std::marker::Model;
 
 /// Nodes in order of first appearance, each once. The number of each is its place. A contract sees the list.
 #[derive(Drop)]
 pub(crate) struct Index {
-    // An IRI gives its SipHash, and a blank node its number, so a quick hash of these is enough: a page can't choose many
-    // nodes with one hash.
-    nodes: IndexSet<Node, BuildHasherDefault<FoldHasher>>,
+    nodes: Unique<Node>,
 }
 
 impl Model for Index {
@@ -26,7 +23,7 @@ impl Model for Index {
 
     ghost Value = { List (Node ℕ) };
 
-    ghost view = { λ index. map node_seen index.nodes.keys };
+    ghost view = { λ index. map node_seen index.nodes };
 }
 
 impl Index {
@@ -34,7 +31,7 @@ impl Index {
         ensures { result ≡ [] }
     {
         Index {
-            nodes: IndexSet::with_hasher(alloc, BuildHasherDefault::new()),
+            nodes: Unique::with_hints(alloc),
         }
     }
 

@@ -10,3 +10,4 @@ mod shapes;
 mod terms;
 mod times;
 mod turtle;
+mod unique;

@@ -8,4 +8,4 @@ use Rattle.rx_element.proofs.labels.add_row.Goals as goal
 pub returns-in-Ok-push-clause-keys : goal.returns-in-Ok-push-clause-keys
 returns-in-Ok-push-clause-keys c =
     c.in-Ok.ensures.keys
-    ∙ ap (λ (b : Bool). if b then c.args.keys.now.keys else c.args.keys.now.keys ++ c.args.key ∷ []) (none_kept string_bytes (λ k. IsUtf8-string_bytes k) c.args.key c.args.keys.now.keys c.requires.fresh)
+    ∙ ap (λ (b : Bool). if b then c.args.keys.now else c.args.keys.now ++ c.args.key ∷ []) (none_kept string_bytes (λ k. IsUtf8-string_bytes k) c.args.key c.args.keys.now c.requires.fresh)

@@ -3,7 +3,7 @@ use Rattle.rx_terms.specs.declared.triples.Triple.{Triple}
 use Rattle.rx_model.specs.Copied.{treated, edges}
 use Rattle.rx_model.specs.Seen.{triple_seen, triples_seen}
 use Rattle.rx_graph.specs.Graph.{added_all}
-use Rattle.rx_graph.proofs.PlaceLemmas.{treated_turn, treated_end, graph_gathered}
+use Rattle.rx_graph.proofs.PlaceLemmas.{treated_turn, treated_end}
 use Rattle.rx_graph.proofs.copying.copy_patterns.Goals as goal
 
 pub loop-i-preserved : goal.loop-i-preserved
@@ -12,4 +12,4 @@ loop-i-preserved c = treated_turn c.args.triples.now c.loop-i.i c.at.result.now 
     c.loop-i.invariant
 
 pub returns : goal.returns
-returns c = graph_gathered _ _ c.into_graph.result c.into_graph.ensures (treated_end c.args.triples.now c.loop-i.i _ (omega (arith, c.loop-i-test.false, c.len-i-end.ensures)) c.loop-i.invariant)
+returns c = ap triples_seen c.into_graph.ensures ∙ (treated_end c.args.triples.now c.loop-i.i _ (omega (arith, c.loop-i-test.false, c.len-i-end.ensures)) c.loop-i.invariant)

@@ -6,4 +6,4 @@ use Rattle.rx_lists.proofs.owner_lists.add_row.Goals as goal
 pub returns-clause-keys : goal.returns-clause-keys
 returns-clause-keys c =
     c.in-Ok.ensures.keys
-    ∙ ap (λ (b : Bool). if b then c.args.keys.now.keys else c.args.keys.now.keys ++ c.args.key ∷ []) (none_alike c.args.key c.args.keys.now.keys c.requires)
+    ∙ ap (λ (b : Bool). if b then c.args.keys.now else c.args.keys.now ++ c.args.key ∷ []) (none_alike c.args.key c.args.keys.now c.requires)

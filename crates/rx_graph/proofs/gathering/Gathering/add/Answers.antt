@@ -6,4 +6,4 @@ use Rattle.rx_graph.proofs.gathering.Gathering.add.Goals as goal
 
 pub returns : goal.returns
 returns c = ap triples_seen (of_ok c.insert.result (sym c.is_err.ensures.value ∙ c.if-is_err.false) c.insert.ensures.keys)
-    ∙ rw (← c.self.view_is) (added_seen code_eq exact_code c.self.inside.triples.keys c.args.triple)
+    ∙ rw (← c.self.view_is) (added_seen code_eq exact_code c.self.inside.triples c.args.triple)

@@ -6,4 +6,4 @@ use Rattle.rx_graph.proofs.resources.Nodes.add.Goals as goal
 
 pub returns : goal.returns
 returns c = ap (map resource_seen) (of_ok c.insert.result (sym c.is_err.ensures.value ∙ c.if-is_err.false) c.insert.ensures.keys)
-    ∙ rw (← c.self.view_is) (node_added_seen c.self.inside.nodes.keys c.args.node)
+    ∙ rw (← c.self.view_is) (node_added_seen c.self.inside.nodes c.args.node)

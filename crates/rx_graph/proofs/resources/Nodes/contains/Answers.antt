@@ -6,4 +6,4 @@ use Rattle.rx_graph.proofs.CodeEq.{resource_eq, resources_agree_back}
 use Rattle.rx_graph.proofs.resources.Nodes.contains.Goals as goal
 
 pub returns : goal.returns
-returns c = rw (← c.self.view_is) (c.contains.ensures ∙ any_seen resource_seen resource_eq (same_node nat_eq) resources_agree_back c.self.inside.nodes.keys c.args.node)
+returns c = rw (← c.self.view_is) (c.contains.ensures ∙ any_seen resource_seen resource_eq (same_node nat_eq) resources_agree_back c.self.inside.nodes c.args.node)

@@ -1,5 +1,5 @@
 use Rattle.std.proofs.Common.{◌≡◌, take, length}
-use Rattle.rx_names.proofs.places.Places.truncate.Given as goal
+use Rattle.rx_unique.proofs.places.Places.truncate.Given as goal
 
 abbrev pub invariant-loop-self : goal.invariant-loop-self
 invariant-loop-self l = take l.count l.self ≡ take l.count l.fn.self

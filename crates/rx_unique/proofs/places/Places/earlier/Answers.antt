@@ -1,6 +1,6 @@
-use Rattle.rx_names.specs.declared.places.Entry.{Entry}
-use Rattle.rx_names.proofs.PlaceLemmas.{told-at}
-use Rattle.rx_names.proofs.places.Places.earlier.Goals as goal
+use Rattle.rx_unique.specs.declared.places.Entry.{Entry}
+use Rattle.rx_unique.proofs.PlaceLemmas.{told-at}
+use Rattle.rx_unique.proofs.places.Places.earlier.Goals as goal
 
 pub returns : goal.returns
 returns c =

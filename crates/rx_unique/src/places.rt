@@ -1,6 +1,6 @@
 //! Where numbers stand in a list.
 ghost use Rattle.std.specs.Prelude.{◌≡◌, ◌<◌, ◌-◌, [], ◌∷◌, ◌++◌, take, length, slice_index, OnOk, OnErr};
-ghost use Rattle.rx_names.specs.Places.{last_place};
+ghost use Rattle.rx_unique.specs.Places.{last_place};
 
 use rx_terms::NoMemory;
 use std::alloc::Global;
@@ -10,7 +10,7 @@ use std::marker::Model;
 /// Numbers in the order in which they came. It tells where each stands last without going through the others. A contract
 /// sees the list.
 #[derive(Debug, Drop)]
-pub(crate) struct Places {
+pub struct Places {
     entries: Vec<Entry>,
     // the last place of each number
     last: BTreeMap<u64, usize>,
@@ -25,7 +25,7 @@ struct Entry {
 
 impl Model for Places {
     ghost use Rattle.std.specs.Prelude.{List, ℕ, map};
-    ghost use Rattle.rx_names.specs.Places.{AreFiled};
+    ghost use Rattle.rx_unique.specs.Places.{AreFiled};
 
     ghost Value = { List ℕ };
 
@@ -35,7 +35,8 @@ impl Model for Places {
 }
 
 impl Places {
-    pub(crate) fn new(alloc: Global) -> Places
+    /// No number.
+    pub fn new(alloc: Global) -> Places
         ensures empty { result ≡ [] }
     {
         Places {
@@ -44,7 +45,8 @@ impl Places {
         }
     }
 
-    pub(crate) fn push(&mut self, number: u64) -> Result<(), NoMemory>
+    /// Adds the number at the end.
+    pub fn push(&mut self, number: u64) -> Result<(), NoMemory>
         ensures ok { OnOk result (self.new ≡ self.old ++ number ∷ []) }
         ensures err { OnErr result (self.new ≡ self.old) }
     {
@@ -59,21 +61,22 @@ impl Places {
         Ok(())
     }
 
-    pub(crate) fn len(&self) -> usize
+    /// How many numbers there are.
+    pub fn len(&self) -> usize
         ensures length { result ≡ length self.now }
     {
         self.entries.len()
     }
 
     /// Where the number stands last.
-    pub(crate) fn last(&self, number: u64) -> Option<usize>
+    pub fn last(&self, number: u64) -> Option<usize>
         ensures { result ≡ last_place number self.now }
     {
         self.last.get(&number).copied()
     }
 
     /// Where the number at the place stands last before it.
-    pub(crate) fn earlier(&self, place: usize) -> Option<usize>
+    pub fn earlier(&self, place: usize) -> Option<usize>
         requires { place < length self.now }
         ensures { result ≡ last_place (slice_index self.now place) (take place self.now) }
     {
@@ -81,7 +84,7 @@ impl Places {
     }
 
     /// Drops all but the first numbers.
-    pub(crate) fn truncate(&mut self, count: usize)
+    pub fn truncate(&mut self, count: usize)
         ensures front { self.new ≡ take count self.old }
     {
         while self.len() > count {

@@ -1,9 +1,9 @@
 use Rattle.std.proofs.Common.{◌∙◌, ap, sym, Option, ℕ, cond, nat_cmp}
 use Rattle.std.specs.Ordering.{is_eq}
 use Rattle.std.specs.BTreeMap.{get}
-use Rattle.rx_names.specs.declared.places.Entry.{Entry}
-use Rattle.rx_names.proofs.PlaceLemmas.{filed-less, filed-last, certain}
-use Rattle.rx_names.proofs.places.Places.pop.Goals as goal
+use Rattle.rx_unique.specs.declared.places.Entry.{Entry}
+use Rattle.rx_unique.proofs.PlaceLemmas.{filed-less, filed-last, certain}
+use Rattle.rx_unique.proofs.places.Places.pop.Goals as goal
 
 pub invariant_of-self-in-None : goal.invariant_of-self-in-None
 invariant_of-self-in-None c =

@@ -7,7 +7,7 @@ use Rattle.std.specs.Cmp.{unsigned_tied}
 use Rattle.std.specs.BTreeMap.{BTreeMap, get}
 use Rattle.std.proofs.lemmas.List.{map-append, length-map, get_or-map}
 use Rattle.std.proofs.lemmas.Bool.Decides.{nat_tests}
-use Rattle.rx_names.specs.Places.{last_place, earlier_places, AreFiled}
+use Rattle.rx_unique.specs.Places.{last_place, earlier_places, AreFiled}
 
 -- one more number
 pub last-more : (n : ℕ) (xs : List ℕ) (y : ℕ) → last_place n (xs ++ y ∷ []) ≡ (if y == n then Some (length xs) else last_place n xs)

@@ -1,9 +1,9 @@
 use Rattle.std.proofs.Common.{◌≡◌, ◌∙◌, rules, ◌++◌, ◌∷◌, [], ap, nat_cmp, cond, length, List, ℕ, Some}
 use Rattle.std.specs.Ordering.{is_eq}
 use Rattle.std.specs.BTreeMap.{get}
-use Rattle.rx_names.specs.declared.places.Entry.{Entry}
-use Rattle.rx_names.proofs.PlaceLemmas.{filed-more}
-use Rattle.rx_names.proofs.places.Places.push.Goals as goal
+use Rattle.rx_unique.specs.declared.places.Entry.{Entry}
+use Rattle.rx_unique.proofs.PlaceLemmas.{filed-more}
+use Rattle.rx_unique.proofs.places.Places.push.Goals as goal
 
 pub invariant_of-self-2 : goal.invariant_of-self-2
 invariant_of-self-2 c =

@@ -1,0 +1,277 @@
+-- Where a key stands among keys, each of which is there once.
+use Rattle.std.proofs.Common.{◌≡◌, ◌∙◌, ℕ, zero, suc, ◌+◌, ◌<◌, ◌≤◌, ap, sym, refl, arith, inl, inr, Bool, true, false, cond, not, ◌||◌, ◌==◌, Option, Some, None, is_some, List, [], ◌∷◌, ◌++◌, take, length, get_or, slice_get, nat_lt, if◌then◌else◌, true≢false, map, subst}
+use Rattle.std.specs.Option.{option_map, option_or}
+use Rattle.std.specs.Cmp.{IsEquivalence}
+use Rattle.std.specs.List.{list_any, position_or_len, IsDistinct}
+use Rattle.std.specs.Prelude.{position}
+use Rattle.std.proofs.lemmas.Bool.{cases_lt}
+use Rattle.std.proofs.lemmas.Bool.Decides.{nat_tests}
+use Rattle.std.proofs.lemmas.List.{length-map, get_or-map, map-append}
+use Rattle.std.proofs.lemmas.List.Sums.{position_or_len_is, passes_at_first}
+use Rattle.std.proofs.lemmas.Map.Keys.{apart_from_distinct, IsDistinct-push}
+use Rattle.std.proofs.lemmas.Option.{slice_get_within, get_or_from_slice_get}
+use Rattle.rx_unique.specs.Places.{last_place}
+use Rattle.rx_unique.specs.Unique.{AreKept, insert_key}
+use Rattle.rx_unique.proofs.PlaceLemmas.{last-within}
+
+-- how many places there are through this one
+abbrev pub reach : Option ℕ → ℕ
+reach None = 0
+reach (Some place) = suc place
+
+-- behind its last place a number doesn't stand
+pub none_behind : (n : ℕ) (xs : List ℕ) (i : ℕ) → reach (last_place n xs) ≤ i → i < length xs → (get_or xs i 0 == n) ≡ false
+none_behind n [] i far inside = absurd (omega (arith, inside))
+none_behind n (x ∷ xs) i far inside = by (last_place n xs) (x == n) refl i far inside (λ j f l. none_behind n xs j f l) where
+  by :
+      (o : Option ℕ) (b : Bool) → (x == n) ≡ b → (i : ℕ) → reach (option_or (option_map suc o) (if b then Some 0 else None)) ≤ i → i < length (x ∷ xs)
+      → ((j : ℕ) → reach o ≤ j → j < length xs → (get_or xs j 0 == n) ≡ false) → (get_or (x ∷ xs) i 0 == n) ≡ false
+  by (Some q) b t zero far inside ih = absurd (omega (arith, far))
+  by (Some q) b t (suc j) far inside ih = ih j (omega (arith, far)) (omega (arith, inside))
+  by None true t zero far inside ih = absurd (omega (arith, far))
+  by None true t (suc j) far inside ih = ih j (omega arith) (omega (arith, inside))
+  by None false t zero far inside ih = t
+  by None false t (suc j) far inside ih = ih j (omega arith) (omega (arith, inside))
+
+-- a front of a list
+length-front : (k : ℕ) (xs : List ℕ) → length (take k xs) ≤ k
+length-front zero xs = omega arith
+length-front (suc k) [] = omega arith
+length-front (suc k) (x ∷ xs) = let l = length-front k xs in omega (arith, l)
+
+front-length : (k : ℕ) (xs : List ℕ) → k ≤ length xs → length (take k xs) ≡ k
+front-length zero xs l = refl
+front-length (suc k) [] l = absurd (omega (arith, l))
+front-length (suc k) (x ∷ xs) l = ap suc (front-length k xs (omega (arith, l)))
+
+pub front-at : (xs : List ℕ) (k i : ℕ) → i < k → slice_get (take k xs) i ≡ slice_get xs i
+front-at [] zero i l = refl
+front-at [] (suc k) i l = refl
+front-at (x ∷ xs) zero i l = absurd (omega (arith, l))
+front-at (x ∷ xs) (suc k) zero l = refl
+front-at (x ∷ xs) (suc k) (suc i) l = front-at xs k i (omega (arith, l))
+
+front-or : (xs : List ℕ) (k i : ℕ) → i < k → get_or (take k xs) i 0 ≡ get_or xs i 0
+front-or [] zero i l = refl
+front-or [] (suc k) i l = refl
+front-or (x ∷ xs) zero i l = absurd (omega (arith, l))
+front-or (x ∷ xs) (suc k) zero l = refl
+front-or (x ∷ xs) (suc k) (suc i) l = front-or xs k i (omega (arith, l))
+
+-- an earlier place is one before
+pub earlier-below : (numbers : List ℕ) (p q m : ℕ) → last_place m (take p numbers) ≡ Some q → q < p
+earlier-below numbers p q m e =
+    let inside = slice_get_within (take p numbers) q m (last-within m (take p numbers) q e) in
+    let count : length (take p numbers) ≤ p = length-front p numbers in
+    omega (arith, inside, count)
+
+-- each turn comes nearer to the first place
+pub nearer : (numbers : List ℕ) (next before : Option ℕ) (p m : ℕ) → next ≡ Some p → before ≡ last_place m (take p numbers) → reach before < reach next
+nearer numbers next before p m is found = less before refl where
+  here : reach next ≡ suc p
+  here = ap reach is
+
+  less : (o : Option ℕ) → before ≡ o → reach o < reach next
+  less None e = omega (arith, here)
+  less (Some q) e = let below = earlier-below numbers p q m (sym found ∙ e) in omega (arith, here, below)
+
+-- whatever stands for what isn't there
+any-default : {A : Type 0} (xs : List A) (i : ℕ) (a b : A) → i < length xs → get_or xs i a ≡ get_or xs i b
+any-default [] i a b l = absurd (omega (arith, l))
+any-default (x ∷ xs) zero a b l = refl
+any-default (x ∷ xs) (suc i) a b l = any-default xs i a b (omega (arith, l))
+
+slice-or : {A : Type 0} (xs : List A) (i : ℕ) (d : A) → i < length xs → slice_get xs i ≡ Some (get_or xs i d)
+slice-or [] i d l = absurd (omega (arith, l))
+slice-or (x ∷ xs) zero d l = refl
+slice-or (x ∷ xs) (suc i) d l = slice-or xs i d (omega (arith, l))
+
+-- one that passes is the only one, for these pass that are like it
+pub alone :
+    {K : Type 0} (same : K → K → Bool) (test : K → Bool) → ((x y : K) → test x ≡ true → test y ≡ same x y)
+    → (keys : List K) → IsDistinct same keys → (p : ℕ) (x : K) → p < length keys → x ≡ get_or keys p x → test x ≡ true → position test keys ≡ Some p
+alone same test like keys once p x inside at holds = ap (λ (k : ℕ). cond (nat_lt k (length keys)) (Some k) None) first ∙ ap (λ (b : Bool). cond b (Some p) None) (less p (length keys) inside) where
+  less : (a b : ℕ) → a < b → nat_lt a b ≡ true
+  less a b l = grind (arith, nat_tests)
+
+  before : (k : ℕ) → k < p → test (get_or keys k x) ≡ false
+  before k l = by (test (get_or keys k x)) refl where
+    by : (b : Bool) → test (get_or keys k x) ≡ b → b ≡ false
+    by false t = refl
+    by true t = absurd (true≢false (sym holds ∙ ap test at ∙ like (get_or keys k x) (get_or keys p x) t ∙ apart_from_distinct same keys k p x once l inside))
+
+  first : position_or_len test keys ≡ p
+  first = position_or_len_is test keys p x (omega (arith, inside)) before (λ l. ap test (sym at) ∙ holds)
+
+-- the keys behind `next` don't pass the test, and a key of the number stands there
+pub record Sought {K : Type 0} (test : K → Bool) (n : ℕ) (keys : List K) (numbers : List ℕ) (next : Option ℕ) : Type 0 where
+  pub past : (i : ℕ) (d : K) → reach next ≤ i → i < length keys → test (get_or keys i d) ≡ false
+  pub there : (place : ℕ) → next ≡ Some place → slice_get numbers place ≡ Some n
+
+-- a key that passes has the number
+module _ {K : Type 0} (same : K → K → Bool) (number : K → ℕ) (test : K → Bool) (n : ℕ) (passes : (k : K) → test k ≡ true → n ≡ number k) (keys : List K) (numbers : List ℕ) (kept : AreKept same number keys numbers) where
+  count : length numbers ≡ length keys
+  count = ap (λ (l : List ℕ). length l) kept.numbered ∙ length-map keys number
+
+  number-at : (i : ℕ) (d : K) → i < length keys → get_or numbers i 0 ≡ number (get_or keys i d)
+  number-at i d inside =
+      ap (λ (l : List ℕ). get_or l i 0) kept.numbered ∙ any-default (map number keys) i 0 (number d) (omega (arith, inside, length-map keys number))
+      ∙ get_or-map number keys i d (number d) inside ∙ refl
+
+  -- a key of another number doesn't
+  other : (i : ℕ) (d : K) → i < length keys → (get_or numbers i 0 == n) ≡ false → test (get_or keys i d) ≡ false
+  other i d inside unlike = by (test (get_or keys i d)) refl where
+    equal : (a b : ℕ) → a ≡ b → (a == b) ≡ true
+    equal a b e = grind (arith, nat_tests)
+
+    by : (b : Bool) → test (get_or keys i d) ≡ b → b ≡ false
+    by false t = refl
+    by true t = absurd (true≢false (sym (equal (get_or numbers i 0) n (number-at i d inside ∙ sym (passes (get_or keys i d) t))) ∙ unlike))
+
+  pub sought-first : (next : Option ℕ) → next ≡ last_place n numbers → Sought test n keys numbers next
+  sought-first next found = record {
+    past = λ i d far inside. other i d inside (none_behind n numbers i (omega (arith, far, ap reach found)) (omega (arith, inside, count)));
+    there = λ p e. last-within n numbers p (sym found ∙ e);
+  }
+
+  pub within : (next : Option ℕ) (p : ℕ) → Sought test n keys numbers next → next ≡ Some p → p < length keys
+  within next p sought is = omega (arith, slice_get_within numbers p n (sought.there p is), count)
+
+  pub sought-before :
+      (next before : Option ℕ) (p : ℕ) (x : K) → Sought test n keys numbers next → next ≡ Some p → x ≡ get_or keys p x → test x ≡ false
+      → before ≡ last_place (get_or numbers p 0) (take p numbers) → Sought test n keys numbers before
+  sought-before next before p x sought is at fails found = record {
+    past = λ i d far inside. elim (cases_lt i p) [
+      | inl l ↦ other i d inside (ap (λ (k : ℕ). k == n) (sym (front-or numbers p i l)) ∙ none_behind n (take p numbers) i (omega (arith, far, ap reach last)) (omega (arith, l, whole)))
+      | inr g ↦ elim (cases_lt p i) [
+        | inl l ↦ sought.past i d (omega (arith, l, ap reach is)) inside
+        | inr h ↦ ap (λ (k : ℕ). test (get_or keys k d)) (here i g h) ∙ ap test (any-default keys p d x inside-p ∙ sym at) ∙ fails
+      ]
+    ];
+    there = λ q e.
+        let below : q < p = earlier-below numbers p q n (sym last ∙ e) in
+        sym (front-at numbers p q below) ∙ last-within n (take p numbers) q (sym last ∙ e);
+  } where
+    inside-p : p < length keys
+    inside-p = within next p sought is
+
+    last : before ≡ last_place n (take p numbers)
+    last = found ∙ ap (λ (k : ℕ). last_place k (take p numbers)) (get_or_from_slice_get numbers p n 0 (sought.there p is))
+
+    whole : length (take p numbers) ≡ p
+    whole = front-length p numbers (omega (arith, inside-p, count))
+
+    here : (i : ℕ) → p ≤ i → i ≤ p → i ≡ p
+    here i g h = omega (arith, g, h)
+
+  pub sought-found :
+      ((x y : K) → test x ≡ true → test y ≡ same x y)
+      → (next : Option ℕ) (p : ℕ) (x : K) → Sought test n keys numbers next → next ≡ Some p → x ≡ get_or keys p x → test x ≡ true → Some p ≡ position test keys
+  sought-found like next p x sought is at holds = sym (alone same test like keys kept.once p x (within next p sought is) at holds)
+
+  pub sought-none : (next : Option ℕ) → Sought test n keys numbers next → next ≡ None → None ≡ position test keys
+  sought-none next sought is = absent keys (λ i d inside. sought.past i d (omega (arith, ap reach is)) inside) where
+    less : (a : ℕ) → nat_lt a a ≡ false
+    less a = grind (arith, nat_tests)
+
+    absent : (xs : List K) → ((i : ℕ) (d : K) → i < length xs → test (get_or xs i d) ≡ false) → None ≡ position test xs
+    absent [] fails = refl
+    absent (x ∷ xs) fails =
+        let none : position_or_len test (x ∷ xs) ≡ length (x ∷ xs) = position_or_len_is test (x ∷ xs) (length (x ∷ xs)) x (omega arith) (λ k l. fails k x l) (λ l. absurd (omega (arith, l))) in
+        sym (ap (λ (k : ℕ). cond (nat_lt k (length (x ∷ xs))) (Some k) None) none ∙ ap (λ (b : Bool). cond b (Some (length (x ∷ xs))) None) (less (length (x ∷ xs))))
+
+-- ---- what a place says
+
+module _ {K : Type 0} (test : K → Bool) where
+  pub any-place : (keys : List K) → nat_lt (position_or_len test keys) (length keys) ≡ list_any test keys
+  any-place [] = refl
+  any-place (x ∷ xs) = by (test x) (any-place xs) where
+    none : (n : ℕ) → nat_lt 0 (suc n) ≡ true
+    none n = grind (arith, nat_tests)
+
+    step : (a b : ℕ) → nat_lt (1 + a) (suc b) ≡ nat_lt a b
+    step a b = grind (arith, nat_tests)
+
+    by : (b : Bool) → nat_lt (position_or_len test xs) (length xs) ≡ list_any test xs → nat_lt (cond (not b) (1 + position_or_len test xs) 0) (suc (length xs)) ≡ (b || list_any test xs)
+    by true ih = none (length xs)
+    by false ih = step (position_or_len test xs) (length xs) ∙ ih
+
+  pub place-any : (keys : List K) → is_some (position test keys) ≡ list_any test keys
+  place-any keys = by (nat_lt (position_or_len test keys) (length keys)) (position_or_len test keys) ∙ any-place keys where
+    by : (b : Bool) (k : ℕ) → is_some (cond b (Some k) None) ≡ b
+    by true k = refl
+    by false k = refl
+
+  pub record HasPlace (keys : List K) (p : ℕ) : Type 0 where
+    pub any : list_any test keys ≡ true
+    pub at : position_or_len test keys ≡ p
+    pub inside : p < length keys
+
+  pub has-place : (keys : List K) (p : ℕ) → position test keys ≡ Some p → HasPlace keys p
+  has-place keys p is = by (nat_lt (position_or_len test keys) (length keys)) refl is where
+    less : (a b : ℕ) → nat_lt a b ≡ true → a < b
+    less a b t = grind (arith, nat_tests)
+
+    by : (b : Bool) → nat_lt (position_or_len test keys) (length keys) ≡ b → cond b (Some (position_or_len test keys)) None ≡ Some p → HasPlace keys p
+    by true t e =
+        let same : position_or_len test keys ≡ p = cc in
+        record { any = sym (any-place keys) ∙ t; at = same; inside = omega (arith, less (position_or_len test keys) (length keys) t, same) }
+    by false t e = absurd (cc)
+
+  pub record HasNone (keys : List K) : Type 0 where
+    pub any : list_any test keys ≡ false
+    pub at : position_or_len test keys ≡ length keys
+
+  pub has-none : (keys : List K) → position test keys ≡ None → HasNone keys
+  has-none keys is =
+      let none : list_any test keys ≡ false = sym (place-any keys) ∙ ap is_some is in
+      record { any = none; at = whole keys none } where
+        whole : (xs : List K) → list_any test xs ≡ false → position_or_len test xs ≡ length xs
+        whole [] none = refl
+        whole (x ∷ xs) none = by (test x) none (λ t. whole xs t) where
+          by : (b : Bool) → (b || list_any test xs) ≡ false → (list_any test xs ≡ false → position_or_len test xs ≡ length xs) → cond (not b) (1 + position_or_len test xs) 0 ≡ suc (length xs)
+          by true t ih = absurd (cc)
+          by false t ih = omega (arith, ih t)
+
+  -- the key at the place
+  pub stored-old : (keys : List K) (p : ℕ) (d : K) → HasPlace keys p → (k : K) × (slice_get keys p ≡ Some k) × (test k ≡ true)
+  stored-old keys p d has = (get_or keys p d, slice-or keys p d has.inside, ap (λ (i : ℕ). test (get_or keys i d)) (sym has.at) ∙ passes_at_first test keys d (omega (arith, has.inside, has.at)))
+
+  pub stored-still : (keys same_keys : List K) (p : ℕ) (d : K) → same_keys ≡ keys → HasPlace keys p → (k : K) × (slice_get same_keys p ≡ Some k) × (test k ≡ true)
+  stored-still keys same_keys p d same has =
+      let stored = stored-old keys p d has in
+      (stored.0, ap (λ (l : List K). slice_get l p) same ∙ stored.1, stored.2)
+
+-- ---- what is kept
+
+module _ {K : Type 0} (same : K → K → Bool) (k : K) (keys : List K) where
+  pub kept-old : (p : ℕ) → position (same k) keys ≡ Some p → keys ≡ insert_key same keys k
+  kept-old p is = sym (ap (λ (b : Bool). if b then keys else keys ++ k ∷ []) (has-place (same k) keys p is).any)
+
+  pub kept-new : (more : List K) → position (same k) keys ≡ None → more ≡ keys ++ k ∷ [] → more ≡ insert_key same keys k
+  kept-new more is new = new ∙ sym (ap (λ (b : Bool). if b then keys else keys ++ k ∷ []) (has-none (same k) keys is).any)
+
+pub kept-none : {K : Type 0} (same : K → K → Bool) (number : K → ℕ) (keys : List K) (numbers : List ℕ) → keys ≡ [] → numbers ≡ [] → AreKept same number keys numbers
+unfolding IsDistinct
+kept-none same number [] numbers k n = record { once = tt; numbered = n }
+kept-none same number (x ∷ xs) numbers k n = absurd (cc)
+
+pub kept-more :
+    {K : Type 0} (same : K → K → Bool) → IsEquivalence same → (number : K → ℕ) (keys more : List K) (numbers more_numbers : List ℕ) (k : K) (n : ℕ)
+    → AreKept same number keys numbers → position (same k) keys ≡ None → n ≡ number k
+    → more ≡ keys ++ k ∷ [] → more_numbers ≡ numbers ++ n ∷ [] → AreKept same number more more_numbers
+kept-more same laws number keys more numbers more_numbers k n kept fresh is keys-are numbers-are = record {
+  once = subst (IsDistinct same) (sym keys-are) (IsDistinct-push laws keys k kept.once (has-none (same k) keys fresh).any);
+  numbered =
+      numbers-are ∙ ap (λ (l : List ℕ). l ++ n ∷ []) kept.numbered ∙ ap (λ (m : ℕ). map number keys ++ m ∷ []) is ∙ sym (map-append number keys (k ∷ []))
+      ∙ ap (map number) (sym keys-are);
+}
+
+-- the key that was put in at the end
+pub stored-now :
+    {K : Type 0} (same : K → K → Bool) {k : K} → same k k ≡ true → (keys more : List K) (p : ℕ) → p ≡ length keys → more ≡ keys ++ k ∷ []
+    → (stored : K) × (slice_get more p ≡ Some stored) × (same k stored ≡ true)
+stored-now {K} same {k} holds keys more p at new = (k, ap (slice_get more) at ∙ ap (λ (l : List K). slice_get l (length keys)) new ∙ last keys, holds) where
+  last : (xs : List K) → slice_get (xs ++ k ∷ []) (length xs) ≡ Some k
+  last [] = refl
+  last (x ∷ xs) = last xs
