@@ -16,7 +16,7 @@ use Rattle.rx_pages.proofs.ClosedTold.{fronts_tell}
 use Rattle.rx_pages.proofs.FaultFronts.{faults_follow_fronts}
 use Rattle.rx_nest.specs.Nests.{Nested}
 use Rattle.rx_nest.specs.Signs.{Sign, begun, said, Flags, Sight, is_hidden, ended_sight, see, sees, nothing_seen, signs_of}
-use Rattle.rx_nest.proofs.Sizes.{read_size}
+use Rattle.rx_pages.proofs.Sizes.{read_size}
 use Rattle.rx_nest.proofs.TagPlaces.{shows_more}
 use Rattle.rx_nest.proofs.TextSteps.{sees_append}
 use Rattle.rx_reading.specs.Faults.{MeaningAt, Refuses, Stops, for_form, for_meaning}
