@@ -1,6 +1,6 @@
 -- The reader reads exactly the bytes that the grammar has underway, and comes to where it says.
-use Rattle.std.proofs.Common.{◌≡◌, ◌∙◌, ℕ, ◌+◌, ◌≤◌, true, false, List, [], ◌++◌, inl, refl, sym, ap, subst, length, append-nil, Result, None, Ok, Err, arith}
-use Rattle.std.specs.Prelude.{if◌then◌else◌}
+use Rattle.std.proofs.Common.{◌≡◌, ◌∙◌, ℕ, ◌+◌, ◌≤◌, true, false, List, [], ◌∷◌, ◌++◌, inl, refl, sym, ap, subst, length, append-nil, Result, None, Ok, Err, arith}
+use Rattle.std.specs.Prelude.{take, if◌then◌else◌}
 use lib.Utf8.{encodes}
 use Rattle.std.proofs.lemmas.List.{length-append}
 use Rattle.rx_chars.specs.Characters.{Entry, IsRead}
@@ -8,13 +8,14 @@ use Rattle.rx_chars.specs.declared.syntax.Syntax.{Syntax}
 use Rattle.rx_grammar.specs.declared.faults.Fault.{Fault}
 use Rattle.rx_grammar.specs.declared.faults.Kind.TheVariants.{Unended}
 use Rattle.rx_grammar.specs.declared.limits.Limits.{Limits}
-use Rattle.rx_grammar.specs.Items.{values}
+use Rattle.rx_grammar.specs.Items.{values, next_of}
 use Rattle.rx_grammar.specs.Pages.{has_no_nul}
 use Rattle.rx_grammar.specs.Begun.{Line, Phase, Begun as BegunPage}
 use Rattle.rx_grammar.specs.PageFaults.{IsShort, token_of, FaultAt}
-use Rattle.rx_pages.specs.PageReader.{Progress, page_read, end_of, fault_in, may_end}
-use Rattle.rx_pages.specs.Fronts.{ReadsTo, IsUnderway, ReadsWhatIsUnderway, NothingUnfinished}
+use Rattle.rx_pages.specs.PageReader.{Progress, page_read, end_of, fault_in, may_end, first_of, starts_at, token_at}
+use Rattle.rx_pages.specs.Fronts.{ReadsTo, IsUnderway, ReadsWhatIsUnderway, NothingUnfinished, UnfinishedFollowsFront}
 use Rattle.rx_pages.proofs.FaultRead.{stands_there, state, at_part}
+use Rattle.rx_pages.proofs.FaultFronts.{begun_whole}
 use Rattle.rx_pages.proofs.FaultsRead.{pending_goes, fault_is_read}
 use Rattle.rx_pages.proofs.ByteSteps.{progress_at}
 use Rattle.rx_pages.proofs.FrontOn.{pending}
@@ -120,6 +121,26 @@ module _ (syntax : Syntax) (limits : Limits) where
         size = b.size;
         short = λ k. absurd (cc);
       }
+
+-- the offset of the first byte that belongs to no whole token
+token_is : (syntax : Syntax) (limits : Limits) (bytes : List ℕ) (line : Line) (phase : Phase) (run : List Entry) (part : List ℕ) (r : ReadsTo syntax limits bytes line phase run part) (u : IsUnderway syntax limits bytes line phase run part) → token_at r.now.now.scan ≡ token_of u.whole run
+token_is syntax limits bytes line phase run part r u =
+    let at = (read_size syntax limits bytes r.now r.read).0 in
+    let sizes : length bytes ≡ length u.whole + length part = ap length u.are ∙ length-append u.whole part in
+    let held : length r.now.now.scan.held ≡ length part = ap length r.part_is in
+    let starts : starts_at r.now.now.scan ≡ length u.whole = omega arith in
+    ap (λ es. first_of es (starts_at r.now.now.scan)) r.run_is ∙ (ap (λ n. first_of run n) starts ∙ by run)
+  where
+    by : (es : List Entry) → first_of es (length u.whole) ≡ token_of u.whole es
+    by [] = refl
+    by (e ∷ es) = refl
+
+pub unfinished_follows_front : UnfinishedFollowsFront
+unfinished_follows_front syntax limits bytes line phase run part r =
+    let u = is_underway syntax limits bytes line phase run part r in
+    let sizes : length bytes ≡ length u.whole + length part = ap length u.are ∙ length-append u.whole part in
+    subst (λ n. BegunPage syntax limits (take n bytes) (next_of (values run) None) line phase) (sym (token_is syntax limits bytes line phase run part r u))
+    (begun_whole syntax limits bytes u.whole part u.items line phase run u.are u.reached (let s = u.size in omega arith))
 
 pub reads_what_is_underway : ReadsWhatIsUnderway
 reads_what_is_underway syntax limits bytes line phase run part = (λ u. reads_to syntax limits bytes line phase run part u, λ r. is_underway syntax limits bytes line phase run part r)

@@ -1,13 +1,13 @@
 -- What the reader has come to behind some bytes of a page, by the grammar alone.
-use Rattle.std.specs.Prelude.{◌≡◌, ◌↔◌, ℕ, ◌≤◌, List, [], ◌++◌, length, None, Ok}
+use Rattle.std.specs.Prelude.{◌≡◌, ◌↔◌, ℕ, ◌≤◌, List, [], ◌++◌, length, take, None, Ok}
 use Rattle.rx_chars.specs.Characters.{Entry}
 use Rattle.rx_chars.specs.declared.syntax.Syntax.{Syntax}
 use Rattle.rx_grammar.specs.declared.limits.Limits.{Limits}
-use Rattle.rx_grammar.specs.Items.{values, Item}
+use Rattle.rx_grammar.specs.Items.{values, next_of, Item}
 use Rattle.rx_grammar.specs.Begun.{Line, inside_of, Phase, Begun}
 use Rattle.rx_grammar.specs.PageFaults.{Reached, IsPending, IsPart, IsShort, token_of}
 use Rattle.rx_pages.specs.Nesting.{IsAt}
-use Rattle.rx_pages.specs.PageReader.{Progress, page_read}
+use Rattle.rx_pages.specs.PageReader.{Progress, page_read, token_at}
 
 -- The reader reads the bytes, and behind them these elements are open, in this phase; these characters belong to no whole token, and
 -- these bytes to no whole character.
@@ -37,3 +37,8 @@ ReadsWhatIsUnderway = (syntax : Syntax) (limits : Limits) (bytes : List ℕ) (li
 -- Nothing is unfinished exactly behind the front of a page.
 abbrev pub NothingUnfinished : Type 0
 NothingUnfinished = (syntax : Syntax) (limits : Limits) (bytes : List ℕ) (line : Line) (phase : Phase) → Begun syntax limits bytes None line phase ↔ ReadsTo syntax limits bytes line phase [] []
+
+-- What stands before the unfinished token is the front of a page, with the same open elements and phase.
+abbrev pub UnfinishedFollowsFront : Type 0
+UnfinishedFollowsFront = (syntax : Syntax) (limits : Limits) (bytes : List ℕ) (line : Line) (phase : Phase) (run : List Entry) (part : List ℕ)
+    → (r : ReadsTo syntax limits bytes line phase run part) → Begun syntax limits (take (token_at r.now.now.scan) bytes) (next_of (values run) None) line phase

@@ -6,7 +6,7 @@
 #![tactic(auto)]
 
 ghost use Rattle.rx_grammar.specs.Laws.{NotBoth, OneFault, OneTree, PageOrFault};
-ghost use Rattle.rx_pages.specs.Fronts.{NothingUnfinished, ReadsWhatIsUnderway};
+ghost use Rattle.rx_pages.specs.Fronts.{NothingUnfinished, ReadsWhatIsUnderway, UnfinishedFollowsFront};
 ghost use Rattle.rx_pages.specs.Laws.{FaultsAreDecided, FaultsFollowFronts, FaultsStay, FindsEachFault, FindsOnlyFaults, FrontsClose, FrontsLead, FrontsStand, FrontsTell, OnePlace, PagesGoOn, ReadsEachPage, ReadsEachToken, ReadsOnlyPages, SpellsEachToken, UnfinishedGoesOn};
 
 /// A byte list has at most one tree.
@@ -121,4 +121,9 @@ pub fn reads_what_is_underway()
 /// Nothing is unfinished exactly behind the front of a page, with its open elements and its phase.
 pub fn nothing_unfinished()
     ensures { NothingUnfinished }
+{}
+
+/// What stands before an unfinished token is the front of a page, with the same open elements and phase.
+pub fn unfinished_follows_front()
+    ensures { UnfinishedFollowsFront }
 {}
