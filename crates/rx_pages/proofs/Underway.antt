@@ -1,5 +1,5 @@
 -- The reader reads exactly the bytes that the grammar has underway, and comes to where it says.
-use Rattle.std.proofs.Common.{◌≡◌, ◌∙◌, ℕ, ◌+◌, ◌≤◌, true, false, List, [], ◌∷◌, ◌++◌, inl, refl, sym, ap, subst, length, append-nil, Result, None, Ok, Err, arith}
+use Rattle.std.proofs.Common.{◌≡◌, ◌∙◌, ℕ, ◌+◌, ◌≤◌, true, false, List, [], ◌∷◌, ◌++◌, inl, refl, sym, ap, subst, length, append_assoc, append-nil, Result, None, Ok, Err, arith}
 use Rattle.std.specs.Prelude.{take, if◌then◌else◌}
 use lib.Utf8.{encodes}
 use Rattle.std.proofs.lemmas.List.{length-append}
@@ -136,11 +136,11 @@ token_is syntax limits bytes line phase run part r u =
     by (e ∷ es) = refl
 
 pub unfinished_follows_front : UnfinishedFollowsFront
-unfinished_follows_front syntax limits bytes line phase run part r =
+unfinished_follows_front syntax limits bytes rest line phase run part r =
     let u = is_underway syntax limits bytes line phase run part r in
     let sizes : length bytes ≡ length u.whole + length part = ap length u.are ∙ length-append u.whole part in
-    subst (λ n. BegunPage syntax limits (take n bytes) (next_of (values run) None) line phase) (sym (token_is syntax limits bytes line phase run part r u))
-    (begun_whole syntax limits bytes u.whole part u.items line phase run u.are u.reached (let s = u.size in omega arith))
+    subst (λ n. BegunPage syntax limits (take n (bytes ++ rest)) (next_of (values run) None) line phase) (sym (token_is syntax limits bytes line phase run part r u))
+    (begun_whole syntax limits (bytes ++ rest) u.whole (part ++ rest) u.items line phase run (ap (λ b. b ++ rest) u.are ∙ append_assoc u.whole part rest) u.reached (let s = u.size in omega arith))
 
 pub reads_what_is_underway : ReadsWhatIsUnderway
 reads_what_is_underway syntax limits bytes line phase run part = (λ u. reads_to syntax limits bytes line phase run part u, λ r. is_underway syntax limits bytes line phase run part r)

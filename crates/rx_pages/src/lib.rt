@@ -123,7 +123,7 @@ pub fn nothing_unfinished()
     ensures { NothingUnfinished }
 {}
 
-/// What stands before an unfinished token is the front of a page, with the same open elements and phase.
+/// What stands before an unfinished token is the front of a page, with the same open elements and phase, whatever follows.
 pub fn unfinished_follows_front()
     ensures { UnfinishedFollowsFront }
 {}
