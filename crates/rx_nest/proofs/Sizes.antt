@@ -1,12 +1,12 @@
 -- Where a page's reading stands, and where its fault is.
 use Rattle.std.proofs.Common.{◌≡◌, ◌∙◌, ⊎_elim, inl, inr, append-nil, ℕ, ◌+◌, ◌≤◌, ◌<◌, List, [], ◌∷◌, ◌++◌, refl, sym, ap, subst, length, length-append, append_assoc, Result, Ok, Err, arith}
 use Rattle.std.proofs.lemmas.List.{append_cancel_left}
-use Rattle.std.specs.Prelude.{◌⊎◌, ◌-◌, nat_le, take, if◌then◌else◌}
+use Rattle.std.specs.Prelude.{◌⊎◌, ◌-◌, take}
 use Rattle.rx_chars.specs.declared.syntax.Syntax.{Syntax}
 use Rattle.rx_grammar.specs.declared.faults.Fault.{Fault}
 use Rattle.rx_grammar.specs.declared.limits.Limits.{Limits}
 use Rattle.rx_pages.specs.Nesting.{Event}
-use Rattle.rx_pages.specs.PageReader.{Spot, Progress, spot_of, page_on, page_read, nothing_read, end_of}
+use Rattle.rx_pages.specs.PageReader.{Spot, Progress, Reading, spot_of, page_byte, page_byte_on, telling, page_on, page_read, nothing_read, end_of}
 use Rattle.rx_pages.proofs.FaultWalk.{fault_stays}
 use Rattle.rx_pages.proofs.OnlyPages.{found_fault}
 use Rattle.rx_pages.proofs.Sizes.{AllSized, all_sized, read_size}
