@@ -1,6 +1,7 @@
 //! The base of a page (HTML, 4.2.3), which is RDFa's and Microdata's alike: how it is looked for as the page is read.
 #![tactic(auto)]
 
+ghost use Rattle.rx_base.specs.Moments.{KnowsAtTheFirstMoment};
 ghost use Rattle.rx_base.specs.Seekings.{BaseIsFound};
 
 mod bases;
@@ -12,4 +13,10 @@ pub use seeking::{Clue, Sought};
 /// Of a whole page the base that the rules take is found.
 pub fn base_is_found()
     ensures { BaseIsFound }
+{}
+
+/// The base is known exactly from the first of four moments on: a base with href begins in the head that is the root's first
+/// child, this head ends, another first child begins, or the root ends without one.
+pub fn base_is_known_at_the_first_moment()
+    ensures { KnowsAtTheFirstMoment }
 {}

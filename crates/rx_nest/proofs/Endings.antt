@@ -26,7 +26,7 @@ use Rattle.rx_nest.specs.declared.nests.Event as shown
 use Rattle.rx_nest.specs.declared.nests.Event.TheVariants as event
 use Rattle.rx_pages.specs.PageReader.{Scanning}
 use Rattle.rx_nest.specs.Nests.{did_skipped, is_skipped, DidOf, TellsOf, Nested, At, Stands, Done, DidLends, did_signs, did_more, event_signs, is_more, Speaks, Shown, KeepsOn, Keeps, Stepped, EndsWith, Ended, last_tag, last_text, owed_signs}
-use Rattle.rx_nest.proofs.Sizes.{read_size}
+use Rattle.rx_pages.proofs.Sizes.{read_size}
 use Rattle.rx_nest.proofs.TreeSeen.{whole}
 
 module _ (syntax : Syntax) (limits : Limits) (bytes : List ℕ) (told : List Event) (v : Scanner) (line : Lines) (at : At syntax limits bytes told v line) where

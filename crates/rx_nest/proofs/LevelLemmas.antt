@@ -1,12 +1,17 @@
 -- The open elements, the innermost first, and how they change.
-use Rattle.std.proofs.Common.{◌≡◌, ◌∙◌, ℕ, zero, suc, ◌+◌, ◌-◌, ◌<◌, ◌≤◌, Bool, true, false, List, [], ◌∷◌, refl, sym, ap, length, slice_index_or, slice_set, arith}
-use Rattle.std.specs.Prelude.{drop}
+use Rattle.std.proofs.Common.{◌≡◌, ◌∙◌, ℕ, zero, suc, ◌+◌, ◌-◌, ◌<◌, ◌≤◌, Bool, true, false, List, [], ◌∷◌, refl, sym, ap, subst, length, nat_le, slice_index_or, slice_set, arith}
+use Rattle.std.specs.Prelude.{drop, if◌then◌else◌}
+use Rattle.std.proofs.lemmas.Bool.Decides.{nat_tests}
 use Rattle.std.proofs.lemmas.List.{get_or-set_other, get_or-set_same, get_or_default}
+use Rattle.rx_reader.proofs.Bools.{by_test}
 use Rattle.rx_nest.specs.Levels.{Level, Levels, no_level, innermost_first, IsTop, place_under, name_under, hidden_under, kept, ended, one_if}
 
 pub length_inner : (n : ℕ) (kept : List Level) → length (innermost_first n kept) ≡ n
 length_inner zero kept = refl
 length_inner (suc n) kept = ap suc (length_inner n kept)
+
+pub fitting : (n : ℕ) (kept : List Level) → n ≤ length kept → length (innermost_first n kept) ≤ length kept
+fitting n kept h = let e = length_inner n kept in omega arith
 
 -- a level past the open ones is set
 pub set_beyond : (n i : ℕ) (kept : List Level) (x : Level) → n ≤ i → innermost_first n (slice_set kept i x) ≡ innermost_first n kept
@@ -49,6 +54,21 @@ is_left n kept h = let e = length_inner n kept in omega arith
 pub counted : (levels : Levels) (level : Level) → IsTop level levels → 1 ≤ length levels
 counted [] level h = absurd (cc)
 counted (other ∷ above) level h = omega arith
+
+kept_short : (ends : Level → Bool) (levels : Levels) → length (kept ends levels) ≤ length levels
+kept_short ends [] = omega arith
+kept_short ends (level ∷ above) = by_test {G = length (kept ends (level ∷ above)) ≤ length (level ∷ above)} (ends level) (λ e. let w = kept_short ends above in rw e (omega arith)) (λ e. rw e (omega arith))
+
+at_least : (a b : ℕ) → nat_le a b ≡ true → a ≤ b
+at_least a b h = grind (arith, nat_tests)
+
+-- where all levels stay taken none has ended
+pub kept_full : (ends : Level → Bool) (levels : Levels) (most : ℕ) → length levels ≤ most → nat_le most (length (kept ends levels)) ≡ true → kept ends levels ≡ levels
+kept_full ends [] most w h = refl
+kept_full ends (level ∷ above) most w h =
+    by_test {G = kept ends (level ∷ above) ≡ level ∷ above} (ends level)
+    (λ e. let k = at_least most (length (kept ends above)) (subst (λ (b : Bool). nat_le most (length (if b then kept ends above else level ∷ above)) ≡ true) e h) in let s = kept_short ends above in absurd (omega arith))
+    (λ e. rw e refl)
 
 -- the innermost element ends, and it doesn't
 module _ (ends : Level → Bool) where

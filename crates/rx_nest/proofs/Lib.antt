@@ -14,3 +14,4 @@ pub mod Endings
 pub mod Sizes
 pub mod Fronts
 pub mod TagPlaces
+pub mod OpenElements

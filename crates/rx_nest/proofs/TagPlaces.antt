@@ -31,7 +31,7 @@ use Rattle.rx_pages.proofs.ScanSteps.{page_append}
 use Rattle.rx_pages.proofs.TokenWalk.{IsKept, is_kept}
 use Rattle.rx_nest.specs.Signs.{Sign, begun, said, finished, Flags, is_hidden, Sight, see, sees, nothing_seen}
 use Rattle.rx_nest.specs.Fronts.{Lie, ShowsMore}
-use Rattle.rx_nest.proofs.Sizes.{read_size}
+use Rattle.rx_pages.proofs.Sizes.{read_size}
 use Rattle.rx_nest.proofs.TextSteps.{sees_append}
 
 -- each token ends at the offset, or is a run that stays text

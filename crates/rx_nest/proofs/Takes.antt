@@ -335,12 +335,12 @@ tag_steps l new n item t result f is_tag gives = go t.closing refl result gives
         ⊎_elim
         (λ w. end_is_refused l n item t kind f is_tag e (ap first_row (end_refusals_are l n f t) ∙ rw (w.0, w.1) refl))
         (λ w. end_is_refused l n item t kind f is_tag e (ap first_row (end_refusals_are l n f t) ∙ rw (w.0, w.1, w.2) refl))
-        g
+        g.0
     go true e (Err NoMemory) g = tt
     go false e (Ok told) g = start_taken l new n item t told f is_tag e g
     go false e (Err (Fault kind)) g =
         ⊎_elim
         (λ w. start_is_refused l n item t kind f is_tag e (start_refused l n f t kind w))
         (λ w. start_is_refused l n item t kind f is_tag e (start_deep l n f t w.0 w.1 ∙ ap (λ k. Some k) (sym w.2)))
-        g
+        g.0
     go false e (Err NoMemory) g = tt

@@ -23,10 +23,11 @@ level_of name t = record { name = name; inside = t.inside; row = option_map row_
 abbrev pub Levels : Type 0
 Levels = List Level
 
--- the open elements, and how many there may be
+-- the open elements, how many there may be, and all that are kept in memory, the outermost first
 pub record Opened : Type 0 where
   pub levels : Levels
   pub room : ℕ
+  pub memory : List Level
 
 abbrev pub no_level : Level
 no_level = record { name = []; inside = outside; row = None; held = false; shown = false; hides = false }

@@ -7,3 +7,4 @@ pub mod Signs
 pub mod Heard
 pub mod Nests
 pub mod Fronts
+pub mod OpenElements

@@ -78,7 +78,7 @@ pub record Begins (old : Lines) (t : Tag) (told : Told) (new : Lines) : Type 0 w
 abbrev pub BeginGives : Lines → Tag → Result Told Refused → Lines → Type 0
 BeginGives old t (Ok told) new = Begins old t told new
 BeginGives old t (Err (Fault kind)) new =
-    first_row (start_refusals old t) ≡ Some kind ⊎ (first_row (start_refusals old t) ≡ None × is_room old t ≡ false × kind ≡ TooDeep)
+    (first_row (start_refusals old t) ≡ Some kind ⊎ (first_row (start_refusals old t) ≡ None × is_room old t ≡ false × kind ≡ TooDeep)) × (new ≡ old)
 BeginGives old t (Err NoMemory) new = Unit {0}
 
 -- the tag's own element begins, after so many others ended
@@ -112,7 +112,7 @@ pub record Ends (old : Lines) (t : Tag) (told : Told) (new : Lines) : Type 0 whe
 abbrev pub EndGives : Lines → Tag → Result Told Refused → Lines → Type 0
 EndGives old t (Ok told) new = Ends old t told new
 EndGives old t (Err (Fault kind)) new =
-    (is_none_open old.levels ≡ true × kind ≡ NothingOpen) ⊎ (is_none_open old.levels ≡ false × is_named t.name (kept (ends_by true t.name) old.levels) ≡ false × kind ≡ Mismatch)
+    ((is_none_open old.levels ≡ true × kind ≡ NothingOpen) ⊎ (is_none_open old.levels ≡ false × is_named t.name (kept (ends_by true t.name) old.levels) ≡ false × kind ≡ Mismatch)) × (new ≡ old)
 EndGives old t (Err NoMemory) new = ⊥
 
 -- a tag, which is an end tag or a start tag

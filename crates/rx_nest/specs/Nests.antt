@@ -10,6 +10,7 @@ use Rattle.rx_grammar.specs.Tokens as tokens
 use Rattle.rx_grammar.specs.Trees.{Tree, StartTag}
 use Rattle.rx_grammar.specs.Items.{Item}
 use Rattle.rx_grammar.specs.Pages.{Page}
+use Rattle.rx_grammar.specs.Begun.{Line, Phase, Begun}
 use Rattle.rx_grammar.specs.PageFaults.{FaultAt}
 use Rattle.rx_reader.specs.TagReader.{parts_of}
 use Rattle.rx_pages.specs.Nesting as nesting
@@ -37,7 +38,7 @@ use Rattle.rx_nest.specs.declared.nests.Event.{Event}
 use Rattle.rx_nest.specs.declared.nests.Event.TheVariants as event
 use Rattle.rx_nest.specs.Lines.{Lines}
 use Rattle.rx_nest.specs.Signs.{Sign, begun, said, finished, sees, nothing_seen, finishing, signs_of}
-use Rattle.rx_nest.specs.Follows.{Follows, flags_of, own_signs}
+use Rattle.rx_nest.specs.Follows.{AreLevels, Follows, flags_of, own_signs}
 
 -- the scanner, the open elements, what the last tag still tells, the fault that was answered, and want of memory
 pub record Nested : Type 0 where
@@ -194,6 +195,12 @@ ReadGives syntax limits bytes told piece old (Ok r) v new = Heeds syntax limits 
 ReadGives syntax limits bytes told piece old (Err (stop.Fault fault)) v new = Stops syntax limits bytes told piece fault
 ReadGives syntax limits bytes told piece old (Err stop.NoMemory) v new = Unit {0}
 
+-- a fault leaves the open elements as they were
+abbrev pub StaysAtFault : {A : Type 0} → Result A Stop → Lines → Lines → Type 0
+StaysAtFault (Ok a) old new = Unit {0}
+StaysAtFault (Err (stop.Fault fault)) old new = new ≡ old
+StaysAtFault (Err stop.NoMemory) old new = Unit {0}
+
 -- how much of the piece was taken
 abbrev pub ReadTakes : List ℕ → Result (ℕ × Heard) Stop → Type 0
 ReadTakes piece (Ok r) = scan.TakesSome piece r.0 (hears_more r.1)
@@ -273,10 +280,11 @@ pub record Takes (piece : List ℕ) (n : ℕ) (is_nothing : Bool) (old new : Owe
   pub some : is_nothing ≡ false → (0 < n) ⊎ ((n ≡ 0) × (left new < left old))
   pub first : 0 < left old → (n ≡ 0) × (left old ≡ left new + 1)
 
--- Whatever it stands for: it answers only where neither a fault nor want of memory was answered; a fault comes again, and want of memory.
+-- Whatever it stands for: it answers only where neither a fault nor want of memory was answered; a fault comes again, and want of memory. A fault
+-- leaves the open elements as they were.
 abbrev pub KeepsOn : Nested → List ℕ → Result (ℕ × Did) Stop → Nested → Type 0
 KeepsOn old piece (Ok r) new = (old.failed ≡ None) × (old.spent ≡ false) × (new.failed ≡ None) × (new.spent ≡ false) × Takes piece r.0 (did_more r.1) old.owed new.owed
-KeepsOn old piece (Err (stop.Fault fault)) new = (old.spent ≡ false) × ((old.failed ≡ None) ⊎ (old.failed ≡ Some fault)) × (new.failed ≡ Some fault) × (new.spent ≡ false)
+KeepsOn old piece (Err (stop.Fault fault)) new = (old.spent ≡ false) × ((old.failed ≡ None) ⊎ (old.failed ≡ Some fault)) × (new.failed ≡ Some fault) × (new.spent ≡ false) × (new.line ≡ old.line)
 KeepsOn old piece (Err stop.NoMemory) new = ((old.spent ≡ true) ⊎ (old.failed ≡ None)) × (new.spent ≡ true)
 
 -- this fault was answered, and is from then on
@@ -306,8 +314,18 @@ pub record Faults (syntax : Syntax) (limits : Limits) (bytes piece : List ℕ) (
 abbrev pub Unshown : Syntax → Limits → List ℕ → List Sign → List ℕ → Type 0
 Unshown syntax limits bytes signs piece = (k : ℕ) (p : Progress) → page_read syntax limits (bytes ++ take k piece) ≡ Ok p → (sees nothing_seen p.told).signs ≡ signs
 
+-- The open elements are those of the page's front before this offset.
+pub record OpenBefore (syntax : Syntax) (limits : Limits) (bytes : List ℕ) (token : ℕ) (open_ones : Lines) : Type 0 where
+  pub next : Option ℕ
+  pub line : Line
+  pub phase : Phase
+  pub begun : Begun syntax limits (take token bytes) next line phase
+  pub levels : AreLevels syntax open_ones.levels line
+  pub depth : length open_ones.levels ≡ length line
+
 abbrev pub FaultGives : Syntax → Limits → List ℕ → List Sign → List ℕ → Stop → Nested → Type 0
-FaultGives syntax limits bytes signs piece (stop.Fault fault) new = Faults syntax limits bytes piece fault × Fallen fault new × Unshown syntax limits bytes signs piece
+FaultGives syntax limits bytes signs piece (stop.Fault fault) new =
+    Faults syntax limits bytes piece fault × Fallen fault new × Unshown syntax limits bytes signs piece × OpenBefore syntax limits (bytes ++ piece) fault.token new.line
 FaultGives syntax limits bytes signs piece stop.NoMemory new = new.spent ≡ true
 
 abbrev pub AdvanceGives : Syntax → Limits → List ℕ → List Sign → List ℕ → Result (ℕ × Did) Stop → Nested → Type 0
@@ -377,15 +395,16 @@ abbrev pub StepGives : Syntax → Limits → List ℕ → List Sign → List ℕ
 StepGives syntax limits bytes signs piece (Ok r) new = Stepped syntax limits bytes signs piece r.0 r.1 new
 StepGives syntax limits bytes signs piece (Err stop) new = FaultGives syntax limits bytes signs piece stop new
 
--- Whatever the nest stands for: it answers only where neither a fault nor want of memory was answered; a fault comes again, and want of memory.
+-- Whatever the nest stands for: it answers only where neither a fault nor want of memory was answered; a fault comes again, and want of memory. A
+-- fault leaves the open elements as they were.
 abbrev pub Keeps : Nested → List ℕ → Result (ℕ × Event) Stop → Nested → Type 0
 Keeps old piece (Ok r) new = (old.failed ≡ None) × (old.spent ≡ false) × (new.failed ≡ None) × (new.spent ≡ false) × Takes piece r.0 (is_more r.1) old.owed new.owed
-Keeps old piece (Err (stop.Fault fault)) new = (old.spent ≡ false) × ((old.failed ≡ None) ⊎ (old.failed ≡ Some fault)) × (new.failed ≡ Some fault) × (new.spent ≡ false)
+Keeps old piece (Err (stop.Fault fault)) new = (old.spent ≡ false) × ((old.failed ≡ None) ⊎ (old.failed ≡ Some fault)) × (new.failed ≡ Some fault) × (new.spent ≡ false) × (new.line ≡ old.line)
 Keeps old piece (Err stop.NoMemory) new = ((old.spent ≡ true) ⊎ (old.failed ≡ None)) × (new.spent ≡ true)
 
 abbrev pub KeepsEnd : Nested → Result (Unit {0}) Stop → Nested → Type 0
 KeepsEnd old (Ok done) new = (old.failed ≡ None) × (old.spent ≡ false) × (new ≡ old)
-KeepsEnd old (Err (stop.Fault fault)) new = (old.spent ≡ false) × ((old.failed ≡ None) ⊎ (old.failed ≡ Some fault)) × (new.failed ≡ Some fault) × (new.spent ≡ false)
+KeepsEnd old (Err (stop.Fault fault)) new = (old.spent ≡ false) × ((old.failed ≡ None) ⊎ (old.failed ≡ Some fault)) × (new.failed ≡ Some fault) × (new.spent ≡ false) × (new.line ≡ old.line)
 KeepsEnd old (Err stop.NoMemory) new = (old.spent ≡ true) × (new ≡ old)
 
 -- the end of the page's reading, by its fault if it has one

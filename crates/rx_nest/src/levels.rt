@@ -137,7 +137,7 @@ impl Model for Levels {
 
     ghost Value = { Opened };
 
-    ghost view = { λ l. record { levels = innermost_first l.open l.levels.items; room = length l.levels.items } };
+    ghost view = { λ l. record { levels = innermost_first l.open l.levels.items; room = length l.levels.items; memory = l.levels.items } };
 
     ghost invariant = { λ l. l.open ≤ length l.levels.items };
 }
@@ -145,7 +145,8 @@ impl Model for Levels {
 impl Levels {
     /// No element is open. The memory of all levels is taken.
     pub(crate) fn new(alloc: Global, depth: u32) -> Result<Levels, NoMemory>
-        ensures { IfOk result (λ l. l ≡ record { levels = []; room = depth }) }
+        ensures levels { IfOk result (λ l. l.levels ≡ []) }
+        ensures room { IfOk result (λ l. l.room ≡ depth) }
     {
         let mut levels = Vec::new(alloc);
         for _ in 0..depth {
@@ -160,6 +161,7 @@ impl Levels {
     pub(crate) fn depth(&self) -> usize
         ensures depth { result ≡ length self.now.levels }
         ensures fits { result ≤ self.now.room }
+        ensures are { self.now.levels ≡ levels.innermost_first result self.now.memory }
     {
         self.open
     }
@@ -180,8 +182,18 @@ impl Levels {
     pub(crate) fn pop(&mut self)
         ensures levels { self.new.levels ≡ drop 1 self.old.levels }
         ensures room { self.new.room ≡ self.old.room }
+        ensures memory { self.new.memory ≡ self.old.memory }
     {
         self.open = self.open.saturating_sub(1);
+    }
+
+    /// So many elements are open again, as they were before the last ones ended.
+    pub(crate) fn reopen(&mut self, count: usize)
+        requires { count ≤ self.old.room }
+        ensures levels { self.new.levels ≡ levels.innermost_first count self.old.memory }
+        ensures room { self.new.room ≡ self.old.room }
+    {
+        self.open = count;
     }
 
     /// The innermost element.
@@ -231,7 +243,11 @@ impl Levels {
         ensures levels { self.new.levels ≡ levels.kept (levels.ends_by closing (chars name.now)) self.old.levels }
         ensures ended { result ≡ levels.ended (levels.ends_by closing (chars name.now)) self.old.levels }
         ensures room { self.new.room ≡ self.old.room }
+        ensures memory { self.new.memory ≡ self.old.memory }
+        ensures fits { length self.old.levels ≤ self.old.room }
     {
+        // No more are open than there is room for.
+        let _most = self.open;
         let Some(level) = self.top() else {
             return 0;
         };
@@ -247,6 +263,7 @@ impl Levels {
         ensures levels { self.new.levels ≡ levels.kept (levels.ends_by closing (chars name.now)) self.old.levels }
         ensures ended { result ≡ levels.ended (levels.ends_by closing (chars name.now)) self.old.levels }
         ensures room { self.new.room ≡ self.old.room }
+        ensures memory { self.new.memory ≡ self.old.memory }
     {
         let mut ended = 0;
         for _ in 0..self.depth() {

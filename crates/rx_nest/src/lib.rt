@@ -2,6 +2,7 @@
 #![tactic(auto)]
 
 ghost use Rattle.rx_nest.specs.Fronts.{ShowsOneElement, TagsLieInTheirBytes};
+ghost use Rattle.rx_nest.specs.OpenElements.{HasOpenOfFronts, HasOpenUnderway};
 
 mod heard;
 mod levels;
@@ -26,4 +27,14 @@ pub fn shows_one_element()
 /// The start tags that more bytes show end in these bytes.
 pub fn tags_lie_in_their_bytes()
     ensures { TagsLieInTheirBytes }
+{}
+
+/// The open elements are those of the front of the page, where nothing is unfinished. So a nest's depth is their number.
+pub fn depth_is_of_the_front()
+    ensures { HasOpenOfFronts }
+{}
+
+/// Where something is unfinished they are those of the front before it.
+pub fn depth_is_of_what_is_underway()
+    ensures { HasOpenUnderway }
 {}

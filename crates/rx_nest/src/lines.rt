@@ -138,8 +138,8 @@ impl Line {
         None
     }
 
-    /// A tag begins an element, or ends one, after those that it ends by omission. After a refusal nothing is said of the
-    /// elements.
+    /// A tag begins an element, or ends one, after those that it ends by omission. A tag that is refused leaves the elements
+    /// as they were.
     pub(crate) fn take(&mut self, tag: &Tag<'_>) -> Result<Told, Refused>
         ensures { lines.TagGives self.old (tag_seen tag.now) result self.new }
     {
@@ -220,6 +220,7 @@ impl Line {
     fn end_before(&mut self, tag: &Tag<'_>) -> usize
         ensures ends { result ≡ lines.ended_at_start (tag_seen tag.now).name self.old.levels }
         ensures becomes { self.new ≡ record self.old { levels = lines.kept_at_start (tag_seen tag.now).name self.old.levels } }
+        ensures none { nat_le self.new.depth (length self.new.levels) ≡ true → self.new ≡ self.old }
     {
         if self.levels.place().is_html() {
             self.levels.end_by(false, tag.name())
@@ -287,8 +288,10 @@ impl Line {
         if !self.is_open() {
             return Err(Refused::Fault(Kind::NothingOpen));
         }
+        let before = self.levels.depth();
         let ends = self.levels.end_by(true, tag.name());
         if !self.is_named(tag) {
+            self.levels.reopen(before);
             return Err(Refused::Fault(Kind::Mismatch));
         }
         let own = self.own_of_end();

@@ -18,6 +18,7 @@ pub(crate) fn read(scan: &mut Scan, line: &mut Line, piece: &[u8]) -> Result<(us
     requires { nests.Somewhere scan.old line.old }
     ensures reads { (syntax : Syntax) (limits : Limits) (bytes : List ℕ) (told : List Event) → nests.At syntax limits bytes told scan.old line.old → nests.ReadGives syntax limits bytes told piece.now line.old result scan.new line.new }
     ensures takes { nests.ReadTakes piece.now result }
+    ensures stays { nests.StaysAtFault result line.old line.new }
     ensures quiet { (syntax : Syntax) (limits : Limits) (bytes : List ℕ) (told : List Event) → nests.At syntax limits bytes told scan.old line.old → nests.IsBetween syntax limits bytes → is_quiet piece.now ≡ true → IsNoMemory result ≡ false }
 {
     let (taken, token) = match scan.step(piece) {

@@ -96,7 +96,7 @@ module _ (syntax : Syntax) (limits : Limits) where
   abbrev pub Answer : List ℕ → Type 0
   Answer bytes = Begun bytes ⊎ Faults bytes
 
-  reached_here : {chars : List ℕ} {items : List Item} {line : Line} {phase : Phase} {run : List Entry} → Here syntax limits chars None items line phase run → Reached syntax limits (encodes chars) items line phase run
+  pub reached_here : {chars : List ℕ} {items : List Item} {line : Line} {phase : Phase} {run : List Entry} → Here syntax limits chars None items line phase run → Reached syntax limits (encodes chars) items line phase run
   reached_here {chars = chars} h =
       record { front = h.front; read = record { characters = chars; scalars = h.scalars; forms = refl; read = h.read }; no_nul = h.no_nul; spelled = h.spelled; fit = h.fit; sections = h.sections; stands = h.stands }
 

@@ -41,11 +41,14 @@ module _ (syntax : Syntax) (limits : Limits) (bytes whole rest : List ℕ) (item
         stands = r.stands;
       })
 
+  pub begun_whole : length whole ≤ limits.page → Begun syntax limits (take (token_of whole run) bytes) (next_of (values run) None) line phase
+  begun_whole h = front_begun (let w = part.within in omega arith)
+
   behind : Answer (take (token_of whole run) bytes) → IsFront syntax limits (take (token_of whole run) bytes)
   behind b = record { next = next_of (values run) None; line = line; phase = phase; begun = b; closes = λ d. fronts_close syntax limits (take (token_of whole run) bytes) (next_of (values run) None) line phase d b }
 
   pub by_whole : length whole ≤ limits.page → IsFront syntax limits (take (token_of whole run) bytes)
-  by_whole h = behind (front_begun (let w = part.within in omega arith))
+  by_whole h = behind (begun_whole h)
 
   pub by_last : (es : List Entry) (c : Entry) → run ≡ es ++ c ∷ [] → c.last ≤ limits.page → IsFront syntax limits (take (token_of whole run) bytes)
   by_last es c e h = behind (front_begun (let w = part.order es c e in let s = part.size in omega arith))

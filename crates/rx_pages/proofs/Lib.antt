@@ -65,3 +65,5 @@ pub mod Closings
 pub mod FaultFronts
 pub mod OnePlace
 pub mod ClosedTold
+pub mod Sizes
+pub mod Underway

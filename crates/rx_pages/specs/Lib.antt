@@ -3,4 +3,5 @@ pub mod Scanner
 pub mod Faults
 pub mod PageReader
 pub mod Closings
+pub mod Fronts
 pub mod Laws

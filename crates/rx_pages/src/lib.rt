@@ -6,6 +6,7 @@
 #![tactic(auto)]
 
 ghost use Rattle.rx_grammar.specs.Laws.{NotBoth, OneFault, OneTree, PageOrFault};
+ghost use Rattle.rx_pages.specs.Fronts.{NothingUnfinished, ReadsWhatIsUnderway, UnfinishedFollowsFront};
 ghost use Rattle.rx_pages.specs.Laws.{FaultsAreDecided, FaultsFollowFronts, FaultsStay, FindsEachFault, FindsOnlyFaults, FrontsClose, FrontsLead, FrontsStand, FrontsTell, OnePlace, PagesGoOn, ReadsEachPage, ReadsEachToken, ReadsOnlyPages, SpellsEachToken, UnfinishedGoesOn};
 
 /// A byte list has at most one tree.
@@ -109,4 +110,20 @@ pub fn one_place()
 /// The bytes before the token of a fault are the front of a page, so that they are a page once they are closed.
 pub fn faults_follow_fronts()
     ensures { FaultsFollowFronts }
+{}
+
+/// Exactly the bytes that are underway are read without a fault: whole tokens at the front of a page, what begins one more,
+/// and what begins a character. The open elements, the phase, and what is unfinished are those of the grammar.
+pub fn reads_what_is_underway()
+    ensures { ReadsWhatIsUnderway }
+{}
+
+/// Nothing is unfinished exactly behind the front of a page, with its open elements and its phase.
+pub fn nothing_unfinished()
+    ensures { NothingUnfinished }
+{}
+
+/// What stands before an unfinished token is the front of a page, with the same open elements and phase, whatever follows.
+pub fn unfinished_follows_front()
+    ensures { UnfinishedFollowsFront }
 {}

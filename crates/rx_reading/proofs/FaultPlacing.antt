@@ -18,7 +18,8 @@ use Rattle.rx_pages.proofs.ScanSteps.{page_append}
 use Rattle.rx_pages.proofs.Trees.{one_tree}
 use Rattle.rx_nest.specs.Signs.{Sign, Sight, sees, nothing_seen, signs_of}
 use Rattle.rx_nest.specs.Fronts.{Lie}
-use Rattle.rx_nest.proofs.Sizes.{read_size, within_so}
+use Rattle.rx_nest.proofs.Sizes.{within_so}
+use Rattle.rx_pages.proofs.Sizes.{read_size}
 use Rattle.rx_nest.proofs.TagPlaces.{shows_more}
 use Rattle.rx_nest.proofs.TreeSeen.{whole}
 use Rattle.rx_reading.specs.Ways.{Way, IsRefusal}

@@ -16,7 +16,8 @@ use Rattle.rx_pages.proofs.FaultsRead.{fault_is_read}
 use Rattle.rx_pages.proofs.ScanSteps.{page_append}
 use Rattle.rx_nest.specs.Signs.{Sign, begun, said, finished, Flags, Sight, is_hidden, ended_sight, see, sees, nothing_seen}
 use Rattle.rx_nest.specs.Nests as nests
-use Rattle.rx_nest.proofs.Sizes.{read_size, within_so}
+use Rattle.rx_nest.proofs.Sizes.{within_so}
+use Rattle.rx_pages.proofs.Sizes.{read_size}
 use Rattle.rx_nest.proofs.TextSteps.{sees_append}
 use Rattle.rx_reading.specs.Ways.{Way, IsRefusal}
 use Rattle.rx_reading.specs.TagPlaces.{ToldBefore, BegunBefore}

@@ -5,6 +5,7 @@ pub mod TokenPlacing
 pub mod Firsts
 pub mod FaultPlacing
 pub mod PlaceLaws
+pub mod RefusedTags
 pub mod Stopping
 pub mod Turning
 pub mod QuietReading

@@ -16,7 +16,7 @@ use Rattle.rx_pages.proofs.ClosedTold.{fronts_tell}
 use Rattle.rx_pages.proofs.FaultFronts.{faults_follow_fronts}
 use Rattle.rx_nest.specs.Nests.{Nested}
 use Rattle.rx_nest.specs.Signs.{Sign, begun, said, Flags, Sight, is_hidden, ended_sight, see, sees, nothing_seen, signs_of}
-use Rattle.rx_nest.proofs.Sizes.{read_size}
+use Rattle.rx_pages.proofs.Sizes.{read_size}
 use Rattle.rx_nest.proofs.TagPlaces.{shows_more}
 use Rattle.rx_nest.proofs.TextSteps.{sees_append}
 use Rattle.rx_reading.specs.Faults.{MeaningAt, Refuses, Stops, for_form, for_meaning}
@@ -59,7 +59,7 @@ module _ (refused : List Sign → Option Fault) (law : IsRefusal refused) where
   finished_accepted [] signs h = h
   finished_accepted (flag ∷ flags) signs h = ended_accepted refused law signs flag.0 h
 
-  bare_accepted : (events : List Event) (sight : Sight) → Bare events → Accepted sight.signs → Accepted (sees sight events).signs
+  pub bare_accepted : (events : List Event) (sight : Sight) → Bare events → Accepted sight.signs → Accepted (sees sight events).signs
   bare_accepted [] sight b h = h
   bare_accepted (begins t hides ∷ events) sight b h =
       bare_accepted events (see (begins t hides) sight.flags sight.signs) b.1 (begun_accepted t hides (is_hidden sight.flags) sight.flags sight.signs b.0 h)

@@ -34,7 +34,7 @@ use Rattle.rx_pages.proofs.OnlyPages.{found_fault}
 use Rattle.rx_pages.proofs.ScanSteps.{page_append}
 use Rattle.rx_pages.proofs.TokenWalk.{IsKept, is_kept}
 use Rattle.rx_nest.specs.Signs.{Sign, begun, said, finished, Flags, Sight, is_hidden, ended_sight, see, sees, nothing_seen}
-use Rattle.rx_nest.proofs.Sizes.{read_size}
+use Rattle.rx_pages.proofs.Sizes.{read_size}
 use Rattle.rx_reading.specs.Ways.{Way, IsAtTag, IsAtOne, IsRefusal}
 
 -- the tags among the tokens that a byte completes begin at this offset

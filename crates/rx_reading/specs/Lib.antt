@@ -2,6 +2,7 @@ pub mod Ways
 pub mod TagPlaces
 pub mod Faults
 pub mod FaultPlaces
+pub mod RefusedTags
 pub mod Falling
 pub mod Listening
 pub mod Turns

@@ -19,3 +19,4 @@ pub mod PlainLemmas
 pub mod SaidLemmas
 pub mod FrontLemmas
 pub mod LoopLemmas
+pub mod SpelledLemmas

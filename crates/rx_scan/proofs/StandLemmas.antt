@@ -31,7 +31,7 @@ nothing_lent what.Section v h m = absurd (cc)
 nothing_lent what.Doctype v h m = absurd (cc)
 nothing_lent what.Tag v h m = m.1
 
-pub between : (v : Scanner) → may_enter v ≡ true → MayShow v.what v.stepped v.reading → v.reading.pending.mark ≡ mark.Nothing
+pub between : (v : Scanner) → may_enter v ≡ true → MayShow v.what v.stepped v.failed v.reading → v.reading.pending.mark ≡ mark.Nothing
 between v h m = elim (either (is_tag v.what) (not v.stepped) h) [ inl a ↦ nothing_lent v.what v.reading a m.lends | inr a ↦ m.first (untrue v.stepped a) ]
 
 pub stands_inside : (inside : Content) (drops : Bool) (v : Scanner) (s : Scanning) → v.reading.pending.mark ≡ mark.Nothing → Stands v s → Stands (inside_of inside drops v) s

@@ -177,6 +177,11 @@ abbrev pub IfFault : {A : Type 0} → Result A Stop → Type 0 → Type 0
 IfFault (Err (stop.Fault f)) P = P
 IfFault _ P = Unit {0}
 
+-- a fault that is answered lies there
+abbrev pub LiesAt : {A : Type 0} → Result A Stop → ℕ → Type 0
+LiesAt (Err (stop.Fault f)) at = f.at ≡ at
+LiesAt _ at = Unit {0}
+
 abbrev pub IsNoMemory : {A : Type 0} → Result A Stop → Bool
 IsNoMemory (Err stop.NoMemory) = true
 IsNoMemory _ = false
@@ -186,7 +191,7 @@ pub record Between (old : Reading) (result : Result What Stop) (new : Reading) :
   pub unchanged : IfFault result (new ≡ old)
   pub unspent : old.text.size + 4 ≤ old.text.room → IsNoMemory result ≡ false
 
--- A tag is lent that is whole, or is read on; and the text keeps its room.
+-- A tag is lent that is whole, or is read on; the text keeps its room; and a fault lies behind the bytes that were taken.
 abbrev pub MayGoOn : Result What Stop → Reading → Type 0
 MayGoOn (Ok what.Tag) new = (is_last new.pending.tag.state.phase ≡ true) × (new.pending.mark ≡ mark.Nothing)
 MayGoOn (Ok _) new = MayStep new.pending.tag
@@ -196,6 +201,7 @@ pub record IsReady (old : Reading) (result : Result What Stop) (new : Reading) :
   pub may_go_on : MayGoOn result new
   pub room : old.text.room ≤ new.text.room
   pub text : IfFault result (new.text.text ≡ old.text.text)
+  pub place : LiesAt result new.place.at
 
 -- what one character does, by its move
 abbrev pub Enters : Reading → ℕ → Bool → Move → Result What Stop → Reading → Type 0

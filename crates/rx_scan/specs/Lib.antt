@@ -6,3 +6,4 @@ pub mod Bytes
 pub mod Entries
 pub mod Fronts
 pub mod Steps
+pub mod Spelled

@@ -186,11 +186,12 @@ abbrev pub RunsReady : Result (ℕ × What) Stop → Reading → Type 0
 RunsReady (Ok (n, answer)) new = MayLend answer new × (room ≤ new.text.room)
 RunsReady (Err e) new = room ≤ new.text.room
 
--- what each scanner keeps
-pub record MayShow (answer : What) (stepped : Bool) (v : Reading) : Type 0 where
+-- what each scanner keeps: behind a fault it has taken the bytes before the one that decides it
+pub record MayShow (answer : What) (stepped : Bool) (failed : Option Fault) (v : Reading) : Type 0 where
   pub lends : MayLend answer v
   pub room_is : room ≤ v.text.room
   pub first : stepped ≡ false → v.pending.mark ≡ mark.Nothing
+  pub stays : (fault : Fault) → failed ≡ Some fault → fault.at ≡ v.place.at
 
 -- a token other than text
 abbrev pub is_token : What → Bool
@@ -230,9 +231,14 @@ pub record Prepared (old new : Scanner) : Type 0 where
   pub may_step : MayStep new.reading.pending.tag
   pub between : is_tag old.what ≡ true → old.reading.pending.mark ≡ mark.Nothing
 
+-- a fault lies behind the bytes that were taken
+abbrev pub LiesThere : Stop → ℕ → Type 0
+LiesThere (stop.Fault fault) at = fault.at ≡ at
+LiesThere stop.NoMemory at = Unit {0}
+
 -- after this nothing else is answered
 abbrev pub FailsBy : Stop → Scanner → Scanner → Type 0
-FailsBy (stop.Fault fault) old new = (new.failed ≡ Some fault) × (new.spent ≡ old.spent) × (new.what ≡ old.what) × (new.stepped ≡ old.stepped)
+FailsBy (stop.Fault fault) old new = (new.failed ≡ Some fault) × (new.spent ≡ old.spent) × (new.what ≡ old.what) × (new.stepped ≡ old.stepped) × (new.reading ≡ old.reading)
 FailsBy stop.NoMemory old new = (new.failed ≡ old.failed) × (new.spent ≡ true) × (new.what ≡ old.what) × (new.stepped ≡ old.stepped)
 
 -- the first setting: nothing stands before the root
@@ -309,7 +315,8 @@ Steps old s piece (Ok r) new = Stepped old s piece r.0 r.1 new
 Steps old s piece (Err (stop.Fault fault)) new = Faults old.reading s piece fault
 Steps old s piece (Err stop.NoMemory) new = Unit {0}
 
--- Whatever it stands for: a step answers only where neither a fault nor want of memory was answered; a fault comes again, and want of memory.
+-- Whatever it stands for: a step answers only where neither a fault nor want of memory was answered; a fault comes again, and want of memory. The
+-- bytes taken are then those before the byte that decides the fault.
 pub record Answered (v : Scanner) (t : shown.Token) : Type 0 where
   pub unfailed : v.failed ≡ None
   pub unspent : v.spent ≡ false
@@ -318,13 +325,15 @@ pub record Answered (v : Scanner) (t : shown.Token) : Type 0 where
 
 abbrev pub Keeps : Scanner → List ℕ → Result (ℕ × shown.Token) Stop → Scanner → Type 0
 Keeps old piece (Ok r) new = (old.failed ≡ None) × (old.spent ≡ false) × Answered new r.1 × TakesSome piece r.0 (is_more r.1)
-Keeps old piece (Err (stop.Fault fault)) new = (old.spent ≡ false) × ((old.failed ≡ None) ⊎ (old.failed ≡ Some fault)) × (new.failed ≡ Some fault) × (new.spent ≡ false) × (new.what ≡ what.Nothing) × (new.stepped ≡ true)
+Keeps old piece (Err (stop.Fault fault)) new =
+    (old.spent ≡ false) × ((old.failed ≡ None) ⊎ (old.failed ≡ Some fault)) × (new.failed ≡ Some fault) × (new.spent ≡ false) × (new.what ≡ what.Nothing) × (new.stepped ≡ true) × (fault.at ≡ new.reading.place.at)
 Keeps old piece (Err stop.NoMemory) new = ((old.spent ≡ true) ⊎ (old.failed ≡ None)) × (new.spent ≡ true) × (new.what ≡ what.Nothing) × (new.stepped ≡ true)
 
 -- the same of the step within
 abbrev pub KeepsOn : Scanner → List ℕ → Result ℕ Stop → Scanner → Type 0
 KeepsOn old piece (Ok n) new = (old.failed ≡ None) × (old.spent ≡ false) × (new.failed ≡ None) × (new.spent ≡ false) × (new.stepped ≡ true) × TakesSome piece n (is_nothing new.what)
-KeepsOn old piece (Err (stop.Fault fault)) new = (old.spent ≡ false) × ((old.failed ≡ None) ⊎ (old.failed ≡ Some fault)) × (new.failed ≡ Some fault) × (new.spent ≡ false) × (new.what ≡ what.Nothing) × (new.stepped ≡ true)
+KeepsOn old piece (Err (stop.Fault fault)) new =
+    (old.spent ≡ false) × ((old.failed ≡ None) ⊎ (old.failed ≡ Some fault)) × (new.failed ≡ Some fault) × (new.spent ≡ false) × (new.what ≡ what.Nothing) × (new.stepped ≡ true) × (fault.at ≡ new.reading.place.at)
 KeepsOn old piece (Err stop.NoMemory) new = ((old.spent ≡ true) ⊎ (old.failed ≡ None)) × (new.spent ≡ true) × (new.what ≡ what.Nothing) × (new.stepped ≡ true)
 
 abbrev pub Advances : Scanner → Scanning → List ℕ → Result ℕ Stop → Scanner → Type 0

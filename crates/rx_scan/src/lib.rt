@@ -6,6 +6,8 @@
 //! likewise, and never in text between tokens.
 #![tactic(auto)]
 
+ghost use Rattle.rx_scan.specs.Spelled.{RefusesWhatIsFaulty, ScansWhatIsSpelled, StepsSpell};
+
 mod answers;
 mod buffers;
 mod bytes;
@@ -29,3 +31,19 @@ pub use rx_chars::Syntax;
 pub use rx_grammar::{Content, Fault, Kind, Limits, RawName};
 pub use rx_tags::{Stop, Tag};
 pub use scans::Scan;
+
+/// From where nothing is unfinished, and in whatever content of the syntax, exactly the tokens are scanned that the characters
+/// spell, and what is left of them begins one.
+pub fn scans_what_is_spelled()
+    ensures { ScansWhatIsSpelled }
+{}
+
+/// There a byte is refused for what the grammar says of it and of the characters before it, whichever elements are open.
+pub fn refuses_what_is_faulty()
+    ensures { RefusesWhatIsFaulty }
+{}
+
+/// So what a step answers is the token that is spelled at its place, and its fault is the scanner's share of the page's.
+pub fn steps_spell()
+    ensures { StepsSpell }
+{}

@@ -2,7 +2,7 @@
 ghost use Rattle.std.specs.Prelude.{◌≡◌, ◌≢◌, ◌+◌, ◌≤◌, ◌⊎◌, ℕ, [], true, false, IfOk};
 ghost use Rattle.rx_pages.specs.PageReader.{Scanning};
 ghost use Rattle.rx_tags.specs.TagBufs.{MayStep};
-ghost use Rattle.rx_scan.specs.Entries.{IsNoMemory};
+ghost use Rattle.rx_scan.specs.Entries.{IsNoMemory, LiesAt};
 ghost use Rattle.rx_scan.specs.Steps.{ReadsAs, Runs, RunsReady, RunsTake, is_quiet, is_tag, is_token, stopped_at};
 
 use crate::answers::What;
@@ -65,6 +65,7 @@ impl Reader {
         ensures runs { (s : Scanning) → ReadsAs self.old s → Runs self.old s piece.now result self.new }
         ensures ready { RunsReady result self.new }
         ensures takes { RunsTake piece.now result }
+        ensures place { LiesAt result self.new.place.at }
         ensures quiet { self.old.pending.mark ≡ Mark.Nothing → is_quiet piece.now ≡ true → IsNoMemory result ≡ false }
         ensures quiet_tells { self.old.pending.mark ≡ Mark.Nothing → is_quiet piece.now ≡ true → IfOk result (λ answer. is_tag answer.1 ≡ false) }
     {

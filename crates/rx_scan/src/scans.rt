@@ -35,7 +35,7 @@ impl Model for Scan {
 
     ghost view = { λ s. record { reading = s.reader; what = s.what; stepped = s.stepped; failed = s.failed; spent = s.spent } };
 
-    ghost invariant = { λ s. MayShow s.what s.stepped s.reader };
+    ghost invariant = { λ s. MayShow s.what s.stepped s.failed s.reader };
 }
 
 impl Scan {
@@ -129,7 +129,7 @@ impl Scan {
     ghost use Rattle.std.specs.Prelude.{[], None, Some, OnOk};
     ghost use Rattle.rx_reader.specs.TagReader.{parts_of};
     ghost use Rattle.rx_scan.specs.Entries.{IsNoMemory};
-    ghost use Rattle.rx_scan.specs.Steps.{Stands, Steps, Keeps, KeepsOn, Advances, Prepared, FailsBy, Shows, ShowsTag, IsLastTag, is_quiet, is_tag, shows_tag};
+    ghost use Rattle.rx_scan.specs.Steps.{Stands, Steps, Keeps, KeepsOn, Advances, Prepared, FailsBy, LiesThere, Shows, ShowsTag, IsLastTag, is_quiet, is_tag, shows_tag};
 
     // What the last step told is forgotten.
     fn prepare(&mut self)
@@ -145,7 +145,8 @@ impl Scan {
 
     // Answers this from now on.
     fn fail(&mut self, stop: Stop)
-        requires { self.old.what ≡ What.Nothing }
+        requires nothing { self.old.what ≡ What.Nothing }
+        requires place { LiesThere stop self.old.reading.place.at }
         ensures { FailsBy stop self.old self.new }
     {
         match stop {

@@ -6,6 +6,7 @@ use Rattle.rx_nest.specs.declared.heard.Heard.TheVariants as heard
 use Rattle.rx_nest.specs.Heard as hears
 use Rattle.rx_nest.specs.Nests as nests
 use Rattle.rx_nest.proofs.ReadTokens.{scan_stops, heard_stops, heard_heeds, other_heeds, content_is, more_same, run_between, quiet_stop, quiet_heard}
+use Rattle.rx_nest.proofs.OpenElements.{stays_same, stays_heard}
 use Rattle.rx_nest.proofs.reads.read.Goals as goal
 
 -- src/reads.rt:20:26
@@ -51,6 +52,7 @@ returns-in_default c =
           other_heeds syntax limits bytes told c.args.scan.now c.args.line.now at c.args.piece.now c.in-Ok.step.0 c.in-Ok.step.1 c.step.follows.lender-at-none (h.1 at.now.scan at.stands) c.in-Ok-hear.heard c.hear.new.self said h.0.2.shows
           (no_tag c.in-Ok-hear.heard c.in_default.not-Tag);
       takes = subst (λ b. scan.TakesSome c.args.piece.now c.in-Ok.step.0 b) (more_same c.in-Ok.step.1 c.in-Ok-hear.heard c.args.line.now c.hear.new.self said) h.0.3;
+      stays = tt;
       quiet = λ syntax limits bytes told at b q. refl;
     }
   where
@@ -59,6 +61,12 @@ returns-in_default c =
     no_tag heard.Skipped n = refl
     no_tag heard.Text n = refl
     no_tag (heard.Tag told) n = absurd (n told refl)
+
+pub returns-in-Err-clause-stays : goal.returns-in-Err-clause-stays
+returns-in-Err-clause-stays c = stays_same (ℕ × Heard) c.in-Err.stop c.args.line.now
+
+pub returns-in-Err-hear-clause-stays : goal.returns-in-Err-hear-clause-stays
+returns-in-Err-hear-clause-stays c = stays_heard (ℕ × Heard) c.in-Err-hear.stop c.args.line.now c.hear.new.self c.in-Ok.step.1 c.in-Err-hear.ensures
 
 pub returns-in-Err-clause-quiet : goal.returns-in-Err-clause-quiet
 returns-in-Err-clause-quiet c syntax limits bytes told at b q =

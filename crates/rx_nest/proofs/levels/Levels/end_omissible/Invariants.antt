@@ -9,6 +9,7 @@ invariant-loop l =
       kept : levels.kept (levels.ends_by l.closing (chars l.name)) l.fn.self.levels ≡ levels.kept (levels.ends_by l.closing (chars l.name)) l.self.levels;
       ended : levels.ended (levels.ends_by l.closing (chars l.name)) l.fn.self.levels ≡ l.ended + levels.ended (levels.ends_by l.closing (chars l.name)) l.self.levels;
       room : l.self.room ≡ l.fn.self.room;
+      memory : l.self.memory ≡ l.fn.self.memory;
       count : l.ended ≤ l.counter;
       left : length l.self.levels + l.counter ≡ length l.fn.self.levels;
     }

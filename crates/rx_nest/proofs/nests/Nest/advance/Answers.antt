@@ -1,9 +1,12 @@
-use Rattle.std.proofs.Common.{◌≡◌, ◌≢◌, ◌∙◌, refl, sym, ap, subst, Option, Some, None, Err}
+use Rattle.std.proofs.Common.{◌≡◌, ◌≢◌, ◌∙◌, ℕ, ◌++◌, refl, sym, ap, subst, Option, Some, None, Err}
 use Rattle.rx_nest.specs.declared.heard.Owed.{Owed}
 use Rattle.rx_nest.specs.declared.heard.Did.{Did}
-use Rattle.rx_nest.specs.Nests.{Nested, Stands, Stops, Done, ReadGives}
+use Rattle.rx_nest.specs.declared.heard.Heard.{Heard}
+use Rattle.rx_nest.specs.Lines.{Lines}
+use Rattle.rx_nest.specs.Nests.{Nested, Stands, Stops, Done, ReadGives, StaysAtFault, OpenBefore}
 use Rattle.rx_nest.proofs.Advancing.{due_done, read_done, unshown}
 use Rattle.rx_nest.proofs.Sizes.{faults_so}
+use Rattle.rx_nest.proofs.OpenElements.{open_before}
 use Rattle.rx_nest.proofs.nests.Nest.advance.Goals as goal
 
 none_of : (o : Option (Did × Owed)) → ((x : Did × Owed) → o ≢ Some x) → o ≡ None
@@ -41,10 +44,12 @@ returns-in-Err-Fault-clause-steps c syntax limits bytes signs st =
     let stops : Stops syntax limits bytes was.told c.args.piece.now c.in-Err-Fault.fault =
     subst (λ x. ReadGives syntax limits bytes was.told c.args.piece.now c.self.inside.line (Err x) c.read.new.scan c.read.new.line) c.in-Err-Fault.field-0-is (c.in-Err-Fault.ensures.reads syntax limits bytes was.told was.at) in
     let old : Nested = record { scan = c.self.inside.scan; line = c.self.inside.line; owed = c.self.inside.owed; failed = c.self.inside.failed; spent = c.self.inside.spent } in
+    let same_line = subst (λ x. StaysAtFault {A = ℕ × Heard} (Err x) c.self.inside.line c.read.new.line) c.in-Err-Fault.field-0-is c.in-Err-Fault.ensures.stays in
     let none = sym c.next_owed.ensures ∙ none_of c.next_owed.result c.in_default-next_owed.not-Some in (
       faults_so syntax limits bytes c.args.piece.now _ was.told c.in-Err-Fault.fault was.at.read stops,
       record { failed = refl; unspent = was.unspent },
       unshown syntax limits old bytes signs was c.args.piece.now c.in-Err-Fault.fault none stops,
+      subst (λ (l : Lines). OpenBefore syntax limits (bytes ++ c.args.piece.now) c.in-Err-Fault.fault.token l) (sym same_line) (open_before syntax limits bytes was.told c.self.inside.scan c.self.inside.line was.at c.args.piece.now c.in-Err-Fault.fault stops),
     )
 
 -- src/nests.rt:108:17

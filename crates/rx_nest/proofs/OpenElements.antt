@@ -1,0 +1,132 @@
+-- The open elements that are kept are those of the grammar's front, and a fault leaves them as they were.
+use Rattle.std.proofs.Common.{◌≡◌, ◌∙◌, ℕ, Bool, true, false, List, [], ◌∷◌, ◌++◌, refl, sym, ap, subst, length, append_assoc, Option, Result, None, Ok, Err}
+use Rattle.std.specs.Prelude.{take, if◌then◌else◌}
+use Rattle.rx_chars.specs.Characters.{Entry}
+use Rattle.rx_chars.specs.declared.syntax.Syntax.{Syntax}
+use Rattle.rx_grammar.specs.declared.faults.Fault.{Fault}
+use Rattle.rx_grammar.specs.declared.faults.Kind.{Kind}
+use Rattle.rx_grammar.specs.declared.limits.Limits.{Limits}
+use Rattle.rx_grammar.specs.Items.{values, next_of}
+use Rattle.rx_grammar.specs.Begun.{Line, Phase, Begun}
+use Rattle.rx_pages.specs.Nesting.{Event, Step}
+use Rattle.rx_pages.specs.PageReader.{Scanned, Progress, Reading, read_byte, scan_from, spot_of, steps_on, no_step, progress_of, nested_items, page_byte_on, page_on, page_read, nothing_read, telling, token_at}
+use Rattle.rx_pages.specs.Fronts.{ReadsTo, IsUnderway}
+use Rattle.rx_pages.proofs.ScanSteps.{page_append}
+use Rattle.rx_pages.proofs.Underway.{reads_to, nothing_unfinished, unfinished_follows_front}
+use Rattle.rx_tags.specs.declared.stops.Stop.{Stop}
+use Rattle.rx_tags.specs.declared.stops.Stop.TheVariants as stop
+use Rattle.rx_tags.specs.declared.tags.Tag.{Tag}
+use Rattle.rx_tags.specs.Seen.{tag_seen}
+use Rattle.rx_scan.specs.Scanner.{Scanner}
+use Rattle.rx_scan.specs.declared.answers.Token.{Token}
+use Rattle.rx_scan.specs.declared.answers.Token.TheVariants as token
+use Rattle.rx_nest.specs.declared.heard.Heard.{Heard}
+use Rattle.rx_nest.specs.declared.heard.Heard.TheVariants as heard
+use Rattle.rx_nest.specs.declared.lines.Told.{Told}
+use Rattle.rx_nest.specs.declared.lines.Refused.{Refused}
+use Rattle.rx_nest.specs.declared.lines.Refused.TheVariants as refused
+use Rattle.rx_nest.specs.Levels.{Levels}
+use Rattle.rx_nest.specs.Lines.{Lines, TagGives, GivesBy, says_text}
+use Rattle.rx_nest.specs.Follows.{AreLevels}
+use Rattle.rx_nest.specs.Heard.{Hears, HearsTag, heard_of}
+use Rattle.rx_nest.specs.Nests.{Nested, At, Stands, Stops, StaysAtFault, OpenBefore}
+use Rattle.rx_nest.specs.OpenElements.{HasOpen, HasOpenUnderway, HasOpenOfFronts}
+use Rattle.rx_nest.proofs.LineLemmas.{length_is}
+use Rattle.rx_nest.proofs.Heeding.{quiet_front}
+
+ok_is : (a b : Progress) (r : Result Progress Fault) → r ≡ Ok a → r ≡ Ok b → a ≡ b
+ok_is a b r h k = let e : Ok a ≡ Ok b = sym h ∙ k in cc
+
+-- a tag that is refused
+tag_stays : (closing : Bool) (old new : Lines) (t : _) (kind : Kind) → GivesBy closing old t (Err (refused.Fault kind)) new → new ≡ old
+tag_stays true old new t kind g = g.1
+tag_stays false old new t kind g = g.1
+
+pub stays_heard : (A : Type 0) (why : Stop) (old new : Lines) (t : Token) → Hears old t (Err why) new → StaysAtFault {A = A} (Err why) old new
+stays_heard A stop.NoMemory old new t h = tt
+stays_heard A (stop.Fault fault) old new t h = by t h
+  where
+    by_tag : (g : Tag) (taken : Result Told Refused) → Err (stop.Fault fault) ≡ heard_of g taken → TagGives old (tag_seen g) taken new → new ≡ old
+    by_tag g (Ok told) e gives = absurd (cc)
+    by_tag g (Err (refused.Fault kind)) e gives = tag_stays (tag_seen g).closing old new (tag_seen g) kind gives
+    by_tag g (Err refused.NoMemory) e gives = absurd (cc)
+
+    by : (x : Token) → Hears old x (Err (stop.Fault fault)) new → new ≡ old
+    by token.More k = k.1
+    by token.Skipped k = k.1
+    by token.Doctype k = k.1
+    by (token.Text text) k = k.1
+    by (token.Start g) k = by_tag g k.taken k.is k.gives
+    by (token.End g) k = by_tag g k.taken k.is k.gives
+
+pub stays_same : (A : Type 0) (why : Stop) (l : Lines) → StaysAtFault {A = A} (Err why) l l
+stays_same A (stop.Fault fault) l = refl
+stays_same A stop.NoMemory l = tt
+
+-- where a byte decides a fault its token is the unfinished one
+fault_token : (syntax : Syntax) (limits : Limits) (p : Progress) (byte : ℕ) (fault : Fault) → page_byte_on syntax limits (Ok p) byte ≡ Err fault → token_at p.now.scan ≡ fault.token
+fault_token syntax limits p byte fault h = by (read_byte syntax limits (spot_of syntax p.now.nest) byte p.now.scan) h
+  where
+    on : (scanned : Scanned) (x : Result Step Kind) → telling p.told (progress_of p.now.scan scanned.next x) ≡ Err fault → token_at p.now.scan ≡ fault.token
+    on scanned (Ok step) e = absurd (cc)
+    on scanned (Err kind) e = ap (λ (f : Fault). f.token) (same e)
+      where
+        same : {f : Fault} → ◌≡◌ {A = Result Progress Fault} (Err f) (Err fault) → f ≡ fault
+        same q = cc
+
+    by : (x : Result Scanned Kind) → telling p.told (nested_items syntax limits.depth p.now x) ≡ Err fault → token_at p.now.scan ≡ fault.token
+    by (Ok scanned) e = on scanned (steps_on syntax limits.depth (Ok (no_step p.now.nest)) scanned.items) e
+    by (Err kind) e = ap (λ (f : Fault). f.token) (same e)
+      where
+        same : {f : Fault} → ◌≡◌ {A = Result Progress Fault} (Err f) (Err fault) → f ≡ fault
+        same q = cc
+
+module _ (syntax : Syntax) (limits : Limits) (bytes : List ℕ) (told : List Event) (v : Scanner) (line : Lines) (at : At syntax limits bytes told v line) where
+  levels_are : AreLevels syntax line.levels at.now.nest.line
+  levels_are = subst (λ (s : Syntax). AreLevels s line.levels at.now.nest.line) at.syntax_is at.follows.levels_are
+
+  -- the elements are those of what is underway
+  pub has_open : (other : Line) (phase : Phase) (run : List Entry) (part : List ℕ) → ReadsTo syntax limits bytes other phase run part → HasOpen syntax line other
+  has_open other phase run part r =
+      let same = ok_is r.now (record { now = at.now; told = told }) (page_read syntax limits bytes) r.read at.read in
+      let line_is : at.now.nest.line ≡ other = ap (λ (p : Progress). p.now.nest.line) (sym same) ∙ r.is_at.line_is in
+      let are = subst (λ (l : Line). AreLevels syntax line.levels l) line_is levels_are in
+      record { levels = are; depth = length_is syntax line.levels other are }
+
+  pub open_before : (piece : List ℕ) (fault : Fault) → Stops syntax limits bytes told piece fault → OpenBefore syntax limits (bytes ++ piece) fault.token line
+  open_before piece fault st =
+      let here : Progress = record { now = at.now; told = told } in
+      let same = ok_is st.before.before here (page_read syntax limits bytes) st.before.read at.read in
+      let scanned : scan_from syntax limits (spot_of syntax at.now.nest) at.now.scan st.front ≡ Ok (record { next = st.before.next; items = [] }) =
+      subst (λ (p : Progress). scan_from syntax limits (spot_of syntax p.now.nest) p.now.scan st.front ≡ Ok (record { next = st.before.next; items = [] })) same
+      (st.before.completed ∙ ap (λ items. Ok (record { next = st.before.next; items = items })) st.before.are) in
+      let quiet = quiet_front syntax limits bytes told v line at st.front st.before.next scanned in
+      let stood : Progress = record { now = record { scan = st.before.next; nest = at.now.nest }; told = told } in
+      let stopped : Progress = record { now = st.now; told = told } in
+      let both = ok_is stood stopped (page_read syntax limits (bytes ++ st.front)) quiet st.read in
+      let line_is : st.now.nest.line ≡ at.now.nest.line = ap (λ (p : Progress). p.now.nest.line) (sym both) in
+      let reads : ReadsTo syntax limits (bytes ++ st.front) st.now.nest.line st.now.nest.phase st.now.scan.run st.now.scan.held =
+      record { now = stopped; read = st.read; is_at = record { line_is = refl; phase_is = refl }; run_is = refl; part_is = refl } in
+      let begun = unfinished_follows_front syntax limits (bytes ++ st.front) (st.byte ∷ st.rest) st.now.nest.line st.now.nest.phase st.now.scan.run st.now.scan.held reads in
+      let all : (bytes ++ st.front) ++ (st.byte ∷ st.rest) ≡ bytes ++ piece = append_assoc bytes st.front (st.byte ∷ st.rest) ∙ ap (λ b. bytes ++ b) (sym st.are) in
+      let by_byte : page_byte_on syntax limits (Ok stopped) st.byte ≡ Err fault =
+      ap (λ r. page_on syntax limits r (st.byte ∷ [])) (sym st.read)
+      ∙ (sym (page_append syntax limits (spot_of syntax st.now.nest) (Ok nothing_read) (bytes ++ st.front) (st.byte ∷ []))
+      ∙ (ap (λ b. page_read syntax limits b) (append_assoc bytes st.front (st.byte ∷ [])) ∙ st.here)) in
+      let token_is = fault_token syntax limits stopped st.byte fault by_byte in
+      let are = subst (λ (l : Line). AreLevels syntax line.levels l) (sym line_is) levels_are in
+      let next : Option ℕ = next_of (values st.now.scan.run) None in
+      record {
+        next = next;
+        line = st.now.nest.line;
+        phase = st.now.nest.phase;
+        begun = subst (λ b. Begun syntax limits (take fault.token b) next st.now.nest.line st.now.nest.phase) all (subst (λ n. Begun syntax limits (take n ((bytes ++ st.front) ++ (st.byte ∷ st.rest))) next st.now.nest.line st.now.nest.phase) token_is begun);
+        levels = are;
+        depth = length_is syntax line.levels st.now.nest.line are;
+      }
+
+pub has_open_underway : HasOpenUnderway
+has_open_underway syntax limits nest bytes signs line phase run part st u = has_open syntax limits bytes st.told nest.scan nest.line st.at line phase run part (reads_to syntax limits bytes line phase run part u)
+
+pub has_open_of_fronts : HasOpenOfFronts
+has_open_of_fronts syntax limits nest bytes signs line phase st b = has_open syntax limits bytes st.told nest.scan nest.line st.at line phase [] [] ((nothing_unfinished syntax limits bytes line phase).0 b)

@@ -1,0 +1,10 @@
+use Rattle.std.proofs.Common.{◌≤◌, subst, length}
+use Rattle.rx_nest.specs.Levels.{Opened}
+use Rattle.rx_nest.proofs.LevelLemmas.{fitting}
+use Rattle.rx_nest.proofs.levels.Levels.end_by.Goals as goal
+
+pub returns-then-not-is_omissible-clause-fits : goal.returns-then-not-is_omissible-clause-fits
+returns-then-not-is_omissible-clause-fits c = subst (λ (v : Opened). length v.levels ≤ v.room) c.self.view_is (fitting c.self.inside.open c.self.inside.levels.items c.self.invariant)
+
+pub returns-clause-fits : goal.returns-clause-fits
+returns-clause-fits c = subst (λ (v : Opened). length v.levels ≤ v.room) c.self.view_is (fitting c.self.inside.open c.self.inside.levels.items c.self.invariant)

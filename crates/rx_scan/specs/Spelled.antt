@@ -1,0 +1,117 @@
+-- What the bytes spell that a scanner takes, and why it refuses one, by the grammar alone: in whatever content of the syntax it was set.
+use Rattle.std.specs.Prelude.{◌≡◌, ◌≤◌, ◌+◌, ◌==◌, ℕ, Bool, true, false, List, [], ◌∷◌, ◌++◌, length, take, encode_utf8_all, Result, Ok, Err, Some, None, if◌then◌else◌}
+use Rattle.std.specs.Char.{len_utf8}
+use Rattle.std.specs.Str.{all_scalars}
+use Rattle.rx_terms.specs.Ascii.{greater_than_sign}
+use Rattle.rx_terms.specs.Text.{Chars}
+use Rattle.rx_chars.specs.Characters.{Entry, byte_order_mark, as_line_end, placed, entered}
+use Rattle.rx_chars.specs.Utf8.{IsCharacter, BeginNone}
+use Rattle.rx_chars.specs.declared.syntax.Syntax.{Syntax}
+use Rattle.rx_grammar.specs.declared.contents.Content.{Content}
+use Rattle.rx_grammar.specs.declared.limits.Limits.{Limits}
+use Rattle.rx_grammar.specs.declared.faults.Fault.{Fault}
+use Rattle.rx_grammar.specs.declared.faults.Kind.{Kind}
+use Rattle.rx_grammar.specs.declared.faults.Kind.TheVariants as kind
+use Rattle.rx_grammar.specs.Tokens.{Token, doctype}
+use Rattle.rx_grammar.specs.Spelling as grammar
+use Rattle.rx_grammar.specs.Begun.{Line, Phase}
+use Rattle.rx_grammar.specs.Items.{values, next_of, Item, Spelled, is_strict_literal}
+use Rattle.rx_grammar.specs.Pages.{has_no_nul}
+use Rattle.rx_grammar.specs.PageFaults.{IsPending, IsPart, Faulty, is_known_tag}
+use Rattle.rx_pages.specs.PageReader.{Spot, Scanning, Scanned, token_at, scan_from}
+use Rattle.rx_scan.specs.Scanner.{Scanner, spot_of}
+use Rattle.rx_scan.specs.Steps.{Stands, Steps, Are, is_of_syntax}
+use Rattle.rx_scan.specs.declared.answers.Token as shown
+use Rattle.rx_tags.specs.declared.stops.Stop.{Stop}
+use Rattle.rx_tags.specs.declared.stops.Stop.TheVariants as stop
+
+-- The characters that are entered of these, where the next byte is at this offset: behind others, or as the page's first ones.
+abbrev pub entries_at : Bool → Bool → ℕ → List ℕ → List Entry
+entries_at true after_return at characters = entered after_return (placed at characters)
+entries_at false after_return at [] = []
+entries_at false after_return at (c ∷ characters) =
+    if c == byte_order_mark then entered false (placed (at + len_utf8 c) characters) else entered after_return (placed at (c ∷ characters))
+
+-- all stand in this content
+abbrev pub AllInside : Content → List Item → Type 0
+AllInside inside [] = Unit {0}
+AllInside inside (item ∷ items) = (item.content ≡ inside) × AllInside inside items
+
+-- The bytes from this state on are whole characters, none of them U+0000, and a part of one. These spell the tokens in this content, and what is
+-- left of them begins one.
+pub record Spells (syntax : Syntax) (inside : Content) (s : Scanning) (bytes : List ℕ) (scanned : Scanned) : Type 0 where
+  pub characters : List ℕ
+  pub part : List ℕ
+  pub are : bytes ≡ encode_utf8_all characters ++ part
+  pub scalars : all_scalars characters ≡ true
+  pub front : List Entry
+  pub read : front ++ scanned.next.run ≡ entries_at s.started s.after_return s.at characters
+  pub no_nul : has_no_nul (front ++ scanned.next.run) ≡ true
+  pub spelled : Spelled syntax front (next_of (values scanned.next.run) None) scanned.items
+  pub inside_is : AllInside inside scanned.items
+  pub pending : IsPending syntax inside (values scanned.next.run)
+  pub part_is : scanned.next.held ≡ part
+  pub is_part : IsPart part
+
+-- nothing is unfinished
+pub record IsBetween (s : Scanning) : Type 0 where
+  pub run : s.run ≡ []
+  pub held : s.held ≡ []
+
+-- The run that a character stands behind: what is unfinished, or nothing where that was text that ended before the character.
+pub data Left (syntax : Syntax) (inside : Content) (unfinished : Chars) (c : ℕ) : Chars → Type 0 where
+  goes_on : Left syntax inside unfinished c unfinished
+  is_over : (token : Token) → grammar.Spells syntax inside unfinished (Some c) token → Left syntax inside unfinished c []
+
+-- The byte behind this state decides a fault of this kind, whatever stands before and whichever elements are open: by a limit, as no character or as
+-- U+0000, or by the grammar's rows. That `]]>` ends text of XHTML, and that a document type may not come, the tokens before tell.
+pub data Refuses (syntax : Syntax) (limits : Limits) (spot : Spot) (next : Scanning) (byte : ℕ) : Kind → Type 0 where
+  page_too_long : limits.page ≤ next.at → Refuses syntax limits spot next byte kind.PageTooLong
+  not_utf8 : BeginNone (next.held ++ byte ∷ []) → Refuses syntax limits spot next byte kind.NotUtf8
+  nul : IsCharacter (next.held ++ byte ∷ []) 0 → Refuses syntax limits spot next byte kind.Nul
+  tag_too_long : is_known_tag syntax spot.inside (values next.run) ≡ true → token_at next + limits.tag ≤ next.at → Refuses syntax limits spot next byte kind.TagTooLong
+  known_too_long : (c : ℕ) → IsCharacter (next.held ++ byte ∷ []) c → is_known_tag syntax spot.inside (values next.run ++ as_line_end c ∷ []) ≡ true → token_at next + limits.tag ≤ next.at → Refuses syntax limits spot next byte kind.TagTooLong
+  decided : {found : Kind} (c : ℕ) (run : Chars) → IsCharacter (next.held ++ byte ∷ []) c → Left syntax spot.inside (values next.run) (as_line_end c) run
+      → ((depth : ℕ) (items : List Item) (line : Line) (phase : Phase) → Faulty syntax depth items line phase spot.inside found (run ++ as_line_end c ∷ [])) → Refuses syntax limits spot next byte found
+  section_end : (c : ℕ) (token : Token) → IsCharacter (next.held ++ byte ∷ []) c → grammar.Spells syntax spot.inside (values next.run ++ as_line_end c ∷ []) None token → is_strict_literal greater_than_sign spot.inside token ≡ true → next.two ≡ true
+      → Refuses syntax limits spot next byte kind.StrictText
+  late_doctype : (c : ℕ) → IsCharacter (next.held ++ byte ∷ []) c → grammar.Spells syntax spot.inside (values next.run ++ as_line_end c ∷ []) None doctype → spot.leads ≡ false → Refuses syntax limits spot next byte kind.BadDoctype
+
+-- The first of the bytes that decides a fault, with what the bytes before it spell.
+pub record FirstFault (syntax : Syntax) (limits : Limits) (spot : Spot) (s : Scanning) (bytes : List ℕ) (fault : Fault) : Type 0 where
+  pub front : List ℕ
+  pub byte : ℕ
+  pub rest : List ℕ
+  pub are : bytes ≡ front ++ byte ∷ rest
+  pub scanned : Scanned
+  pub spells : Spells syntax spot.inside s front scanned
+  pub refuses : Refuses syntax limits spot scanned.next byte fault.kind
+  pub at_is : fault.at ≡ s.at + length front
+  pub token_is : fault.token ≡ token_at scanned.next
+
+-- law: and why a byte is refused
+abbrev pub RefusesWhatIsFaulty : Type 0
+RefusesWhatIsFaulty = (syntax : Syntax) (limits : Limits) (spot : Spot) (s : Scanning) (bytes : List ℕ) (fault : Fault)
+    → is_of_syntax syntax spot.inside ≡ true → IsBetween s → scan_from syntax limits spot s bytes ≡ Err fault → FirstFault syntax limits spot s bytes fault
+
+-- A step's answer, where these bytes were taken since nothing was unfinished: its tokens are those that they spell; or its fault is theirs.
+pub record StepSpells (v : Scanner) (first s : Scanning) (before piece : List ℕ) (n : ℕ) (t : shown.Token) (new : Scanner) : Type 0 where
+  pub scanned : Scanned
+  pub spells : Spells v.reading.setting.syntax v.reading.setting.inside first (before ++ take n piece) scanned
+  pub are : Are v.reading.setting.drops t s (take n piece) scanned.items
+  pub stands : Stands new scanned.next
+
+abbrev pub StepAnswers : Scanner → Scanning → Scanning → List ℕ → List ℕ → Result (ℕ × shown.Token) Stop → Scanner → Type 0
+StepAnswers v first s before piece (Ok r) new = StepSpells v first s before piece r.0 r.1 new
+StepAnswers v first s before piece (Err (stop.Fault fault)) new = FirstFault v.reading.setting.syntax v.reading.setting.limits (spot_of v.reading) first (before ++ piece) fault
+StepAnswers v first s before piece (Err stop.NoMemory) new = Unit {0}
+
+-- law: that holds of each step
+abbrev pub StepsSpell : Type 0
+StepsSpell = (v new : Scanner) (first s : Scanning) (before piece : List ℕ) (result : Result (ℕ × shown.Token) Stop) → is_of_syntax v.reading.setting.syntax v.reading.setting.inside ≡ true → IsBetween first
+    → scan_from v.reading.setting.syntax v.reading.setting.limits (spot_of v.reading) first before ≡ Ok (record { next = s; items = [] }) → Steps v s piece result new → StepAnswers v first s before piece result new
+
+-- law: what is scanned from where nothing is unfinished
+abbrev pub ScansWhatIsSpelled : Type 0
+ScansWhatIsSpelled = (syntax : Syntax) (limits : Limits) (spot : Spot) (s : Scanning) (bytes : List ℕ) (scanned : Scanned)
+    → is_of_syntax syntax spot.inside ≡ true → IsBetween s → scan_from syntax limits spot s bytes ≡ Ok scanned → Spells syntax spot.inside s bytes scanned
