@@ -1,13 +1,14 @@
-"""What a page costs whose keys meet in the program's hash tables, beside a page of the same size with keys at random.
+"""What a page costs whose keys would meet in a hash table, beside a page of the same size with keys at random.
 
     ./build    # proves and builds the program, if it isn't there
     python3 bench/hashes.py                  # pages of a mebibyte, by processor time; needs cc, and some ten minutes
     python3 bench/hashes.py --count 30000    # fewer keys
     python3 bench/hashes.py --instructions --count 10000    # by callgrind (apt-get install valgrind)
 
-Each shape is a table of the program: `label` finds the labels of blank nodes, `list` the predicates of lists, `quad` the quads
-of several pages, `triple` the triples of a page that copies a pattern, `repeated` those of another page, each of which stands
-twice, and `node` the nodes of a text in Turtle or JSON-LD. bench/hashes.c finds the texts, and counts what the table does.
+Each shape is a set of keys in the program: `label` has the labels of blank nodes, `list` the predicates of lists, `quad` the
+quads of several pages, `triple` the triples of a page that copies a pattern, `repeated` those of another page, each of which
+stands twice, and `node` the nodes of a text in Turtle or JSON-LD. The program finds them by a tree, so both pages should cost
+the same. bench/hashes.c finds texts that meet in a table like that of the kit's indexmap, and counts what that table would do.
 """
 
 import argparse

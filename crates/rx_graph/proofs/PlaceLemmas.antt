@@ -337,4 +337,3 @@ pub treated_end : (list : List CodeTriple) (i : ℕ) (new : List (Triple ℕ)) �
 treated_end list i new past h =
     let f : Triple ℕ → List (Triple ℕ) = treated nat_eq (triples_seen list) (edges nat_eq (triples_seen list)) in
     h ∙ ap (λ z. added_all [] (flat_map f (triples_seen z))) (take_all i list past) ∙ added_distinct [] (flat_map f (triples_seen list))
-

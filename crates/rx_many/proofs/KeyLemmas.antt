@@ -2,7 +2,7 @@
 use Rattle.std.proofs.Common.{◌≡◌, ℕ, ◌+◌, Bool, true, false, not, ◌<◌, List, [], ◌∷◌, ◌++◌, length, slice_get, Some, option_map, map, suc, refl, sym, ap, ap₂, ◌∙◌, rules, nat_eq, bytes_eq, cond, arith, true≢false, if◌then◌else◌}
 use Rattle.std.specs.List.{list_any, position_or_len}
 use Rattle.std.proofs.lemmas.List.Recursion.{is_position_or_len}
-use Rattle.std.proofs.lemmas.Option.{slice_get-map}
+use Rattle.std.proofs.lemmas.Option.{slice_get-map, slice_get_within}
 use Rattle.rx_unique.specs.Unique.{insert_key}
 use Rattle.rx_terms.specs.Text.{Chars}
 use Rattle.rx_model.specs.Sets.{IsExact, contains}
@@ -124,12 +124,12 @@ length_map f [] = refl
 length_map f (x ∷ list) = ap suc (length_map f list)
 
 -- a statement that wasn't there is the last one
-pub statement_new : (old new : List Statement) (s : Statement) (place : ℕ) (k : Statement) → not (list_any (statement_eq s) old) ≡ true → slice_get new place ≡ Some k → statement_eq s k ≡ true → place < length new
+pub statement_new : (old new : List Statement) (s : Statement) (place : ℕ) (k : Statement) → not (list_any (statement_eq s) old) ≡ true → slice_get new place ≡ Some k → statement_eq s k ≡ true
     → IsAdded (map statement_seen old) (statement_seen s) (map statement_seen new) place
-statement_new old new s place k fresh at same below = record {
+statement_new old new s place k fresh at same = record {
   lacks = sym (statement_among old s) ∙ not_true (list_any (statement_eq s) old) fresh;
   at = slice_get-map statement_seen new place ∙ ap (option_map statement_seen) at ∙ ap (λ z. Some (statement_seen z)) (sym ((exact_statements s k).0 same));
-  within = omega (arith, below, length_map statement_seen new);
+  within = omega (arith, slice_get_within new place k at, length_map statement_seen new);
 }
   where
     not_true : (b : Bool) → not b ≡ true → b ≡ false

@@ -14,13 +14,15 @@ fn are_found(alloc: Global) -> Result<bool, Fail> {
     let second = texts.insert_full(text(alloc, "b")?)?;
     let again = texts.insert_full(text(alloc, "a")?)?;
     let is_new = texts.insert(text(alloc, "c")?)?;
-    Ok(first == (0, true)
-        && second == (1, true)
-        && again == (0, false)
-        && is_new
-        && texts.len() == 3
-        && texts.get_index_of("c") == Some(2)
-        && !texts.contains("d"))
+    Ok(
+        first == (0, true)
+            && second == (1, true)
+            && again == (0, false)
+            && is_new
+            && texts.len() == 3
+            && texts.get_index_of("c") == Some(2)
+            && !texts.contains("d"),
+    )
 }
 
 /// So many that hints are made twice as many several times.

@@ -1,4 +1,4 @@
-use Rattle.std.proofs.Common.{◌∙◌, ap, sym, map, slice_get, arith}
+use Rattle.std.proofs.Common.{◌∙◌, ap, sym, map, slice_get}
 use Rattle.rx_many.specs.Seen.{statement_seen}
 use Rattle.rx_many.proofs.KeyLemmas.{statement_added, statement_new, statement_old}
 use Rattle.rx_many.proofs.statements.Statements.add.Goals as goal
@@ -10,7 +10,7 @@ pub returns-then-is_new-clause-place : goal.returns-then-is_new-clause-place
 returns-then-is_new-clause-place c =
     rw (← c.self.view_is)
     (statement_new c.self.inside.statements c.insert_full.new.self c.args.statement c.in-Ok.place c.in-Ok.ensures.stored.0 (sym c.in-Ok.ensures.added ∙ sym c.in-Ok.is_new-is ∙ c.if-is_new.true)
-    (ap (λ z. slice_get c.insert_full.new.self z) c.in-Ok.place-is ∙ c.in-Ok.ensures.stored.1) c.in-Ok.ensures.stored.2 (omega (arith, c.in-Ok.place-is, c.in-Ok.ensures.within)))
+    (ap (λ z. slice_get c.insert_full.new.self z) c.in-Ok.place-is ∙ c.in-Ok.ensures.stored.1) c.in-Ok.ensures.stored.2)
 
 pub returns-clause-list : goal.returns-clause-list
 returns-clause-list c = ap (map statement_seen) c.in-Ok.ensures.keys ∙ rw (← c.self.view_is) (statement_added c.self.inside.statements c.args.statement)
