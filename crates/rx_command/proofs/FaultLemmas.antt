@@ -12,7 +12,8 @@ use Rattle.rx_pages.proofs.OneOf.{not_both as not_both_at, one_fault}
 use Rattle.rx_pages.proofs.PageRead.{page_is_told}
 use Rattle.rx_pages.proofs.Trees.{one_tree}
 use Rattle.rx_nest.specs.Signs.{Sign, sees, nothing_seen, signs_of}
-use Rattle.rx_nest.proofs.Sizes.{read_size, within_so}
+use Rattle.rx_nest.proofs.Sizes.{within_so}
+use Rattle.rx_pages.proofs.Sizes.{read_size}
 use Rattle.rx_nest.proofs.TagPlaces.{shows_more}
 use Rattle.rx_nest.proofs.TreeSeen.{whole}
 use Rattle.rx_reading.specs.Faults.{MeaningAt, Refuses, for_form, for_meaning}

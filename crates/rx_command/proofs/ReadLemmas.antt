@@ -11,7 +11,7 @@ use Rattle.rx_tags.specs.declared.stops.Stop.{Stop}
 use Rattle.rx_nest.specs.Nests as nests
 use Rattle.rx_nest.specs.Nests.{Nested}
 use Rattle.rx_nest.specs.Signs.{Sign, Sight, sees, nothing_seen}
-use Rattle.rx_nest.proofs.Sizes.{read_size}
+use Rattle.rx_pages.proofs.Sizes.{read_size}
 use Rattle.rx_reading.specs.Faults.{for_form, Stops}
 use Rattle.rx_reading.specs.Ways.{Way, IsRefusal, none_refuses}
 use Rattle.rx_rdfa.specs.Names.{Context}
