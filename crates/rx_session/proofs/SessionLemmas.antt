@@ -1,0 +1,1 @@
+-- A session, and what its calls answer.
