@@ -1,2 +1,2 @@
 pub mod WorkLemmas
-pub mod SessionLemmas
+pub mod RequestLemmas

@@ -1,5 +1,5 @@
 -- What numbers and bytes from outside ask for.
-use Rattle.std.specs.Prelude.{◌≡◌, ℕ, ◌≤◌, Bool, true, false, ◌&&◌, List, [], length, Option, Some, None, is_some, option_map, option_and_then, Result, Ok, Err, if◌then◌else◌}
+use Rattle.std.specs.Prelude.{◌≡◌, ℕ, ◌≤◌, Bool, true, false, ◌&&◌, ◌==◌, List, [], length, Option, Some, None, is_some, option_map, option_and_then, Result, Ok, Err, if◌then◌else◌}
 use Rattle.std.specs.Str.{chars, is_utf8}
 use Rattle.rx_chars.specs.declared.syntax.Syntax.{Syntax}
 use Rattle.rx_chars.specs.declared.syntax.Syntax.TheVariants.{Html, Xhtml}
@@ -23,16 +23,11 @@ abbrev pub bytes_in : Option (Bor (List ℕ)) → Option (List ℕ)
 bytes_in bytes = option_map (λ lent. lent.now) bytes
 
 abbrev pub syntax_in : ℕ → Option Syntax
-syntax_in 0 = Some Html
-syntax_in 1 = Some Xhtml
-syntax_in _ = None
+syntax_in number = if number == 0 then Some Html else (if number == 1 then Some Xhtml else None)
 
 abbrev pub format_in : ℕ → Option Format
-format_in 0 = Some Nquads
-format_in 1 = Some Turtle
-format_in 2 = Some Nested
-format_in 3 = Some Jsonld
-format_in _ = None
+format_in number =
+    if number == 0 then Some Nquads else (if number == 1 then Some Turtle else (if number == 2 then Some Nested else (if number == 3 then Some Jsonld else None)))
 
 -- the characters of bytes that are the UTF-8 of an IRI
 abbrev pub iri_in : List ℕ → Option Chars

@@ -65,11 +65,15 @@ fn extracted(alloc: Global, walk: Walk, form: Form) -> Result<Vec<u8>, Stop>
     let Ok(outcome) = Outcome::of(alloc, list, form) else {
         return Err(Stop::NoMemory);
     };
-    let text = text_of(alloc, &outcome);
-    drop(outcome);
-    match text {
-        Ok(text) => Ok(text),
-        Err(NoMemory) => Err(Stop::NoMemory),
+    match text_of(alloc, &outcome) {
+        Ok(text) => {
+            drop(outcome);
+            Ok(text)
+        }
+        Err(NoMemory) => {
+            drop(outcome);
+            Err(Stop::NoMemory)
+        }
     }
 }
 
@@ -81,9 +85,16 @@ fn itemized(alloc: Global, walk: ItemWalk) -> Result<Vec<u8>, Stop>
         Ok(found) => found,
         Err(stop) => return Err(stop),
     };
-    let text = text_of_items(alloc, &found);
-    drop(found);
-    text
+    match text_of_items(alloc, &found) {
+        Ok(text) => {
+            drop(found);
+            Ok(text)
+        }
+        Err(stop) => {
+            drop(found);
+            Err(stop)
+        }
+    }
 }
 
 /// That the page is one.

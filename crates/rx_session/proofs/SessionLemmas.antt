@@ -1,1 +1,0 @@
--- A session, and what its calls answer.
