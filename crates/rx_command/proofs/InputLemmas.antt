@@ -30,7 +30,7 @@ use Rattle.rx_command.proofs.ReadLemmas.{unread_clean}
 use Rattle.rx_command.specs.Files.{ReadsFile, TakesOf, size_of}
 use Rattle.rx_command.specs.Contexts.{IsContextFile, IsFileOf, IsContext, HasContext, TakesContext, ReadsContext, context_size, is_context}
 use Rattle.rx_command.specs.Inputs.{PageText, PageRefused, JobText, JobRefused, TellsThat, WhereTold}
-use Rattle.rx_command.specs.Outcome.{IsAccepted, IsLacking, IsRight, TaskRefuses, ReadsTo, base_in, facts_in, syntax_in, aim_in, way_in, ok_line, IsTextAs, IsFormatText, DenotesAs, FormatDenotes}
+use Rattle.rx_command.specs.Outcome.{IsAccepted, IsLacking, IsRight, HasText, Denotes, TaskRefuses, ReadsTo, base_in, facts_in, syntax_in, aim_in, way_in, ok_line, IsTextAs, IsFormatText, DenotesAs, FormatDenotes}
 use Rattle.rx_command.specs.Runs.{TakesFiles, StopsCleanly}
 use Rattle.rx_command.specs.Ways.{extraction_of}
 use Rattle.rx_command.specs.Written.{form_in, IsFormText, FormDenotes, text_of, Denoted}
@@ -189,36 +189,40 @@ module _ (graph : Option Chars) (context : Context) where
   same_meaning format.Nested text triples d = d
   same_meaning format.Jsonld text triples d = d
 
-pub page_text : (e : Extraction) (context : Context) (name named : List ℕ) (form : Form) (outcome : Outcome) (list : List CodeTriple) → named ≡ name → form ≡ form_in e.format e.graph context
+-- what is made of the triples of a page that was read
+pub text_made : (e : Extraction) (context : Context) (form : Form) (outcome : Outcome) (list : List CodeTriple) (bytes : List ℕ) → form ≡ form_in e.format e.graph context
     → IsFormText form (numbered nat_eq (copied nat_eq (triples_seen list))) (text_of outcome) → (Denoted outcome → FormDenotes form (text_of outcome) (numbered nat_eq (copied nat_eq (triples_seen list))))
-    → (x y : Told) → ReadsWhole (GivesList e.syntax context e.address) named list x y → PageText (extracts e) context name outcome x y
-page_text e context name named form outcome list n f spelled denotes x y c =
-    let triples : List (Triple ℕ) = written (base_in e.address c.gives.tree) (facts_in context c.gives.tree) in
-    let made : numbered nat_eq (copied nat_eq (triples_seen list)) ≡ triples = list_written e.address context c.gives.tree list c.gives.made in
-    let is : IsAccepted e.syntax context c.bytes c.gives.tree = record { page = c.gives.page; accepted = c.gives.accepted } in
-    record {
-      bytes = c.bytes;
-      file = sym (ap (λ n. file_of x.files n) n) ∙ c.file;
-      gives = record {
-        tree = c.gives.tree;
+    → GivesList e.syntax context e.address bytes list → HasText e context bytes (text_of outcome) × (Denoted outcome → Denotes e context bytes (text_of outcome))
+text_made e context form outcome list bytes f spelled denotes given =
+    let triples : List (Triple ℕ) = written (base_in e.address given.tree) (facts_in context given.tree) in
+    let made : numbered nat_eq (copied nat_eq (triples_seen list)) ≡ triples = list_written e.address context given.tree list given.made in
+    let is : IsAccepted e.syntax context bytes given.tree = record { page = given.page; accepted = given.accepted } in (
+      record {
+        tree = given.tree;
         is = is;
         spelled =
             subst (λ ts. IsFormatText e context ts (text_of outcome)) made
             (same_text e.graph context e.format (numbered nat_eq (copied nat_eq (triples_seen list))) (text_of outcome)
             (subst (λ (k : Form). IsFormText k (numbered nat_eq (copied nat_eq (triples_seen list))) (text_of outcome)) f spelled));
-      };
-      graph = λ read. record {
-        tree = c.gives.tree;
+      },
+      λ read. record {
+        tree = given.tree;
         is = is;
         triples = triples;
         denotes =
             subst (λ ts. FormatDenotes e (text_of outcome) ts) made
             (same_meaning e.graph context e.format (text_of outcome) (numbered nat_eq (copied nat_eq (triples_seen list)))
             (subst (λ (k : Form). FormDenotes k (text_of outcome) (numbered nat_eq (copied nat_eq (triples_seen list)))) f (denotes read)));
-        renamed = written_denotes (base_in e.address c.gives.tree) (facts_in context c.gives.tree);
-      };
-      left = c.left;
-    }
+        renamed = written_denotes (base_in e.address given.tree) (facts_in context given.tree);
+      },
+    )
+
+pub page_text : (e : Extraction) (context : Context) (name named : List ℕ) (form : Form) (outcome : Outcome) (list : List CodeTriple) → named ≡ name → form ≡ form_in e.format e.graph context
+    → IsFormText form (numbered nat_eq (copied nat_eq (triples_seen list))) (text_of outcome) → (Denoted outcome → FormDenotes form (text_of outcome) (numbered nat_eq (copied nat_eq (triples_seen list))))
+    → (x y : Told) → ReadsWhole (GivesList e.syntax context e.address) named list x y → PageText (extracts e) context name outcome x y
+page_text e context name named form outcome list n f spelled denotes x y c =
+    let made = text_made e context form outcome list c.bytes f spelled denotes c.gives in
+    record { bytes = c.bytes; file = sym (ap (λ n. file_of x.files n) n) ∙ c.file; gives = made.0; graph = made.1; left = c.left }
 
 -- of a job that is known to be an extraction, or a check
 pub for_extraction : (holds : Task → Context → List ℕ → Type 0) (asked : Asked) (approach : Approach) (f : Format) (graph : Option (Bor Chars)) (e : Extraction) (file : Option Chars) (page : Chars)

@@ -9,7 +9,7 @@ use std::alloc::Global;
 
 /// How triples are written, with what a text of that format needs besides them.
 #[derive(Drop)]
-pub(crate) enum Form {
+pub enum Form {
     /// As N-Quads, in the graph of this name.
     Nquads(Option<Iri>),
     /// As Turtle, under the prefixes of this context.
@@ -21,7 +21,8 @@ pub(crate) enum Form {
 }
 
 impl Form {
-    pub(crate) fn of(
+    /// The form that this format is, with the graph's name or the context, which are copied.
+    pub fn of(
         alloc: Global,
         format: Format,
         graph: Option<&Iri>,

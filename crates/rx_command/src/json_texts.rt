@@ -14,7 +14,7 @@ use rx_walk::Stop;
 use std::alloc::Global;
 
 /// The compact JSON of the items, and a line feed; or the fault of one.
-pub(crate) fn text_of_items(alloc: Global, items: &Items) -> Result<Vec<u8>, Stop>
+pub fn text_of_items(alloc: Global, items: &Items) -> Result<Vec<u8>, Stop>
     ensures { (address : Chars) (tree : Tree) → AreItems address tree items.now → JsonTextGives (λ text. text.items) address tree result }
 {
     let text = match items.text(alloc) {

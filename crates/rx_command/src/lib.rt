@@ -3,6 +3,9 @@
 //! [`run`] carries the promise of the whole program as its contract: what is written of a page is the text of the graph
 //! that RDFa's rules give its tree, any other page is refused with its first fault, several pages give one document, and
 //! each status comes exactly where its clause says.
+//!
+//! [`Form`], [`Outcome`] and [`text_of_items`] make a page's text of what was read of it. They are there for whoever reads a
+//! page otherwise than from a shelf.
 #![tactic(auto)]
 
 ghost use Rattle.rx_command.specs.Headline.{OneOutcome};
@@ -22,6 +25,9 @@ mod shaped;
 mod statuses;
 mod top;
 
+pub use forms::Form;
+pub use json_texts::text_of_items;
+pub use outcomes::Outcome;
 pub use rx_job::{Format, Job, JobError};
 pub use rx_walk::{Fault, Kind};
 pub use statuses::Status;

@@ -22,7 +22,7 @@ const RIGHT: &[u8] = b"ok\n";
 
 /// What a page gives.
 #[derive(Drop)]
-pub(crate) enum Outcome {
+pub enum Outcome {
     /// Its graph, which is written as N-Quads and has this name, or none.
     Quads { graph: Graph, name: Option<Iri> },
     /// Its graph, which is written as Turtle under the context's prefixes.
@@ -37,7 +37,7 @@ pub(crate) enum Outcome {
 
 impl Outcome {
     /// The graph of the triples, which is written in this form.
-    pub(crate) fn of(alloc: Global, list: TripleList, form: Form) -> Result<Outcome, NoMemory>
+    pub fn of(alloc: Global, list: TripleList, form: Form) -> Result<Outcome, NoMemory>
         ensures spelled { IfOk result (λ outcome. IsFormText form (numbered nat_eq (copied nat_eq (triples_seen list))) (text_of outcome)) }
         ensures denoted { IfOk result (λ outcome. Denoted outcome → FormDenotes form (text_of outcome) (numbered nat_eq (copied nat_eq (triples_seen list)))) }
     {
@@ -64,7 +64,7 @@ impl Outcome {
     }
 
     /// Writes the text piece by piece. Memory is taken before the first byte is written.
-    pub(crate) fn write<O: Sink>(&self, alloc: Global, out: &mut O) -> Result<(), WriteError>
+    pub fn write<O: Sink>(&self, alloc: Global, out: &mut O) -> Result<(), WriteError>
         ensures ok { OnOk result (Moves (GrowsBy (text_of self.now)) (O.held out.old) (O.held out.new)) }
         ensures denoted { OnOk result (Denoted self.now) }
         ensures partly { IsErrOf result WriteError.Failed → Moves (GrowsByPart (text_of self.now)) (O.held out.old) (O.held out.new) }

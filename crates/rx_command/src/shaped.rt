@@ -20,7 +20,7 @@ use std::marker::Model;
 
 /// A graph, and which of its blank nodes a text can write where they are used.
 #[derive(Drop)]
-pub(crate) struct Shaped {
+pub struct Shaped {
     graph: Graph,
     shapes: Shapes,
 }

@@ -1,0 +1,10 @@
+use Rattle.std.proofs.Common.{ℕ, List, Option, subst}
+use Rattle.rx_session.specs.Requests.{Opens, check_in}
+use Rattle.rdfax_c.specs.Calls.{given}
+use Rattle.rdfax_c.proofs.CallLemmas.{opens_page}
+use Rattle.rdfax_c.proofs.exports.rdfax_check.Goals as goal
+
+pub returns : goal.returns
+returns c =
+    opens_page (check_in c.args.syntax) (given c.args.has_context c.args.context.now) c.open_check-opened.result c.keep.result c.keep.new.page.handle.session
+    (subst (λ (file : Option (List ℕ)). Opens (check_in c.args.syntax) file c.open_check-opened.result) c.given.ensures c.open_check-opened.ensures) c.keep.ensures

@@ -1,0 +1,90 @@
+-- What the calls answer, and what is kept.
+use Rattle.std.specs.Prelude.{◌≡◌, ◌⊎◌, ℕ, Bool, true, false, List, [], Option, Some, None, option_map, option_and_then, Result, Ok, Err}
+use Rattle.rx_terms.specs.Text.{Chars}
+use Rattle.rx_grammar.specs.declared.faults.Fault.{Fault}
+use Rattle.rx_rdfa.specs.Names.{Context}
+use Rattle.rx_job.specs.Words.{Task}
+use Rattle.rx_many.specs.Writing.{kind_name}
+use Rattle.rx_session.specs.Kinds.{kind_number}
+use Rattle.rx_session.specs.Requests.{Opens}
+use Rattle.rx_session.specs.Sessions.{IsFed, FeedGives, FinishGives, FeedAgain, FinishAgain, text_in, fault_in}
+use Rattle.rx_session.specs.declared.errors.OpenError.{OpenError}
+use Rattle.rx_session.specs.declared.errors.SessionError.{SessionError}
+use Rattle.rx_session.specs.declared.sessions.State.{State}
+use Rattle.rdfax_c.specs.Statuses.{answer_code, open_code, state_code}
+use Rattle.rdfax_c.specs.declared.options.PageFault.{PageFault}
+
+-- bytes, where they are given
+abbrev pub given : Bool → List ℕ → Option (List ℕ)
+given true bytes = Some bytes
+given false bytes = None
+
+abbrev pub fault_seen : Fault → PageFault
+fault_seen fault = record { kind = kind_number fault.kind; token = fault.token; at = fault.at }
+
+-- the session that was opened, and the number of the answer
+abbrev pub opened : Result State OpenError → Option State
+opened (Ok session) = Some session
+opened (Err why) = None
+
+abbrev pub opened_code : Result State OpenError → ℕ
+opened_code (Ok session) = 0
+opened_code (Err why) = open_code why
+
+-- A session was opened for what is asked for, and the page keeps it; or the page keeps none, and the number says why.
+pub record OpensPage (asked : Option Task) (file : Option (List ℕ)) (result : ℕ) (new : Option State) : Type 0 where
+  pub answer : Result State OpenError
+  pub opens : Opens asked file answer
+  pub code : result ≡ opened_code answer
+  pub kept : new ≡ opened answer
+
+-- what was opened is kept, or there was no memory for it
+abbrev pub KeepsPage : Result State OpenError → ℕ → Option State → Type 0
+KeepsPage answer result new = ((result ≡ opened_code answer) × (new ≡ opened answer)) ⊎ ((result ≡ 5) × (new ≡ None))
+
+-- the session answered a piece, or its end, and the page keeps it
+pub record FeedsSession (piece : List ℕ) (old : State) (result : ℕ) (new : Option State) : Type 0 where
+  pub answer : Result (Unit {0}) SessionError
+  pub now : State
+  pub kept : new ≡ Some now
+  pub code : result ≡ answer_code answer
+  pub gives : (task : Task) (context : Context) (bytes : List ℕ) → IsFed task context bytes old → FeedGives task context bytes piece answer now
+  pub again : FeedAgain old answer now
+
+pub record FinishesSession (old : State) (result : ℕ) (new : Option State) : Type 0 where
+  pub answer : Result (Unit {0}) SessionError
+  pub now : State
+  pub kept : new ≡ Some now
+  pub code : result ≡ answer_code answer
+  pub gives : (task : Task) (context : Context) (bytes : List ℕ) → IsFed task context bytes old → FinishGives task context bytes answer now
+  pub again : FinishAgain old answer now
+
+-- a page of which no session is open is left so
+abbrev pub FeedsPage : List ℕ → Option State → ℕ → Option State → Type 0
+FeedsPage piece None result new = (result ≡ 2) × (new ≡ None)
+FeedsPage piece (Some old) result new = FeedsSession piece old result new
+
+abbrev pub FinishesPage : Option State → ℕ → Option State → Type 0
+FinishesPage None result new = (result ≡ 2) × (new ≡ None)
+FinishesPage (Some old) result new = FinishesSession old result new
+
+abbrev pub page_code : Option State → ℕ
+page_code None = 2
+page_code (Some session) = state_code session
+
+abbrev pub page_text : Option State → List ℕ
+page_text None = []
+page_text (Some session) = text_in session
+
+abbrev pub page_fault : Option State → Option Fault
+page_fault page = option_and_then fault_in page
+
+-- the name of the kind of a fault
+abbrev pub fault_name : Option Fault → List ℕ
+fault_name None = []
+fault_name (Some fault) = kind_name fault.kind
+
+-- the fault was told, or there is none and nothing was
+abbrev pub TellsFault : Option Fault → Bool → PageFault → PageFault → Type 0
+TellsFault None result old new = (result ≡ false) × (new ≡ old)
+TellsFault (Some fault) result old new = (result ≡ true) × (new ≡ fault_seen fault)

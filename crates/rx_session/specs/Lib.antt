@@ -1,0 +1,4 @@
+pub mod Works
+pub mod Sessions
+pub mod Requests
+pub mod Kinds

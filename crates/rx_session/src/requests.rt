@@ -1,0 +1,93 @@
+//! Opening a session by numbers and bytes, as they come from outside.
+ghost use Rattle.std.specs.Prelude.{None};
+ghost use Rattle.rx_session.specs.Requests.{Opens, bytes_in, extraction_in, items_in, check_in};
+
+use crate::errors::OpenError;
+use crate::sessions::{Extraction, Session};
+use crate::values::{context_of, format_of, graph_of, iri_of, syntax_of};
+use rx_terms::NoMemory;
+use std::alloc::Global;
+
+/// A session for the triples of a page of this address: syntax 0 is HTML and 1 XHTML; format 0 N-Quads, 1 Turtle, 2 Turtle
+/// with blank nodes and lists where they are used, and 3 JSON-LD. The graph has a name or none, and the context is that of
+/// a file of these bytes, or the standard one.
+pub fn open_extraction(
+    alloc: Global,
+    syntax: u32,
+    format: u32,
+    address: &[u8],
+    graph: Option<&[u8]>,
+    context: Option<&[u8]>,
+) -> Result<Session, OpenError>
+    ensures { Opens (extraction_in syntax format address.now (bytes_in graph.entry)) (bytes_in context.entry) result }
+{
+    let Some(syntax) = syntax_of(syntax) else {
+        return Err(OpenError::Usage);
+    };
+    let Some(format) = format_of(format) else {
+        return Err(OpenError::Usage);
+    };
+    let address = match iri_of(alloc, address) {
+        Ok(address) => address,
+        Err(error) => return Err(error),
+    };
+    let graph = match graph_of(alloc, format, graph) {
+        Ok(graph) => graph,
+        Err(error) => {
+            drop(address);
+            return Err(error);
+        }
+    };
+    let extraction = Extraction {
+        syntax,
+        format,
+        graph,
+        address,
+    };
+    let context = match context_of(alloc, context) {
+        Ok(context) => context,
+        Err(error) => {
+            drop(extraction);
+            return Err(error);
+        }
+    };
+    match Session::extract(alloc, extraction, context) {
+        Ok(session) => Ok(session),
+        Err(NoMemory) => Err(OpenError::NoMemory),
+    }
+}
+
+/// A session for the items of a page of this address, by the number of its syntax.
+pub fn open_items(alloc: Global, syntax: u32, address: &[u8]) -> Result<Session, OpenError>
+    ensures { Opens (items_in syntax address.now) None result }
+{
+    let Some(syntax) = syntax_of(syntax) else {
+        return Err(OpenError::Usage);
+    };
+    let address = match iri_of(alloc, address) {
+        Ok(address) => address,
+        Err(error) => return Err(error),
+    };
+    match Session::items(alloc, syntax, address) {
+        Ok(session) => Ok(session),
+        Err(NoMemory) => Err(OpenError::NoMemory),
+    }
+}
+
+/// A session for the faults of a page, by the number of its syntax, under the context of a file of these bytes or the
+/// standard one.
+pub fn open_check(alloc: Global, syntax: u32, context: Option<&[u8]>) -> Result<Session, OpenError>
+    ensures { Opens (check_in syntax) (bytes_in context.entry) result }
+{
+    let Some(syntax) = syntax_of(syntax) else {
+        return Err(OpenError::Usage);
+    };
+    let context = match context_of(alloc, context) {
+        Ok(context) => context,
+        Err(error) => return Err(error),
+    };
+    match Session::check(alloc, syntax, context) {
+        Ok(session) => Ok(session),
+        Err(NoMemory) => Err(OpenError::NoMemory),
+    }
+}

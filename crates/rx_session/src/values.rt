@@ -1,0 +1,104 @@
+//! Numbers and bytes from outside, as what they stand for.
+ghost use Rattle.std.specs.Prelude.{◌≡◌, MatchResult, Some, false};
+ghost use Rattle.rx_session.specs.Requests.{syntax_in, format_in, iri_in, graph_in, bytes_in, FailsOpen, ContextGives};
+ghost use Rattle.rx_job.specs.Words.{names_graphs};
+
+use crate::errors::OpenError;
+use rx_chars::Syntax;
+use rx_job::Format;
+use rx_names::{Context, ContextError};
+use rx_terms::{Iri, IriError, NoMemory};
+use std::alloc::Global;
+
+/// The syntax of this number.
+pub(crate) fn syntax_of(number: u32) -> Option<Syntax>
+    ensures { result ≡ syntax_in number }
+{
+    match number {
+        0 => Some(Syntax::Html),
+        1 => Some(Syntax::Xhtml),
+        _ => None,
+    }
+}
+
+/// The format of this number.
+pub(crate) fn format_of(number: u32) -> Option<Format>
+    ensures { result ≡ format_in number }
+{
+    match number {
+        0 => Some(Format::Nquads),
+        1 => Some(Format::Turtle),
+        2 => Some(Format::Nested),
+        3 => Some(Format::Jsonld),
+        _ => None,
+    }
+}
+
+/// The IRI that the bytes are. Usage comes exactly where they are none.
+pub(crate) fn iri_of(alloc: Global, bytes: &[u8]) -> Result<Iri, OpenError>
+    ensures { MatchResult result (λ iri. iri_in bytes.now ≡ Some iri) (FailsOpen (iri_in bytes.now)) }
+{
+    let Ok(text) = str::from_utf8(bytes) else {
+        return Err(OpenError::Usage);
+    };
+    match Iri::of(alloc, text) {
+        Ok(iri) => Ok(iri),
+        Err(IriError::NoMemory) => Err(OpenError::NoMemory),
+        Err(IriError::NoScheme) => Err(OpenError::Usage),
+        Err(IriError::Forbidden) => Err(OpenError::Usage),
+    }
+}
+
+/// The name of the graph, where one is given. Usage comes exactly where the format can't say it, or it is no IRI.
+pub(crate) fn graph_of(
+    alloc: Global,
+    format: Format,
+    name: Option<&[u8]>,
+) -> Result<Option<Iri>, OpenError>
+    ensures { MatchResult result (λ graph. graph_in format (bytes_in name.entry) ≡ Some graph) (FailsOpen (graph_in format (bytes_in name.entry))) }
+{
+    let Some(name) = name else {
+        return Ok(None);
+    };
+    if !names_graphs(format) {
+        return Err(OpenError::Usage);
+    }
+    match iri_of(alloc, name) {
+        Ok(graph) => Ok(Some(graph)),
+        Err(error) => Err(error),
+    }
+}
+
+fn names_graphs(format: Format) -> bool
+    ensures { result ≡ names_graphs format }
+{
+    match format {
+        Format::Nquads => true,
+        Format::Turtle => false,
+        Format::Nested => false,
+        Format::Jsonld => false,
+    }
+}
+
+/// The most bytes that a context file has.
+const LARGEST_CONTEXT: usize = 65_536;
+
+/// The context that holds: that of the file, where its bytes are given, else the standard one.
+pub(crate) fn context_of(alloc: Global, file: Option<&[u8]>) -> Result<Context, OpenError>
+    ensures { ContextGives (bytes_in file.entry) result }
+{
+    let Some(file) = file else {
+        return match Context::standard(alloc) {
+            Ok(context) => Ok(context),
+            Err(NoMemory) => Err(OpenError::NoMemory),
+        };
+    };
+    if file.len() > LARGEST_CONTEXT {
+        return Err(OpenError::BadContext);
+    }
+    match Context::of_json(alloc, file) {
+        Ok(context) => Ok(context),
+        Err(ContextError::BadContext) => Err(OpenError::BadContext),
+        Err(ContextError::NoMemory) => Err(OpenError::NoMemory),
+    }
+}
