@@ -88,24 +88,24 @@ on_quoted P phase.Emptied q d s = absurd (cc)
 on_quoted P phase.Closed q d s = absurd (cc)
 
 -- of where a tag's name is read
-on_naming : (P : TagPhase → Type 0) (p : TagPhase) → is_naming p ≡ true → P phase.Name → P phase.EndName → P phase.EndStart → P p
-on_naming P phase.Name q x y z = x
-on_naming P phase.EndName q x y z = y
-on_naming P phase.EndStart q x y z = z
-on_naming P phase.Start q x y z = absurd (cc)
-on_naming P phase.Gap q x y z = absurd (cc)
-on_naming P phase.Solidus q x y z = absurd (cc)
-on_naming P phase.Key q x y z = absurd (cc)
-on_naming P phase.AfterKey q x y z = absurd (cc)
-on_naming P phase.BeforeValue q x y z = absurd (cc)
-on_naming P phase.DoubleQuoted q x y z = absurd (cc)
-on_naming P phase.SingleQuoted q x y z = absurd (cc)
-on_naming P phase.Unquoted q x y z = absurd (cc)
-on_naming P phase.AfterValue q x y z = absurd (cc)
-on_naming P phase.EndGap q x y z = absurd (cc)
-on_naming P phase.Opened q x y z = absurd (cc)
-on_naming P phase.Emptied q x y z = absurd (cc)
-on_naming P phase.Closed q x y z = absurd (cc)
+on_naming : (P : TagPhase → Type 0) (p : TagPhase) → is_naming p ≡ true → P phase.Start → P phase.Name → P phase.EndName → P phase.EndStart → P p
+on_naming P phase.Start q w x y z = w
+on_naming P phase.Name q w x y z = x
+on_naming P phase.EndName q w x y z = y
+on_naming P phase.EndStart q w x y z = z
+on_naming P phase.Gap q w x y z = absurd (cc)
+on_naming P phase.Solidus q w x y z = absurd (cc)
+on_naming P phase.Key q w x y z = absurd (cc)
+on_naming P phase.AfterKey q w x y z = absurd (cc)
+on_naming P phase.BeforeValue q w x y z = absurd (cc)
+on_naming P phase.DoubleQuoted q w x y z = absurd (cc)
+on_naming P phase.SingleQuoted q w x y z = absurd (cc)
+on_naming P phase.Unquoted q w x y z = absurd (cc)
+on_naming P phase.AfterValue q w x y z = absurd (cc)
+on_naming P phase.EndGap q w x y z = absurd (cc)
+on_naming P phase.Opened q w x y z = absurd (cc)
+on_naming P phase.Emptied q w x y z = absurd (cc)
+on_naming P phase.Closed q w x y z = absurd (cc)
 
 -- of where an attribute's name is read
 on_key : (P : TagPhase → Type 0) (p : TagPhase) → opens_key p ≡ true → P phase.Gap → P phase.Key → P p
@@ -219,8 +219,12 @@ module _ (c : ℕ) (h : is_small c ≡ true) where
       cond-true _ _ _ (or_right (nat_le 65 c && nat_le c 90) _ h)
   first_move Xhtml = cond-true _ _ _ (or_left (is_nc_start c) _ small_start)
 
+  opening_move : (s : Syntax) → move_of s phase.Start c ≡ go phase.Name action.Name
+  opening_move Html = cond-true _ _ _ (or_right (nat_le 65 c && nat_le c 90) _ h)
+  opening_move Xhtml = cond-true _ _ _ (or_left (is_nc_start c) _ small_start)
+
   name_move : (s : Syntax) (p : TagPhase) → is_naming p ≡ true → move_of s p c ≡ go (named p) action.Name
-  name_move s p q = on_naming (λ x. move_of s x c ≡ go (named x) action.Name) p q (start_move s) (end_move s) (first_move s)
+  name_move s p q = on_naming (λ x. move_of s x c ≡ go (named x) action.Name) p q (opening_move s) (start_move s) (end_move s) (first_move s)
 
   small_cased : (s : Syntax) → cased_char s c ≡ c
   small_cased Html =
@@ -258,10 +262,10 @@ module _ (s : Syntax) (name : Chars) where
 
 -- a small letter of a tag's name
 named_naming : (p : TagPhase) → is_naming p ≡ true → is_naming (named p) ≡ true
-named_naming p q = on_naming (λ x. is_naming (named x) ≡ true) p q refl refl refl
+named_naming p q = on_naming (λ x. is_naming (named x) ≡ true) p q refl refl refl refl
 
 named_twice : (p : TagPhase) → is_naming p ≡ true → named (named p) ≡ named p
-named_twice p q = on_naming (λ x. named (named x) ≡ named x) p q refl refl refl
+named_twice p q = on_naming (λ x. named (named x) ≡ named x) p q refl refl refl refl
 
 module _ (s : Syntax) (pairs : Pairs) where
   abbrev with_name : TagPhase → Chars → TagState
@@ -269,7 +273,7 @@ module _ (s : Syntax) (pairs : Pairs) where
 
   one_name : (p : TagPhase) (name : Chars) (c : ℕ) → is_naming p ≡ true → is_small c ≡ true → GoesTo s (with_name p name) c (with_name (named p) (name ++ c ∷ []))
   one_name p name c q h =
-      let unfinished = on_naming (λ x. is_last (named x) ≡ false) p q refl refl refl in (
+      let unfinished = on_naming (λ x. is_last (named x) ≡ false) p q refl refl refl refl in (
         ap (λ (m : Move). checked s (moved s (meaning s) (with_name p name) c m)) (name_move c h s p q)
             ∙ (ap (λ (d : ℕ). checked s (ok_state s name (with_name (named p) (name ++ d ∷ [])))) (small_cased c h s) ∙ checked_open s (with_name (named p) (name ++ c ∷ [])) unfinished),
         unfinished,

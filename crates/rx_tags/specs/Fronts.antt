@@ -38,8 +38,9 @@ ends_value phase.DoubleQuoted c = c == quotation_mark
 ends_value phase.SingleQuoted c = c == apostrophe
 ends_value _ c = false
 
--- a small letter goes on with a tag's name, or begins an end tag's
+-- a small letter goes on with a tag's name, or begins one
 abbrev pub is_naming : TagPhase → Bool
+is_naming phase.Start = true
 is_naming phase.Name = true
 is_naming phase.EndName = true
 is_naming phase.EndStart = true
@@ -47,6 +48,7 @@ is_naming _ = false
 
 -- the phase behind such a letter
 abbrev pub named : TagPhase → TagPhase
+named phase.Start = phase.Name
 named phase.EndStart = phase.EndName
 named p = p
 

@@ -1,9 +1,12 @@
 //! Characters at the front of some bytes that a tag takes at once.
-ghost use Rattle.std.specs.Prelude.{◌≡◌, ◌≤◌, true, length, take};
+ghost use Rattle.std.specs.Prelude.{◌≡◌, ◌≤◌, true, length, map, take};
 ghost use Rattle.std.specs.List.{list_all};
+ghost use Rattle.std.specs.Simd.Lanes.{mask_l};
 ghost use Rattle.rx_tags.specs.Fronts as fronts;
+ghost use Rattle.rx_tags.specs.Lanes as lanes;
 
 use rx_reader::TagPhase;
+use std::simd::prelude::*;
 
 /// A space, or a character of ASCII that is printed.
 pub(crate) fn is_printed(byte: u8) -> bool
@@ -47,13 +50,13 @@ pub(crate) fn ends_value(phase: TagPhase, byte: u8) -> bool
     }
 }
 
-/// Whether a small letter goes on with a tag's name, or begins an end tag's.
+/// Whether a small letter goes on with a tag's name, or begins one.
 pub(crate) fn is_naming(phase: TagPhase) -> bool
     ensures { result ≡ fronts.is_naming phase }
 {
     matches!(
         phase,
-        TagPhase::Name | TagPhase::EndName | TagPhase::EndStart
+        TagPhase::Start | TagPhase::Name | TagPhase::EndName | TagPhase::EndStart
     )
 }
 
@@ -62,6 +65,7 @@ pub(crate) fn named(phase: TagPhase) -> TagPhase
     ensures { result ≡ fronts.named phase }
 {
     match phase {
+        TagPhase::Start => TagPhase::Name,
         TagPhase::EndStart => TagPhase::EndName,
         _ => phase,
     }
@@ -79,6 +83,7 @@ pub(crate) fn skip(phase: TagPhase, byte: u8) -> Option<TagPhase>
     ensures { fronts.SkipGives phase byte result }
 {
     match (phase, byte) {
+        (TagPhase::Start, b'/') => Some(TagPhase::EndStart),
         (TagPhase::Name, b' ') => Some(TagPhase::Gap),
         (TagPhase::Key, b'=') => Some(TagPhase::BeforeValue),
         (TagPhase::BeforeValue, b'"') => Some(TagPhase::DoubleQuoted),
@@ -88,23 +93,78 @@ pub(crate) fn skip(phase: TagPhase, byte: u8) -> Option<TagPhase>
     }
 }
 
+// The bytes that aren't plain.
+#[inline(always)]
+fn ends_plain(bytes: u8x16) -> u64
+    ensures { result ≡ mask_l (map lanes.ends_plain bytes) }
+{
+    (bytes.simd_le(u8x16::splat(0x1F))
+        | bytes.simd_eq(u8x16::splat(b'"'))
+        | bytes.simd_eq(u8x16::splat(b'&'))
+        | bytes.simd_eq(u8x16::splat(b'\''))
+        | bytes.simd_eq(u8x16::splat(b'<'))
+        | bytes.simd_ge(u8x16::splat(0x7F))).to_bitmask()
+}
+
+// The bytes that aren't small letters.
+#[inline(always)]
+fn ends_small(bytes: u8x16) -> u64
+    ensures { result ≡ mask_l (map lanes.ends_small bytes) }
+{
+    (bytes.simd_le(u8x16::splat(0x60)) | bytes.simd_ge(u8x16::splat(0x7B))).to_bitmask()
+}
+
 /// How many bytes at the front are themselves in a value in quotes.
+#[inline(always)]
 pub(crate) fn plain_length(bytes: &[u8]) -> usize
     ensures fits { result ≤ length bytes.now }
     ensures plain { list_all fronts.is_plain (take result bytes.now) ≡ true }
 {
     let mut count = 0;
-    for byte in bytes {
-        if !is_plain(*byte) {
-            return count;
+    while bytes.len() - count >= 16 {
+        let found = ends_plain(u8x16::from_slice(&bytes[count..]));
+        if found != 0 {
+            return count + found.trailing_zeros() as usize;
         }
+        count += 16;
+    }
+    plain_slowly(bytes, count)
+}
+
+// The last bytes of a piece, fewer than 16.
+#[inline(never)]
+fn plain_slowly(bytes: &[u8], from: usize) -> usize
+    requires from { from ≤ length bytes.now }
+    requires plain { list_all fronts.is_plain (take from bytes.now) ≡ true }
+    ensures fits { result ≤ length bytes.now }
+    ensures plain { list_all fronts.is_plain (take result bytes.now) ≡ true }
+{
+    let mut count = from;
+    while count < bytes.len() && is_plain(bytes[count]) {
         count += 1;
     }
     count
 }
 
-/// How many bytes at the front go on with a name.
+/// How many bytes at the front go on with a name. Of a long name no more than sixteen are told at a time.
+#[inline(always)]
 pub(crate) fn small_length(bytes: &[u8]) -> usize
+    ensures fits { result ≤ length bytes.now }
+    ensures small { list_all fronts.is_small (take result bytes.now) ≡ true }
+{
+    if bytes.len() < 16 {
+        return small_slowly(bytes);
+    }
+    let found = ends_small(u8x16::from_slice(bytes));
+    if found == 0 {
+        return 16;
+    }
+    found.trailing_zeros() as usize
+}
+
+// The last bytes of a piece, fewer than 16.
+#[inline(never)]
+fn small_slowly(bytes: &[u8]) -> usize
     ensures fits { result ≤ length bytes.now }
     ensures small { list_all fronts.is_small (take result bytes.now) ≡ true }
 {

@@ -1,7 +1,7 @@
 use Rattle.std.proofs.Common.{◌≡◌, true, take}
 use Rattle.std.specs.List.{list_all}
 use Rattle.rx_tags.specs.Fronts.{is_small}
-use Rattle.rx_tags.proofs.fronts.small_length.Given as goal
+use Rattle.rx_tags.proofs.fronts.small_slowly.Given as goal
 
 abbrev pub invariant-loop-byte : goal.invariant-loop-byte
 invariant-loop-byte l = record {
