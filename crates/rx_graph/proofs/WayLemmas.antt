@@ -8,7 +8,7 @@ use Rattle.rx_model.specs.Sets.{Among, contains}
 use Rattle.rx_model.proofs.Sets.{Among_left, Among_right, Among_cases, Among-contains, Among_by_contains}
 use Rattle.rx_model.proofs.Exact.{exact_numbers}
 use Rattle.std.specs.List.{IsDistinct, AllByRecursion, list_any}
-use Rattle.indexmap.specs.IndexSet.{insert_key}
+use Rattle.rx_unique.specs.Unique.{insert_key}
 use Rattle.rx_graph.proofs.SetLemmas.{same_truth}
 use Rattle.rx_graph.specs.Rows.{pushed, empty_rows}
 use Rattle.rx_graph.specs.Numbering.{known_one, numbers_to}

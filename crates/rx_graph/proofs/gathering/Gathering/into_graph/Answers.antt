@@ -1,4 +1,3 @@
-use Rattle.std.proofs.Common.{subst, sym}
 use Rattle.rx_graph.proofs.SetLemmas.{graph_once}
 use Rattle.rx_graph.proofs.CodeEq.{code_eq, exact_code}
 use Rattle.rx_graph.proofs.gathering.Gathering.into_graph.Goals as goal
