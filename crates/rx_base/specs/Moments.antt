@@ -3,7 +3,7 @@ use Rattle.std.specs.Prelude.{◌≡◌, ◌↔◌, true, false, List, [], ◌�
 use Rattle.rx_terms.specs.Text.{Chars}
 use Rattle.rx_grammar.specs.Trees.{StartTag}
 use Rattle.rx_rdfa.specs.Tree.{Tag}
-use Rattle.rx_nest.specs.Signs.{Sign, begun, said, finished}
+use Rattle.rx_nest.specs.Signs.{Sign, begun, finished}
 use Rattle.rx_base.specs.Lines.{read_tag, line_on, line_of}
 use Rattle.rx_base.specs.Seekings.{base_href, known, sought}
 

@@ -1,6 +1,6 @@
 -- The open elements that are kept are those of the grammar's front, and a fault leaves them as they were.
-use Rattle.std.proofs.Common.{◌≡◌, ◌∙◌, ℕ, Bool, true, false, List, [], ◌∷◌, ◌++◌, refl, sym, ap, subst, length, append_assoc, Option, Result, None, Ok, Err}
-use Rattle.std.specs.Prelude.{take, if◌then◌else◌}
+use Rattle.std.proofs.Common.{◌≡◌, ◌∙◌, ℕ, Bool, true, false, List, [], ◌∷◌, ◌++◌, refl, sym, ap, subst, append_assoc, Option, Result, None, Ok, Err}
+use Rattle.std.specs.Prelude.{take}
 use Rattle.rx_chars.specs.Characters.{Entry}
 use Rattle.rx_chars.specs.declared.syntax.Syntax.{Syntax}
 use Rattle.rx_grammar.specs.declared.faults.Fault.{Fault}
@@ -9,8 +9,8 @@ use Rattle.rx_grammar.specs.declared.limits.Limits.{Limits}
 use Rattle.rx_grammar.specs.Items.{values, next_of}
 use Rattle.rx_grammar.specs.Begun.{Line, Phase, Begun}
 use Rattle.rx_pages.specs.Nesting.{Event, Step}
-use Rattle.rx_pages.specs.PageReader.{Scanned, Progress, Reading, read_byte, scan_from, spot_of, steps_on, no_step, progress_of, nested_items, page_byte_on, page_on, page_read, nothing_read, telling, token_at}
-use Rattle.rx_pages.specs.Fronts.{ReadsTo, IsUnderway}
+use Rattle.rx_pages.specs.PageReader.{Scanned, Progress, read_byte, scan_from, spot_of, steps_on, no_step, progress_of, nested_items, page_byte_on, page_on, page_read, nothing_read, telling, token_at}
+use Rattle.rx_pages.specs.Fronts.{ReadsTo}
 use Rattle.rx_pages.proofs.ScanSteps.{page_append}
 use Rattle.rx_pages.proofs.Underway.{reads_to, nothing_unfinished, unfinished_follows_front}
 use Rattle.rx_tags.specs.declared.stops.Stop.{Stop}
@@ -20,16 +20,13 @@ use Rattle.rx_tags.specs.Seen.{tag_seen}
 use Rattle.rx_scan.specs.Scanner.{Scanner}
 use Rattle.rx_scan.specs.declared.answers.Token.{Token}
 use Rattle.rx_scan.specs.declared.answers.Token.TheVariants as token
-use Rattle.rx_nest.specs.declared.heard.Heard.{Heard}
-use Rattle.rx_nest.specs.declared.heard.Heard.TheVariants as heard
 use Rattle.rx_nest.specs.declared.lines.Told.{Told}
 use Rattle.rx_nest.specs.declared.lines.Refused.{Refused}
 use Rattle.rx_nest.specs.declared.lines.Refused.TheVariants as refused
-use Rattle.rx_nest.specs.Levels.{Levels}
-use Rattle.rx_nest.specs.Lines.{Lines, TagGives, GivesBy, says_text}
+use Rattle.rx_nest.specs.Lines.{Lines, TagGives, GivesBy}
 use Rattle.rx_nest.specs.Follows.{AreLevels}
-use Rattle.rx_nest.specs.Heard.{Hears, HearsTag, heard_of}
-use Rattle.rx_nest.specs.Nests.{Nested, At, Stands, Stops, StaysAtFault, OpenBefore}
+use Rattle.rx_nest.specs.Heard.{Hears, heard_of}
+use Rattle.rx_nest.specs.Nests.{At, Stops, StaysAtFault, OpenBefore}
 use Rattle.rx_nest.specs.OpenElements.{HasOpen, HasOpenUnderway, HasOpenOfFronts}
 use Rattle.rx_nest.proofs.LineLemmas.{length_is}
 use Rattle.rx_nest.proofs.Heeding.{quiet_front}

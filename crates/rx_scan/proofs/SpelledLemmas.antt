@@ -1,5 +1,5 @@
 -- What is scanned is what the bytes spell, in whatever content.
-use Rattle.std.proofs.Common.{◌≡◌, ◌≢◌, ◌∙◌, ⊎_elim, inl, inr, ℕ, ◌+◌, ◌-◌, ◌<◌, ◌≤◌, Bool, true, false, List, [], ◌∷◌, ◌++◌, refl, sym, ap, subst, length, nat_le, append_assoc, append-nil, eqb-true, Option, Some, None, Result, Ok, Err, arith}
+use Rattle.std.proofs.Common.{◌≡◌, ◌≢◌, ◌∙◌, inl, inr, ℕ, ◌+◌, ◌-◌, ◌≤◌, Bool, true, false, List, [], ◌∷◌, ◌++◌, refl, sym, ap, subst, length, nat_le, append_assoc, append-nil, eqb-true, Option, Some, None, Result, Ok, Err, arith}
 use Rattle.std.specs.Prelude.{◌&&◌, ◌||◌, ◌==◌, not, take, if◌then◌else◌}
 use Rattle.std.specs.Char.{IsScalar, len_utf8}
 use Rattle.std.specs.Str.{all_scalars}
@@ -25,7 +25,7 @@ use Rattle.rx_grammar.specs.declared.faults.Kind.TheVariants.{BadDoctype, NotUtf
 use Rattle.rx_grammar.specs.declared.limits.Limits.{Limits}
 use Rattle.rx_grammar.specs.Tokens.{Token, tag, character, reference, kept, section, comment, doctype}
 use Rattle.rx_grammar.specs.Spelling as spelling
-use Rattle.rx_grammar.specs.Items.{values, next_of, last_from, Item, Spelled, no_more, one, is_literal, is_strict_literal}
+use Rattle.rx_grammar.specs.Items.{values, next_of, Item, Spelled, no_more, one, is_literal, is_strict_literal, no_section_end}
 use Rattle.rx_grammar.specs.Pages.{has_no_nul}
 use Rattle.rx_grammar.specs.PageFaults.{IsPending, IsPart, is_known_tag}
 use Rattle.rx_reader.proofs.Bools.{by_test, not_both_ways}
@@ -39,12 +39,15 @@ use Rattle.rx_pages.proofs.FrontOn.{goes_more}
 use Rattle.rx_pages.proofs.FaultsRead.{item_token, item_content}
 use Rattle.rx_pages.proofs.CharSteps.{passes, entry_at}
 use Rattle.rx_pages.proofs.CharWalk.{is_started, ends_return, no_return, no_mark}
-use Rattle.rx_pages.proofs.Snocs.{entered_one, values_next, spelled_snoc, return_snoc}
+use Rattle.rx_pages.proofs.Snocs.{entered_one, values_next, spelled_snoc, return_snoc, flags_snoc, sections_snoc}
+use Rattle.rx_pages.proofs.TokensWalk.{flags_behind}
+use Rattle.rx_pages.proofs.TokenWalk.{IsKept, is_kept}
+use Rattle.rx_pages.proofs.EndedRuns.{ended_kept}
 use Rattle.rx_pages.proofs.ScanSteps.{scan_fault}
 use Rattle.rx_scan.specs.Steps.{Steps, is_of_syntax}
-use Rattle.rx_scan.specs.Spelled.{entries_at, AllInside, Spells, IsBetween, ScansWhatIsSpelled, Left, is_over, Refuses, page_too_long, not_utf8, nul, tag_too_long, known_too_long, decided, section_end, late_doctype, FirstFault, RefusesWhatIsFaulty, StepAnswers, StepsSpell}
+use Rattle.rx_scan.specs.Spelled.{brackets_behind, entries_at, AllInside, Spells, IsBetween, ScansWhatIsSpelled, Left, is_over, Refuses, page_too_long, not_utf8, nul, tag_too_long, known_too_long, decided, section_end, late_doctype, FirstFault, RefusesWhatIsFaulty, StepAnswers, StepsSpell}
 use Rattle.rx_scan.specs.Spelled as spelled
-use Rattle.rx_scan.specs.Scanner.{Scanner, spot_of}
+use Rattle.rx_scan.specs.Scanner.{spot_of}
 use Rattle.rx_scan.specs.declared.answers.Token as shown
 use Rattle.rx_tags.specs.declared.stops.Stop.{Stop}
 use Rattle.rx_tags.specs.declared.stops.Stop.TheVariants as stop
@@ -164,6 +167,14 @@ started_more true cs c = refl
 started_more false [] c = refl
 started_more false (d ∷ cs) c = refl
 
+and_false : (b : Bool) → (b && false) ≡ false
+and_false true = refl
+and_false false = refl
+
+same_flags : (items : List Item) (two last : Bool) → flags_behind items two last ≡ brackets_behind items two last
+same_flags [] two last = refl
+same_flags (item ∷ items) two last = same_flags items (last && is_literal right_bracket item) (is_literal right_bracket item)
+
 module _ (syntax : Syntax) (limits : Limits) (spot : Spot) (o : occurs syntax spot.inside ≡ true) (s : Scanning) where
   abbrev inside : Content
   inside = spot.inside
@@ -185,6 +196,9 @@ module _ (syntax : Syntax) (limits : Limits) (spot : Spot) (o : occurs syntax sp
     at : next.at ≡ s.at + length bytes
     started : next.started ≡ (s.started || is_started characters)
     after_return : next.after_return ≡ ends_return s.after_return characters
+    two : next.two ≡ (flags_behind items s.two s.last).0
+    last : next.last ≡ (flags_behind items s.two s.last).1
+    sections : no_section_end items s.two s.last ≡ true
 
   -- whatever comes next
   module _ (c : ℕ) where
@@ -215,9 +229,41 @@ module _ (syntax : Syntax) (limits : Limits) (spot : Spot) (o : occurs syntax sp
     after_ended [] token sp g v = absurd (never_ended inside e.value token v)
     after_ended (d ∷ r) token sp g v = spelled_snoc syntax d r (Some e.value) (item_of inside token (d ∷ r)) sp refl (spells_read syntax inside o (values (d ∷ r)) (Some e.value) token (at_next (values (d ∷ r)) e.value token g v)) refl refl
 
+  -- the brackets behind some tokens
+  record IsBehind (items : List Item) (a b : Bool) : Type 0 where
+    two : a ≡ (flags_behind items s.two s.last).0
+    last : b ≡ (flags_behind items s.two s.last).1
+    sections : no_section_end items s.two s.last ≡ true
+
+  behind_more : (items : List Item) (item : Item) (two last : Bool) → IsBehind items two last → (two && is_literal greater_than_sign item) ≡ false → IsBehind (items ++ item ∷ []) (last && is_literal right_bracket item) (is_literal right_bracket item)
+  behind_more items item two last f h =
+      let flags = flags_snoc items item s.two s.last in
+      record {
+        two = ap (λ b. b && is_literal right_bracket item) f.last ∙ ap (λ (p : Bool × Bool). p.0) (sym flags);
+        last = ap (λ (p : Bool × Bool). p.1) (sym flags);
+        sections = sections_snoc items item s.two s.last f.sections (ap (λ b. b && is_literal greater_than_sign item) (sym f.two) ∙ h);
+      }
+
   content_of : (token : Token) (run : List Entry) → (item_of inside token run).content ≡ inside
   content_of token [] = refl
   content_of token (e ∷ run) = refl
+
+  token_of : (token : Token) (run : List Entry) → (item_of inside token run).token ≡ token
+  token_of token [] = refl
+  token_of token (e ∷ run) = refl
+
+  -- text that is kept is no literal
+  kept_literal : (c : ℕ) (token : Token) (run : List Entry) → IsKept token → is_literal c (item_of inside token run) ≡ false
+  kept_literal c token run (is_kept text k) =
+      ap (λ i. is_strict_literal c i (item_of inside token run).token) (content_of token run) ∙ (ap (λ t. is_strict_literal c inside t) (token_of token run ∙ k) ∙ by inside)
+    where
+      by : (i : Content) → is_strict_literal c i (kept text) ≡ false
+      by content.Strict = refl
+      by content.Outside = refl
+      by content.Html = refl
+      by content.Foreign = refl
+      by (content.Raw name) = refl
+      by (content.Rcdata name) = refl
 
   -- one more byte
   module _ (bytes : List ℕ) (next : Scanning) (items : List Item) (t : Told bytes next items) (byte : ℕ) where
@@ -257,6 +303,9 @@ module _ (syntax : Syntax) (limits : Limits) (spot : Spot) (o : occurs syntax sp
           at = (let a = t.at in let z = size_more in omega arith);
           started = t.started;
           after_return = t.after_return;
+          two = t.two;
+          last = t.last;
+          sections = t.sections;
         })
 
     -- the last byte of a character
@@ -334,6 +383,9 @@ module _ (syntax : Syntax) (limits : Limits) (spot : Spot) (o : occurs syntax sp
             at = at_more;
             started = started_is;
             after_return = passed_return h;
+            two = t.two;
+            last = t.last;
+            sections = t.sections;
           })
 
       -- it is entered
@@ -355,8 +407,8 @@ module _ (syntax : Syntax) (limits : Limits) (spot : Spot) (o : occurs syntax sp
 
         -- these tokens, and this run is left
         with_run : (two last : Bool) (front run : List Entry) (others : List Item) → front ++ run ≡ t.front ++ (next.run ++ e ∷ []) → Spelled syntax front (next_of (values run) None) others → AllInside inside others → GoesOn syntax inside [] (values run)
-            → Told more (entering (c == carriage_return) run two last next) others
-        with_run two last front run others same sp i g =
+            → IsBehind others two last → Told more (entering (c == carriage_return) run two last next) others
+        with_run two last front run others same sp i g f =
             record {
               characters = chars;
               part = [];
@@ -373,26 +425,33 @@ module _ (syntax : Syntax) (limits : Limits) (spot : Spot) (o : occurs syntax sp
               at = at_more;
               started = started_is;
               after_return = return_is;
+              two = f.two;
+              last = f.last;
+              sections = f.sections;
             }
 
         on_goes : verdict syntax inside (values next.run) e.value ≡ goes_on → After (record { next = entering (c == carriage_return) (next.run ++ e ∷ []) next.two next.last next; items = [] })
         on_goes v =
             subst (λ xs. Told more (entering (c == carriage_return) (next.run ++ e ∷ []) next.two next.last next) xs) (sym (append-nil items))
             (with_run next.two next.last t.front (next.run ++ e ∷ []) items refl (subst (λ n. Spelled syntax t.front n items) (sym (values_next next.run e [] None)) (lifted e.value next.run t.spelled)) t.inside_is
-            (subst (λ x. GoesOn syntax inside [] x) (sym (values_append next.run (e ∷ []))) (goes_more syntax inside [] (values next.run) e.value t.goes v)))
+            (subst (λ x. GoesOn syntax inside [] x) (sym (values_append next.run (e ∷ []))) (goes_more syntax inside [] (values next.run) e.value t.goes v))
+            (record { two = t.two; last = t.last; sections = t.sections }))
 
-        on_whole : (token : Token) (two last : Bool) → verdict syntax inside (values next.run) e.value ≡ whole token → After (record { next = entering (c == carriage_return) [] two last next; items = item_of inside token (next.run ++ e ∷ []) ∷ [] })
-        on_whole token two last v =
+        on_whole : (token : Token) (two last : Bool) → verdict syntax inside (values next.run) e.value ≡ whole token → IsBehind (items ++ item_of inside token (next.run ++ e ∷ []) ∷ []) two last → After (record { next = entering (c == carriage_return) [] two last next; items = item_of inside token (next.run ++ e ∷ []) ∷ [] })
+        on_whole token two last v f =
             with_run two last (t.front ++ (next.run ++ e ∷ [])) [] (items ++ item_of inside token (next.run ++ e ∷ []) ∷ []) (append-nil (t.front ++ (next.run ++ e ∷ []))) (after_whole e t.front items next.run token t.spelled t.goes v)
-            (inside_more inside items (item_of inside token (next.run ++ e ∷ [])) t.inside_is (content_of token (next.run ++ e ∷ []))) tt
+            (inside_more inside items (item_of inside token (next.run ++ e ∷ [])) t.inside_is (content_of token (next.run ++ e ∷ []))) tt f
 
         reads_whole : (token : Token) → verdict syntax inside (values next.run) e.value ≡ whole token → Reads (completed syntax limits spot (c == carriage_return) (item_of inside token (next.run ++ e ∷ [])) next)
-        reads_whole token v = by (next.two && is_literal greater_than_sign (item_of inside token (next.run ++ e ∷ []))) (is_doctype (item_of inside token (next.run ++ e ∷ [])).token && not spot.leads)
+        reads_whole token v = by (next.two && is_literal greater_than_sign (item_of inside token (next.run ++ e ∷ []))) refl (is_doctype (item_of inside token (next.run ++ e ∷ [])).token && not spot.leads)
           where
-            by : (a b : Bool) → Reads (if a then Err StrictText else if b then Err BadDoctype else Ok (record { next = entering (c == carriage_return) [] (next.last && is_literal right_bracket (item_of inside token (next.run ++ e ∷ []))) (is_literal right_bracket (item_of inside token (next.run ++ e ∷ []))) next; items = (item_of inside token (next.run ++ e ∷ [])) ∷ [] }))
-            by true b = no_after StrictText
-            by false true = no_after BadDoctype
-            by false false = if_ok (record { next = entering (c == carriage_return) [] (next.last && is_literal right_bracket (item_of inside token (next.run ++ e ∷ []))) (is_literal right_bracket (item_of inside token (next.run ++ e ∷ []))) next; items = (item_of inside token (next.run ++ e ∷ [])) ∷ [] }) (on_whole token (next.last && is_literal right_bracket (item_of inside token (next.run ++ e ∷ []))) (is_literal right_bracket (item_of inside token (next.run ++ e ∷ []))) v)
+            by : (a : Bool) → (next.two && is_literal greater_than_sign (item_of inside token (next.run ++ e ∷ []))) ≡ a → (b : Bool)
+                → Reads (if a then Err StrictText else if b then Err BadDoctype else Ok (record { next = entering (c == carriage_return) [] (next.last && is_literal right_bracket (item_of inside token (next.run ++ e ∷ []))) (is_literal right_bracket (item_of inside token (next.run ++ e ∷ []))) next; items = (item_of inside token (next.run ++ e ∷ [])) ∷ [] }))
+            by true k b = no_after StrictText
+            by false k true = no_after BadDoctype
+            by false k false =
+                if_ok (record { next = entering (c == carriage_return) [] (next.last && is_literal right_bracket (item_of inside token (next.run ++ e ∷ []))) (is_literal right_bracket (item_of inside token (next.run ++ e ∷ []))) next; items = (item_of inside token (next.run ++ e ∷ [])) ∷ [] })
+                (on_whole token (next.last && is_literal right_bracket (item_of inside token (next.run ++ e ∷ []))) (is_literal right_bracket (item_of inside token (next.run ++ e ∷ []))) v (behind_more items (item_of inside token (next.run ++ e ∷ [])) next.two next.last (record { two = t.two; last = t.last; sections = t.sections }) k))
 
         -- a token ended before the entry
         module _ (token : Token) (v : verdict syntax inside (values next.run) e.value ≡ ended token) where
@@ -405,6 +464,15 @@ module _ (syntax : Syntax) (limits : Limits) (spot : Spot) (o : occurs syntax sp
           in_text : AllInside inside (items ++ text_item ∷ [])
           in_text = inside_more inside items text_item t.inside_is (content_of token next.run)
 
+          kept_is : IsKept token
+          kept_is = ended_kept syntax inside (values next.run) e.value token v
+
+          behind_text : IsBehind (items ++ text_item ∷ []) false false
+          behind_text =
+              let f = behind_more items text_item next.two next.last (record { two = t.two; last = t.last; sections = t.sections }) (ap (λ b. next.two && b) (kept_literal greater_than_sign token next.run kept_is) ∙ and_false next.two) in
+              let l = kept_literal right_bracket token next.run kept_is in
+              record { two = sym (ap (λ b. next.last && b) l ∙ and_false next.last) ∙ f.two; last = sym l ∙ f.last; sections = f.sections }
+
           abbrev cut : Scanning
           cut = after_token syntax limits spot next
 
@@ -412,7 +480,7 @@ module _ (syntax : Syntax) (limits : Limits) (spot : Spot) (o : occurs syntax sp
           reads_then : (w : Verdict) → verdict syntax inside [] e.value ≡ w → Reads (with_item syntax limits spot text_item (told_first syntax limits spot (c == carriage_return) e cut w))
           reads_then goes_on k =
               if_ok (record { next = entering (c == carriage_return) (e ∷ []) false false cut; items = text_item ∷ [] })
-              (with_run false false (t.front ++ next.run) (e ∷ []) (items ++ text_item ∷ []) (append_assoc t.front next.run (e ∷ [])) sp_text in_text (k, tt))
+              (with_run false false (t.front ++ next.run) (e ∷ []) (items ++ text_item ∷ []) (append_assoc t.front next.run (e ∷ [])) sp_text in_text (k, tt) behind_text)
           reads_then (whole other) k = by (false && is_literal greater_than_sign (item_of inside other (e ∷ []))) (is_doctype (item_of inside other (e ∷ [])).token && not spot.leads)
             where
               sp_both : Spelled syntax ((t.front ++ next.run) ++ e ∷ []) None ((items ++ text_item ∷ []) ++ (item_of inside other (e ∷ [])) ∷ [])
@@ -424,7 +492,7 @@ module _ (syntax : Syntax) (limits : Limits) (spot : Spot) (o : occurs syntax sp
               by false false =
                   if_ok (record { next = entering (c == carriage_return) [] (false && is_literal right_bracket (item_of inside other (e ∷ []))) (is_literal right_bracket (item_of inside other (e ∷ []))) cut; items = text_item ∷ (item_of inside other (e ∷ [])) ∷ [] })
                   (subst (λ xs. Told more (entering (c == carriage_return) [] (false && is_literal right_bracket (item_of inside other (e ∷ []))) (is_literal right_bracket (item_of inside other (e ∷ []))) cut) xs) (append_assoc items (text_item ∷ []) ((item_of inside other (e ∷ [])) ∷ []))
-                  (with_run (false && is_literal right_bracket (item_of inside other (e ∷ []))) (is_literal right_bracket (item_of inside other (e ∷ []))) ((t.front ++ next.run) ++ e ∷ []) [] ((items ++ text_item ∷ []) ++ (item_of inside other (e ∷ [])) ∷ []) (append-nil ((t.front ++ next.run) ++ e ∷ []) ∙ append_assoc t.front next.run (e ∷ [])) sp_both (inside_more inside (items ++ text_item ∷ []) (item_of inside other (e ∷ [])) in_text refl) tt))
+                  (with_run (false && is_literal right_bracket (item_of inside other (e ∷ []))) (is_literal right_bracket (item_of inside other (e ∷ []))) ((t.front ++ next.run) ++ e ∷ []) [] ((items ++ text_item ∷ []) ++ (item_of inside other (e ∷ [])) ∷ []) (append-nil ((t.front ++ next.run) ++ e ∷ []) ∙ append_assoc t.front next.run (e ∷ [])) sp_both (inside_more inside (items ++ text_item ∷ []) (item_of inside other (e ∷ [])) in_text refl) tt (behind_more (items ++ text_item ∷ []) (item_of inside other (e ∷ [])) false false behind_text refl)))
           reads_then (ended other) k = absurd (never_ended inside e.value other k)
           reads_then (refused kind) k = no_after kind
 
@@ -497,6 +565,9 @@ module _ (syntax : Syntax) (limits : Limits) (spot : Spot) (o : occurs syntax sp
         at = omega arith;
         started = or_false s.started;
         after_return = refl;
+        two = refl;
+        last = refl;
+        sections = refl;
       }
     where
       none : (b : Bool) → [] ≡ entries_at b s.after_return s.at []
@@ -524,6 +595,8 @@ module _ (syntax : Syntax) (limits : Limits) (spot : Spot) (o : occurs syntax sp
         no_nul = t.no_nul;
         spelled = t.spelled;
         inside_is = t.inside_is;
+        sections = t.sections;
+        two_is = t.two ∙ ap (λ (p : Bool × Bool). p.0) (same_flags scanned.items s.two s.last);
         pending = pending_of scanned.next.run t.goes;
         part_is = t.part_is;
         is_part = t.is_part;
@@ -653,6 +726,8 @@ module _ (syntax : Syntax) (limits : Limits) (spot : Spot) (o : occurs syntax sp
         no_nul = t.no_nul;
         spelled = t.spelled;
         inside_is = t.inside_is;
+        sections = t.sections;
+        two_is = t.two ∙ ap (λ (p : Bool × Bool). p.0) (same_flags scanned.items s.two s.last);
         pending = pending_of scanned.next.run t.goes;
         part_is = t.part_is;
         is_part = t.is_part;

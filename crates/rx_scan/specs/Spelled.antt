@@ -1,8 +1,8 @@
 -- What the bytes spell that a scanner takes, and why it refuses one, by the grammar alone: in whatever content of the syntax it was set.
-use Rattle.std.specs.Prelude.{◌≡◌, ◌≤◌, ◌+◌, ◌==◌, ℕ, Bool, true, false, List, [], ◌∷◌, ◌++◌, length, take, encode_utf8_all, Result, Ok, Err, Some, None, if◌then◌else◌}
+use Rattle.std.specs.Prelude.{◌≡◌, ◌≤◌, ◌+◌, ◌==◌, ◌&&◌, ℕ, Bool, true, false, List, [], ◌∷◌, ◌++◌, length, take, encode_utf8_all, Result, Ok, Err, Some, None, if◌then◌else◌}
 use Rattle.std.specs.Char.{len_utf8}
 use Rattle.std.specs.Str.{all_scalars}
-use Rattle.rx_terms.specs.Ascii.{greater_than_sign}
+use Rattle.rx_terms.specs.Ascii.{greater_than_sign, right_bracket}
 use Rattle.rx_terms.specs.Text.{Chars}
 use Rattle.rx_chars.specs.Characters.{Entry, byte_order_mark, as_line_end, placed, entered}
 use Rattle.rx_chars.specs.Utf8.{IsCharacter, BeginNone}
@@ -15,7 +15,7 @@ use Rattle.rx_grammar.specs.declared.faults.Kind.TheVariants as kind
 use Rattle.rx_grammar.specs.Tokens.{Token, doctype}
 use Rattle.rx_grammar.specs.Spelling as grammar
 use Rattle.rx_grammar.specs.Begun.{Line, Phase}
-use Rattle.rx_grammar.specs.Items.{values, next_of, Item, Spelled, is_strict_literal}
+use Rattle.rx_grammar.specs.Items.{values, next_of, Item, Spelled, is_literal, is_strict_literal, no_section_end}
 use Rattle.rx_grammar.specs.Pages.{has_no_nul}
 use Rattle.rx_grammar.specs.PageFaults.{IsPending, IsPart, Faulty, is_known_tag}
 use Rattle.rx_pages.specs.PageReader.{Spot, Scanning, Scanned, token_at, scan_from}
@@ -37,6 +37,11 @@ abbrev pub AllInside : Content → List Item → Type 0
 AllInside inside [] = Unit {0}
 AllInside inside (item ∷ items) = (item.content ≡ inside) × AllInside inside items
 
+-- whether the two tokens before are literal `]` of text in XHTML, and whether the last one is
+abbrev pub brackets_behind : List Item → Bool → Bool → Bool × Bool
+brackets_behind [] two last = (two, last)
+brackets_behind (item ∷ items) two last = brackets_behind items (last && is_literal right_bracket item) (is_literal right_bracket item)
+
 -- The bytes from this state on are whole characters, none of them U+0000, and a part of one. These spell the tokens in this content, and what is
 -- left of them begins one.
 pub record Spells (syntax : Syntax) (inside : Content) (s : Scanning) (bytes : List ℕ) (scanned : Scanned) : Type 0 where
@@ -49,6 +54,8 @@ pub record Spells (syntax : Syntax) (inside : Content) (s : Scanning) (bytes : L
   pub no_nul : has_no_nul (front ++ scanned.next.run) ≡ true
   pub spelled : Spelled syntax front (next_of (values scanned.next.run) None) scanned.items
   pub inside_is : AllInside inside scanned.items
+  pub sections : no_section_end scanned.items s.two s.last ≡ true
+  pub two_is : scanned.next.two ≡ (brackets_behind scanned.items s.two s.last).0
   pub pending : IsPending syntax inside (values scanned.next.run)
   pub part_is : scanned.next.held ≡ part
   pub is_part : IsPart part
