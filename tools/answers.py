@@ -1,4 +1,4 @@
-"""What ./test-memory and ./test-files share: the built program, what it answers, and the library that refuses its calls."""
+"""What ./test-memory, ./test-files and ./test-embed share: the built program, what it answers, and the library that refuses its calls."""
 
 import os
 import subprocess

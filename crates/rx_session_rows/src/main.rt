@@ -2,7 +2,7 @@
 //! in pieces, and what comes of it, which must be what `stdout` has.
 #![tactic(auto)]
 
-use rx_session::{OpenError, Session, name_of, open_check, open_extraction, open_items};
+use rx_session::{Fault, OpenError, Session, name_of, open_check, open_extraction, open_items};
 use std::alloc::Global;
 use std::io;
 use std::process::ExitCode;
@@ -11,6 +11,10 @@ const ADDRESS: &[u8] = b"http://h.example/d";
 
 const PAGE: &[u8] =
     b"<html><body itemscope about='#s'><p property='e:p' itemprop=n>Hi</p></body></html>";
+
+const STRICT_PAGE: &[u8] = b"<html><p about='#s' property='e:p'>Ho</p></html>";
+
+const GRAPH: &[u8] = b"http://h.example/g";
 
 const NAMES: &[u8] = b"{\"prefixes\":{\"e\":\"http://v.example/\"}}";
 
@@ -26,51 +30,62 @@ fn read(alloc: Global, opened: Result<Session, OpenError>, page: &[u8]) -> Optio
     Some(session)
 }
 
-/// Prints the text or the fault.
-fn tell(rt: &HostRuntime, session: Option<Session>) -> io::Result<()> {
-    let Some(session) = session else {
-        return println!(rt; "none");
-    };
-    if let Some(fault) = session.fault() {
-        let kind = name_of(fault.kind);
-        let at = fault.at;
-        return println!(rt; "{kind} at byte {at}");
-    }
-    match str::from_utf8(session.text()) {
+fn print_fault(rt: &HostRuntime, fault: Fault) -> io::Result<()> {
+    let kind = name_of(fault.kind);
+    let at = fault.at;
+    println!(rt; "{kind} at byte {at}")
+}
+
+fn print_text(rt: &HostRuntime, text: &[u8]) -> io::Result<()> {
+    match str::from_utf8(text) {
         Ok(text) => print!(rt; "{text}"),
-        Err(_) => println!(rt; "no text"),
+        Err(_) => print_none(rt),
     }
 }
 
-fn tell_all(rt: &HostRuntime) -> io::Result<()> {
+fn print_none(rt: &HostRuntime) -> io::Result<()> {
+    println!(rt; "none")
+}
+
+/// Prints the text or the fault.
+fn print_session(rt: &HostRuntime, session: &Session) -> io::Result<()> {
+    match session.fault() {
+        Some(fault) => print_fault(rt, fault),
+        None => print_text(rt, session.text()),
+    }
+}
+
+/// Hands the page over, and prints what comes of it.
+fn tell(rt: &HostRuntime, opened: Result<Session, OpenError>, page: &[u8]) -> io::Result<()> {
+    let Some(session) = read(rt.alloc(), opened, page) else {
+        return print_none(rt);
+    };
+    let told = print_session(rt, &session);
+    drop(session);
+    told
+}
+
+fn tell_triples(rt: &HostRuntime) -> io::Result<()> {
     let alloc = rt.alloc();
     for format in 0..5 {
         let opened = open_extraction(alloc, 0, format, ADDRESS, None, Some(NAMES));
-        tell(rt, read(alloc, opened, PAGE))?;
+        tell(rt, opened, PAGE)?;
     }
-    let named = open_extraction(
-        alloc,
-        1,
-        0,
-        ADDRESS,
-        Some(b"http://h.example/g"),
-        Some(NAMES),
-    );
-    tell(
-        rt,
-        read(
-            alloc,
-            named,
-            b"<html><p about='#s' property='e:p'>Ho</p></html>",
-        ),
-    )?;
-    tell(rt, read(alloc, open_items(alloc, 0, ADDRESS), PAGE))?;
-    tell(rt, read(alloc, open_check(alloc, 0, None), PAGE))?;
-    tell(rt, read(alloc, open_check(alloc, 0, Some(b"[]")), PAGE))?;
-    tell(
-        rt,
-        read(alloc, open_check(alloc, 0, None), b"<html></p></html>"),
-    )
+    let named = open_extraction(alloc, 1, 0, ADDRESS, Some(GRAPH), Some(NAMES));
+    tell(rt, named, STRICT_PAGE)
+}
+
+fn tell_others(rt: &HostRuntime) -> io::Result<()> {
+    let alloc = rt.alloc();
+    tell(rt, open_items(alloc, 0, ADDRESS), PAGE)?;
+    tell(rt, open_check(alloc, 0, None), PAGE)?;
+    tell(rt, open_check(alloc, 0, Some(b"[]")), PAGE)?;
+    tell(rt, open_check(alloc, 0, None), b"<html></p></html>")
+}
+
+fn tell_all(rt: &HostRuntime) -> io::Result<()> {
+    tell_triples(rt)?;
+    tell_others(rt)
 }
 
 fn main(rt: HostRuntime) -> ExitCode {
