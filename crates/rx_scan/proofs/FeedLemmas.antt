@@ -84,7 +84,7 @@ module _ (l new : Reading) (b : ℕ) (t : FeedsFront l (b ∷ []) new) where
       (subst (λ (a : Utf8Step). entries.ReadsAnswer l (b ∷ []) a (Ok what.Nothing) new) (first_whole b (let k = leb-true b 126 (and_parts (nat_le 32 b) (nat_le b 126) printed).1 in omega arith)) as_char))
 
 -- behind the first one
-abbrev middle : Reading → TagState → Reading
+abbrev pub middle : Reading → TagState → Reading
 middle l state = entries.with_parts l l.setting (fed 1 l.place) (record { mark = l.pending.mark; run = l.pending.run; tag = with_state l.pending.tag state }) l.text
 
 fed_on : (m n : ℕ) (p : Place) → m ≡ n + 1 → fed m p ≡ fed n (fed 1 p)
@@ -93,7 +93,7 @@ fed_on m n p q =
     λ i. record { at = e i; starts = e i; token = p.token; started = true; after_return = false; two = p.two; last = p.last }
 
 module _ (l new : Reading) (b d : ℕ) (front : List ℕ) (t : FeedsFront l (b ∷ d ∷ front) new) where
-  first_feeds : FeedsFront l (b ∷ []) (middle l t.goes.0)
+  pub first_feeds : FeedsFront l (b ∷ []) (middle l t.goes.0)
   first_feeds =
       record {
         in_tag = t.in_tag;
@@ -106,7 +106,7 @@ module _ (l new : Reading) (b d : ℕ) (front : List ℕ) (t : FeedsFront l (b �
         is = refl;
       }
 
-  rest_feeds : FeedsFront (middle l t.goes.0) (d ∷ front) new
+  pub rest_feeds : FeedsFront (middle l t.goes.0) (d ∷ front) new
   rest_feeds =
       record {
         in_tag = t.in_tag;

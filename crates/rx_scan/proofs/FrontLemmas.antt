@@ -10,13 +10,15 @@ use Rattle.rx_marks.specs.declared.marks.Mark.TheVariants as mark
 use Rattle.rx_pages.specs.PageReader as reader
 use Rattle.rx_tags.specs.TagBufs.{MayStep}
 use Rattle.rx_scan.specs.Entries as entries
-use Rattle.rx_scan.specs.Fronts.{TellsFront, TakesFront, of_text, of_tag}
+use Rattle.rx_scan.specs.Fronts.{TellsFront}
+use Rattle.rx_scan.specs.Openings.{TakesFront, of_text, of_tag, of_opening, in_tag}
 use Rattle.rx_scan.specs.Places.{said}
 use Rattle.rx_scan.specs.Plain.{is_plain}
 use Rattle.rx_scan.specs.Scanner.{Reading}
 use Rattle.rx_scan.specs.Steps.{ReadsAs}
 use Rattle.rx_scan.proofs.ByteLemmas.{match_by}
 use Rattle.rx_scan.proofs.FeedLemmas.{feed_on, feeds_steps}
+use Rattle.rx_scan.proofs.OpenLemmas.{open_on}
 use Rattle.rx_scan.proofs.PlainLemmas.{chars_plain}
 use Rattle.rx_scan.proofs.RunLemmas.{ReadsOn, reads_none}
 use Rattle.rx_scan.proofs.SaidLemmas.{TellsChars, chars_on}
@@ -55,6 +57,8 @@ module _ (old new : Reading) (s : reader.Scanning) where
   some_front front l bytes k r (of_text t) = text_on front l bytes k r t
   some_front [] l bytes k r (of_tag t) = absurd (omega arith)
   some_front (b ∷ front) l bytes k r (of_tag t) = feed_on old new s b front l bytes r t
+  some_front [] l bytes k r (of_opening t) = absurd (omega arith)
+  some_front (b ∷ front) l bytes k r (of_opening t) = open_on old new s b front l bytes r t
 
   -- what is taken at once behind so many bytes of a piece
   pub front_read : (l : Reading) (piece : List ℕ) (i n : ℕ) → n ≤ length (drop i piece) → ReadsOn old s (take i piece) l → MatchBool (n == 0) (new ≡ l) (TakesFront l (take n (drop i piece)) new) → ReadsOn old s (take (i + n) piece) new
@@ -68,7 +72,7 @@ module _ (old new : Reading) (s : reader.Scanning) where
 
 -- what it leaves as it was
 pub record IsKept (l : Reading) (n : ℕ) (new : Reading) : Type 0 where
-  pub mark_same : new.pending.mark ≡ l.pending.mark
+  pub between : l.pending.mark ≡ mark.Nothing → new.pending.mark ≡ mark.Nothing
   pub steps : MayStep l.pending.tag → MayStep new.pending.tag
   pub apart : (new.text.text ≡ l.text.text) ⊎ (l.pending.mark ≡ mark.Nothing)
   pub none : n ≡ 0 → new.text.text ≡ l.text.text
@@ -77,7 +81,7 @@ pub kept : (l new : Reading) (front : List ℕ) (n : ℕ) → MatchBool (n == 0)
 kept l new front n m =
     match_by (n == 0) _ _ m
     (λ z e. record {
-      mark_same = ap (λ (x : Reading). x.pending.mark) e;
+      between = λ m. ap (λ (x : Reading). x.pending.mark) e ∙ m;
       steps = λ k. subst (λ (x : Reading). MayStep x.pending.tag) (sym e) k;
       apart = inl (ap (λ (x : Reading). x.text.text) e);
       none = λ q. ap (λ (x : Reading). x.text.text) e;
@@ -86,24 +90,30 @@ kept l new front n m =
   where
     by : (n == 0) ≡ false → TakesFront l front new → IsKept l n new
     by z (of_text t) = record {
-      mark_same = ap (λ (x : Reading). x.pending.mark) t.is;
+      between = λ m. ap (λ (x : Reading). x.pending.mark) t.is ∙ m;
       steps = λ k. subst (λ (x : Reading). MayStep x.pending.tag) (sym t.is) k;
       apart = inr t.may.between;
       none = λ q. absurd (eqb-false n 0 z q);
     }
     by z (of_tag t) = record {
-      mark_same = ap (λ (x : Reading). x.pending.mark) t.is;
+      between = λ m. ap (λ (x : Reading). x.pending.mark) t.is ∙ m;
       steps = λ k. feeds_steps l new front t k;
       apart = inl (ap (λ (x : Reading). x.text.text) t.is);
+      none = λ q. absurd (eqb-false n 0 z q);
+    }
+    by z (of_opening t) = record {
+      between = λ m. absurd (let e = sym t.opened ∙ m in cc);
+      steps = λ k. feeds_steps (in_tag l) new front t.feeds k;
+      apart = inl (ap (λ (x : Reading). x.text.text) t.feeds.is);
       none = λ q. absurd (eqb-false n 0 z q);
     }
 
 module _ (l new : Reading) (n : ℕ) (k : IsKept l n new) where
   pub quiet_on : l.pending.mark ≡ mark.Nothing → new.pending.mark ≡ mark.Nothing
-  quiet_on m = k.mark_same ∙ m
+  quiet_on m = k.between m
 
   pub apart_on : (l.text.text ≡ []) ⊎ (l.pending.mark ≡ mark.Nothing) → (new.text.text ≡ []) ⊎ (new.pending.mark ≡ mark.Nothing)
-  apart_on o = elim k.apart [ inl e ↦ elim o [ inl x ↦ inl (e ∙ x) | inr m ↦ inr (k.mark_same ∙ m) ] | inr m ↦ inr (k.mark_same ∙ m) ]
+  apart_on o = elim k.apart [ inl e ↦ elim o [ inl x ↦ inl (e ∙ x) | inr m ↦ inr (k.between m) ] | inr m ↦ inr (k.between m) ]
 
   pub later_on : (i : ℕ) → ((l.text.text ≡ [] → ⊥) → 0 < i) → (new.text.text ≡ [] → ⊥) → 0 < i + n
   later_on i h x = elim (cases_lt 0 n) [ inl a ↦ omega (arith, a) | inr b ↦ let p = h (λ z. x (k.none (omega (arith, b)) ∙ z)) in omega (arith, p) ]

@@ -14,7 +14,7 @@ pub mod StandLemmas
 pub mod RunLemmas
 pub mod QuietLemmas
 pub mod FeedLemmas
-pub mod LaneLemmas
+pub mod OpenLemmas
 pub mod PlainLemmas
 pub mod SaidLemmas
 pub mod FrontLemmas

@@ -57,8 +57,3 @@ pub record FeedsFront (old : Reading) (front : List ℕ) (new : Reading) : Type 
   pub state : TagState
   pub goes : GoesBy old.pending.tag.syntax old.pending.tag.state front state
   pub is : new ≡ with_parts old old.setting (fed (length front) old.place) (record { mark = old.pending.mark; run = old.pending.run; tag = with_state old.pending.tag state }) old.text
-
--- They are taken: they are told, or the tag goes on with them.
-pub data TakesFront (old : Reading) (front : List ℕ) (new : Reading) : Type 0 where
-  of_text : TellsFront old front new → TakesFront old front new
-  of_tag : FeedsFront old front new → TakesFront old front new

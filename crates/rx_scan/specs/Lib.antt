@@ -5,5 +5,6 @@ pub mod Scanner
 pub mod Bytes
 pub mod Entries
 pub mod Fronts
+pub mod Openings
 pub mod Steps
 pub mod Spelled

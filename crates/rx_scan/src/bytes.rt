@@ -37,8 +37,8 @@ fn is_mark(c: char) -> What
     }
 }
 
-// Whether a character that is printed surely belongs to a tag.
-fn is_of_tag(mark: Mark, c: char) -> bool
+/// Whether a character that is printed surely belongs to a tag.
+pub(crate) fn is_of_tag(mark: Mark, c: char) -> bool
     ensures { result ≡ true → (setting : Setting) → bytes.IsOfTag setting mark c }
 {
     if matches!(mark, Mark::Tag) {

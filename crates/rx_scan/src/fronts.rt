@@ -1,8 +1,11 @@
 //! Plain text at the front of some bytes, and characters of a tag, which are taken at once.
 ghost use Rattle.std.specs.Prelude.{◌≡◌, ◌+◌, ◌<◌, ◌≤◌, ◌^◌, true, ◌==◌, MatchBool, length, take};
 ghost use Rattle.rx_tags.specs.TagBufs.{MayStep};
-ghost use Rattle.rx_scan.specs.Fronts.{FeedsFront, IsFront, TakesFront, TellsFront, TellsPlain, has_text};
+ghost use Rattle.rx_scan.specs.Fronts.{FeedsFront, IsFront, TellsFront, TellsPlain, has_text};
+ghost use Rattle.rx_scan.specs.Openings.{OpensFront, OpensTag, TakesFront};
+ghost use Rattle.rx_scan.specs.declared.places.Setting.{Setting};
 
+use crate::bytes::is_of_tag;
 use crate::plain::plain_text;
 use crate::readers::Reader;
 use crate::runs::ROOM;
@@ -36,6 +39,16 @@ fn left_of(most: u64, taken: u64) -> u64
     most.saturating_sub(taken)
 }
 
+// Whether the first byte behind a `<` surely begins a tag.
+fn opens_tag(bytes: &[u8]) -> bool
+    ensures { result ≡ true → (setting : Setting) → OpensTag setting bytes.now }
+{
+    match bytes.first() {
+        Some(byte) => is_of_tag(Mark::LessThan, char::from(*byte)),
+        None => false,
+    }
+}
+
 impl Reader {
     /// Takes the characters at the front that may be taken at once, of text as far as it has room or of a tag, and tells
     /// how many bytes they have.
@@ -50,8 +63,9 @@ impl Reader {
         ensures takes { MatchBool (result == 0) (self.new ≡ self.old) (TakesFront self.old (take result bytes.now) self.new) }
     {
         match self.pending.mark() {
-            Mark::Nothing => self.say_front(bytes),
+            Mark::Nothing => self.tell_front(bytes),
             Mark::Tag => self.feed_front(bytes),
+            Mark::LessThan => self.open_front(bytes),
             _ => 0,
         }
     }
@@ -90,6 +104,27 @@ impl Reader {
         count
     }
 
+    // Takes the characters at the front with which a tag begins behind its `<`, and tells how many.
+    #[inline(always)]
+    fn open_front(&mut self, bytes: &[u8]) -> usize
+        requires opened { self.old.pending.mark ≡ Mark.LessThan }
+        requires may_step { MayStep self.old.pending.tag }
+        ensures fits { result ≤ length bytes.now }
+        ensures text { self.new.text ≡ self.old.text }
+        ensures opens { MatchBool (result == 0) (self.new ≡ self.old) (OpensFront self.old (take result bytes.now) self.new) }
+    {
+        if !opens_tag(bytes) {
+            return 0;
+        }
+        self.pending.turn(Mark::Tag);
+        let count = self.feed_front(bytes);
+        if count == 0 {
+            self.pending.turn(Mark::LessThan);
+            return 0;
+        }
+        count
+    }
+
     // How many bytes of text have room, and aren't past the page's limit.
     fn front_limit(&self, length: usize) -> usize
         requires { self.now.text.size + 4 ≤ ROOM }
@@ -117,7 +152,7 @@ impl Reader {
         has_text(self.setting.inside)
     }
 
-    // The text at the front that is told at once. Where a tag comes next, which is often, nothing else is looked at.
+    // The text at the front that is told at once.
     fn front<'a>(&self, bytes: &'a [u8]) -> &'a str
         requires between { self.now.pending.mark ≡ Mark.Nothing }
         requires size { self.now.text.size + 4 ≤ ROOM }
@@ -126,13 +161,27 @@ impl Reader {
         ensures may { 0 < length result.now → IsFront self.now result.now }
         ensures place { 0 < length result.now → self.now.place.at + length result.now < 2 ^ 64 }
     {
-        if matches!(bytes.first(), None | Some(b'<')) {
-            return "";
-        }
         if !self.tells_plain() {
             return "";
         }
         plain_text(&bytes[..self.front_limit(bytes.len())])
+    }
+
+    // Takes the plain text at the front. Where a tag comes next, which is often, nothing else is looked at.
+    #[inline(always)]
+    fn tell_front(&mut self, bytes: &[u8]) -> usize
+        requires between { self.old.pending.mark ≡ Mark.Nothing }
+        requires size { self.old.text.size + 4 ≤ ROOM }
+        requires room { ROOM ≤ self.old.text.room }
+        ensures fits { result ≤ length bytes.now }
+        ensures size { self.new.text.size + 4 ≤ ROOM }
+        ensures room { ROOM ≤ self.new.text.room }
+        ensures says { MatchBool (result == 0) (self.new ≡ self.old) (TellsFront self.old (take result bytes.now) self.new) }
+    {
+        if matches!(bytes.first(), None | Some(b'<')) {
+            return 0;
+        }
+        self.say_front(bytes)
     }
 
     // Takes the plain text at the front, as far as it has room, and tells how many bytes it has.

@@ -162,12 +162,16 @@ impl TagText {
         taken
     }
 
-    // What stands at the front with what ends it, or one character.
+    // What stands at the front with what ends it, or one character. At a `>`, which mostly ends the tag, nothing else is
+    // looked at.
     fn take_some(&mut self, bytes: &[u8]) -> usize
         requires { 0 < length bytes.now }
         ensures takes { TakesFront self.old.syntax self.old.state bytes.now result self.new.state }
         ensures syntax { self.new.syntax ≡ self.old.syntax }
     {
+        if bytes[0] == b'>' {
+            return 0;
+        }
         let count = self.take_run(bytes);
         if count > 0 {
             return count;

@@ -1,6 +1,6 @@
 use Rattle.std.proofs.Common.{arith}
 use Rattle.rx_scan.specs.Plain.{is_stop}
-use Rattle.rx_scan.proofs.LaneLemmas.{run_fits, run_stops, run_through}
+use Rattle.rx_tags.proofs.LaneLemmas.{run_fits, run_stops, run_through}
 use Rattle.rx_scan.proofs.plain.plain_length.Goals as goal
 
 pub returns-then-found-ne0-clause-fits : goal.returns-then-found-ne0-clause-fits

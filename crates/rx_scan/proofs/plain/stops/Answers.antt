@@ -1,7 +1,7 @@
 use Rattle.std.proofs.Common.{refl, arith}
 use Rattle.std.proofs.lemmas.Simd.{zip2_splat}
 use Rattle.rx_scan.specs.Plain.{is_stop}
-use Rattle.rx_scan.proofs.LaneLemmas.{hit, either, masked}
+use Rattle.rx_tags.proofs.LaneLemmas.{hit, either, masked}
 use Rattle.rx_scan.proofs.plain.stops.Goals as goal
 
 pub returns : goal.returns
