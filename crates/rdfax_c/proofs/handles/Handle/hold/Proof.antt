@@ -6,7 +6,7 @@ use base.Fml.{ftrue}
 use prog.Wp.{WpFn}
 use mir.Val.{Val, vptr}
 use contract.Running.{tables}
-use types.Kit.{‵, raw, ◌⊛◌, ◌$◌, ◌∵◌, !, qed, done, drop, move, keep, use1, split, fsplit, join, feq_i, suffices}
+use types.Kit.{‵, raw, ◌⊛◌, ◌$◌, ◌∵◌, !, qed, done, drop, move, keep, use1, split, fsplit, fpack, join, feq_i, suffices}
 use types.Part.{whole, sub, agg}
 use types.Run.{stop, fld, of_opd, no_more, and_then, returns, enter}
 use types.ByLocal.{alloc_all, pass_all, free_all, look_at, get, get_in, sets}
@@ -21,7 +21,7 @@ use Rattle.std.specs.contracts.alloc.Global as global
 use Rattle.std.proofs.alloc.Global.TheLaws as global_laws
 use Rattle.std.specs.contracts.impls.GlobalAllocator.TheImpl.{ghosts}
 use Rattle.rx_session.specs.contracts.sessions.Session as session
-use Rattle.rdfax_c.specs.Held.{held}
+use Rattle.rdfax_c.specs.Held.{boxed}
 use Rattle.rdfax_c.proofs.Values.{both, Loose, loose_good, loose_out}
 use Rattle.rdfax_c.proofs.HandleSteps.{Handle, word, handle_good, handle_in}
 use Rattle.rdfax_c.specs.contracts.handles.Handle.hold as f
@@ -44,7 +44,7 @@ hold_spec 𝓤 𝓛 𝓜 𝓡 wired =
     let made : Handle.Denot = record { at = block_ptr b o; session = Some v.value } in
     -- [what the box owns; the allocator; nothing; nothing]
     move ! (1 ∷ []) $ drop ! $ move ! (1 ∷ []) $ drop ! $ move ! (1 ∷ []) $ drop ! $
-    use1 𝓛 (‵ (held (block_ptr b o) (Some v.value))) (id⊢ 𝓤 _) $ handle_in ! made $
+    use1 𝓛 (‵ (boxed (block_ptr b o) v.value v.alloc)) (id⊢ 𝓤 _) $ fpack ! global.the_row.Denot (boxed (block_ptr b o) v.value) v.alloc $ handle_in ! made $
     suffices ! (Run (both (vptr b o) h ∷ [])) (subst (λ (us : List Val). ent 𝓤 (Run (both (vptr b o) h ∷ [])) (Run us)) (sym (λ i. ws i ++ [])) (id⊢ 𝓤 (Run (both (vptr b o) h ∷ [])))) $
     enter ! 𝓣.C 𝓣.Λ fn (both (vptr b o) h ∷ []) Post $ alloc_all ! (λ l. pass_all ! refl (loose_good session.the_row global.the_row global_laws.the_row_laws ghosts b o h fits, tt) $
     sets ! (of_opd ! (get_in ! (fld ! refl (stop !)) (sub ! 0 refl (whole !)))) refl (tt, tt) $ sets ! (of_opd ! (get_in ! (fld ! refl (stop !)) (sub ! 1 refl (whole !)))) refl fits $

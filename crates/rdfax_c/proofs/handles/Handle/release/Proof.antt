@@ -9,7 +9,7 @@ use mir.Val.{Val, vptr}
 use types.Logic.{sem}
 use contract.Monad.{fact}
 use contract.Running.{tables}
-use types.Kit.{‵, raw, ◌⊛◌, ◌$◌, ◌∵◌, !, qed, done, drop, move, keep, use1, split, fsplit, join, feq_i, rewrite, suffices}
+use types.Kit.{‵, raw, ◌⊛◌, ◌$◌, ◌∵◌, !, qed, done, drop, move, keep, use1, split, fsplit, fpick, join, feq_i, rewrite, suffices}
 use types.Part.{whole, sub, agg}
 use types.Run.{stop, fld, of_opd, no_more, and_then, returns, enter}
 use types.ByLocal.{alloc_all, pass_all, free_all, look_at, get, get_in, sets}
@@ -25,11 +25,9 @@ use Rattle.std.proofs.alloc.Calls.{Al, Goes-blank, handle_tells}
 use Rattle.std.specs.contracts.alloc.Global as global
 use Rattle.std.proofs.alloc.Global.TheLaws as global_laws
 use Rattle.std.specs.contracts.impls.GlobalAllocator.TheImpl.{ghosts}
-use Rattle.std.specs.Box.Ownership.{box_owns}
-use Rattle.libc.specs.Heap.{chunk}
 use Rattle.rx_session.specs.contracts.sessions.Session as session
 use Rattle.rx_session.specs.declared.sessions.State.{State}
-use Rattle.rdfax_c.specs.Held.{held}
+use Rattle.rdfax_c.specs.Held.{boxed, held}
 use Rattle.rdfax_c.proofs.Values.{both, Loose, loose_good, loose_in}
 use Rattle.rdfax_c.proofs.HandleSteps.{Handle, word, pointer_good, handle_good, handle_out}
 use Rattle.rdfax_c.specs.contracts.handles.Handle.release as f
@@ -58,8 +56,8 @@ release_spec 𝓤 𝓛 𝓜 𝓡 wired =
     qed 𝓛 ((‵ ftrue ⊛ ‵ (owns (types_at f.ended.signature.params κs) z.0.3 z.0.4)) ∷ raw (fact 𝓤 (is_some v.session ≡ true)) ∷ []) ∵ move ! (1 ∷ []) $ heard ! _ (λ some.
     let one = holds_one v.session some in
     split ! $ drop ! $ fsplit ! $ handle_out ! v z.0.4.0 (λ ws.
-    rewrite ! 0 (λ (x : Option State). ‵ (held v.at x)) one.1 refl $
-    in_a_block ! v.at (λ p. box_owns chunk session.the_row p one.0) (fst∗ 𝓤 (never 𝓤) (sem 𝓛 (chunk (bare (lone session.the_row.mir)) null_ptr))) (λ b o e.
+    rewrite ! 0 (λ (x : Option State). ‵ (held v.at x)) one.1 refl $ fpick ! (λ heap.
+    in_a_block ! v.at (λ p. boxed p one.0 heap) (fst∗ 𝓤 (never 𝓤) (sem 𝓛 (ghosts.dealloc_token heap (bare (lone session.the_row.mir)) null_ptr))) (λ b o e.
     move ! (1 ∷ []) $ fsplit ! $ handle_tells al ! a z.0.4.1.0 (λ h ea fits.
     -- [the allocator; nothing; what the box owns]
     let made : L.Denot = record { at = block_ptr b o; alloc = a; value = one.0 } in
@@ -71,4 +69,4 @@ release_spec 𝓤 𝓛 𝓜 𝓡 wired =
     sets ! (agg ! (and_then ! (get ! refl) (and_then ! (get ! refl) (no_more !)))) refl (loose_good session.the_row global.the_row global_laws.the_row_laws ghosts b o h fits) $
     returns ! (look_at ! 0 refl) $ free_all ! refl $
     suffices ! _ (ends_at 𝓛 f.ended stayed c z (both (vptr b o) h) made (tt, (tt, tt)) (tt, (tt, tt))) $ says ! (sym one.1) $
-    move ! (0 ∷ []) $ nothing ! $ nothing ! $ join ! $ nothing ! $ join ! $ nothing ! $ done !))))))
+    move ! (0 ∷ []) $ nothing ! $ nothing ! $ join ! $ nothing ! $ join ! $ nothing ! $ done !)))))))
