@@ -10,7 +10,7 @@ use Rattle.rx_model.specs.Terms.{Kind, Plain, Tagged, Typed, Triple, set_of}
 use Rattle.rx_model.specs.Numbered.{Renamed}
 use Rattle.rx_notation.proofs.Renamings.{renamed_across}
 use Rattle.rx_jsonld.specs.Document.{Item, Reference, Value, Single, Several, Entry, Id, Types, Says, Document, SpellsEach, SpellsArray, SpellsText, SpellsItem, SpellsObject, SpellsValue, SpellsEntry, SpellsEntries, SpellsNode, AreTwo, one, SpellsOne}
-use Rattle.rx_jsonld.specs.Meaning.{all_triples, Name, Label, Place, DenotesOne}
+use Rattle.rx_jsonld.specs.Meaning.{named_triples, DenotesOne}
 
 -- ---- arrays
 
@@ -179,9 +179,6 @@ node_once value a b h g =
 
 pub spells_one : SpellsOne
 spells_one value xs ys h g = array_once SpellsNode node_once value xs ys h g
-
-abbrev named_triples : Document → List (Triple Name)
-named_triples d = all_triples Label Place d 0
 
 pub denotes_one : DenotesOne
 denotes_one value xs ys h g =

@@ -100,12 +100,16 @@ pub data Name : Type 0 where
   Label : Chars → Name
   Place : ℕ → Name
 
+-- the triples of a document, its blank nodes under their labels and places in it
+abbrev pub named_triples : Document → List (Triple Name)
+named_triples nodes = all_triples Label Place nodes 0
+
 -- The value denotes the graph: it is that of a document, and the graph is the document's triples with their blank nodes
 -- renamed one to one.
 pub record JsonLd (value : Data) (graph : List (Triple ℕ)) : Type 0 where
   pub document : Document
   pub spells : Spells value document
-  pub renamed : Renamed (set_of (all_triples Label Place document 0)) (set_of graph)
+  pub renamed : Renamed (set_of (named_triples document)) (set_of graph)
 
 -- law: two graphs that one value denotes differ in the names of blank nodes alone
 abbrev pub DenotesOne : Type 0
