@@ -39,7 +39,7 @@ use Rattle.rx_eval.specs.Standing.{Layer, frames_in, path_in, paths_in, own_in, 
 use Rattle.rx_eval.proofs.NameLemmas.{grown_same, grown_then, triples_later, slots_later, inherited_later, same_names}
 use Rattle.rx_eval.proofs.NumberLemmas.{at_new, at_other, grown_with, numbers_with, Drew, drew}
 use Rattle.rx_eval.proofs.OtherLemmas.{makes_new}
-use Rattle.rx_eval.proofs.ElementLemmas.{Meets, ends_are, resources_meet, below_meets, start_meets, end_meets, value_meets, entries_meet}
+use Rattle.rx_eval.proofs.ElementLemmas.{Meets, ends_are, resources_meet, below_meets, start_meets, end_meets, value_meets, gathers_meet, entries_meet}
 use Rattle.rx_eval.proofs.ListLemmas.{Puts, Match, Merged, merged}
 use Rattle.rx_eval.proofs.FillLemmas.{waits_both, fill_quiet, NoneWaits, put_fill_up, within_more}
 use Rattle.rx_eval.proofs.ComingLemmas.{next_coming, inside_coming, inside_not}
@@ -492,6 +492,7 @@ module _ (to : Numbering) (m : Machine Bnode Owner) (state : State) (facts : Fac
     own = own_count;
     subject = subject_by here.skipped refl o.frame.own o.own;
     under = under_count;
+    gathers = o.gathers ∙ sym (gathers_meet facts base depth path now (owner_place opened) new.labels o.fresh n around seen meets);
     said = said_now;
     value = value_by o.frame.text o.gathers o.text;
     marked = mark_by o.frame.text o.text;

@@ -1,5 +1,5 @@
 -- One element by the rules' names and by numbers.
-use Rattle.std.proofs.Common.{◌≡◌, ◌∙◌, ℕ, zero, suc, Bool, true, false, not, ◌&&◌, List, [], ◌∷◌, ◌++◌, map, filter_map, length, Option, Some, None, option_map, unwrap_or, nat_eq, refl, sym, ap, arith}
+use Rattle.std.proofs.Common.{◌≡◌, ◌∙◌, ℕ, zero, suc, Bool, true, false, not, ◌&&◌, List, [], ◌∷◌, ◌++◌, map, filter_map, length, Option, Some, None, option_map, is_some, is_none, unwrap_or, nat_eq, refl, sym, ap, ap₂, arith}
 use Rattle.std.specs.Prelude.{if◌then◌else◌}
 use Rattle.std.specs.Option.{option_or}
 use Rattle.std.specs.Bool.{then_some}
@@ -27,6 +27,7 @@ use Rattle.rx_element.specs.Moment.{moment}
 use Rattle.rx_element.specs.Places.{level_at, path_at, standing_by}
 use Rattle.rx_eval.specs.Numbering.{Numbering, Name, Number, name_by, named, same_name}
 use Rattle.rx_eval.specs.Entering.{next_number, owner_begun, owner_for}
+use Rattle.rx_eval.specs.Standing.{gathers_text}
 use Rattle.rx_eval.proofs.OtherLemmas.{makes_resource, makes_new, other, resources_other, handed_other, entries_other}
 
 -- the value that is in a slot
@@ -37,6 +38,10 @@ slot_value f (Waiting r) = None
 slot_of_value : {B C : Type 0} (f : B → C) (path : Path) (w : Option (Term B)) → slot_value f (slot_of path w) ≡ option_map (rename_term f) w
 slot_of_value f path None = refl
 slot_of_value f path (Some v) = refl
+
+none_mapped : {A B : Type 0} (f : A → B) (o : Option A) → is_none (option_map f o) ≡ is_none o
+none_mapped f None = refl
+none_mapped f (Some a) = refl
 
 -- ---- parts by the resources at hand
 
@@ -260,6 +265,17 @@ module _ (facts : Facts) (base : Chars) (depth : ℕ) (path : Path) (to : Number
     value_meets chars =
         ap (rename_term f) (value_is model base by_names chars) ∙ value_rename f (rule_at model base by_names) facts chars
         ∙ ap (λ (r : Rule N). value r facts chars) rule_named ∙ sym (value_rename Number rule_here facts chars)
+
+    -- whether its value is its text
+    none_named : is_none (value_now (rule_at model base by_names) facts) ≡ is_none (value_now rule_here facts)
+    none_named =
+        sym (none_mapped (rename_term f) (value_now (rule_at model base by_names) facts))
+        ∙ ap is_none (value_now_rename f (rule_at model base by_names) facts ∙ ap (λ (r : Rule N). value_now r facts) rule_named ∙ sym (value_now_rename Number rule_here facts))
+        ∙ none_mapped (rename_term Number) (value_now rule_here facts)
+
+    pub gathers_meet : gathers_text model base by_names ≡ (not here_by.skipped && (is_some facts.property && is_none (value_now rule_here facts)))
+    unfolding gathers_text
+    gathers_meet = ap₂ (λ (s n : Bool). not s && (is_some facts.property && n)) (ap (λ (x : Resources N). x.skipped) resources_meet) none_named
 
     pub entries_meet :
         map (rename_entry Number (option_map (rename_term Number))) (entries_by naming_now Some (value_now rule_here facts) by_numbers here_by)

@@ -165,6 +165,7 @@ module _ (old new : Numbering) (grown : Grown old new) (base kept : Chars) where
     own = h.own;
     subject = some_as _ _ l.frame.own (λ n e. node_later old new grown l.frame.context.subject (resources model base l.at).subject e) h.subject;
     under = h.under;
+    gathers = h.gathers;
     said = λ chars. triples_later old new grown (said_of l.frame.text chars) (end_of model base l.at chars) (h.said chars);
     value = some_as _ _ l.frame.text (λ t e chars. term_later old new grown (text_literal t.by chars) (value_at model base l.at chars) (e chars)) h.value;
     marked = h.marked;

@@ -75,6 +75,7 @@ module _ (to : Numbering) (base kept : Chars) where
         own = subst (λ (o : Open). IfSome l.frame.own (λ n. n ≡ length o)) e h.own;
         subject = h.subject;
         under = subst (λ (o : Open). IfSome l.frame.below (λ n. n ≡ length (o ++ own_in l))) e h.under;
+        gathers = h.gathers;
         said = h.said;
         value = h.value;
         marked = k;
@@ -113,7 +114,7 @@ module _ (to : Numbering) (base kept : Chars) where
   unmarked more (l ∷ lower) q h =
       let a = any_front (frames_in lower) l.frame q in
       let k = h.0 in (
-        record { deep = k.deep; inside = k.inside; context = k.context; own = k.own; subject = k.subject; under = k.under; said = k.said; value = k.value; marked = some_quiet _ l.frame.text a.1; places = k.places },
+        record { deep = k.deep; inside = k.inside; context = k.context; own = k.own; subject = k.subject; under = k.under; gathers = k.gathers; said = k.said; value = k.value; marked = some_quiet _ l.frame.text a.1; places = k.places },
         unmarked more lower a.0 h.1,
       )
 

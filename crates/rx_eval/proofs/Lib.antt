@@ -25,4 +25,5 @@ pub mod ItemLemmas
 pub mod UsedLemmas
 pub mod BeginLemmas
 pub mod StandLemmas
+pub mod KeptLemmas
 pub mod ShownLemmas

@@ -17,4 +17,5 @@ pub mod Reserving
 pub mod Numbering
 pub mod Slots
 pub mod Standing
+pub mod KeptTexts
 pub mod Shown

@@ -1,16 +1,17 @@
 -- What an evaluator stands for: the calls that it has taken, under a numbering of blank nodes.
-use Rattle.std.specs.Prelude.{◌≡◌, ◌≤◌, ◌⊎◌, ℕ, suc, Bool, true, false, List, [], ◌∷◌, ◌++◌, map, length, Option, Some, None, option_map, unwrap_or, IfSome}
+use Rattle.std.specs.Prelude.{◌≡◌, ◌≤◌, ◌⊎◌, ◌&&◌, ℕ, suc, Bool, true, false, not, List, [], ◌∷◌, ◌++◌, map, length, Option, Some, None, option_map, is_some, unwrap_or, IfSome}
 use Rattle.rx_terms.specs.Text.{Chars}
 use Rattle.rx_model.specs.Sets.{Among}
 use Rattle.rx_model.specs.Terms.{Node, Iri, Triple}
 use Rattle.rx_model.specs.Numbered.{rename_node, rename_term, rename, blanks}
-use Rattle.rx_rdfa.specs.Naming.{Path}
+use Rattle.rx_rdfa.specs.Naming.{Path, Naming}
 use Rattle.rx_rdfa.specs.Tree.{Nodes}
 use Rattle.rx_rdfa.specs.Facts.{Facts}
 use Rattle.rx_rdfa.specs.Made.{made}
 use Rattle.rx_rdfa.specs.Blanks.{Bnode, Made, Cell, Owner, First, Of, Below, same_owner, model}
 use Rattle.rx_rdfa.specs.Resources.{Inherited, Standing, resources}
 use Rattle.rx_rdfa.specs.Inherited.{below, up, inherited}
+use Rattle.rx_rdfa.specs.Value.{gathers}
 use Rattle.rx_rdfa.specs.Element.{end_of}
 use Rattle.rx_rdfa.specs.Lists.{map_entry, of_owner}
 use Rattle.rx_rdfa.specs.Machine.{Slot, Full, Waiting, Machine, value_at, finished, begun}
@@ -64,6 +65,10 @@ places_of text = option_map (λ t. t.slots) text
 abbrev pub waiter_of : Layer → Waiter
 waiter_of l = record { path = l.at.path; places = places_of l.frame.text }
 
+-- by the rules the element gathers its text: it isn't skipped, property stands on it, and its value is that text
+unfoldable pub gathers_text : {B O : Type 0} → Naming B O → Chars → Standing B O → Bool
+gathers_text naming base at = not (resources naming base at).skipped && gathers naming base at.facts (resources naming base at)
+
 -- the triples that an element's text is
 abbrev pub said_of : Option Text → Chars → List (Triple ℕ)
 said_of None chars = []
@@ -74,8 +79,8 @@ pub record KeptAt (kept : Chars) (mark : ℕ) (chars : Chars) : Type 0 where
   pub front : Chars
   pub cut : CutAt kept mark front chars
 
--- an open element's frame hands on the rules' context; its owners have the next numbers; its text will give the triples
--- and the value that the rules give it
+-- an open element's frame hands on the rules' context; its owners have the next numbers; it has a text exactly where the
+-- element gathers one by the rules, which will give the triples and the value that the rules give it
 pub record LayerStands (to : Numbering) (base kept : Chars) (l : Layer) (lower : List Layer) : Type 0 where
   pub deep : length l.at.path ≡ suc (length lower)
   pub inside : up l.at.path ≡ path_in lower
@@ -85,6 +90,7 @@ pub record LayerStands (to : Numbering) (base kept : Chars) (l : Layer) (lower :
   pub own : IfSome l.frame.own (λ n. n ≡ length (open_in base lower))
   pub subject : IfSome l.frame.own (λ n. rename_node Number l.frame.context.subject ≡ rename_node (named to) (resources model base l.at).subject)
   pub under : IfSome l.frame.below (λ n. n ≡ length (open_in base lower ++ own_in l))
+  pub gathers : is_some l.frame.text ≡ gathers_text model base l.at
   pub said : (chars : Chars) → map (rename Number) (said_of l.frame.text chars) ≡ map (rename (named to)) (end_of model base l.at chars)
   pub value :
       IfSome l.frame.text (λ t. (chars : Chars) → rename_term Number (text_literal t.by chars) ≡ rename_term (named to) (value_at model base l.at chars))

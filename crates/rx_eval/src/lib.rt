@@ -4,6 +4,7 @@
 //! here stand the frames of the open elements, the owners of lists, and the calls.
 #![tactic(auto)]
 
+ghost use Rattle.rx_eval.specs.KeptTexts.{KeepsWhereGathered};
 ghost use Rattle.rx_eval.specs.Reserving.{ReservedAreFilled};
 
 mod closing;
@@ -25,4 +26,10 @@ pub use rx_element::{Labels, Placed, value_of};
 /// start.
 pub fn reserved_are_filled()
     ensures { ReservedAreFilled }
+{}
+
+/// An open element's frame keeps a text exactly where the rules say that the element gathers one (RDFa Core 1.1, section 7.5,
+/// step 11): where its property has the element's text for its value.
+pub fn text_is_kept_where_it_is_gathered()
+    ensures { KeepsWhereGathered }
 {}

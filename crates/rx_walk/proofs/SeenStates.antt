@@ -75,7 +75,7 @@ handed_is page (f ∷ fs) = handed_is f.context fs
 abbrev pub some_gathers : List SeenFrame → Bool
 some_gathers fs = list_any (λ f. is_some f.text) fs
 
-some_is : (t : Option Text) → is_some t ≡ is_some (option_map text_of t)
+pub some_is : (t : Option Text) → is_some t ≡ is_some (option_map text_of t)
 some_is None = refl
 some_is (Some t) = refl
 

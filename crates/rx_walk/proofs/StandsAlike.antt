@@ -1,5 +1,5 @@
 -- What an evaluator stands for goes by what is seen of its state.
-use Rattle.std.proofs.Common.{◌≡◌, ◌∙◌, ℕ, suc, Bool, true, false, List, [], ◌∷◌, ◌++◌, map, length, Option, Some, None, option_map, refl, sym, ap, ap₂, subst, subst₂}
+use Rattle.std.proofs.Common.{◌≡◌, ◌∙◌, ℕ, suc, Bool, true, false, List, [], ◌∷◌, ◌++◌, map, length, Option, Some, None, option_map, is_some, refl, sym, ap, ap₂, subst, subst₂}
 use Rattle.std.specs.Prelude.{◌⊎◌, IfSome}
 use Rattle.std.proofs.lemmas.List.{map-append}
 use Rattle.rx_terms.specs.Text.{Chars}
@@ -18,9 +18,9 @@ use Rattle.rx_lists.specs.declared.lists.SlotId.{SlotId}
 use Rattle.rx_eval.specs.Ending.{said_triples}
 use Rattle.rx_eval.specs.Numbering.{Numbering, Number, named}
 use Rattle.rx_eval.specs.Slots.{Open, owner_place, FillUp, WithinOption}
-use Rattle.rx_eval.specs.Standing.{Layer, frames_in, path_in, paths_in, begun_by, open_in, places_of, waiter_of, said_of, KeptAt, LayerStands, LayersStand, Coming, Pending, AllWaitFor, Phase, Stands}
+use Rattle.rx_eval.specs.Standing.{Layer, frames_in, path_in, paths_in, begun_by, open_in, places_of, waiter_of, gathers_text, said_of, KeptAt, LayerStands, LayersStand, Coming, Pending, AllWaitFor, Phase, Stands}
 use Rattle.rx_eval.specs.States.{Text, Frame, State}
-use Rattle.rx_walk.proofs.SeenStates.{SeenText, SeenFrame, SeenState, text_of, frame_of, seen, some_seen, some_back, unsnoc}
+use Rattle.rx_walk.proofs.SeenStates.{SeenText, SeenFrame, SeenState, text_of, frame_of, seen, some_is, some_seen, some_back, unsnoc}
 
 abbrev said_seen : Option SeenText → Chars → List (Triple ℕ)
 said_seen None chars = []
@@ -50,6 +50,7 @@ module _ (to : Numbering) (base kept : Chars) where
     own : IfSome f.own (λ n. n ≡ length outer)
     subject : IfSome f.own (λ n. rename_node Number f.context.subject ≡ rename_node (named to) (resources model base at).subject)
     under : IfSome f.below (λ n. n ≡ length (outer ++ begun_by f.own (Of at.path) f.context.subject))
+    gathers : is_some f.text ≡ gathers_text model base at
     said : (chars : Chars) → map (rename Number) (said_seen f.text chars) ≡ map (rename (named to)) (end_of model base at chars)
     value : IfSome f.text (λ t. (chars : Chars) → rename_term Number (t.literal chars) ≡ rename_term (named to) (value_at model base at chars))
     marked : IfSome f.text (λ t. KeptAt kept t.mark text)
@@ -63,6 +64,7 @@ module _ (to : Numbering) (base kept : Chars) where
     own = h.own;
     subject = h.subject;
     under = h.under;
+    gathers = sym (some_is l.frame.text) ∙ h.gathers;
     said = λ chars. sym (ap (map (rename Number)) (said_is l.frame.text chars)) ∙ h.said chars;
     value = some_seen l.frame.text (λ t. (chars : Chars) → rename_term Number (t.literal chars) ≡ rename_term (named to) (value_at model base l.at chars)) h.value;
     marked = some_seen l.frame.text (λ t. KeptAt kept t.mark l.text) h.marked;
@@ -77,6 +79,7 @@ module _ (to : Numbering) (base kept : Chars) where
     own = h.own;
     subject = h.subject;
     under = h.under;
+    gathers = some_is l.frame.text ∙ h.gathers;
     said = λ chars. ap (map (rename Number)) (said_is l.frame.text chars) ∙ h.said chars;
     value = some_back l.frame.text (λ t. (chars : Chars) → rename_term Number (t.literal chars) ≡ rename_term (named to) (value_at model base l.at chars)) h.value;
     marked = some_back l.frame.text (λ t. KeptAt kept t.mark l.text) h.marked;

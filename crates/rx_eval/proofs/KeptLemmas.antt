@@ -1,0 +1,48 @@
+-- Which frames keep text, by the rules.
+use Rattle.std.proofs.Common.{◌≡◌, ◌∙◌, Bool, true, false, List, [], ◌∷◌, ◌++◌, map, is_some, refl, sym, ap, ap₂}
+use Rattle.std.proofs.lemmas.List.{map-append}
+use Rattle.rx_terms.specs.Text.{Chars}
+use Rattle.rx_rdfa.specs.Naming.{Path}
+use Rattle.rx_rdfa.specs.Facts.{Facts}
+use Rattle.rx_rdfa.specs.Blanks.{Bnode, Owner, model}
+use Rattle.rx_rdfa.specs.Resources.{Standing}
+use Rattle.rx_rdfa.specs.Inherited.{inherited, up}
+use Rattle.rx_rdfa.specs.Machine.{begun}
+use Rattle.rx_rdfa.specs.Calls.{Call, Line, after, line_after, no_line}
+use Rattle.rx_rdfa.proofs.Calls.{standings_of, at_after, at_begun}
+use Rattle.rx_eval.specs.States.{Frame, State}
+use Rattle.rx_eval.specs.Numbering.{Numbering}
+use Rattle.rx_eval.specs.Standing.{Layer, frames_in, gathers_text, LayersStand, Phase}
+use Rattle.rx_eval.specs.KeptTexts.{gathering_along, gathering_after, KeepsWhereGathered}
+
+abbrev keeps : Frame → Bool
+keeps f = is_some f.text
+
+-- of elements from the innermost on
+abbrev gathering : Chars → List (Standing Bnode Owner) → List Bool
+gathering base [] = []
+gathering base (at ∷ more) = gathering base more ++ gathers_text model base at ∷ []
+
+layers_keep : (to : Numbering) (base kept : Chars) (layers : List Layer) → LayersStand to base kept layers → map keeps (frames_in layers) ≡ gathering base (map (λ l. l.at) layers)
+layers_keep to base kept [] h = refl
+layers_keep to base kept (l ∷ lower) h =
+    map-append keeps (frames_in lower) (l.frame ∷ []) ∙ ap₂ (λ (x : List Bool) (b : Bool). x ++ b ∷ []) (layers_keep to base kept lower h.1) h.0.gathers
+
+along_line : (base : Chars) (line : List Facts) (path : Path) → gathering base (standings_of model base line path) ≡ gathering_along base line path
+along_line base [] path = refl
+along_line base (facts ∷ above) path =
+    ap (λ (x : List Bool). x ++ gathers_text model base (record { facts = facts; path = path; around = inherited model base above (up path) }) ∷ []) (along_line base above (up path))
+
+module _ (to : Numbering) (list : List Call) (state : State) where
+  of_line : gathering state.base (after model state.base list begun).standings ≡ gathering_after state.base list
+  of_line =
+      let line : Line = line_after list no_line in
+      ap (gathering state.base) (at_after model state.base list begun no_line (at_begun model state.base)).standings ∙ along_line state.base line.facts line.path
+
+  kept_in : (b : Bool) → Phase b to (after model state.base list begun) state → map keeps state.frames ≡ gathering_after state.base list
+  kept_in true p = ap (map keeps) p.frames ∙ ap (gathering state.base) (sym p.standings) ∙ of_line
+  kept_in false p =
+      ap (map keeps) p.by.frames ∙ layers_keep to state.base state.kept p.layers p.by.each ∙ ap (gathering state.base) (sym p.by.standings) ∙ of_line
+
+pub keeps_where_gathered : KeepsWhereGathered
+keeps_where_gathered to list state s = kept_in to list state state.ended s.phase
