@@ -368,3 +368,17 @@ key_added text grown rows more start middle end n m c f s g h k l =
 
 pub taken_back : (text more grown : List ℕ) (n : ℕ) → n ≡ length text → grown ≡ text ++ more → take n grown ≡ text
 taken_back text more grown n h g = rw g (take-append-le n text more (omega (arith, h)) ∙ take_all n text h)
+
+take_past : (old bytes : List ℕ) (n k : ℕ) → n ≡ length old + k → take n (old ++ bytes) ≡ old ++ take k bytes
+take_past [] bytes n k e = ap (λ m. take m bytes) (omega arith)
+take_past (x ∷ old) bytes zero k e = absurd (omega arith)
+take_past (x ∷ old) bytes (suc n) k e = ap (λ rest. x ∷ rest) (take_past old bytes n k (omega arith))
+
+take_less : (bytes : List ℕ) (count most : ℕ) → count ≤ most → take count (take most bytes) ≡ take count bytes
+take_less bytes count most h = grind (arith, common_steps)
+
+-- more bytes than are wanted behind a text, which is cut
+pub cut_front : (old bytes : List ℕ) (n count most : ℕ) → count ≤ most → most ≤ length bytes → n ≡ length (old ++ take most bytes) → take (n - (most - count)) (old ++ take most bytes) ≡ old ++ take count bytes
+cut_front old bytes n count most h l e =
+    let all : length (old ++ take most bytes) ≡ length old + most = rw (length-append, length-take) (omega arith) in
+    take_past old (take most bytes) (n - (most - count)) count (omega (arith, e, all)) ∙ ap (λ more. old ++ more) (take_less bytes count most h)

@@ -1,7 +1,7 @@
 -- Characters at the front of some bytes that a tag takes at once.
 use Rattle.std.specs.Prelude.{◌≡◌, ◌≤◌, ℕ, Bool, true, false, not, ◌&&◌, ◌||◌, ◌==◌, List, [], ◌∷◌, ◌++◌, length, take, Option, Some, None, Ok}
 use Rattle.std.specs.List.{list_all}
-use Rattle.rx_terms.specs.Ascii.{quotation_mark, ampersand, apostrophe, less_than_sign, between}
+use Rattle.rx_terms.specs.Ascii.{quotation_mark, ampersand, apostrophe, less_than_sign, greater_than_sign, between}
 use Rattle.rx_terms.specs.Text.{Chars}
 use Rattle.rx_chars.specs.declared.syntax.Syntax.{Syntax}
 use Rattle.rx_grammar.specs.References.{meaning}
@@ -68,6 +68,12 @@ pub record Skips (old : TagPhase) (c : ℕ) (next : TagPhase) : Type 0 where
 abbrev pub SkipGives : TagPhase → ℕ → Option TagPhase → Type 0
 SkipGives old c (Some next) = Skips old c next
 SkipGives old c None = Unit {0}
+
+-- A `>` ends the tag, and nothing else changes by it, since no value is read.
+pub record Closes (old last : TagPhase) : Type 0 where
+  pub move : (syntax : Syntax) → move_of syntax old greater_than_sign ≡ go last action.Skip
+  pub whole : is_last last ≡ true
+  pub outside : is_value_phase old ≡ false
 
 -- the tag goes on with a character
 abbrev pub GoesTo : Syntax → TagState → ℕ → TagState → Type 0

@@ -1,12 +1,12 @@
 //! The attributes of one tag in one buffer.
-ghost use Rattle.std.specs.Prelude.{◌≡◌, ℕ, ◌<◌, ◌≤◌, true, List, [], ◌∷◌, ◌++◌, length, IfOk, OnErr, OnOk, encode_utf8, encode_utf8_all, Some, slice_get};
+ghost use Rattle.std.specs.Prelude.{◌≡◌, ℕ, ◌<◌, ◌≤◌, true, List, [], ◌∷◌, ◌++◌, length, take, IfOk, OnErr, OnOk, encode_utf8_all, Some, slice_get};
 ghost use Rattle.std.specs.List.{list_all};
-ghost use Rattle.std.specs.Str.{chars, IsUtf8};
+ghost use Rattle.std.specs.Str.{chars};
 ghost use Rattle.rx_terms.specs.Ascii.{is_ascii};
 ghost use Rattle.rx_grammar.specs.Tags.{firsts, has_repeat};
-ghost use Rattle.rx_tags.specs.Reading.{piece};
 
 use crate::repeats::unrepeated;
+use crate::texts::{push_char, push_front, text_between};
 use rx_terms::NoMemory;
 use std::alloc::Global;
 use std::marker::Model;
@@ -92,27 +92,29 @@ impl Attributes {
         Ok(())
     }
 
-    /// Characters of ASCII of the name, where no value was begun.
-    pub(crate) fn push_key_ascii(&mut self, bytes: &[u8]) -> Result<(), NoMemory>
-        requires ascii { list_all is_ascii bytes.now ≡ true }
+    /// So many characters of ASCII at the front, of the name, where no value was begun.
+    pub(crate) fn push_key_ascii(&mut self, bytes: &[u8], count: usize) -> Result<(), NoMemory>
+        requires fits { count ≤ length bytes.now }
+        requires ascii { list_all is_ascii (take count bytes.now) ≡ true }
         requires known { self.old.known ≡ [] }
         requires pending { self.old.pending ≡ [] }
-        ensures ok { OnOk result (self.new ≡ record self.old { key = self.old.key ++ bytes.now }) }
+        ensures ok { OnOk result (self.new ≡ record self.old { key = self.old.key ++ take count bytes.now }) }
         ensures err { OnErr result (self.new ≡ self.old) }
     {
-        push_bytes(&mut self.text, bytes)?;
+        push_front(&mut self.text, bytes, count)?;
         self.middle = self.text.len();
         self.end = self.middle;
         Ok(())
     }
 
-    /// Characters of ASCII of the value. A run before them is text.
-    pub(crate) fn push_ascii(&mut self, bytes: &[u8]) -> Result<(), NoMemory>
-        requires { list_all is_ascii bytes.now ≡ true }
-        ensures ok { OnOk result (self.new ≡ record self.old { known = self.old.known ++ (self.old.pending ++ bytes.now); pending = [] }) }
+    /// So many characters of ASCII at the front, of the value. A run before them is text.
+    pub(crate) fn push_ascii(&mut self, bytes: &[u8], count: usize) -> Result<(), NoMemory>
+        requires fits { count ≤ length bytes.now }
+        requires ascii { list_all is_ascii (take count bytes.now) ≡ true }
+        ensures ok { OnOk result (self.new ≡ record self.old { known = self.old.known ++ (self.old.pending ++ take count bytes.now); pending = [] }) }
         ensures err { OnErr result (self.new ≡ self.old) }
     {
-        push_bytes(&mut self.text, bytes)?;
+        push_front(&mut self.text, bytes, count)?;
         self.end = self.text.len();
         Ok(())
     }
@@ -267,32 +269,4 @@ impl Attributes {
         self.rows = rows;
         Ok(true)
     }
-}
-
-fn push_char(text: &mut Vec<u8>, c: char) -> Result<(), NoMemory>
-    ensures ok { OnOk result (text.new.items ≡ text.old.items ++ encode_utf8 c) }
-    ensures err { OnErr result (text.new.items ≡ text.old.items) }
-{
-    let mut room = [0; 4];
-    let bytes = c.encode_utf8(&mut room).as_bytes();
-    text.extend_from_slice(bytes)?;
-    Ok(())
-}
-
-fn push_bytes(text: &mut Vec<u8>, bytes: &[u8]) -> Result<(), NoMemory>
-    ensures ok { OnOk result (text.new.items ≡ text.old.items ++ bytes.now) }
-    ensures err { OnErr result (text.new.items ≡ text.old.items) }
-{
-    text.extend_from_slice(bytes)?;
-    Ok(())
-}
-
-// The bytes from one place to another. They are known to be UTF-8, so they aren't looked at again.
-pub(crate) fn text_between(bytes: &[u8], start: usize, end: usize) -> &str
-    requires rises { start ≤ end }
-    requires within { end ≤ length bytes.now }
-    requires utf8 { IsUtf8 (piece bytes.now start end) }
-    ensures { result.now ≡ piece bytes.now start end }
-{
-    unsafe { str::from_utf8_unchecked(&bytes[start..end]) }
 }

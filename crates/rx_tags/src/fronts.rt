@@ -1,5 +1,5 @@
 //! Characters at the front of some bytes that a tag takes at once.
-ghost use Rattle.std.specs.Prelude.{◌≡◌, ◌≤◌, true, length, map, take};
+ghost use Rattle.std.specs.Prelude.{◌≡◌, ◌≤◌, true, length, map, take, IfSome};
 ghost use Rattle.std.specs.List.{list_all};
 ghost use Rattle.std.specs.Simd.Lanes.{mask_l};
 ghost use Rattle.rx_tags.specs.Fronts as fronts;
@@ -89,6 +89,17 @@ pub(crate) fn skip(phase: TagPhase, byte: u8) -> Option<TagPhase>
         (TagPhase::BeforeValue, b'"') => Some(TagPhase::DoubleQuoted),
         (TagPhase::BeforeValue, b'\'') => Some(TagPhase::SingleQuoted),
         (TagPhase::AfterValue, b' ') => Some(TagPhase::Gap),
+        _ => None,
+    }
+}
+
+/// The phase behind a `>` that surely ends the tag, where no attribute is read.
+pub(crate) fn closed(phase: TagPhase) -> Option<TagPhase>
+    ensures { IfSome result (fronts.Closes phase) }
+{
+    match phase {
+        TagPhase::Name | TagPhase::Gap | TagPhase::AfterValue => Some(TagPhase::Opened),
+        TagPhase::EndName | TagPhase::EndGap => Some(TagPhase::Closed),
         _ => None,
     }
 }

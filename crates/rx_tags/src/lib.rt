@@ -15,8 +15,10 @@ mod references;
 mod repeats;
 mod stops;
 mod tag_buf;
+mod tag_name;
 mod tag_text;
 mod tags;
+mod texts;
 mod values;
 
 pub use moves::{begins_tag, ends_name, is_letter, is_white_space};

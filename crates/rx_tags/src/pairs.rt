@@ -132,7 +132,7 @@ impl Pairs {
         if count == 0 {
             return 0;
         }
-        if self.attributes.push_ascii(&bytes[..count]).is_err() {
+        if self.attributes.push_ascii(bytes, count).is_err() {
             return 0;
         }
         count
@@ -148,7 +148,7 @@ impl Pairs {
         if count == 0 {
             return 0;
         }
-        if self.attributes.push_key_ascii(&bytes[..count]).is_err() {
+        if self.attributes.push_key_ascii(bytes, count).is_err() {
             return 0;
         }
         count

@@ -5,7 +5,8 @@ ghost use Rattle.rx_grammar.specs.Tags.{firsts, has_repeat};
 ghost use Rattle.rx_tags.specs.Reading.{rows_read, RowsFit};
 ghost use Rattle.rx_tags.specs.Repeats.{has_text, is_named, KeepsFirsts};
 
-use crate::attributes::{Row, text_between};
+use crate::attributes::Row;
+use crate::texts::text_between;
 use rx_terms::NoMemory;
 use std::alloc::Global;
 use std::collections::BTreeSet;

@@ -47,6 +47,7 @@ impl TagBuf {
     /// `More` comes exactly where they begin one in which no fault stands, and spell none yet. `Bad` comes exactly where
     /// this character decides the tag's fault, with its kind: BadTag, UnknownReference, BadReference, StrictText, or at
     /// the `>` in XHTML RepeatedAttribute. Want of memory leaves the tag as it was before this character.
+    #[inline(always)]
     pub fn step(&mut self, c: char) -> Result<TagStep, TagError>
         requires { MayStep self.old }
         ensures gives { StepGives self.old c result self.new }
@@ -56,7 +57,23 @@ impl TagBuf {
         self.read(c)
     }
 
+    // Most tags end so, and are told before all else.
+    #[inline(always)]
     fn read(&mut self, c: char) -> Result<TagStep, TagError>
+        requires { MayStep self.old }
+        ensures { StepGives self.old c result self.new }
+    {
+        if self.text.closes(c) {
+            return Ok(TagStep::Done);
+        }
+        match self.read_slowly(c) {
+            Ok(step) => Ok(step),
+            Err(error) => Err(error),
+        }
+    }
+
+    #[inline(never)]
+    fn read_slowly(&mut self, c: char) -> Result<TagStep, TagError>
         requires { MayStep self.old }
         ensures { StepGives self.old c result self.new }
     {

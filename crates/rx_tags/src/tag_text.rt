@@ -1,18 +1,14 @@
 //! The text of one tag, read a character at a time.
-ghost use Rattle.std.specs.Prelude.{◌≡◌, ◌≤◌, true, [], ◌∷◌, ◌++◌, ◌&&◌, ◌==◌, not, length, take, IfErr, MatchBool, OnErr, OnOk, string_bytes};
-ghost use Rattle.std.specs.List.{list_all};
+ghost use Rattle.std.specs.Prelude.{◌≡◌, ◌≤◌, true, [], ◌∷◌, ◌++◌, ◌&&◌, not, length, IfErr, OnErr, OnOk};
 ghost use Rattle.std.specs.Str.{chars};
-ghost use Rattle.rx_terms.specs.Ascii.{is_ascii};
 ghost use Rattle.rx_reader.specs.Tables.{is_html};
 ghost use Rattle.rx_reader.specs.Values.{no_value_yet};
-ghost use Rattle.rx_tags.specs.Fronts.{GainsName};
 ghost use Rattle.rx_tags.specs.TagReads.{ActGives, CanEnd, EndGives};
 
-use crate::fronts::{
-    ends_value, is_naming, is_printed, is_quoted, named, opens_key, skip, small_length,
-};
+use crate::fronts::{closed, ends_value, is_naming, is_printed, is_quoted, named, opens_key, skip};
 use crate::moves::{is_last, move_at};
 use crate::pairs::{Pairs, TagError};
+use crate::tag_name::TagName;
 use crate::values::cased;
 use rx_chars::Syntax;
 use rx_grammar::Kind;
@@ -35,18 +31,16 @@ pub enum TagStep {
 pub(crate) struct TagText {
     syntax: Syntax,
     phase: TagPhase,
-    name: String,
+    name: TagName,
     pairs: Pairs,
 }
 
 impl Model for TagText {
-    ghost use Rattle.std.specs.Prelude.{string_bytes};
-    ghost use Rattle.std.specs.Str.{chars};
     ghost use Rattle.rx_tags.specs.TagReads.{TagRead, state_of, IsSettled};
 
     ghost Value = { TagRead };
 
-    ghost view = { λ t. record { syntax = t.syntax; state = state_of t.phase (chars (string_bytes t.name)) t.pairs } };
+    ghost view = { λ t. record { syntax = t.syntax; state = state_of t.phase t.name t.pairs } };
 
     ghost invariant = { λ t. IsSettled t.phase t.pairs.value };
 }
@@ -60,7 +54,7 @@ impl TagText {
         TagText {
             syntax,
             phase: TagPhase::Start,
-            name: String::new(alloc),
+            name: TagName::new(alloc),
             pairs: Pairs::new(alloc),
         }
     }
@@ -79,7 +73,7 @@ impl TagText {
     ghost use Rattle.std.specs.Prelude.{Some, false};
     ghost use Rattle.rx_reader.specs.Tables as tables;
     ghost use Rattle.rx_reader.specs.Tables.{move_of};
-    ghost use Rattle.rx_tags.specs.TagReads.{ReadGives, GoGives, EndsTag, FinishGives, KeepsAtNoMemory};
+    ghost use Rattle.rx_tags.specs.TagReads.{ReadGives, GoGives, Ends, EndsTag, FinishGives, KeepsAtNoMemory};
 
     /// Reads one more character, and at the tag's `>` keeps the first attribute of each name.
     pub(crate) fn step(&mut self, alloc: Global, c: char) -> Result<TagStep, TagError>
@@ -100,6 +94,26 @@ impl TagText {
             Ok(()) => Ok(TagStep::More),
             Err(error) => Err(error),
         }
+    }
+
+    /// Whether this is the tag's `>`, with at most one attribute and none underway, as in most tags. Then the tag is whole.
+    #[inline(always)]
+    pub(crate) fn closes(&mut self, c: char) -> bool
+        ensures ends { result ≡ true → Ends self.old c self.new.state }
+        ensures same { result ≡ false → self.new ≡ self.old }
+        ensures syntax { self.new.syntax ≡ self.old.syntax }
+    {
+        if c != '>' {
+            return false;
+        }
+        if self.pairs.count() > 1 {
+            return false;
+        }
+        let Some(last) = closed(self.phase) else {
+            return false;
+        };
+        self.phase = last;
+        true
     }
 
     // The character by its move, which doesn't end the tag. Where that fails nothing is changed.
@@ -247,7 +261,7 @@ impl TagText {
         ensures takes { TakesFront self.old.syntax self.old.state bytes.now result self.new.state }
         ensures syntax { self.new.syntax ≡ self.old.syntax }
     {
-        let count = take_name(&mut self.name, bytes);
+        let count = self.name.take_small(bytes);
         if count == 0 {
             return 0;
         }
@@ -364,12 +378,12 @@ fn act(
     syntax: Syntax,
     action: TagAction,
     c: char,
-    name: &mut String,
+    name: &mut TagName,
     pairs: &mut Pairs,
 ) -> Result<(), TagError>
     requires { action ≡ TagAction.Key → pairs.old.value ≡ no_value_yet }
-    ensures gives { ActGives syntax action c (chars (string_bytes name.old)) pairs.old result (chars (string_bytes name.new)) pairs.new }
-    ensures name { OnErr result (chars (string_bytes name.new) ≡ chars (string_bytes name.old)) }
+    ensures gives { ActGives syntax action c name.old pairs.old result name.new pairs.new }
+    ensures name { OnErr result (name.new ≡ name.old) }
     ensures pairs { OnErr result (pairs.new ≡ pairs.old) }
 {
     match action {
@@ -402,32 +416,9 @@ fn end_pairs(
     }
 }
 
-// Takes the small letters at the front for the name, where there is memory, and tells how many.
-fn take_name(name: &mut String, bytes: &[u8]) -> usize
-    ensures fits { result ≤ length bytes.now }
-    ensures gains { MatchBool (result == 0) (chars (string_bytes name.new) ≡ chars (string_bytes name.old)) (GainsName (chars (string_bytes name.old)) (take result bytes.now) (chars (string_bytes name.new))) }
-{
-    let count = small_length(bytes);
-    if count == 0 {
-        return 0;
-    }
-    if name.push_str(ascii_text(&bytes[..count])).is_err() {
-        return 0;
-    }
-    count
-}
-
-// Bytes of ASCII as text. They are UTF-8, so they aren't looked at again.
-fn ascii_text(bytes: &[u8]) -> &str
-    requires { list_all is_ascii bytes.now ≡ true }
-    ensures { result.now ≡ bytes.now }
-{
-    unsafe { str::from_utf8_unchecked(bytes) }
-}
-
-fn push_name(name: &mut String, c: char) -> Result<(), TagError>
-    ensures ok { OnOk result (chars (string_bytes name.new) ≡ chars (string_bytes name.old) ++ c ∷ []) }
-    ensures err { OnErr result (chars (string_bytes name.new) ≡ chars (string_bytes name.old)) }
+fn push_name(name: &mut TagName, c: char) -> Result<(), TagError>
+    ensures ok { OnOk result (name.new ≡ name.old ++ c ∷ []) }
+    ensures err { OnErr result (name.new ≡ name.old) }
     ensures memory { IfErr result (λ error. error ≡ TagError.NoMemory) }
 {
     if name.push(c).is_err() {

@@ -1,9 +1,9 @@
-use Rattle.std.proofs.Common.{arith}
+use Rattle.std.proofs.Common.{arith, take}
 use Rattle.rx_tags.proofs.Pieces.{pushed_ascii}
 use Rattle.rx_tags.proofs.attributes.Attributes.push_ascii.Goals as goal
 
 pub invariant_of-self-2 : goal.invariant_of-self-2
-invariant_of-self-2 c = (pushed_ascii _ c.push_bytes.new.text.items _ _ _ _ c.len-self-inside.result c.args.bytes.now c.self.invariant c.requires c.in_ok-push_bytes.ensures.ok (omega (arith, c.len-self-inside.ensures, c.push_bytes.new.text.ok.0))).0
+invariant_of-self-2 c = (pushed_ascii _ c.push_front.new.text.items _ _ _ _ c.len-self-inside.result (take c.args.count c.args.bytes.now) c.self.invariant c.requires.ascii c.in_ok-push_front.ensures.ok (omega (arith, c.len-self-inside.ensures, c.push_front.new.text.ok.0))).0
 
 pub returns-clause-ok : goal.returns-clause-ok
-returns-clause-ok c = rw (← c.self.view_is) (pushed_ascii _ c.push_bytes.new.text.items _ _ _ _ c.len-self-inside.result c.args.bytes.now c.self.invariant c.requires c.in_ok-push_bytes.ensures.ok (omega (arith, c.len-self-inside.ensures, c.push_bytes.new.text.ok.0))).1
+returns-clause-ok c = rw (← c.self.view_is) (pushed_ascii _ c.push_front.new.text.items _ _ _ _ c.len-self-inside.result (take c.args.count c.args.bytes.now) c.self.invariant c.requires.ascii c.in_ok-push_front.ensures.ok (omega (arith, c.len-self-inside.ensures, c.push_front.new.text.ok.0))).1

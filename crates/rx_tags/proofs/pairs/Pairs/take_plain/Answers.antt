@@ -4,7 +4,8 @@ use Rattle.rx_tags.proofs.PairLemmas.{on_ok}
 use Rattle.rx_tags.proofs.pairs.Pairs.take_plain.Goals as goal
 
 pub push_ascii-requires : goal.push_ascii-requires
-push_ascii-requires c = plain_ascii (take c.plain_length-count.result c.args.bytes.now) c.plain_length-count.ensures.plain
+push_ascii-requires c =
+    record { fits = c.plain_length-count.ensures.fits; ascii = plain_ascii (take c.plain_length-count.result c.args.bytes.now) c.plain_length-count.ensures.plain }
 
 pub invariant_of-self-2 : goal.invariant_of-self-2
 invariant_of-self-2 c =

@@ -1,5 +1,3 @@
-use Rattle.std.specs.Prelude.{string_bytes}
-use Rattle.std.specs.Str.{chars}
 use Rattle.rx_tags.proofs.OnLemmas.{on_then}
 use Rattle.rx_tags.proofs.TakeLemmas.{value_front}
 use Rattle.rx_tags.proofs.tag_text.TagText.take_value.Goals as goal
@@ -8,12 +6,12 @@ pub returns-then-taken-count-clause-takes : goal.returns-then-taken-count-clause
 returns-then-taken-count-clause-takes c =
     rw (← c.self.view_is)
     (c.end_value-taken.ensures.takes _
-    (value_front c.self.inside.syntax c.self.inside.phase (chars (string_bytes c.self.inside.name)) c.self.inside.pairs c.take_plain-count.new.self c.args.bytes.now c.take_plain-count.result (rw (← c.self.view_is) at c.requires)
+    (value_front c.self.inside.syntax c.self.inside.phase c.self.inside.name c.self.inside.pairs c.take_plain-count.new.self c.args.bytes.now c.take_plain-count.result (rw (← c.self.view_is) at c.requires)
     c.take_plain-count.ensures.fits c.take_plain-count.ensures.gains))
 
 pub returns-clause-takes : goal.returns-clause-takes
 returns-clause-takes c =
     rw (← c.self.view_is)
     (on_then _ _ _ _ _ c.args.bytes.now c.end_value-taken.result c.skip_on.result c.end_value-taken.ensures.syntax c.skip_on.ensures.takes (c.end_value-taken.ensures.takes _
-    (value_front c.self.inside.syntax c.self.inside.phase (chars (string_bytes c.self.inside.name)) c.self.inside.pairs c.take_plain-count.new.self c.args.bytes.now c.take_plain-count.result (rw (← c.self.view_is) at c.requires)
+    (value_front c.self.inside.syntax c.self.inside.phase c.self.inside.name c.self.inside.pairs c.take_plain-count.new.self c.args.bytes.now c.take_plain-count.result (rw (← c.self.view_is) at c.requires)
     c.take_plain-count.ensures.fits c.take_plain-count.ensures.gains)))
