@@ -63,7 +63,7 @@ impl<'a> Nodes<'a> {
         ensures { result ≡ [] }
     {
         Nodes {
-            nodes: Unique::with_hints(alloc),
+            nodes: Unique::new(alloc),
         }
     }
 

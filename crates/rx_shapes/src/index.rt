@@ -31,7 +31,7 @@ impl Index {
         ensures { result ≡ [] }
     {
         Index {
-            nodes: Unique::with_hints(alloc),
+            nodes: Unique::new(alloc),
         }
     }
 

@@ -1,5 +1,5 @@
 -- Where a key stands among keys, each of which is there once.
-use Rattle.std.proofs.Common.{◌≡◌, ◌∙◌, ℕ, zero, suc, ◌+◌, ◌<◌, ◌≤◌, ap, sym, refl, arith, inl, inr, Bool, true, false, cond, not, ◌||◌, ◌==◌, Option, Some, None, is_some, List, [], ◌∷◌, ◌++◌, take, length, get_or, slice_get, nat_lt, if◌then◌else◌, true≢false, map, subst}
+use Rattle.std.proofs.Common.{◌≡◌, ◌∙◌, ℕ, zero, suc, ◌+◌, ◌<◌, ◌≤◌, ◌⊎◌, ap, sym, refl, arith, inl, inr, Bool, true, false, cond, not, ◌||◌, ◌==◌, Option, Some, None, is_some, List, [], ◌∷◌, ◌++◌, take, length, get_or, slice_get, nat_lt, if◌then◌else◌, true≢false, map, subst}
 use Rattle.std.specs.Option.{option_map, option_or}
 use Rattle.std.specs.Cmp.{IsEquivalence}
 use Rattle.std.specs.List.{list_any, position_or_len, IsDistinct}
@@ -11,8 +11,10 @@ use Rattle.std.proofs.lemmas.List.Sums.{position_or_len_is, passes_at_first}
 use Rattle.std.proofs.lemmas.Map.Keys.{apart_from_distinct, IsDistinct-push}
 use Rattle.std.proofs.lemmas.Option.{slice_get_within, get_or_from_slice_get}
 use Rattle.rx_unique.specs.Places.{last_place}
-use Rattle.rx_unique.specs.Unique.{AreKept, insert_key}
+use Rattle.rx_unique.specs.Slots.{mark_of, IsOther, IsHeld, AreHeld}
+use Rattle.rx_unique.specs.Unique.{AreKept, AreOthers, MayAdd, insert_key}
 use Rattle.rx_unique.proofs.PlaceLemmas.{last-within}
+use Rattle.rx_unique.proofs.SlotLemmas.{any-default, get-front, get-last, length-more, held-none, held-more}
 
 -- how many places there are through this one
 abbrev pub reach : Option ℕ → ℕ
@@ -75,12 +77,6 @@ nearer numbers next before p m is found = less before refl where
   less None e = omega (arith, here)
   less (Some q) e = let below = earlier-below numbers p q m (sym found ∙ e) in omega (arith, here, below)
 
--- whatever stands for what isn't there
-any-default : {A : Type 0} (xs : List A) (i : ℕ) (a b : A) → i < length xs → get_or xs i a ≡ get_or xs i b
-any-default [] i a b l = absurd (omega (arith, l))
-any-default (x ∷ xs) zero a b l = refl
-any-default (x ∷ xs) (suc i) a b l = any-default xs i a b (omega (arith, l))
-
 slice-or : {A : Type 0} (xs : List A) (i : ℕ) (d : A) → i < length xs → slice_get xs i ≡ Some (get_or xs i d)
 slice-or [] i d l = absurd (omega (arith, l))
 slice-or (x ∷ xs) zero d l = refl
@@ -103,82 +99,119 @@ alone same test like keys once p x inside at holds = ap (λ (k : ℕ). cond (nat
   first : position_or_len test keys ≡ p
   first = position_or_len_is test keys p x (omega (arith, inside)) before (λ l. ap test (sym at) ∙ holds)
 
--- the keys behind `next` don't pass the test, and a key of the number stands there
-pub record Sought {K : Type 0} (test : K → Bool) (n : ℕ) (keys : List K) (numbers : List ℕ) (next : Option ℕ) : Type 0 where
-  pub past : (i : ℕ) (d : K) → reach next ≤ i → i < length keys → test (get_or keys i d) ≡ false
-  pub there : (place : ℕ) → next ≡ Some place → slice_get numbers place ≡ Some n
+-- of the keys at these places none behind `next` passes the test, and a key of the number stands there
+pub record Sought {K : Type 0} (test : K → Bool) (n : ℕ) (keys : List K) (others numbers : List ℕ) (next : Option ℕ) : Type 0 where
+  pub past : (j : ℕ) (d : K) → reach next ≤ j → j < length others → test (get_or keys (get_or others j 0) d) ≡ false
+  pub there : (j : ℕ) → next ≡ Some j → slice_get numbers j ≡ Some n
 
 -- a key that passes has the number
-module _ {K : Type 0} (same : K → K → Bool) (number : K → ℕ) (test : K → Bool) (n : ℕ) (passes : (k : K) → test k ≡ true → n ≡ number k) (keys : List K) (numbers : List ℕ) (kept : AreKept same number keys numbers) where
-  count : length numbers ≡ length keys
-  count = ap (λ (l : List ℕ). length l) kept.numbered ∙ length-map keys number
-
-  number-at : (i : ℕ) (d : K) → i < length keys → get_or numbers i 0 ≡ number (get_or keys i d)
-  number-at i d inside =
-      ap (λ (l : List ℕ). get_or l i 0) kept.numbered ∙ any-default (map number keys) i 0 (number d) (omega (arith, inside, length-map keys number))
-      ∙ get_or-map number keys i d (number d) inside ∙ refl
-
+module _ {K : Type 0} (number : K → ℕ) (test : K → Bool) (n : ℕ) (passes : (k : K) → test k ≡ true → n ≡ number k) (keys : List K) (others numbers : List ℕ) (apart : AreOthers number keys others numbers) where
   -- a key of another number doesn't
-  other : (i : ℕ) (d : K) → i < length keys → (get_or numbers i 0 == n) ≡ false → test (get_or keys i d) ≡ false
-  other i d inside unlike = by (test (get_or keys i d)) refl where
+  other : (j : ℕ) (d : K) → j < length others → (get_or numbers j 0 == n) ≡ false → test (get_or keys (get_or others j 0) d) ≡ false
+  other j d inside unlike = by (test (get_or keys (get_or others j 0) d)) refl where
     equal : (a b : ℕ) → a ≡ b → (a == b) ≡ true
     equal a b e = grind (arith, nat_tests)
 
-    by : (b : Bool) → test (get_or keys i d) ≡ b → b ≡ false
+    by : (b : Bool) → test (get_or keys (get_or others j 0) d) ≡ b → b ≡ false
     by false t = refl
-    by true t = absurd (true≢false (sym (equal (get_or numbers i 0) n (number-at i d inside ∙ sym (passes (get_or keys i d) t))) ∙ unlike))
+    by true t = absurd (true≢false (sym (equal (get_or numbers j 0) n (apart.numbered j d inside ∙ sym (passes (get_or keys (get_or others j 0) d) t))) ∙ unlike))
 
-  pub sought-first : (next : Option ℕ) → next ≡ last_place n numbers → Sought test n keys numbers next
+  pub sought-first : (next : Option ℕ) → next ≡ last_place n numbers → Sought test n keys others numbers next
   sought-first next found = record {
-    past = λ i d far inside. other i d inside (none_behind n numbers i (omega (arith, far, ap reach found)) (omega (arith, inside, count)));
+    past = λ j d far inside. other j d inside (none_behind n numbers j (omega (arith, far, ap reach found)) (omega (arith, inside, apart.count)));
     there = λ p e. last-within n numbers p (sym found ∙ e);
   }
 
-  pub within : (next : Option ℕ) (p : ℕ) → Sought test n keys numbers next → next ≡ Some p → p < length keys
-  within next p sought is = omega (arith, slice_get_within numbers p n (sought.there p is), count)
+  pub within : (next : Option ℕ) (p : ℕ) → Sought test n keys others numbers next → next ≡ Some p → p < length others
+  within next p sought is = omega (arith, slice_get_within numbers p n (sought.there p is), apart.count)
+
+  pub key-within : (next : Option ℕ) (p place : ℕ) → Sought test n keys others numbers next → next ≡ Some p → place ≡ get_or others p place → place < length keys
+  key-within next p place sought is at =
+      let inside : p < length others = within next p sought is in
+      omega (arith, apart.inside p inside, at ∙ any-default others p place 0 inside)
 
   pub sought-before :
-      (next before : Option ℕ) (p : ℕ) (x : K) → Sought test n keys numbers next → next ≡ Some p → x ≡ get_or keys p x → test x ≡ false
-      → before ≡ last_place (get_or numbers p 0) (take p numbers) → Sought test n keys numbers before
-  sought-before next before p x sought is at fails found = record {
-    past = λ i d far inside. elim (cases_lt i p) [
-      | inl l ↦ other i d inside (ap (λ (k : ℕ). k == n) (sym (front-or numbers p i l)) ∙ none_behind n (take p numbers) i (omega (arith, far, ap reach last)) (omega (arith, l, whole)))
-      | inr g ↦ elim (cases_lt p i) [
-        | inl l ↦ sought.past i d (omega (arith, l, ap reach is)) inside
-        | inr h ↦ ap (λ (k : ℕ). test (get_or keys k d)) (here i g h) ∙ ap test (any-default keys p d x inside-p ∙ sym at) ∙ fails
+      (next before : Option ℕ) (p place : ℕ) (x : K) → Sought test n keys others numbers next → next ≡ Some p → place ≡ get_or others p place → x ≡ get_or keys place x → test x ≡ false
+      → before ≡ last_place (get_or numbers p 0) (take p numbers) → Sought test n keys others numbers before
+  sought-before next before p place x sought is stands at fails found = record {
+    past = λ j d far inside. elim (cases_lt j p) [
+      | inl l ↦ other j d inside (ap (λ (k : ℕ). k == n) (sym (front-or numbers p j l)) ∙ none_behind n (take p numbers) j (omega (arith, far, ap reach last)) (omega (arith, l, whole)))
+      | inr g ↦ elim (cases_lt p j) [
+        | inl l ↦ sought.past j d (omega (arith, l, ap reach is)) inside
+        | inr h ↦
+            ap (λ (k : ℕ). test (get_or keys (get_or others k 0) d)) (here j g h) ∙ ap (λ (k : ℕ). test (get_or keys k d)) (sym stands-there)
+            ∙ ap test (any-default keys place d x inside-keys ∙ sym at) ∙ fails
       ]
     ];
     there = λ q e.
         let below : q < p = earlier-below numbers p q n (sym last ∙ e) in
         sym (front-at numbers p q below) ∙ last-within n (take p numbers) q (sym last ∙ e);
   } where
-    inside-p : p < length keys
+    inside-p : p < length others
     inside-p = within next p sought is
+
+    inside-keys : place < length keys
+    inside-keys = key-within next p place sought is stands
+
+    stands-there : place ≡ get_or others p 0
+    stands-there = stands ∙ any-default others p place 0 inside-p
 
     last : before ≡ last_place n (take p numbers)
     last = found ∙ ap (λ (k : ℕ). last_place k (take p numbers)) (get_or_from_slice_get numbers p n 0 (sought.there p is))
 
     whole : length (take p numbers) ≡ p
-    whole = front-length p numbers (omega (arith, inside-p, count))
+    whole = front-length p numbers (omega (arith, inside-p, apart.count))
 
     here : (i : ℕ) → p ≤ i → i ≤ p → i ≡ p
     here i g h = omega (arith, g, h)
 
-  pub sought-found :
-      ((x y : K) → test x ≡ true → test y ≡ same x y)
-      → (next : Option ℕ) (p : ℕ) (x : K) → Sought test n keys numbers next → next ≡ Some p → x ≡ get_or keys p x → test x ≡ true → Some p ≡ position test keys
-  sought-found like next p x sought is at holds = sym (alone same test like keys kept.once p x (within next p sought is) at holds)
+-- no key passes
+absent : {K : Type 0} (test : K → Bool) (keys : List K) → ((i : ℕ) (d : K) → i < length keys → test (get_or keys i d) ≡ false) → None ≡ position test keys
+absent test [] fails = refl
+absent test (x ∷ xs) fails =
+    let none : position_or_len test (x ∷ xs) ≡ length (x ∷ xs) = position_or_len_is test (x ∷ xs) (length (x ∷ xs)) x (omega arith) (λ k l. fails k x l) (λ l. absurd (omega (arith, l))) in
+    sym (ap (λ (k : ℕ). cond (nat_lt k (length (x ∷ xs))) (Some k) None) none ∙ ap (λ (b : Bool). cond b (Some (length (x ∷ xs))) None) (less (length (x ∷ xs)))) where
+      less : (a : ℕ) → nat_lt a a ≡ false
+      less a = grind (arith, nat_tests)
 
-  pub sought-none : (next : Option ℕ) → Sought test n keys numbers next → next ≡ None → None ≡ position test keys
-  sought-none next sought is = absent keys (λ i d inside. sought.past i d (omega (arith, ap reach is)) inside) where
-    less : (a : ℕ) → nat_lt a a ≡ false
-    less a = grind (arith, nat_tests)
+-- a key that passes has the quick hash
+module _ {K : Type 0} (same : K → K → Bool) (quick number : K → ℕ) (test : K → Bool) (hash : ℕ) (passes : (k : K) → test k ≡ true → hash ≡ quick k) (keys : List K) (hashes slots others numbers : List ℕ) (kept : AreKept same quick number keys hashes slots others numbers) where
+  hash-at : (i : ℕ) (d : K) → i < length keys → get_or hashes i 0 ≡ quick (get_or keys i d)
+  hash-at i d inside =
+      ap (λ (l : List ℕ). get_or l i 0) kept.hashed ∙ any-default (map quick keys) i 0 (quick d) (omega (arith, inside, length-map keys quick))
+      ∙ get_or-map quick keys i d (quick d) inside
 
-    absent : (xs : List K) → ((i : ℕ) (d : K) → i < length xs → test (get_or xs i d) ≡ false) → None ≡ position test xs
-    absent [] fails = refl
-    absent (x ∷ xs) fails =
-        let none : position_or_len test (x ∷ xs) ≡ length (x ∷ xs) = position_or_len_is test (x ∷ xs) (length (x ∷ xs)) x (omega arith) (λ k l. fails k x l) (λ l. absurd (omega (arith, l))) in
-        sym (ap (λ (k : ℕ). cond (nat_lt k (length (x ∷ xs))) (Some k) None) none ∙ ap (λ (b : Bool). cond b (Some (length (x ∷ xs))) None) (less (length (x ∷ xs))))
+  held-at : (i : ℕ) (d : K) → i < length keys → test (get_or keys i d) ≡ true → IsHeld slots others hash i
+  held-at i d inside t =
+      subst (λ h. IsHeld slots others h i) (hash-at i d inside ∙ sym (passes (get_or keys i d) t))
+      (kept.held.each i (omega (arith, inside, ap (λ (l : List ℕ). length l) kept.hashed ∙ length-map keys quick)))
+
+  -- where the slot is free there is none
+  pub free-none : mark_of slots hash ≡ 0 → None ≡ position test keys
+  free-none free = absent test keys (λ i d inside. by i d inside (test (get_or keys i d)) refl) where
+    by : (i : ℕ) (d : K) → i < length keys → (b : Bool) → test (get_or keys i d) ≡ b → b ≡ false
+    by i d inside false t = refl
+    by i d inside true t = absurd ((held-at i d inside t).taken free)
+
+  -- nor where neither the first key of the slot passes nor one of the others
+  pub sought-none :
+      (n : ℕ) (next : Option ℕ) (first : ℕ) → Sought test n keys others numbers next → next ≡ None
+      → ((place : ℕ) → mark_of slots hash ≡ suc place → first ≡ place)
+      → ((d : K) → first < length keys → test (get_or keys first d) ≡ false)
+      → None ≡ position test keys
+  sought-none n next first sought is own fails = absent test keys (λ i d inside. by i d inside (test (get_or keys i d)) refl) where
+    refuted : (i : ℕ) (d : K) → i < length keys → test (get_or keys i d) ≡ true → (mark_of slots hash ≡ suc i) ⊎ IsOther others i → ⊥
+    refuted i d inside t (inl mark) =
+        let at : first ≡ i = own i mark in
+        true≢false (sym t ∙ ap (λ (k : ℕ). test (get_or keys k d)) (sym at) ∙ fails d (omega (arith, inside, at)))
+    refuted i d inside t (inr other) =
+        true≢false
+        (sym t ∙ ap (λ (k : ℕ). test (get_or keys k d)) (sym (get_or_from_slice_get others other.0 i 0 other.1))
+        ∙ sought.past other.0 d (omega (arith, ap reach is)) (slice_get_within others other.0 i other.1))
+
+    by : (i : ℕ) (d : K) → i < length keys → (b : Bool) → test (get_or keys i d) ≡ b → b ≡ false
+    by i d inside false t = refl
+    by i d inside true t = absurd (refuted i d inside t (held-at i d inside t).own)
 
 -- ---- what a place says
 
@@ -251,20 +284,89 @@ module _ {K : Type 0} (same : K → K → Bool) (k : K) (keys : List K) where
   pub kept-new : (more : List K) → position (same k) keys ≡ None → more ≡ keys ++ k ∷ [] → more ≡ insert_key same keys k
   kept-new more is new = new ∙ sym (ap (λ (b : Bool). if b then keys else keys ++ k ∷ []) (has-none (same k) keys is).any)
 
-pub kept-none : {K : Type 0} (same : K → K → Bool) (number : K → ℕ) (keys : List K) (numbers : List ℕ) → keys ≡ [] → numbers ≡ [] → AreKept same number keys numbers
+pub kept-none :
+    {K : Type 0} (same : K → K → Bool) (quick number : K → ℕ) (keys : List K) (hashes slots others numbers : List ℕ)
+    → keys ≡ [] → hashes ≡ [] → others ≡ [] → numbers ≡ [] → AreKept same quick number keys hashes slots others numbers
 unfolding IsDistinct
-kept-none same number [] numbers k n = record { once = tt; numbered = n }
-kept-none same number (x ∷ xs) numbers k n = absurd (cc)
+kept-none same quick number [] hashes slots [] numbers k h o n = record {
+  once = tt;
+  hashed = h;
+  held = held-none slots [] hashes h;
+  apart = record { count = ap (λ (l : List ℕ). length l) n; inside = λ j l. absurd (omega (arith, l)); numbered = λ j d l. absurd (omega (arith, l)) };
+}
+kept-none same quick number [] hashes slots (x ∷ xs) numbers k h o n = absurd (cc)
+kept-none same quick number (x ∷ xs) hashes slots others numbers k h o n = absurd (cc)
 
+-- ---- one key more
+
+module _ {K : Type 0} (number : K → ℕ) (keys more : List K) (k : K) (is : more ≡ keys ++ k ∷ []) where
+  key-front : (i : ℕ) (d : K) → i < length keys → get_or more i d ≡ get_or keys i d
+  key-front i d l = ap (λ (xs : List K). get_or xs i d) is ∙ get-front keys k i d l
+
+  longer : length more ≡ suc (length keys)
+  longer = ap (λ (xs : List K). length xs) is ∙ length-more keys k
+
+  pub apart-still : (others numbers : List ℕ) → AreOthers number keys others numbers → AreOthers number more others numbers
+  apart-still others numbers apart = record {
+    count = apart.count;
+    inside = λ j l. let inside = apart.inside j l in omega (arith, inside, longer);
+    numbered = λ j d l. apart.numbered j d l ∙ ap number (sym (key-front (get_or others j 0) d (apart.inside j l)));
+  }
+
+  pub apart-more :
+      (others more_others numbers more_numbers : List ℕ) (place n : ℕ) → more_others ≡ others ++ place ∷ [] → more_numbers ≡ numbers ++ n ∷ []
+      → place ≡ length keys → n ≡ number k → AreOthers number keys others numbers → AreOthers number more more_others more_numbers
+  apart-more others more_others numbers more_numbers place n others-are numbers-are at of apart = record {
+    count = longer-numbers ∙ ap suc apart.count ∙ sym longer-others;
+    inside = λ j l. elim (cases_lt j (length others)) [
+      | inl b ↦ let inside = apart.inside j b in omega (arith, inside, longer, other-front j b)
+      | inr g ↦ omega (arith, at, longer, other-here j (last j l g))
+    ];
+    numbered = λ j d l. elim (cases_lt j (length others)) [
+      | inl b ↦
+          ap (λ (xs : List ℕ). get_or xs j 0) numbers-are ∙ get-front numbers n j 0 (omega (arith, b, apart.count)) ∙ apart.numbered j d b
+          ∙ ap number (sym (key-front (get_or others j 0) d (apart.inside j b))) ∙ ap (λ (i : ℕ). number (get_or more i d)) (sym (other-front j b))
+      | inr g ↦
+          ap (λ (xs : List ℕ). get_or xs j 0) numbers-are ∙ get-last numbers n j 0 (last j l g ∙ sym apart.count) ∙ of
+          ∙ ap number (sym (ap (λ (i : ℕ). get_or more i d) (other-here j (last j l g)) ∙ ap (λ (xs : List K). get_or xs place d) is ∙ get-last keys k place d at))
+    ];
+  } where
+    longer-others : length more_others ≡ suc (length others)
+    longer-others = ap (λ (xs : List ℕ). length xs) others-are ∙ length-more others place
+
+    longer-numbers : length more_numbers ≡ suc (length numbers)
+    longer-numbers = ap (λ (xs : List ℕ). length xs) numbers-are ∙ length-more numbers n
+
+    last : (j : ℕ) → j < length more_others → length others ≤ j → j ≡ length others
+    last j l g = omega (arith, l, g, longer-others)
+
+    other-front : (j : ℕ) → j < length others → get_or more_others j 0 ≡ get_or others j 0
+    other-front j l = ap (λ (xs : List ℕ). get_or xs j 0) others-are ∙ get-front others place j 0 l
+
+    other-here : (j : ℕ) → j ≡ length others → get_or more_others j 0 ≡ place
+    other-here j e = ap (λ (xs : List ℕ). get_or xs j 0) others-are ∙ get-last others place j 0 e
+
+  pub apart-added :
+      (others more_others numbers more_numbers : List ℕ) (place n : ℕ) → MayAdd place n others numbers more_others more_numbers
+      → place ≡ length keys → n ≡ number k → AreOthers number keys others numbers → AreOthers number more more_others more_numbers
+  apart-added others more_others numbers more_numbers place n (inl same) at of apart =
+      subst (λ (l : List ℕ). AreOthers number more l more_numbers) (sym same.0) (subst (λ (l : List ℕ). AreOthers number more others l) (sym same.1) (apart-still others numbers apart))
+  apart-added others more_others numbers more_numbers place n (inr added) at of apart = apart-more others more_others numbers more_numbers place n added.0 added.1 at of apart
+
+-- a key more, which is held, with the others that there are then
 pub kept-more :
-    {K : Type 0} (same : K → K → Bool) → IsEquivalence same → (number : K → ℕ) (keys more : List K) (numbers more_numbers : List ℕ) (k : K) (n : ℕ)
-    → AreKept same number keys numbers → position (same k) keys ≡ None → n ≡ number k
-    → more ≡ keys ++ k ∷ [] → more_numbers ≡ numbers ++ n ∷ [] → AreKept same number more more_numbers
-kept-more same laws number keys more numbers more_numbers k n kept fresh is keys-are numbers-are = record {
+    {K : Type 0} (same : K → K → Bool) → IsEquivalence same → (quick number : K → ℕ) (keys more : List K) (hashes more_hashes slots more_slots others numbers more_others more_numbers : List ℕ) (k : K) (hash place : ℕ)
+    → AreKept same quick number keys hashes slots others numbers → position (same k) keys ≡ None → hash ≡ quick k → place ≡ length keys
+    → more ≡ keys ++ k ∷ [] → more_hashes ≡ hashes ++ hash ∷ []
+    → AreHeld more_slots more_others hashes → IsHeld more_slots more_others hash place → MayAdd place (number k) others numbers more_others more_numbers
+    → AreKept same quick number more more_hashes more_slots more_others more_numbers
+kept-more same laws quick number keys more hashes more_hashes slots more_slots others numbers more_others more_numbers k hash place kept fresh is at keys-are hashes-are held new added = record {
   once = subst (IsDistinct same) (sym keys-are) (IsDistinct-push laws keys k kept.once (has-none (same k) keys fresh).any);
-  numbered =
-      numbers-are ∙ ap (λ (l : List ℕ). l ++ n ∷ []) kept.numbered ∙ ap (λ (m : ℕ). map number keys ++ m ∷ []) is ∙ sym (map-append number keys (k ∷ []))
-      ∙ ap (map number) (sym keys-are);
+  hashed =
+      hashes-are ∙ ap (λ (l : List ℕ). l ++ hash ∷ []) kept.hashed ∙ ap (λ (m : ℕ). map quick keys ++ m ∷ []) is ∙ sym (map-append quick keys (k ∷ []))
+      ∙ ap (map quick) (sym keys-are);
+  held = held-more more_slots more_others hashes more_hashes hash place hashes-are (at ∙ sym (ap (λ (l : List ℕ). length l) kept.hashed ∙ length-map keys quick)) held new;
+  apart = apart-added number keys more k keys-are others more_others numbers more_numbers place (number k) added at refl kept.apart;
 }
 
 -- the key that was put in at the end

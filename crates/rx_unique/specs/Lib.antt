@@ -1,3 +1,4 @@
 pub mod Hashes
 pub mod Places
+pub mod Slots
 pub mod Unique

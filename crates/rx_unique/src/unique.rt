@@ -1,12 +1,13 @@
 //! Keys, each once.
-ghost use Rattle.std.specs.Prelude.{◌≡◌, ◌<◌, ℕ, Bool, List, [], ◌∷◌, ◌++◌, length, not, position, slice_get, Some, None, true, OnOk, OnErr, IfOk, IfSome};
+ghost use Rattle.std.specs.Prelude.{◌≡◌, ◌<◌, ℕ, Bool, List, [], ◌∷◌, ◌++◌, length, get_or, not, position, slice_get, Some, None, true, false, IsTrue, IsFalse, OnOk, OnErr, IfOk, IfSome};
 ghost use Rattle.std.specs.List.{list_any, position_or_len, IsDistinct};
-ghost use Rattle.rx_unique.specs.Hashes.{hash_of};
-ghost use Rattle.rx_unique.specs.Unique.{insert_key};
+ghost use Rattle.rx_unique.specs.Hashes.{hash_of, quick_hash_of};
+ghost use Rattle.rx_unique.specs.Slots.{IsHeld, AreHeld};
+ghost use Rattle.rx_unique.specs.Unique.{insert_key, MayAdd};
 
-use crate::hashes::hash_of;
-use crate::hints::Hints;
-use crate::places::Places;
+use crate::hashes::{hash_of, quick_hash_of};
+use crate::others::Others;
+use crate::slots::Slots;
 use rx_terms::NoMemory;
 use std::alloc::Global;
 use std::collections::hash_map::Equivalent;
@@ -17,22 +18,24 @@ use std::marker::Model;
 #[derive(Drop)]
 pub struct Unique<K: Eq + Hash> {
     keys: Vec<K>,
-    // of each key its SipHash, so that a look-up goes to the keys of one number alone
-    places: Places,
-    // where a key may stand by a quick hash, so that most look-ups of a key that is there end with it
-    hints: Hints,
+    // of each key its quick hash
+    hashes: Vec<u64>,
+    // by the quick hash the first key that came with its low bits, so that most look-ups end with it
+    slots: Slots,
+    // the keys that found their slot taken
+    others: Others,
 }
 
 impl<K: Eq + Hash> Model for Unique<K> {
     ghost use Rattle.std.specs.Prelude.{List};
-    ghost use Rattle.rx_unique.specs.Hashes.{hash_of};
+    ghost use Rattle.rx_unique.specs.Hashes.{hash_of, quick_hash_of};
     ghost use Rattle.rx_unique.specs.Unique.{AreKept};
 
     ghost Value = { List K };
 
     ghost view = { λ unique. unique.keys.items };
 
-    ghost invariant = { λ unique. AreKept K.eq (λ k. hash_of (K.hash_input k)) unique.keys.items unique.places };
+    ghost invariant = { λ unique. AreKept K.eq (λ k. quick_hash_of (K.hash_input k)) (λ k. hash_of (K.hash_input k)) unique.keys.items unique.hashes.items unique.slots unique.others.places.items unique.others.numbers };
 }
 
 impl<K: Eq + Hash> Unique<K> {
@@ -42,20 +45,9 @@ impl<K: Eq + Hash> Unique<K> {
     {
         Unique {
             keys: Vec::new(alloc),
-            places: Places::new(alloc),
-            hints: Hints::new(alloc, false),
-        }
-    }
-
-    /// The same, with hints: they tell most keys that are there faster, and cost time where a key is new, and 16 to 32 bytes
-    /// for each key.
-    pub fn with_hints(alloc: Global) -> Unique<K>
-        ensures empty { result ≡ [] }
-    {
-        Unique {
-            keys: Vec::new(alloc),
-            places: Places::new(alloc),
-            hints: Hints::new(alloc, true),
+            hashes: Vec::new(alloc),
+            slots: Slots::new(alloc),
+            others: Others::new(alloc),
         }
     }
 
@@ -79,10 +71,7 @@ impl<K: Eq + Hash> Unique<K> {
     pub fn get_index_of<Q: Equivalent<K>>(&self, key: Q) -> Option<usize>
         ensures index { result ≡ position (Q.equivalent key) self.now }
     {
-        match self.guess(self.hints.hash_of(&key), key) {
-            Some(place) => Some(place),
-            None => self.find(hash_of(&key), key),
-        }
+        self.find(quick_hash_of(&key), key)
     }
 
     /// Whether a key is alike.
@@ -92,31 +81,35 @@ impl<K: Eq + Hash> Unique<K> {
         self.get_index_of(key).is_some()
     }
 
-    /// The place of the key that is alike, where a hint for its quick hash tells it.
-    fn guess<Q: Equivalent<K>>(&self, quick_hash: u64, key: Q) -> Option<usize>
-        ensures { IfSome result (λ place. position (Q.equivalent key) self.now ≡ Some place) }
+    /// Whether the key at the place is alike.
+    fn is_at<Q: Equivalent<K>>(&self, place: usize, key: Q) -> bool
+        ensures yes { IsTrue result → position (Q.equivalent key) self.now ≡ Some place }
+        ensures no { IsFalse result → (default : K) → place < length self.now → Q.equivalent key (get_or self.now place default) ≡ false }
     {
-        let place = self.hints.place(quick_hash);
         if place >= self.keys.len() {
-            return None;
+            return false;
         }
-        if !key.equivalent(&self.keys[place]) {
-            return None;
-        }
-        Some(place)
+        key.equivalent(&self.keys[place])
     }
 
-    /// The place of the key that is alike, by its hash.
+    /// The place of the key that is alike, by its quick hash.
     fn find<Q: Equivalent<K>>(&self, hash: u64, key: Q) -> Option<usize>
-        requires { hash ≡ hash_of (Q.hash_input key) }
+        requires { hash ≡ quick_hash_of (Q.hash_input key) }
         ensures { result ≡ position (Q.equivalent key) self.now }
     {
-        let mut next = self.places.last(hash);
-        while let Some(place) = next {
+        let Some(first) = self.slots.first(hash) else {
+            return None;
+        };
+        if self.is_at(first, key) {
+            return Some(first);
+        }
+        let mut next = self.others.numbers.last(hash_of(&key));
+        while let Some(other) = next {
+            let place = self.others.places[other];
             if key.equivalent(&self.keys[place]) {
                 return Some(place);
             }
-            next = self.places.earlier(place);
+            next = self.others.numbers.earlier(other);
         }
         None
     }
@@ -131,17 +124,12 @@ impl<K: Eq + Hash + Drop> Unique<K> {
         ensures stored { IfOk result (λ r. (k : K) × (slice_get self.new r.0 ≡ Some k) × (K.eq key k ≡ true)) }
         ensures err { OnErr result (self.new ≡ self.old) }
     {
-        let quick_hash = self.hints.hash_of(&key);
-        if let Some(place) = self.guess(quick_hash, &key) {
-            return Ok((place, false));
-        }
-        let hash = hash_of(&key);
+        let hash = quick_hash_of(&key);
         if let Some(place) = self.find(hash, &key) {
-            self.hints.note(quick_hash, place);
             return Ok((place, false));
         }
         let place = self.len();
-        self.push(quick_hash, hash, key)?;
+        self.push(hash, key)?;
         Ok((place, true))
     }
 
@@ -155,19 +143,24 @@ impl<K: Eq + Hash + Drop> Unique<K> {
         Ok(is_new)
     }
 
-    /// Adds a key that is new, by its hashes.
-    fn push(&mut self, quick_hash: u64, hash: u64, key: K) -> Result<(), NoMemory>
-        requires hash { hash ≡ hash_of (K.hash_input key) }
+    /// Adds a key that is new, by its quick hash.
+    fn push(&mut self, hash: u64, key: K) -> Result<(), NoMemory>
+        requires hash { hash ≡ quick_hash_of (K.hash_input key) }
         requires fresh { position (K.eq key) self.old ≡ None }
         ensures ok { OnOk result (self.new ≡ self.old ++ key ∷ []) }
         ensures err { OnErr result (self.new ≡ self.old) }
     {
         self.keys.reserve(1)?;
-        self.places.push(hash)?;
+        self.hashes.reserve(1)?;
+        self.slots.make_room(&self.hashes)?;
+        let place = self.keys.len();
+        file(&mut self.slots, &mut self.others, hash, place, &key)?;
+        let Ok(()) = self.hashes.push(hash) else {
+            return Err(NoMemory);
+        };
         let Ok(()) = self.keys.push(key) else {
             return Err(NoMemory);
         };
-        self.hints.note(quick_hash, self.keys.len() - 1);
         Ok(())
     }
 
@@ -178,4 +171,25 @@ impl<K: Eq + Hash + Drop> Unique<K> {
     {
         self.keys
     }
+}
+
+/// Gives the slot of the quick hash to the key at the place; where it is another's the key becomes one of the others.
+#[inline(always)]
+fn file<K: Hash>(
+    slots: &mut Slots,
+    others: &mut Others,
+    hash: u64,
+    place: usize,
+    key: &K,
+) -> Result<(), NoMemory>
+    requires { 0 < length slots.old }
+    ensures held { (hashes : List ℕ) → AreHeld slots.old others.old.places.items hashes → AreHeld slots.new others.new.places.items hashes }
+    ensures own { OnOk result (IsHeld slots.new others.new.places.items hash place) }
+    ensures added { OnOk result (MayAdd place (hash_of (K.hash_input key.now)) others.old.places.items others.old.numbers others.new.places.items others.new.numbers) }
+    ensures err { OnErr result ((others.new.places.items ≡ others.old.places.items) × (others.new.numbers ≡ others.old.numbers)) }
+{
+    if slots.take(hash, place) {
+        return Ok(());
+    }
+    others.push(hash_of(key), place)
 }

@@ -25,7 +25,7 @@ fn are_found(alloc: Global) -> Result<bool, Fail> {
     )
 }
 
-/// So many that hints are made twice as many several times.
+/// So many that slots are made twice as many several times.
 fn are_counted(alloc: Global) -> Result<bool, Fail> {
     let mut numbers: Unique<u64> = Unique::new(alloc);
     for i in 0..100_u64 {

@@ -1,5 +1,0 @@
-use Rattle.rx_unique.proofs.SearchLemmas.{kept-none}
-use Rattle.rx_unique.proofs.unique.Unique.with_hints.Goals as goal
-
-pub invariant_of-result : goal.invariant_of-result
-invariant_of-result g c = kept-none _ _ _ _ c.new.ensures.items c.new-2.ensures.empty
