@@ -1,58 +1,67 @@
 -- Tables that are written out.
-use Rattle.std.proofs.Common.{◌≡◌, ◌∙◌, ℕ, suc, zero, ◌+◌, ◌<◌, true, false, not, List, [], ◌∷◌, ◌++◌, take, drop, length, get_or, sym, ap, refl, arith, Bor, Result, Ok, Err}
-use Rattle.std.specs.Prelude.{IfOk}
+use Rattle.std.proofs.Common.{◌≡◌, ◌∙◌, ℕ, suc, zero, ◌<◌, true, false, not, List, [], ◌∷◌, length, get_or, Option, Some, None, bytes_eq, sym, ap, refl, arith, Bor}
+use Rattle.std.specs.Prelude.{slice_get}
 use Rattle.std.specs.List.{list_all}
+use Rattle.std.specs.Option.{option_or}
 use Rattle.std.specs.Str.{chars}
-use Rattle.std.proofs.lemmas.Bool.{and_parts, and_from}
-use Rattle.std.proofs.lemmas.List.{take-append-drop, take_more, map-append}
-use Rattle.std.proofs.lemmas.List.Folds.{list_all-append}
+use Rattle.std.proofs.lemmas.Bool.{and_parts}
+use Rattle.std.proofs.lemmas.Slice.Eq.{bytes_eq-Decides}
 use Rattle.rx_terms.specs.Iri.{IsIri, is_iri, has_scheme, has_forbidden}
-use Rattle.rx_terms.specs.Text.{Chars}
+use Rattle.rx_terms.specs.Text.{Chars, lowered}
 use Rattle.rx_refs.proofs.PartLemmas.{by_test}
-use Rattle.rx_rdfa.specs.Names.{Table, Context}
-use Rattle.rx_names.specs.Tables.{rise, is_before}
-use Rattle.rx_names.specs.Given.{given, are_given}
+use Rattle.rx_rdfa.specs.Names.{Table, value_at}
+use Rattle.rx_names.specs.Tables.{rise}
+use Rattle.rx_names.specs.Given.{given, are_given, are_lowered}
+use Rattle.rx_names.proofs.TableLemmas.{found-later}
 
-pub is_iri-true : (text : Chars) → is_iri text ≡ true → IsIri text
+is_iri-true : (text : Chars) → is_iri text ≡ true → IsIri text
 is_iri-true text h =
     let parts = and_parts (has_scheme text) (not (has_forbidden text)) h in
     record { scheme = parts.0; clean = by_test (has_forbidden text) (λ t. let g : false ≡ true = rw t at parts.1 in absurd (cc g)) (λ t. t) }
 
-rise-front : (front rows : Table) → rise (front ++ rows) ≡ true → rise front ≡ true
-rise-front [] rows h = refl
-rise-front (row ∷ front) rows h =
-    let parts = and_parts (list_all (λ later. is_before row.0 later.0) (front ++ rows)) (rise (front ++ rows)) h in
-    let all = and_parts (list_all (λ later. is_before row.0 later.0) front) (list_all (λ later. is_before row.0 later.0) rows) (sym (list_all-append (λ later. is_before row.0 later.0) front rows) ∙ parts.0) in
-    and_from _ _ all.0 (rise-front front rows parts.1)
+abbrev pub Row : Type 0
+Row = Bor (List ℕ) × Bor (List ℕ)
 
-abbrev pub Given : Type 0
-Given = List (Bor (List ℕ) × Bor (List ℕ))
+pub given-rises : (rows : List Row) → are_given (given rows) ≡ true → rise (given rows) ≡ true
+given-rises rows h = (and_parts (rise (given rows)) (list_all (λ row. is_iri row.1) (given rows)) h).0
 
-module _ (rows : Given) (i : ℕ) (d : Bor (List ℕ) × Bor (List ℕ)) (h : are_given (given rows) ≡ true) (below : i < length rows) where
-  row_is : Chars × Chars
-  row_is = (chars (get_or rows i d).0.now, chars (get_or rows i d).1.now)
+-- the row at a place
+pub given-row : (rows : List Row) (i : ℕ) (d : Row) → i < length rows → slice_get (given rows) i ≡ Some (chars (get_or rows i d).0.now, chars (get_or rows i d).1.now)
+given-row [] i d below = absurd (omega arith)
+given-row (row ∷ rows) zero d below = refl
+given-row (row ∷ rows) (suc i) d below = given-row rows i d (omega arith)
 
-  pub given-iri : (iri : Chars) → iri ≡ chars (get_or rows i d).1.now → IsIri iri
-  given-iri iri e =
-      let all = (and_parts (rise (given rows)) (list_all (λ row. is_iri row.1) (given rows)) h).1 in
-      is_iri-true iri (ap is_iri e ∙ at rows i below all) where
-        at : (rows : Given) (i : ℕ) → i < length rows → list_all (λ (row : Chars × Chars). is_iri row.1) (given rows) ≡ true → is_iri (chars (get_or rows i d).1.now) ≡ true
-        at [] i l a = absurd (omega arith)
-        at (row ∷ rows) zero l a = (and_parts (is_iri (chars row.1.now)) (list_all (λ row. is_iri row.1) (given rows)) a).0
-        at (row ∷ rows) (suc i) l a = at rows i (omega arith) ((and_parts (is_iri (chars row.1.now)) (list_all (λ row. is_iri row.1) (given rows)) a).1)
+pub given-iri : (rows : List Row) (i : ℕ) (d : Row) → are_given (given rows) ≡ true → i < length rows → IsIri (chars (get_or rows i d).1.now)
+given-iri rows i d h below = is_iri-true (chars (get_or rows i d).1.now) (at rows i below (and_parts (rise (given rows)) (list_all (λ row. is_iri row.1) (given rows)) h).1) where
+  at : (rows : List Row) (i : ℕ) → i < length rows → list_all (λ (row : Chars × Chars). is_iri row.1) (given rows) ≡ true → is_iri (chars (get_or rows i d).1.now) ≡ true
+  at [] i l a = absurd (omega arith)
+  at (row ∷ rows) zero l a = (and_parts (is_iri (chars row.1.now)) (list_all (λ row. is_iri row.1) (given rows)) a).0
+  at (row ∷ rows) (suc i) l a = at rows i (omega arith) ((and_parts (is_iri (chars row.1.now)) (list_all (λ row. is_iri row.1) (given rows)) a).1)
 
-  pub given-more : (table : Table) (name iri : Chars) → table ≡ given (take i rows) → name ≡ chars (get_or rows i d).0.now → iri ≡ chars (get_or rows i d).1.now → table ++ (name, iri) ∷ [] ≡ given (take (i + 1) rows)
-  given-more table name iri t e f =
-      let f_row : Bor (List ℕ) × Bor (List ℕ) → Chars × Chars = λ row. (chars row.0.now, chars row.1.now) in
-      rw (t, e, f) (sym (ap given (take_more rows i d below) ∙ map-append f_row (take i rows) (get_or rows i d ∷ [])))
+-- Of names in lower case: what has one of them as its name has it in lower case too, and no other name has.
+module _ (name : Chars) where
+  no-lowered : (rows : Table) → are_lowered rows ≡ true → bytes_eq (lowered name) name ≡ false → value_at name rows ≡ None
+  no-lowered [] h other = refl
+  no-lowered (row ∷ rows) h other =
+      let parts = and_parts (bytes_eq (lowered row.0) row.0) (are_lowered rows) h in
+      found-later row rows name (by_test (bytes_eq row.0 name) (λ t. clash row.0 ((bytes_eq-Decides row.0 name).0 t) parts.0) (λ t. t))
+      ∙ no-lowered rows parts.1 other
+    where
+      clash : (front : Chars) → front ≡ name → bytes_eq (lowered front) front ≡ true → bytes_eq front name ≡ false
+      clash front e h =
+          let g : false ≡ true = sym other ∙ sym (ap (λ (x : Chars). bytes_eq (lowered x) x) e) ∙ h in
+          absurd (cc g)
 
-  pub given-rise : (table : Table) (name iri : Chars) → table ≡ given (take i rows) → name ≡ chars (get_or rows i d).0.now → iri ≡ chars (get_or rows i d).1.now → rise (table ++ (name, iri) ∷ []) ≡ true
-  given-rise table name iri t e f =
-      let f_row : Bor (List ℕ) × Bor (List ℕ) → Chars × Chars = λ row. (chars row.0.now, chars row.1.now) in
-      let whole : given (take (i + 1) rows) ++ given (drop (i + 1) rows) ≡ given rows = sym (map-append f_row (take (i + 1) rows) (drop (i + 1) rows)) ∙ ap given (take-append-drop (i + 1) rows) in
-      let rising = (and_parts (rise (given rows)) (list_all (λ row. is_iri row.1) (given rows)) h).0 in
-      ap rise (given-more table name iri t e f) ∙ rise-front (given (take (i + 1) rows)) (given (drop (i + 1) rows)) (ap rise whole ∙ rising)
+  pub lowered-tells : (rows : Table) → are_lowered rows ≡ true → option_or (value_at name rows) (value_at (lowered name) rows) ≡ value_at (lowered name) rows
+  lowered-tells rows h = by_test (bytes_eq (lowered name) name) same other where
+    twice : (o : Option Chars) → option_or o o ≡ o
+    twice None = refl
+    twice (Some x) = refl
 
-pub ok-is : {E : Type 0} (r : Result Context E) (a b : Context) → a ≡ b → IfOk r (λ context. context ≡ a) → IfOk r (λ context. context ≡ b)
-ok-is (Ok x) a b e h = h ∙ e
-ok-is (Err x) a b e h = tt
+    same : bytes_eq (lowered name) name ≡ true → option_or (value_at name rows) (value_at (lowered name) rows) ≡ value_at (lowered name) rows
+    same t =
+        let e : value_at (lowered name) rows ≡ value_at name rows = ap (λ (x : Chars). value_at x rows) ((bytes_eq-Decides (lowered name) name).0 t) in
+        ap (option_or (value_at name rows)) e ∙ twice (value_at name rows) ∙ sym e
+
+    other : bytes_eq (lowered name) name ≡ false → option_or (value_at name rows) (value_at (lowered name) rows) ≡ value_at (lowered name) rows
+    other t = ap (λ (o : Option Chars). option_or o (value_at (lowered name) rows)) (no-lowered rows h t)

@@ -1,8 +1,9 @@
 -- A table that is written out.
-use Rattle.std.specs.Prelude.{ℕ, Bool, ◌&&◌, List, map}
+use Rattle.std.specs.Prelude.{ℕ, Bool, ◌&&◌, List, map, bytes_eq}
 use Rattle.std.specs.List.{list_all}
 use Rattle.std.specs.Str.{chars}
 use Rattle.rx_terms.specs.Iri.{is_iri}
+use Rattle.rx_terms.specs.Text.{lowered}
 use Rattle.rx_rdfa.specs.Names.{Table}
 use Rattle.rx_names.specs.Tables.{rise}
 use denote.Ref.{Bor}
@@ -13,3 +14,7 @@ given rows = map (λ row. (chars row.0.now, chars row.1.now)) rows
 -- the names rise, and each row has an IRI
 abbrev pub are_given : Table → Bool
 are_given rows = rise rows && list_all (λ row. is_iri row.1) rows
+
+-- the names are in lower case
+abbrev pub are_lowered : Table → Bool
+are_lowered rows = list_all (λ row. bytes_eq (lowered row.0) row.0) rows

@@ -5,8 +5,11 @@ ghost use Rattle.rx_terms.specs.Iri.{IsIri, has_scheme};
 ghost use Rattle.rx_terms.specs.Text.{lowered};
 ghost use Rattle.rx_refs.specs.Views.{seen_slice};
 ghost use Rattle.rx_rdfa.specs.Names.{value_at, term};
+ghost use Rattle.rx_rdfa.specs.Standard as the;
 ghost use Rattle.rx_names.specs.Tables.{rise};
 
+use crate::file_tables::FileTables;
+use crate::standard;
 use crate::tables::Table;
 use rx_terms::NoMemory;
 use std::alloc::Global;
@@ -16,34 +19,45 @@ use std::marker::Model;
 /// both tables in byte order.
 #[derive(Debug, Drop)]
 pub struct Context {
-    prefixes: Table,
-    terms: Table,
-    /// The terms in lower case, each with the IRI of the first that it is in lower case.
-    lowered_terms: Table,
+    tables: Tables,
+}
+
+/// Where a context's tables stand.
+#[derive(Debug, Drop)]
+pub(crate) enum Tables {
+    /// In the program, as those of the standard context, which take no memory.
+    Standard,
+    /// In memory, as those of a context file.
+    File(FileTables),
 }
 
 impl Model for Context {
-    ghost use Rattle.std.specs.Prelude.{◌≡◌};
     ghost use Rattle.rx_rdfa.specs.Names.{Context as Names};
-    ghost use Rattle.rx_names.specs.Tables.{folded};
+    ghost use Rattle.rx_names.specs.Contexts.{tables_seen};
 
     ghost Value = { Names };
 
-    ghost view = { λ context. record { prefixes = context.prefixes; terms = context.terms } };
-
-    ghost invariant = { λ context. context.lowered_terms ≡ folded context.terms };
+    ghost view = { λ context. tables_seen context.tables };
 }
 
 impl Context {
+    /// The standard context: prefixes that are in wide use, and the terms `describedby`, `license` and `role`. It takes no
+    /// memory.
+    pub fn standard(_alloc: Global) -> Result<Context, NoMemory>
+        ensures { IfOk result (λ context. context ≡ the.standard) }
+    {
+        Ok(Context {
+            tables: Tables::Standard,
+        })
+    }
+
     /// The context of these tables.
     pub(crate) fn of(alloc: Global, prefixes: Table, terms: Table) -> Result<Context, NoMemory>
         ensures { IfOk result (λ context. context ≡ record { prefixes = prefixes; terms = terms }) }
     {
-        let lowered_terms = terms.folded(alloc)?;
+        let tables = FileTables::of(alloc, prefixes, terms)?;
         Ok(Context {
-            prefixes,
-            terms,
-            lowered_terms,
+            tables: Tables::File(tables),
         })
     }
 
@@ -51,11 +65,11 @@ impl Context {
     pub fn try_clone(&self, alloc: Global) -> Result<Context, NoMemory>
         ensures { IfOk result (λ copy. copy ≡ self.now) }
     {
-        Ok(Context {
-            prefixes: self.prefixes.try_clone(alloc)?,
-            terms: self.terms.try_clone(alloc)?,
-            lowered_terms: self.lowered_terms.try_clone(alloc)?,
-        })
+        let tables = match &self.tables {
+            Tables::Standard => Tables::Standard,
+            Tables::File(tables) => Tables::File(tables.try_clone(alloc)?),
+        };
+        Ok(Context { tables })
     }
 
     /// How many prefixes there are.
@@ -63,7 +77,10 @@ impl Context {
         ensures count { result ≡ length self.now.prefixes }
         ensures in_order { rise self.now.prefixes ≡ true }
     {
-        self.prefixes.len()
+        match &self.tables {
+            Tables::Standard => standard::prefix_count(),
+            Tables::File(tables) => tables.prefix_count(),
+        }
     }
 
     /// A prefix and its IRI, by the prefix's place in byte order.
@@ -72,7 +89,10 @@ impl Context {
         ensures row { slice_get self.now.prefixes i ≡ Some (chars result.0.now, chars result.1.now) }
         ensures iri { IsIri (chars result.1.now) }
     {
-        self.prefixes.at(i)
+        match &self.tables {
+            Tables::Standard => standard::prefix_at(i),
+            Tables::File(tables) => tables.prefix_at(i),
+        }
     }
 
     /// The IRI of the prefix, which is compared in lower case.
@@ -80,7 +100,10 @@ impl Context {
         ensures value { seen_slice result ≡ value_at (lowered (chars name.now)) self.now.prefixes }
         ensures scheme { IfSome result (λ iri. has_scheme (chars iri.now) ≡ true) }
     {
-        self.prefixes.find_lowered(name)
+        match &self.tables {
+            Tables::Standard => standard::prefix(name),
+            Tables::File(tables) => tables.prefix(name),
+        }
     }
 
     /// The IRI of the term, or else of the first in byte order that is the term in lower case.
@@ -88,9 +111,9 @@ impl Context {
         ensures value { seen_slice result ≡ term self.now (chars name.now) }
         ensures scheme { IfSome result (λ iri. has_scheme (chars iri.now) ≡ true) }
     {
-        match self.terms.find(name) {
-            Some(iri) => Some(iri),
-            None => self.lowered_terms.find_lowered(name),
+        match &self.tables {
+            Tables::Standard => standard::term(name),
+            Tables::File(tables) => tables.term(name),
         }
     }
 }

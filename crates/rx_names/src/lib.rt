@@ -10,6 +10,7 @@ mod attributes;
 mod context_files;
 mod contexts;
 mod declarations;
+mod file_tables;
 mod kept_rows;
 mod names;
 mod numbers;

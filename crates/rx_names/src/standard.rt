@@ -1,16 +1,18 @@
-//! The context that holds where no other is named.
-ghost use Rattle.std.specs.Prelude.{◌≡◌, IfOk, true, map};
+//! The tables of the context that holds where no other is named. They stand in the program, and take no memory.
+ghost use Rattle.std.specs.Prelude.{◌≡◌, ◌<◌, length, true, IfSome, Some, slice_get};
 ghost use Rattle.std.specs.Str.{chars};
-ghost use Rattle.rx_rdfa.specs.Standard as the;
+ghost use Rattle.rx_terms.specs.Iri.{IsIri, has_scheme};
+ghost use Rattle.rx_terms.specs.Text.{lowered};
+ghost use Rattle.rx_refs.specs.Views.{seen_slice};
+ghost use Rattle.rx_rdfa.specs.Names.{value_at, term};
+ghost use Rattle.rx_names.specs.Contexts.{standard_tables};
 ghost use Rattle.rx_names.specs.Given.{given, are_given};
+ghost use Rattle.rx_names.specs.Tables.{rise};
 
-use crate::contexts::Context;
-use crate::tables::Table;
-use rx_terms::{Iri, NoMemory, Text};
-use std::alloc::Global;
+use crate::tables::compare_lowered;
 
 /// The prefixes of RDFa's initial context that are in wide use, and `dcat` and `sioc`, in byte order.
-const PREFIXES: [(&str, &str); 19] = [
+static PREFIXES: [(&str, &str); 19] = [
     ("cc", "http://creativecommons.org/ns#"),
     ("dc", "http://purl.org/dc/terms/"),
     ("dcat", "http://www.w3.org/ns/dcat#"),
@@ -32,8 +34,8 @@ const PREFIXES: [(&str, &str); 19] = [
     ("xsd", "http://www.w3.org/2001/XMLSchema#"),
 ];
 
-/// The terms of RDFa's initial context, in byte order.
-const TERMS: [(&str, &str); 3] = [
+/// The terms of RDFa's initial context, in byte order. Each is in lower case.
+static TERMS: [(&str, &str); 3] = [
     (
         "describedby",
         "http://www.w3.org/2007/05/powder-s#describedby",
@@ -42,28 +44,57 @@ const TERMS: [(&str, &str); 3] = [
     ("role", "http://www.w3.org/1999/xhtml/vocab#role"),
 ];
 
-impl Context {
-    /// The standard context: prefixes that are in wide use, and the terms `describedby`, `license` and `role`.
-    pub fn standard(alloc: Global) -> Result<Context, NoMemory>
-        ensures { IfOk result (λ context. context ≡ the.standard) }
-    {
-        let prefixes = table_of(alloc, &PREFIXES)?;
-        let terms = table_of(alloc, &TERMS)?;
-        Context::of(alloc, prefixes, terms)
-    }
+/// How many prefixes there are.
+pub(crate) fn prefix_count() -> usize
+    ensures count { result ≡ length standard_tables.prefixes }
+    ensures in_order { rise standard_tables.prefixes ≡ true }
+{
+    PREFIXES.len()
 }
 
-/// The table of these rows, which stand in byte order, each with an IRI.
-fn table_of(alloc: Global, rows: &[(&str, &str)]) -> Result<Table, NoMemory>
-    requires { are_given (given rows.now) ≡ true }
-    ensures { IfOk result (λ table. table ≡ given rows.now) }
+/// A prefix and its IRI, by the prefix's place in byte order.
+pub(crate) fn prefix_at(i: usize) -> (&'static str, &'static str)
+    requires { i < length standard_tables.prefixes }
+    ensures row { slice_get standard_tables.prefixes i ≡ Some (chars result.0.now, chars result.1.now) }
+    ensures iri { IsIri (chars result.1.now) }
 {
-    let mut table = Table::new(alloc);
-    for (name, iri) in rows {
-        let name = Text::of(alloc, name)?;
-        let text = Text::of(alloc, iri)?;
-        let iri = Iri::of_text(alloc, text)?;
-        table.push(name, iri)?;
+    row_at(&PREFIXES, i)
+}
+
+/// The IRI of the prefix, which is compared in lower case.
+pub(crate) fn prefix(name: &str) -> Option<&'static str>
+    ensures value { seen_slice result ≡ value_at (lowered (chars name.now)) standard_tables.prefixes }
+    ensures scheme { IfSome result (λ iri. has_scheme (chars iri.now) ≡ true) }
+{
+    find_lowered(&PREFIXES, name)
+}
+
+/// The IRI of the term, or else of the term in lower case. As all terms are in lower case, one look-up tells both.
+pub(crate) fn term(name: &str) -> Option<&'static str>
+    ensures value { seen_slice result ≡ term standard_tables (chars name.now) }
+    ensures scheme { IfSome result (λ iri. has_scheme (chars iri.now) ≡ true) }
+{
+    find_lowered(&TERMS, name)
+}
+
+/// The row at a place, from 0.
+fn row_at<'a>(rows: &[(&'a str, &'a str)], i: usize) -> (&'a str, &'a str)
+    requires given { are_given (given rows.now) ≡ true }
+    requires place { i < length rows.now }
+    ensures row { slice_get (given rows.now) i ≡ Some (chars result.0.now, chars result.1.now) }
+    ensures iri { IsIri (chars result.1.now) }
+{
+    rows[i]
+}
+
+/// The IRI of the name in lower case.
+fn find_lowered<'a>(rows: &[(&'a str, &'a str)], name: &str) -> Option<&'a str>
+    requires { are_given (given rows.now) ≡ true }
+    ensures value { seen_slice result ≡ value_at (lowered (chars name.now)) (given rows.now) }
+    ensures scheme { IfSome result (λ iri. has_scheme (chars iri.now) ≡ true) }
+{
+    match rows.binary_search_by(|row| compare_lowered(row.0, name)) {
+        Ok(at) => Some(rows[at].1),
+        Err(_gap) => None,
     }
-    Ok(table)
 }

@@ -1,6 +1,5 @@
 //! Tables from names to IRIs.
-ghost use Rattle.std.specs.Prelude.{◌≡◌, ◌<◌, [], ◌∷◌, ◌++◌, length, true, false, OnOk, OnErr, IfOk, IfSome, MatchOption, Some, None, slice_get, map, take, drop, is_some, unwrap_or, ◌≤◌};
-ghost use Rattle.std.specs.Char.{to_ascii_lowercase};
+ghost use Rattle.std.specs.Prelude.{◌≡◌, ◌<◌, [], ◌∷◌, ◌++◌, length, true, OnOk, OnErr, IfOk, IfSome, MatchOption, Some, None, slice_get, take, drop, is_some, unwrap_or, ◌≤◌};
 ghost use Rattle.std.specs.Cmp.Lexicographic.{slice_cmp};
 ghost use Rattle.std.specs.Ordering.{nat_cmp};
 ghost use Rattle.std.specs.Str.{chars};
@@ -8,7 +7,7 @@ ghost use Rattle.rx_terms.specs.Iri.{IsIri, has_scheme};
 ghost use Rattle.rx_terms.specs.Text.{Chars, lowered};
 ghost use Rattle.rx_refs.specs.Views.{seen_slice};
 ghost use Rattle.rx_rdfa.specs.Names.{value_at};
-ghost use Rattle.rx_names.specs.Tables.{rise, put, folded};
+ghost use Rattle.rx_names.specs.Tables.{byte_order, rise, put, folded};
 
 use rx_terms::{Iri, NoMemory, Text};
 use rx_words::lower;
@@ -65,18 +64,6 @@ impl Table {
     {
         let row = &self.rows[i];
         (row.name.as_str(), row.iri.as_str())
-    }
-
-    /// Adds a row at the end, where its name comes last.
-    pub(crate) fn push(&mut self, name: Text, iri: Iri) -> Result<(), NoMemory>
-        requires { rise (self.old ++ (name, iri) ∷ []) ≡ true }
-        ensures ok { OnOk result (self.new ≡ self.old ++ (name, iri) ∷ []) }
-        ensures err { OnErr result (self.new ≡ self.old) }
-    {
-        match self.rows.push(Mapping { name, iri }) {
-            Ok(()) => Ok(()),
-            Err(_refused) => Err(NoMemory),
-        }
     }
 
     /// Puts a row in its place, and answers whether that was done: where the name stands there already, nothing changes.
@@ -180,8 +167,8 @@ fn compare(text: &str, name: &str) -> Ordering
 }
 
 /// How the text stands to the name in lower case, in byte order.
-fn compare_lowered(text: &str, name: &str) -> Ordering
-    ensures { result ≡ slice_cmp nat_cmp text.now (map to_ascii_lowercase name.now) }
+pub(crate) fn compare_lowered(text: &str, name: &str) -> Ordering
+    ensures { result ≡ byte_order (chars text.now) (lowered (chars name.now)) }
 {
     text.bytes()
         .cmp(name.bytes().map(|b| b.to_ascii_lowercase()))

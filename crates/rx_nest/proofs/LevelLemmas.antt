@@ -1,8 +1,8 @@
 -- The open elements, the innermost first, and how they change.
-use Rattle.std.proofs.Common.{◌≡◌, ◌∙◌, ℕ, zero, suc, ◌+◌, ◌-◌, ◌<◌, ◌≤◌, Bool, true, false, List, [], ◌∷◌, refl, sym, ap, subst, length, nat_le, slice_index_or, slice_set, arith}
+use Rattle.std.proofs.Common.{◌≡◌, ◌∙◌, ℕ, zero, suc, ◌+◌, ◌-◌, ◌<◌, ◌≤◌, Bool, true, false, List, [], ◌∷◌, ◌++◌, refl, sym, ap, subst, length, nat_le, slice_index_or, slice_set, arith}
 use Rattle.std.specs.Prelude.{drop, if◌then◌else◌}
 use Rattle.std.proofs.lemmas.Bool.Decides.{nat_tests}
-use Rattle.std.proofs.lemmas.List.{get_or-set_other, get_or-set_same, get_or_default}
+use Rattle.std.proofs.lemmas.List.{get_or-set_other, get_or-set_same, get_or_default, get_or_append_left, length-append}
 use Rattle.rx_reader.proofs.Bools.{by_test}
 use Rattle.rx_nest.specs.Levels.{Level, Levels, no_level, innermost_first, IsTop, place_under, name_under, hidden_under, kept, ended, one_if}
 
@@ -10,8 +10,8 @@ pub length_inner : (n : ℕ) (kept : List Level) → length (innermost_first n k
 length_inner zero kept = refl
 length_inner (suc n) kept = ap suc (length_inner n kept)
 
-pub fitting : (n : ℕ) (kept : List Level) → n ≤ length kept → length (innermost_first n kept) ≤ length kept
-fitting n kept h = let e = length_inner n kept in omega arith
+pub fitting : (n room : ℕ) (kept : List Level) → (n ≤ length kept) × (length kept ≤ room) → length (innermost_first n kept) ≤ room
+fitting n room kept h = let e = length_inner n kept in let a = h.0 in let b = h.1 in omega arith
 
 -- a level past the open ones is set
 pub set_beyond : (n i : ℕ) (kept : List Level) (x : Level) → n ≤ i → innermost_first n (slice_set kept i x) ≡ innermost_first n kept
@@ -23,6 +23,14 @@ pub pushed : (n : ℕ) (kept : List Level) (x : Level) → n < length kept → i
 pushed n kept x h =
     let e : n + 1 ≡ suc n = omega arith in
     ap (λ m. innermost_first m (slice_set kept n x)) e ∙ rw (get_or-set_same kept n x no_level h, set_beyond n n kept x (omega arith)) refl
+
+-- a level more is kept behind the open ones
+pub grown : (n : ℕ) (kept : List Level) (x : Level) → n ≤ length kept → innermost_first n (kept ++ x ∷ []) ≡ innermost_first n kept
+grown zero kept x h = refl
+grown (suc n) kept x h = rw (get_or_append_left kept (x ∷ []) no_level n (omega arith), grown n kept x (omega arith)) refl
+
+pub behind : (n : ℕ) (kept new : List Level) (x : Level) → n ≤ length kept → new ≡ kept ++ x ∷ [] → length (innermost_first n new) < length new
+behind n kept new x h e = let l = length_inner n new in let m = ap length e ∙ length-append kept (x ∷ []) in omega arith
 
 pub popped : (n : ℕ) (kept : List Level) → innermost_first (n - 1) kept ≡ drop 1 (innermost_first n kept)
 popped zero kept = refl

@@ -1,4 +1,4 @@
-//! The open elements, kept for all levels from the start.
+//! The open elements. What memory a level took is kept for the next element there.
 ghost use Rattle.std.specs.Prelude.{◌≡◌, ◌∷◌, [], ◌<◌, ◌≤◌, OnOk, IfOk, MatchOption, length, drop};
 ghost use Rattle.std.specs.Str.{chars};
 ghost use Rattle.rx_nest.specs.Levels as levels;
@@ -124,11 +124,18 @@ impl Level {
     }
 }
 
+/// So many levels have their room from the start. Most pages have no more.
+const FIRST: usize = 16;
+
 /// The open elements. A contract sees them with the innermost first.
 #[derive(Drop)]
 pub(crate) struct Levels {
+    alloc: Global,
+    // the levels that were open so far, the outermost first
     levels: Vec<Level>,
     open: usize,
+    // how many may be open
+    room: usize,
 }
 
 impl Model for Levels {
@@ -137,30 +144,31 @@ impl Model for Levels {
 
     ghost Value = { Opened };
 
-    ghost view = { λ l. record { levels = innermost_first l.open l.levels.items; room = length l.levels.items; memory = l.levels.items } };
+    ghost view = { λ l. record { levels = innermost_first l.open l.levels.items; room = l.room; memory = l.levels.items } };
 
-    ghost invariant = { λ l. l.open ≤ length l.levels.items };
+    ghost invariant = { λ l. (l.open ≤ length l.levels.items) × (length l.levels.items ≤ l.room) };
 }
 
 impl Levels {
-    /// No element is open. The memory of all levels is taken.
+    /// No element is open.
     pub(crate) fn new(alloc: Global, depth: u32) -> Result<Levels, NoMemory>
         ensures levels { IfOk result (λ l. l.levels ≡ []) }
         ensures room { IfOk result (λ l. l.room ≡ depth) }
     {
-        let mut levels = Vec::new(alloc);
-        for _ in 0..depth {
-            if levels.push(Level::new(alloc)).is_err() {
-                return Err(NoMemory);
-            }
-        }
-        Ok(Levels { levels, open: 0 })
+        let levels = Vec::with_capacity(alloc, FIRST)?;
+        Ok(Levels {
+            alloc,
+            levels,
+            open: 0,
+            room: depth as usize,
+        })
     }
 
     /// How many elements are open.
     pub(crate) fn depth(&self) -> usize
         ensures depth { result ≡ length self.now.levels }
         ensures fits { result ≤ self.now.room }
+        ensures stored { result ≤ length self.now.memory }
         ensures are { self.now.levels ≡ levels.innermost_first result self.now.memory }
     {
         self.open
@@ -172,9 +180,38 @@ impl Levels {
         ensures levels { OnOk result (self.new.levels ≡ levels.level_of (chars name.now) traits ∷ self.old.levels) }
         ensures room { self.new.room ≡ self.old.room }
     {
+        self.make_next()?;
         let open = self.open;
         self.levels[open].set(name, traits)?;
         self.open = open + 1;
+        Ok(())
+    }
+
+    // There is a level behind the open ones. Most often there is one already.
+    #[inline(always)]
+    fn make_next(&mut self) -> Result<(), NoMemory>
+        requires { length self.old.levels < self.old.room }
+        ensures next { OnOk result (length self.new.levels < length self.new.memory) }
+        ensures levels { OnOk result (self.new.levels ≡ self.old.levels) }
+        ensures room { self.new.room ≡ self.old.room }
+    {
+        if self.open < self.levels.len() {
+            return Ok(());
+        }
+        self.make_level()
+    }
+
+    // A level more than there were.
+    #[inline(never)]
+    fn make_level(&mut self) -> Result<(), NoMemory>
+        requires { length self.old.memory < self.old.room }
+        ensures next { OnOk result (length self.new.levels < length self.new.memory) }
+        ensures levels { OnOk result (self.new.levels ≡ self.old.levels) }
+        ensures room { self.new.room ≡ self.old.room }
+    {
+        let Ok(()) = self.levels.push(Level::new(self.alloc)) else {
+            return Err(NoMemory);
+        };
         Ok(())
     }
 
@@ -189,7 +226,7 @@ impl Levels {
 
     /// So many elements are open again, as they were before the last ones ended.
     pub(crate) fn reopen(&mut self, count: usize)
-        requires { count ≤ self.old.room }
+        requires { count ≤ length self.old.memory }
         ensures levels { self.new.levels ≡ levels.innermost_first count self.old.memory }
         ensures room { self.new.room ≡ self.old.room }
     {

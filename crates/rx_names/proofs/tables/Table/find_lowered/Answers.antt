@@ -1,26 +1,22 @@
-use Rattle.std.proofs.Common.{◌∙◌, sym, ap, map, rules}
+use Rattle.std.proofs.Common.{refl, sym, rules}
 use Rattle.std.specs.Prelude.{encode_utf8_all}
-use Rattle.std.specs.Cmp.Lexicographic.{slice_cmp}
-use Rattle.std.specs.Ordering.{nat_cmp}
 use Rattle.std.specs.Str.{chars}
 use Rattle.std.proofs.lemmas.Fn.{always_returns_same}
-use Rattle.std.proofs.lemmas.Str.{encodes-chars}
-use Rattle.std.specs.Char.{to_ascii_lowercase}
 use Rattle.rx_terms.specs.Text.{lowered}
-use Rattle.rx_words.proofs.CaseLemmas.{encodes-lower}
 use Rattle.rx_names.specs.declared.tables.Mapping.{Mapping}
+use Rattle.rx_names.specs.Tables.{byte_order}
 use Rattle.rx_names.proofs.TableLemmas.{found_row, found_no_row}
 use Rattle.rx_names.proofs.tables.Table.find_lowered.Goals as goal
 
 pub returns-in-Ok-clause-value : goal.returns-in-Ok-clause-value
 returns-in-Ok-clause-value c =
-    let found = c.in-Ok.ensures.position (λ (row : Mapping). slice_cmp nat_cmp (encode_utf8_all row.name) (map to_ascii_lowercase c.args.name.now)) (always_returns_same _ _ _ (λ a r f called. search rules)) in
-    found_row c.self.inside.rows.items c.deref.result.now c.args.self.now (map to_ascii_lowercase c.args.name.now) (lowered (chars c.args.name.now)) c.deref.ensures.value (sym c.self.view_is)
-    (sym (encodes-lower (chars c.args.name.now)) ∙ ap (map to_ascii_lowercase) (encodes-chars c.args.name.now c.utf8.name)) c.self.invariant c.in-Ok.at c.index.result.now (chars c.as_str.result.now) c.in-Ok.ensures.bound c.index.ensures
+    let found = c.in-Ok.ensures.position (λ (row : Mapping). byte_order row.name (lowered (chars c.args.name.now))) (always_returns_same _ _ _ (λ a r f called. search rules)) in
+    found_row c.self.inside.rows.items c.deref.result.now c.args.self.now (encode_utf8_all (lowered (chars c.args.name.now))) (lowered (chars c.args.name.now)) c.deref.ensures.value (sym c.self.view_is)
+    refl c.self.invariant c.in-Ok.at c.index.result.now (chars c.as_str.result.now) c.in-Ok.ensures.bound c.index.ensures
     (found c.index.result.now) c.as_str.ensures.characters
 
 pub returns-in-Err-clause-value : goal.returns-in-Err-clause-value
 returns-in-Err-clause-value c =
-    let gap = c.in-Err.ensures.position (λ (row : Mapping). slice_cmp nat_cmp (encode_utf8_all row.name) (map to_ascii_lowercase c.args.name.now)) (always_returns_same _ _ _ (λ a r f called. search rules)) in
-    found_no_row c.self.inside.rows.items c.deref.result.now c.args.self.now (map to_ascii_lowercase c.args.name.now) (lowered (chars c.args.name.now)) c.deref.ensures.value (sym c.self.view_is)
-    (sym (encodes-lower (chars c.args.name.now)) ∙ ap (map to_ascii_lowercase) (encodes-chars c.args.name.now c.utf8.name)) c.self.invariant c.in-Err._gap gap
+    let gap = c.in-Err.ensures.position (λ (row : Mapping). byte_order row.name (lowered (chars c.args.name.now))) (always_returns_same _ _ _ (λ a r f called. search rules)) in
+    found_no_row c.self.inside.rows.items c.deref.result.now c.args.self.now (encode_utf8_all (lowered (chars c.args.name.now))) (lowered (chars c.args.name.now)) c.deref.ensures.value (sym c.self.view_is)
+    refl c.self.invariant c.in-Err._gap gap

@@ -1,0 +1,37 @@
+use Rattle.std.proofs.Common.{◌≡◌, ◌∙◌, true, refl, sym, ap}
+use Rattle.std.specs.Option.{option_or}
+use Rattle.std.specs.Str.{chars}
+use lib.Utf8.{encode}
+use Rattle.rx_terms.specs.Text.{lowered}
+use Rattle.rx_refs.specs.Views.{seen_slice}
+use Rattle.rx_rdfa.specs.Names.{value_at}
+use Rattle.rx_names.specs.Contexts.{standard_tables}
+use Rattle.rx_names.specs.Given.{are_lowered}
+use Rattle.rx_names.specs.Tables.{folded}
+use Rattle.rx_names.proofs.GivenLemmas.{lowered-tells}
+use Rattle.rx_names.proofs.PutLemmas.{folded-value}
+use Rattle.rx_names.proofs.standard.term.Goals as goal
+
+pub find_lowered-requires : goal.find_lowered-requires
+unfolding chars encode
+find_lowered-requires c = refl
+
+lowered_already : are_lowered standard_tables.terms ≡ true
+unfolding standard_tables
+lowered_already = refl
+
+folded_already : folded standard_tables.terms ≡ standard_tables.terms
+unfolding standard_tables encode
+folded_already = refl
+
+-- the rows of the code are the definition's, by computation
+looked_up : (c : goal.After-find_lowered) → seen_slice c.find_lowered.result ≡ value_at (lowered (chars c.args.name.now)) standard_tables.terms
+unfolding chars standard_tables
+looked_up c = c.find_lowered.ensures.value
+
+pub returns-clause-value : goal.returns-clause-value
+returns-clause-value c =
+    let name = chars c.args.name.now in
+    let terms = standard_tables.terms in
+    let same = ap (value_at (lowered name)) (sym folded_already) ∙ folded-value terms (lowered name) in
+    looked_up c ∙ sym (lowered-tells name terms lowered_already) ∙ ap (option_or (value_at name terms)) same
