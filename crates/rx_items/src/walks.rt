@@ -58,7 +58,7 @@ fn items_of(collector: Collector) -> Result<Items, NoMemory>
 }
 
 impl ItemWalk {
-    /// Before the first byte of the page at this address.
+    /// Before the first byte of the page at this address. It takes the memory of all levels.
     pub fn new(
         alloc: Global,
         syntax: Syntax,

@@ -1,4 +1,4 @@
-//! The open elements. What memory a level took is kept for the next element there.
+//! The open elements, with room for all levels from the start. What memory a name took is kept for the next element there.
 ghost use Rattle.std.specs.Prelude.{◌≡◌, ◌∷◌, [], ◌<◌, ◌≤◌, OnOk, IfOk, MatchOption, length, drop};
 ghost use Rattle.std.specs.Str.{chars};
 ghost use Rattle.rx_nest.specs.Levels as levels;
@@ -124,9 +124,6 @@ impl Level {
     }
 }
 
-/// So many levels have their room from the start. Most pages have no more.
-const FIRST: usize = 16;
-
 /// The open elements. A contract sees them with the innermost first.
 #[derive(Drop)]
 pub(crate) struct Levels {
@@ -150,12 +147,12 @@ impl Model for Levels {
 }
 
 impl Levels {
-    /// No element is open.
+    /// No element is open. There is room for all levels, which are made as elements come to them.
     pub(crate) fn new(alloc: Global, depth: u32) -> Result<Levels, NoMemory>
         ensures levels { IfOk result (λ l. l.levels ≡ []) }
         ensures room { IfOk result (λ l. l.room ≡ depth) }
     {
-        let levels = Vec::with_capacity(alloc, FIRST)?;
+        let levels = Vec::with_capacity(alloc, depth as usize)?;
         Ok(Levels {
             alloc,
             levels,

@@ -69,7 +69,7 @@ impl Model for Line {
 impl Line {
     ghost use Rattle.std.specs.Prelude.{[], false, IfOk};
 
-    /// Before the root.
+    /// Before the root. The memory of all levels is taken.
     pub(crate) fn new(alloc: Global, syntax: Syntax, depth: u32) -> Result<Line, NoMemory>
         ensures { IfOk result (λ l. l ≡ record { syntax = syntax; depth = depth; begun = false; levels = [] }) }
     {

@@ -58,7 +58,7 @@ impl Model for Nest {
 impl Nest {
     ghost use Rattle.rx_nest.specs.Signs.{Sign};
 
-    /// Before the first byte of a page. The memory of the levels is taken as tags open them, and kept.
+    /// Before the first byte of a page. It takes the memory of all levels.
     pub fn new(alloc: Global, syntax: Syntax, limits: Limits) -> Result<Nest, NoMemory>
         ensures stands { IfOk result (λ n. nests.Stands syntax limits n [] []) }
         ensures paid { IfOk result (λ n. n.owed ≡ paid) }

@@ -89,7 +89,7 @@ fn take_all<L: Listener>(nest: &mut Nest, listener: &mut L, piece: &[u8]) -> Res
 }
 
 impl<L: Listener + Drop> Reading<L> {
-    /// Before the first byte of a page, whose listener was told nothing.
+    /// Before the first byte of a page, whose listener was told nothing. It takes the memory of all levels.
     pub fn new(
         alloc: Global,
         syntax: Syntax,

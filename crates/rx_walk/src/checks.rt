@@ -34,7 +34,7 @@ impl Model for Check {
 }
 
 impl Check {
-    /// Before the first byte of a page, with the context's prefixes and terms.
+    /// Before the first byte of a page, with the context's prefixes and terms. It takes the memory of all levels.
     pub fn new(
         alloc: Global,
         syntax: Syntax,
