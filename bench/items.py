@@ -1,17 +1,22 @@
 """How `rdfax items` grows with pages of several shapes, and how fast it is beside a check and beside extruct.
 
     apt-get install valgrind python3-extruct
-    ./build    # proves and builds the program, if it isn't there
+    ./build                          # proves and builds the program, if it isn't there
+    (cd crates/rdfax_c && rt lib)    # and the static library, for the last one
     python3 bench/items.py growth
     python3 bench/items.py peers
+    python3 bench/items.py process
 
 growth counts the instructions of `items` on a page of each shape and on one twice as large, by callgrind: they are the
 same whatever else the machine does. peers reads one page of items: `check` and `items` by the instructions, and the first
-2,000 of its items by `items` and by extruct in turn, by processor time, the least of the rounds.
+2,000 of its items by `items` and by extruct in turn, by processor time, the least of the rounds. process does the last
+in one process of Python, in which both are loaded: each makes JSON text of the page's bytes, so what a process takes to
+start counts for neither.
 """
 
 import argparse
 import ctypes
+import json
 import os
 import re
 import subprocess
@@ -21,10 +26,32 @@ import tempfile
 import shapes
 from measure import ADDRESS, BUILT, PR_SET_CHILD_SUBREAPER, Program
 
+TOP = os.path.join(os.path.dirname(os.path.abspath(__file__)), "..")
+
 # of each shape so many elements, such that a page twice as large keeps within 100,000 visits
 SIZES = {"items": 50_000, "properties": 100_000, "levels": 50_000, "shared": 1_000, "starts": 200}
 
 EXTRUCT = "import extruct, json, sys; json.dump(extruct.extract(open(sys.argv[1], 'rb').read(), base_url=sys.argv[2], syntaxes=['microdata']), sys.stdout)"
+
+
+# What both take in one process, given the page, its address and the number of rounds.
+PROCESS = """
+import extruct, json, sys, time
+sys.path.insert(0, sys.argv[1])
+import rdfax
+with open(sys.argv[2], 'rb') as file:
+    page = file.read()
+def least(call):
+    taken = []
+    for _ in range(int(sys.argv[4])):
+        began = time.process_time()
+        text = call()
+        taken.append(time.process_time() - began)
+    return min(taken), text
+theirs, their_text = least(lambda: json.dumps(extruct.extract(page, base_url=sys.argv[3], syntaxes=['microdata'])))
+ours, our_text = least(lambda: rdfax.items_text(page, sys.argv[3]))
+print(json.dumps([ours, theirs]))
+"""
 
 
 def page_file(folder, shape, count):
@@ -83,9 +110,21 @@ def peers(given, folder):
     print(f"2,000 products: items {own:.4f} s, extruct {other:.2f} s, {other / own:.0f} times")
 
 
+def process(given, folder):
+    shared = os.path.join(folder, "librdfax.so")
+    library = os.path.join(TOP, "crates/rdfax_c/out/librdfax_c.a")
+    heap = os.path.join(TOP, "examples/embed/heap.c")
+    subprocess.run(["cc", "-O2", "-fPIC", "-shared", "-o", shared, heap, "-Wl,--whole-archive", library, "-Wl,--no-whole-archive"], check=True)
+    page = product_file(folder, 2_000)
+    words = ["/usr/bin/python3", "-c", PROCESS, os.path.join(TOP, "examples/embed"), page, ADDRESS, str(given.rounds)]
+    run = subprocess.run(words, env={**os.environ, "RDFAX_LIBRARY": shared}, stdout=subprocess.PIPE, check=True)
+    own, other = json.loads(run.stdout)
+    print(f"2,000 products in one process: rdfax {own:.5f} s, extruct {other:.3f} s, {other / own:.0f} times")
+
+
 def arguments():
     parser = argparse.ArgumentParser(description="rdfax items on pages of several shapes, and beside extruct")
-    parser.add_argument("what", choices=["growth", "peers"])
+    parser.add_argument("what", choices=["growth", "peers", "process"])
     parser.add_argument("--program", default=BUILT, help="the built program")
     parser.add_argument("--shapes", default=",".join(shapes.ITEM_SHAPES), help="some of the shapes")
     parser.add_argument("--rounds", type=int, default=3)
@@ -96,7 +135,7 @@ def main():
     given = arguments()
     ctypes.CDLL(None).prctl(PR_SET_CHILD_SUBREAPER, 1, 0, 0, 0)
     with tempfile.TemporaryDirectory() as folder:
-        {"growth": growth, "peers": peers}[given.what](given, folder)
+        {"growth": growth, "peers": peers, "process": process}[given.what](given, folder)
 
 
 if __name__ == "__main__":

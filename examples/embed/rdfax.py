@@ -149,9 +149,14 @@ def extract(page, base, *, syntax="html", format="nquads", graph=None, context=N
     return _run("extract", page, base, syntax=syntax, format=format, graph=graph, context=context).decode()
 
 
+def items_text(page, base, *, syntax="html"):
+    """The JSON text of the page's items (Microdata), as the HTML Standard has it."""
+    return _run("items", page, base, syntax=syntax).decode()
+
+
 def items(page, base, *, syntax="html"):
     """The page's items (Microdata), as the HTML Standard's JSON has them."""
-    return json.loads(_run("items", page, base, syntax=syntax))
+    return json.loads(items_text(page, base, syntax=syntax))
 
 
 def check(page, *, syntax="html", context=None):
