@@ -9,41 +9,13 @@ use Rattle.rx_rdfa.specs.Iris.{rdf_first, rdf_rest, rdf_nil}
 use Rattle.rx_rdfa.specs.Element.{to_node}
 use Rattle.rx_rdfa.specs.Lists.{list_of, chain, cell_or_nil}
 use Rattle.rx_lists.specs.Owners.{itself}
-use Rattle.rx_lists.specs.Cells.{linked, one_cell}
-
-abbrev pub seen_items : List (Option CodeTerm) → List (Term ℕ)
-seen_items slots = map term_seen (filter_map itself slots)
+use Rattle.rx_lists.specs.Cells.{linked, one_cell, terms_in}
 
 -- what is written and what is still to be written of the slots that are left is the whole
 pub record Left (out : List (Triple ℕ)) (cell : ℕ) (node : Node ℕ) (by : Chars) (slots : List (Option CodeTerm)) (whole : List (Triple ℕ)) (last : ℕ) : Type 0 where
-  pub triples : out ++ linked cell node by (seen_items slots) ≡ whole
+  pub triples : out ++ linked cell node by (terms_in slots) ≡ whole
   pub cells : cell + length (filter_map itself slots) ≡ last
   pub room : cell + length slots < 2 ^ 64
-
-pub turn : (out more : List (Triple ℕ)) (cell : ℕ) (node end : Node ℕ) (by end_by : Chars) (item : CodeTerm) (slots rest : List (Option CodeTerm)) (whole : List (Triple ℕ)) (last : ℕ)
-    → slots ≡ Some item ∷ rest
-    → more ≡ out ++ one_cell node by cell (term_seen item)
-    → end ≡ Blank cell → end_by ≡ rdf_rest
-    → Left out cell node by slots whole last → Left more (cell + 1) end end_by rest whole last
-turn out more cell node end by end_by item slots rest whole last s m e b l =
-    let t : out ++ linked cell node by (seen_items (Some item ∷ rest)) ≡ whole = ap (λ (x : List (Option CodeTerm)). out ++ linked cell node by (seen_items x)) (sym s) ∙ l.triples in
-    let c : cell + length (filter_map itself (Some item ∷ rest)) ≡ last = ap (λ (x : List (Option CodeTerm)). cell + length (filter_map itself x)) (sym s) ∙ l.cells in
-    let r : cell + length (Some item ∷ rest) < 2 ^ 64 = subst (λ (x : List (Option CodeTerm)). cell + length x < 2 ^ 64) s l.room in
-    record {
-      triples = rw (m, e, b) (append_assoc out _ (linked (cell + 1) (Blank cell) rdf_rest (seen_items rest)) ∙ t);
-      cells = omega (arith, c);
-      room = omega (arith, r);
-    }
-
-pub passed : (out : List (Triple ℕ)) (cell : ℕ) (node : Node ℕ) (by : Chars) (slots rest : List (Option CodeTerm)) (whole : List (Triple ℕ)) (last : ℕ)
-    → slots ≡ None ∷ rest → Left out cell node by slots whole last → Left out cell node by rest whole last
-passed out cell node by slots rest whole last s l =
-    let r : cell + length {A = Option CodeTerm} (None ∷ rest) < 2 ^ 64 = subst (λ (x : List (Option CodeTerm)). cell + length x < 2 ^ 64) s l.room in
-    record {
-      triples = ap (λ (x : List (Option CodeTerm)). out ++ linked cell node by (seen_items x)) (sym s) ∙ l.triples;
-      cells = ap (λ (x : List (Option CodeTerm)). cell + length (filter_map itself x)) (sym s) ∙ l.cells;
-      room = omega (arith, r);
-    }
 
 -- from the head, by numbers of cells that are counted from the first
 chain_linked : (first i cell : ℕ) (items : List (Term ℕ)) (node : Node ℕ) (by : Chars) → cell ≡ first + i
@@ -55,11 +27,6 @@ chain_linked first i cell (item ∷ more) node by e =
 
 pub list_linked : (first : ℕ) (subject : Node ℕ) (predicate : Chars) (items : List (Term ℕ)) → list_of (λ i. first + i) subject predicate items ≡ linked first subject predicate items
 list_linked first subject predicate items = chain_linked first 0 first items subject predicate (omega arith)
-
-pub begins : (out : List (Triple ℕ)) (first : ℕ) (node : Node ℕ) (subject : Node ℕ) (by predicate : Chars) (slots : List (Option CodeTerm))
-    → node ≡ subject → by ≡ predicate → first + length slots < 2 ^ 64
-    → Left out first node by slots (out ++ linked first subject predicate (seen_items slots)) (first + length (filter_map itself slots))
-begins out first node subject by predicate slots e f r = record { triples = rw (e, f) refl; cells = refl; room = r }
 
 pub at_end : (out more : List (Triple ℕ)) (cell : ℕ) (node : Node ℕ) (by : Chars) (slots : List (Option CodeTerm)) (whole : List (Triple ℕ)) (last : ℕ)
     → Left out cell node by slots whole last → length slots ≡ 0 → more ≡ out ++ to_node node by (Iri rdf_nil) ∷ [] → (more ≡ whole) × (cell ≡ last)
@@ -73,9 +40,9 @@ two_more out more last node by first cell item given m l f g =
     rw (l, m, f, g) (append_assoc out (to_node node by (Blank cell) ∷ []) (spo (Blank cell) rdf_first (term_seen item) ∷ []))
 
 pub written : (out more start : List (Triple ℕ)) (cell : ℕ) (node : Node ℕ) (by nil : Chars) (first : ℕ) (subject : Node ℕ) (predicate : Chars) (slots left : List (Option CodeTerm))
-    → Left out cell node by left (start ++ linked first subject predicate (seen_items slots)) (first + length (filter_map itself slots))
+    → Left out cell node by left (start ++ linked first subject predicate (terms_in slots)) (first + length (filter_map itself slots))
     → length left ≡ 0 → more ≡ out ++ to_node node by (Iri nil) ∷ [] → nil ≡ rdf_nil
-    → more ≡ start ++ list_of (λ i. first + i) subject predicate (seen_items slots)
+    → more ≡ start ++ list_of (λ i. first + i) subject predicate (terms_in slots)
 written out more start cell node by nil first subject predicate slots left l z m n =
     (at_end out more cell node by left _ _ l z (m ∙ ap (λ (x : Chars). out ++ to_node node by (Iri x) ∷ []) n)).0
-    ∙ ap (λ (x : List (Triple ℕ)). start ++ x) (sym (list_linked first subject predicate (seen_items slots)))
+    ∙ ap (λ (x : List (Triple ℕ)). start ++ x) (sym (list_linked first subject predicate (terms_in slots)))

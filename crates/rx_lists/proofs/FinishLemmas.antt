@@ -8,8 +8,7 @@ use Rattle.rx_model.specs.Terms.{Node, Triple}
 use Rattle.rx_model.specs.Seen.{term_seen}
 use Rattle.rx_rdfa.specs.Lists.{list_of}
 use Rattle.rx_lists.specs.Owners.{Owned, Owners, Slots, itself, is_finished, trimmed, trimmed_by}
-use Rattle.rx_lists.specs.Cells.{cells_of, items_seen, size}
-use Rattle.rx_lists.proofs.CellLemmas.{seen_items}
+use Rattle.rx_lists.specs.Cells.{cells_of, items_seen, size, terms_in}
 
 -- what is written, and what is still to be written of the lists that are left, is the whole
 pub record LeftOver (subject : Node ℕ) (out : List (Triple ℕ)) (next : ℕ) (left : Slots) (first : ℕ) (lists : Slots) : Type 0 where
@@ -17,7 +16,7 @@ pub record LeftOver (subject : Node ℕ) (out : List (Triple ℕ)) (next : ℕ) 
   pub cells : next + size (items_seen left) ≡ first + size (items_seen lists)
   pub room : next + size left < 2 ^ 64
 
-no_more : (slots : List (Option CodeTerm)) → length (seen_items slots) ≤ length slots
+no_more : (slots : List (Option CodeTerm)) → length (terms_in slots) ≤ length slots
 no_more slots = omega (arith, length-map (filter_map itself slots) term_seen, fewer slots) where
   fewer : (s : List (Option CodeTerm)) → length (filter_map itself s) ≤ length s
   fewer [] = omega arith
@@ -26,7 +25,7 @@ no_more slots = omega (arith, length-map (filter_map itself slots) term_seen, fe
 
 pub next_list : (subject given : Node ℕ) (out more : List (Triple ℕ)) (next after first i : ℕ) (p : Chars) (s : List (Option CodeTerm)) (lists : Slots) → i < length lists → given ≡ subject
     → p ≡ (get_or lists i ([], [])).0 → s ≡ (get_or lists i ([], [])).1
-    → more ≡ out ++ list_of (λ j. next + j) given p (seen_items s) → after ≡ next + length (seen_items s)
+    → more ≡ out ++ list_of (λ j. next + j) given p (terms_in s) → after ≡ next + length (terms_in s)
     → LeftOver subject out next (drop i lists) first lists → LeftOver subject more after (drop (i + 1) lists) first lists
 next_list subject given out more next after first i p s lists h g k t m a l =
     let rest = drop (suc i) lists in

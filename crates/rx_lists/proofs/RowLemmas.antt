@@ -13,16 +13,6 @@ use Rattle.std.proofs.lemmas.List.{map-append, length-map}
 use Rattle.rx_lists.specs.Owners.{Owned, owned, with_lists, with_slot, with_term, Slots, slots_at, predicates_of, place_of, slots_of}
 use Rattle.rx_lists.specs.Rows.{rows, first_place, FoundAt}
 
-pub got_within : {A : Type 0} (xs : List A) (i : ℕ) {x : A} → slice_get xs i ≡ Some x → i < length xs
-got_within [] i h = absurd (cc)
-got_within (y ∷ xs) zero h = omega arith
-got_within (y ∷ xs) (suc i) h = omega (arith, got_within xs i h)
-
-row_within : {A : Type 0} (xs : List (List A)) (i : ℕ) {j : ℕ} → j < length (slice_index_or xs i []) → i < length xs
-row_within [] i h = absurd (omega arith)
-row_within (y ∷ xs) zero h = omega arith
-row_within (y ∷ xs) (suc i) h = omega (arith, row_within xs i h)
-
 by_test : {G : Type 0} (b : Bool) → (b ≡ true → G) → (b ≡ false → G) → G
 by_test true f g = f refl
 by_test false f g = g refl
@@ -151,9 +141,6 @@ pub if_ok : {A E P Q : Type 0} (r : Result A E) → (P → Q) → OnOk r P → O
 if_ok (Ok a) f p = f p
 if_ok (Err e) f p = p
 
-pub map_more : {A B : Type 0} (f : A → B) (xs ys : List A) (x : A) → ys ≡ xs ++ x ∷ [] → map f ys ≡ map f xs ++ f x ∷ []
-map_more f xs ys x e = ap (map f) e ∙ map-append f xs (x ∷ [])
-
 pub keys_of : (o : Owned) (subject : Node) (ks : List (List ℕ)) (ss : List (List (Option Term))) → owned subject (rows ks ss) ≡ o → length ks ≡ length ss → predicates_of o.lists ≡ ks
 keys_of o subject ks ss v e = ap (λ (x : Owned). predicates_of x.lists) (sym v) ∙ keys_are ks ss e
 
@@ -199,13 +186,6 @@ module _ (o : Owned) (subject : Node) (ks : List (List ℕ)) (ss : List (List (O
       row_view i (slice_set (slice_index_or ss i []) j (Some t)) new n
       ∙ ap (λ (s : List (Option Term)). with_lists (λ l. slice_set l i ((slice_index_or l i ([], [])).0, slice_set s j (Some t))) o) (sym (same_slots i))
 
-  -- a slot that is there
-  pub there : (i j : ℕ) → slice_get (slots_at o.lists i) j ≡ Some None → (i < length ss) × (j < length (slice_index_or ss i []))
-  there i j h =
-      let g : slice_get (slice_index_or ss i []) j ≡ Some None = ap (λ (x : List (Option Term)). slice_get x j) (sym (same_slots i)) ∙ h in
-      let w : j < length (slice_index_or ss i []) = got_within _ j g in
-      (row_within ss i w, w)
-
 pub slot_old : (o n : Owned) (p : List ℕ) (i : ℕ) → FoundAt p (predicates_of o.lists) (Some i) → n ≡ with_lists (with_slot i) o → n ≡ with_lists (put p (Some None)) o
 slot_old o n p i f h =
     h ∙ ap (λ (x : ℕ). with_lists (with_slot x) o) f.0
@@ -213,9 +193,6 @@ slot_old o n p i f h =
 
 pub list_old : (o : Owned) (p : List ℕ) (i : ℕ) → FoundAt p (predicates_of o.lists) (Some i) → i ≡ place_of p o.lists
 list_old o p i f = f.0 ∙ sym (place_is p o.lists)
-
-pub within_old : (o : Owned) (p : List ℕ) (i : ℕ) → FoundAt p (predicates_of o.lists) (Some i) → i < length o.lists
-within_old o p i f = omega (arith, f.1, length-map o.lists (λ row. row.0))
 
 pub place_old : (o : Owned) (p : List ℕ) (i : ℕ) (s : List (Option Term)) → FoundAt p (predicates_of o.lists) (Some i) → s ≡ slots_at o.lists i → length s ≡ length (slots_of p o.lists)
 place_old o p i s f h = ap length (h ∙ ap (slots_at o.lists) f.0 ∙ sym (slots_are p o.lists))

@@ -1,6 +1,7 @@
 -- The triples of an owner's lists: RDF Schema 1.1, 5.2, with cells numbered in the order of the slots.
 use Rattle.std.specs.Prelude.{ℕ, ◌+◌, List, [], ◌∷◌, ◌++◌, map, length, filter_map, Option, Some, None}
 use Rattle.rx_terms.specs.Text.{Chars}
+use Rattle.rx_terms.specs.declared.triples.Term.{Term as CodeTerm}
 use Rattle.rx_model.specs.Terms.{Node, Iri, Blank, Term, Triple}
 use Rattle.rx_model.specs.Seen.{node_seen, term_seen}
 use Rattle.rx_model.specs.Copied.{spo}
@@ -10,9 +11,13 @@ use Rattle.rx_rdfa.specs.Tables.{Table}
 use Rattle.rx_rdfa.specs.Lists.{list_of}
 use Rattle.rx_lists.specs.Owners.{Owned, Slots, itself}
 
+-- the terms of the slots that have one
+abbrev pub terms_in : List (Option CodeTerm) → List (Term ℕ)
+terms_in slots = map term_seen (filter_map itself slots)
+
 -- the slots' terms
 abbrev pub items_seen : Slots → Table (Term ℕ)
-items_seen lists = map (λ row. (row.0, map term_seen (filter_map itself row.1))) lists
+items_seen lists = map (λ row. (row.0, terms_in row.1)) lists
 
 -- the number of all items
 abbrev pub size : {T : Type 0} → Table T → ℕ

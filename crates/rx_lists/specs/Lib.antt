@@ -1,4 +1,5 @@
 pub mod Owners
+pub mod Gains
 pub mod Cells
 pub mod Rows
 pub mod SlotIds

@@ -1,14 +1,14 @@
 //! The triples of a list (RDF Schema 1.1, section 5.2).
-ghost use Rattle.std.specs.Prelude.{◌≡◌, true, ◌+◌, ◌<◌, ◌^◌, ◌∷◌, [], ◌++◌, OnOk, IfOk, map, filter_map, length};
+ghost use Rattle.std.specs.Prelude.{◌≡◌, true, ◌+◌, ◌<◌, ◌^◌, ◌∷◌, [], OnOk, IfOk, length};
 ghost use Rattle.std.specs.List.{list_all};
 ghost use Rattle.rx_terms.specs.Ascii.{is_ascii};
 ghost use Rattle.rx_terms.specs.Iri.{IsIri};
-ghost use Rattle.rx_model.specs.Seen.{node_seen, term_seen, triples_seen};
+ghost use Rattle.rx_model.specs.Seen.{node_seen, term_seen};
 ghost use Rattle.rx_model.specs.Copied.{spo};
 ghost use Rattle.rx_rdfa.specs.Iris.{rdf_first, rdf_rest};
 ghost use Rattle.rx_rdfa.specs.Lists.{list_of};
-ghost use Rattle.rx_lists.specs.Owners.{itself};
-ghost use Rattle.rx_lists.specs.Cells.{cell_node, one_cell};
+ghost use Rattle.rx_lists.specs.Cells.{cell_node, one_cell, terms_in};
+ghost use Rattle.rx_lists.specs.Gains.{Gains};
 
 use rx_terms::{Blank, Iri, NoMemory, Node, Term, Text, Triple, TripleList};
 use std::alloc::Global;
@@ -29,8 +29,8 @@ pub(crate) fn push_list(
     first: u64,
 ) -> Result<u64, NoMemory>
     requires { first + length slots.now < 2 ^ 64 }
-    ensures triples { OnOk result (triples_seen out.new ≡ triples_seen out.old ++ list_of (λ i. first + i) (node_seen subject.now) predicate.now (map term_seen (filter_map itself slots.now))) }
-    ensures next { IfOk result (λ next. next ≡ first + length (map term_seen (filter_map itself slots.now))) }
+    ensures triples { OnOk result (Gains out.old out.new (list_of (λ i. first + i) (node_seen subject.now) predicate.now (terms_in slots.now))) }
+    ensures next { IfOk result (λ next. next ≡ first + length (terms_in slots.now)) }
 {
     let iris = CellIris::new(alloc)?;
     let mut cell = first;
@@ -84,7 +84,7 @@ impl End {
         item: &Term,
     ) -> Result<End, NoMemory>
         requires { (iris.now.first ≡ rdf_first) × (iris.now.rest ≡ rdf_rest) }
-        ensures triples { OnOk result (triples_seen out.new ≡ triples_seen out.old ++ one_cell (node_seen self.node) self.by cell (term_seen item.now)) }
+        ensures triples { OnOk result (Gains out.old out.new (one_cell (node_seen self.node) self.by cell (term_seen item.now))) }
         ensures end { IfOk result (λ end. (node_seen end.node ≡ cell_node cell) × (end.by ≡ rdf_rest)) }
     {
         let End { node, by } = self;
@@ -99,7 +99,7 @@ impl End {
 }
 
 fn push(out: &mut TripleList, subject: Node, predicate: Iri, object: Term) -> Result<(), NoMemory>
-    ensures { OnOk result (triples_seen out.new ≡ triples_seen out.old ++ spo (node_seen subject) predicate (term_seen object) ∷ []) }
+    ensures { OnOk result (Gains out.old out.new (spo (node_seen subject) predicate (term_seen object) ∷ [])) }
 {
     out.push(Triple {
         subject,

@@ -1,3 +1,4 @@
 pub mod Durations
 pub mod Kinds
 pub mod Marks
+pub mod Clocks

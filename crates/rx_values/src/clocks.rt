@@ -1,7 +1,8 @@
 //! Times of day (XML Schema 1.1 Part 2, section 3.3.8).
 ghost use Rattle.std.specs.Prelude.{◌≡◌, ◌∷◌, option_copied};
 ghost use Rattle.rx_terms.specs.Ascii.{is_digit};
-ghost use Rattle.rx_rdfa.specs.Times.{after_char, after_two, after_fraction, after_hms, after_clock, is_zero, ◌andThen◌};
+ghost use Rattle.rx_rdfa.specs.Times.{after_fraction, after_hms, after_clock, is_zero};
+ghost use Rattle.rx_values.specs.Clocks.{after_seconds};
 
 use crate::readers::{after_char, after_some_digits, after_two, split_digits};
 use crate::years::are_zeros;
@@ -30,7 +31,7 @@ fn after_midnight(text: &[u8]) -> Option<&[u8]>
 
 /// What follows hours from `low` to `high`, minutes and seconds, both at most `last`.
 fn after_hms(text: &[u8], low: u8, high: u8, last: u8) -> Option<&[u8]>
-    ensures { option_copied result ≡ (after_two low high text.now andThen after_char 58 andThen after_two 0 last andThen after_char 58 andThen after_two 0 last) }
+    ensures { option_copied result ≡ after_seconds low high last text.now }
 {
     let minutes = after_char(after_two(text, low, high)?, b':')?;
     let seconds = after_char(after_two(minutes, 0, last)?, b':')?;
