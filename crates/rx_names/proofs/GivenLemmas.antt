@@ -25,12 +25,6 @@ Row = Bor (List ℕ) × Bor (List ℕ)
 pub given-rises : (rows : List Row) → are_given (given rows) ≡ true → rise (given rows) ≡ true
 given-rises rows h = (and_parts (rise (given rows)) (list_all (λ row. is_iri row.1) (given rows)) h).0
 
--- the row at a place
-pub given-row : (rows : List Row) (i : ℕ) (d : Row) → i < length rows → slice_get (given rows) i ≡ Some (chars (get_or rows i d).0.now, chars (get_or rows i d).1.now)
-given-row [] i d below = absurd (omega arith)
-given-row (row ∷ rows) zero d below = refl
-given-row (row ∷ rows) (suc i) d below = given-row rows i d (omega arith)
-
 pub given-iri : (rows : List Row) (i : ℕ) (d : Row) → are_given (given rows) ≡ true → i < length rows → IsIri (chars (get_or rows i d).1.now)
 given-iri rows i d h below = is_iri-true (chars (get_or rows i d).1.now) (at rows i below (and_parts (rise (given rows)) (list_all (λ row. is_iri row.1) (given rows)) h).1) where
   at : (rows : List Row) (i : ℕ) → i < length rows → list_all (λ (row : Chars × Chars). is_iri row.1) (given rows) ≡ true → is_iri (chars (get_or rows i d).1.now) ≡ true

@@ -14,37 +14,6 @@ use Rattle.rx_names.specs.Rows.{prefix_row, vocabulary_rows, language_rows, lang
 use Rattle.rx_names.specs.Lines.{Kept, pushed, popped, kept_of, Stands, prefix_of, vocabulary_of, language_of, declared_along}
 use Rattle.rx_names.proofs.RowLemmas.{last-append, or-none, or-assoc}
 
--- Pushing and popping
-
-kept-context : (context : Context) (line : List Tag) → (kept_of context line).context ≡ context
-kept-context context [] = refl
-kept-context context (tag ∷ above) = kept-context context above
-
-pub stands-none : (kept : Kept) (context : Context) → kept ≡ record { context = context; rows = []; marks = [] } → Stands kept []
-stands-none kept context e = record { is = e ∙ ap (λ (c : Context). kept_of c []) (sym (ap (λ (k : Kept). k.context) e)) }
-
-pub stands-pushed : (old new : Kept) (tag : Tag) (line : List Tag) → new ≡ pushed old tag → Stands old line → Stands new (tag ∷ line)
-stands-pushed old new tag line e s =
-    record { is = e ∙ ap (λ (k : Kept). pushed k tag) s.is ∙ ap (λ (c : Context). kept_of c (tag ∷ line)) (sym (ap (λ (k : Kept). k.context) e)) }
-
-popped-pushed : (kept : Kept) (tag : Tag) → popped (pushed kept tag) ≡ kept
-popped-pushed kept tag =
-    let count = length kept.marks in
-    let last : length (kept.marks ++ length kept.rows ∷ []) - 1 ≡ count = omega (arith, length-append kept.marks (length kept.rows ∷ [])) in
-    let mark : slice_index (kept.marks ++ length kept.rows ∷ []) (length (kept.marks ++ length kept.rows ∷ []) - 1) ≡ length kept.rows =
-    ap (slice_index (kept.marks ++ length kept.rows ∷ [])) last ∙ get_or-append_seam kept.marks (length kept.rows) [] 0 in
-    let rows : take (slice_index (kept.marks ++ length kept.rows ∷ []) (length (kept.marks ++ length kept.rows ∷ []) - 1)) (kept.rows ++ rows_of tag) ≡ kept.rows =
-    ap (λ (n : ℕ). take n (kept.rows ++ rows_of tag)) mark ∙ take-append_seam kept.rows (rows_of tag) in
-    let marks : take (length (kept.marks ++ length kept.rows ∷ []) - 1) (kept.marks ++ length kept.rows ∷ []) ≡ kept.marks =
-    ap (λ (n : ℕ). take n (kept.marks ++ length kept.rows ∷ [])) last ∙ take-append_seam kept.marks (length kept.rows ∷ []) in
-    λ i. record { context = kept.context; rows = rows i; marks = marks i }
-
-pub stands-popped : (old new : Kept) (tag : Tag) (line : List Tag) → new ≡ popped old → Stands old (tag ∷ line) → Stands new line
-stands-popped old new tag line e s =
-    let below : new ≡ kept_of old.context line = e ∙ ap popped s.is ∙ popped-pushed (kept_of old.context line) tag in
-    let same : new.context ≡ old.context = ap (λ (k : Kept). k.context) e in
-    record { is = below ∙ ap (λ (c : Context). kept_of c line) (sym same) }
-
 -- Prefixes
 
 value-append : (name : Chars) (xs ys : Table) → value_at name (xs ++ ys) ≡ option_or (value_at name xs) (value_at name ys)

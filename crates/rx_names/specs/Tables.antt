@@ -1,5 +1,5 @@
 -- Tables of names in byte order.
-use Rattle.std.specs.Prelude.{Bool, true, ◌&&◌, [], ◌∷◌, Option, Some, None, option_map, encode_utf8_all, unwrap_or}
+use Rattle.std.specs.Prelude.{◌≡◌, ℕ, ◌≤◌, Bool, true, ◌&&◌, [], ◌∷◌, ◌++◌, length, take, drop, Option, Some, None, option_map, encode_utf8_all, unwrap_or}
 use Rattle.std.specs.List.{list_all}
 use Rattle.std.specs.declared.cmp.Ordering.{Ordering}
 use Rattle.std.specs.Ordering.{is_lt, nat_cmp, match_ordering}
@@ -23,6 +23,15 @@ rise (row ∷ rows) = list_all (λ later. is_before row.0 later.0) rows && rise 
 abbrev pub put : Chars × Chars → Table → Option Table
 put row [] = Some (row ∷ [])
 put row (first ∷ rows) = match_ordering (byte_order row.0 first.0) (Some (row ∷ first ∷ rows)) None (option_map (λ table. first ∷ table) (put row rows))
+
+-- no row of the name can be put in
+abbrev pub IsThere : Chars → Table → Type 0
+IsThere name table = (iri : Chars) → put (name, iri) table ≡ None
+
+-- each row of the name is put in at this place
+abbrev pub IsGap : Chars → Table → ℕ → Type 0
+IsGap name table gap =
+    (gap ≤ length table) × ((iri : Chars) → put (name, iri) table ≡ Some (take gap table ++ (name, iri) ∷ drop gap table))
 
 -- the table with the rows' names in lower case, each with the IRI of the first of them
 abbrev pub folded_onto : Table → Table → Table

@@ -135,7 +135,8 @@ impl<'a> NamesView<'a> {
     /// the context says (RDFa Core 1.1, section 7.5, step 3).
     pub fn prefix(&self, name: &str) -> Option<&'a str>
         ensures kept { seen_slice result ≡ prefix_of (names_seen self.now) (lowered (chars name.now)) }
-        ensures line { (line : List StartTag) → Stands (names_seen self.now) line → seen_slice result ≡ prefix (names_seen self.now).context line (lowered (chars name.now)) }
+        ensures line { (line : List StartTag) → Stands (names_seen self.now) line
+            → seen_slice result ≡ prefix (names_seen self.now).context line (lowered (chars name.now)) }
         ensures scheme { IfSome result (λ iri. has_scheme (chars iri.now) ≡ true) }
     {
         let names = self.names;

@@ -1,5 +1,5 @@
 //! Tables from names to IRIs.
-ghost use Rattle.std.specs.Prelude.{◌≡◌, ◌<◌, [], ◌∷◌, ◌++◌, length, true, OnOk, OnErr, IfOk, IfSome, MatchOption, Some, None, slice_get, take, drop, is_some, unwrap_or, ◌≤◌};
+ghost use Rattle.std.specs.Prelude.{◌≡◌, ◌<◌, [], length, true, OnOk, OnErr, IfOk, IfSome, MatchOption, Some, slice_get, is_some, unwrap_or};
 ghost use Rattle.std.specs.Cmp.Lexicographic.{slice_cmp};
 ghost use Rattle.std.specs.Ordering.{nat_cmp};
 ghost use Rattle.std.specs.Str.{chars};
@@ -7,7 +7,7 @@ ghost use Rattle.rx_terms.specs.Iri.{IsIri, has_scheme};
 ghost use Rattle.rx_terms.specs.Text.{Chars, lowered};
 ghost use Rattle.rx_refs.specs.Views.{seen_slice};
 ghost use Rattle.rx_rdfa.specs.Names.{value_at};
-ghost use Rattle.rx_names.specs.Tables.{byte_order, rise, put, folded};
+ghost use Rattle.rx_names.specs.Tables.{byte_order, rise, put, folded, IsThere, IsGap};
 
 use rx_terms::{Iri, NoMemory, Text};
 use rx_words::lower;
@@ -104,7 +104,7 @@ impl Table {
 
     /// Where the name would stand, or `None` exactly where it stands there already.
     fn gap(&self, name: &str) -> Option<usize>
-        ensures { MatchOption result ((iri : Chars) → put (chars name.now, iri) self.now ≡ None) (λ gap. (gap ≤ length self.now) × ((iri : Chars) → put (chars name.now, iri) self.now ≡ Some (take gap self.now ++ (chars name.now, iri) ∷ drop gap self.now))) }
+        ensures { MatchOption result (IsThere (chars name.now) self.now) (IsGap (chars name.now) self.now) }
     {
         match self
             .rows
