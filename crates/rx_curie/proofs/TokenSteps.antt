@@ -21,22 +21,10 @@ module _ {A B : Type 0} (p : A → Option B) where
       ap (λ (x : List B). x ++ filter_map p more) f ∙ append_assoc old (option_to_list (p token)) (filter_map p more)
       ∙ ap (λ (x : List B). old ++ x) (sym (ap (filter_map p) is ∙ filter_map-cons token more)) ∙ e
 
-  pub tokens-end : (old whole : List B) (words : List A) → old ++ filter_map p words ≡ whole → words ≡ [] → old ≡ whole
-  tokens-end old whole words e is = sym (append-nil old) ∙ sym (ap (λ (x : List A). old ++ filter_map p x) is) ∙ e
-
 -- the predicates so far, of the tokens that are kept beside `property`, and the tokens that are still to be read
 abbrev pub so_far : Context → List Tag → Bool → List Chars → List Chars → Option (List Chars)
 so_far context line true iris words = Some (iris ++ filter_map (predicate context line) (filter (stays_beside_property context line) words))
 so_far context line false iris words = present_unless_none context line (filter (stays_beside_property context line) words)
-
-pub not-kept : (context : Context) (line : List Tag) (present : Bool) (iris : List Chars) (words more : List Chars) (token : Chars) (whole : Option (List Chars))
-    → so_far context line present iris words ≡ whole → words ≡ token ∷ more → stays_beside_property context line token ≡ false → so_far context line present iris more ≡ whole
-not-kept context line present iris words more token whole e is other =
-    let skip : filter (stays_beside_property context line) words ≡ filter (stays_beside_property context line) more = ap (filter (stays_beside_property context line)) is ∙ rw other refl in
-    go present e skip where
-      go : (present : Bool) → so_far context line present iris words ≡ whole → filter (stays_beside_property context line) words ≡ filter (stays_beside_property context line) more → so_far context line present iris more ≡ whole
-      go true e skip = sym (ap (λ (x : List Chars). Some (iris ++ filter_map (predicate context line) x)) skip) ∙ e
-      go false e skip = sym (ap (present_unless_none context line) skip) ∙ e
 
 pub is-kept : (context : Context) (line : List Tag) (present : Bool) (old new : List Chars) (words more : List Chars) (token : Chars) (whole : Option (List Chars))
     → so_far context line present old words ≡ whole → (present ≡ false → old ≡ []) → words ≡ token ∷ more → stays_beside_property context line token ≡ true
@@ -54,10 +42,3 @@ is-kept context line present old new words more token whole e none is stays f =
       go false e none keep =
           ap Some (step ∙ ap (λ (x : List Chars). x ++ filter_map (predicate context line) (token ∷ filter (stays_beside_property context line) more)) (none refl))
           ∙ sym (ap (present_unless_none context line) keep) ∙ e
-
-pub kept-end : (context : Context) (line : List Tag) (iris : List Chars) (words : List Chars) (whole : Option (List Chars)) → so_far context line true iris words ≡ whole → words ≡ [] → Some iris ≡ whole
-kept-end context line iris words whole e is =
-    ap Some (sym (append-nil iris)) ∙ sym (ap (λ (x : List Chars). so_far context line true iris x) is) ∙ e
-
-pub none-end : (context : Context) (line : List Tag) (iris : List Chars) (words : List Chars) (whole : Option (List Chars)) → so_far context line false iris words ≡ whole → words ≡ [] → None ≡ whole
-none-end context line iris words whole e is = sym (ap (λ (x : List Chars). so_far context line false iris x) is) ∙ e

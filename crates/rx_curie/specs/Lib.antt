@@ -4,3 +4,4 @@ pub mod Absolute
 pub mod Brackets
 pub mod Given
 pub mod Refusing
+pub mod TermIris

@@ -14,7 +14,7 @@ pub(crate) fn are_text(front: &str, more: &str, text: &str) -> bool
     }
 }
 
-fn is_same(a: &str, b: &str) -> bool
+pub(crate) fn is_same(a: &str, b: &str) -> bool
     ensures { result ≡ bytes_eq (chars a.now) (chars b.now) }
 {
     a == b

@@ -20,6 +20,7 @@ mod readings;
 mod refs;
 mod refusals;
 mod resources;
+mod term_iris;
 mod types;
 
 pub use facts::{Datatype, ElementKind, Facts, FactsError};

@@ -3,14 +3,20 @@ ghost use Rattle.std.specs.Prelude.{◌≡◌, ◌++◌, true, IfOk, IfSome};
 ghost use Rattle.std.specs.Str.{chars};
 ghost use Rattle.rx_terms.specs.Iri.{has_scheme};
 ghost use Rattle.rx_refs.specs.Resolve.{cleaned};
+ghost use Rattle.rx_rdfa.specs.Readings.{is_term};
+ghost use Rattle.rx_curie.specs.TermIris.{IsTermIri};
 
 use crate::comparisons::are_text;
+use crate::term_iris::TermIri;
 use rx_refs::{clean, push_clean};
 use rx_terms::{Iri, NoMemory, Text};
 use std::alloc::Global;
 
 /// How many IRIs a maker keeps.
 const PLACES: usize = 256;
+
+/// How many IRIs of terms it keeps beside these.
+const TERM_PLACES: usize = 256;
 
 /// An odd number whose bits are mixed (2^64 through the golden ratio): each bit of a number moves the highest bits of the
 /// product.
@@ -26,6 +32,8 @@ pub struct IriMaker {
     pub(crate) alloc: Global,
     // An IRI stands in the place of its text, where the next one that has this place takes its stead.
     places: Vec<Option<Iri>>,
+    // The same of terms. There are no places before the first term.
+    terms: Vec<Option<TermIri>>,
 }
 
 impl IriMaker {
@@ -33,7 +41,11 @@ impl IriMaker {
     pub fn new(alloc: Global) -> Result<IriMaker, NoMemory> {
         let mut places = Vec::new(alloc);
         places.resize_with(PLACES, || None)?;
-        Ok(IriMaker { alloc, places })
+        Ok(IriMaker {
+            alloc,
+            places,
+            terms: Vec::new(alloc),
+        })
     }
 
     /// The IRI, with escapes for the characters that no IRI may have.
@@ -62,6 +74,39 @@ impl IriMaker {
         let made = joined(self.alloc, front, more)?;
         self.keep(place, &made)?;
         Ok(made)
+    }
+
+    /// The IRI of a term under a vocabulary, which is kept for both.
+    pub(crate) fn term(&mut self, vocabulary: &str, term: &str) -> Result<Iri, NoMemory>
+        requires scheme { has_scheme (chars vocabulary.now) ≡ true }
+        requires term { is_term (chars term.now) ≡ true }
+        ensures { IfOk result (λ made. made ≡ cleaned (chars vocabulary.now ++ chars term.now)) }
+    {
+        let iri = self.joined(vocabulary, term)?;
+        self.keep_term(vocabulary, term, &iri)?;
+        Ok(iri)
+    }
+
+    /// What is kept in the place of this term.
+    pub(crate) fn term_at(&self, term: &str) -> Option<&TermIri> {
+        match self.terms.get(place_of_term(term)) {
+            Some(Some(one)) => Some(one),
+            _ => None,
+        }
+    }
+
+    /// Keeps the IRI for the term and the vocabulary.
+    fn keep_term(&mut self, vocabulary: &str, term: &str, iri: &Iri) -> Result<(), NoMemory>
+        requires { IsTermIri (chars vocabulary.now) (chars term.now) iri.now }
+    {
+        if self.terms.is_empty() {
+            self.terms.resize_with(TERM_PLACES, || None)?;
+        }
+        let one = TermIri::of(self.alloc, vocabulary, term, iri)?;
+        if let Some(kept) = self.terms.get_mut(place_of_term(term)) {
+            *kept = Some(one);
+        }
+        Ok(())
     }
 
     /// The IRI that is kept in the place, if its characters are those of the two parts.
@@ -106,6 +151,15 @@ fn place_of(front: &str, more: &str) -> usize {
     let mixed = number.wrapping_add(length).wrapping_mul(MIXER);
     // the highest eight bits
     (mixed >> 56) as usize
+}
+
+/// The place of a term, by its length and its ends. Terms may share one, so that only the last of them is kept.
+fn place_of_term(term: &str) -> usize {
+    let bytes = term.as_bytes();
+    let (Some(first), Some(last)) = (bytes.first(), bytes.last()) else {
+        return 0;
+    };
+    (bytes.len() % 64 * 16 + usize::from(*first) * 3 + usize::from(*last)) % TERM_PLACES
 }
 
 /// A new IRI, with escapes for the characters that no IRI may have.

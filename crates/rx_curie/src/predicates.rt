@@ -4,6 +4,7 @@ ghost use Rattle.std.specs.Str.{chars};
 ghost use Rattle.rx_refs.specs.Views.{seen_slice};
 ghost use Rattle.rx_rdfa.specs.Tree.{Tag};
 ghost use Rattle.rx_rdfa.specs.Refusals.{is_relative};
+ghost use Rattle.rx_rdfa.specs.Readings as readings;
 ghost use Rattle.rx_rdfa.specs.Facts as the;
 ghost use Rattle.rx_names.specs.Lines.{Stands, vocabulary_of};
 ghost use Rattle.rx_names.specs.Views.{names_seen};
@@ -11,7 +12,8 @@ ghost use Rattle.rx_names.specs.Views.{names_seen};
 use crate::fields::empty;
 use crate::made::iri_of;
 use crate::makers::IriMaker;
-use crate::readings::{read_no_term, read_term};
+use crate::readings::read_no_term;
+use crate::term_iris::{known_term, term_iri};
 use rx_names::{NamesView, is_term};
 use rx_terms::{Iri, Iris, NoMemory};
 use rx_words::first_token;
@@ -157,7 +159,26 @@ pub(crate) fn predicate(
     ensures { IfOk result (λ iri. (line : List Tag) → Stands (names_seen names.now) line
         → iri ≡ the.predicate (names_seen names.now).context line (chars token.now)) }
 {
-    match read_term(names, token) {
+    if let Some(iri) = known_term(maker, names, token) {
+        let iri = iri.try_clone()?;
+        return Ok(Some(iri));
+    }
+    if is_term(token) {
+        return term_iri(maker, names, token);
+    }
+    iri_of_no_term(maker, names, token)
+}
+
+/// The IRI of a token that is no term.
+fn iri_of_no_term(
+    maker: &mut IriMaker,
+    names: &NamesView<'_>,
+    token: &str,
+) -> Result<Option<Iri>, NoMemory>
+    ensures { IfOk result (λ iri. (line : List Tag) → Stands (names_seen names.now) line
+        → iri ≡ option_and_then the.iri_of (readings.read_no_term (names_seen names.now).context line (chars token.now))) }
+{
+    match read_no_term(names, token) {
         Some(reading) => iri_of(maker, reading),
         None => Ok(None),
     }

@@ -1,10 +1,11 @@
 //! The types of `typeof`.
-ghost use Rattle.std.specs.Prelude.{◌≡◌, ◌++◌, List, false, IfOk, OnOk, option_map, option_to_list};
+ghost use Rattle.std.specs.Prelude.{◌≡◌, ◌++◌, List, false, true, IfOk, OnOk, option_map, option_to_list};
 ghost use Rattle.std.specs.Str.{chars};
 ghost use Rattle.rx_refs.specs.Views.{seen_slice};
 ghost use Rattle.rx_rdfa.specs.Tree.{Tag};
 ghost use Rattle.rx_rdfa.specs.Refusals.{is_relative};
 ghost use Rattle.rx_rdfa.specs.Readings as readings;
+ghost use Rattle.rx_rdfa.specs.Readings.{is_term};
 ghost use Rattle.rx_rdfa.specs.Facts as the;
 ghost use Rattle.rx_names.specs.Lines.{Stands, vocabulary_of};
 ghost use Rattle.rx_names.specs.Views.{names_seen};
@@ -14,8 +15,10 @@ use crate::fields::empty;
 use crate::made::ref_of;
 use crate::makers::IriMaker;
 use crate::nodes::Nodes2;
-use crate::readings::read_term;
-use rx_names::NamesView;
+use crate::readings::read_no_term;
+use crate::refs::Ref;
+use crate::term_iris::{known_term, term_iri};
+use rx_names::{NamesView, is_term};
 use rx_terms::NoMemory;
 use rx_words::first_token;
 
@@ -67,7 +70,46 @@ fn push_type(
         → refs_seen types.new ≡
         refs_seen types.old ++ option_to_list (option_map the.ref_of (readings.read_term (names_seen names.now).context line (chars token.now)))) }
 {
-    let Some(reading) = read_term(names, token) else {
+    if let Some(iri) = known_term(maker, names, token) {
+        return types.push(Ref::Iri(iri.try_clone()?));
+    }
+    if is_term(token) {
+        return push_term(maker, types, names, token);
+    }
+    push_no_term(maker, types, names, token)
+}
+
+/// The same of a term.
+fn push_term(
+    maker: &mut IriMaker,
+    types: &mut Nodes2,
+    names: &NamesView<'_>,
+    token: &str,
+) -> Result<(), NoMemory>
+    requires term { is_term (chars token.now) ≡ true }
+    requires vocabulary { is_relative (vocabulary_of (names_seen names.now)) ≡ false }
+    ensures { OnOk result ((line : List Tag) → Stands (names_seen names.now) line
+        → refs_seen types.new ≡
+        refs_seen types.old ++ option_to_list (option_map the.ref_of (readings.read_term (names_seen names.now).context line (chars token.now)))) }
+{
+    match term_iri(maker, names, token)? {
+        Some(iri) => types.push(Ref::Iri(iri)),
+        None => Ok(()),
+    }
+}
+
+/// The same of a token that is no term.
+fn push_no_term(
+    maker: &mut IriMaker,
+    types: &mut Nodes2,
+    names: &NamesView<'_>,
+    token: &str,
+) -> Result<(), NoMemory>
+    ensures { OnOk result ((line : List Tag) → Stands (names_seen names.now) line
+        → refs_seen types.new ≡
+        refs_seen types.old ++ option_to_list (option_map the.ref_of (readings.read_no_term (names_seen names.now).context line (chars token.now)))) }
+{
+    let Some(reading) = read_no_term(names, token) else {
         return Ok(());
     };
     let node = ref_of(maker, reading)?;
