@@ -138,11 +138,6 @@ five_room l0 l1 l2 l3 l4 n0 n1 n2 n3 n4 a b c d e da db dc dd h =
     let md = drawn_most l3 l4 n3 n4 d dd in
     omega (arith, h, length-append a (b ++ (c ++ (d ++ e))), length-append b (c ++ (d ++ e)), length-append c (d ++ e), length-append d e)
 
-pub ok_drawn : {E : Type 0} (old new : Numbered) (next : ℕ) (xs ys : List Chars) (r : Result ℕ E)
-    → IfOk r (λ after. Drawn old next xs new after) → xs ≡ ys → IfOk r (λ after. Drawn old next ys new after)
-ok_drawn old new next xs ys (Ok n) h e = subst (λ (l : List Chars). Drawn old next l new n) e h
-ok_drawn old new next xs ys (Err x) h e = h
-
 pub five_ok : {E : Type 0} (l0 l1 l2 l3 l4 l5 : Numbered) (n0 n1 n2 n3 n4 : ℕ) (a b c d e : List Chars) (r : Result ℕ E)
     → Drawn l0 n0 a l1 n1 → Drawn l1 n1 b l2 n2 → Drawn l2 n2 c l3 n3 → Drawn l3 n3 d l4 n4 → IfOk r (λ n5. Drawn l4 n4 e l5 n5)
     → IfOk r (λ n5. Drawn l0 n0 (a ++ (b ++ (c ++ (d ++ e)))) l5 n5)

@@ -66,6 +66,3 @@ type_came labels f base predicate typed types i x node term out more whole g p n
     one_came out more whole _ _ (to_node typed rdf_type (resource_named (moment labels f 0 0) base (ref_seen x)))
     (rw add-one (ap (λ (l : List CodeRef). types_of (moment labels f 0 0) base typed (refs_seen l)) (drop_at types i x g)))
     (m ∙ ap (λ (q : Chars). out ++ spo typed q term ∷ []) p ∙ ap (λ (z : Term ℕ). out ++ spo typed rdf_type z ∷ []) (t ∙ ap resource_term (n ∙ same_named labels f base (ref_seen x)))) w
-
-pub after_two : (a b c x y : List (Triple ℕ)) → b ≡ a ++ x → c ≡ b ++ y → c ≡ a ++ (x ++ y)
-after_two a b c x y e f = f ∙ ap (λ (l : List (Triple ℕ)). l ++ y) e ∙ append_assoc a x y

@@ -16,3 +16,7 @@ moment numbered fresh of below = record {
   same = nat_eq;
   same_owner = nat_eq;
 }
+
+-- the labels alone, where nothing is made
+abbrev pub labelled : Numbered → Naming ℕ ℕ
+labelled numbered = moment numbered 0 0 0

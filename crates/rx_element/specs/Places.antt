@@ -7,7 +7,7 @@ use Rattle.rx_rdfa.specs.Facts.{Facts, Ref}
 use Rattle.rx_rdfa.specs.Resources.{Standing, Inherited, resource_named}
 use Rattle.rx_element.specs.Contexts.{context_seen}
 use Rattle.rx_element.specs.Labels.{Numbered}
-use Rattle.rx_element.specs.Moment.{moment}
+use Rattle.rx_element.specs.Moment.{moment, labelled}
 use Rattle.rx_element.specs.declared.places.Level.{Level}
 use Rattle.rx_element.specs.declared.places.Level.TheVariants.{Root, RootChild, Deeper}
 use Rattle.rx_element.specs.declared.places.Place.{Place}
@@ -34,6 +34,10 @@ standing at facts = standing_by at.level (context_seen at.around.now) facts
 abbrev pub naming : Place → Naming ℕ ℕ
 naming at = moment at.labels.now at.fresh 0 0
 
+-- what the rules say of an element with these facts at a place
+abbrev pub ruled : {A : Type 0} → (Naming ℕ ℕ → Chars → Standing ℕ ℕ → A) → Place → Facts → A
+ruled rule at facts = rule (naming at) at.base.now (standing at facts)
+
 -- the node that a reading names
 abbrev pub named : Numbered → Chars → Ref → Node ℕ
-named labels base = resource_named (moment labels 0 0 0) base
+named labels base = resource_named (labelled labels) base

@@ -23,7 +23,8 @@ abbrev pub plain_context : Node ℕ → Node ℕ → Inherited ℕ ℕ
 plain_context subject object = record { subject = subject; object = object; hanging = []; owner = 0 }
 
 -- the labels have drawn their numbers, and the resources are those of the rules
-pub record Places (old : Numbered) (next : ℕ) (base : Chars) (around : ℕ) (subject object : Node ℕ) (facts : Facts) (new : Numbered) (placed : Placed) : Type 0 where
+pub record Places (old : Numbered) (next : ℕ) (base : Chars) (around : ℕ) (subject object : Node ℕ) (facts : Facts)
+    (new : Numbered) (placed : Placed) : Type 0 where
   pub fresh : ℕ
   pub drawing : draw old next (labels facts) ≡ (new, fresh)
   pub found :

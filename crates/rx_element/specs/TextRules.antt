@@ -1,5 +1,6 @@
 -- How an element's text is its value.
-use Rattle.std.specs.Prelude.{◌≡◌, ℕ, Option, Some, None, not, ◌&&◌, is_some, is_none}
+use Rattle.std.specs.Prelude.{◌≡◌, ℕ, Option, Some, None, option_map, not, ◌&&◌, is_some, is_none}
+use Rattle.std.specs.Option.{option_or}
 use Rattle.rx_terms.specs.Text.{Chars}
 use Rattle.rx_terms.specs.declared.triples.Node.{Node as CodeNode}
 use Rattle.rx_terms.specs.declared.triples.Node.TheVariants as code_node
@@ -10,7 +11,7 @@ use Rattle.rx_rdfa.specs.Naming.{Naming}
 use Rattle.rx_rdfa.specs.Facts.{Facts, ElementKind, Datatype, Empty, Is, Head, Body, Other}
 use Rattle.rx_rdfa.specs.Facts as facts
 use Rattle.rx_rdfa.specs.Resources.{Resources, resource_attribute, has_link, only}
-use Rattle.rx_rdfa.specs.Value.{typed_literal, plain_literal, time_literal, rule, rule_or, value_now, value_of_text, ByResource, ByTyped, ByText}
+use Rattle.rx_rdfa.specs.Value.{typed_literal, plain_literal, time_literal, literal_by, rule, rule_or, value, value_now, value_of_text, ByResource, ByTyped, ByText}
 use Rattle.rx_element.specs.declared.values.TextRule.{TextRule}
 use Rattle.rx_element.specs.declared.values.TextRule.TheVariants.{Plain, Typed, Time}
 
@@ -46,6 +47,18 @@ rule_by (Some (Is datatype)) kind lang = Typed datatype
 
 abbrev pub text_rule : Facts → TextRule
 text_rule facts = rule_by facts.datatype facts.kind facts.lang
+
+-- the value of an element, none where it is the element's text
+abbrev pub value_by : Naming ℕ ℕ → Chars → Facts → Resources ℕ → Option (Term ℕ)
+value_by naming base facts here = value_now (rule naming base facts here) facts
+
+-- the value of an element with this text
+abbrev pub value_with : Naming ℕ ℕ → Chars → Facts → Resources ℕ → Chars → Term ℕ
+value_with naming base facts here text = value (rule naming base facts here) facts text
+
+-- the literal of a datatype that content or datetime is
+abbrev pub given_literal : Datatype → Facts → Option (Term ℕ)
+given_literal datatype facts = option_map (literal_by datatype facts.lang) (option_or facts.content facts.datetime)
 
 -- the resource that is the value, where nothing else is
 abbrev pub resource_value : Naming ℕ ℕ → Chars → Facts → Resources ℕ → Option (Term ℕ)

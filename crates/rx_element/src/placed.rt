@@ -3,13 +3,13 @@ ghost use Rattle.std.specs.Prelude.{◌≡◌, ◌<◌, ◌≤◌, ◌^◌, ◌+
 ghost use Rattle.std.specs.Str.{chars};
 ghost use Rattle.rx_model.specs.Seen.{node_seen, term_seen};
 ghost use Rattle.rx_rdfa.specs.Renaming.{labels as labels_of};
-ghost use Rattle.rx_rdfa.specs.Value.{rule, value};
 ghost use Rattle.rx_curie.specs.Seen.{facts_seen};
 ghost use Rattle.rx_element.specs.Contexts.{context_seen};
 ghost use Rattle.rx_element.specs.Labels.{DrawnSome};
-ghost use Rattle.rx_element.specs.Moment.{moment};
+ghost use Rattle.rx_element.specs.Moment.{labelled};
 ghost use Rattle.rx_element.specs.Placing.{placed_seen, plain_context, Places};
 ghost use Rattle.rx_element.specs.Found.{found_seen};
+ghost use Rattle.rx_element.specs.TextRules.{value_with};
 
 use crate::blanks::number_after;
 use crate::contexts::{Context, Hangings};
@@ -62,7 +62,8 @@ impl Placed {
     ) -> Result<Placed, NoMemory>
         requires level { 1 ≤ level }
         requires room { next_blank + 1 + length (labels_of (facts_seen facts.now)) < 2 ^ 64 }
-        ensures ok { IfOk result (Places labels.old next_blank base.now (level - 1) (node_seen subject.now) (node_seen object.now) (facts_seen facts.now) labels.new) }
+        ensures ok { IfOk result (Places labels.old next_blank base.now (level - 1) (node_seen subject.now) (node_seen object.now)
+            (facts_seen facts.now) labels.new) }
         ensures err { OnErr result (DrawnSome labels.old next_blank (labels_of (facts_seen facts.now)) labels.new) }
     {
         let fresh = draw_labels(labels, facts, next_blank)?;
@@ -108,7 +109,8 @@ pub fn value_of(
     labels: &Labels,
     text: &str,
 ) -> Result<Term, NoMemory>
-    ensures { IfOk result (λ term. term_seen term ≡ value (rule (moment labels.now 0 0 0) base.now (facts_seen facts.now) (placed_seen placed.now)) (facts_seen facts.now) (chars text.now)) }
+    ensures { IfOk result (λ term. term_seen term
+        ≡ value_with (labelled labels.now) base.now (facts_seen facts.now) (placed_seen placed.now) (chars text.now)) }
 {
     let found = placed.found()?;
     let value = value_now(alloc, base, labels, facts, &found)?;

@@ -4,7 +4,7 @@ ghost use Rattle.rx_model.specs.Seen.{node_seen};
 ghost use Rattle.rx_rdfa.specs.Resources.{has_link, is_plain_property, resource_named, linked_resource, default_subject, of_link, of_property, of_no_link, resources, is_root_child, is_head_or_body};
 ghost use Rattle.rx_curie.specs.Seen.{ref_seen, facts_seen};
 ghost use Rattle.rx_element.specs.Found.{linked_ref, fresh_node, page_node, property_type, found_seen};
-ghost use Rattle.rx_element.specs.Places.{path_at, standing, naming};
+ghost use Rattle.rx_element.specs.Places.{path_at, naming, ruled};
 
 use crate::places::{Level, Place, named};
 use rx_curie::{ElementKind, Facts, Ref};
@@ -77,7 +77,7 @@ impl<'a> Place<'a> {
 
     /// The resource of the first present of `resource`, `href` and `src`.
     fn linked(&self, facts: &Facts) -> Result<Option<Node>, NoMemory>
-        ensures { IfOk result (λ node. option_map node_seen node ≡ linked_resource (naming self.now) self.now.base.now (standing self.now (facts_seen facts.now))) }
+        ensures { IfOk result (λ node. option_map node_seen node ≡ ruled linked_resource self.now (facts_seen facts.now)) }
     {
         match linked_ref(facts) {
             Some(name) => Ok(Some(self.named(name)?)),
@@ -87,7 +87,7 @@ impl<'a> Place<'a> {
 
     /// The subject of an element with a link or a plain property.
     fn default_subject(&self, facts: &Facts) -> Result<Node, NoMemory>
-        ensures { IfOk result (λ node. node_seen node ≡ default_subject (naming self.now) self.now.base.now (standing self.now (facts_seen facts.now))) }
+        ensures { IfOk result (λ node. node_seen node ≡ ruled default_subject self.now (facts_seen facts.now)) }
     {
         if let Some(about) = &facts.about {
             return self.named(about);
@@ -115,7 +115,7 @@ impl<'a> Place<'a> {
 
     /// The resources of an element with `rel` or `rev`.
     fn of_link(&self, facts: &Facts) -> Result<Found, NoMemory>
-        ensures { IfOk result (λ found. found_seen found ≡ of_link (naming self.now) self.now.base.now (standing self.now (facts_seen facts.now))) }
+        ensures { IfOk result (λ found. found_seen found ≡ ruled of_link self.now (facts_seen facts.now)) }
     {
         let subject = self.default_subject(facts)?;
         let object = self.link_object(facts)?;
@@ -136,7 +136,7 @@ impl<'a> Place<'a> {
 
     /// The object of an element with `rel` or `rev`.
     fn link_object(&self, facts: &Facts) -> Result<Option<Node>, NoMemory>
-        ensures { IfOk result (λ object. option_map node_seen object ≡ (of_link (naming self.now) self.now.base.now (standing self.now (facts_seen facts.now))).object) }
+        ensures { IfOk result (λ object. option_map node_seen object ≡ (ruled of_link self.now (facts_seen facts.now)).object) }
     {
         let linked = self.linked(facts)?;
         if linked.is_some() || facts.types.is_none() || facts.about.is_some() {
@@ -147,7 +147,7 @@ impl<'a> Place<'a> {
 
     /// The resources of an element with `property` and neither `content` nor `datatype`.
     fn of_property(&self, facts: &Facts) -> Result<Found, NoMemory>
-        ensures { IfOk result (λ found. found_seen found ≡ of_property (naming self.now) self.now.base.now (standing self.now (facts_seen facts.now))) }
+        ensures { IfOk result (λ found. found_seen found ≡ ruled of_property self.now (facts_seen facts.now)) }
     {
         let subject = self.default_subject(facts)?;
         if facts.types.is_none() {
@@ -169,7 +169,7 @@ impl<'a> Place<'a> {
 
     /// The typed resource of an element with `property`.
     fn property_type(&self, facts: &Facts) -> Result<Node, NoMemory>
-        ensures { IfOk result (λ typed. node_seen typed ≡ property_type (naming self.now) self.now.base.now (standing self.now (facts_seen facts.now))) }
+        ensures { IfOk result (λ typed. node_seen typed ≡ ruled property_type self.now (facts_seen facts.now)) }
     {
         if let Some(about) = &facts.about {
             return self.named(about);
@@ -188,7 +188,7 @@ impl<'a> Place<'a> {
 
     /// The subject of an element with neither `rel` nor `rev`.
     fn no_link_subject(&self, facts: &Facts) -> Result<Node, NoMemory>
-        ensures { IfOk result (λ subject. node_seen subject ≡ (of_no_link (naming self.now) self.now.base.now (standing self.now (facts_seen facts.now))).subject) }
+        ensures { IfOk result (λ subject. node_seen subject ≡ (ruled of_no_link self.now (facts_seen facts.now)).subject) }
     {
         if let Some(about) = &facts.about {
             return self.named(about);
@@ -207,7 +207,7 @@ impl<'a> Place<'a> {
 
     /// The resources of an element with neither `rel` nor `rev`, and no plain property.
     fn of_no_link(&self, facts: &Facts) -> Result<Found, NoMemory>
-        ensures { IfOk result (λ found. found_seen found ≡ of_no_link (naming self.now) self.now.base.now (standing self.now (facts_seen facts.now))) }
+        ensures { IfOk result (λ found. found_seen found ≡ ruled of_no_link self.now (facts_seen facts.now)) }
     {
         let subject = self.no_link_subject(facts)?;
         let typed = if facts.types.is_some() {
@@ -225,7 +225,7 @@ impl<'a> Place<'a> {
 
     /// Whether nothing is said of the element, and it isn't the root.
     fn is_skipped(&self, facts: &Facts) -> bool
-        ensures { result ≡ (of_no_link (naming self.now) self.now.base.now (standing self.now (facts_seen facts.now))).skipped }
+        ensures { result ≡ (ruled of_no_link self.now (facts_seen facts.now)).skipped }
     {
         if facts.property.is_some() || facts.about.is_some() || linked_ref(facts).is_some() {
             return false;
@@ -236,7 +236,7 @@ impl<'a> Place<'a> {
     /// The resources of the element.
     #[tactic(auto, unfolding(rx_rdfa::specs::Resources::resources))]
     pub(crate) fn find(&self, facts: &Facts) -> Result<Found, NoMemory>
-        ensures { IfOk result (λ found. found_seen found ≡ resources (naming self.now) self.now.base.now (standing self.now (facts_seen facts.now))) }
+        ensures { IfOk result (λ found. found_seen found ≡ ruled resources self.now (facts_seen facts.now)) }
     {
         if has_link(facts) {
             return self.of_link(facts);

@@ -1,17 +1,15 @@
 //! The triples of an element's start, in the order of the steps.
-ghost use Rattle.std.specs.Prelude.{◌≡◌, ◌∷◌, [], ◌++◌, OnOk, IfOk, option_map};
-ghost use Rattle.rx_model.specs.Copied.{spo};
-ghost use Rattle.rx_model.specs.Seen.{node_seen, term_seen, triples_seen};
-ghost use Rattle.rx_rdfa.specs.Iris.{rdf_type};
+ghost use Rattle.std.specs.Prelude.{◌≡◌, ◌∷◌, [], OnOk, IfOk, option_map};
+ghost use Rattle.rx_model.specs.Seen.{node_seen, term_seen};
 ghost use Rattle.rx_rdfa.specs.Inherited.{listed};
 ghost use Rattle.rx_rdfa.specs.Resources.{resources};
-ghost use Rattle.rx_rdfa.specs.Value.{rule, value_now};
 ghost use Rattle.rx_rdfa.specs.Element.{start_of};
 ghost use Rattle.rx_curie.specs.Seen.{facts_seen, ref_seen, refs_seen};
 ghost use Rattle.rx_element.specs.Found.{found_seen};
 ghost use Rattle.rx_element.specs.TextRules.{resource_term};
-ghost use Rattle.rx_element.specs.Places.{named, naming, standing};
-ghost use Rattle.rx_element.specs.Starts.{vocabulary_by, types_of, properties_of, links_of, values_of, found_by, start_by};
+ghost use Rattle.rx_lists.specs.Gains.{Gains};
+ghost use Rattle.rx_element.specs.Places.{naming, ruled};
+ghost use Rattle.rx_element.specs.Starts.{vocabulary_by, types_of, properties_of, links_of, values_of, found_by, start_here, value_here, type_of};
 
 use crate::iris::OwnIris;
 use crate::places::{Place, named};
@@ -35,7 +33,7 @@ fn push_vocabulary(
     base: &Iri,
     vocab: &Option<Iri>,
 ) -> Result<(), NoMemory>
-    ensures { OnOk result (triples_seen out.new ≡ triples_seen out.old ++ vocabulary_by base.now vocab.now) }
+    ensures { OnOk result (Gains out.old out.new (vocabulary_by base.now vocab.now)) }
 {
     match vocab {
         Some(vocab) => out.push(Triple {
@@ -54,7 +52,7 @@ fn push_all(
     predicates: &Option<Iris>,
     object: &Term,
 ) -> Result<(), NoMemory>
-    ensures { OnOk result (triples_seen out.new ≡ triples_seen out.old ++ properties_of (node_seen subject.now) predicates.now (term_seen object.now)) }
+    ensures { OnOk result (Gains out.old out.new (properties_of (node_seen subject.now) predicates.now (term_seen object.now))) }
 {
     match predicates {
         Some(predicates) => push_each(out, subject, predicates, object.try_clone()?),
@@ -69,7 +67,7 @@ fn push_all_linked(
     predicates: &Option<Iris>,
     object: &Node,
 ) -> Result<(), NoMemory>
-    ensures { OnOk result (triples_seen out.new ≡ triples_seen out.old ++ properties_of (node_seen subject.now) predicates.now (resource_term (node_seen object.now))) }
+    ensures { OnOk result (Gains out.old out.new (properties_of (node_seen subject.now) predicates.now (resource_term (node_seen object.now)))) }
 {
     match predicates {
         Some(predicates) => push_each(out, subject, predicates, node_term(object)?),
@@ -84,7 +82,7 @@ fn push_links(
     subject: &Node,
     object: &Node,
 ) -> Result<(), NoMemory>
-    ensures { OnOk result (triples_seen out.new ≡ triples_seen out.old ++ links_of (facts_seen facts.now) (node_seen subject.now) (node_seen object.now)) }
+    ensures { OnOk result (Gains out.old out.new (links_of (facts_seen facts.now) (node_seen subject.now) (node_seen object.now))) }
 {
     if !facts.inlist {
         push_all_linked(out, subject, &facts.rel, object)?;
@@ -99,7 +97,7 @@ fn push_properties(
     subject: &Node,
     value: &Option<Term>,
 ) -> Result<(), NoMemory>
-    ensures { OnOk result (triples_seen out.new ≡ triples_seen out.old ++ values_of (facts_seen facts.now) (node_seen subject.now) (option_map term_seen value.now)) }
+    ensures { OnOk result (Gains out.old out.new (values_of (facts_seen facts.now) (node_seen subject.now) (option_map term_seen value.now))) }
 {
     if facts.inlist {
         return Ok(());
@@ -119,9 +117,9 @@ impl<'a> Place<'a> {
         iris: &OwnIris,
         out: &mut TripleList,
     ) -> Result<Started, NoMemory>
-        ensures triples { OnOk result (triples_seen out.new ≡ triples_seen out.old ++ start_of (naming self.now) self.now.base.now (standing self.now (facts_seen facts.now))) }
-        ensures found { IfOk result (λ started. found_seen started.found ≡ resources (naming self.now) self.now.base.now (standing self.now (facts_seen facts.now))) }
-        ensures value { IfOk result (λ started. option_map term_seen started.value ≡ value_now (rule (naming self.now) self.now.base.now (facts_seen facts.now) (found_seen started.found)) (facts_seen facts.now)) }
+        ensures triples { OnOk result (Gains out.old out.new (ruled start_of self.now (facts_seen facts.now))) }
+        ensures found { IfOk result (λ started. found_seen started.found ≡ ruled resources self.now (facts_seen facts.now)) }
+        ensures value { IfOk result (λ started. option_map term_seen started.value ≡ value_here self.now (facts_seen facts.now) (found_seen started.found)) }
     {
         let found = self.find(facts)?;
         let value = value_now(self.alloc, self.base, self.labels, facts, &found)?;
@@ -138,7 +136,7 @@ impl<'a> Place<'a> {
         found: &Found,
         value: &Option<Term>,
     ) -> Result<(), NoMemory>
-        ensures { OnOk result (triples_seen out.new ≡ triples_seen out.old ++ start_by (naming self.now) self.now.base.now (facts_seen facts.now) (found_seen found.now) (option_map term_seen value.now) (node_seen self.now.around.now.subject) self.now.around.now.hanging) }
+        ensures { OnOk result (Gains out.old out.new (start_here self.now (facts_seen facts.now) (found_seen found.now) (option_map term_seen value.now))) }
     {
         push_vocabulary(out, iris, self.base, &facts.vocab)?;
         if found.skipped {
@@ -159,7 +157,7 @@ impl<'a> Place<'a> {
         facts: &Facts,
         found: &Found,
     ) -> Result<(), NoMemory>
-        ensures { OnOk result (triples_seen out.new ≡ triples_seen out.old ++ found_by (naming self.now) self.now.base.now (facts_seen facts.now) (found_seen found.now)) }
+        ensures { OnOk result (Gains out.old out.new (found_by (naming self.now) self.now.base.now (facts_seen facts.now) (found_seen found.now))) }
     {
         if let Some(typed) = &found.typed {
             self.push_all_types(out, iris, typed, &facts.types)?;
@@ -177,7 +175,8 @@ impl<'a> Place<'a> {
         typed: &Node,
         types: &Option<Nodes2>,
     ) -> Result<(), NoMemory>
-        ensures { OnOk result (triples_seen out.new ≡ triples_seen out.old ++ types_of (naming self.now) self.now.base.now (node_seen typed.now) (listed (option_map refs_seen types.now))) }
+        ensures { OnOk result (Gains out.old out.new
+            (types_of (naming self.now) self.now.base.now (node_seen typed.now) (listed (option_map refs_seen types.now)))) }
     {
         match types {
             Some(types) => self.push_types(out, iris, typed, types),
@@ -193,7 +192,7 @@ impl<'a> Place<'a> {
         typed: &Node,
         types: &Nodes2,
     ) -> Result<(), NoMemory>
-        ensures { OnOk result (triples_seen out.new ≡ triples_seen out.old ++ types_of (naming self.now) self.now.base.now (node_seen typed.now) (refs_seen types.now)) }
+        ensures { OnOk result (Gains out.old out.new (types_of (naming self.now) self.now.base.now (node_seen typed.now) (refs_seen types.now))) }
     {
         for i in 0..types.len() {
             self.push_type(out, iris, typed, types.at(i))?;
@@ -209,7 +208,7 @@ impl<'a> Place<'a> {
         typed: &Node,
         name: &Ref,
     ) -> Result<(), NoMemory>
-        ensures { OnOk result (triples_seen out.new ≡ triples_seen out.old ++ spo (node_seen typed.now) rdf_type (resource_term (named self.now.labels.now self.now.base.now (ref_seen name.now))) ∷ []) }
+        ensures { OnOk result (Gains out.old out.new (type_of self.now (node_seen typed.now) (ref_seen name.now) ∷ [])) }
     {
         let node = named(self.alloc, self.base, self.labels, name)?;
         out.push(Triple {

@@ -1,6 +1,7 @@
 //! The triples of an element's start (RDFa Core 1.1, section 7.5, steps 2, 7, 9, 11 and 12).
 ghost use Rattle.std.specs.Prelude.{◌≡◌, ◌≤◌, ◌+◌, ◌∷◌, [], ◌++◌, OnOk, drop, length, map, filter_map};
 ghost use Rattle.rx_model.specs.Seen.{node_seen, term_seen, triples_seen};
+ghost use Rattle.rx_lists.specs.Gains.{Gains};
 ghost use Rattle.rx_model.specs.Copied.{spo};
 ghost use Rattle.rx_rdfa.specs.Inherited.{listed};
 ghost use Rattle.rx_rdfa.specs.Element.{completed};
@@ -17,7 +18,7 @@ pub fn push_each(
     predicates: &Iris,
     object: Term,
 ) -> Result<(), NoMemory>
-    ensures { OnOk result (triples_seen out.new ≡ triples_seen out.old ++ map (λ p. spo (node_seen subject.now) p (term_seen object)) predicates.now) }
+    ensures { OnOk result (Gains out.old out.new (map (λ p. spo (node_seen subject.now) p (term_seen object)) predicates.now)) }
 {
     let Some(last) = predicates.len().checked_sub(1) else {
         return Ok(());
@@ -38,7 +39,7 @@ fn push_several(
     object: Term,
 ) -> Result<(), NoMemory>
     requires { last + 1 ≡ length predicates.now }
-    ensures { OnOk result (triples_seen out.new ≡ triples_seen out.old ++ map (λ p. spo (node_seen subject.now) p (term_seen object)) predicates.now) }
+    ensures { OnOk result (Gains out.old out.new (map (λ p. spo (node_seen subject.now) p (term_seen object)) predicates.now)) }
 {
     push_first(out, subject, predicates, last, &object)?;
     push(out, subject, predicates.at(last), object)
@@ -64,7 +65,7 @@ fn push_first(
 
 #[inline(always)]
 fn push(out: &mut TripleList, subject: &Node, predicate: &Iri, object: Term) -> Result<(), NoMemory>
-    ensures { OnOk result (triples_seen out.new ≡ triples_seen out.old ++ spo (node_seen subject.now) predicate.now (term_seen object) ∷ []) }
+    ensures { OnOk result (Gains out.old out.new (spo (node_seen subject.now) predicate.now (term_seen object) ∷ [])) }
 {
     out.push(Triple {
         subject: subject.try_clone()?,
@@ -79,7 +80,7 @@ fn push_copy(
     predicate: &Iri,
     object: &Term,
 ) -> Result<(), NoMemory>
-    ensures { OnOk result (triples_seen out.new ≡ triples_seen out.old ++ spo (node_seen subject.now) predicate.now (term_seen object.now) ∷ []) }
+    ensures { OnOk result (Gains out.old out.new (spo (node_seen subject.now) predicate.now (term_seen object.now) ∷ [])) }
 {
     push(out, subject, predicate, object.try_clone()?)
 }
@@ -91,7 +92,7 @@ pub(crate) fn push_completed(
     above: &Node,
     subject: &Node,
 ) -> Result<(), NoMemory>
-    ensures { OnOk result (triples_seen out.new ≡ triples_seen out.old ++ filter_map (completed_by (node_seen above.now) (node_seen subject.now)) waiting.now) }
+    ensures { OnOk result (Gains out.old out.new (filter_map (completed_by (node_seen above.now) (node_seen subject.now)) waiting.now)) }
 {
     for one in waiting {
         match one {

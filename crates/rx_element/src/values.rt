@@ -1,14 +1,13 @@
 //! The value of `property` (RDFa Core 1.1, section 7.5, step 11; HTML+RDFa 1.1, section 3.1).
 ghost use Rattle.std.specs.Prelude.{◌≡◌, IfOk, option_map, option_copied, is_some};
-ghost use Rattle.std.specs.Option.{option_or};
 ghost use Rattle.std.specs.Str.{chars};
 ghost use Rattle.rx_model.specs.Seen.{node_seen, term_seen};
 ghost use Rattle.rx_rdfa.specs.Resources.{resource_attribute, resource_named};
-ghost use Rattle.rx_rdfa.specs.Value.{typed_literal, plain_literal, time_literal, is_time, rule, value_now, literal_by};
+ghost use Rattle.rx_rdfa.specs.Value.{typed_literal, plain_literal, time_literal, is_time};
 ghost use Rattle.rx_curie.specs.Seen.{datatype_seen, facts_seen, ref_seen, kind_seen};
 ghost use Rattle.rx_element.specs.Found.{found_seen};
-ghost use Rattle.rx_element.specs.Moment.{moment};
-ghost use Rattle.rx_element.specs.TextRules.{IsTextRule, text_rule, text_literal, resource_term, resource_value, term_of};
+ghost use Rattle.rx_element.specs.Moment.{labelled};
+ghost use Rattle.rx_element.specs.TextRules.{IsTextRule, text_rule, text_literal, resource_term, resource_value, term_of, value_by, given_literal};
 
 use crate::iris::time_datatype;
 use crate::labels::Labels;
@@ -128,7 +127,7 @@ fn clone_lang(lang: &Option<Lang>) -> Result<Option<Lang>, NoMemory>
 
 /// The value by `datatype`, where it isn't the element's text.
 fn value_of_datatype(facts: &Facts, datatype: &Datatype) -> Result<Option<Term>, NoMemory>
-    ensures { IfOk result (λ term. option_map term_seen term ≡ option_map (literal_by (datatype_seen datatype.now) facts.now.lang) (option_or facts.now.content facts.now.datetime)) }
+    ensures { IfOk result (λ term. option_map term_seen term ≡ given_literal (datatype_seen datatype.now) (facts_seen facts.now)) }
 {
     let text = match &facts.content {
         Some(content) => content,
@@ -152,7 +151,7 @@ pub(crate) fn value_now(
     facts: &Facts,
     found: &Found,
 ) -> Result<Option<Term>, NoMemory>
-    ensures { IfOk result (λ term. option_map term_seen term ≡ value_now (rule (moment labels.now 0 0 0) base.now (facts_seen facts.now) (found_seen found.now)) (facts_seen facts.now)) }
+    ensures { IfOk result (λ term. option_map term_seen term ≡ value_by (labelled labels.now) base.now (facts_seen facts.now) (found_seen found.now)) }
 {
     if let Some(datatype) = &facts.datatype {
         return value_of_datatype(facts, datatype);
@@ -177,7 +176,7 @@ fn value_of_resource(
     facts: &Facts,
     found: &Found,
 ) -> Result<Option<Term>, NoMemory>
-    ensures { IfOk result (λ term. option_map term_seen term ≡ resource_value (moment labels.now 0 0 0) base.now (facts_seen facts.now) (found_seen found.now)) }
+    ensures { IfOk result (λ term. option_map term_seen term ≡ resource_value (labelled labels.now) base.now (facts_seen facts.now) (found_seen found.now)) }
 {
     if !has_link(facts) {
         if let Some(linked) = linked_ref(facts) {
