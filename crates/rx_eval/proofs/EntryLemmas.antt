@@ -12,7 +12,7 @@ use Rattle.rx_eval.specs.Entries.{put_each, slots_for, put_awaited}
 use Rattle.rx_element.proofs.LabelLemmas.{by_test}
 use Rattle.rx_element.proofs.DrawLemmas.{drop_at, nothing_left}
 
-set_end : {A : Type 0} (xs : List A) (x y : A) → slice_set (xs ++ x ∷ []) (length xs) y ≡ xs ++ y ∷ []
+pub set_end : {A : Type 0} (xs : List A) (x y : A) → slice_set (xs ++ x ∷ []) (length xs) y ≡ xs ++ y ∷ []
 set_end [] x y = refl
 set_end (z ∷ xs) x y = ap (λ (l : List _). z ∷ l) (set_end xs x y)
 

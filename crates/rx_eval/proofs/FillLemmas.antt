@@ -212,9 +212,6 @@ module _ (open_owners : Open) (o : Owner) (s : Node ℕ) where
   end_owners : (owners : Many) (slots : Slots) (x : Option Owning) → owners ++ x ∷ [] ≡ owners_of slots (open_owners ++ (o, s) ∷ []) → owners ≡ owners_of slots open_owners
   end_owners owners slots x h = snoc_front owners (owners_of slots open_owners) x _ (h ∙ owners_more slots open_owners o s)
 
-  pub last_owner : (owners : Many) (slots : Slots) (x : Option Owning) → owners ++ x ∷ [] ≡ owners_of slots (open_owners ++ (o, s) ∷ []) → x ≡ Some (owning s (table_in slots o))
-  last_owner owners slots x h = snoc_last owners (owners_of slots open_owners) x _ (h ∙ owners_more slots open_owners o s)
-
   pub end_fill_up : (waiters : List Waiter) (owners : Many) (slots : Slots) (x : Option Owning) → Within (length owners) waiters → FillUp (open_owners ++ (o, s) ∷ []) waiters (owners ++ x ∷ []) slots
       → FillUp open_owners waiters owners slots
   end_fill_up [] owners slots x b h = end_owners owners slots x h

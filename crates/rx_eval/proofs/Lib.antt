@@ -27,3 +27,4 @@ pub mod BeginLemmas
 pub mod StandLemmas
 pub mod KeptLemmas
 pub mod ShownLemmas
+pub mod KeptRows

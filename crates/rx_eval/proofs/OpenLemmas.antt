@@ -44,9 +44,6 @@ opened_text labels fresh base facts owners l m a b n k (Some x) d e f h =
 pub fresh_fits : (old new : Numbered) (drawn fresh : ℕ) (labels : List Chars) → Drawn old drawn labels new fresh → drawn + 1 + length labels ≤ 2 ^ 61 → fresh + 1 < 2 ^ 64
 fresh_fits old new drawn fresh labels d h = omega (arith, drawn_most old new drawn fresh labels d, h)
 
-pub labels_fit : (drawn n : ℕ) → drawn + 1 + n ≤ 2 ^ 61 → drawn + n < 2 ^ 64
-labels_fit drawn n h = omega arith
-
 waits_are : (ws : List Waiting) → map wait_seen ws ≡ map wait_by (map waiting_seen ws)
 waits_are [] = refl
 waits_are (code.Forward p ∷ ws) = ap (λ (l : List Wait). wait_seen (code.Forward p) ∷ l) (waits_are ws)

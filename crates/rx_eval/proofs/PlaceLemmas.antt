@@ -10,15 +10,12 @@ use Rattle.rx_eval.specs.Listing.{Entries}
 use Rattle.rx_eval.specs.OwnersSeen.{Owning, owning, lists_in, open_seen, list_place, item_count, next_place, places_for, put_at, put_entries, with_item, fill_seen, fill_all}
 use Rattle.rx_eval.specs.Reserving.{ReservedAreFilled}
 use Rattle.rx_eval.specs.Slots.{HasItem, HasPlace}
+use Rattle.rx_eval.proofs.EntryLemmas.{set_end}
 
 abbrev Items : Type 0
 Items = Table (Option (Term ℕ))
 
 -- ---- in one table
-
-set_end : {A : Type 0} (xs : List A) (x y : A) → slice_set (xs ++ x ∷ []) (length xs) y ≡ xs ++ y ∷ []
-set_end [] x y = refl
-set_end (z ∷ xs) x y = ap (λ (l : List _). z ∷ l) (set_end xs x y)
 
 set_front : {A : Type 0} (xs ys : List A) (i : ℕ) (x : A) → i < length xs → slice_set (xs ++ ys) i x ≡ slice_set xs i x ++ ys
 set_front [] ys i x h = absurd (omega arith)

@@ -5,6 +5,9 @@ use Rattle.rx_model.specs.Terms.{Node, Term, Triple}
 use Rattle.rx_model.specs.Copied.{spo}
 use Rattle.rx_lists.specs.Owners.{Owners, changed, with_term}
 use Rattle.rx_lists.specs.declared.lists.SlotId.{SlotId}
+use Rattle.rx_terms.specs.Text.{Chars}
+use Rattle.rx_element.specs.TextRules.{text_literal}
+use Rattle.rx_eval.specs.declared.frames.Gathered.{Gathered}
 use Rattle.rx_eval.specs.declared.frames.Target.{Target}
 use Rattle.rx_eval.specs.declared.frames.Target.TheVariants.{Said, Listed}
 
@@ -16,6 +19,10 @@ filled_in (slot ∷ slots) value owners = filled_in slots value (changed (with_t
 abbrev pub said_by : Target → Node ℕ → Term ℕ → List (Triple ℕ)
 said_by (Said predicates) subject value = map (λ p. spo subject p value) predicates
 said_by (Listed slots) subject value = []
+
+-- the value that the text is
+abbrev pub text_value : Gathered → Chars → Term ℕ
+text_value gathered text = text_literal gathered.rule text
 
 -- the places in lists for the value
 abbrev pub slots_in : Target → List SlotId

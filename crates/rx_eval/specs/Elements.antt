@@ -1,9 +1,9 @@
 -- The start of an element, part by part.
-use Rattle.std.specs.Prelude.{ℕ, [], Option, Some, None, unwrap_or, if◌then◌else◌}
+use Rattle.std.specs.Prelude.{ℕ, List, [], Option, Some, None, unwrap_or, if◌then◌else◌}
 use Rattle.rx_terms.specs.declared.triples.Node.{Node as CodeNode}
 use Rattle.rx_model.specs.Terms.{Node}
 use Rattle.rx_rdfa.specs.Facts.{Facts}
-use Rattle.rx_rdfa.specs.Resources.{Inherited, Resources}
+use Rattle.rx_rdfa.specs.Resources.{Hanging, Inherited, Resources}
 use Rattle.rx_rdfa.specs.Inherited.{hangs}
 use Rattle.rx_lists.specs.Owners.{Owners}
 use Rattle.rx_lists.specs.declared.lists.Owner.{Owner}
@@ -22,11 +22,15 @@ abbrev pub begun_below_number : Option CodeNode → CodeNode → ℕ → Option 
 begun_below_number None subject number = None
 begun_below_number (Some object) subject number = begun_number object subject number
 
+-- what waits for the children of an element that isn't skipped
+abbrev pub hanging_below : Facts → Resources ℕ → ℕ → List (Hanging ℕ)
+hanging_below facts here own = if hangs facts here then hanging_by facts own else []
+
 -- what an element that isn't skipped hands on
 abbrev pub handed_by : Facts → Resources ℕ → Option (Node ℕ) → ℕ → ℕ → Inherited ℕ ℕ
 handed_by facts here object own below = record {
   subject = here.subject;
   object = unwrap_or object here.subject;
-  hanging = (if hangs facts here then hanging_by facts own else []);
+  hanging = hanging_below facts here own;
   owner = below;
 }

@@ -4,10 +4,12 @@ use Rattle.rx_terms.specs.Text.{Chars}
 use Rattle.rx_model.specs.Terms.{Node, Term, Triple}
 use Rattle.rx_model.specs.Copied.{spo}
 use Rattle.rx_values.specs.Marks.{CutAt}
-use Rattle.rx_lists.specs.Owners.{itself}
+use Rattle.rx_terms.specs.declared.triples.Triple.{Triple as CodeTriple}
+use Rattle.rx_model.specs.Seen.{triples_seen}
+use Rattle.rx_lists.specs.Owners.{Owners, itself}
 use Rattle.rx_lists.specs.Cells.{size}
 use Rattle.rx_element.specs.TextRules.{text_literal}
-use Rattle.rx_eval.specs.OwnersSeen.{Owning, open_seen, cells_seen, forgotten_seen, fill_all}
+use Rattle.rx_eval.specs.OwnersSeen.{Owning, owners_seen, open_seen, cells_seen, forgotten_seen, fill_all}
 use Rattle.rx_eval.specs.States.{Text, Frame, State}
 use Rattle.rx_eval.specs.Keeping.{gathers_some}
 
@@ -19,6 +21,9 @@ pub record Ending : Type 0 where
 
 abbrev pub ending : List (Triple ℕ) → List (Option Owning) → ℕ → Ending
 ending out owners cells = record { out = out; owners = owners; cells = cells }
+
+abbrev pub ending_seen : List CodeTriple → Owners → ℕ → Ending
+ending_seen out owners cells = ending (triples_seen out) (owners_seen owners) cells
 
 -- one state of these becomes another
 pub record Ends (old : Ending) (step : Ending → Ending) (new : Ending) : Type 0 where
@@ -65,4 +70,6 @@ pub record Closes (old new : State) : Type 0 where
       ≡ end_owner (if length new.frames == 0 then Some old.page.owner else None) (end_frame frame chars (ending old.out old.owners old.cells))
   pub kept : new.kept ≡ (if gathers_some new.frames then old.kept else [])
   pub ended : new.ended ≡ (if length new.frames == 0 then true else old.ended)
-  pub rest : (new.base ≡ old.base) × (new.levels ≡ old.levels) × (new.page ≡ old.page) × (new.labels ≡ old.labels) × (new.drawn ≡ old.drawn) × (new.spent ≡ old.spent)
+  pub rest :
+      (new.base ≡ old.base) × (new.levels ≡ old.levels) × (new.page ≡ old.page)
+      × (new.labels ≡ old.labels) × (new.drawn ≡ old.drawn) × (new.spent ≡ old.spent)

@@ -1,24 +1,28 @@
 -- The start of an element, by the rules.
-use Rattle.std.specs.Prelude.{◌≡◌, ℕ, suc, Bool, not, ◌&&◌, List, [], ◌∷◌, ◌++◌, length, Option, Some, None, nat_eq, if◌then◌else◌}
+use Rattle.std.specs.Prelude.{◌≡◌, ℕ, suc, Bool, not, ◌&&◌, List, [], ◌∷◌, ◌++◌, length, map, Option, Some, None, IfSome, nat_eq, if◌then◌else◌}
 use Rattle.rx_terms.specs.Text.{Chars}
-use Rattle.rx_model.specs.Terms.{Node, Triple, same_node}
+use Rattle.rx_model.specs.Terms.{Node, Term, Triple, same_node}
+use Rattle.rx_model.specs.Seen.{node_seen}
 use Rattle.rx_rdfa.specs.Naming.{Naming}
 use Rattle.rx_rdfa.specs.Facts.{Facts}
 use Rattle.rx_rdfa.specs.Resources.{Inherited, Standing, Resources, resources}
-use Rattle.rx_rdfa.specs.Inherited.{listed, below, object_below, own_owner}
+use Rattle.rx_rdfa.specs.Inherited.{listed, below, handed, object_below, own_owner}
 use Rattle.rx_rdfa.specs.Element.{start_of}
 use Rattle.rx_rdfa.specs.Value.{rule, value_now, gathers}
 use Rattle.rx_rdfa.specs.Lists.{entries_by, linked, touched}
 use Rattle.rx_lists.specs.declared.lists.SlotId.{SlotId}
-use Rattle.rx_element.specs.Contexts.{context_seen}
+use Rattle.rx_lists.specs.Owners.{Owners}
+use Rattle.rx_element.specs.Contexts.{context_seen, waiting_seen}
 use Rattle.rx_element.specs.Labels.{Numbered}
 use Rattle.rx_element.specs.Moment.{moment}
-use Rattle.rx_element.specs.Places.{standing_by}
+use Rattle.rx_element.specs.Places.{standing_by, standing, naming}
 use Rattle.rx_element.specs.TextRules.{IsTextRule}
 use Rattle.rx_element.specs.declared.places.Level.{Level}
 use Rattle.rx_element.specs.declared.places.Place.{Place}
-use Rattle.rx_eval.specs.OwnersSeen.{Owning, owning, put_entries, places_for}
-use Rattle.rx_eval.specs.States.{Text}
+use Rattle.rx_eval.specs.OwnersSeen.{Owning, owning, owners_seen, put_entries, places_for}
+use Rattle.rx_eval.specs.Listing.{Entries, entries_in}
+use Rattle.rx_eval.specs.States.{Text, text_seen}
+use Rattle.rx_eval.specs.declared.frames.Gathered.{Gathered}
 
 -- the number after the owner of an element's own lists, the next one being n
 abbrev pub next_number : Standing ℕ ℕ → Resources ℕ → ℕ → ℕ
@@ -114,3 +118,34 @@ module _ (labels : Numbered) (fresh : ℕ) (base : Chars) (level : Level) (aroun
 -- what holds of an element at a place
 abbrev pub at_place : {A : Type 0} → (Numbered → ℕ → Chars → Level → Inherited ℕ ℕ → Facts → A) → Place → Facts → A
 at_place f at facts = f at.labels.now at.fresh at.base.now at.level (context_seen at.around.now) facts
+
+-- what is known of an element's text, where it gathers that
+abbrev pub GathersAt : Place → Facts → Owners → ℕ → Option Gathered → Type 0
+GathersAt at facts owners mark gathered =
+    IfSome gathered (λ g. Gathers facts (at_place resources_by at facts) (at_place places_at at facts (owners_seen owners)) mark (text_seen g))
+
+-- the same of an element at a place that isn't skipped, with the resources that were found and the owners so far
+module _ (at : Place) (facts : Facts) (here : Resources ℕ) (owners : Owners) where
+  abbrev pub naming_found : Naming ℕ ℕ
+  naming_found = naming_by at.labels.now at.fresh (standing at facts) here (length owners)
+
+  abbrev pub handed_found : Inherited ℕ ℕ
+  handed_found = handed naming_found (standing at facts) here
+
+  abbrev pub owners_found : List (Option Owning)
+  owners_found = owners_begun (naming at) (standing at facts) here (owners_seen owners)
+
+  abbrev pub entries_found : Option (Term ℕ) → Entries
+  entries_found value =
+      entries_in (own_number (standing at facts) here (length owners)) facts here value (map waiting_seen at.around.now.hanging)
+
+  abbrev pub GathersFound : ℕ → Option Gathered → Type 0
+  GathersFound mark gathered =
+      IfSome gathered (λ g. Gathers facts here (places_by naming_found (standing at facts) here owners_found) mark (text_seen g))
+
+  abbrev pub own_found : Option ℕ
+  own_found = owner_begun here.subject (node_seen at.around.now.object) (length owners)
+
+  abbrev pub below_found : Option ℕ
+  below_found =
+      owner_for (object_below (naming at) (standing at facts) here) here.subject (next_number (standing at facts) here (length owners))

@@ -1,8 +1,8 @@
 -- Which frames keep text, by the rules.
-use Rattle.std.specs.Prelude.{◌≡◌, Bool, List, [], ◌∷◌, ◌++◌, map, is_some}
+use Rattle.std.specs.Prelude.{◌≡◌, Bool, true, false, List, [], ◌∷◌, ◌++◌, map, Some, None, is_some, codes}
 use Rattle.rx_terms.specs.Text.{Chars}
 use Rattle.rx_rdfa.specs.Naming.{Path}
-use Rattle.rx_rdfa.specs.Facts.{Facts}
+use Rattle.rx_rdfa.specs.Facts.{Facts, Other}
 use Rattle.rx_rdfa.specs.Blanks.{model}
 use Rattle.rx_rdfa.specs.Inherited.{inherited, up}
 use Rattle.rx_rdfa.specs.Calls.{Call, line_after, no_line}
@@ -27,3 +27,38 @@ gathering_after base list = gathering_along base (line_after list no_line).facts
 abbrev pub KeepsWhereGathered : Type 0
 KeepsWhereGathered = (to : Numbering) (list : List Call) (state : State) → Stands to list state
     → map (λ f. is_some f.text) state.frames ≡ gathering_after state.base list
+
+-- the facts of an element that says nothing, of one with property, and of one with content beside it
+abbrev pub silent : Facts
+silent = record {
+  kind = Other;
+  about = None;
+  resource = None;
+  href = None;
+  src = None;
+  rel = None;
+  rev = None;
+  property = None;
+  types = None;
+  content = None;
+  datetime = None;
+  datatype = None;
+  inlist = false;
+  vocab = None;
+  lang = None;
+}
+
+abbrev pub saying : Facts
+saying = record silent { property = Some (codes "name" ∷ []) }
+
+abbrev pub quoting : Facts
+quoting = record saying { content = Some (codes "given") }
+
+-- law: worked lines of open elements, the innermost first. An element with property gathers its text, one with content
+-- beside that doesn't, and neither changes what those around it gather.
+pub record KeptTextsHold : Type 0 where
+  pub property : gathering_along (codes "http://b.example/") (saying ∷ silent ∷ []) (0 ∷ 0 ∷ []) ≡ false ∷ true ∷ []
+  pub property_and_content : gathering_along (codes "http://b.example/") (quoting ∷ silent ∷ []) (0 ∷ 0 ∷ []) ≡ false ∷ false ∷ []
+  pub nested :
+      gathering_along (codes "http://b.example/") (saying ∷ quoting ∷ saying ∷ silent ∷ []) (0 ∷ 0 ∷ 0 ∷ 0 ∷ [])
+      ≡ false ∷ true ∷ false ∷ true ∷ []

@@ -1,5 +1,5 @@
 -- What an element puts into lists, part by part.
-use Rattle.std.specs.Prelude.{ℕ, Bool, List, [], ◌++◌, map, filter_map, Option, Some, None, if◌then◌else◌}
+use Rattle.std.specs.Prelude.{◌≡◌, ℕ, Bool, is_none, List, [], ◌++◌, map, filter_map, Option, Some, None, if◌then◌else◌}
 use Rattle.rx_terms.specs.Text.{Chars}
 use Rattle.rx_model.specs.Terms.{Node, Term}
 use Rattle.rx_rdfa.specs.Facts.{Facts}
@@ -7,11 +7,17 @@ use Rattle.rx_rdfa.specs.Resources.{Hanging, Forward, Reverse, InList, Resources
 use Rattle.rx_rdfa.specs.Inherited.{listed, hangs}
 use Rattle.rx_rdfa.specs.Lists.{Entry, entry}
 use Rattle.rx_lists.specs.declared.lists.SlotId.{SlotId}
+use Rattle.rx_lists.specs.Owners.{Owners}
+use Rattle.rx_terms.specs.declared.triples.Term.{Term as CodeTerm}
 use Rattle.rx_element.specs.TextRules.{resource_term}
-use Rattle.rx_eval.specs.OwnersSeen.{Owning, put_entries, places_for}
+use Rattle.rx_eval.specs.OwnersSeen.{Owning, owners_seen, put_entries, places_for}
 
 abbrev pub Entries : Type 0
 Entries = List (Entry ℕ (Option (Term ℕ)))
+
+-- the new owners are the old ones with these entries put into their lists
+abbrev pub Puts : Owners → Owners → Entries → Type 0
+Puts old new entries = owners_seen new ≡ put_entries entries (owners_seen old)
 
 abbrev pub entries_for : ℕ → Option (Option (Term ℕ)) → Option (List Chars) → Entries
 entries_for owner item predicates = map (entry owner item) (listed predicates)
@@ -34,11 +40,27 @@ own_entries owner facts here value =
     linked_entries owner facts.rel here.object
     ++ (touched_entries owner facts.rel (hangs facts here) ++ entries_for owner (Some value) facts.property)
 
+-- of any element
+abbrev pub listed_entries : ℕ → Facts → Resources ℕ → Option (Term ℕ) → Entries
+listed_entries owner facts here value = if facts.inlist then own_entries owner facts here value else []
+
 abbrev pub entries_in : ℕ → Facts → Resources ℕ → Option (Term ℕ) → List (Hanging ℕ) → Entries
-entries_in owner facts here value hanging = (if facts.inlist then own_entries owner facts here value else []) ++ filter_map (awaited_entry here.subject) hanging
+entries_in owner facts here value hanging = listed_entries owner facts here value ++ filter_map (awaited_entry here.subject) hanging
 
 -- the places of an element with inlist for its text
 abbrev pub own_places : ℕ → Facts → Resources ℕ → List (Option Owning) → List SlotId
 own_places owner facts here owners =
     places_for owner (listed facts.property)
     (put_entries (linked_entries owner facts.rel here.object ++ touched_entries owner facts.rel (hangs facts here)) owners)
+
+-- the places are reserved where the value is the element's text
+abbrev pub places_unless : Option CodeTerm → List SlotId → List SlotId
+places_unless value places = if is_none value then places else []
+
+-- the places are reserved with inlist
+abbrev pub listed_places : Facts → List SlotId → List SlotId
+listed_places facts places = if facts.inlist then places else []
+
+-- the places that an element reserves for its text
+abbrev pub reserved : ℕ → Facts → Resources ℕ → Option CodeTerm → Owners → List SlotId
+reserved owner facts here value owners = listed_places facts (places_unless value (own_places owner facts here (owners_seen owners)))

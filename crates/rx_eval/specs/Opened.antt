@@ -5,8 +5,9 @@ use Rattle.rx_model.specs.Terms.{Iri}
 use Rattle.rx_rdfa.specs.Facts.{Facts}
 use Rattle.rx_rdfa.specs.Renaming.{labels}
 use Rattle.rx_rdfa.specs.Resources.{Inherited}
-use Rattle.rx_element.specs.Labels.{draw}
+use Rattle.rx_element.specs.Labels.{Numbered, draw}
 use Rattle.rx_element.specs.Places.{level_at}
+use Rattle.rx_element.specs.declared.places.Level.{Level}
 use Rattle.rx_eval.specs.OwnersSeen.{owning}
 use Rattle.rx_eval.specs.Entering.{Gathers, resources_by, start_at, below_at, gathers_at, own_at, below_own_at, places_at, lists_at}
 use Rattle.rx_eval.specs.Opening.{drawn_after}
@@ -18,6 +19,10 @@ abbrev pub handed_on : Inherited ℕ ℕ → List Frame → Inherited ℕ ℕ
 handed_on page [] = page
 handed_on page (frame ∷ frames) = handed_on frame.context frames
 
+-- what holds of an element inside the last frame, with these numbers of labels and of a new node
+abbrev pub on_top : {A : Type 0} → (Numbered → ℕ → Chars → Level → Inherited ℕ ℕ → Facts → A) → State → Facts → Numbered → ℕ → A
+on_top f old facts labels fresh = f labels fresh old.base (level_at (length old.frames)) (handed_on old.page old.frames) facts
+
 -- an element was opened: its labels have drawn their numbers; its triples are there; it is the last frame, with its owners
 -- and its text where it gathers that; its owners are begun, and what it has stands in their lists
 pub record Opens (old : State) (facts : Facts) (new : State) : Type 0 where
@@ -25,19 +30,20 @@ pub record Opens (old : State) (facts : Facts) (new : State) : Type 0 where
   pub fresh : ℕ
   pub drawing : draw old.labels old.drawn (labels facts) ≡ (new.labels, fresh)
   pub pushed : new.frames ≡ old.frames ++ frame ∷ []
-  pub context : frame.context ≡ below_at new.labels fresh old.base (level_at (length old.frames)) (handed_on old.page old.frames) facts (length old.owners)
-  pub start : new.out ≡ old.out ++ start_at new.labels fresh old.base (level_at (length old.frames)) (handed_on old.page old.frames) facts
-  pub lists : new.owners ≡ lists_at new.labels fresh old.base (level_at (length old.frames)) (handed_on old.page old.frames) facts old.owners
-  pub gathers : is_some frame.text ≡ gathers_at new.labels fresh old.base (level_at (length old.frames)) (handed_on old.page old.frames) facts
+  pub context : frame.context ≡ on_top below_at old facts new.labels fresh (length old.owners)
+  pub start : new.out ≡ old.out ++ on_top start_at old facts new.labels fresh
+  pub lists : new.owners ≡ on_top lists_at old facts new.labels fresh old.owners
+  pub gathers : is_some frame.text ≡ on_top gathers_at old facts new.labels fresh
   pub text :
       IfSome frame.text
-      (Gathers facts (resources_by new.labels fresh old.base (level_at (length old.frames)) (handed_on old.page old.frames) facts)
-      (places_at new.labels fresh old.base (level_at (length old.frames)) (handed_on old.page old.frames) facts old.owners)
+      (Gathers facts (on_top resources_by old facts new.labels fresh) (on_top places_at old facts new.labels fresh old.owners)
       (length (encode_utf8_all old.kept)))
-  pub own : frame.own ≡ own_at new.labels fresh old.base (level_at (length old.frames)) (handed_on old.page old.frames) facts (length old.owners)
-  pub below_own : frame.below ≡ below_own_at new.labels fresh old.base (level_at (length old.frames)) (handed_on old.page old.frames) facts (length old.owners)
+  pub own : frame.own ≡ on_top own_at old facts new.labels fresh (length old.owners)
+  pub below_own : frame.below ≡ on_top below_own_at old facts new.labels fresh (length old.owners)
   pub counted : new.drawn ≡ drawn_after frame.context fresh
-  pub rest : (new.base ≡ old.base) × (new.levels ≡ old.levels) × (new.page ≡ old.page) × (new.cells ≡ old.cells) × (new.kept ≡ old.kept) × (new.ended ≡ old.ended) × (new.spent ≡ old.spent)
+  pub rest :
+      (new.base ≡ old.base) × (new.levels ≡ old.levels) × (new.page ≡ old.page)
+      × (new.cells ≡ old.cells) × (new.kept ≡ old.kept) × (new.ended ≡ old.ended) × (new.spent ≡ old.spent)
 
 -- one more may be opened
 pub record MayOpen (old : State) (facts : Facts) : Type 0 where

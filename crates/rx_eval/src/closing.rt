@@ -1,13 +1,13 @@
 //! The end of an element (RDFa Core 1.1, section 7.5, steps 11 and 14).
-ghost use Rattle.std.specs.Prelude.{◌≡◌, ◌+◌, ◌++◌, OnOk, IfOk, option_map};
+ghost use Rattle.std.specs.Prelude.{◌≡◌, ◌+◌, OnOk, IfOk, option_map};
 ghost use Rattle.std.specs.Str.{chars};
 ghost use Rattle.rx_model.specs.Seen.{node_seen, term_seen, triples_seen};
-ghost use Rattle.rx_element.specs.TextRules.{text_literal};
+ghost use Rattle.rx_lists.specs.Gains.{Gains};
 ghost use Rattle.rx_eval.specs.OwnersSeen.{owners_seen, fill_all, open_seen, cells_seen, forgotten_seen};
 ghost use Rattle.rx_terms.specs.Text.{Chars};
 ghost use Rattle.rx_eval.specs.States.{frame_seen, owner_seen};
-ghost use Rattle.rx_eval.specs.Ending.{ending, end_owner, end_frame, cells_count, TextAt, Ends};
-ghost use Rattle.rx_eval.specs.Closing.{filled_in, said_by, slots_in};
+ghost use Rattle.rx_eval.specs.Ending.{ending_seen, end_owner, end_frame, cells_count, TextAt, Ends};
+ghost use Rattle.rx_eval.specs.Closing.{filled_in, said_by, slots_in, text_value};
 
 use crate::frames::{Frame, Gathered, Target};
 use rx_element::push_each;
@@ -42,7 +42,7 @@ fn put_value(
     gathered: &Gathered,
     value: Term,
 ) -> Result<(), NoMemory>
-    ensures said { OnOk result (triples_seen out.new ≡ triples_seen out.old ++ said_by gathered.now.target (node_seen gathered.now.subject) (term_seen value)) }
+    ensures said { OnOk result (Gains out.old out.new (said_by gathered.now.target (node_seen gathered.now.subject) (term_seen value))) }
     ensures filled { OnOk result (owners_seen lists.new ≡ fill_all (slots_in gathered.now.target) (term_seen value) (owners_seen lists.old)) }
 {
     match &gathered.target {
@@ -59,8 +59,10 @@ pub(crate) fn end_text(
     gathered: &Gathered,
     text: &str,
 ) -> Result<(), NoMemory>
-    ensures said { OnOk result (triples_seen out.new ≡ triples_seen out.old ++ said_by gathered.now.target (node_seen gathered.now.subject) (text_literal gathered.now.rule (chars text.now))) }
-    ensures filled { OnOk result (owners_seen lists.new ≡ fill_all (slots_in gathered.now.target) (text_literal gathered.now.rule (chars text.now)) (owners_seen lists.old)) }
+    ensures said { OnOk result (Gains out.old out.new
+        (said_by gathered.now.target (node_seen gathered.now.subject) (text_value gathered.now (chars text.now)))) }
+    ensures filled { OnOk result (owners_seen lists.new
+        ≡ fill_all (slots_in gathered.now.target) (text_value gathered.now (chars text.now)) (owners_seen lists.old)) }
 {
     let value = gathered.rule.value(alloc, text)?;
     put_value(out, lists, gathered, value)
@@ -76,7 +78,7 @@ pub(crate) fn end_lists(
     owner: Owner,
     next: u64,
 ) -> Result<u64, NoMemory>
-    ensures triples { OnOk result (triples_seen out.new ≡ triples_seen out.old ++ cells_seen next (open_seen (owners_seen lists.old) owner.0)) }
+    ensures triples { OnOk result (Gains out.old out.new (cells_seen next (open_seen (owners_seen lists.old) owner.0))) }
     ensures next { IfOk result (λ after. after ≡ next + cells_count (open_seen (owners_seen lists.old) owner.0)) }
     ensures lists { OnOk result (owners_seen lists.new ≡ forgotten_seen (owners_seen lists.old) owner.0) }
 {
@@ -90,7 +92,7 @@ pub(crate) fn end_lists(
 
 /// Adds the triples themselves, in order.
 fn push_all(out: &mut TripleList, triples: TripleList) -> Result<(), NoMemory>
-    ensures { OnOk result (triples_seen out.new ≡ triples_seen out.old ++ triples_seen triples) }
+    ensures { OnOk result (Gains out.old out.new (triples_seen triples)) }
 {
     for triple in triples.into_vec() {
         out.push(triple)?;
@@ -106,7 +108,7 @@ pub(crate) fn end_owner(
     owner: Option<Owner>,
     next: u64,
 ) -> Result<u64, NoMemory>
-    ensures { IfOk result (λ after. Ends (ending (triples_seen out.old) (owners_seen lists.old) next) (end_owner (option_map owner_seen owner)) (ending (triples_seen out.new) (owners_seen lists.new) after)) }
+    ensures { IfOk result (λ after. Ends (ending_seen out.old lists.old next) (end_owner (option_map owner_seen owner)) (ending_seen out.new lists.new after)) }
 {
     match owner {
         Some(owner) => end_lists(out, lists, owner, next),
@@ -124,7 +126,8 @@ pub(crate) fn end_frame(
     text: &TextStore,
     next: u64,
 ) -> Result<u64, NoMemory>
-    ensures { IfOk result (λ after. (front chars : Chars) → TextAt (frame_seen frame.now).text text.now front chars → Ends (ending (triples_seen out.old) (owners_seen lists.old) next) (end_frame (frame_seen frame.now) chars) (ending (triples_seen out.new) (owners_seen lists.new) after)) }
+    ensures { IfOk result (λ after. (front chars : Chars) → TextAt (frame_seen frame.now).text text.now front chars
+        → Ends (ending_seen out.old lists.old next) (end_frame (frame_seen frame.now) chars) (ending_seen out.new lists.new after)) }
 {
     if let Some(gathered) = &frame.gathered {
         end_text(alloc, out, lists, gathered, text.since(gathered.mark))?;

@@ -1,19 +1,18 @@
 //! The start of an element (RDFa Core 1.1, section 7.5).
-ghost use Rattle.std.specs.Prelude.{◌≡◌, ◌&&◌, [], ◌++◌, false, OnOk, IfOk, IfSome, Some, None, is_some, is_none, length, map, option_map, if◌then◌else◌};
-ghost use Rattle.rx_model.specs.Seen.{node_seen, term_seen, triples_seen};
-ghost use Rattle.rx_rdfa.specs.Inherited.{handed, hangs, object_below};
+ghost use Rattle.std.specs.Prelude.{◌≡◌, ◌&&◌, false, OnOk, IfOk, IfSome, Some, None, is_some, is_none, length, map, option_map, if◌then◌else◌};
+ghost use Rattle.rx_model.specs.Seen.{node_seen, term_seen};
 ghost use Rattle.rx_curie.specs.Seen.{facts_seen};
 ghost use Rattle.rx_element.specs.Contexts.{context_seen, waiting_seen};
 ghost use Rattle.rx_element.specs.Found.{found_seen};
-ghost use Rattle.rx_element.specs.Places.{naming, standing};
+ghost use Rattle.rx_lists.specs.Gains.{Gains};
 ghost use Rattle.rx_eval.specs.OwnersSeen.{owners_seen, put_entries};
 ghost use Rattle.rx_eval.specs.Frames.{hanging_by};
-ghost use Rattle.rx_eval.specs.Listing.{entries_in};
+ghost use Rattle.rx_eval.specs.Listing.{listed_places};
 ghost use Rattle.rx_eval.specs.Gathering.{target_seen};
 ghost use Rattle.rx_eval.specs.Closing.{slots_in};
 ghost use Rattle.rx_eval.specs.States.{owner_seen, text_seen};
-ghost use Rattle.rx_eval.specs.Elements.{handed_by, owner_in, begun_below, begun_below_number};
-ghost use Rattle.rx_eval.specs.Entering.{Gathers, naming_by, next_number, own_number, owners_begun, owner_begun, owner_for, places_by, at_place, resources_by, start_at, below_at, lists_at, gathers_at, places_at, own_at, below_own_at};
+ghost use Rattle.rx_eval.specs.Elements.{handed_by, hanging_below, owner_in, begun_below, begun_below_number};
+ghost use Rattle.rx_eval.specs.Entering.{Gathers, GathersAt, GathersFound, handed_found, owners_found, entries_found, own_found, below_found, at_place, start_at, below_at, lists_at, gathers_at, own_at, below_own_at};
 
 use crate::frames::{Frame, Gathered, Target, clone_iris, waiting_of};
 use crate::handing::{begin, hangs, object_below};
@@ -59,7 +58,8 @@ fn gathered(
     mark: usize,
 ) -> Result<Option<Gathered>, NoMemory>
     ensures some { IfOk result (λ gathered. is_some gathered ≡ (is_some facts.now.property && is_none value.now)) }
-    ensures what { IfOk result (λ gathered. IfSome gathered (λ g. Gathers (facts_seen facts.now) (found_seen found.now) (if facts.now.inlist then slots.items else []) mark (text_seen g))) }
+    ensures what { IfOk result (λ gathered. IfSome gathered (λ g.
+        Gathers (facts_seen facts.now) (found_seen found.now) (listed_places (facts_seen facts.now) slots.items) mark (text_seen g))) }
 {
     let Some(property) = &facts.property else {
         return Ok(None);
@@ -84,7 +84,7 @@ fn target(
     slots: Vec<SlotId>,
 ) -> Result<Target, NoMemory>
     ensures said { IfOk result (λ target. target_seen target ≡ (if facts.now.inlist then None else Some property.now)) }
-    ensures slots { IfOk result (λ target. slots_in target ≡ (if facts.now.inlist then slots.items else [])) }
+    ensures slots { IfOk result (λ target. slots_in target ≡ listed_places (facts_seen facts.now) slots.items) }
 {
     if facts.inlist {
         return Ok(Target::Listed(slots));
@@ -115,11 +115,11 @@ pub(crate) fn enter(
     out: &mut TripleList,
     mark: usize,
 ) -> Result<Frame, NoMemory>
-    ensures start { OnOk result (triples_seen out.new ≡ triples_seen out.old ++ at_place start_at place.now (facts_seen facts.now)) }
+    ensures start { OnOk result (Gains out.old out.new (at_place start_at place.now (facts_seen facts.now))) }
     ensures context { IfOk result (λ frame. context_seen frame.context ≡ at_place below_at place.now (facts_seen facts.now) (length lists.old)) }
     ensures lists { OnOk result (owners_seen lists.new ≡ at_place lists_at place.now (facts_seen facts.now) (owners_seen lists.old)) }
     ensures gathers { IfOk result (λ frame. is_some frame.gathered ≡ at_place gathers_at place.now (facts_seen facts.now)) }
-    ensures text { IfOk result (λ frame. IfSome frame.gathered (λ g. Gathers (facts_seen facts.now) (at_place resources_by place.now (facts_seen facts.now)) (at_place places_at place.now (facts_seen facts.now) (owners_seen lists.old)) mark (text_seen g))) }
+    ensures text { IfOk result (λ frame. GathersAt place.now (facts_seen facts.now) lists.old mark frame.gathered) }
     ensures own { IfOk result (λ frame. option_map owner_seen frame.own ≡ at_place own_at place.now (facts_seen facts.now) (length lists.old)) }
     ensures below { IfOk result (λ frame. option_map owner_seen frame.below ≡ at_place below_own_at place.now (facts_seen facts.now) (length lists.old)) }
 {
@@ -140,12 +140,14 @@ fn enter_found(
     mark: usize,
 ) -> Result<Frame, NoMemory>
     requires { found.now.skipped ≡ false }
-    ensures context { IfOk result (λ frame. context_seen frame.context ≡ handed (naming_by place.now.labels.now place.now.fresh (standing place.now (facts_seen facts.now)) (found_seen found.now) (length lists.old)) (standing place.now (facts_seen facts.now)) (found_seen found.now)) }
-    ensures lists { OnOk result (owners_seen lists.new ≡ put_entries (entries_in (own_number (standing place.now (facts_seen facts.now)) (found_seen found.now) (length lists.old)) (facts_seen facts.now) (found_seen found.now) (option_map term_seen value.now) (map waiting_seen place.now.around.now.hanging)) (owners_begun (naming place.now) (standing place.now (facts_seen facts.now)) (found_seen found.now) (owners_seen lists.old))) }
+    ensures context { IfOk result (λ frame. context_seen frame.context ≡ handed_found place.now (facts_seen facts.now) (found_seen found.now) lists.old) }
+    ensures lists { OnOk result (owners_seen lists.new
+        ≡ put_entries (entries_found place.now (facts_seen facts.now) (found_seen found.now) lists.old (option_map term_seen value.now))
+        (owners_found place.now (facts_seen facts.now) (found_seen found.now) lists.old)) }
     ensures gathers { IfOk result (λ frame. is_some frame.gathered ≡ (is_some facts.now.property && is_none value.now)) }
-    ensures text { IfOk result (λ frame. IfSome frame.gathered (λ g. Gathers (facts_seen facts.now) (found_seen found.now) (places_by (naming_by place.now.labels.now place.now.fresh (standing place.now (facts_seen facts.now)) (found_seen found.now) (length lists.old)) (standing place.now (facts_seen facts.now)) (found_seen found.now) (owners_begun (naming place.now) (standing place.now (facts_seen facts.now)) (found_seen found.now) (owners_seen lists.old))) mark (text_seen g))) }
-    ensures own { IfOk result (λ frame. option_map owner_seen frame.own ≡ owner_begun (found_seen found.now).subject (node_seen place.now.around.now.object) (length lists.old)) }
-    ensures below { IfOk result (λ frame. option_map owner_seen frame.below ≡ owner_for (object_below (naming place.now) (standing place.now (facts_seen facts.now)) (found_seen found.now)) (found_seen found.now).subject (next_number (standing place.now (facts_seen facts.now)) (found_seen found.now) (length lists.old))) }
+    ensures text { IfOk result (λ frame. GathersFound place.now (facts_seen facts.now) (found_seen found.now) lists.old mark frame.gathered) }
+    ensures own { IfOk result (λ frame. option_map owner_seen frame.own ≡ own_found place.now (facts_seen facts.now) (found_seen found.now) lists.old) }
+    ensures below { IfOk result (λ frame. option_map owner_seen frame.below ≡ below_found place.now (facts_seen facts.now) (found_seen found.now) lists.old) }
 {
     let around = place.around;
     let object = object_below(place, facts, found)?;
@@ -181,7 +183,7 @@ fn waiting_below(
     found: &Found,
     own: Owner,
 ) -> Result<Hangings, NoMemory>
-    ensures { IfOk result (λ hangings. map waiting_seen hangings ≡ (if hangs (facts_seen facts.now) (found_seen found.now) then hanging_by (facts_seen facts.now) own.0 else [])) }
+    ensures { IfOk result (λ hangings. map waiting_seen hangings ≡ hanging_below (facts_seen facts.now) (found_seen found.now) own.0) }
 {
     if !hangs(facts, found) {
         return Ok(Hangings::none());
@@ -208,7 +210,8 @@ fn hand(
     own: Owner,
     below: Owner,
 ) -> Result<Context, NoMemory>
-    ensures { IfOk result (λ context. context_seen context ≡ handed_by (facts_seen facts.now) (found_seen found.now) (option_map node_seen object) own.0 below.0) }
+    ensures { IfOk result (λ context. context_seen context
+        ≡ handed_by (facts_seen facts.now) (found_seen found.now) (option_map node_seen object) own.0 below.0) }
 {
     let hanging = waiting_below(alloc, facts, found, own)?;
     let object = match object {

@@ -4,7 +4,8 @@ ghost use Rattle.rx_rdfa.specs.Tables.{put};
 ghost use Rattle.rx_lists.specs.Owners.{changed};
 ghost use Rattle.rx_model.specs.Seen.{term_seen};
 ghost use Rattle.rx_rdfa.specs.Lists.{entry};
-ghost use Rattle.rx_eval.specs.OwnersSeen.{owners_seen, put_entries, places_for};
+ghost use Rattle.rx_eval.specs.OwnersSeen.{owners_seen, places_for};
+ghost use Rattle.rx_eval.specs.Listing.{Puts};
 ghost use Rattle.rx_eval.specs.Entries.{put_each, slots_for, put_awaited};
 
 use rx_element::Waiting;
@@ -35,7 +36,7 @@ pub(crate) fn add_each(
     item: &Term,
 ) -> Result<(), NoMemory>
     ensures code { OnOk result (lists.new ≡ put_each owner.0 (Some (Some item.now)) predicates.now lists.old) }
-    ensures seen { OnOk result (owners_seen lists.new ≡ put_entries (map (entry owner.0 (Some (Some (term_seen item.now)))) predicates.now) (owners_seen lists.old)) }
+    ensures seen { OnOk result (Puts lists.old lists.new (map (entry owner.0 (Some (Some (term_seen item.now)))) predicates.now)) }
 {
     for i in 0..predicates.len() {
         add_item(lists, owner, predicates.at(i), item)?;
@@ -46,7 +47,7 @@ pub(crate) fn add_each(
 /// Makes the owner's list of each predicate.
 pub(crate) fn touch_each(lists: &mut Lists, owner: Owner, predicates: &Iris) -> Result<(), NoMemory>
     ensures code { OnOk result (lists.new ≡ put_each owner.0 None predicates.now lists.old) }
-    ensures seen { OnOk result (owners_seen lists.new ≡ put_entries (map (entry owner.0 None) predicates.now) (owners_seen lists.old)) }
+    ensures seen { OnOk result (Puts lists.old lists.new (map (entry owner.0 None) predicates.now)) }
 {
     for i in 0..predicates.len() {
         lists.touch(owner, predicates.at(i))?;
@@ -62,7 +63,7 @@ pub(crate) fn slot_each(
     predicates: &Iris,
 ) -> Result<Vec<SlotId>, NoMemory>
     ensures lists { OnOk result (lists.new ≡ put_each owner.0 (Some None) predicates.now lists.old) }
-    ensures seen { OnOk result (owners_seen lists.new ≡ put_entries (map (entry owner.0 (Some None)) predicates.now) (owners_seen lists.old)) }
+    ensures seen { OnOk result (Puts lists.old lists.new (map (entry owner.0 (Some None)) predicates.now)) }
     ensures slots { IfOk result (λ slots. slots.items ≡ slots_for owner predicates.now lists.old) }
     ensures places { IfOk result (λ slots. slots.items ≡ places_for owner.0 predicates.now (owners_seen lists.old)) }
 {

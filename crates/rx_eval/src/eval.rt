@@ -66,7 +66,20 @@ impl Model for Eval {
 
     ghost Value = { State };
 
-    ghost view = { λ e. record { base = e.base; levels = e.levels; page = context_seen e.page; frames = map frame_seen e.frames.items; labels = e.labels; drawn = e.drawn; cells = e.cells; owners = owners_seen e.lists; kept = e.text; out = triples_seen e.out; ended = e.ended; spent = e.spent } };
+    ghost view = { λ e. record {
+      base = e.base;
+      levels = e.levels;
+      page = context_seen e.page;
+      frames = map frame_seen e.frames.items;
+      labels = e.labels;
+      drawn = e.drawn;
+      cells = e.cells;
+      owners = owners_seen e.lists;
+      kept = e.text;
+      out = triples_seen e.out;
+      ended = e.ended;
+      spent = e.spent;
+    } };
 
     ghost invariant = { λ e. IsSound e.levels e.frames.items e.outermost e.text };
 }
@@ -140,7 +153,8 @@ impl Eval {
     pub fn enter(&mut self, facts: &Facts) -> Result<(), NoMemory>
         requires { self.old.spent ≡ false → MayOpen self.old (facts_seen facts.now) }
         ensures ok { OnOk result (Opens self.old (facts_seen facts.now) self.new) }
-        ensures stands { OnOk result ((to : Numbering) (list : List Call) → Stands to list self.old → StandsOn to (list ++ Enter (facts_seen facts.now) ∷ []) self.new) }
+        ensures stands { OnOk result ((to : Numbering) (list : List Call) → Stands to list self.old
+            → StandsOn to (list ++ Enter (facts_seen facts.now) ∷ []) self.new) }
         ensures unspent { OnOk result (self.old.spent ≡ false) }
         ensures spent { OnErr result (self.new.spent ≡ true) }
     {

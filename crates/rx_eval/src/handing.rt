@@ -47,7 +47,8 @@ pub(crate) fn object_below(
     facts: &Facts,
     found: &Found,
 ) -> Result<Option<Node>, NoMemory>
-    ensures { IfOk result (λ object. option_map node_seen object ≡ object_below (naming place.now) (standing place.now (facts_seen facts.now)) (found_seen found.now)) }
+    ensures { IfOk result (λ object. option_map node_seen object
+        ≡ object_below (naming place.now) (standing place.now (facts_seen facts.now)) (found_seen found.now)) }
 {
     if hangs(facts, found) {
         return Ok(Some(place.fresh()));

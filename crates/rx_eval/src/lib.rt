@@ -4,7 +4,7 @@
 //! here stand the frames of the open elements, the owners of lists, and the calls.
 #![tactic(auto)]
 
-ghost use Rattle.rx_eval.specs.KeptTexts.{KeepsWhereGathered};
+ghost use Rattle.rx_eval.specs.KeptTexts.{KeepsWhereGathered, KeptTextsHold};
 ghost use Rattle.rx_eval.specs.Reserving.{ReservedAreFilled};
 
 mod closing;
@@ -32,4 +32,9 @@ pub fn reserved_are_filled()
 /// step 11): where its property has the element's text for its value.
 pub fn text_is_kept_where_it_is_gathered()
     ensures { KeepsWhereGathered }
+{}
+
+/// Worked lines of open elements: which of them gather their text.
+pub fn kept_texts_hold()
+    ensures { KeptTextsHold }
 {}

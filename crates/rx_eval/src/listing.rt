@@ -1,12 +1,12 @@
 //! What an element puts into lists at its start.
-ghost use Rattle.std.specs.Prelude.{◌≡◌, OnOk, IfOk, Some, None, map, option_map, is_none, if◌then◌else◌, [], ◌++◌, filter_map};
+ghost use Rattle.std.specs.Prelude.{◌≡◌, OnOk, IfOk, Some, map, option_map, filter_map};
 ghost use Rattle.rx_model.specs.Seen.{node_seen, term_seen};
 ghost use Rattle.rx_curie.specs.Seen.{facts_seen};
 ghost use Rattle.rx_element.specs.Found.{found_seen};
 ghost use Rattle.rx_element.specs.Contexts.{waiting_seen};
 ghost use Rattle.rx_rdfa.specs.Inherited.{listed};
-ghost use Rattle.rx_eval.specs.OwnersSeen.{owners_seen, put_entries, places_for};
-ghost use Rattle.rx_eval.specs.Listing.{entries_for, linked_entries, touched_entries, awaited_entry, own_entries, entries_in, own_places};
+ghost use Rattle.rx_eval.specs.OwnersSeen.{owners_seen, places_for};
+ghost use Rattle.rx_eval.specs.Listing.{Puts, entries_for, linked_entries, touched_entries, awaited_entry, own_entries, listed_entries, entries_in, own_places, places_unless, reserved};
 
 use crate::entries::{add_awaited, add_each, slot_each, touch_each};
 use crate::handing::hangs;
@@ -23,7 +23,7 @@ fn put_linked(
     rel: &Option<Iris>,
     object: &Option<Node>,
 ) -> Result<(), NoMemory>
-    ensures { OnOk result (owners_seen lists.new ≡ put_entries (linked_entries owner.0 rel.now (option_map node_seen object.now)) (owners_seen lists.old)) }
+    ensures { OnOk result (Puts lists.old lists.new (linked_entries owner.0 rel.now (option_map node_seen object.now))) }
 {
     let Some(object) = object else {
         return Ok(());
@@ -41,7 +41,7 @@ fn put_touched(
     rel: &Option<Iris>,
     waits: bool,
 ) -> Result<(), NoMemory>
-    ensures { OnOk result (owners_seen lists.new ≡ put_entries (touched_entries owner.0 rel.now waits) (owners_seen lists.old)) }
+    ensures { OnOk result (Puts lists.old lists.new (touched_entries owner.0 rel.now waits)) }
 {
     if !waits {
         return Ok(());
@@ -60,8 +60,8 @@ fn put_valued(
     property: &Option<Iris>,
     value: &Option<Term>,
 ) -> Result<Vec<SlotId>, NoMemory>
-    ensures lists { OnOk result (owners_seen lists.new ≡ put_entries (entries_for owner.0 (Some (option_map term_seen value.now)) property.now) (owners_seen lists.old)) }
-    ensures slots { IfOk result (λ slots. slots.items ≡ (if is_none value.now then places_for owner.0 (listed property.now) (owners_seen lists.old) else [])) }
+    ensures lists { OnOk result (Puts lists.old lists.new (entries_for owner.0 (Some (option_map term_seen value.now)) property.now)) }
+    ensures slots { IfOk result (λ slots. slots.items ≡ places_unless value.now (places_for owner.0 (listed property.now) (owners_seen lists.old))) }
 {
     let Some(property) = property else {
         return Ok(Vec::new(alloc));
@@ -84,8 +84,10 @@ fn put_own(
     found: &Found,
     value: &Option<Term>,
 ) -> Result<Vec<SlotId>, NoMemory>
-    ensures lists { OnOk result (owners_seen lists.new ≡ put_entries (own_entries owner.0 (facts_seen facts.now) (found_seen found.now) (option_map term_seen value.now)) (owners_seen lists.old)) }
-    ensures slots { IfOk result (λ slots. slots.items ≡ (if is_none value.now then own_places owner.0 (facts_seen facts.now) (found_seen found.now) (owners_seen lists.old) else [])) }
+    ensures lists { OnOk result (Puts lists.old lists.new
+        (own_entries owner.0 (facts_seen facts.now) (found_seen found.now) (option_map term_seen value.now))) }
+    ensures slots { IfOk result (λ slots. slots.items
+        ≡ places_unless value.now (own_places owner.0 (facts_seen facts.now) (found_seen found.now) (owners_seen lists.old))) }
 {
     put_linked(lists, owner, &facts.rel, &found.object)?;
     put_touched(lists, owner, &facts.rel, hangs(facts, found))?;
@@ -94,7 +96,7 @@ fn put_own(
 
 /// Adds the subject to the lists that wait. Where nothing waits, no copy of it is made.
 fn put_awaited(lists: &mut Lists, waiting: &[Waiting], subject: &Node) -> Result<(), NoMemory>
-    ensures { OnOk result (owners_seen lists.new ≡ put_entries (filter_map (awaited_entry (node_seen subject.now)) (map waiting_seen waiting.now)) (owners_seen lists.old)) }
+    ensures { OnOk result (Puts lists.old lists.new (filter_map (awaited_entry (node_seen subject.now)) (map waiting_seen waiting.now))) }
 {
     if waiting.is_empty() {
         return Ok(());
@@ -112,8 +114,9 @@ pub(crate) fn put_all(
     value: &Option<Term>,
     waiting: &[Waiting],
 ) -> Result<Vec<SlotId>, NoMemory>
-    ensures lists { OnOk result (owners_seen lists.new ≡ put_entries (entries_in owner.0 (facts_seen facts.now) (found_seen found.now) (option_map term_seen value.now) (map waiting_seen waiting.now)) (owners_seen lists.old)) }
-    ensures slots { IfOk result (λ slots. slots.items ≡ (if facts.now.inlist then (if is_none value.now then own_places owner.0 (facts_seen facts.now) (found_seen found.now) (owners_seen lists.old) else []) else [])) }
+    ensures lists { OnOk result (Puts lists.old lists.new
+        (entries_in owner.0 (facts_seen facts.now) (found_seen found.now) (option_map term_seen value.now) (map waiting_seen waiting.now))) }
+    ensures slots { IfOk result (λ slots. slots.items ≡ reserved owner.0 (facts_seen facts.now) (found_seen found.now) value.now lists.old) }
 {
     let slots = put_listed(alloc, lists, owner, facts, found, value)?;
     put_awaited(lists, waiting, &found.subject)?;
@@ -129,8 +132,9 @@ fn put_listed(
     found: &Found,
     value: &Option<Term>,
 ) -> Result<Vec<SlotId>, NoMemory>
-    ensures lists { OnOk result (owners_seen lists.new ≡ put_entries (if facts.now.inlist then own_entries owner.0 (facts_seen facts.now) (found_seen found.now) (option_map term_seen value.now) else []) (owners_seen lists.old)) }
-    ensures slots { IfOk result (λ slots. slots.items ≡ (if facts.now.inlist then (if is_none value.now then own_places owner.0 (facts_seen facts.now) (found_seen found.now) (owners_seen lists.old) else []) else [])) }
+    ensures lists { OnOk result (Puts lists.old lists.new
+        (listed_entries owner.0 (facts_seen facts.now) (found_seen found.now) (option_map term_seen value.now))) }
+    ensures slots { IfOk result (λ slots. slots.items ≡ reserved owner.0 (facts_seen facts.now) (found_seen found.now) value.now lists.old) }
 {
     if !facts.inlist {
         return Ok(Vec::new(alloc));
