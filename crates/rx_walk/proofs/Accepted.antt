@@ -8,25 +8,17 @@ use Rattle.rx_grammar.specs.declared.faults.Kind.{Kind}
 use Rattle.rx_grammar.specs.Trees.{StartTag}
 use Rattle.rx_rdfa.specs.Names.{Context}
 use Rattle.rx_rdfa.specs.Refusals.{Refusal}
-use Rattle.rx_rdfa.specs.Tree.{Tag}
 use Rattle.rx_names.specs.Lines as names
 use Rattle.rx_names.specs.Lines.{Kept, no_tags}
 use Rattle.rx_curie.specs.Given.{kind_of}
 use Rattle.rx_nest.specs.Signs.{Sign, begun, said}
-use Rattle.rx_base.specs.Lines.{around, line_on, line_of}
+use Rattle.rx_base.specs.Lines.{line_on, line_of}
 use Rattle.rx_walk.specs.Refused.{fault_of, refused_at, refused_in}
 use Rattle.rx_walk.specs.Courses.{AllAbsolute}
 use Rattle.rx_walk.specs.Accepting.{Accepts}
 use Rattle.rx_walk.proofs.Signed.{refused_append, said_refused}
 use Rattle.rx_base.proofs.Lines.{line_append, said_line}
-
-or_none : (o : Option Fault) → option_or o None ≡ o
-or_none None = refl
-or_none (Some x) = refl
-
-pub absolute_around : (line : List Tag) → AllAbsolute line → AllAbsolute (around line)
-absolute_around [] a = tt
-absolute_around (t ∷ line) a = a.1
+use Rattle.rx_walk.proofs.Coursing.{or_none}
 
 pub accepts_none : (context : Context) (kept : Kept) → kept ≡ no_tags context → names.Stands kept [] → Accepts context kept []
 accepts_none context kept e s = record { names_are = s; context_is = ap (λ (k : Kept). k.context) e; absolute = tt; accepted = refl }

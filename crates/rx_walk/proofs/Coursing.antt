@@ -34,7 +34,7 @@ use Rattle.rx_walk.proofs.Signed.{calls_append, refused_append, said_calls, said
 use Rattle.rx_base.proofs.Lines.{line_append, seeks_append, said_line, said_seeks}
 use Rattle.rx_walk.proofs.Fronting.{may_more, may_say, front_counts}
 
-or_none : (o : Option Fault) → option_or o None ≡ o
+pub or_none : (o : Option Fault) → option_or o None ≡ o
 or_none None = refl
 or_none (Some x) = refl
 
@@ -50,7 +50,7 @@ from_absolute tag line a = by (is_some _) line a
 pub absolute_more : (kept : Kept) (line : List Tag) (tag : Tag) → AllAbsolute line → names.Stands kept (tag ∷ line) → is_relative (vocabulary_of kept) ≡ false → AllAbsolute (tag ∷ line)
 absolute_more kept line tag a s r = (ap is_relative (sym (vocabulary-line kept (tag ∷ line) s)) ∙ r, a)
 
-absolute_around : (line : List Tag) → AllAbsolute line → AllAbsolute (around line)
+pub absolute_around : (line : List Tag) → AllAbsolute line → AllAbsolute (around line)
 absolute_around [] a = tt
 absolute_around (t ∷ line) a = a.1
 

@@ -1,5 +1,5 @@
 -- What becomes of the stage.
-use Rattle.std.proofs.Common.{◌≡◌, ◌∙◌, ℕ, ◌<◌, Bool, true, false, List, [], ◌∷◌, ◌++◌, length, refl, sym, ap, subst, Option, Some, None, Result, Ok, Err, OnOk, zero, suc, ◌+◌, ◌≤◌, drop, get_or, slice_get, add-one, arith, append_assoc, append-nil}
+use Rattle.std.proofs.Common.{◌≡◌, ◌∙◌, ℕ, ◌<◌, Bool, true, false, List, [], ◌∷◌, ◌++◌, length, refl, sym, ap, subst, Option, Some, None, Result, Ok, Err, OnOk, zero, suc, ◌+◌, drop, get_or, slice_get, add-one, arith, append_assoc, append-nil}
 use Rattle.std.specs.Prelude.{if◌then◌else◌}
 use Rattle.rx_terms.specs.Text.{Chars}
 use Rattle.rx_rdfa.specs.Base.{base_by}
@@ -18,7 +18,7 @@ use Rattle.rx_walk.specs.Leading.{Steps, Leads, Led}
 use Rattle.rx_walk.specs.Stages.{call_seen, queue_seen, MayBe, Known, MayTake, Tells, HeadGives, MayFollow}
 use Rattle.rx_base.specs.Sought.{sought_seen}
 use Rattle.rx_walk.proofs.Alike.{leads_then, leads_singles}
-use Rattle.rx_element.proofs.DrawLemmas.{drop_at, nothing_left}
+use Rattle.rx_element.proofs.DrawLemmas.{drop_at}
 use Rattle.rx_walk.proofs.Moving.{may_enter, may_leave, follow_first, follow_rest}
 
 -- the queue
@@ -48,24 +48,10 @@ found_leaves levels state m = may_leave (base_by m.staged.href m.address) levels
 
 -- where it is sought
 
-pub seeking_may : (levels : ℕ) (more : List Call) (head : Head) → MayTake levels more (stage.Seeking head) → MayBe levels (queue_seen head.queue.items ++ more)
-seeking_may levels more head m = subst (λ l. MayBe levels (l ++ more)) (sym m.staged.queue) m.may
-
 pub seeks_on : (origin : Origin) (turn : Seeking → Seeking) (more : List Call) (old new : Head)
     → HeadGives origin (turn (sought_seen old.sought)) (queue_seen old.queue.items ++ more) None new → Tells origin turn more (stage.Seeking old) (stage.Seeking new)
 seeks_on origin turn more old new g = record {
   staged = λ seeking list k. record { sought = g.sought ∙ ap turn k.sought; queue = g.queue ∙ ap (λ l. l ++ more) k.queue };
-}
-
-pub seeks_found : (origin : Origin) (turn : Seeking → Seeking) (more : List Call) (old head : Head) (state : State)
-    → HeadGives origin (turn (sought_seen old.sought)) (queue_seen old.queue.items ++ more) (Some state) head → Tells origin turn more (stage.Seeking old) (stage.Found state)
-seeks_found origin turn more old head state g = record {
-  staged = λ seeking list k.
-      record {
-        href = g.href;
-        is = sym (ap turn k.sought) ∙ g.is;
-        led = subst (λ l. Led (base_by g.href origin.address) origin.levels l state) (ap (λ l. l ++ more) k.queue) g.led;
-      };
 }
 
 pub text_leads : (chars : Chars) (old new : State) → new ≡ read_text chars old → Leads (singles chars) old new
@@ -91,9 +77,6 @@ pub record Replays (queue : List CodeCall) (i : ℕ) (start now : State) : Type 
   pub on : (new : State) → Leads (queue_seen (drop i queue)) now new → Leads (queue_seen queue) start new
   pub may : MayFollow (queue_seen (drop i queue)) now
 
-pub replay_start : (queue : List CodeCall) (state : State) → MayFollow (queue_seen queue) state → Replays queue 0 state state
-replay_start queue state m = record { on = λ new h. h; may = m }
-
 -- what stands at a place below the end
 pub got : {A : Type 0} (xs : List A) (i : ℕ) (x d : A) → i < length xs → x ≡ get_or xs i d → slice_get xs i ≡ Some x
 got [] i x d l e = absurd (omega arith)
@@ -110,12 +93,6 @@ replay_more queue i call start now next g r h =
       on = λ new k. r.on new (subst (λ l. Leads (queue_seen l) now new) (sym (drop_at queue i call g)) (leads_then (call_seen call) (queue_seen (drop (suc i) queue)) now next new h k));
       may = follow_rest (call_seen call) (queue_seen (drop (suc i) queue)) now next (subst (λ l. MayFollow (queue_seen l) now) (drop_at queue i call g) r.may) h;
     })
-
-pub replay_end : (queue : List CodeCall) (i : ℕ) (start now : State) → length queue ≤ i → Replays queue i start now → Leads (queue_seen queue) start now
-replay_end queue i start now l r = r.on now (subst (λ x. Leads (queue_seen x) now now) (sym (nothing_left i queue l)) refl)
-
-pub led_by : (base : Chars) (levels : ℕ) (queue : List CodeCall) (start state : State) → start ≡ begun_state base levels → Leads (queue_seen queue) start state → Led base levels (queue_seen queue) state
-led_by base levels queue start state e h = record { leads = subst (λ s. Leads (queue_seen queue) s state) e h }
 
 pub follow_begun : (base : Chars) (levels : ℕ) (list : List Call) (start : State) → start ≡ begun_state base levels → MayBe levels list → MayFollow list start
 follow_begun base levels list start e m = record { base = base; levels = levels; before = []; led = record { leads = e }; may = m }

@@ -1,5 +1,5 @@
 -- What is known of a page's elements after some signs of it.
-use Rattle.std.specs.Prelude.{◌≡◌, ℕ, false, List, [], ◌∷◌, length, Some, None, Result, Ok, Err}
+use Rattle.std.specs.Prelude.{◌≡◌, ℕ, false, List, [], ◌∷◌, ◌++◌, length, Some, None, Result, Ok, Err}
 use Rattle.rx_terms.specs.Text.{Chars}
 use Rattle.rx_grammar.specs.Trees.{StartTag}
 use Rattle.rx_rdfa.specs.Facts.{facts}
@@ -12,6 +12,7 @@ use Rattle.rx_curie.specs.Seen.{facts_seen}
 use Rattle.rx_tags.specs.declared.stops.Stop.{Stop}
 use Rattle.rx_tags.specs.declared.stops.Stop.TheVariants as stop
 use Rattle.rx_nest.specs.Signs.{Sign, begun}
+use Rattle.rx_nest.specs.Fronts.{IsFront}
 use Rattle.rx_reading.specs.Ways.{Way}
 use Rattle.rx_reading.specs.Listening as listening
 use Rattle.rx_walk.specs.declared.courses.Course.{Course}
@@ -61,3 +62,9 @@ FactsGive context above t made (Err stop.NoMemory) = Unit {0}
 -- what becomes of the course with these signs, or which of them is refused
 abbrev pub Hears : Context → Chars → ℕ → List Sign → List Sign → Result (Unit {0}) Stop → Course → Type 0
 Hears context address levels signs more result new = listening.Hears (refused_in context []) (Runs context address levels) signs more result new
+
+-- the same of whatever signs the course stands for, if these may come next
+abbrev pub HearsOn : Course → List Sign → Result (Unit {0}) Stop → Course → Type 0
+HearsOn old more result new =
+    (context : Context) (address : Chars) (levels : ℕ) (signs : List Sign) → Runs context address levels old signs
+    → IsFront levels (signs ++ more) → Hears context address levels signs more result new

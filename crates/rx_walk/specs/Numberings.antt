@@ -61,7 +61,8 @@ IsNumbered = (setting : Setting) (address : Chars) (walk : Walked) (bytes : List
 abbrev pub NumbersGrow : Type 0
 NumbersGrow = (setting : Setting) (address : Chars) (before after : Walked) (bytes piece : List ℕ)
     (s : Stands setting address before bytes) (t : Stands setting address after (bytes ++ piece)) (old new : State)
-    → state_of before.listener.stage ≡ Some old → state_of after.listener.stage ≡ Some new → (to : Numbering) → NumbersBy to setting.context s.goes.signs old → NumberedOn to setting.context t.goes.signs new
+    → state_of before.listener.stage ≡ Some old → state_of after.listener.stage ≡ Some new
+    → (to : Numbering) → NumbersBy to setting.context s.goes.signs old → NumberedOn to setting.context t.goes.signs new
 
 -- law: and one under which the list of the whole page is told
 abbrev pub ListIsNumbered : Type 0

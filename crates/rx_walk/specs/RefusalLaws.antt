@@ -17,7 +17,8 @@ or_assoc : (a b c : Option Fault) → option_or (option_or a b) c ≡ option_or 
 or_assoc None b c = refl
 or_assoc (Some x) b c = refl
 
-pub refused_append : (context : Context) (line : List Tag) (xs ys : List Sign) → refused_in context line (xs ++ ys) ≡ option_or (refused_in context line xs) (refused_in context (line_of line xs) ys)
+pub refused_append : (context : Context) (line : List Tag) (xs ys : List Sign)
+    → refused_in context line (xs ++ ys) ≡ option_or (refused_in context line xs) (refused_in context (line_of line xs) ys)
 refused_append context line [] ys = refl
 refused_append context line (x ∷ xs) ys =
     ap (λ o. option_or (refused_at context line x) o) (refused_append context (line_on line x) xs ys)
@@ -47,7 +48,8 @@ at_one context line (said c ∷ signs) fault e = at_one context line signs fault
 at_one context line (finished ∷ signs) fault e = at_one context (line_on line finished) signs fault e
 at_one context line (begun t ∷ signs) fault e = by (at_one context (read_tag t ∷ line) signs fault) (refusal (facts context line (read_tag t))) e
   where
-    by : (refused_in context (read_tag t ∷ line) signs ≡ Some fault → IsAtOne fault signs) → (r : Option Refusal) → option_or (option_map (fault_of t) r) (refused_in context (read_tag t ∷ line) signs) ≡ Some fault
+    by : (refused_in context (read_tag t ∷ line) signs ≡ Some fault → IsAtOne fault signs) → (r : Option Refusal)
+        → option_or (option_map (fault_of t) r) (refused_in context (read_tag t ∷ line) signs) ≡ Some fault
         → IsAtTag fault t ⊎ IsAtOne fault signs
     by ih None k = inr (ih k)
     by ih (Some why) k = inl (at_tag t (Some why) fault k)
@@ -59,11 +61,14 @@ bare_refusal context line t e = ap (λ attributes. option_map (fault_of t) (refu
 pub refusal_laws : (context : Context) → IsRefusal (refused_in context [])
 refusal_laws context = record {
   none = refl;
-  stays = λ signs more fault e. refused_append context [] signs more ∙ some_stays (refused_in context [] signs) (refused_in context (line_of [] signs) more) fault e;
+  stays = λ signs more fault e.
+      refused_append context [] signs more
+      ∙ some_stays (refused_in context [] signs) (refused_in context (line_of [] signs) more) fault e;
   lies = λ signs more fault n e.
       at_one context (line_of [] signs) more fault
       (sym (ap (λ x. option_or x (refused_in context (line_of [] signs) more)) n) ∙ (sym (refused_append context [] signs more) ∙ e));
   bare = λ signs t b n.
       refused_append context [] signs (begun t ∷ [])
-      ∙ (ap (λ x. option_or x (refused_in context (line_of [] signs) (begun t ∷ []))) n ∙ ap (λ x. option_or x None) (bare_refusal context (line_of [] signs) t b));
+      ∙ (ap (λ x. option_or x (refused_in context (line_of [] signs) (begun t ∷ []))) n
+      ∙ ap (λ x. option_or x None) (bare_refusal context (line_of [] signs) t b));
 }

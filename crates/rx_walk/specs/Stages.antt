@@ -59,7 +59,9 @@ pub record MayTake (levels : ℕ) (more : List Call) (at : Stage) : Type 0 where
 
 -- more calls were told, and what was sought is sought on
 pub record Tells (origin : Origin) (turn : Seeking → Seeking) (more : List Call) (old new : Stage) : Type 0 where
-  pub staged : (seeking : Seeking) (list : List Call) → Staged origin.address origin.levels seeking list old → Staged origin.address origin.levels (turn seeking) (list ++ more) new
+  pub staged :
+      (seeking : Seeking) (list : List Call) → Staged origin.address origin.levels seeking list old
+      → Staged origin.address origin.levels (turn seeking) (list ++ more) new
 
 -- the evaluator, where the base is known by now
 abbrev pub HeadGives : Origin → Seeking → List Call → Option State → Head → Type 0

@@ -16,7 +16,10 @@ use Rattle.rx_reading.specs.Readings as readings
 use Rattle.rx_reading.specs.Readings.{Read, Unfinished, has_fallen}
 use Rattle.rx_eval.specs.Numbering.{Numbering}
 use Rattle.rx_eval.specs.Standing.{Makes}
+use Rattle.rx_eval.specs.Opened.{handed_on}
 use Rattle.rx_eval.specs.States.{State}
+use Rattle.rx_eval.specs.Waits.{Shows}
+use Rattle.rx_eval.specs.declared.inherited.Inherited.{Inherited}
 use Rattle.rx_walk.specs.declared.courses.Course.{Course}
 use Rattle.rx_walk.specs.declared.stages.Stage.{Stage}
 use Rattle.rx_walk.specs.declared.stages.Stage.TheVariants as stage
@@ -87,3 +90,7 @@ EndGives setting address bytes (Err why) = Unfinished (way_of setting) bytes why
 -- the evaluator's state, where an element is open in it
 abbrev pub state_open : Walked → Option State
 state_open walk = if has_fallen walk || walk.listener.count == 0 then None else state_of walk.listener.stage
+
+-- what is shown is what a child of the innermost open element inherits
+abbrev pub ShowsOpen : Walked → Inherited → Type 0
+ShowsOpen walk shown = (state : State) × (state_open walk ≡ Some state) × Shows shown (handed_on state.page state.frames)

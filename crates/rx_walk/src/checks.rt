@@ -53,7 +53,8 @@ impl Check {
     pub fn feed(&mut self, piece: &[u8]) -> Result<(), Stop>
         ensures gives { (setting : Setting) (bytes : List ℕ) → checks.Stands setting self.old bytes → checks.FeedGives setting bytes piece.now result self.new }
         ensures place { (setting : Setting) (bytes : List ℕ) → checks.Stands setting self.old bytes → PlaceGives (way_of setting) bytes piece.now result }
-        ensures quiet { (setting : Setting) (bytes : List ℕ) → checks.Stands setting self.old bytes → IsBetween setting.syntax setting.limits bytes → is_quiet piece.now ≡ true → IsNoMemory result ≡ false }
+        ensures quiet { (setting : Setting) (bytes : List ℕ) → checks.Stands setting self.old bytes
+            → IsBetween setting.syntax setting.limits bytes → is_quiet piece.now ≡ true → IsNoMemory result ≡ false }
         ensures asked { MayAnswer self.old.failed self.old.spent result }
         ensures keeps { Answered result self.new.failed self.new.spent }
     {

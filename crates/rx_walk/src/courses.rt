@@ -1,18 +1,15 @@
 //! The elements of a page as they are told: the names in force, and what the evaluator is told of them.
-ghost use Rattle.std.specs.Prelude.{◌≡◌, ◌<◌, ◌+◌, ◌∷◌, ◌++◌, [], List, ℕ, false, true, map, OnOk, IfOk, IsOk};
+ghost use Rattle.std.specs.Prelude.{◌≡◌, ◌<◌, ◌+◌, ◌∷◌, [], List, false, map, OnOk, IfOk, IsOk};
 ghost use Rattle.std.specs.Str.{chars};
-ghost use Rattle.rx_terms.specs.Text.{Chars};
-ghost use Rattle.rx_rdfa.specs.Names.{Context as RulesContext};
 ghost use Rattle.rx_rdfa.specs.Refusals.{is_relative};
 ghost use Rattle.rx_rdfa.specs.Tree.{Tag as StartTag};
 ghost use Rattle.rx_names.specs.Lines as lines;
 ghost use Rattle.rx_names.specs.Tags.{tag_of};
 ghost use Rattle.rx_curie.specs.Given.{vocabulary_from};
 ghost use Rattle.rx_nest.specs.Nests.{tag_shown};
-ghost use Rattle.rx_nest.specs.Signs.{Sign, begun, said, finished};
-ghost use Rattle.rx_nest.specs.Fronts.{IsFront};
+ghost use Rattle.rx_nest.specs.Signs.{begun, said, finished};
 ghost use Rattle.rx_walk.specs.Quiets.{IsIdle};
-ghost use Rattle.rx_walk.specs.Courses.{Runs, runs_at, way_at, MayHear, FactsGive, Hears};
+ghost use Rattle.rx_walk.specs.Courses.{Runs, runs_at, way_at, MayHear, FactsGive, HearsOn};
 ghost use Rattle.rx_walk.specs.RefusalLaws.{refusal_laws};
 ghost use Rattle.rx_walk.specs.Settings.{Setting};
 
@@ -47,7 +44,9 @@ fn read_facts(
     tag: &Tag<'_>,
     names: &Names,
 ) -> Result<(), Stop>
-    ensures line { (above : List StartTag) → lines.Stands names.now (tag_of tag.now ∷ above) → is_relative (vocabulary_from above (tag_of tag.now)) ≡ false → FactsGive names.now.context above (tag_shown tag.now) facts.new result }
+    ensures line { (above : List StartTag) → lines.Stands names.now (tag_of tag.now ∷ above)
+        → is_relative (vocabulary_from above (tag_of tag.now)) ≡ false
+        → FactsGive names.now.context above (tag_shown tag.now) facts.new result }
     ensures absolute { OnOk result (is_relative (lines.vocabulary_of names.now) ≡ false) }
 {
     match facts.renew(maker, tag, &names.view()) {
@@ -100,7 +99,7 @@ impl Course {
 
     fn begin(&mut self, tag: &Tag<'_>) -> Result<(), Stop>
         requires { MayHear self.old (begun (tag_shown tag.now) ∷ []) }
-        ensures { (context : RulesContext) (address : Chars) (levels : ℕ) (signs : List Sign) → Runs context address levels self.old signs → IsFront levels (signs ++ begun (tag_shown tag.now) ∷ []) → Hears context address levels signs (begun (tag_shown tag.now) ∷ []) result self.new }
+        ensures { HearsOn self.old (begun (tag_shown tag.now) ∷ []) result self.new }
     {
         let Ok(()) = self.names.push(tag) else {
             return Err(Stop::NoMemory);
@@ -120,7 +119,7 @@ impl Course {
 
     fn text(&mut self, text: &str) -> Result<(), Stop>
         requires { MayHear self.old (map said (chars text.now)) }
-        ensures hears { (context : RulesContext) (address : Chars) (levels : ℕ) (signs : List Sign) → Runs context address levels self.old signs → IsFront levels (signs ++ map said (chars text.now)) → Hears context address levels signs (map said (chars text.now)) result self.new }
+        ensures hears { HearsOn self.old (map said (chars text.now)) result self.new }
         ensures quiet { IsIdle self.old.stage → IsOk result × IsIdle self.new.stage }
     {
         let Ok(()) = self.stage.text(&self.origin, text) else {
@@ -131,7 +130,7 @@ impl Course {
 
     fn finish(&mut self) -> Result<(), Stop>
         requires { MayHear self.old (finished ∷ []) }
-        ensures { (context : RulesContext) (address : Chars) (levels : ℕ) (signs : List Sign) → Runs context address levels self.old signs → IsFront levels (signs ++ finished ∷ []) → Hears context address levels signs (finished ∷ []) result self.new }
+        ensures { HearsOn self.old (finished ∷ []) result self.new }
     {
         let Ok(()) = self.stage.finish(&self.origin, self.count) else {
             return Err(Stop::NoMemory);

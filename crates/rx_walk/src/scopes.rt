@@ -27,7 +27,9 @@ pub(crate) struct Scope {
 
 /// The fault for which the start tag is refused.
 fn fault_of(tag: &Tag<'_>, names: &Names) -> Option<Fault>
-    ensures line { (above : List StartTag) → lines.Stands names.now (tag_of tag.now ∷ above) → is_relative (vocabulary_from above (tag_of tag.now)) ≡ false → result ≡ refused_at names.now.context above (begun (tag_shown tag.now)) }
+    ensures line { (above : List StartTag) → lines.Stands names.now (tag_of tag.now ∷ above)
+        → is_relative (vocabulary_from above (tag_of tag.now)) ≡ false
+        → result ≡ refused_at names.now.context above (begun (tag_shown tag.now)) }
     ensures absolute { result ≡ None → is_relative (lines.vocabulary_of names.now) ≡ false }
 {
     match refusal_of(tag, &names.view()) {
@@ -42,7 +44,8 @@ fn fault_of(tag: &Tag<'_>, names: &Names) -> Option<Fault>
 
 impl Scope {
     fn begin(&mut self, tag: &Tag<'_>) -> Result<(), Stop>
-        ensures { (setting : Setting) (signs : List Sign) → accepts_at setting self.old signs → Hears (way_of setting).refused (accepts_at setting) signs (begun (tag_shown tag.now) ∷ []) result self.new }
+        ensures { (setting : Setting) (signs : List Sign) → accepts_at setting self.old signs
+            → Hears (way_of setting).refused (accepts_at setting) signs (begun (tag_shown tag.now) ∷ []) result self.new }
     {
         let Ok(()) = self.names.push(tag) else {
             return Err(Stop::NoMemory);
@@ -55,7 +58,8 @@ impl Scope {
 
     fn finish(&mut self)
         requires { MayHear way_of accepts_at self.old (finished ∷ []) }
-        ensures { (setting : Setting) (signs : List Sign) → accepts_at setting self.old signs → IsFront setting.limits.depth (signs ++ finished ∷ []) → accepts_at setting self.new (signs ++ finished ∷ []) }
+        ensures { (setting : Setting) (signs : List Sign) → accepts_at setting self.old signs
+            → IsFront setting.limits.depth (signs ++ finished ∷ []) → accepts_at setting self.new (signs ++ finished ∷ []) }
     {
         self.names.pop();
     }

@@ -56,7 +56,8 @@ impl Head {
         facts: &mut Facts,
     ) -> Result<Option<Eval>, NoMemory>
         requires { MayBe origin.now.levels (queue_seen self.old.queue.items ++ Enter (facts_seen facts.old) ∷ []) }
-        ensures { IfOk result (λ eval. HeadGives origin.now (seek_begun count (sought_seen self.old.sought) (tag_of tag.now)) (queue_seen self.old.queue.items ++ Enter (facts_seen facts.old) ∷ []) eval self.new) }
+        ensures { IfOk result (λ eval. HeadGives origin.now (seek_begun count (sought_seen self.old.sought) (tag_of tag.now))
+            (queue_seen self.old.queue.items ++ Enter (facts_seen facts.old) ∷ []) eval self.new) }
     {
         // The queue keeps them, and the next tag is read into others.
         let kept = mem::replace(facts, Facts::none());
@@ -75,7 +76,8 @@ impl Head {
 
     fn finish(&mut self, origin: &Origin, count: u32) -> Result<Option<Eval>, NoMemory>
         requires { MayBe origin.now.levels (queue_seen self.old.queue.items ++ Leave ∷ []) }
-        ensures { IfOk result (λ eval. HeadGives origin.now (seek_finished count (sought_seen self.old.sought)) (queue_seen self.old.queue.items ++ Leave ∷ []) eval self.new) }
+        ensures { IfOk result (λ eval. HeadGives origin.now (seek_finished count (sought_seen self.old.sought))
+            (queue_seen self.old.queue.items ++ Leave ∷ []) eval self.new) }
     {
         self.push(Call::Leave)?;
         if !self.sought.ends(count as usize) {

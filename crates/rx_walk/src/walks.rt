@@ -12,9 +12,7 @@ ghost use Rattle.rx_reading.specs.Falling.{Answered, MayAnswer};
 ghost use Rattle.rx_reading.specs.FaultPlaces.{PlaceGives};
 ghost use Rattle.rx_reading.specs.Readings.{has_fallen};
 ghost use Rattle.rx_eval.specs.Keeping.{gathers_some};
-ghost use Rattle.rx_eval.specs.Opened.{handed_on};
 ghost use Rattle.rx_eval.specs.States.{State};
-ghost use Rattle.rx_eval.specs.Waits.{Shows};
 ghost use Rattle.rx_walk.specs.Courses.{Runs};
 ghost use Rattle.rx_walk.specs.Settings.{Setting, way_of};
 ghost use Rattle.rx_walk.specs.Walks as walks;
@@ -48,7 +46,9 @@ impl Model for Walk {
 /// The list of a whole page. It takes no memory: the evaluator of a walk has always had what it asked for.
 fn list_of(course: Course) -> TripleList
     requires { walks.IsWhole course }
-    ensures { (context : RulesContext) (address : Chars) (levels : ℕ) (root : StartTag) (inside : Tree) → Runs context address levels course (signs_of (element root inside end)) → walks.Lists context address levels (element root inside end) result }
+    ensures { (context : RulesContext) (address : Chars) (levels : ℕ) (root : StartTag) (inside : Tree)
+        → Runs context address levels course (signs_of (element root inside end))
+        → walks.Lists context address levels (element root inside end) result }
 {
     let Course {
         names,
@@ -89,9 +89,14 @@ impl Walk {
     /// Takes the whole piece. Text takes no memory where the base is known and no open element gathers its text: a piece
     /// without `<` and `&` then never wants memory where no token is unfinished.
     pub fn feed(&mut self, piece: &[u8]) -> Result<(), Stop>
-        ensures gives { (setting : Setting) (address : Chars) (bytes : List ℕ) → walks.Stands setting address self.old bytes → walks.FeedGives setting address bytes piece.now result self.new }
-        ensures place { (setting : Setting) (address : Chars) (bytes : List ℕ) → walks.Stands setting address self.old bytes → PlaceGives (way_of setting) bytes piece.now result }
-        ensures quiet { (setting : Setting) (address : Chars) (bytes : List ℕ) → walks.Stands setting address self.old bytes → IsBetween setting.syntax setting.limits bytes → is_quiet piece.now ≡ true → (state : State) → walks.state_of self.old.listener.stage ≡ Some state → gathers_some state.frames ≡ false → IsNoMemory result ≡ false }
+        ensures gives { (setting : Setting) (address : Chars) (bytes : List ℕ) → walks.Stands setting address self.old bytes
+            → walks.FeedGives setting address bytes piece.now result self.new }
+        ensures place { (setting : Setting) (address : Chars) (bytes : List ℕ) → walks.Stands setting address self.old bytes
+            → PlaceGives (way_of setting) bytes piece.now result }
+        ensures quiet { (setting : Setting) (address : Chars) (bytes : List ℕ) → walks.Stands setting address self.old bytes
+            → IsBetween setting.syntax setting.limits bytes → is_quiet piece.now ≡ true
+            → (state : State) → walks.state_of self.old.listener.stage ≡ Some state → gathers_some state.frames ≡ false
+            → IsNoMemory result ≡ false }
         ensures asked { MayAnswer self.old.failed self.old.spent result }
         ensures keeps { Answered result self.new.failed self.new.spent }
     {
@@ -101,7 +106,8 @@ impl Walk {
     /// The page's end: the list of its triples. `Unended` comes exactly where the bytes are no page and no earlier fault stands
     /// in them. It takes no memory: want of memory is answered only where it was before.
     pub fn finish(self) -> Result<TripleList, Stop>
-        ensures gives { (setting : Setting) (address : Chars) (bytes : List ℕ) → walks.Stands setting address self bytes → walks.EndGives setting address bytes result }
+        ensures gives { (setting : Setting) (address : Chars) (bytes : List ℕ) → walks.Stands setting address self bytes
+            → walks.EndGives setting address bytes result }
         ensures asked { MayAnswer self.failed self.spent result }
         ensures memory { result ≡ Err Stop.NoMemory → self.spent ≡ true }
     {
@@ -114,7 +120,8 @@ impl Walk {
     /// How many elements are open, none after a fault or want of memory.
     pub fn depth(&self) -> u32
         ensures count { result ≡ (if has_fallen self.now then 0 else self.now.listener.count) }
-        ensures line { (setting : Setting) (address : Chars) (bytes : List ℕ) (s : walks.Stands setting address self.now bytes) → (result ≡ length (walks.open_line s)) × walks.FramesFit self.now (walks.open_line s) }
+        ensures line { (setting : Setting) (address : Chars) (bytes : List ℕ) (s : walks.Stands setting address self.now bytes)
+            → (result ≡ length (walks.open_line s)) × walks.FramesFit self.now (walks.open_line s) }
     {
         if self.reading.has_fallen() {
             return 0;
@@ -125,7 +132,8 @@ impl Walk {
     /// How many declarations of prefixes, vocabularies and languages are kept, none after a fault or want of memory.
     pub fn rows(&self) -> usize
         ensures count { result ≡ (if has_fallen self.now then 0 else length self.now.listener.names.rows) }
-        ensures bound { (setting : Setting) (address : Chars) (bytes : List ℕ) (s : walks.Stands setting address self.now bytes) → result ≤ declared_along (walks.open_line s) }
+        ensures bound { (setting : Setting) (address : Chars) (bytes : List ℕ) (s : walks.Stands setting address self.now bytes)
+            → result ≤ declared_along (walks.open_line s) }
     {
         if self.reading.has_fallen() {
             return 0;
@@ -136,7 +144,7 @@ impl Walk {
     /// The context in which a child of the innermost open element would stand; none before the page's base is known, where no
     /// element is open, and after a fault or want of memory.
     pub fn inherited(&self) -> Option<Inherited<'_>>
-        ensures { MatchOption result (walks.state_open self.now ≡ None) (λ shown. (state : State) × (walks.state_open self.now ≡ Some state) × Shows shown (handed_on state.page state.frames)) }
+        ensures { MatchOption result (walks.state_open self.now ≡ None) (walks.ShowsOpen self.now) }
     {
         if self.reading.has_fallen() || self.reading.listener().count == 0 {
             return None;
