@@ -43,21 +43,25 @@ pub record GivesGraph (syntax : Syntax) (context : Context) (address : Chars) (b
   pub renamed : Renamed (graph_of (base_in address tree) (facts_in context tree)) (set_of triples)
 
 -- the bytes are refused with their first fault, or accepted with triples of which this holds
-abbrev pub IsJudged : (Syntax → Context → Chars → List ℕ → List (Triple ℕ) → Type 0) → Syntax → Context → Chars → List ℕ → Judgement → Type 0
+abbrev pub IsJudged : (Syntax → Context → Chars → List ℕ → List (Triple ℕ) → Type 0)
+    → Syntax → Context → Chars → List ℕ → Judgement → Type 0
 IsJudged gives syntax context address bytes (refused fault) = HasFirst (page_way syntax context address) bytes fault
 IsJudged gives syntax context address bytes (accepted triples) = gives syntax context address bytes triples
 
 -- the listed page is there, and under its address it is judged so
-pub record Judges (gives : Syntax → Context → Chars → List ℕ → List (Triple ℕ) → Type 0) (syntax : Syntax) (context : Context) (files : FileList) (listed : Listed) (page : Page) : Type 0 where
+pub record Judges (gives : Syntax → Context → Chars → List ℕ → List (Triple ℕ) → Type 0)
+    (syntax : Syntax) (context : Context) (files : FileList) (listed : Listed) (page : Page) : Type 0 where
   pub bytes : List ℕ
   pub file : file_of files (encode_utf8_all listed.page) ≡ Some bytes
   pub address : page.address ≡ listed.address
   pub judged : IsJudged gives syntax context listed.address bytes page.judgement
 
 -- each in its place
-abbrev pub JudgesEach : (Syntax → Context → Chars → List ℕ → List (Triple ℕ) → Type 0) → Syntax → Context → FileList → List Listed → List Page → Type 0
+abbrev pub JudgesEach : (Syntax → Context → Chars → List ℕ → List (Triple ℕ) → Type 0)
+    → Syntax → Context → FileList → List Listed → List Page → Type 0
 JudgesEach gives syntax context files [] [] = Unit {0}
-JudgesEach gives syntax context files (listed ∷ more) (page ∷ pages) = Judges gives syntax context files listed page × JudgesEach gives syntax context files more pages
+JudgesEach gives syntax context files (listed ∷ more) (page ∷ pages) =
+    Judges gives syntax context files listed page × JudgesEach gives syntax context files more pages
 JudgesEach gives syntax context files listed pages = ⊥
 
 -- the text is the document of the listed pages, as they are judged where the job's context holds

@@ -60,7 +60,8 @@ pub record IsTheFault (task : Task) (context : Context) (bytes : List ℕ) (faul
 
 -- law: whatever the bytes, a task has under a context one tree of them or one fault
 abbrev pub OneOutcome : Type 0
-OneOutcome = (task : Task) (context : Context) (bytes : List ℕ) → ((tree : Tree) × IsTheTree task context bytes tree) ⊎ ((fault : Fault) × IsTheFault task context bytes fault)
+OneOutcome = (task : Task) (context : Context) (bytes : List ℕ)
+    → ((tree : Tree) × IsTheTree task context bytes tree) ⊎ ((fault : Fault) × IsTheFault task context bytes fault)
 
 -- the text is what the task makes of the bytes, which have one tree, and no other text is; and it denotes that tree's graph
 pub record IsTheText (task : Task) (context : Context) (bytes text : List ℕ) : Type 0 where
@@ -77,10 +78,12 @@ IsRead told = TellsThat (λ shelf. shelf.left ≡ []) told
 -- How a run ends that is to do this task on these bytes: their one text was written, and they were read to their end; or
 -- their one fault was found, and nothing was written; or the shelf or out failed, or there was no memory.
 abbrev pub Answers : Task → Context → List ℕ → Status → Devices → Devices → Type 0
-Answers task context bytes status.Done old new = (text : List ℕ) × IsTheText task context bytes text × Moves (GrowsBy text) old.held new.held × IsRead new.told
+Answers task context bytes status.Done old new =
+    (text : List ℕ) × IsTheText task context bytes text × Moves (GrowsBy text) old.held new.held × IsRead new.told
 Answers task context bytes (status.Refused fault) old new = IsTheFault task context bytes fault × Moves Stays old.held new.held
 Answers task context bytes status.ReadFault old new = Rose old.read_faults new.read_faults × Moves Stays old.held new.held
-Answers task context bytes status.WriteFault old new = (text : List ℕ) × TaskGives task context bytes text × Moves (GrowsByPart text) old.held new.held × Rose old.write_faults new.write_faults
+Answers task context bytes status.WriteFault old new =
+    (text : List ℕ) × TaskGives task context bytes text × Moves (GrowsByPart text) old.held new.held × Rose old.write_faults new.write_faults
 Answers task context bytes status.Memory old new = Moves Stays old.held new.held
 Answers task context bytes status.Usage old new = ⊥
 Answers task context bytes status.BadContext old new = ⊥

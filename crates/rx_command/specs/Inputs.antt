@@ -44,7 +44,8 @@ pub record JobRefused (asked : Asked) (fault : Fault) (old new : Told) : Type 0 
 -- A read that failed: whatever context holds, the bytes that were read of the page hold no fault but that they end.
 abbrev pub StopsClean : Asked → List ℕ → ℕ → Told → Told → Type 0
 StopsClean asked name before old new =
-    (context : Context) → IsContext asked.context old context → (file : List ℕ) → file_of old.files name ≡ Some file → IsClean (way_in asked.task context) file before new.taken
+    (context : Context) → IsContext asked.context old context → (file : List ℕ) → file_of old.files name ≡ Some file
+    → IsClean (way_in asked.task context) file before new.taken
 
 -- the shelf tells its files, and this holds of them
 abbrev pub TellsThat : (Told → Type 0) → Option Told → Type 0

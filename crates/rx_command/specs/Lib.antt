@@ -8,6 +8,7 @@ pub mod JsonTexts
 pub mod Shaped
 pub mod Written
 pub mod Inputs
+pub mod Calls
 pub mod Runs
 pub mod Headline
 pub mod Samples

@@ -104,7 +104,8 @@ pub record AddsNone (old new : Told) : Type 0 where
 
 -- a read gave some bytes, which were taken
 abbrev pub NextGives : Syntax → Aim → List ℕ → Result ℕ InputError → Reader → Option Told → Option Told → Type 0
-NextGives syntax aim bytes (Ok n) new before now = (more : List ℕ) × (length more ≡ n) × Reached syntax aim new (bytes ++ more) × Moves (Adds more) before now
+NextGives syntax aim bytes (Ok n) new before now =
+    (more : List ℕ) × (length more ≡ n) × Reached syntax aim new (bytes ++ more) × Moves (Adds more) before now
 NextGives syntax aim bytes (Err (error.Refused fault)) new before now =
     (more : List ℕ) × (length more ≤ largest_piece) × Decides (way_for syntax aim) bytes more fault × Moves (Adds more) before now
 NextGives syntax aim bytes (Err error.Failed) new before now = Moves AddsNone before now
@@ -135,6 +136,30 @@ GivesItems syntax address bytes found = item.Ended (item_setting_for syntax addr
 abbrev pub GivesRight : Syntax → Context → List ℕ → Unit {0} → Type 0
 GivesRight syntax context bytes done = Accepted (setting_for syntax context) bytes
 
+-- whatever the reader was made for, this holds where it is before the first byte of a page
+abbrev pub FromStart : Reader → (Syntax → Aim → Type 0) → Type 0
+FromStart v holds = (syntax : Syntax) (aim : Aim) → Reached syntax aim v [] → holds syntax aim
+
+-- whatever it was made for, and whatever bytes lead to where it stands, this holds
+abbrev pub FromWhere : Reader → (Syntax → Aim → List ℕ → Type 0) → Type 0
+FromWhere v holds = (syntax : Syntax) (aim : Aim) (bytes : List ℕ) → Reached syntax aim v bytes → holds syntax aim bytes
+
+-- the page's end, where triples are wanted, items, or faults alone
+abbrev pub EndsWithList : Reader → Result (List CodeTriple) InputError → Type 0
+EndsWithList v result =
+    (syntax : Syntax) (context : Context) (address : Chars) (bytes : List ℕ) → Reached syntax (for_triples context address) v bytes
+    → EndGives (way_for syntax (for_triples context address)) (GivesList syntax context address) bytes result
+
+abbrev pub EndsWithItems : Reader → Result Kept InputError → Type 0
+EndsWithItems v result =
+    (syntax : Syntax) (address : Chars) (bytes : List ℕ) → Reached syntax (for_items address) v bytes
+    → EndGives (way_for syntax (for_items address)) (GivesItems syntax address) bytes result
+
+abbrev pub EndsRight : Reader → Result (Unit {0}) InputError → Type 0
+EndsRight v result =
+    (syntax : Syntax) (context : Context) (bytes : List ℕ) → Reached syntax (for_faults context) v bytes
+    → EndGives (way_for syntax (for_faults context)) (GivesRight syntax context) bytes result
+
 -- The file was read to its end, and this holds of its bytes and of what they give.
 pub record ReadsWhole {A : Type 0} (holds : List ℕ → A → Type 0) (name : List ℕ) (given : A) (old new : Told) : Type 0 where
   pub bytes : List ℕ
@@ -162,7 +187,9 @@ ReadsClean way name old new = (file : List ℕ) → file_of old.files name ≡ S
 
 -- Where the file has a fault, no more was taken than a piece past the byte that decides it.
 abbrev pub TakesToFirst : Way → List ℕ → Told → Told → Type 0
-TakesToFirst way name old new = (file : List ℕ) → file_of old.files name ≡ Some file → (fault : Fault) → HasFirst way file fault → new.taken ≤ old.taken + (fault.at + largest_piece)
+TakesToFirst way name old new =
+    (file : List ℕ) → file_of old.files name ≡ Some file → (fault : Fault) → HasFirst way file fault
+    → new.taken ≤ old.taken + (fault.at + largest_piece)
 
 -- these bytes are the file's, which was read to its end
 pub record IsFile (name bytes : List ℕ) (old new : Told) : Type 0 where

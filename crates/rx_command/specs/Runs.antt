@@ -75,8 +75,14 @@ usage_line = codes "usage: rdfax extract|items|check|sample\n"
 abbrev pub context_line : List ℕ
 context_line = codes "refused: context file\n"
 
+-- the words of a refusal: the kind of the fault, its byte and its token
+abbrev pub refused_with : List ℕ → ℕ → ℕ → List ℕ
+refused_with kind at token =
+    codes "refused: " ++ (kind ++ (codes " at byte " ++ (decimal at ++ (codes " in token " ++ (decimal token ++ codes "\n")))))
+
 abbrev pub refused_line : Fault → List ℕ
-refused_line fault = codes "refused: " ++ kind_name fault.kind ++ codes " at byte " ++ decimal fault.at ++ codes " in token " ++ decimal fault.token ++ codes "\n"
+refused_line fault =
+    codes "refused: " ++ kind_name fault.kind ++ codes " at byte " ++ decimal fault.at ++ codes " in token " ++ decimal fault.token ++ codes "\n"
 
 -- the line was written, or a front of it, where the sink failed
 abbrev pub Says : List ℕ → Option (List ℕ) → Option (List ℕ) → ℕ → ℕ → Type 0
@@ -109,12 +115,14 @@ pub record Devices : Type 0 where
 -- shelf failed or lacks a file, the context file is no context, or there was no memory
 abbrev pub EndsAs : Gathering → Status → Devices → Devices → Type 0
 EndsAs gathering status.Done old new =
-    (text : List ℕ) × WhereTold (IsGathered gathering text) old.told × WhereTold (DenotesGathered gathering text) old.told × Moves (GrowsBy text) old.held new.held
+    (text : List ℕ) × WhereTold (IsGathered gathering text) old.told × WhereTold (DenotesGathered gathering text) old.told
+    × Moves (GrowsBy text) old.held new.held
 EndsAs gathering status.WriteFault old new =
     (text : List ℕ) × WhereTold (IsGathered gathering text) old.told × Moves (GrowsByPart text) old.held new.held × Rose old.write_faults new.write_faults
 EndsAs gathering status.ReadFault old new = (Rose old.read_faults new.read_faults ⊎ TellsThat (LacksOne gathering) old.told) × Moves Stays old.held new.held
 EndsAs gathering status.BadContext old new =
-    (is_some gathering.context ≡ true) × WhereTold (HasOther gathering.context) old.told × Moves (TakesContext gathering.context) old.told new.told × Moves Stays old.held new.held
+    (is_some gathering.context ≡ true) × WhereTold (HasOther gathering.context) old.told
+    × Moves (TakesContext gathering.context) old.told new.told × Moves Stays old.held new.held
 EndsAs gathering status.Memory old new = Moves Stays old.held new.held
 EndsAs gathering (status.Refused fault) old new = ⊥
 EndsAs gathering status.Usage old new = ⊥

@@ -86,7 +86,8 @@ triples_in tree = written (base_in sample_address tree) (facts_in names.standard
 -- text has, and how deep the page is
 abbrev pub line_with : ℕ → ℕ → ℕ → ℕ → ℕ → List ℕ
 line_with count size triples output depth =
-    codes "sample " ++ (decimal count ++ (codes ": " ++ (decimal size ++ (codes " bytes, " ++ (decimal triples ++ (codes " triples, " ++ (decimal output ++ (codes " output bytes, depth " ++ (decimal depth ++ codes "\n")))))))))
+    codes "sample " ++ (decimal count ++ (codes ": " ++ (decimal size ++ (codes " bytes, " ++ (decimal triples
+      ++ (codes " triples, " ++ (decimal output ++ (codes " output bytes, depth " ++ (decimal depth ++ codes "\n")))))))))
 
 -- the line that is said of a page of so many items with these triples
 abbrev pub line_for : ℕ → List (Triple ℕ) → List ℕ

@@ -1,7 +1,10 @@
 -- What is written of what a page gives.
-use Rattle.std.specs.Prelude.{◌≡◌, ℕ, List, map, Option, encode_utf8_all}
+use Rattle.std.specs.Prelude.{◌≡◌, ℕ, nat_eq, List, map, Option, encode_utf8_all}
 use Rattle.std.specs.Str.{chars}
 use Rattle.rx_terms.specs.Text.{Chars}
+use Rattle.rx_terms.specs.declared.triples.Triple.{Triple as CodeTriple}
+use Rattle.rx_model.specs.Copied.{copied}
+use Rattle.rx_model.specs.Numbered.{numbered}
 use Rattle.rx_model.specs.Seen.{triples_seen}
 use Rattle.rx_model.specs.Terms.{Triple}
 use Rattle.rx_rdfa.specs.Names.{Context}
@@ -46,6 +49,10 @@ FormDenotes forms.Jsonld text triples = JsonDenotes text triples
 abbrev pub nested_text : Context → Shaped → List ℕ
 nested_text context shaped = encode_utf8_all (nested context.prefixes shaped.triples (shape_in shaped.table))
 
+-- the graph of a list of triples: property copying is done, and blank nodes are numbered in order of first occurrence
+abbrev pub graph_made : List CodeTriple → List (Triple ℕ)
+graph_made list = numbered nat_eq (copied nat_eq (triples_seen list))
+
 -- the text of the triples, one of JSON, or that of a page that is right
 abbrev pub text_of : Outcome → List ℕ
 text_of (outcome.Quads graph name) = encode_utf8_all (nquads (triples_seen graph) name)
@@ -57,7 +64,8 @@ text_of outcome.Right = ok_line
 -- the text of triples denotes exactly these, as is known where it was written
 abbrev pub Denoted : Outcome → Type 0
 Denoted (outcome.Quads graph name) = Nquads (chars (encode_utf8_all (nquads (triples_seen graph) name))) (quads (triples_seen graph) name)
-Denoted (outcome.Turtle graph context) = Turtle (chars (encode_utf8_all (turtle context.prefixes (triples_seen graph)))) (map proper_triple (triples_seen graph))
+Denoted (outcome.Turtle graph context) =
+    Turtle (chars (encode_utf8_all (turtle context.prefixes (triples_seen graph)))) (map proper_triple (triples_seen graph))
 Denoted (outcome.Nested shaped context) = NestedTurtle (chars (nested_text context shaped)) (map proper_triple shaped.triples)
 Denoted (outcome.Json text) = Unit {0}
 Denoted outcome.Right = Unit {0}

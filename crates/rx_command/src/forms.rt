@@ -1,5 +1,6 @@
 //! How triples are written.
-ghost use Rattle.std.specs.Prelude.{◌≡◌, option_map, IfOk};
+ghost use Rattle.std.specs.Prelude.{◌≡◌, IfOk};
+ghost use Rattle.rx_nquads.specs.Graphs.{lent_name};
 ghost use Rattle.rx_command.specs.Written.{form_in};
 
 use rx_job::Format;
@@ -28,7 +29,7 @@ impl Form {
         graph: Option<&Iri>,
         context: &Context,
     ) -> Result<Form, NoMemory>
-        ensures { IfOk result (λ form. form ≡ form_in format (option_map (λ iri. iri.now) graph.entry) context.now) }
+        ensures { IfOk result (λ form. form ≡ form_in format (lent_name graph.entry) context.now) }
     {
         match format {
             Format::Nquads => Ok(Form::Nquads(copied(graph)?)),
@@ -41,7 +42,7 @@ impl Form {
 
 /// The name that is lent, as one of its own.
 fn copied(name: Option<&Iri>) -> Result<Option<Iri>, NoMemory>
-    ensures { IfOk result (λ copy. copy ≡ option_map (λ iri. iri.now) name.entry) }
+    ensures { IfOk result (λ copy. copy ≡ lent_name name.entry) }
 {
     match name {
         Some(name) => Ok(Some(name.try_clone()?)),

@@ -1,17 +1,15 @@
 //! Several pages in one dataset: the context file is read, and then each page in order.
-ghost use Rattle.std.specs.Prelude.{◌≡◌, ◌≤◌, ◌⊎◌, ◌++◌, [], ◌∷◌, length, nat_eq, IfOk, OnOk, IsErrOf, Err, is_some, true, encode_utf8_all};
-ghost use Rattle.rx_model.specs.Copied.{copied};
-ghost use Rattle.rx_model.specs.Numbered.{numbered};
-ghost use Rattle.rx_model.specs.Seen.{triples_seen};
+ghost use Rattle.std.specs.Prelude.{◌≡◌, ◌≤◌, ◌++◌, [], ◌∷◌, length, IfOk, OnOk, IsErrOf, Err, is_some, true, encode_utf8_all};
 ghost use Rattle.rx_many.specs.Pages.{accepted_page, refused_page};
-ghost use Rattle.rx_ports.specs.Counts.{Rose};
-ghost use Rattle.rx_ports.specs.Told.{Moves, Lacks};
-ghost use Rattle.rx_job.specs.Jobs.{several_seen};
+ghost use Rattle.rx_ports.specs.Told.{Moves};
+ghost use Rattle.rx_job.specs.Jobs.{several_seen, page_at};
 ghost use Rattle.rx_command.specs.declared.errors.InputError as errors;
 ghost use Rattle.rx_command.specs.Contexts.{HasOther, TakesContext};
 ghost use Rattle.rx_command.specs.Gathering.{AddsPage, AddsPages, GathersPages, TakesGathering, TakesPart, TakesParts};
-ghost use Rattle.rx_command.specs.Inputs.{TellsThat, WhereTold};
+ghost use Rattle.rx_command.specs.Inputs.{WhereTold};
 ghost use Rattle.rx_command.specs.Outcome.{LacksOne, LacksPage};
+ghost use Rattle.rx_command.specs.Calls.{FailedOr, FailedOrLacks};
+ghost use Rattle.rx_command.specs.Written.{graph_made};
 
 use crate::errors::InputError;
 use crate::inputs::read_context;
@@ -36,9 +34,10 @@ pub(crate) fn gather<F: Shelf>(
     ensures not_refused { (fault : Fault) → result ≡ Err (InputError.Refused fault) → ⊥ }
     ensures takes { Moves (TakesGathering (several_seen several.entry)) (F.told shelf.old) (F.told shelf.new) }
     ensures bad { IsErrOf result InputError.BadContext → WhereTold (HasOther (several_seen several.entry).context) (F.told shelf.old) }
-    ensures bad_takes { IsErrOf result InputError.BadContext → Moves (TakesContext (several_seen several.entry).context) (F.told shelf.old) (F.told shelf.new) }
+    ensures bad_takes { IsErrOf result InputError.BadContext →
+        Moves (TakesContext (several_seen several.entry).context) (F.told shelf.old) (F.told shelf.new) }
     ensures named { IsErrOf result InputError.BadContext → is_some (several_seen several.entry).context ≡ true }
-    ensures failed { IsErrOf result InputError.Failed → Rose (F.faults shelf.old) (F.faults shelf.new) ⊎ TellsThat (LacksOne (several_seen several.entry)) (F.told shelf.old) }
+    ensures failed { IsErrOf result InputError.Failed → FailedOr F.told F.faults shelf.old shelf.new (LacksOne (several_seen several.entry)) }
 {
     let Several {
         syntax,
@@ -79,7 +78,7 @@ fn gather_pages<F: Shelf>(
     ensures takes { Moves (TakesParts context.now syntax pages.now) (F.told shelf.old) (F.told shelf.new) }
     ensures not_refused { (fault : Fault) → result ≡ Err (InputError.Refused fault) → ⊥ }
     ensures no_context { IsErrOf result InputError.BadContext → ⊥ }
-    ensures failed { IsErrOf result InputError.Failed → Rose (F.faults shelf.old) (F.faults shelf.new) ⊎ TellsThat (λ told. LacksPage told.files pages.now) (F.told shelf.old) }
+    ensures failed { IsErrOf result InputError.Failed → FailedOr F.told F.faults shelf.old shelf.new (λ told. LacksPage told.files pages.now) }
 {
     let Ok(mut piece) = new_piece(alloc) else {
         return Err(InputError::NoMemory);
@@ -102,7 +101,7 @@ fn gather_by<F: Shelf>(
     ensures takes { Moves (TakesParts context.now syntax pages.now) (F.told shelf.old) (F.told shelf.new) }
     ensures not_refused { (fault : Fault) → result ≡ Err (InputError.Refused fault) → ⊥ }
     ensures no_context { IsErrOf result InputError.BadContext → ⊥ }
-    ensures failed { IsErrOf result InputError.Failed → Rose (F.faults shelf.old) (F.faults shelf.new) ⊎ TellsThat (λ told. LacksPage told.files pages.now) (F.told shelf.old) }
+    ensures failed { IsErrOf result InputError.Failed → FailedOr F.told F.faults shelf.old shelf.new (λ told. LacksPage told.files pages.now) }
 {
     for i in 0..pages.len() {
         let (address, page) = pages.at(i);
@@ -126,11 +125,11 @@ fn gather_page<F: Shelf>(
     many: &mut Many,
 ) -> Result<(), InputError>
     requires { length piece.old ≡ 65536 }
-    ensures ok { OnOk result (AddsPage context.now syntax (record { address = address.now; page = page.now }) many.old many.new (F.told shelf.old) (F.told shelf.new)) }
-    ensures takes { Moves (TakesPart context.now syntax (record { address = address.now; page = page.now })) (F.told shelf.old) (F.told shelf.new) }
+    ensures ok { OnOk result (AddsPage context.now syntax (page_at address.now page.now) many.old many.new (F.told shelf.old) (F.told shelf.new)) }
+    ensures takes { Moves (TakesPart context.now syntax (page_at address.now page.now)) (F.told shelf.old) (F.told shelf.new) }
     ensures not_refused { (fault : Fault) → result ≡ Err (InputError.Refused fault) → ⊥ }
     ensures no_context { IsErrOf result InputError.BadContext → ⊥ }
-    ensures failed { IsErrOf result InputError.Failed → Rose (F.faults shelf.old) (F.faults shelf.new) ⊎ Lacks (F.told shelf.old) (encode_utf8_all page.now) }
+    ensures failed { IsErrOf result InputError.Failed → FailedOrLacks F.told F.faults shelf.old shelf.new (encode_utf8_all page.now) }
     ensures later { F.faults shelf.old ≤ F.faults shelf.new }
 {
     let Ok(approach) = approach_of(alloc, syntax, context, address) else {
@@ -176,7 +175,7 @@ fn approach_of(
 
 /// Adds the page of this address, which gives the graph of the triples.
 fn accept(alloc: Global, address: &Iri, list: TripleList, many: &mut Many) -> Result<(), NoMemory>
-    ensures { OnOk result (many.new ≡ many.old ++ accepted_page address.now (numbered nat_eq (copied nat_eq (triples_seen list))) ∷ []) }
+    ensures { OnOk result (many.new ≡ many.old ++ accepted_page address.now (graph_made list) ∷ []) }
 {
     let graph = graph_of(alloc, list)?;
     many.add_owned(address, graph)

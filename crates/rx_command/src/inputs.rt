@@ -1,17 +1,17 @@
 //! Doing a job: its context file is read, and then its page.
-ghost use Rattle.std.specs.Prelude.{◌≡◌, ◌⊎◌, ◌≤◌, IfOk, IsErrOf, Err, Some, codes, encode_utf8_all, is_some, true, false};
-ghost use Rattle.rx_ports.specs.Counts.{Rose};
-ghost use Rattle.rx_ports.specs.Told.{Moves, Lacks};
-ghost use Rattle.rx_job.specs.Words.{extracts, itemizes, checks};
+ghost use Rattle.std.specs.Prelude.{◌≡◌, ◌≤◌, IfOk, IsErrOf, Err, Some, encode_utf8_all, is_some, true, false};
+ghost use Rattle.rx_ports.specs.Told.{Moves};
+ghost use Rattle.rx_job.specs.Words.{checks};
 ghost use Rattle.rx_job.specs.Jobs.{page_by, reads_page, has_context, text_in};
 ghost use Rattle.rx_command.specs.Files.{TakesOf};
 ghost use Rattle.rx_rdfa.specs.Names.{Context as RulesContext};
-ghost use Rattle.rx_command.specs.Reading.{for_items, for_faults, way_for, ReadsClean};
-ghost use Rattle.rx_command.specs.Ways.{way_of, extraction_of};
+ghost use Rattle.rx_command.specs.Reading.{for_items, for_faults, way_for};
+ghost use Rattle.rx_command.specs.Ways.{way_of, extracts_by, itemizes_by};
 ghost use Rattle.rx_command.specs.Contexts.{IsContextFile, IsFileOf, ReadsContext, TakesContext, LacksContext, HasOther};
 ghost use Rattle.rx_command.specs.Outcome.{IsLacking};
-ghost use Rattle.rx_command.specs.Inputs.{PageText, PageRefused, JobText, JobRefused, TellsThat, WhereTold};
+ghost use Rattle.rx_command.specs.Inputs.{PageText, PageRefused, JobText, JobRefused, WhereTold};
 ghost use Rattle.rx_command.specs.Runs.{TakesFiles, StopsCleanly};
+ghost use Rattle.rx_command.specs.Calls.{GivesBy, RefusesBy, StopsBy, FailedOr, FailedOrLacks};
 
 use crate::errors::InputError;
 use crate::files::{ReadError, read_file};
@@ -36,13 +36,13 @@ pub(crate) fn outcome_of_job<F: Shelf>(
     job: &Job,
 ) -> Result<Outcome, InputError>
     requires { reads_page job.now ≡ true }
-    ensures ok { IfOk result (λ outcome. Moves (JobText (page_by job.now) outcome) (F.told shelf.old) (F.told shelf.new)) }
-    ensures refused { (fault : Fault) → result ≡ Err (InputError.Refused fault) → Moves (JobRefused (page_by job.now) fault) (F.told shelf.old) (F.told shelf.new) }
+    ensures ok { GivesBy result (JobText (page_by job.now)) (F.told shelf.old) (F.told shelf.new) }
+    ensures refused { RefusesBy result (JobRefused (page_by job.now)) (F.told shelf.old) (F.told shelf.new) }
     ensures takes { Moves (TakesFiles (Some (page_by job.now))) (F.told shelf.old) (F.told shelf.new) }
     ensures bad { IsErrOf result InputError.BadContext → WhereTold (HasOther (page_by job.now).context) (F.told shelf.old) }
     ensures bad_takes { IsErrOf result InputError.BadContext → Moves (TakesContext (page_by job.now).context) (F.told shelf.old) (F.told shelf.new) }
     ensures named { IsErrOf result InputError.BadContext → is_some (page_by job.now).context ≡ true }
-    ensures failed { IsErrOf result InputError.Failed → Rose (F.faults shelf.old) (F.faults shelf.new) ⊎ TellsThat (IsLacking (page_by job.now)) (F.told shelf.old) }
+    ensures failed { IsErrOf result InputError.Failed → FailedOr F.told F.faults shelf.old shelf.new (IsLacking (page_by job.now)) }
     ensures cleanly { IsErrOf result InputError.Failed → Moves (StopsCleanly (Some (page_by job.now))) (F.told shelf.old) (F.told shelf.new) }
     ensures later { F.faults shelf.old ≤ F.faults shelf.new }
 {
@@ -68,13 +68,13 @@ fn outcome_under_context<F: Shelf>(
     job: &Job,
 ) -> Result<Outcome, InputError>
     requires { has_context job.now ≡ true }
-    ensures ok { IfOk result (λ outcome. Moves (JobText (page_by job.now) outcome) (F.told shelf.old) (F.told shelf.new)) }
-    ensures refused { (fault : Fault) → result ≡ Err (InputError.Refused fault) → Moves (JobRefused (page_by job.now) fault) (F.told shelf.old) (F.told shelf.new) }
+    ensures ok { GivesBy result (JobText (page_by job.now)) (F.told shelf.old) (F.told shelf.new) }
+    ensures refused { RefusesBy result (JobRefused (page_by job.now)) (F.told shelf.old) (F.told shelf.new) }
     ensures takes { Moves (TakesFiles (Some (page_by job.now))) (F.told shelf.old) (F.told shelf.new) }
     ensures bad { IsErrOf result InputError.BadContext → WhereTold (HasOther (page_by job.now).context) (F.told shelf.old) }
     ensures bad_takes { IsErrOf result InputError.BadContext → Moves (TakesContext (page_by job.now).context) (F.told shelf.old) (F.told shelf.new) }
     ensures named { IsErrOf result InputError.BadContext → is_some (page_by job.now).context ≡ true }
-    ensures failed { IsErrOf result InputError.Failed → Rose (F.faults shelf.old) (F.faults shelf.new) ⊎ TellsThat (IsLacking (page_by job.now)) (F.told shelf.old) }
+    ensures failed { IsErrOf result InputError.Failed → FailedOr F.told F.faults shelf.old shelf.new (IsLacking (page_by job.now)) }
     ensures cleanly { IsErrOf result InputError.Failed → Moves (StopsCleanly (Some (page_by job.now))) (F.told shelf.old) (F.told shelf.new) }
     ensures later { F.faults shelf.old ≤ F.faults shelf.new }
 {
@@ -117,12 +117,14 @@ fn extract<F: Shelf>(
     format: Format,
     graph: Option<&Iri>,
 ) -> Result<Outcome, InputError>
-    ensures ok { IfOk result (λ outcome. Moves (PageText (extracts (extraction_of approach format graph.entry)) approach.context (encode_utf8_all page.now) outcome) (F.told shelf.old) (F.told shelf.new)) }
-    ensures refused { (fault : Fault) → result ≡ Err (InputError.Refused fault) → Moves (PageRefused (extracts (extraction_of approach format graph.entry)) approach.context (encode_utf8_all page.now) fault) (F.told shelf.old) (F.told shelf.new) }
+    ensures ok { GivesBy result
+        (PageText (extracts_by approach format graph.entry) approach.context (encode_utf8_all page.now)) (F.told shelf.old) (F.told shelf.new) }
+    ensures refused { RefusesBy result
+        (PageRefused (extracts_by approach format graph.entry) approach.context (encode_utf8_all page.now)) (F.told shelf.old) (F.told shelf.new) }
     ensures takes { Moves (TakesOf (encode_utf8_all page.now) 1073807359) (F.told shelf.old) (F.told shelf.new) }
     ensures context { IsErrOf result InputError.BadContext → ⊥ }
-    ensures failed { IsErrOf result InputError.Failed → Rose (F.faults shelf.old) (F.faults shelf.new) ⊎ Lacks (F.told shelf.old) (encode_utf8_all page.now) }
-    ensures cleanly { IsErrOf result InputError.Failed → Moves (ReadsClean (way_of approach) (encode_utf8_all page.now)) (F.told shelf.old) (F.told shelf.new) }
+    ensures failed { IsErrOf result InputError.Failed → FailedOrLacks F.told F.faults shelf.old shelf.new (encode_utf8_all page.now) }
+    ensures cleanly { StopsBy result (way_of approach) (encode_utf8_all page.now) (F.told shelf.old) (F.told shelf.new) }
     ensures later { F.faults shelf.old ≤ F.faults shelf.new }
 {
     let Ok(form) = Form::of(alloc, format, graph, &approach.context) else {
@@ -150,12 +152,14 @@ fn itemize<F: Shelf>(
     syntax: Syntax,
     address: Iri,
 ) -> Result<Outcome, InputError>
-    ensures ok { (context : RulesContext) → IfOk result (λ outcome. Moves (PageText (itemizes (record { syntax = syntax; address = address })) context (encode_utf8_all page.now) outcome) (F.told shelf.old) (F.told shelf.new)) }
-    ensures refused { (context : RulesContext) (fault : Fault) → result ≡ Err (InputError.Refused fault) → Moves (PageRefused (itemizes (record { syntax = syntax; address = address })) context (encode_utf8_all page.now) fault) (F.told shelf.old) (F.told shelf.new) }
+    ensures ok { (context : RulesContext) → GivesBy result
+        (PageText (itemizes_by syntax address) context (encode_utf8_all page.now)) (F.told shelf.old) (F.told shelf.new) }
+    ensures refused { (context : RulesContext) → RefusesBy result
+        (PageRefused (itemizes_by syntax address) context (encode_utf8_all page.now)) (F.told shelf.old) (F.told shelf.new) }
     ensures takes { Moves (TakesOf (encode_utf8_all page.now) 1073807359) (F.told shelf.old) (F.told shelf.new) }
     ensures no_context { IsErrOf result InputError.BadContext → ⊥ }
-    ensures failed { IsErrOf result InputError.Failed → Rose (F.faults shelf.old) (F.faults shelf.new) ⊎ Lacks (F.told shelf.old) (encode_utf8_all page.now) }
-    ensures cleanly { IsErrOf result InputError.Failed → Moves (ReadsClean (way_for syntax (for_items address)) (encode_utf8_all page.now)) (F.told shelf.old) (F.told shelf.new) }
+    ensures failed { IsErrOf result InputError.Failed → FailedOrLacks F.told F.faults shelf.old shelf.new (encode_utf8_all page.now) }
+    ensures cleanly { StopsBy result (way_for syntax (for_items address)) (encode_utf8_all page.now) (F.told shelf.old) (F.told shelf.new) }
     ensures later { F.faults shelf.old ≤ F.faults shelf.new }
 {
     let found = match read_items(alloc, shelf, page.as_str(), syntax, address) {
@@ -186,12 +190,12 @@ fn check<F: Shelf>(
     syntax: Syntax,
     context: Context,
 ) -> Result<Outcome, InputError>
-    ensures ok { IfOk result (λ outcome. Moves (PageText (checks syntax) context (encode_utf8_all page.now) outcome) (F.told shelf.old) (F.told shelf.new)) }
-    ensures refused { (fault : Fault) → result ≡ Err (InputError.Refused fault) → Moves (PageRefused (checks syntax) context (encode_utf8_all page.now) fault) (F.told shelf.old) (F.told shelf.new) }
+    ensures ok { GivesBy result (PageText (checks syntax) context (encode_utf8_all page.now)) (F.told shelf.old) (F.told shelf.new) }
+    ensures refused { RefusesBy result (PageRefused (checks syntax) context (encode_utf8_all page.now)) (F.told shelf.old) (F.told shelf.new) }
     ensures takes { Moves (TakesOf (encode_utf8_all page.now) 1073807359) (F.told shelf.old) (F.told shelf.new) }
     ensures no_context { IsErrOf result InputError.BadContext → ⊥ }
-    ensures failed { IsErrOf result InputError.Failed → Rose (F.faults shelf.old) (F.faults shelf.new) ⊎ Lacks (F.told shelf.old) (encode_utf8_all page.now) }
-    ensures cleanly { IsErrOf result InputError.Failed → Moves (ReadsClean (way_for syntax (for_faults context)) (encode_utf8_all page.now)) (F.told shelf.old) (F.told shelf.new) }
+    ensures failed { IsErrOf result InputError.Failed → FailedOrLacks F.told F.faults shelf.old shelf.new (encode_utf8_all page.now) }
+    ensures cleanly { StopsBy result (way_for syntax (for_faults context)) (encode_utf8_all page.now) (F.told shelf.old) (F.told shelf.new) }
     ensures later { F.faults shelf.old ≤ F.faults shelf.new }
 {
     match check_page(alloc, shelf, page.as_str(), syntax, context) {
@@ -211,7 +215,7 @@ pub(crate) fn read_context<F: Shelf>(
     ensures bad { IsErrOf result InputError.BadContext → WhereTold (HasOther (text_in file.entry)) (F.told shelf.old) }
     ensures named { IsErrOf result InputError.BadContext → is_some (text_in file.entry) ≡ true }
     ensures not_refused { (fault : Fault) → result ≡ Err (InputError.Refused fault) → ⊥ }
-    ensures failed { IsErrOf result InputError.Failed → Rose (F.faults shelf.old) (F.faults shelf.new) ⊎ TellsThat (LacksContext (text_in file.entry)) (F.told shelf.old) }
+    ensures failed { IsErrOf result InputError.Failed → FailedOr F.told F.faults shelf.old shelf.new (LacksContext (text_in file.entry)) }
     ensures later { F.faults shelf.old ≤ F.faults shelf.new }
 {
     match file {
@@ -232,7 +236,7 @@ fn read_named_context<F: Shelf>(
     ensures takes { Moves (TakesContext (Some file.now)) (F.told shelf.old) (F.told shelf.new) }
     ensures bad { IsErrOf result InputError.BadContext → WhereTold (IsContextFile file.now false) (F.told shelf.old) }
     ensures not_refused { (fault : Fault) → result ≡ Err (InputError.Refused fault) → ⊥ }
-    ensures failed { IsErrOf result InputError.Failed → Rose (F.faults shelf.old) (F.faults shelf.new) ⊎ TellsThat (LacksContext (Some file.now)) (F.told shelf.old) }
+    ensures failed { IsErrOf result InputError.Failed → FailedOr F.told F.faults shelf.old shelf.new (LacksContext (Some file.now)) }
     ensures later { F.faults shelf.old ≤ F.faults shelf.new }
 {
     let bytes = match read_file(alloc, shelf, file.as_str(), LARGEST_CONTEXT) {

@@ -1,11 +1,10 @@
 //! What a page gives, and writing it.
-ghost use Rattle.std.specs.Prelude.{◌≡◌, nat_eq, IfOk, OnOk, IsErrOf};
+ghost use Rattle.std.specs.Prelude.{◌≡◌, IfOk, OnOk, IsErrOf};
 ghost use Rattle.rx_model.specs.Copied.{copied};
-ghost use Rattle.rx_model.specs.Numbered.{numbered};
 ghost use Rattle.rx_model.specs.Seen.{triples_seen};
 ghost use Rattle.rx_ports.specs.Counts.{Rose};
 ghost use Rattle.rx_ports.specs.Told.{Moves, GrowsBy, GrowsByPart};
-ghost use Rattle.rx_command.specs.Written.{IsFormText, FormDenotes, text_of, Denoted};
+ghost use Rattle.rx_command.specs.Written.{IsFormText, FormDenotes, text_of, Denoted, graph_made};
 
 use crate::forms::Form;
 use crate::json_texts::text_of_graph;
@@ -38,8 +37,8 @@ pub enum Outcome {
 impl Outcome {
     /// The graph of the triples, which is written in this form.
     pub fn of(alloc: Global, list: TripleList, form: Form) -> Result<Outcome, NoMemory>
-        ensures spelled { IfOk result (λ outcome. IsFormText form (numbered nat_eq (copied nat_eq (triples_seen list))) (text_of outcome)) }
-        ensures denoted { IfOk result (λ outcome. Denoted outcome → FormDenotes form (text_of outcome) (numbered nat_eq (copied nat_eq (triples_seen list)))) }
+        ensures spelled { IfOk result (λ outcome. IsFormText form (graph_made list) (text_of outcome)) }
+        ensures denoted { IfOk result (λ outcome. Denoted outcome → FormDenotes form (text_of outcome) (graph_made list)) }
     {
         match graph_of(alloc, list) {
             Ok(graph) => Outcome::of_graph(alloc, graph, form),
@@ -123,7 +122,7 @@ fn write_whole<O: Sink>(out: &mut O, text: &[u8]) -> Result<(), WriteError>
 
 /// The graph of the triples: property copying is done, and blank nodes are numbered in order of first occurrence.
 pub(crate) fn graph_of(alloc: Global, list: TripleList) -> Result<Graph, NoMemory>
-    ensures { IfOk result (λ graph. triples_seen graph ≡ numbered nat_eq (copied nat_eq (triples_seen list))) }
+    ensures { IfOk result (λ graph. triples_seen graph ≡ graph_made list) }
 {
     let copied = copy_patterns_owned(alloc, list)?;
     relabel_owned(alloc, copied)

@@ -1,13 +1,11 @@
 //! Reading a page as its bytes come.
-ghost use Rattle.std.specs.Prelude.{◌≡◌, ◌<◌, ◌≤◌, ◌⊎◌, ℕ, List, [], IfOk, IsErrOf, length, vec_len};
+ghost use Rattle.std.specs.Prelude.{◌≡◌, ◌<◌, ◌≤◌, [], IfOk, IsErrOf, length, vec_len};
 ghost use Rattle.rx_ports.specs.Counts.{Rose};
-ghost use Rattle.rx_ports.specs.Told.{Moves, Lacks};
-ghost use Rattle.rx_chars.specs.declared.syntax.Syntax as syntaxes;
-ghost use Rattle.rx_rdfa.specs.Names.{Context as RulesContext};
-ghost use Rattle.rx_terms.specs.Text.{Chars};
-ghost use Rattle.rx_command.specs.Reading.{Aim, for_triples, for_items, for_faults, way_for, Reached, Starts, MakesTriples, FindsItems, FindsFaults, NextGives, EndGives, GivesList, GivesItems, GivesRight, FileGives, PageGives, TakesToFirst};
+ghost use Rattle.rx_ports.specs.Told.{Moves};
+ghost use Rattle.rx_command.specs.Reading.{for_items, for_faults, way_for, Starts, MakesTriples, FindsItems, FindsFaults, NextGives, GivesItems, GivesRight, FileGives, PageGives, TakesToFirst, FromStart, FromWhere, EndsWithList, EndsWithItems, EndsRight};
 ghost use Rattle.rx_command.specs.Files.{TakesSome, TakesOf};
-ghost use Rattle.rx_command.specs.Ways.{way_of};
+ghost use Rattle.rx_command.specs.Ways.{way_of, GivesListOf};
+ghost use Rattle.rx_command.specs.Calls.{FailedOrLacks};
 
 use crate::errors::InputError;
 use crate::readers::Reader;
@@ -40,11 +38,11 @@ pub(crate) fn read_page<F: Shelf>(
     name: &str,
     approach: Approach,
 ) -> Result<TripleList, InputError>
-    ensures gives { PageGives (way_of approach) (GivesList approach.syntax approach.context approach.address) name.now result (F.told shelf.old) (F.told shelf.new) }
+    ensures gives { PageGives (way_of approach) (GivesListOf approach) name.now result (F.told shelf.old) (F.told shelf.new) }
     ensures takes { Moves (TakesOf name.now 1073807359) (F.told shelf.old) (F.told shelf.new) }
     ensures to_first { Moves (TakesToFirst (way_of approach) name.now) (F.told shelf.old) (F.told shelf.new) }
     ensures later { F.faults shelf.old ≤ F.faults shelf.new }
-    ensures failed { IsErrOf result InputError.Failed → Rose (F.faults shelf.old) (F.faults shelf.new) ⊎ Lacks (F.told shelf.old) name.now }
+    ensures failed { IsErrOf result InputError.Failed → FailedOrLacks F.told F.faults shelf.old shelf.new name.now }
 {
     let Ok(mut piece) = new_piece(alloc) else {
         drop(approach);
@@ -62,11 +60,11 @@ pub(crate) fn read_page_by<F: Shelf>(
     piece: &mut [u8],
 ) -> Result<TripleList, InputError>
     requires { length piece.old ≡ 65536 }
-    ensures gives { PageGives (way_of approach) (GivesList approach.syntax approach.context approach.address) name.now result (F.told shelf.old) (F.told shelf.new) }
+    ensures gives { PageGives (way_of approach) (GivesListOf approach) name.now result (F.told shelf.old) (F.told shelf.new) }
     ensures takes { Moves (TakesOf name.now 1073807359) (F.told shelf.old) (F.told shelf.new) }
     ensures to_first { Moves (TakesToFirst (way_of approach) name.now) (F.told shelf.old) (F.told shelf.new) }
     ensures later { F.faults shelf.old ≤ F.faults shelf.new }
-    ensures failed { IsErrOf result InputError.Failed → Rose (F.faults shelf.old) (F.faults shelf.new) ⊎ Lacks (F.told shelf.old) name.now }
+    ensures failed { IsErrOf result InputError.Failed → FailedOrLacks F.told F.faults shelf.old shelf.new name.now }
 {
     let Approach {
         syntax,
@@ -97,7 +95,7 @@ pub(crate) fn read_items<F: Shelf>(
     ensures gives { PageGives (way_for syntax (for_items address)) (GivesItems syntax address) name.now result (F.told shelf.old) (F.told shelf.new) }
     ensures takes { Moves (TakesOf name.now 1073807359) (F.told shelf.old) (F.told shelf.new) }
     ensures later { F.faults shelf.old ≤ F.faults shelf.new }
-    ensures failed { IsErrOf result InputError.Failed → Rose (F.faults shelf.old) (F.faults shelf.new) ⊎ Lacks (F.told shelf.old) name.now }
+    ensures failed { IsErrOf result InputError.Failed → FailedOrLacks F.told F.faults shelf.old shelf.new name.now }
 {
     let Ok(walk) = ItemWalk::new(alloc, syntax, address, Limits::standard()) else {
         return Err(InputError::NoMemory);
@@ -123,7 +121,7 @@ pub(crate) fn check_page<F: Shelf>(
     ensures gives { PageGives (way_for syntax (for_faults context)) (GivesRight syntax context) name.now result (F.told shelf.old) (F.told shelf.new) }
     ensures takes { Moves (TakesOf name.now 1073807359) (F.told shelf.old) (F.told shelf.new) }
     ensures later { F.faults shelf.old ≤ F.faults shelf.new }
-    ensures failed { IsErrOf result InputError.Failed → Rose (F.faults shelf.old) (F.faults shelf.new) ⊎ Lacks (F.told shelf.old) name.now }
+    ensures failed { IsErrOf result InputError.Failed → FailedOrLacks F.told F.faults shelf.old shelf.new name.now }
 {
     let Ok(check) = Check::new(alloc, syntax, context, Limits::standard()) else {
         return Err(InputError::NoMemory);
@@ -154,11 +152,11 @@ fn feed_file<F: Shelf>(
     reader: &mut Reader,
 ) -> Result<(), InputError>
     requires { Starts reader.old }
-    ensures gives { (syntax : syntaxes.Syntax) (aim : Aim) → Reached syntax aim reader.old [] → FileGives syntax aim name.now result reader.new (F.told shelf.old) (F.told shelf.new) }
+    ensures gives { FromStart reader.old (λ syntax aim. FileGives syntax aim name.now result reader.new (F.told shelf.old) (F.told shelf.new)) }
     ensures takes { Moves (TakesOf name.now 1073807359) (F.told shelf.old) (F.told shelf.new) }
-    ensures to_first { (syntax : syntaxes.Syntax) (aim : Aim) → Reached syntax aim reader.old [] → Moves (TakesToFirst (way_for syntax aim) name.now) (F.told shelf.old) (F.told shelf.new) }
+    ensures to_first { FromStart reader.old (λ syntax aim. Moves (TakesToFirst (way_for syntax aim) name.now) (F.told shelf.old) (F.told shelf.new)) }
     ensures later { F.faults shelf.old ≤ F.faults shelf.new }
-    ensures failed { IsErrOf result InputError.Failed → Rose (F.faults shelf.old) (F.faults shelf.new) ⊎ Lacks (F.told shelf.old) name.now }
+    ensures failed { IsErrOf result InputError.Failed → FailedOrLacks F.told F.faults shelf.old shelf.new name.now }
 {
     let Ok(mut piece) = new_piece(alloc) else {
         return Err(InputError::NoMemory);
@@ -175,11 +173,11 @@ fn feed_file_by<F: Shelf>(
 ) -> Result<(), InputError>
     requires starts { Starts reader.old }
     requires room { length piece.old ≡ 65536 }
-    ensures gives { (syntax : syntaxes.Syntax) (aim : Aim) → Reached syntax aim reader.old [] → FileGives syntax aim name.now result reader.new (F.told shelf.old) (F.told shelf.new) }
+    ensures gives { FromStart reader.old (λ syntax aim. FileGives syntax aim name.now result reader.new (F.told shelf.old) (F.told shelf.new)) }
     ensures takes { Moves (TakesOf name.now 1073807359) (F.told shelf.old) (F.told shelf.new) }
-    ensures to_first { (syntax : syntaxes.Syntax) (aim : Aim) → Reached syntax aim reader.old [] → Moves (TakesToFirst (way_for syntax aim) name.now) (F.told shelf.old) (F.told shelf.new) }
+    ensures to_first { FromStart reader.old (λ syntax aim. Moves (TakesToFirst (way_for syntax aim) name.now) (F.told shelf.old) (F.told shelf.new)) }
     ensures later { F.faults shelf.old ≤ F.faults shelf.new }
-    ensures failed { IsErrOf result InputError.Failed → Rose (F.faults shelf.old) (F.faults shelf.new) ⊎ Lacks (F.told shelf.old) name.now }
+    ensures failed { IsErrOf result InputError.Failed → FailedOrLacks F.told F.faults shelf.old shelf.new name.now }
 {
     let Ok(()) = shelf.start_file(name) else {
         return Err(InputError::Failed);
@@ -203,7 +201,8 @@ fn feed_next<F: Shelf>(
 ) -> Result<usize, InputError>
     requires { 0 < length piece.old }
     ensures bound { IfOk result (λ n. n ≤ length piece.new) }
-    ensures gives { (syntax : syntaxes.Syntax) (aim : Aim) (bytes : List ℕ) → Reached syntax aim reader.old bytes → length piece.old ≤ 65536 → NextGives syntax aim bytes result reader.new (F.told shelf.old) (F.told shelf.new) }
+    ensures gives { FromWhere reader.old (λ syntax aim bytes.
+        length piece.old ≤ 65536 → NextGives syntax aim bytes result reader.new (F.told shelf.old) (F.told shelf.new)) }
     ensures takes { Moves (TakesSome (length piece.old)) (F.told shelf.old) (F.told shelf.new) }
     ensures later { F.faults shelf.old ≤ F.faults shelf.new }
     ensures failed { IsErrOf result InputError.Failed → Rose (F.faults shelf.old) (F.faults shelf.new) }
@@ -221,7 +220,7 @@ fn feed_next<F: Shelf>(
 // The page's end, where its triples are wanted.
 fn list_of(reader: Reader) -> Result<TripleList, InputError>
     requires { MakesTriples reader }
-    ensures gives { (syntax : syntaxes.Syntax) (context : RulesContext) (address : Chars) (bytes : List ℕ) → Reached syntax (for_triples context address) reader bytes → EndGives (way_for syntax (for_triples context address)) (GivesList syntax context address) bytes result }
+    ensures gives { EndsWithList reader result }
     ensures reads_none { IsErrOf result InputError.Failed → ⊥ }
 {
     let walk = match reader {
@@ -239,7 +238,7 @@ fn list_of(reader: Reader) -> Result<TripleList, InputError>
 // The page's end, where its items are wanted.
 fn items_of(reader: Reader) -> Result<Items, InputError>
     requires { FindsItems reader }
-    ensures gives { (syntax : syntaxes.Syntax) (address : Chars) (bytes : List ℕ) → Reached syntax (for_items address) reader bytes → EndGives (way_for syntax (for_items address)) (GivesItems syntax address) bytes result }
+    ensures gives { EndsWithItems reader result }
     ensures reads_none { IsErrOf result InputError.Failed → ⊥ }
 {
     let walk = match reader {
@@ -257,7 +256,7 @@ fn items_of(reader: Reader) -> Result<Items, InputError>
 // The page's end, where only its faults are wanted.
 fn checked(reader: Reader) -> Result<(), InputError>
     requires { FindsFaults reader }
-    ensures gives { (syntax : syntaxes.Syntax) (context : RulesContext) (bytes : List ℕ) → Reached syntax (for_faults context) reader bytes → EndGives (way_for syntax (for_faults context)) (GivesRight syntax context) bytes result }
+    ensures gives { EndsRight reader result }
     ensures reads_none { IsErrOf result InputError.Failed → ⊥ }
 {
     let check = match reader {

@@ -1,7 +1,5 @@
 //! What reads a page: a walk through it, for its triples or its items, or a check of it.
-ghost use Rattle.std.specs.Prelude.{ℕ, List};
-ghost use Rattle.rx_chars.specs.declared.syntax.Syntax as syntaxes;
-ghost use Rattle.rx_command.specs.Reading.{Aim, Reached, FeedGives};
+ghost use Rattle.rx_command.specs.Reading.{FeedGives, FromWhere};
 
 use rx_items::ItemWalk;
 use rx_walk::{Check, Stop, Walk};
@@ -17,7 +15,7 @@ pub(crate) enum Reader {
 impl Reader {
     /// Takes the whole piece.
     pub(crate) fn feed(&mut self, piece: &[u8]) -> Result<(), Stop>
-        ensures { (syntax : syntaxes.Syntax) (aim : Aim) (bytes : List ℕ) → Reached syntax aim self.old bytes → FeedGives syntax aim bytes piece.now result self.new }
+        ensures { FromWhere self.old (λ syntax aim bytes. FeedGives syntax aim bytes piece.now result self.new) }
     {
         match self {
             Reader::Walks(walk) => walk.feed(piece),

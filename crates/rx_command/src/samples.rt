@@ -1,12 +1,10 @@
 //! The sample: a page of many items, made and read piece by piece, and the line that is said of it.
-ghost use Rattle.std.specs.Prelude.{◌≡◌, ◌≤◌, ◌<◌, List, ℕ, suc, length, nat_eq, IfOk, OnOk, string_bytes, None, encode_utf8_all};
-ghost use Rattle.rx_model.specs.Copied.{copied};
-ghost use Rattle.rx_model.specs.Numbered.{numbered};
-ghost use Rattle.rx_model.specs.Seen.{triples_seen};
+ghost use Rattle.std.specs.Prelude.{◌≡◌, ◌≤◌, ◌<◌, List, ℕ, suc, length, IfOk, OnOk, string_bytes, None, encode_utf8_all};
 ghost use Rattle.rx_nquads.specs.Writing.{nquads};
 ghost use Rattle.rx_job.specs.Words.{most_items};
 ghost use Rattle.rx_command.specs.Samples.{IsSample, item_before, larger, line_with, sample_address};
 ghost use Rattle.rx_command.specs.Feeding.{Fed, FedTo, FedWhole, IsDue, TakesPiece};
+ghost use Rattle.rx_command.specs.Written.{graph_made};
 
 use crate::outcomes::graph_of;
 use rx_names::Context;
@@ -165,7 +163,8 @@ fn line_of(
     depth: u32,
     list: TripleList,
 ) -> Result<Vec<u8>, NoMemory>
-    ensures { IfOk result (λ line. line.items ≡ line_with count size (length (numbered nat_eq (copied nat_eq (triples_seen list)))) (length (encode_utf8_all (nquads (numbered nat_eq (copied nat_eq (triples_seen list))) None))) depth) }
+    ensures { IfOk result (λ line. line.items
+        ≡ line_with count size (length (graph_made list)) (length (encode_utf8_all (nquads (graph_made list) None))) depth) }
 {
     let graph = graph_of(alloc, list)?;
     let text = text(alloc, &graph, None)?;

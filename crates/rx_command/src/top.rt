@@ -1,6 +1,5 @@
 //! The top call.
-ghost use Rattle.std.specs.Prelude.{◌≡◌, ◌≢◌, ◌≤◌, ◌⊎◌, ℕ, List, None, Some, ◌++◌, IfOk, is_some, true, string_bytes, codes};
-ghost use Rattle.std.specs.Fmt.{decimal};
+ghost use Rattle.std.specs.Prelude.{◌≡◌, ◌≢◌, ◌≤◌, ◌⊎◌, ℕ, List, None, Some, IfOk, is_some, true, string_bytes};
 ghost use Rattle.rx_ports.specs.Counts.{Rose};
 ghost use Rattle.rx_ports.specs.Told.{Told, Moves, GrowsBy, GrowsByPart, Stays};
 ghost use Rattle.rx_job.specs.Jobs.{several_seen};
@@ -10,7 +9,7 @@ ghost use Rattle.rx_command.specs.Gathering.{HasAll};
 ghost use Rattle.rx_command.specs.Headline.{AnswersPage};
 ghost use Rattle.rx_command.specs.Outcome.{HasBadContext, HasPageFault, LacksFile};
 ghost use Rattle.rx_command.specs.Samples.{Yields, YieldsGraph};
-ghost use Rattle.rx_command.specs.Runs.{ReadCause, TakesJob, TakesToFault, StopsCleanly, IsAtEnd, GatheringEnds, SampleEnds, Says, SaysNothing, usage_line, refused_line, context_line};
+ghost use Rattle.rx_command.specs.Runs.{ReadCause, TakesJob, TakesToFault, StopsCleanly, IsAtEnd, GatheringEnds, SampleEnds, Says, SaysNothing, usage_line, refused_line, context_line, refused_with};
 
 use crate::errors::InputError;
 use crate::gathering::gather;
@@ -49,8 +48,12 @@ pub fn run<F: Shelf, O: Sink, E: Sink>(
     // its items), and the page was read to its end; or Refused with the one fault that the page has, out unchanged; or the
     // shelf or out failed; or there was no memory.
     ensures answers { AnswersPage words.now result
-        (record { told = F.told shelf.old; read_faults = F.faults shelf.old; held = O.held out.old; write_faults = O.faults out.old; said = E.held err.old; say_faults = E.faults err.old })
-        (record { told = F.told shelf.new; read_faults = F.faults shelf.new; held = O.held out.new; write_faults = O.faults out.new; said = E.held err.new; say_faults = E.faults err.new }) }
+        (record { told = F.told shelf.old; read_faults = F.faults shelf.old;
+            held = O.held out.old; write_faults = O.faults out.old;
+            said = E.held err.old; say_faults = E.faults err.old })
+        (record { told = F.told shelf.new; read_faults = F.faults shelf.new;
+            held = O.held out.new; write_faults = O.faults out.new;
+            said = E.held err.new; say_faults = E.faults err.new }) }
 
     // Usage comes only where the words ask for nothing, and then the shelf is as it was. Where they ask for nothing there is no
     // other answer but want of memory.
@@ -75,7 +78,8 @@ pub fn run<F: Shelf, O: Sink, E: Sink>(
     ensures refuses_one { (fault : Fault) → result ≡ Status.Refused fault → gathering_asked words.now ≡ None }
     // The page is then read no further than 65,536 bytes past the byte that decides the fault, unless that is an item's,
     // which is found once the page has ended.
-    ensures refused_takes { (fault : Fault) → result ≡ Status.Refused fault → Moves (TakesToFault (page_asked words.now) fault) (F.told shelf.old) (F.told shelf.new) }
+    ensures refused_takes { (fault : Fault) → result ≡ Status.Refused fault →
+        Moves (TakesToFault (page_asked words.now) fault) (F.told shelf.old) (F.told shelf.new) }
 
     // ReadFault comes only where the shelf failed, or lacks the context file, or lacks a page where the context file is a
     // context; and where it lacks one of them there is no other answer but want of memory.
@@ -217,8 +221,12 @@ fn run_several<F: Shelf, O: Sink, E: Sink>(
     err: &mut E,
 ) -> Status
     ensures { GatheringEnds (several_seen several.entry) result
-        (record { told = F.told shelf.old; read_faults = F.faults shelf.old; held = O.held out.old; write_faults = O.faults out.old; said = E.held err.old; say_faults = E.faults err.old })
-        (record { told = F.told shelf.new; read_faults = F.faults shelf.new; held = O.held out.new; write_faults = O.faults out.new; said = E.held err.new; say_faults = E.faults err.new }) }
+        (record { told = F.told shelf.old; read_faults = F.faults shelf.old;
+            held = O.held out.old; write_faults = O.faults out.old;
+            said = E.held err.old; say_faults = E.faults err.old })
+        (record { told = F.told shelf.new; read_faults = F.faults shelf.new;
+            held = O.held out.new; write_faults = O.faults out.new;
+            said = E.held err.new; say_faults = E.faults err.new }) }
 {
     let many = match gather(alloc, shelf, several) {
         Ok(many) => many,
@@ -249,7 +257,7 @@ fn line_of(alloc: Global, fault: Fault) -> Result<String, AllocError>
 }
 
 fn refusal(alloc: Global, kind: &str, at: u64, token: u64) -> Result<String, AllocError>
-    ensures { IfOk result (λ line. string_bytes line ≡ codes "refused: " ++ (kind.now ++ (codes " at byte " ++ (decimal at ++ (codes " in token " ++ (decimal token ++ codes "\n")))))) }
+    ensures { IfOk result (λ line. string_bytes line ≡ refused_with kind.now at token) }
 {
     format!(in alloc; "refused: {kind} at byte {at} in token {token}\n")
 }

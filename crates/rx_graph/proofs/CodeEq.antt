@@ -35,11 +35,6 @@ resource_eq = (resource_impl.ghosts).eq
 exact_resource : (a b : Resource) → (resource_eq a b ≡ true) ↔ (resource_seen a ≡ resource_seen b)
 exact_resource a b = search rules
 
-pub resources_agree : (a b : Resource) → resource_eq a b ≡ same_node nat_eq (resource_seen a) (resource_seen b)
-resources_agree a b =
-    let model = exact_nodes nat_eq exact_numbers (resource_seen a) (resource_seen b) in
-    same_truth (resource_eq a b) (same_node nat_eq (resource_seen a) (resource_seen b)) (λ h. model.1 ((exact_resource a b).0 h)) (λ h. (exact_resource a b).1 (model.0 h))
-
 pub resources_agree_back : (a b : Resource) → resource_eq a b ≡ same_node nat_eq (resource_seen b) (resource_seen a)
 resources_agree_back a b =
     let model = exact_nodes nat_eq exact_numbers (resource_seen b) (resource_seen a) in

@@ -101,9 +101,6 @@ links_end list i nodes rows past h = subst (λ (z : List CodeTriple). AreLinks (
 
 -- ---- the places of what is given
 
-has_key : (key : Triple ℕ → Option ℕ) → ℕ → Triple ℕ → Bool
-has_key key a u = is_key a (key u)
-
 put_row : (rows : List (List ℕ)) (o : Option ℕ) (place a : ℕ) → a < length rows → get_or (put_at rows o place) a [] ≡ get_or rows a [] ++ (if is_key a o then place ∷ [] else [])
 put_row rows None place a l = sym (append-nil (get_or rows a []))
 put_row rows (Some b) place a l = ⊎_elim (λ inside. pushed_row rows b place a inside) (λ past. beyond past (nat_eq a b) refl) (cases_lt b (length rows))
@@ -180,10 +177,6 @@ module _ (list : List (Triple ℕ)) (nodes : List (Node ℕ)) (roots lead : List
   ]
 
   module _ (t : Node ℕ) (k from : ℕ) (reached : List ℕ) (number : number_in nodes t ≡ Some k) (is : mark_at lead (mark_at roots k) ≡ from) (w : IsWalk nexts lead from reached) where
-    from_small : (a : ℕ) → Led nexts lead from a → from < length lead
-    from_small _ (led_here l) = l
-    from_small _ (led_on a b c h s e l) = from_small a h
-
     to_from : from < length lead → Goes x.links k from
     to_from l = subst (Goes x.links k) is (goes_trans x.links k (mark_at roots k) (mark_at lead (mark_at roots k)) (x.joined.up k)
         (goes_by x.links nexts (mark_at roots k) (mark_at lead (mark_at roots k)) x.nexts_are.sound (x.leads_on.each (mark_at roots k) (subst (λ (z : ℕ). z < length nexts) (sym is) (subst (λ (z : ℕ). from < z) x.leads_on.size l)))))

@@ -64,9 +64,6 @@ contains_added list x t = go (contains (same_triple nat_eq) list x) refl (same_t
 pub record Knows (bits : List ℕ) (firsts : List (Triple ℕ)) (list : List CodeTriple) : Type 0 where
   pub each : (t : CodeTriple) → has_bits bits (key_of t) ≡ true → contains (same_triple nat_eq) firsts (triple_seen t) ≡ contains (same_triple nat_eq) (triples_seen list) (triple_seen t)
 
-pub knows_none : (bits : List ℕ) (list : List CodeTriple) → Knows bits [] (take 0 list)
-knows_none bits list = record { each = λ t h. refl }
-
 pub key_at : (keys : List ℕ) (list : List CodeTriple) (i : ℕ) (x : CodeTriple) → keys ≡ map key_of list → slice_get list i ≡ Some x → get_or keys i 0 ≡ key_of x
 key_at keys list i x are at = get_or_from_slice_get keys i (key_of x) 0 (ap (λ z. slice_get z i) are ∙ slice_get-map key_of list i ∙ ap (option_map key_of) at)
 
@@ -135,13 +132,6 @@ module _ (list : List CodeTriple) (i : ℕ) (t : CodeTriple) (at : slice_get lis
 length_seen : (ts : List CodeTriple) → length (triples_seen ts) ≡ length ts
 length_seen [] = refl
 length_seen (x ∷ ts) = ap suc (length_seen ts)
-
--- at the end of the list
-pub all_end : (list : List CodeTriple) (i : ℕ) → length list ≤ i → distinct (same_triple nat_eq) (triples_seen (take i list)) ≡ triples_seen (take i list) → distinct (same_triple nat_eq) (triples_seen list) ≡ triples_seen list
-all_end list i past h = ap (λ z. distinct (same_triple nat_eq) (triples_seen z)) (sym (take_all i list past)) ∙ h ∙ ap triples_seen (take_all i list past)
-
-pub marks_end : (list : List CodeTriple) (i : ℕ) (marks : List Bool) → length list ≤ i → marks ≡ first_marks (triples_seen (take i list)) → marks ≡ first_marks (triples_seen list)
-marks_end list i marks past is = is ∙ ap (λ z. first_marks (triples_seen z)) (take_all i list past)
 
 -- ---- what the marks keep
 

@@ -66,9 +66,3 @@ module _ (keys : List ℕ) (i key : ℕ) (at : slice_get keys i ≡ Some key) (s
 
 pub told_end : (bits keys : List ℕ) (i : ℕ) → length keys ≤ i → TellsBefore bits keys i → TellsRepeats bits keys
 told_end bits keys i past told = record { each = λ j k is h. told.each j k (omega (arith, past, slice_get_within keys j k is)) is h }
-
-pub has_none : (bits keys : List ℕ) → Has bits (take 0 keys)
-has_none bits keys = record { each = λ k h. absurd (true≢false (sym h)) }
-
-pub told_none : (bits keys : List ℕ) → TellsBefore bits keys 0
-told_none bits keys = record { each = λ j k l is h. absurd (omega (arith, l)) }

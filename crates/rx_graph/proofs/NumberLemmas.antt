@@ -86,10 +86,6 @@ all_known seen [] b h = absurd h
 all_known seen (c ∷ more) b (inl e) = (kept_known (known_one seen c) more).among b (ap (contains nat_eq (known_one seen c)) (sym e) ∙ one_known seen c)
 all_known seen (c ∷ more) b (inr h) = all_known (known_one seen c) more b h
 
-pub known_append : (seen xs ys : List ℕ) → known seen (xs ++ ys) ≡ known (known seen xs) ys
-known_append seen [] ys = refl
-known_append seen (x ∷ xs) ys = known_append (known_one seen x) xs ys
-
 -- ---- from left to right it is `distinct`
 
 pub known_distinct : (list more : List ℕ) → known (distinct nat_eq list) more ≡ distinct nat_eq (list ++ more)

@@ -67,9 +67,6 @@ three false false c = refl
 says_of : (u : Triple ℕ) (t : Node ℕ) → same_triple nat_eq u (type_pattern t) ≡ (if says_pattern nat_eq u.predicate u.object then same_node nat_eq u.subject t else false)
 says_of u t = three (same_node nat_eq u.subject t) (bytes_eq u.predicate rdf_type) (same_term nat_eq u.object (Resource (Iri rdfa_pattern)))
 
-pub patterns_start : ArePatterns [] []
-patterns_start = record { each = λ t. refl }
-
 pub patterns_found : (list : List CodeTriple) (i : ℕ) (u : CodeTriple) (nodes new : List (Node ℕ)) → slice_get list i ≡ Some u
     → says_pattern nat_eq (triple_seen u).predicate (triple_seen u).object ≡ true → new ≡ node_added nodes (triple_seen u).subject
     → ArePatterns (triples_seen (take i list)) nodes → ArePatterns (triples_seen (take (i + 1) list)) new
@@ -109,9 +106,6 @@ edges_are (u ∷ list) whole nodes h = ap₂ cons_option (ap (option_map (λ (to
 pub edges_more : (nodes : List (Node ℕ)) (list : List CodeTriple) (i : ℕ) (u : CodeTriple) → slice_get list i ≡ Some u
     → edges_by nodes (triples_seen (take (i + 1) list)) ≡ edges_by nodes (triples_seen (take i list)) ++ edges_by nodes (triple_seen u ∷ [])
 edges_more nodes list i u at = ap (edges_by nodes) (seen_more list i u at) ∙ filter_map-append (edge_by nodes) (triples_seen (take i list)) (triple_seen u ∷ [])
-
-pub references_start : (nodes : List (Node ℕ)) → AreReferenced (edges_by nodes []) []
-references_start nodes = record { each = λ t. refl }
 
 pub references_found : (nodes : List (Node ℕ)) (list : List CodeTriple) (i : ℕ) (u : CodeTriple) (copied : Node ℕ) (old new : List (Node ℕ)) → slice_get list i ≡ Some u
     → live_by nodes (triple_seen u) ≡ Some copied → new ≡ node_added old copied
@@ -208,9 +202,6 @@ none_more list i u at not_this none = ap (list_any copies) (seen_more list i u a
     last : (some : List (Triple ℕ)) → list_any copies some ≡ false → list_any copies (some ++ triple_seen u ∷ []) ≡ false
     last [] h = ap (λ b. b || false) not_this
     last (t ∷ some) h = ap₂ ◌||◌ (or_parts (copies t) (list_any copies some) h).0 (last some (or_parts (copies t) (list_any copies some) h).1)
-
-pub none_end : (list : List CodeTriple) (i : ℕ) → length list ≤ i → list_any copies (triples_seen (take i list)) ≡ false → list_any copies (triples_seen list) ≡ false
-none_end list i all h = subst (λ (z : List CodeTriple). list_any copies (triples_seen z) ≡ false) (take_all i list all) h
 
 not_live : (whole : List (Triple ℕ)) (u : Triple ℕ) → copies u ≡ false → live nat_eq whole u.predicate u.object ≡ None
 not_live whole u h = ap (λ b. if b then pattern_object nat_eq whole u.object else None) h

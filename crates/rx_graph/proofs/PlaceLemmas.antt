@@ -49,14 +49,6 @@ place_for test front (t ∷ list) u h p = go (test t) refl h (λ m. further (pla
     go false e (inl q) ih = absurd (true≢false (sym p ∙ sym (ap test q) ∙ e))
     go false e (inr m) ih = ih m
 
-same_some : {A : Type 0} (o : Option A) (a b : A) → o ≡ Some a → o ≡ Some b → a ≡ b
-same_some o a b h k = let both : Some a ≡ Some b = sym h ∙ k in cc
-
-pub triple_at : (list : List CodeTriple) (i : ℕ) (t : CodeTriple) → slice_get list i ≡ Some t → slice_get (triples_seen list) i ≡ Some (triple_seen t)
-triple_at [] i t h = cc
-triple_at (x ∷ list) zero t h = ap Some (ap triple_seen (same_some (Some x) x t refl h))
-triple_at (x ∷ list) (suc i) t h = triple_at list i t h
-
 -- ---- two tests that no triple passes both
 
 merge : (p q : Triple ℕ → Bool) → ((t : Triple ℕ) → p t ≡ true → q t ≡ true → ⊥) → (j : ℕ) (list : List (Triple ℕ)) → IsPermutation (places p j list ++ places q j list) (places (λ t. p t || q t) j list)
@@ -111,10 +103,6 @@ at_least n (x ∷ xs) = (n ≤ x) × at_least n xs
 abbrev Ascends : List ℕ → Type 0
 Ascends [] = Unit {0}
 Ascends (x ∷ xs) = at_least x xs × Ascends xs
-
-least_less : (m n : ℕ) (xs : List ℕ) → m ≤ n → at_least n xs → at_least m xs
-least_less m n [] l h = tt
-least_less m n (x ∷ xs) l h = (omega (arith, l, h.0), least_less m n xs l h.1)
 
 from_steps : (xs : List ℕ) → IsNonDecreasing xs → Ascends xs
 from_steps [] h = tt
@@ -252,19 +240,6 @@ given_turn list s places k i start old new at turn before =
 pub given_all : (list : List (Triple ℕ)) (s : Node ℕ) (places : List ℕ) (k : ℕ) (start new : List (Triple ℕ)) → length places ≤ k
     → new ≡ added_all start (filter_map (given_at list s) (take k places)) → new ≡ added_all start (filter_map (given_at list s) places)
 given_all list s places k start new past h = h ∙ ap (λ z. added_all start (filter_map (given_at list s) z)) (take_all k places past)
-
--- nothing is given beyond the list
-pub given_beyond : (list : List CodeTriple) (s : Node ℕ) (i : ℕ) → length list ≤ i → given_at (triples_seen list) s i ≡ None
-given_beyond list s i past = ap (given_from (triples_seen list) s) (nothing (triples_seen list) i (omega (arith, past, length-map list triple_seen)))
-  where
-    nothing : (xs : List (Triple ℕ)) (i : ℕ) → length xs ≤ i → slice_get xs i ≡ None
-    nothing [] zero h = refl
-    nothing [] (suc i) h = refl
-    nothing (x ∷ xs) zero h = absurd (omega (arith, h))
-    nothing (x ∷ xs) (suc i) h = nothing xs i (omega (arith, h))
-
-pub given_here : (list : List CodeTriple) (s : Node ℕ) (i : ℕ) (u : CodeTriple) → slice_get list i ≡ Some u → given_at (triples_seen list) s i ≡ given_one (triples_seen list) s (triple_seen u)
-given_here list s i u at = ap (given_from (triples_seen list) s) (triple_at list i u at)
 
 if_given : (list : List (Triple ℕ)) (s : Node ℕ) (test : Triple ℕ → Bool) → Triple ℕ → Option (Triple ℕ)
 if_given list s test u = if test u then given_one list s u else None

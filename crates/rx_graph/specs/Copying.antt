@@ -2,10 +2,10 @@
 use Rattle.std.specs.Prelude.{◌≡◌, ◌⊎◌, ◌<◌, ℕ, Bool, false, not, ◌&&◌, List, [], length, get_or, slice_get, Option, Some, None, option_map, is_none, nat_eq, if◌then◌else◌}
 use Rattle.rx_model.specs.Sets.{Among}
 use Rattle.rx_model.specs.Terms.{Node, Triple, same_node}
-use Rattle.rx_model.specs.Copied.{edges, leads, live, says_pattern}
+use Rattle.rx_model.specs.Copied.{edges, given, leads, says_pattern}
 use Rattle.rx_graph.specs.Resources.{number_in, live_by}
 use Rattle.rx_graph.specs.Rows.{pushed}
-use Rattle.rx_graph.specs.Patterns.{places, edges_by, given_one, ArePatterns, AreReferenced}
+use Rattle.rx_graph.specs.Patterns.{places, edges_by, given_one, is_given, ArePatterns, AreReferenced}
 use Rattle.rx_graph.specs.Ways.{mark_at, Step, Joined, AreNexts, LeadsToMark, AreLed}
 
 -- ---- which patterns copy which
@@ -60,11 +60,15 @@ pub record AreOwn (list : List (Triple ℕ)) (nodes : List (Node ℕ)) (roots : 
 
 -- whether a subject that copies t gets something by the triple
 abbrev pub gives : List (Triple ℕ) → Node ℕ → Triple ℕ → Bool
-gives list t u = leads (same_node nat_eq) (edges nat_eq list) t u.subject && (not (says_pattern nat_eq u.predicate u.object) && is_none (live nat_eq list u.predicate u.object))
+gives list t u = leads (same_node nat_eq) (edges nat_eq list) t u.subject && is_given list u
 
 -- the places of what is given by copying t
 abbrev pub contents : List (Triple ℕ) → Node ℕ → List ℕ
 contents list t = places (gives list t) 0 list
+
+-- what s gets by a triple, where it copies t
+abbrev pub given_by : List (Triple ℕ) → Node ℕ → Node ℕ → Triple ℕ → Option (Triple ℕ)
+given_by list s t u = given nat_eq list (edges nat_eq list) s t u
 
 -- what s gets by the triple at a place
 abbrev pub given_from : List (Triple ℕ) → Node ℕ → Option (Triple ℕ) → Option (Triple ℕ)
@@ -88,7 +92,8 @@ pub record IsIndex (list : List (Triple ℕ)) (nodes : List (Node ℕ)) (roots l
 
 -- the places are what is given by copying any node for which this stands
 pub record IsContent (nodes : List (Node ℕ)) (roots lead : List ℕ) (nexts own : List (List ℕ)) (from : ℕ) (found : List ℕ) : Type 0 where
-  pub each : (list : List (Triple ℕ)) (t : Node ℕ) (k : ℕ) → IsIndex list nodes roots lead nexts own → number_in nodes t ≡ Some k → mark_at lead (mark_at roots k) ≡ from → found ≡ contents list t
+  pub each : (list : List (Triple ℕ)) (t : Node ℕ) (k : ℕ) → IsIndex list nodes roots lead nexts own → number_in nodes t ≡ Some k
+      → mark_at lead (mark_at roots k) ≡ from → found ≡ contents list t
 
 -- each row is empty or what is given by copying what it stands for
 pub record AreContents (nodes : List (Node ℕ)) (roots lead : List ℕ) (nexts own : List (List ℕ)) (rows : List (List ℕ)) : Type 0 where

@@ -24,7 +24,11 @@ marks_after list (t ∷ more) = not (contains (same_triple nat_eq) list t) ∷ m
 abbrev pub first_marks : List (Triple ℕ) → List Bool
 first_marks list = marks_after [] list
 
+-- the blank nodes are 0, 1, 2 in order of first occurrence
+abbrev pub IsNumbered : List (Triple ℕ) → Type 0
+IsNumbered list = numbered nat_eq list ≡ list
+
 -- no two are alike; and the blank nodes are numbered, where that is said
 pub record IsGraph (list : List CodeTriple) (is_numbered : Bool) : Type 0 where
   pub each_once : distinct (same_triple nat_eq) (triples_seen list) ≡ triples_seen list
-  pub numbered_if : is_numbered ≡ true → numbered nat_eq (triples_seen list) ≡ triples_seen list
+  pub numbered_if : is_numbered ≡ true → IsNumbered (triples_seen list)

@@ -29,6 +29,10 @@ edges_by nodes list = filter_map (edge_by nodes) list
 pub record AreReferenced (pairs : List (Node ℕ × Node ℕ)) (nodes : List (Node ℕ)) : Type 0 where
   pub each : (t : Node ℕ) → contains (same_node nat_eq) nodes t ≡ is_referenced nat_eq pairs t
 
+-- whether a triple of a pattern is given to what copies the pattern
+abbrev pub is_given : List (Triple ℕ) → Triple ℕ → Bool
+is_given list u = not (says_pattern nat_eq u.predicate u.object) && is_none (live nat_eq list u.predicate u.object)
+
 -- what s gets by a triple of a pattern that it copies
 abbrev pub given_one : List (Triple ℕ) → Node ℕ → Triple ℕ → Option (Triple ℕ)
-given_one list s u = if not (says_pattern nat_eq u.predicate u.object) && is_none (live nat_eq list u.predicate u.object) then Some (spo s u.predicate u.object) else None
+given_one list s u = if is_given list u then Some (spo s u.predicate u.object) else None

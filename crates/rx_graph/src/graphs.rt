@@ -2,9 +2,8 @@
 ghost use Rattle.std.specs.Prelude.{◌≡◌, ◌<◌, [], ◌∷◌, ◌++◌, length, IfOk, OnOk, Some, slice_get, ◌==◌, map, nat_eq, true, if◌then◌else◌};
 ghost use Rattle.rx_model.specs.Sets.{distinct};
 ghost use Rattle.rx_model.specs.Terms.{same_triple};
-ghost use Rattle.rx_model.specs.Numbered.{numbered};
 ghost use Rattle.rx_model.specs.Seen.{triples_seen};
-ghost use Rattle.rx_graph.specs.Graph.{first_marks};
+ghost use Rattle.rx_graph.specs.Graph.{IsNumbered, first_marks};
 ghost use Rattle.rx_graph.specs.Keys.{key_of};
 
 use crate::firsts::first_marks;
@@ -58,7 +57,7 @@ impl Graph {
         is_numbered: bool,
     ) -> Result<Graph, NoMemory>
         requires keys { keys.now ≡ map key_of triples }
-        requires numbered { is_numbered ≡ true → numbered nat_eq (triples_seen triples) ≡ triples_seen triples }
+        requires numbered { is_numbered ≡ true → IsNumbered (triples_seen triples) }
         ensures { IfOk result (λ graph. triples_seen graph ≡ distinct (same_triple nat_eq) (triples_seen triples)) }
     {
         match first_marks(alloc, &triples, keys)? {
@@ -86,7 +85,7 @@ impl Graph {
 
     /// Whether it is known, and so without a walk, that the blank nodes are 0, 1, 2 in order of first occurrence.
     pub(crate) fn is_known_numbered(&self) -> bool
-        ensures { result ≡ true → numbered nat_eq (triples_seen self.now) ≡ triples_seen self.now }
+        ensures { result ≡ true → IsNumbered (triples_seen self.now) }
     {
         self.is_numbered
     }

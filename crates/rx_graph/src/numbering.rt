@@ -3,6 +3,7 @@ ghost use Rattle.std.specs.Prelude.{◌≡◌, [], true, IfOk, IfSome, MatchOpti
 ghost use Rattle.rx_model.specs.Terms.{set_of};
 ghost use Rattle.rx_model.specs.Numbered.{blank_of_node, blank_of_term, blanks_of, place_in, rename_node, rename_term, rename, numbered, Renamed};
 ghost use Rattle.rx_model.specs.Seen.{node_seen, term_seen, triple_seen, triples_seen};
+ghost use Rattle.rx_graph.specs.Graph.{IsNumbered};
 ghost use Rattle.rx_graph.specs.Numbering.{known_one, known, numbers_to};
 
 use crate::graphs::Graph;
@@ -37,7 +38,7 @@ pub fn relabel_owned(alloc: Global, graph: Graph) -> Result<Graph, NoMemory>
 
 /// Whether the blank nodes are 0, 1, 2 in order of first occurrence.
 fn is_numbered(graph: &Graph) -> bool
-    ensures { result ≡ true → numbered nat_eq (triples_seen graph.now) ≡ triples_seen graph.now }
+    ensures { result ≡ true → IsNumbered (triples_seen graph.now) }
 {
     if graph.is_known_numbered() {
         return true;

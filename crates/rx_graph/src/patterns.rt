@@ -1,11 +1,11 @@
 //! The patterns of a list of triples, and what they give.
 ghost use Rattle.std.specs.Prelude.{◌≡◌, true, filter_map, option_to_list, IfOk, OnOk, nat_eq};
-ghost use Rattle.rx_model.specs.Copied.{is_pattern, edges, given, treated};
+ghost use Rattle.rx_model.specs.Copied.{is_pattern, edges, treated};
 ghost use Rattle.rx_model.specs.Seen.{node_seen, triple_seen, triples_seen};
 ghost use Rattle.rx_graph.specs.Graph.{added_all};
 ghost use Rattle.rx_graph.specs.Resources.{resource_seen};
 ghost use Rattle.rx_graph.specs.Patterns.{ArePatterns, AreReferenced, edges_by, given_one};
-ghost use Rattle.rx_graph.specs.Copying.{given_at};
+ghost use Rattle.rx_graph.specs.Copying.{given_at, given_by};
 
 use crate::gathering::Gathering;
 use crate::index::Index;
@@ -85,7 +85,7 @@ impl<'a> Patterns<'a> {
     ) -> Result<(), NoMemory>
         requires { is_pattern nat_eq (triples_seen self.now) (resource_seen pattern) ≡ true }
         ensures { OnOk result (triples_seen gathering.new ≡ added_all (triples_seen gathering.old)
-            (filter_map (given nat_eq (triples_seen self.now) (edges nat_eq (triples_seen self.now)) (node_seen subject.now) (resource_seen pattern.entry)) (triples_seen self.now))) }
+            (filter_map (given_by (triples_seen self.now) (node_seen subject.now) (resource_seen pattern.entry)) (triples_seen self.now))) }
     {
         let Some(from) = self.index.lead_of(pattern) else {
             return Ok(());

@@ -1,8 +1,8 @@
 //! What one walk through a list tells.
-ghost use Rattle.std.specs.Prelude.{◌≡◌, map, true, false, IfOk, IfSome, nat_eq};
+ghost use Rattle.std.specs.Prelude.{◌≡◌, map, true, false, IfOk, IfSome};
 ghost use Rattle.std.specs.List.{list_any};
-ghost use Rattle.rx_model.specs.Numbered.{numbered};
 ghost use Rattle.rx_model.specs.Seen.{triples_seen};
+ghost use Rattle.rx_graph.specs.Graph.{IsNumbered};
 ghost use Rattle.rx_graph.specs.Keys.{key_of};
 ghost use Rattle.rx_graph.specs.Patterns.{copies};
 
@@ -27,7 +27,7 @@ pub(crate) struct Walked {
 pub(crate) fn walk(alloc: Global, triples: &TripleList) -> Result<Option<Walked>, NoMemory>
     ensures keys { IfOk result (λ found. IfSome found (λ walked. walked.keys.items ≡ map key_of triples.now)) }
     ensures none { IfOk result (λ found. IfSome found (λ walked. list_any copies (triples_seen triples.now) ≡ false)) }
-    ensures numbered { IfOk result (λ found. IfSome found (λ walked. walked.is_numbered ≡ true → numbered nat_eq (triples_seen triples.now) ≡ triples_seen triples.now)) }
+    ensures numbered { IfOk result (λ found. IfSome found (λ walked. walked.is_numbered ≡ true → IsNumbered (triples_seen triples.now))) }
 {
     let mut keys = Vec::with_capacity(alloc, triples.len())?;
     let mut next = Some(0);

@@ -330,26 +330,6 @@ module _ (kind : By) where
 
   -- ---- those that are like the first one
 
-  pub like_none : (before from : List (Triple ℕ)) (t : Triple ℕ) (key : Node ℕ) → slice_get from 0 ≡ Some t → key ≡ key_by kind t → contains (same_node nat_eq) (map (key_by kind) before) key ≡ true → like_first kind before from ≡ []
-  like_none before [] t key at is there = absurd (cc)
-  like_none before (x ∷ from) t key at is there =
-      let same : x ≡ t = cc in
-      let test : contains (same_node nat_eq) (map (key_by kind) before) (key_by kind x) ≡ true = ap (λ z. contains (same_node nat_eq) (map (key_by kind) before) (key_by kind z)) same ∙ ap (contains (same_node nat_eq) (map (key_by kind) before)) (sym is) ∙ there in
-      ap (λ b. if b then [] else filter (has_key kind (key_by kind x)) (x ∷ from)) test
-
-  pub like_all : (before from : List (Triple ℕ)) (t : Triple ℕ) (key : Node ℕ) → slice_get from 0 ≡ Some t → key ≡ key_by kind t → contains (same_node nat_eq) (map (key_by kind) before) key ≡ false
-      → filter (has_key kind key) from ≡ like_first kind before from
-  like_all before [] t key at is there = absurd (cc)
-  like_all before (x ∷ from) t key at is there =
-      let same : x ≡ t = cc in
-      let key_is : key ≡ key_by kind x = is ∙ ap (key_by kind) (sym same) in
-      let test : contains (same_node nat_eq) (map (key_by kind) before) (key_by kind x) ≡ false = ap (contains (same_node nat_eq) (map (key_by kind) before)) (sym key_is) ∙ there in
-      ap (λ k. filter (has_key kind k) (x ∷ from)) key_is ∙ sym (ap (λ b. if b then [] else filter (has_key kind (key_by kind x)) (x ∷ from)) test)
-
-  pub nothing_like : (before from : List (Triple ℕ)) → length from ≡ 0 → like_first kind before from ≡ []
-  nothing_like before [] none = refl
-  nothing_like before (t ∷ from) none = absurd (omega (arith, none))
-
   -- ---- those that have a key
 
   pub kept_turn : (key : Node ℕ) (list : List (Triple ℕ)) (i : ℕ) (t : Triple ℕ) (start old new : List (Triple ℕ)) → slice_get list i ≡ Some t → new ≡ old ++ (if has_key kind key t then t ∷ [] else [])
@@ -410,9 +390,6 @@ first_starts kind [] t key at is = absurd (cc)
 first_starts kind (x ∷ list) t key at is =
     let same : x ≡ t = cc in
     ap (λ z. same_node nat_eq (key_by kind (lent_seen z)) key) same ∙ ap (same_node nat_eq (key_by kind (lent_seen t))) is ∙ same_self (key_by kind (lent_seen t))
-
-pub fewer_behind : {A : Type 0} (list rest : List A) (n : ℕ) → 0 < n → 0 < length list → rest ≡ drop n list → length rest < length list
-fewer_behind list rest n some there behind = let size : length rest ≡ length list - n = ap length behind ∙ length-drop n list in omega (arith, some, there, size)
 
 pub some_there : {A : Type 0} (list : List A) (none : Bool) → none ≡ (length list == 0) → none ≡ false → 0 < length list
 some_there list none is not_none = let test : (length list == 0) ≡ false = sym is ∙ not_none in grind (arith, nat_tests, test)

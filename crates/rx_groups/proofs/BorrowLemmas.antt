@@ -12,6 +12,3 @@ pushed_seen f old new a before after grows was is = ap (map f) grows ∙ map-app
 pub borrowed_turn : (graph : List CodeTriple) (i : ℕ) (t : Bor CodeTriple) (old new : List (Bor CodeTriple)) → slice_get graph i ≡ Some t.now → new ≡ old ++ t ∷ []
     → map lent_seen old ≡ triples_seen (take i graph) → map lent_seen new ≡ triples_seen (take (i + 1) graph)
 borrowed_turn graph i t old new at grows was = pushed_seen lent_seen old new t (triples_seen (take i graph)) (triples_seen (take (i + 1) graph)) grows was (sym (seen_more graph i t.now at))
-
-pub borrowed_end : (graph : List CodeTriple) (i : ℕ) (list : List (Bor CodeTriple)) → length graph ≤ i → map lent_seen list ≡ triples_seen (take i graph) → map lent_seen list ≡ triples_seen graph
-borrowed_end graph i list past h = h ∙ ap triples_seen (take_all i graph past)

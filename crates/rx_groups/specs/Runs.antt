@@ -13,7 +13,9 @@ all_in groups = flat_map (λ (group : Keyed). group.1) groups
 -- the triple before the first group, where both have one key; else in a group of its own
 abbrev pub put_before : By → Triple ℕ → List Keyed → List Keyed
 put_before kind t [] = (key_by kind t, t ∷ []) ∷ []
-put_before kind t (group ∷ groups) = if has_key kind group.0 t then (key_by kind t, t ∷ group.1) ∷ groups else (key_by kind t, t ∷ []) ∷ group ∷ groups
+put_before kind t (group ∷ groups) =
+    if has_key kind group.0 t then (key_by kind t, t ∷ group.1) ∷ groups
+    else (key_by kind t, t ∷ []) ∷ group ∷ groups
 
 -- the list, cut where the key changes
 abbrev pub runs : By → List (Triple ℕ) → List Keyed
@@ -28,7 +30,9 @@ starts kind key (t ∷ list) = has_key kind key t
 -- the triples from here on that have the key of the first of them, where none before it has that key
 abbrev pub like_first : By → List (Triple ℕ) → List (Triple ℕ) → List (Triple ℕ)
 like_first kind before [] = []
-like_first kind before (t ∷ more) = if contains (same_node nat_eq) (map (key_by kind) before) (key_by kind t) then [] else filter (has_key kind (key_by kind t)) (t ∷ more)
+like_first kind before (t ∷ more) =
+    if contains (same_node nat_eq) (map (key_by kind) before) (key_by kind t) then []
+    else filter (has_key kind (key_by kind t)) (t ∷ more)
 
 -- a subject, and what is said of it by predicate
 abbrev pub Said : Type 0

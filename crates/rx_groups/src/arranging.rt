@@ -1,11 +1,11 @@
 //! Triples in the order in which they are written.
-ghost use Rattle.std.specs.Prelude.{◌≡◌, ◌<◌, ◌++◌, length, map, flat_map, filter, nat_eq, IfOk, OnOk, take, drop, if◌then◌else◌, [], ◌∷◌};
+ghost use Rattle.std.specs.Prelude.{◌≡◌, ◌<◌, ◌++◌, length, map, flat_map, nat_eq, IfOk, OnOk, take, drop, [], ◌∷◌};
 ghost use Rattle.rx_model.specs.Sets.{contains};
 ghost use Rattle.rx_model.specs.Terms.{same_node};
 ghost use Rattle.rx_model.specs.Seen.{triple_seen, triples_seen};
 ghost use Rattle.rx_graph.specs.Resources.{resource_seen};
 ghost use Rattle.rx_groups.specs.declared.keys.By.TheVariants as by;
-ghost use Rattle.rx_groups.specs.Groups.{key_by, has_key, grouped};
+ghost use Rattle.rx_groups.specs.Groups.{key_by, grouped, lent_triples, those_with, Gains};
 ghost use Rattle.rx_groups.specs.Runs.{all_in, runs, like_first, said_by, said_in, by_predicate};
 
 use crate::groups::Groups;
@@ -21,7 +21,7 @@ const FEW: usize = 8;
 /// The graph's triples, with those of one subject side by side, and of these those of one predicate. Subjects come in order
 /// of first occurrence, and so do the predicates of each, and the triples of these.
 pub fn arranged<'a>(alloc: Global, graph: &'a Graph) -> Result<Vec<&'a Triple>, NoMemory>
-    ensures { IfOk result (λ list. map said_in (runs by.Subject (map (λ t. triple_seen t.now) list.items)) ≡ map said_by (grouped by.Subject (triples_seen graph.now))) }
+    ensures { IfOk result (λ list. map said_in (runs by.Subject (lent_triples list.items)) ≡ map said_by (grouped by.Subject (triples_seen graph.now))) }
 {
     let triples = borrowed(alloc, graph)?;
     let subjects = Groups::of(alloc, &triples, By::Subject)?;
@@ -32,7 +32,7 @@ pub fn arranged<'a>(alloc: Global, graph: &'a Graph) -> Result<Vec<&'a Triple>, 
 /// The triples, with those of one predicate side by side. Predicates come in order of first occurrence, and so do the
 /// triples of each.
 pub fn by_predicate<'a>(alloc: Global, triples: &[&'a Triple]) -> Result<Vec<&'a Triple>, NoMemory>
-    ensures { IfOk result (λ list. runs by.Predicate (map (λ t. triple_seen t.now) list.items) ≡ grouped by.Predicate (map (λ t. triple_seen t.now) triples.now)) }
+    ensures { IfOk result (λ list. runs by.Predicate (lent_triples list.items) ≡ grouped by.Predicate (lent_triples triples.now)) }
 {
     let mut list = Vec::with_capacity(alloc, triples.len())?;
     push_arranged(alloc, &mut list, triples)?;
@@ -45,7 +45,7 @@ fn arrange<'a>(
     subjects: &Groups<'a>,
     size: usize,
 ) -> Result<Vec<&'a Triple>, NoMemory>
-    ensures { IfOk result (λ list. map (λ t. triple_seen t.now) list.items ≡ flat_map by_predicate subjects.now) }
+    ensures { IfOk result (λ list. lent_triples list.items ≡ flat_map by_predicate subjects.now) }
 {
     let mut list = Vec::with_capacity(alloc, size)?;
     for i in 0..subjects.len() {
@@ -61,7 +61,7 @@ fn push_arranged<'a>(
     list: &mut Vec<&'a Triple>,
     triples: &[&'a Triple],
 ) -> Result<(), NoMemory>
-    ensures { OnOk result (map (λ t. triple_seen t.now) list.new.items ≡ map (λ t. triple_seen t.now) list.old.items ++ all_in (grouped by.Predicate (map (λ t. triple_seen t.now) triples.now))) }
+    ensures { OnOk result (Gains list.old.items list.new.items (all_in (grouped by.Predicate (lent_triples triples.now)))) }
 {
     if triples.len() <= FEW {
         return push_few(list, triples);
@@ -73,7 +73,7 @@ fn push_arranged<'a>(
 
 /// The same without an index. The time is that of the square of their number.
 fn push_few<'a>(list: &mut Vec<&'a Triple>, triples: &[&'a Triple]) -> Result<(), NoMemory>
-    ensures { OnOk result (map (λ t. triple_seen t.now) list.new.items ≡ map (λ t. triple_seen t.now) list.old.items ++ all_in (grouped by.Predicate (map (λ t. triple_seen t.now) triples.now))) }
+    ensures { OnOk result (Gains list.old.items list.new.items (all_in (grouped by.Predicate (lent_triples triples.now)))) }
 {
     for i in 0..triples.len() {
         let (before, from) = triples.split_at(i);
@@ -88,7 +88,7 @@ fn push_like_first<'a>(
     before: &[&'a Triple],
     from: &[&'a Triple],
 ) -> Result<(), NoMemory>
-    ensures { OnOk result (map (λ t. triple_seen t.now) list.new.items ≡ map (λ t. triple_seen t.now) list.old.items ++ like_first by.Predicate (map (λ t. triple_seen t.now) before.now) (map (λ t. triple_seen t.now) from.now)) }
+    ensures { OnOk result (Gains list.old.items list.new.items (like_first by.Predicate (lent_triples before.now) (lent_triples from.now))) }
 {
     if from.is_empty() {
         return Ok(());
@@ -102,7 +102,7 @@ fn push_like_first<'a>(
 
 /// Whether one of the triples has this predicate.
 fn occurs(triples: &[&Triple], key: Resource) -> bool
-    ensures { result ≡ contains (same_node nat_eq) (map (key_by by.Predicate) (map (λ t. triple_seen t.now) triples.now)) (resource_seen key.entry) }
+    ensures { result ≡ contains (same_node nat_eq) (map (key_by by.Predicate) (lent_triples triples.now)) (resource_seen key.entry) }
 {
     for i in 0..triples.len() {
         if has_key(triples[i], By::Predicate, key) {
@@ -118,7 +118,7 @@ fn push_those_with<'a>(
     triples: &[&'a Triple],
     key: Resource,
 ) -> Result<(), NoMemory>
-    ensures { OnOk result (map (λ t. triple_seen t.now) list.new.items ≡ map (λ t. triple_seen t.now) list.old.items ++ filter (has_key by.Predicate (resource_seen key.entry)) (map (λ t. triple_seen t.now) triples.now)) }
+    ensures { OnOk result (Gains list.old.items list.new.items (those_with by.Predicate (resource_seen key.entry) (lent_triples triples.now))) }
 {
     for i in 0..triples.len() {
         push_if(list, triples[i], key)?;
@@ -131,7 +131,7 @@ fn push_if<'a>(
     triple: &'a Triple,
     key: Resource,
 ) -> Result<(), NoMemory>
-    ensures { OnOk result (map (λ t. triple_seen t.now) list.new.items ≡ map (λ t. triple_seen t.now) list.old.items ++ (if has_key by.Predicate (resource_seen key.entry) (triple_seen triple.now) then triple_seen triple.now ∷ [] else [])) }
+    ensures { OnOk result (Gains list.old.items list.new.items (those_with by.Predicate (resource_seen key.entry) (triple_seen triple.now ∷ []))) }
 {
     if !has_key(triple, By::Predicate, key) {
         return Ok(());
@@ -144,7 +144,7 @@ fn push_if<'a>(
 
 /// Adds the triples of each group.
 fn push_groups<'a>(list: &mut Vec<&'a Triple>, groups: &Groups<'a>) -> Result<(), NoMemory>
-    ensures { OnOk result (map (λ t. triple_seen t.now) list.new.items ≡ map (λ t. triple_seen t.now) list.old.items ++ all_in groups.now) }
+    ensures { OnOk result (Gains list.old.items list.new.items (all_in groups.now)) }
 {
     for i in 0..groups.len() {
         let (_key, triples) = groups.at(i);
@@ -154,7 +154,7 @@ fn push_groups<'a>(list: &mut Vec<&'a Triple>, groups: &Groups<'a>) -> Result<()
 }
 
 fn push_all<'a>(list: &mut Vec<&'a Triple>, triples: &[&'a Triple]) -> Result<(), NoMemory>
-    ensures { OnOk result (map (λ t. triple_seen t.now) list.new.items ≡ map (λ t. triple_seen t.now) list.old.items ++ map (λ t. triple_seen t.now) triples.now) }
+    ensures { OnOk result (Gains list.old.items list.new.items (lent_triples triples.now)) }
 {
     for i in 0..triples.len() {
         let Ok(()) = list.push(triples[i]) else {

@@ -1,9 +1,9 @@
 //! Triples that stand side by side, cut where their key changes.
-ghost use Rattle.std.specs.Prelude.{◌≡◌, ◌∷◌, [], ◌<◌, ◌≤◌, true, false, length, map, take, drop, MatchOption};
+ghost use Rattle.std.specs.Prelude.{◌≡◌, [], ◌<◌, ◌≤◌, true, false, length, take, drop, MatchOption};
 ghost use Rattle.std.specs.List.{list_all};
-ghost use Rattle.rx_model.specs.Seen.{triple_seen};
 ghost use Rattle.rx_graph.specs.Resources.{resource_seen};
-ghost use Rattle.rx_groups.specs.Groups.{has_key};
+ghost use Rattle.rx_groups.specs.Groups.{has_key, lent_triples};
+ghost use Rattle.rx_groups.specs.Cuts.{IsFirstRun};
 ghost use Rattle.rx_groups.specs.Runs.{runs, starts};
 
 use crate::keys::{By, has_key, key_of};
@@ -23,7 +23,7 @@ pub struct Run<'s, 'a> {
 
 /// The first of the triples, as far as they have one key.
 pub fn cut<'s, 'a>(triples: &'s [&'a Triple], by: By) -> Option<Run<'s, 'a>>
-    ensures runs { MatchOption result (runs by (map (λ t. triple_seen t.now) triples.now) ≡ []) (λ run. runs by (map (λ t. triple_seen t.now) triples.now) ≡ (resource_seen run.key, map (λ t. triple_seen t.now) run.triples.now) ∷ runs by (map (λ t. triple_seen t.now) run.rest.now)) }
+    ensures runs { MatchOption result (runs by (lent_triples triples.now) ≡ []) (IsFirstRun by (lent_triples triples.now)) }
     ensures fewer { MatchOption result (triples.now ≡ []) (λ run. length run.rest.now < length triples.now) }
 {
     if triples.is_empty() {
@@ -40,11 +40,11 @@ pub fn cut<'s, 'a>(triples: &'s [&'a Triple], by: By) -> Option<Run<'s, 'a>>
 
 /// How many of the first triples have this key. The first one has it.
 fn end_of_run(triples: &[&Triple], by: By, key: Resource) -> usize
-    requires { starts by (resource_seen key) (map (λ t. triple_seen t.now) triples.now) ≡ true }
+    requires { starts by (resource_seen key) (lent_triples triples.now) ≡ true }
     ensures some { 0 < result }
     ensures within { result ≤ length triples.now }
-    ensures have { list_all (has_key by (resource_seen key.entry)) (map (λ t. triple_seen t.now) (take result triples.now)) ≡ true }
-    ensures ends { starts by (resource_seen key.entry) (map (λ t. triple_seen t.now) (drop result triples.now)) ≡ false }
+    ensures have { list_all (has_key by (resource_seen key.entry)) (lent_triples (take result triples.now)) ≡ true }
+    ensures ends { starts by (resource_seen key.entry) (lent_triples (drop result triples.now)) ≡ false }
 {
     for i in 1..triples.len() {
         if !has_key(triples[i], by, key) {

@@ -3,7 +3,7 @@ ghost use Rattle.std.specs.Prelude.{◌≡◌, ◌<◌, [], ◌∷◌, ◌++◌,
 ghost use Rattle.rx_model.specs.Terms.{same_node};
 ghost use Rattle.rx_model.specs.Seen.{triple_seen};
 ghost use Rattle.rx_graph.specs.Resources.{resource_seen, node_added, number_in, AreDistinct};
-ghost use Rattle.rx_groups.specs.Groups.{Keyed, keys_in, grouped, put_in, taken_in};
+ghost use Rattle.rx_groups.specs.Groups.{Keyed, keys_in, grouped, put_in, taken_in, lent_triples};
 
 use crate::hints::Hints;
 use crate::keys::{By, are_same, key_of};
@@ -37,7 +37,7 @@ impl<'a> Model for Groups<'a> {
 impl<'a> Groups<'a> {
     /// The groups of the triples. The time is that of their number.
     pub fn of(alloc: Global, triples: &[&'a Triple], by: By) -> Result<Groups<'a>, NoMemory>
-        ensures { IfOk result (λ groups. groups ≡ grouped by (map (λ t. triple_seen t.now) triples.now)) }
+        ensures { IfOk result (λ groups. groups ≡ grouped by (lent_triples triples.now)) }
     {
         let mut groups = Groups::none(alloc);
         let mut keys = Nodes::new(alloc);
@@ -171,7 +171,7 @@ impl<'a> Groups<'a> {
     /// The key of a group, and its triples.
     pub fn at(&self, place: usize) -> (Resource<'a>, &[&'a Triple])
         requires { place < length self.now }
-        ensures { slice_get self.now place ≡ Some (resource_seen result.0, map (λ t. triple_seen t.now) result.1.now) }
+        ensures { slice_get self.now place ≡ Some (resource_seen result.0, lent_triples result.1.now) }
     {
         let group = &self.groups[place];
         (group.key, group.triples.as_slice())

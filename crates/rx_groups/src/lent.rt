@@ -1,6 +1,7 @@
 //! The triples of a graph, lent.
-ghost use Rattle.std.specs.Prelude.{◌≡◌, map, IfOk};
-ghost use Rattle.rx_model.specs.Seen.{triple_seen, triples_seen};
+ghost use Rattle.std.specs.Prelude.{◌≡◌, IfOk};
+ghost use Rattle.rx_model.specs.Seen.{triples_seen};
+ghost use Rattle.rx_groups.specs.Groups.{lent_triples};
 
 use rx_graph::Graph;
 use rx_terms::{NoMemory, Triple};
@@ -8,7 +9,7 @@ use std::alloc::Global;
 
 /// The graph's triples.
 pub fn borrowed<'a>(alloc: Global, graph: &'a Graph) -> Result<Vec<&'a Triple>, NoMemory>
-    ensures { IfOk result (λ triples. map (λ t. triple_seen t.now) triples.items ≡ triples_seen graph.now) }
+    ensures { IfOk result (λ triples. lent_triples triples.items ≡ triples_seen graph.now) }
 {
     let mut triples = Vec::with_capacity(alloc, graph.len())?;
     for i in 0..graph.len() {

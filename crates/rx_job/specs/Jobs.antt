@@ -1,6 +1,7 @@
 -- Jobs, as contracts see them.
-use Rattle.std.specs.Prelude.{◌≡◌, Bool, true, false, List, [], Option, Some, None, option_map}
+use Rattle.std.specs.Prelude.{◌≡◌, Bool, true, false, List, [], ◌∷◌, ◌++◌, Option, Some, None, option_map, Result, MatchResult}
 use Rattle.rx_terms.specs.Text.{Chars}
+use Rattle.rx_terms.specs.Iri.{is_iri}
 use Rattle.rx_chars.specs.declared.syntax.Syntax.TheVariants.{Html}
 use Rattle.rx_job.specs.Words.{Arguments, Asked, Gathering, Given, Job, Listed, reads, gathers, samples, extracts, itemizes, checks, behind, given_by, is_graph, is_listed, leading, listed}
 use Rattle.rx_job.specs.declared.arguments.Arguments.{Arguments as Lent}
@@ -69,6 +70,23 @@ abbrev pub FailsJob : Option Job → JobError → Type 0
 FailsJob asked error.Usage = asked ≡ None
 FailsJob asked error.NoMemory = Unit {0}
 
+-- it is the job for which the words ask, or tells why there is none
+abbrev pub IsJob : Option Job → Result CodeJob JobError → Type 0
+IsJob asked result = MatchResult result (λ found. asked ≡ Some (asked_by found)) (FailsJob asked)
+
+-- the text is an IRI, and this is it
+abbrev pub IsIriOf : Chars → Chars → Type 0
+IsIriOf text iri = (is_iri text ≡ true) × (iri ≡ text)
+
+-- the text is no IRI, or want of memory
+abbrev pub FailsIri : Chars → JobError → Type 0
+FailsIri text error.Usage = is_iri text ≡ false
+FailsIri text error.NoMemory = Unit {0}
+
+-- it is the name that is asked for, and the format can say it
+abbrev pub IsGraphName : Format → Option Chars → Option Chars → Type 0
+IsGraphName format name graph = (is_graph format name ≡ true) × (graph ≡ name)
+
 -- the format can't say the name, or it is no IRI, or want of memory
 abbrev pub FailsGraph : Format → Option Chars → JobError → Type 0
 FailsGraph format name error.Usage = is_graph format name ≡ false
@@ -79,6 +97,13 @@ abbrev pub FailsPages : List Chars → JobError → Type 0
 FailsPages words error.Usage = listed words ≡ None
 FailsPages words error.NoMemory = Unit {0}
 
+abbrev pub page_at : Chars → Chars → Listed
+page_at address page = record { address = address; page = page }
+
+-- the page can be listed, and stands at the end now
+abbrev pub AddsListed : Listed → List Listed → List Listed → Type 0
+AddsListed page old new = (is_listed page ≡ true) × (new ≡ old ++ page ∷ [])
+
 -- the page isn't one that can be listed, or want of memory
 abbrev pub FailsPage : Listed → JobError → Type 0
 FailsPage page error.Usage = is_listed page ≡ false
@@ -87,7 +112,13 @@ FailsPage page error.NoMemory = Unit {0}
 -- the options that are lent
 abbrev pub options_seen : Options → Given
 options_seen options =
-    record { syntax = text_in options.syntax; format = text_in options.format; graph = text_in options.graph; context = text_in options.context; base = text_in options.base }
+    record {
+      syntax = text_in options.syntax;
+      format = text_in options.format;
+      graph = text_in options.graph;
+      context = text_in options.context;
+      base = text_in options.base;
+    }
 
 -- these options stand at the front of the words, and these words behind them
 pub record Leads (words : List Chars) (front : Front) : Type 0 where

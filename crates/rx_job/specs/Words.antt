@@ -117,8 +117,12 @@ at_most_one [] = Some None
 at_most_one (value ∷ []) = Some (Some value)
 at_most_one (value ∷ second ∷ values) = None
 
+-- what is found of an option: its value, where it is given; no answer where it is given twice
+abbrev pub Found : Type 0
+Found = Option (Option Chars)
+
 -- all of these, where each has an answer
-abbrev pub all_given : Option (Option Chars) → Option (Option Chars) → Option (Option Chars) → Option (Option Chars) → Option (Option Chars) → Option Given
+abbrev pub all_given : Found → Found → Found → Found → Found → Option Given
 all_given (Some syntax) (Some format) (Some graph) (Some context) (Some base) =
     Some (record { syntax = syntax; format = format; graph = graph; context = context; base = base })
 all_given syntax format graph context base = None
@@ -126,8 +130,8 @@ all_given syntax format graph context base = None
 -- what the options give; no answer where one is given twice
 abbrev pub given_by : List (Chars × Chars) → Option Given
 given_by options =
-    all_given (at_most_one (values syntax_word options)) (at_most_one (values format_word options)) (at_most_one (values graph_word options)) (at_most_one (values context_word options))
-    (at_most_one (values base_word options))
+    let found : Chars → Found = λ word. at_most_one (values word options) in
+    all_given (found syntax_word) (found format_word) (found graph_word) (found context_word) (found base_word)
 
 -- options, and one word more
 pub record Arguments : Type 0 where
@@ -181,7 +185,11 @@ is_graph format (Some name) = names_graphs format && is_iri name
 abbrev pub extraction_with : Option Syntax → Option Format → Option Chars → Arguments → Option Asked
 extraction_with (Some syntax) (Some format) (Some address) words =
     if is_graph format words.options.graph && (is_iri address && are_names words.options.context words.last)
-    then Some (record { task = extracts (record { syntax = syntax; format = format; graph = words.options.graph; address = address }); context = words.options.context; page = words.last })
+    then Some (record {
+      task = extracts (record { syntax = syntax; format = format; graph = words.options.graph; address = address });
+      context = words.options.context;
+      page = words.last;
+    })
     else None
 extraction_with syntax format base words = None
 
@@ -191,7 +199,9 @@ extraction words = extraction_with (syntax_of words.options.syntax) (format_of w
 -- `[--syntax html|xhtml] --base IRI PAGE`
 abbrev pub itemization_with : Option Syntax → Option Chars → Option Chars → Option Chars → Option Chars → Arguments → Option Asked
 itemization_with (Some syntax) None None None (Some address) words =
-    if is_iri address && is_page_name words.last then Some (record { task = itemizes (record { syntax = syntax; address = address }); context = None; page = words.last }) else None
+    if is_iri address && is_page_name words.last
+    then Some (record { task = itemizes (record { syntax = syntax; address = address }); context = None; page = words.last })
+    else None
 itemization_with syntax format graph context base words = None
 
 abbrev pub itemization : Arguments → Option Asked

@@ -1,4 +1,5 @@
 //! Why words are no job.
+use rx_terms::NoMemory;
 use thiserror::Error;
 
 /// Why the words are no job.
@@ -10,4 +11,15 @@ pub enum JobError {
     /// There was no memory.
     #[error("there was no memory")]
     NoMemory,
+}
+
+impl From<NoMemory> for JobError {
+    ghost use Rattle.std.specs.Prelude.{◌≡◌};
+    ghost use Rattle.rx_job.specs.declared.errors.JobError.{JobError};
+
+    ghost from_gives = { λ _ error. error ≡ JobError.NoMemory };
+
+    fn from(_error: NoMemory) -> JobError {
+        JobError::NoMemory
+    }
 }

@@ -1,17 +1,17 @@
 //! What the words of the command line ask for.
-ghost use Rattle.std.specs.Prelude.{◌≡◌, MatchResult, Some, option_map};
+ghost use Rattle.std.specs.Prelude.{◌≡◌, option_map};
 ghost use Rattle.rx_job.specs.Words.{job, reads, gathers, extraction, itemization, checking, sampling, several};
-ghost use Rattle.rx_job.specs.Jobs.{asked_by, page_by, given_seen, text_in, FailsJob};
+ghost use Rattle.rx_job.specs.Jobs.{page_by, given_seen, text_in, IsJob};
 
 use crate::arguments::{Arguments, arguments_of, front_of};
 use crate::errors::JobError;
 use crate::formats::{Format, format_of};
 use crate::listing::{are_few, pages_of};
 use crate::pages::Pages;
-use crate::values::{copied, graph_of, syntax_of};
+use crate::values::{copied, graph_of, iri_of, syntax_of};
 use crate::words::{are_names, count_of, is_file_if_any, is_page_name, is_word};
 use rx_chars::Syntax;
-use rx_terms::{Iri, IriError, Text};
+use rx_terms::{Iri, Text};
 use std::alloc::Global;
 
 /// What is asked for.
@@ -56,7 +56,7 @@ impl Job {
     /// The job that the words ask for, which are those after the program's name. Usage comes exactly where they ask
     /// for nothing.
     pub fn of(alloc: Global, words: &[Text]) -> Result<Job, JobError>
-        ensures { MatchResult result (λ found. job words.now ≡ Some (asked_by found)) (FailsJob (job words.now)) }
+        ensures { IsJob (job words.now) result }
     {
         let Some((task, behind)) = words.split_first() else {
             return Err(JobError::Usage);
@@ -83,7 +83,7 @@ impl Job {
     }
 
     fn extraction(alloc: Global, given: Arguments<'_>) -> Result<Job, JobError>
-        ensures { MatchResult result (λ found. option_map reads (extraction (given_seen given.entry)) ≡ Some (asked_by found)) (FailsJob (option_map reads (extraction (given_seen given.entry)))) }
+        ensures { IsJob (option_map reads (extraction (given_seen given.entry))) result }
     {
         let options = given.options;
         let Some(syntax) = syntax_of(options.syntax) else {
@@ -99,32 +99,27 @@ impl Job {
             Ok(graph) => graph,
             Err(error) => return Err(error),
         };
-        let address = match Iri::of(alloc, address.as_str()) {
+        let address = match iri_of(alloc, address) {
             Ok(address) => address,
-            Err(IriError::NoMemory) => return Err(JobError::NoMemory),
-            Err(_) => return Err(JobError::Usage),
+            Err(error) => return Err(error),
         };
         if !are_names(options.context, given.last) {
             return Err(JobError::Usage);
         }
-        let Ok(context) = copied(options.context) else {
-            return Err(JobError::NoMemory);
-        };
-        match given.last.try_clone() {
-            Ok(page) => Ok(Job::Extract {
-                syntax,
-                format,
-                graph,
-                context,
-                address,
-                page,
-            }),
-            Err(_) => Err(JobError::NoMemory),
-        }
+        let context = copied(options.context)?;
+        let page = given.last.try_clone()?;
+        Ok(Job::Extract {
+            syntax,
+            format,
+            graph,
+            context,
+            address,
+            page,
+        })
     }
 
     fn itemization(alloc: Global, given: Arguments<'_>) -> Result<Job, JobError>
-        ensures { MatchResult result (λ found. option_map reads (itemization (given_seen given.entry)) ≡ Some (asked_by found)) (FailsJob (option_map reads (itemization (given_seen given.entry)))) }
+        ensures { IsJob (option_map reads (itemization (given_seen given.entry))) result }
     {
         let options = given.options;
         let Some(syntax) = syntax_of(options.syntax) else {
@@ -142,26 +137,23 @@ impl Job {
         let Some(address) = options.base else {
             return Err(JobError::Usage);
         };
-        let address = match Iri::of(alloc, address.as_str()) {
+        let address = match iri_of(alloc, address) {
             Ok(address) => address,
-            Err(IriError::NoMemory) => return Err(JobError::NoMemory),
-            Err(_) => return Err(JobError::Usage),
+            Err(error) => return Err(error),
         };
         if !is_page_name(given.last.as_str()) {
             return Err(JobError::Usage);
         }
-        match given.last.try_clone() {
-            Ok(page) => Ok(Job::Items {
-                syntax,
-                address,
-                page,
-            }),
-            Err(_) => Err(JobError::NoMemory),
-        }
+        let page = given.last.try_clone()?;
+        Ok(Job::Items {
+            syntax,
+            address,
+            page,
+        })
     }
 
     fn checking(alloc: Global, given: Arguments<'_>) -> Result<Job, JobError>
-        ensures { MatchResult result (λ found. option_map reads (checking (given_seen given.entry)) ≡ Some (asked_by found)) (FailsJob (option_map reads (checking (given_seen given.entry)))) }
+        ensures { IsJob (option_map reads (checking (given_seen given.entry))) result }
     {
         let options = given.options;
         let Some(syntax) = syntax_of(options.syntax) else {
@@ -179,21 +171,17 @@ impl Job {
         if !are_names(options.context, given.last) {
             return Err(JobError::Usage);
         }
-        let Ok(context) = copied(options.context) else {
-            return Err(JobError::NoMemory);
-        };
-        match given.last.try_clone() {
-            Ok(page) => Ok(Job::Check {
-                syntax,
-                context,
-                page,
-            }),
-            Err(_) => Err(JobError::NoMemory),
-        }
+        let context = copied(options.context)?;
+        let page = given.last.try_clone()?;
+        Ok(Job::Check {
+            syntax,
+            context,
+            page,
+        })
     }
 
     fn gathering(alloc: Global, words: &[Text]) -> Result<Job, JobError>
-        ensures { MatchResult result (λ found. option_map gathers (several words.now) ≡ Some (asked_by found)) (FailsJob (option_map gathers (several words.now))) }
+        ensures { IsJob (option_map gathers (several words.now)) result }
     {
         let Some(front) = front_of(words) else {
             return Err(JobError::Usage);
@@ -234,7 +222,7 @@ impl Job {
     }
 
     fn sampling(words: &[Text]) -> Result<Job, JobError>
-        ensures { MatchResult result (λ found. sampling words.now ≡ Some (asked_by found)) (FailsJob (sampling words.now)) }
+        ensures { IsJob (sampling words.now) result }
     {
         let [word] = words else {
             return Err(JobError::Usage);

@@ -1,13 +1,14 @@
 //! Pages, as words list them.
-ghost use Rattle.std.specs.Prelude.{◌≡◌, [], ◌∷◌, ◌++◌, MatchResult, Some, true};
-ghost use Rattle.rx_job.specs.Words.{are_few, is_listed, listed};
-ghost use Rattle.rx_job.specs.Jobs.{FailsPage, FailsPages};
+ghost use Rattle.std.specs.Prelude.{◌≡◌, MatchResult, Some};
+ghost use Rattle.rx_job.specs.Words.{are_few, listed};
+ghost use Rattle.rx_job.specs.Jobs.{AddsListed, FailsPage, FailsPages, page_at};
 
 use crate::arguments::next_pair;
 use crate::errors::JobError;
 use crate::pages::Pages;
+use crate::values::iri_of;
 use crate::words::is_page_name;
-use rx_terms::{Iri, IriError, NoMemory, Text};
+use rx_terms::Text;
 use std::alloc::Global;
 
 /// The most pages that are gathered.
@@ -47,22 +48,19 @@ pub(crate) fn pages_of(alloc: Global, words: &[Text]) -> Result<Pages, JobError>
 
 /// Adds a page of this address. Usage comes exactly where that is no IRI, or the page has no name that it may have.
 fn add(alloc: Global, pages: &mut Pages, address: &Text, page: &Text) -> Result<(), JobError>
-    ensures { MatchResult result (λ _. (is_listed (record { address = address.now; page = page.now }) ≡ true) × (pages.new ≡ pages.old ++ record { address = address.now; page = page.now } ∷ [])) (FailsPage (record { address = address.now; page = page.now })) }
+    ensures { MatchResult result (λ _. AddsListed (page_at address.now page.now) pages.old pages.new) (FailsPage (page_at address.now page.now)) }
 {
     if !is_page_name(page.as_str()) {
         return Err(JobError::Usage);
     }
-    let address = match Iri::of(alloc, address.as_str()) {
+    let address = match iri_of(alloc, address) {
         Ok(address) => address,
-        Err(IriError::NoMemory) => return Err(JobError::NoMemory),
-        Err(_) => return Err(JobError::Usage),
+        Err(error) => return Err(error),
     };
     let Ok(page) = page.try_clone() else {
         drop(address);
         return Err(JobError::NoMemory);
     };
-    match pages.push(address, page) {
-        Ok(()) => Ok(()),
-        Err(NoMemory) => Err(JobError::NoMemory),
-    }
+    pages.push(address, page)?;
+    Ok(())
 }

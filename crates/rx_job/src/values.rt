@@ -1,7 +1,7 @@
 //! The values of options.
-ghost use Rattle.std.specs.Prelude.{◌≡◌, MatchResult, IfOk, true};
-ghost use Rattle.rx_job.specs.Words.{is_graph, syntax_of};
-ghost use Rattle.rx_job.specs.Jobs.{text_in, FailsGraph};
+ghost use Rattle.std.specs.Prelude.{◌≡◌, MatchResult, IfOk};
+ghost use Rattle.rx_job.specs.Words.{syntax_of};
+ghost use Rattle.rx_job.specs.Jobs.{text_in, FailsGraph, FailsIri, IsGraphName, IsIriOf};
 
 use crate::errors::JobError;
 use crate::formats::{Format, names_graphs};
@@ -16,10 +16,7 @@ pub(crate) fn copied(text: Option<&Text>) -> Result<Option<Text>, NoMemory>
 {
     match text {
         None => Ok(None),
-        Some(text) => match text.try_clone() {
-            Ok(text) => Ok(Some(text)),
-            Err(_) => Err(NoMemory),
-        },
+        Some(text) => Ok(Some(text.try_clone()?)),
     }
 }
 
@@ -45,7 +42,7 @@ pub(crate) fn graph_of(
     format: Format,
     name: Option<&Text>,
 ) -> Result<Option<Iri>, JobError>
-    ensures { MatchResult result (λ graph. (is_graph format (text_in name.entry) ≡ true) × (graph ≡ text_in name.entry)) (FailsGraph format (text_in name.entry)) }
+    ensures { MatchResult result (IsGraphName format (text_in name.entry)) (FailsGraph format (text_in name.entry)) }
 {
     let Some(name) = name else {
         return Ok(None);
@@ -53,8 +50,18 @@ pub(crate) fn graph_of(
     if !names_graphs(format) {
         return Err(JobError::Usage);
     }
-    match Iri::of(alloc, name.as_str()) {
+    match iri_of(alloc, name) {
         Ok(graph) => Ok(Some(graph)),
+        Err(error) => Err(error),
+    }
+}
+
+/// The IRI that the text is. Usage comes exactly where it is none.
+pub(crate) fn iri_of(alloc: Global, text: &Text) -> Result<Iri, JobError>
+    ensures { MatchResult result (IsIriOf text.now) (FailsIri text.now) }
+{
+    match Iri::of(alloc, text.as_str()) {
+        Ok(iri) => Ok(iri),
         Err(IriError::NoMemory) => Err(JobError::NoMemory),
         Err(_) => Err(JobError::Usage),
     }

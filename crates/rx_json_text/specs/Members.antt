@@ -1,7 +1,10 @@
 -- The values of each key of an object, as they come one after another.
-use Rattle.std.specs.Prelude.{ℕ, List}
+use Rattle.std.specs.Prelude.{◌≡◌, ℕ, List, String}
+use Rattle.std.specs.Global.{Global}
 use Rattle.std.specs.Ordering.{nat_cmp, match_ordering}
 use Rattle.std.specs.Cmp.Lexicographic.{slice_cmp}
+use Rattle.serde_json.specs.View.{members_view}
+use Rattle.serde_json.specs.declared.value.Value.{Value}
 use Rattle.serde_json.specs.Data.{Data, Items, Members, array, no_items, item, no_members, member}
 
 -- the values with one more at their end
@@ -20,3 +23,7 @@ with_last key value no_members = member key (array (item value no_items)) no_mem
 with_last key value (member first values more) =
     match_ordering (slice_cmp nat_cmp key first) (member key (array (item value no_items)) (member first values more)) (member first (behind value values) more)
     (member first values (with_last key value more))
+
+-- the members of the code became what this makes of them
+abbrev pub Changes : (Members → Members) → List (String Global × Value) → List (String Global × Value) → Type 0
+Changes by old new = members_view new ≡ by (members_view old)

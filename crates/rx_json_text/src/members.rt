@@ -2,8 +2,8 @@
 ghost use Rattle.std.specs.Prelude.{◌≡◌, [], ◌∷◌, ◌++◌, IfOk, OnOk, None};
 ghost use Rattle.std.specs.BTreeMap.{get_by_text};
 ghost use Rattle.serde_json.specs.Data.{array, item, no_items, put};
-ghost use Rattle.serde_json.specs.View.{view, members_view};
-ghost use Rattle.rx_json_text.specs.Members.{behind, with_last};
+ghost use Rattle.serde_json.specs.View.{view};
+ghost use Rattle.rx_json_text.specs.Members.{Changes, behind, with_last};
 
 use rx_terms::NoMemory;
 use serde_json::{Map, Value};
@@ -17,7 +17,7 @@ pub fn put(
     key: &str,
     value: Value,
 ) -> Result<(), NoMemory>
-    ensures { OnOk result (members_view members.new.entries ≡ put key.now (view value) (members_view members.old.entries)) }
+    ensures { OnOk result (Changes (put key.now (view value)) members.old.entries members.new.entries) }
 {
     let key = String::from_str(alloc, key)?;
     match members.insert(key, value) {
@@ -39,7 +39,7 @@ pub fn add_value(
     key: &str,
     value: Value,
 ) -> Result<(), NoMemory>
-    ensures { OnOk result (members_view members.new.entries ≡ with_last key.now (view value) (members_view members.old.entries)) }
+    ensures { OnOk result (Changes (with_last key.now (view value)) members.old.entries members.new.entries) }
 {
     match members.get_mut(key) {
         Some(values) => push_value(alloc, values, value),
@@ -54,7 +54,7 @@ fn start_values(
     key: &str,
     value: Value,
 ) -> Result<(), NoMemory>
-    ensures { OnOk result (get_by_text members.old key.now ≡ None → members_view members.new.entries ≡ with_last key.now (view value) (members_view members.old.entries)) }
+    ensures { OnOk result (get_by_text members.old key.now ≡ None → Changes (with_last key.now (view value)) members.old.entries members.new.entries) }
 {
     let key = String::from_str(alloc, key)?;
     let values = one_value(alloc, value)?;

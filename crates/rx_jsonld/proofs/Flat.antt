@@ -176,6 +176,3 @@ module _ (list : List (Triple ℕ)) (shapes : ℕ → Shape) where
 
 pub values_are_flat : ValuesAreFlat
 values_are_flat = record { levels = λ list shapes. (value_flat list shapes).levels; no_float = λ list shapes. (value_flat list shapes).whole }
-
-pub node_no_float : (list : List (Triple ℕ)) (shapes : ℕ → Shape) (subject : Node ℕ) → has_float (node_value list shapes subject) ≡ false
-node_no_float list shapes subject = (node_flat list shapes subject).whole

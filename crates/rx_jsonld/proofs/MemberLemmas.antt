@@ -1,6 +1,5 @@
 -- Values that are put under their keys.
 use Rattle.std.proofs.Common.{◌≡◌, ℕ, String, Global, string_bytes, encode_utf8_all, ◌<◌, ◌^◌, rules}
-use Rattle.std.specs.Prelude.{OnOk, Result, Ok, Err}
 use Rattle.serde_json.specs.Data.{string}
 use Rattle.serde_json.specs.View.{view}
 use Rattle.serde_json.specs.declared.value.Value.{String as String_value, the_lemmas}
@@ -9,10 +8,6 @@ use Rattle.std.proofs.lemmas.Fmt.{IsAscii-decimal}
 use Rattle.rx_terms.proofs.CharLemmas.{ascii-same}
 use Rattle.rx_pieces.specs.Writing.{blank_text}
 use Rattle.rx_pieces.proofs.Adding.{all_ascii}
-
-pub then_ok : {X E P Q : Type 0} (r : Result X E) → (P → Q) → OnOk r P → OnOk r Q
-then_ok (Ok x) f p = f p
-then_ok (Err e) f p = p
 
 pub view_string : (s : String Global) → view (String_value s) ≡ string (string_bytes s)
 view_string s = search (rules, the_lemmas)

@@ -165,9 +165,6 @@ module _ (list : List CodeTriple) (shapes : ℕ → Shape) where
       ∙ sym (grown (subjects front) s (contains (same_node nat_eq) (subjects front) s) refl)
       ∙ ap (λ z. map (node_value seen shapes) (filter is_top z)) (sym more)
 
-  pub nodes_end : (i : ℕ) (now : List Data) → length list ≤ i → now ≡ nodes_until (take i list) → now ≡ map (node_value seen shapes) (tops seen shapes)
-  nodes_end i now past h = h ∙ ap nodes_until (take_all i list past)
-
 -- ---- the listed cells
 
 added_more : (nodes : List (Node ℕ)) (xs ys : List ℕ) → nodes_added nodes (xs ++ ys) ≡ nodes_added (nodes_added nodes xs) ys
@@ -182,9 +179,6 @@ pub record Gathered (list : List CodeTriple) (shapes : ℕ → Shape) (i : ℕ) 
   pub cells : now ≡ nodes_added [] (flat_map (cells_at shapes (triples_seen list)) (triples_seen (take i list)))
   pub writable : (t : Triple ℕ) → Among (triples_seen (take i list)) t → WritableTriple None t
 
-pub gathered_start : (list : List CodeTriple) (shapes : ℕ → Shape) → Gathered list shapes 0 []
-gathered_start list shapes = record { cells = refl; writable = λ t m. absurd m }
-
 pub gathered_turn : (list : List CodeTriple) (shapes : ℕ → Shape) (i : ℕ) (t : CodeTriple) (old new : List (Node ℕ)) → slice_get list i ≡ Some t
     → new ≡ nodes_added old (cells_at shapes (triples_seen list) (triple_seen t)) → WritableTriple None (triple_seen t) → Gathered list shapes i old → Gathered list shapes (i + 1) new
 gathered_turn list shapes i t old new at turn writable h =
@@ -198,12 +192,6 @@ gathered_turn list shapes i t old new at turn writable h =
         | inr k ↦ elim k [ inl e ↦ subst (WritableTriple None) e writable | inr n ↦ absurd n ]
       ];
     }
-
-pub gathered_cells : (list : List CodeTriple) (shapes : ℕ → Shape) (i : ℕ) (now : List (Node ℕ)) → length list ≤ i → Gathered list shapes i now → now ≡ nodes_added [] (listed shapes (triples_seen list))
-gathered_cells list shapes i now past h = h.cells ∙ ap (λ z. nodes_added [] (flat_map (cells_at shapes (triples_seen list)) (triples_seen z))) (take_all i list past)
-
-pub gathered_writable : (list : List CodeTriple) (shapes : ℕ → Shape) (i : ℕ) (now : List (Node ℕ)) → length list ≤ i → Gathered list shapes i now → IsWritable (triples_seen list)
-gathered_writable list shapes i now past h = record { parts = λ t m. h.writable t (subst (λ (z : List CodeTriple). Among (triples_seen z) t) (sym (take_all i list past)) m) }
 
 -- ---- whether a node is a listed cell
 

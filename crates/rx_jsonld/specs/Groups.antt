@@ -5,7 +5,7 @@ use Rattle.std.specs.Global.{Global}
 use Rattle.std.specs.BTreeMap.{BTreeMap, get_by}
 use Rattle.std.specs.Cmp.Lexicographic.{slice_cmp}
 use Rattle.std.specs.Ordering.{nat_cmp}
-use Rattle.serde_json.specs.Data.{Data, null, array, Members, no_members, member}
+use Rattle.serde_json.specs.Data.{Data, null, array, object, Members, no_members, member}
 use Rattle.serde_json.specs.View.{items_of}
 use Rattle.rx_model.specs.Terms.{Node, Triple}
 use Rattle.rx_shapes.specs.declared.shapes.Shape.{Shape}
@@ -18,6 +18,10 @@ key_by t None = encode_utf8_all t.predicate
 
 abbrev pub key_of : Triple ℕ → List ℕ
 key_of t = key_by t (type_of t)
+
+-- places under a key
+abbrev pub Group : Type 0
+Group = Bor (List ℕ) × Vec ℕ Global
 
 -- the places that stand under a key
 abbrev pub places_under : BTreeMap (Bor (List ℕ)) (Vec ℕ Global) → List ℕ → Option (Vec ℕ Global)
@@ -42,7 +46,14 @@ module _ (list : List (Triple ℕ)) (shapes : ℕ → Shape) where
   abbrev pub values_at : List ℕ → List Data
   values_at places = map value_at places
 
+  abbrev pub array_at : List ℕ → Data
+  array_at places = array (items_of (values_at places))
+
   -- the members for which places under their keys stand
-  abbrev pub grouped : List (Bor (List ℕ) × Vec ℕ Global) → Members
+  abbrev pub grouped : List Group → Members
   grouped [] = no_members
-  grouped (group ∷ more) = member group.0.now (array (items_of (values_at group.1.items))) (grouped more)
+  grouped (group ∷ more) = member group.0.now (array_at group.1.items) (grouped more)
+
+  -- the node object of a subject of which the groups are all that is said
+  abbrev pub grouped_node : Node ℕ → List Group → Data
+  grouped_node subject groups = object (member (codes "@id") (string_of (id_text subject)) (grouped groups))

@@ -14,8 +14,8 @@ use Rattle.rx_jsonld.specs.Meaning.{JsonLd}
 -- law: the value of a list in which each triple stands once denotes the list's set, up to the names of blank nodes, its
 -- triples as they are read
 abbrev pub ValueDenotes : Type 0
-ValueDenotes = (list : List (Triple ℕ)) (shapes : ℕ → Shape) → IsWritable list → distinct (same_triple nat_eq) list ≡ list → HaveShapes list shapes
-    → JsonLd (jsonld list shapes) (map proper_triple list)
+ValueDenotes = (list : List (Triple ℕ)) (shapes : ℕ → Shape) → IsWritable list
+    → distinct (same_triple nat_eq) list ≡ list → HaveShapes list shapes → JsonLd (jsonld list shapes) (map proper_triple list)
 
 -- law: at most six arrays and objects lie in each other, and no number is a float
 pub record ValuesAreFlat : Type 0 where
@@ -24,4 +24,5 @@ pub record ValuesAreFlat : Type 0 where
 
 -- law: the cells that are listed, found along chains, are those of which the words say so
 abbrev pub ListsCells : Type 0
-ListsCells = (list : List (Triple ℕ)) (shapes : ℕ → Shape) → HaveShapes list shapes → (b : ℕ) → Among (listed shapes list) b ↔ IsListed (set_of list) b
+ListsCells = (list : List (Triple ℕ)) (shapes : ℕ → Shape) → HaveShapes list shapes
+    → (b : ℕ) → Among (listed shapes list) b ↔ IsListed (set_of list) b

@@ -6,3 +6,4 @@ pub mod Meaning
 pub mod Laws
 pub mod Rows
 pub mod Groups
+pub mod Changes

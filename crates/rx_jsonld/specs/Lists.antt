@@ -65,6 +65,9 @@ module _ (shapes : ℕ → Shape) where
   may_list subject predicate =
       not (is_cell subject && bytes_eq predicate rdf_rest) && (not (bytes_eq predicate rdf_first) && not (bytes_eq predicate rdf_type))
 
+  abbrev pub may_hold_list : Triple ℕ → Bool
+  may_hold_list t = may_list t.subject t.predicate
+
   abbrev pub cell_listed : Bool → ℕ → Option ℕ
   cell_listed may b = if may && is_cell_by (shapes b) then Some b else None
 
@@ -75,7 +78,7 @@ module _ (shapes : ℕ → Shape) where
   cell_by may (Literal text kind) = None
 
   abbrev pub first_cell : Triple ℕ → Option ℕ
-  first_cell t = cell_by (may_list t.subject t.predicate) t.object
+  first_cell t = cell_by (may_hold_list t) t.object
 
   module _ (list : List (Triple ℕ)) where
     -- the cells that are listed where the triple's object stands

@@ -44,10 +44,15 @@ module _ (list : List (Triple ℕ)) (shapes : ℕ → Shape) where
   with_found (Some t) members = with_said list shapes t members
   with_found None members = members
 
+  abbrev pub with_place : ℕ → Members → Members
+  with_place place members = with_found (slice_get list place) members
+
   abbrev pub with_places : List ℕ → Members → Members
   with_places [] members = members
-  with_places (place ∷ more) members = with_places more (with_found (slice_get list place) members)
+  with_places (place ∷ more) members = with_places more (with_place place members)
 
   -- the node object that a triple at a place begins, where it is the first of its subject
   abbrev pub node_at : ℕ → Node ℕ → List Data
-  node_at place subject = if starts (places_of nat_eq list subject) place && not (is_listed shapes list subject) then node_value list shapes subject ∷ [] else []
+  node_at place subject =
+      if starts (places_of nat_eq list subject) place && not (is_listed shapes list subject) then node_value list shapes subject ∷ []
+      else []

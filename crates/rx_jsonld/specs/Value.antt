@@ -1,6 +1,6 @@
 -- The JSON-LD of a list of triples: expanded and flattened form (JSON-LD 1.1, 9; JSON-LD 1.1 Processing Algorithms and API,
 -- 4.1 and 4.3). The order, which cells are listed, and the names of blank nodes are our own choice.
-use Rattle.std.specs.Prelude.{ℕ, Bool, false, not, ◌&&◌, List, [], ◌∷◌, map, filter, codes, bytes_eq, encode_utf8_all, Option, Some, None, if◌then◌else◌}
+use Rattle.std.specs.Prelude.{ℕ, Bool, false, not, ◌&&◌, List, [], ◌∷◌, map, filter, length, codes, bytes_eq, encode_utf8_all, Option, Some, None, if◌then◌else◌}
 use Rattle.std.specs.Ordering.{nat_cmp, match_ordering}
 use Rattle.std.specs.Cmp.Lexicographic.{slice_cmp}
 use Rattle.serde_json.specs.Data.{Data, Items, Members, null, string, array, object, no_items, no_members, member}
@@ -15,7 +15,7 @@ use Rattle.rx_shapes.specs.Shapes.{rdf_first, rdf_rest, rdf_nil}
 use Rattle.rx_shapes.specs.declared.shapes.Shape.{Shape}
 use Rattle.rx_notation.specs.Layout.{about, subjects}
 use Rattle.rx_json_text.specs.Members.{with_last}
-use Rattle.rx_jsonld.specs.Lists.{object_at, first_cell, cells_at, is_listed}
+use Rattle.rx_jsonld.specs.Lists.{object_at, chain, first_cell, cells_at, is_listed}
 
 -- ---- terms
 
@@ -53,6 +53,10 @@ item_by None = null
 abbrev pub item_value : List (Triple ℕ) → ℕ → Data
 item_value list b = item_by (object_at list (Blank b) rdf_first)
 
+-- the list that begins with a cell
+abbrev pub list_from : List (Triple ℕ) → ℕ → Data
+list_from list first = list_value (map (item_value list) (chain list (length list) first))
+
 -- ---- what is said of a node
 
 -- whether rdf:nil is written as a list of no items under the predicate
@@ -83,9 +87,12 @@ module _ (list : List (Triple ℕ)) (shapes : ℕ → Shape) where
   abbrev pub object_value : Triple ℕ → Data
   object_value t = object_by t (first_cell shapes t)
 
+  abbrev pub with_object : Triple ℕ → Members → Members
+  with_object t members = with_last (encode_utf8_all t.predicate) (object_value t) members
+
   abbrev pub said_by : Triple ℕ → Option (Node ℕ) → Members → Members
   said_by t (Some node) members = with_last (codes "@type") (string_of (id_text node)) members
-  said_by t None members = with_last (encode_utf8_all t.predicate) (object_value t) members
+  said_by t None members = with_object t members
 
   -- the members with what a triple says
   abbrev pub with_said : Triple ℕ → Members → Members
@@ -103,6 +110,10 @@ module _ (list : List (Triple ℕ)) (shapes : ℕ → Shape) where
   abbrev pub tops : List (Node ℕ)
   tops = filter (λ subject. not (is_listed shapes list subject)) (subjects list)
 
+-- the node objects of all subjects that have one
+abbrev pub nodes_of : List (Triple ℕ) → (ℕ → Shape) → List Data
+nodes_of list shapes = map (node_value list shapes) (tops list shapes)
+
 -- the JSON-LD of a list of triples whose blank nodes have these shapes
 abbrev pub jsonld : List (Triple ℕ) → (ℕ → Shape) → Data
-jsonld list shapes = array (items_of (map (node_value list shapes) (tops list shapes)))
+jsonld list shapes = array (items_of (nodes_of list shapes))

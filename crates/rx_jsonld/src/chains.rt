@@ -4,7 +4,7 @@ ghost use Rattle.rx_model.specs.Terms as model;
 ghost use Rattle.rx_model.specs.Seen.{node_seen, term_seen, triple_seen, triples_seen};
 ghost use Rattle.rx_shapes.specs.Shapes.{rdf_rest};
 ghost use Rattle.rx_shapes.specs.Table.{AreShapes, shape_in};
-ghost use Rattle.rx_jsonld.specs.Lists.{blank_in, cell_by, cell_listed, chain, first_cell, is_cell, is_cell_by, may_list, object_at};
+ghost use Rattle.rx_jsonld.specs.Lists.{blank_in, cell_by, cell_listed, chain, first_cell, is_cell, is_cell_by, may_hold_list, may_list, object_at};
 ghost use Rattle.rx_jsonld.specs.Places.{object_among, object_if, predicate_of};
 
 use rx_graph::Graph;
@@ -36,7 +36,7 @@ pub(crate) fn first_cell(shapes: &Shapes, triple: &Triple) -> Option<Blank>
 
 /// The cell, where it is one and the triple may have a list. Few nodes are cells, so this is looked at first.
 fn cell_listed(shapes: &Shapes, triple: &Triple, blank: Blank) -> Option<Blank>
-    ensures { option_map (λ b. b.0) result ≡ cell_listed (shape_in shapes.now) (may_list (shape_in shapes.now) (node_seen triple.now.subject) triple.now.predicate) blank.0 }
+    ensures { option_map (λ b. b.0) result ≡ cell_listed (shape_in shapes.now) (may_hold_list (shape_in shapes.now) (triple_seen triple.now)) blank.0 }
 {
     if !is_cell_number(shapes, blank) {
         return None;

@@ -1,11 +1,12 @@
 //! The places of a node's triples under their keys, in the order of the keys' bytes.
-ghost use Rattle.std.specs.Prelude.{◌≡◌, ℕ, List, ◌∷◌, ◌++◌, [], slice_get, IfOk, OnOk, None};
+ghost use Rattle.std.specs.Prelude.{◌≡◌, ℕ, List, ◌∷◌, ◌++◌, [], IfOk, OnOk, None};
 ghost use Rattle.serde_json.specs.Data.{no_members};
 ghost use Rattle.rx_model.specs.Seen.{triple_seen, triples_seen};
 ghost use Rattle.rx_model.specs.Terms.{Triple as Said};
 ghost use Rattle.rx_shapes.specs.declared.shapes.Shape.{Shape};
 ghost use Rattle.rx_jsonld.specs.Groups.{grouped, key_of, places_under, value_at};
-ghost use Rattle.rx_jsonld.specs.Places.{with_found, with_places};
+ghost use Rattle.rx_jsonld.specs.Places.{with_place, with_places};
+ghost use Rattle.rx_jsonld.specs.Changes.{Regroups};
 ghost use Rattle.rx_json_text.specs.Members.{with_last};
 
 use crate::objects::type_of;
@@ -20,7 +21,8 @@ pub(crate) fn groups_of<'a>(
     graph: &'a Graph,
     places: &[usize],
 ) -> Result<BTreeMap<&'a str, Vec<usize>>, NoMemory>
-    ensures { (shapes : ℕ → Shape) → IfOk result (λ groups. grouped (triples_seen graph.now) shapes groups.entries ≡ with_places (triples_seen graph.now) shapes places.now no_members) }
+    ensures { (shapes : ℕ → Shape) → IfOk result (λ groups.
+        grouped (triples_seen graph.now) shapes groups.entries ≡ with_places (triples_seen graph.now) shapes places.now no_members) }
 {
     let mut groups = BTreeMap::new(alloc);
     match add_places(alloc, graph, places, &mut groups) {
@@ -38,7 +40,8 @@ fn add_places<'a>(
     places: &[usize],
     groups: &mut BTreeMap<&'a str, Vec<usize>>,
 ) -> Result<(), NoMemory>
-    ensures { (shapes : ℕ → Shape) → OnOk result (grouped (triples_seen graph.now) shapes groups.new.entries ≡ with_places (triples_seen graph.now) shapes places.now (grouped (triples_seen graph.now) shapes groups.old.entries)) }
+    ensures { (shapes : ℕ → Shape) → OnOk result
+        (Regroups (triples_seen graph.now) shapes (with_places (triples_seen graph.now) shapes places.now) groups.old.entries groups.new.entries) }
 {
     for place in places {
         add_place(alloc, graph, *place, groups)?;
@@ -52,7 +55,8 @@ fn add_place<'a>(
     place: usize,
     groups: &mut BTreeMap<&'a str, Vec<usize>>,
 ) -> Result<(), NoMemory>
-    ensures { (shapes : ℕ → Shape) → OnOk result (grouped (triples_seen graph.now) shapes groups.new.entries ≡ with_found (triples_seen graph.now) shapes (slice_get (triples_seen graph.now) place) (grouped (triples_seen graph.now) shapes groups.old.entries)) }
+    ensures { (shapes : ℕ → Shape) → OnOk result
+        (Regroups (triples_seen graph.now) shapes (with_place (triples_seen graph.now) shapes place) groups.old.entries groups.new.entries) }
 {
     if place >= graph.len() {
         return Ok(());
@@ -77,7 +81,8 @@ fn put_place<'a>(
     place: usize,
     groups: &mut BTreeMap<&'a str, Vec<usize>>,
 ) -> Result<(), NoMemory>
-    ensures { (list : List (Said ℕ)) (shapes : ℕ → Shape) → OnOk result (grouped list shapes groups.new.entries ≡ with_last key.now (value_at list shapes place) (grouped list shapes groups.old.entries)) }
+    ensures { (list : List (Said ℕ)) (shapes : ℕ → Shape) → OnOk result
+        (Regroups list shapes (with_last key.now (value_at list shapes place)) groups.old.entries groups.new.entries) }
 {
     match groups.get_mut(key) {
         Some(places) => push_place(places, place),
@@ -92,7 +97,8 @@ fn start_group<'a>(
     place: usize,
     groups: &mut BTreeMap<&'a str, Vec<usize>>,
 ) -> Result<(), NoMemory>
-    ensures { (list : List (Said ℕ)) (shapes : ℕ → Shape) → OnOk result (places_under groups.old key.now ≡ None → grouped list shapes groups.new.entries ≡ with_last key.now (value_at list shapes place) (grouped list shapes groups.old.entries)) }
+    ensures { (list : List (Said ℕ)) (shapes : ℕ → Shape) → OnOk result (places_under groups.old key.now ≡ None
+        → Regroups list shapes (with_last key.now (value_at list shapes place)) groups.old.entries groups.new.entries) }
 {
     let mut places = Vec::new(alloc);
     push_place(&mut places, place)?;

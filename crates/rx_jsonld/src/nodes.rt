@@ -1,11 +1,13 @@
 //! The node objects of a graph.
-ghost use Rattle.std.specs.Prelude.{◌≡◌, ◌++◌, [], map, not, ◌&&◌, slice_get, IfOk, OnOk};
+ghost use Rattle.std.specs.Prelude.{◌≡◌, ◌++◌, [], map, not, ◌&&◌, IfOk, OnOk};
 ghost use Rattle.serde_json.specs.View.{members_view, view};
 ghost use Rattle.rx_model.specs.Seen.{node_seen, triples_seen};
 ghost use Rattle.rx_shapes.specs.Table.{AreShapes, shape_in};
+ghost use Rattle.rx_jsonld.specs.Changes.{Gains};
+ghost use Rattle.rx_json_text.specs.Members.{Changes};
 ghost use Rattle.rx_jsonld.specs.Lists.{is_listed, listed};
-ghost use Rattle.rx_jsonld.specs.Places.{node_at, nodes_added, starts, with_found, with_places};
-ghost use Rattle.rx_jsonld.specs.Value.{node_value, tops};
+ghost use Rattle.rx_jsonld.specs.Places.{node_at, nodes_added, starts, with_place, with_places};
+ghost use Rattle.rx_jsonld.specs.Value.{node_value, nodes_of};
 
 use crate::listed::is_listed;
 use crate::objects::add_said;
@@ -27,7 +29,7 @@ pub(crate) fn node_values(
 ) -> Result<Vec<Value>, NoMemory>
     requires shapes { AreShapes (triples_seen graph.now) shapes.now }
     requires listed { cells.now ≡ nodes_added [] (listed (shape_in shapes.now) (triples_seen graph.now)) }
-    ensures { IfOk result (λ nodes. map view nodes.items ≡ map (node_value (triples_seen graph.now) (shape_in shapes.now)) (tops (triples_seen graph.now) (shape_in shapes.now))) }
+    ensures { IfOk result (λ nodes. map view nodes.items ≡ nodes_of (triples_seen graph.now) (shape_in shapes.now)) }
 {
     let mut nodes = Vec::new(alloc);
     for i in 0..graph.len() {
@@ -49,7 +51,7 @@ fn add_node(
 ) -> Result<(), NoMemory>
     requires shapes { AreShapes (triples_seen graph.now) shapes.now }
     requires listed { cells.now ≡ nodes_added [] (listed (shape_in shapes.now) (triples_seen graph.now)) }
-    ensures { OnOk result (map view nodes.new.items ≡ map view nodes.old.items ++ node_at (triples_seen graph.now) (shape_in shapes.now) place (node_seen subject.now)) }
+    ensures { OnOk result (Gains (node_at (triples_seen graph.now) (shape_in shapes.now) place (node_seen subject.now)) nodes.old.items nodes.new.items) }
 {
     let places = shapes.places(subject);
     if !begins_node(graph, shapes, cells, places, place, subject) {
@@ -110,7 +112,7 @@ fn with_places(
     members: Map<String, Value>,
 ) -> Result<Map<String, Value>, NoMemory>
     requires { AreShapes (triples_seen graph.now) shapes.now }
-    ensures { IfOk result (λ new. members_view new.entries ≡ with_places (triples_seen graph.now) (shape_in shapes.now) places.now (members_view members.entries)) }
+    ensures { IfOk result (λ new. Changes (with_places (triples_seen graph.now) (shape_in shapes.now) places.now) members.entries new.entries) }
 {
     let mut members = members;
     match add_places(alloc, graph, shapes, places, &mut members) {
@@ -130,7 +132,7 @@ fn add_places(
     members: &mut Map<String, Value>,
 ) -> Result<(), NoMemory>
     requires { AreShapes (triples_seen graph.now) shapes.now }
-    ensures { OnOk result (members_view members.new.entries ≡ with_places (triples_seen graph.now) (shape_in shapes.now) places.now (members_view members.old.entries)) }
+    ensures { OnOk result (Changes (with_places (triples_seen graph.now) (shape_in shapes.now) places.now) members.old.entries members.new.entries) }
 {
     for place in places {
         add_place(alloc, graph, shapes, *place, members)?;
@@ -146,7 +148,7 @@ fn add_place(
     members: &mut Map<String, Value>,
 ) -> Result<(), NoMemory>
     requires { AreShapes (triples_seen graph.now) shapes.now }
-    ensures { OnOk result (members_view members.new.entries ≡ with_found (triples_seen graph.now) (shape_in shapes.now) (slice_get (triples_seen graph.now) place) (members_view members.old.entries)) }
+    ensures { OnOk result (Changes (with_place (triples_seen graph.now) (shape_in shapes.now) place) members.old.entries members.new.entries) }
 {
     if place >= graph.len() {
         return Ok(());

@@ -1,12 +1,11 @@
 //! What a triple says of its subject.
-ghost use Rattle.std.specs.Prelude.{◌≡◌, codes, encode_utf8_all, length, map, option_map, IfOk, OnOk};
-ghost use Rattle.serde_json.specs.View.{members_view, view};
+ghost use Rattle.std.specs.Prelude.{◌≡◌, codes, option_map, IfOk, OnOk};
+ghost use Rattle.serde_json.specs.View.{view};
 ghost use Rattle.rx_model.specs.Seen.{term_seen, triple_seen, triples_seen};
 ghost use Rattle.rx_graph.specs.Resources.{resource_seen};
 ghost use Rattle.rx_shapes.specs.Table.{AreShapes, shape_in};
-ghost use Rattle.rx_jsonld.specs.Value.{id_text, is_empty_list, item_value, list_value, may_be_empty, object_value, plain_value, string_of, type_of, with_said};
-ghost use Rattle.rx_json_text.specs.Members.{with_last};
-ghost use Rattle.rx_jsonld.specs.Lists.{chain};
+ghost use Rattle.rx_jsonld.specs.Value.{id_text, is_empty_list, list_from, may_be_empty, object_value, plain_value, string_of, type_of, with_object, with_said};
+ghost use Rattle.rx_json_text.specs.Members.{Changes, with_last};
 
 use crate::chains::{chain, first_cell};
 use crate::terms::{empty_list_value, id_value, list_value, term_value};
@@ -26,7 +25,8 @@ pub(crate) fn add_said(
     members: &mut Map<String, Value>,
 ) -> Result<(), NoMemory>
     requires { AreShapes (triples_seen graph.now) shapes.now }
-    ensures { OnOk result (members_view members.new.entries ≡ with_said (triples_seen graph.now) (shape_in shapes.now) (triple_seen triple.now) (members_view members.old.entries)) }
+    ensures { OnOk result
+        (Changes (with_said (triples_seen graph.now) (shape_in shapes.now) (triple_seen triple.now)) members.old.entries members.new.entries) }
 {
     match type_of(triple) {
         Some(node) => add_type(alloc, node, members),
@@ -46,7 +46,7 @@ pub(crate) fn type_of(triple: &Triple) -> Option<Resource<'_>>
 }
 
 fn add_type(alloc: Global, node: Resource, members: &mut Map<String, Value>) -> Result<(), NoMemory>
-    ensures { OnOk result (members_view members.new.entries ≡ with_last (codes "@type") (string_of (id_text (resource_seen node.entry))) (members_view members.old.entries)) }
+    ensures { OnOk result (Changes (with_last (codes "@type") (string_of (id_text (resource_seen node.entry)))) members.old.entries members.new.entries) }
 {
     let id = id_value(alloc, node)?;
     add_value(alloc, members, "@type", id)
@@ -60,7 +60,8 @@ fn add_object(
     members: &mut Map<String, Value>,
 ) -> Result<(), NoMemory>
     requires { AreShapes (triples_seen graph.now) shapes.now }
-    ensures { OnOk result (members_view members.new.entries ≡ with_last (encode_utf8_all triple.now.predicate) (object_value (triples_seen graph.now) (shape_in shapes.now) (triple_seen triple.now)) (members_view members.old.entries)) }
+    ensures { OnOk result
+        (Changes (with_object (triples_seen graph.now) (shape_in shapes.now) (triple_seen triple.now)) members.old.entries members.new.entries) }
 {
     let value = object_value(alloc, graph, shapes, triple)?;
     add_value(alloc, members, triple.predicate.as_str(), value)
@@ -89,7 +90,7 @@ fn chain_value(
     first: Blank,
 ) -> Result<Value, NoMemory>
     requires { AreShapes (triples_seen graph.now) shapes.now }
-    ensures { IfOk result (λ value. view value ≡ list_value (map (item_value (triples_seen graph.now)) (chain (triples_seen graph.now) (length (triples_seen graph.now)) first.0))) }
+    ensures { IfOk result (λ value. view value ≡ list_from (triples_seen graph.now) first.0) }
 {
     let cells = chain(alloc, graph, shapes, first)?;
     let value = list_value(alloc, graph, shapes, &cells)?;

@@ -1,15 +1,15 @@
 //! What a triple says of its subject, as tokens.
-ghost use Rattle.std.specs.Prelude.{◌≡◌, [], ◌∷◌, ◌++◌, codes, map, length, OnOk};
+ghost use Rattle.std.specs.Prelude.{◌≡◌, [], ◌∷◌, ◌++◌, codes, map, OnOk};
 ghost use Rattle.json.specs.Token.{begin_array, begin_object, end_array, end_object, key, string};
 ghost use Rattle.serde_json.specs.Data.{object};
 ghost use Rattle.rx_model.specs.Seen.{kind_seen, term_seen, triple_seen, triples_seen};
 ghost use Rattle.rx_graph.specs.Resources.{resource_seen};
 ghost use Rattle.rx_pieces.specs.Writing.{blank_text};
 ghost use Rattle.rx_shapes.specs.Table.{AreShapes, shape_in};
+ghost use Rattle.rx_jsonld.specs.Changes.{Writes, WritesEach};
 ghost use Rattle.rx_jsonld.specs.Groups.{value_said};
-ghost use Rattle.rx_jsonld.specs.Lists.{chain};
-ghost use Rattle.rx_json_text.specs.Tokens.{data_tokens, each_tokens, members_tokens};
-ghost use Rattle.rx_jsonld.specs.Value.{id_text, item_value, list_value, literal_members, object_value, object_with, plain_value, string_of, term_value};
+ghost use Rattle.rx_json_text.specs.Tokens.{members_tokens};
+ghost use Rattle.rx_jsonld.specs.Value.{id_text, item_value, list_from, list_value, literal_members, object_value, object_with, plain_value, string_of, term_value};
 
 use crate::chains::{Part, chain, first_cell, object_at};
 use crate::objects::{is_empty_list, type_of};
@@ -29,7 +29,7 @@ pub(crate) fn write_said(
     out: &mut JsonText,
 ) -> Result<(), NoMemory>
     requires { AreShapes (triples_seen graph.now) shapes.now }
-    ensures { OnOk result (out.new ≡ out.old ++ data_tokens (value_said (triples_seen graph.now) (shape_in shapes.now) (triple_seen triple.now))) }
+    ensures { OnOk result (Writes (value_said (triples_seen graph.now) (shape_in shapes.now) (triple_seen triple.now)) out.old out.new) }
 {
     match type_of(triple) {
         Some(node) => write_id(alloc, node, out),
@@ -46,7 +46,7 @@ fn write_object(
     out: &mut JsonText,
 ) -> Result<(), NoMemory>
     requires { AreShapes (triples_seen graph.now) shapes.now }
-    ensures { OnOk result (out.new ≡ out.old ++ data_tokens (object_value (triples_seen graph.now) (shape_in shapes.now) (triple_seen triple.now))) }
+    ensures { OnOk result (Writes (object_value (triples_seen graph.now) (shape_in shapes.now) (triple_seen triple.now)) out.old out.new) }
 {
     match first_cell(shapes, triple) {
         Some(first) => write_chain(alloc, graph, shapes, first, out),
@@ -62,7 +62,7 @@ fn write_chain(
     out: &mut JsonText,
 ) -> Result<(), NoMemory>
     requires { AreShapes (triples_seen graph.now) shapes.now }
-    ensures { OnOk result (out.new ≡ out.old ++ data_tokens (list_value (map (item_value (triples_seen graph.now)) (chain (triples_seen graph.now) (length (triples_seen graph.now)) first.0)))) }
+    ensures { OnOk result (Writes (list_from (triples_seen graph.now) first.0) out.old out.new) }
 {
     let cells = chain(alloc, graph, shapes, first)?;
     let written = write_list(alloc, graph, shapes, &cells, out);
@@ -76,7 +76,7 @@ fn write_plain(
     object: &Term,
     out: &mut JsonText,
 ) -> Result<(), NoMemory>
-    ensures { OnOk result (out.new ≡ out.old ++ data_tokens (plain_value predicate.now (term_seen object.now))) }
+    ensures { OnOk result (Writes (plain_value predicate.now (term_seen object.now)) out.old out.new) }
 {
     if is_empty_list(predicate, object) {
         write_empty_list(out)
@@ -96,7 +96,7 @@ fn write_list(
     out: &mut JsonText,
 ) -> Result<(), NoMemory>
     requires { AreShapes (triples_seen graph.now) shapes.now }
-    ensures { OnOk result (out.new ≡ out.old ++ data_tokens (list_value (map (item_value (triples_seen graph.now)) (map (λ b. b.0) cells.now)))) }
+    ensures { OnOk result (Writes (list_value (map (item_value (triples_seen graph.now)) (map (λ b. b.0) cells.now))) out.old out.new) }
 {
     begin_list(out)?;
     write_items(alloc, graph, shapes, cells, out)?;
@@ -105,7 +105,7 @@ fn write_list(
 
 /// Writes a list object of no items.
 fn write_empty_list(out: &mut JsonText) -> Result<(), NoMemory>
-    ensures { OnOk result (out.new ≡ out.old ++ data_tokens (list_value [])) }
+    ensures { OnOk result (Writes (list_value []) out.old out.new) }
 {
     begin_list(out)?;
     end_list(out)
@@ -134,7 +134,7 @@ fn write_items(
     out: &mut JsonText,
 ) -> Result<(), NoMemory>
     requires { AreShapes (triples_seen graph.now) shapes.now }
-    ensures { OnOk result (out.new ≡ out.old ++ each_tokens (map (item_value (triples_seen graph.now)) (map (λ b. b.0) cells.now))) }
+    ensures { OnOk result (WritesEach (map (item_value (triples_seen graph.now)) (map (λ b. b.0) cells.now)) out.old out.new) }
 {
     for cell in cells {
         write_item(alloc, graph, shapes, *cell, out)?;
@@ -150,7 +150,7 @@ fn write_item(
     out: &mut JsonText,
 ) -> Result<(), NoMemory>
     requires { AreShapes (triples_seen graph.now) shapes.now }
-    ensures { OnOk result (out.new ≡ out.old ++ data_tokens (item_value (triples_seen graph.now) cell.0)) }
+    ensures { OnOk result (Writes (item_value (triples_seen graph.now) cell.0) out.old out.new) }
 {
     match object_at(graph, shapes, cell, Part::Item) {
         Some(item) => write_term(alloc, item, out),
@@ -162,7 +162,7 @@ fn write_item(
 
 /// Writes a node object that names a node, or a value object.
 fn write_term(alloc: Global, term: &Term, out: &mut JsonText) -> Result<(), NoMemory>
-    ensures { OnOk result (out.new ≡ out.old ++ data_tokens (term_value (term_seen term.now))) }
+    ensures { OnOk result (Writes (term_value (term_seen term.now)) out.old out.new) }
 {
     match term {
         Term::Iri(iri) => write_reference(alloc, Resource::Iri(iri), out),
@@ -172,7 +172,7 @@ fn write_term(alloc: Global, term: &Term, out: &mut JsonText) -> Result<(), NoMe
 }
 
 fn write_reference(alloc: Global, node: Resource, out: &mut JsonText) -> Result<(), NoMemory>
-    ensures { OnOk result (out.new ≡ out.old ++ data_tokens (object_with (codes "@id") (string_of (id_text (resource_seen node.entry))))) }
+    ensures { OnOk result (Writes (object_with (codes "@id") (string_of (id_text (resource_seen node.entry)))) out.old out.new) }
 {
     out.begin_object()?;
     out.key("@id")?;
@@ -181,7 +181,7 @@ fn write_reference(alloc: Global, node: Resource, out: &mut JsonText) -> Result<
 }
 
 fn write_literal(literal: &Literal, out: &mut JsonText) -> Result<(), NoMemory>
-    ensures { OnOk result (out.new ≡ out.old ++ data_tokens (object (literal_members literal.now.lexical (kind_seen literal.now.kind)))) }
+    ensures { OnOk result (Writes (object (literal_members literal.now.lexical (kind_seen literal.now.kind))) out.old out.new) }
 {
     out.begin_object()?;
     write_members(literal, out)?;
@@ -213,7 +213,7 @@ fn write_text(name: &str, text: &str, out: &mut JsonText) -> Result<(), NoMemory
 
 /// Writes the name of a node: its IRI, or `_:b` and its number.
 pub(crate) fn write_id(alloc: Global, node: Resource, out: &mut JsonText) -> Result<(), NoMemory>
-    ensures { OnOk result (out.new ≡ out.old ++ data_tokens (string_of (id_text (resource_seen node.entry)))) }
+    ensures { OnOk result (Writes (string_of (id_text (resource_seen node.entry))) out.old out.new) }
 {
     match node {
         Resource::Iri(iri) => out.string(iri.as_str()),
@@ -222,7 +222,7 @@ pub(crate) fn write_id(alloc: Global, node: Resource, out: &mut JsonText) -> Res
 }
 
 fn write_label(alloc: Global, blank: Blank, out: &mut JsonText) -> Result<(), NoMemory>
-    ensures { OnOk result (out.new ≡ out.old ++ data_tokens (string_of (blank_text blank.0))) }
+    ensures { OnOk result (Writes (string_of (blank_text blank.0)) out.old out.new) }
 {
     let text = label(alloc, blank)?;
     let written = out.string(text.as_str());

@@ -1,19 +1,17 @@
 //! The JSON-LD of a graph as a text.
-ghost use Rattle.std.specs.Prelude.{◌≡◌, ◌++◌, [], ◌∷◌, map, nat_eq, codes, IfOk, OnOk};
-ghost use Rattle.json.specs.Token as token;
-ghost use Rattle.serde_json.specs.Data.{array, member, object};
-ghost use Rattle.serde_json.specs.View.{items_of};
+ghost use Rattle.std.specs.Prelude.{◌≡◌, ◌++◌, [], map, nat_eq, IfOk, OnOk};
 ghost use Rattle.serde_json.specs.Written.{compact_text};
 ghost use Rattle.rx_model.specs.Seen.{node_seen, triples_seen};
 ghost use Rattle.rx_shapes.specs.Places.{places_of};
 ghost use Rattle.rx_shapes.specs.Table.{AreShapes, shape_in};
 ghost use Rattle.rx_notation.specs.Laws.{IsWritable, proper_triple};
-ghost use Rattle.rx_jsonld.specs.Groups.{grouped, value_at, values_at};
+ghost use Rattle.rx_jsonld.specs.Changes.{Writes, WritesEach, WritesUnder};
+ghost use Rattle.rx_jsonld.specs.Groups.{array_at, grouped, grouped_node, value_at, values_at};
 ghost use Rattle.rx_jsonld.specs.Lists.{listed};
 ghost use Rattle.rx_jsonld.specs.Meaning.{JsonLd};
 ghost use Rattle.rx_jsonld.specs.Places.{node_at, nodes_added};
-ghost use Rattle.rx_json_text.specs.Tokens.{data_tokens, each_tokens, members_tokens};
-ghost use Rattle.rx_jsonld.specs.Value.{id_text, jsonld, node_value, string_of, tops};
+ghost use Rattle.rx_json_text.specs.Tokens.{members_tokens};
+ghost use Rattle.rx_jsonld.specs.Value.{jsonld, node_value, nodes_of};
 
 use crate::groups::groups_of;
 use crate::listed::listed_cells;
@@ -59,7 +57,7 @@ fn write_nodes(
     requires shapes { AreShapes (triples_seen graph.now) shapes.now }
     requires listed { cells.now ≡ nodes_added [] (listed (shape_in shapes.now) (triples_seen graph.now)) }
     requires writable { IsWritable (triples_seen graph.now) }
-    ensures { OnOk result (out.new ≡ out.old ++ data_tokens (jsonld (triples_seen graph.now) (shape_in shapes.now))) }
+    ensures { OnOk result (Writes (jsonld (triples_seen graph.now) (shape_in shapes.now)) out.old out.new) }
 {
     out.begin_array()?;
     write_each(alloc, graph, shapes, cells, out)?;
@@ -77,7 +75,7 @@ fn write_each(
     requires shapes { AreShapes (triples_seen graph.now) shapes.now }
     requires listed { cells.now ≡ nodes_added [] (listed (shape_in shapes.now) (triples_seen graph.now)) }
     requires writable { IsWritable (triples_seen graph.now) }
-    ensures { OnOk result (out.new ≡ out.old ++ each_tokens (map (node_value (triples_seen graph.now) (shape_in shapes.now)) (tops (triples_seen graph.now) (shape_in shapes.now)))) }
+    ensures { OnOk result (WritesEach (nodes_of (triples_seen graph.now) (shape_in shapes.now)) out.old out.new) }
 {
     for i in 0..graph.len() {
         let subject = &graph.at(i).subject;
@@ -99,7 +97,7 @@ fn write_first(
     requires shapes { AreShapes (triples_seen graph.now) shapes.now }
     requires listed { cells.now ≡ nodes_added [] (listed (shape_in shapes.now) (triples_seen graph.now)) }
     requires writable { IsWritable (triples_seen graph.now) }
-    ensures { OnOk result (out.new ≡ out.old ++ each_tokens (node_at (triples_seen graph.now) (shape_in shapes.now) place (node_seen subject.now))) }
+    ensures { OnOk result (WritesEach (node_at (triples_seen graph.now) (shape_in shapes.now) place (node_seen subject.now)) out.old out.new) }
 {
     let places = shapes.places(subject);
     if !begins_node(graph, shapes, cells, places, place, subject) {
@@ -122,7 +120,7 @@ fn write_node(
     requires shapes { AreShapes (triples_seen graph.now) shapes.now }
     requires places { places.now ≡ places_of nat_eq (triples_seen graph.now) (node_seen subject.now) }
     requires writable { IsWritable (triples_seen graph.now) }
-    ensures { OnOk result (out.new ≡ out.old ++ data_tokens (node_value (triples_seen graph.now) (shape_in shapes.now) (node_seen subject.now))) }
+    ensures { OnOk result (Writes (node_value (triples_seen graph.now) (shape_in shapes.now) (node_seen subject.now)) out.old out.new) }
 {
     let groups = groups_of(alloc, graph, places)?;
     let written = write_object(alloc, graph, shapes, subject, &groups, out);
@@ -140,7 +138,7 @@ fn write_object(
     out: &mut JsonText,
 ) -> Result<(), NoMemory>
     requires { AreShapes (triples_seen graph.now) shapes.now }
-    ensures { OnOk result (out.new ≡ out.old ++ data_tokens (object (member (codes "@id") (string_of (id_text (node_seen subject.now))) (grouped (triples_seen graph.now) (shape_in shapes.now) groups.now.entries)))) }
+    ensures { OnOk result (Writes (grouped_node (triples_seen graph.now) (shape_in shapes.now) (node_seen subject.now) groups.now.entries) out.old out.new) }
 {
     out.begin_object()?;
     out.key("@id")?;
@@ -175,7 +173,7 @@ fn write_group(
     out: &mut JsonText,
 ) -> Result<(), NoMemory>
     requires { AreShapes (triples_seen graph.now) shapes.now }
-    ensures { OnOk result (out.new ≡ out.old ++ token.key key.now ∷ data_tokens (array (items_of (values_at (triples_seen graph.now) (shape_in shapes.now) places.now)))) }
+    ensures { OnOk result (WritesUnder key.now (array_at (triples_seen graph.now) (shape_in shapes.now) places.now) out.old out.new) }
 {
     out.key(key)?;
     out.begin_array()?;
@@ -192,7 +190,7 @@ fn write_places(
     out: &mut JsonText,
 ) -> Result<(), NoMemory>
     requires { AreShapes (triples_seen graph.now) shapes.now }
-    ensures { OnOk result (out.new ≡ out.old ++ each_tokens (values_at (triples_seen graph.now) (shape_in shapes.now) places.now)) }
+    ensures { OnOk result (WritesEach (values_at (triples_seen graph.now) (shape_in shapes.now) places.now) out.old out.new) }
 {
     for place in places {
         write_place(alloc, graph, shapes, *place, out)?;
@@ -208,7 +206,7 @@ fn write_place(
     out: &mut JsonText,
 ) -> Result<(), NoMemory>
     requires { AreShapes (triples_seen graph.now) shapes.now }
-    ensures { OnOk result (out.new ≡ out.old ++ data_tokens (value_at (triples_seen graph.now) (shape_in shapes.now) place)) }
+    ensures { OnOk result (Writes (value_at (triples_seen graph.now) (shape_in shapes.now) place) out.old out.new) }
 {
     if place >= graph.len() {
         return out.null();

@@ -63,10 +63,6 @@ module _ {B : Type 0} (same : B → B → Bool) (exact : IsExact same) where
   all_known seen (c ∷ more) b (inl e) = (kept_known (known_one same seen c) more).among b (ap (contains same (known_one same seen c)) (sym e) ∙ one_known seen c)
   all_known seen (c ∷ more) b (inr h) = all_known (known_one same seen c) more b h
 
-  pub known_append : (seen xs ys : List B) → known same seen (xs ++ ys) ≡ known same (known same seen xs) ys
-  known_append seen [] ys = refl
-  known_append seen (x ∷ xs) ys = known_append (known_one same seen x) xs ys
-
   pub known_distinct : (list more : List B) → known same (distinct same list) more ≡ distinct same (list ++ more)
   known_distinct list [] = ap (distinct same) (sym (append-nil list))
   known_distinct list (b ∷ more) = ap (λ z. known same z more) (sym (distinct_grows same exact list b)) ∙ known_distinct (list ++ b ∷ []) more ∙ ap (distinct same) (append_assoc list (b ∷ []) more)

@@ -151,12 +151,6 @@ numbered_more lines l =
 
 -- ---- one line more
 
-pub stands_empty : (d : Document) → d.text ≡ [] → d.blanks ≡ [] → d.statements ≡ [] → Stands d []
-stands_empty d e f g = record {
-  numbers = f;
-  keeps = record { spelled = e; held = λ line. ap (λ z. contains same_line z line) g; writable = λ line m. absurd m };
-}
-
 module _ (d new : Document) (lines : List (Line PageBlank)) (s : Stands d lines) where
   pub stands_comment : (address : Chars) (fault : Fault) → new.text ≡ d.text ++ encode_utf8_all (line_text (comment address fault)) → new.blanks ≡ d.blanks → new.statements ≡ d.statements → WritableComment address fault
       → Stands new (lines ++ comment address fault ∷ [])
@@ -244,10 +238,3 @@ module _ (d new : Document) (lines : List (Line PageBlank)) (s : Stands d lines)
 pub in_graph : (new : Document) (lines : List (Line PageBlank)) (place : ℕ) (address name : Chars) (triples : List (Triple ℕ)) → name ≡ without_fragment address
     → Stands new (lines ++ map (statement_at place name) triples) → Stands new (lines ++ lines_of place (accepted_page address triples))
 in_graph new lines place address name triples e s = subst (λ (n : Chars). Stands new (lines ++ map (statement_at place n) triples)) e s
-
--- the line of a statement that stands at a place
-pub writes_by : (old new : Document) (line said : Line ℕ) (o : Option (Line ℕ)) → o ≡ Some line → o ≡ Some said → new.text ≡ old.text ++ encode_utf8_all (line_text said) → WritableLine said
-    → new.blanks ≡ old.blanks → new.statements ≡ old.statements → Writes old line new
-writes_by old new line said o e d text w blanks statements =
-    let same : said ≡ line = cc in
-    subst (λ (l : Line ℕ). Writes old l new) same (record { text = text; writable = w; blanks = blanks; statements = statements })

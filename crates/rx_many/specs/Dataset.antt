@@ -36,8 +36,8 @@ pub record GivesQuad (pages : List Page) (to : ℕ → ℕ → ℕ) (q : Quad) :
 -- that no two pages share one.
 pub record DenotesPages (text : Chars) (pages : List Page) : Type 0 where
   pub to : ℕ → ℕ → ℕ
-  pub one_to_one : (place blank other_place other : ℕ) → HasBlank pages place blank → HasBlank pages other_place other → to place blank ≡ to other_place other
-      → (place ≡ other_place) × (blank ≡ other)
+  pub one_to_one : (place blank other_place other : ℕ) → HasBlank pages place blank → HasBlank pages other_place other
+      → to place blank ≡ to other_place other → (place ≡ other_place) × (blank ≡ other)
   pub quads : List Quad
   pub denotes : Nquads text quads
   pub each : (q : Quad) → Among quads q ↔ GivesQuad pages to q

@@ -50,12 +50,16 @@ line_blanks (statement name t) = blanks_of t
 abbrev pub table : List (Line PageBlank) → List PageBlank
 table lines = distinct same_blank (flat_map line_blanks lines)
 
+-- its place among these
+abbrev pub number_in : List PageBlank → PageBlank → ℕ
+number_in known blank = place_in same_blank known blank
+
 abbrev pub rename_line : {A B : Type 0} → (A → B) → Line A → Line B
 rename_line to (comment address fault) = comment address fault
 rename_line to (statement name t) = statement name (rename to t)
 
 abbrev pub numbered_lines : List (Line PageBlank) → List (Line ℕ)
-numbered_lines lines = map (rename_line (place_in same_blank (table lines))) lines
+numbered_lines lines = map (rename_line (number_in (table lines))) lines
 
 -- ---- what is written
 

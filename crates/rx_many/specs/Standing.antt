@@ -1,5 +1,5 @@
 -- A document of which some lines are there.
-use Rattle.std.specs.Prelude.{◌≡◌, ℕ, ◌<◌, ◌^◌, false, List, ◌++◌, length, slice_get, Some, encode_utf8_all}
+use Rattle.std.specs.Prelude.{◌≡◌, ℕ, ◌<◌, ◌^◌, true, false, List, ◌++◌, length, slice_get, Option, Some, MatchOption, Result, OnOk, encode_utf8_all}
 use Rattle.rx_terms.specs.Text.{Chars}
 use Rattle.rx_grammar.specs.declared.faults.Fault.{Fault}
 use Rattle.rx_model.specs.Sets.{Among, contains}
@@ -34,6 +34,14 @@ pub record IsAdded (old : List (Line ℕ)) (line : Line ℕ) (new : List (Line �
   pub lacks : contains same_line old line ≡ false
   pub at : slice_get new place ≡ Some line
   pub within : place < length new
+
+-- the place of a line that was added, or nothing where it is among them already
+abbrev pub AddsWhereNew : List (Line ℕ) → Line ℕ → List (Line ℕ) → Option ℕ → Type 0
+AddsWhereNew old line new place = MatchOption place (contains same_line old line ≡ true) (λ i. IsAdded old line new i)
+
+-- of whatever lines the document was, it is of these and those that were added
+abbrev pub AddsLines : {T E : Type 0} → Result T E → Document → Document → List (Line PageBlank) → Type 0
+AddsLines result old new more = (lines : List (Line PageBlank)) → Stands old lines → OnOk result (Stands new (lines ++ more))
 
 -- the line's text was added
 pub record Writes (old : Document) (line : Line ℕ) (new : Document) : Type 0 where

@@ -1,8 +1,8 @@
 //! The numbering of the blank nodes of several pages.
 ghost use Rattle.std.specs.Prelude.{◌≡◌, [], IfOk, OnOk};
-ghost use Rattle.rx_model.specs.Numbered.{blank_of_node, blank_of_term, blanks_of, place_in, rename_node, rename_term, rename};
+ghost use Rattle.rx_model.specs.Numbered.{blank_of_node, blank_of_term, blanks_of, rename_node, rename_term, rename};
 ghost use Rattle.rx_model.specs.Seen.{node_seen, term_seen, triple_seen};
-ghost use Rattle.rx_many.specs.Lines.{at_place, same_blank};
+ghost use Rattle.rx_many.specs.Lines.{at_place, number_in, same_blank};
 ghost use Rattle.rx_many.specs.Numbering.{known_one, known};
 
 use indexmap::IndexSet;
@@ -50,7 +50,7 @@ impl Blanks {
     /// those that were seen.
     pub(crate) fn numbered(&mut self, page: usize, triple: &Triple) -> Result<Triple, NoMemory>
         ensures known { OnOk result (self.new ≡ known same_blank self.old (blanks_of (rename (at_place page) (triple_seen triple.now)))) }
-        ensures renamed { IfOk result (λ numbered. triple_seen numbered ≡ rename (place_in same_blank self.new) (rename (at_place page) (triple_seen triple.now))) }
+        ensures renamed { IfOk result (λ numbered. triple_seen numbered ≡ rename (number_in self.new) (rename (at_place page) (triple_seen triple.now))) }
     {
         let subject = self.numbered_node(page, &triple.subject)?;
         let object = self.numbered_term(page, &triple.object)?;
@@ -64,7 +64,7 @@ impl Blanks {
 
     fn numbered_node(&mut self, page: usize, node: &Node) -> Result<Node, NoMemory>
         ensures known { OnOk result (self.new ≡ known same_blank self.old (blank_of_node (rename_node (at_place page) (node_seen node.now)))) }
-        ensures renamed { IfOk result (λ numbered. node_seen numbered ≡ rename_node (place_in same_blank self.new) (rename_node (at_place page) (node_seen node.now))) }
+        ensures renamed { IfOk result (λ named. node_seen named ≡ rename_node (number_in self.new) (rename_node (at_place page) (node_seen node.now))) }
     {
         match node {
             Node::Iri(iri) => Ok(Node::Iri(iri.try_clone()?)),
@@ -74,7 +74,7 @@ impl Blanks {
 
     fn numbered_term(&mut self, page: usize, term: &Term) -> Result<Term, NoMemory>
         ensures known { OnOk result (self.new ≡ known same_blank self.old (blank_of_term (rename_term (at_place page) (term_seen term.now)))) }
-        ensures renamed { IfOk result (λ numbered. term_seen numbered ≡ rename_term (place_in same_blank self.new) (rename_term (at_place page) (term_seen term.now))) }
+        ensures renamed { IfOk result (λ named. term_seen named ≡ rename_term (number_in self.new) (rename_term (at_place page) (term_seen term.now))) }
     {
         match term {
             Term::Iri(iri) => Ok(Term::Iri(iri.try_clone()?)),
@@ -85,7 +85,7 @@ impl Blanks {
 
     fn number(&mut self, page: usize, blank: Blank) -> Result<Blank, NoMemory>
         ensures known { OnOk result (self.new ≡ known_one same_blank self.old (at_place page blank.0)) }
-        ensures place { IfOk result (λ number. number.0 ≡ place_in same_blank self.new (at_place page blank.0)) }
+        ensures place { IfOk result (λ number. number.0 ≡ number_in self.new (at_place page blank.0)) }
     {
         let Ok((place, _is_new)) = self.blanks.insert_full(PageBlank { page, blank }) else {
             return Err(NoMemory);

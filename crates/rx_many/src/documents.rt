@@ -1,10 +1,10 @@
 //! A document that is being written.
-ghost use Rattle.std.specs.Prelude.{◌≡◌, ◌<◌, ℕ, [], ◌∷◌, ◌++◌, List, IfOk, OnOk, Some, length, map, slice_get};
+ghost use Rattle.std.specs.Prelude.{◌≡◌, ◌<◌, ℕ, [], ◌∷◌, IfOk, OnOk, Some, length, map, slice_get};
 ghost use Rattle.rx_model.specs.Seen.{triple_seen, triples_seen};
-ghost use Rattle.rx_many.specs.Lines.{Line, PageBlank, comment, statement_at, lines_of, lines_from};
+ghost use Rattle.rx_many.specs.Lines.{Line, comment, statement_at, lines_of, lines_from};
 ghost use Rattle.rx_many.specs.Pages.{accepted_page};
 ghost use Rattle.rx_many.specs.Seen.{page_seen};
-ghost use Rattle.rx_many.specs.Standing.{Stands, Writes};
+ghost use Rattle.rx_many.specs.Standing.{AddsLines, Stands, Writes};
 
 use crate::blanks::Blanks;
 use crate::pages::{Judgement, Page};
@@ -53,7 +53,7 @@ impl Document {
 
     /// Adds the lines of the page at this place.
     fn put_page(&mut self, alloc: Global, place: usize, page: &Page) -> Result<(), NoMemory>
-        ensures { (lines : List (Line PageBlank)) → Stands self.old lines → OnOk result (Stands self.new (lines ++ lines_of place (page_seen page.now))) }
+        ensures { AddsLines result self.old self.new (lines_of place (page_seen page.now)) }
     {
         match &page.judgement {
             Judgement::Refused(fault) => self.put_comment(alloc, &page.address, *fault),
@@ -62,7 +62,7 @@ impl Document {
     }
 
     fn put_comment(&mut self, alloc: Global, address: &Iri, fault: Fault) -> Result<(), NoMemory>
-        ensures { (lines : List (Line PageBlank)) → Stands self.old lines → OnOk result (Stands self.new (lines ++ comment address.now fault ∷ [])) }
+        ensures { AddsLines result self.old self.new (comment address.now fault ∷ []) }
     {
         let line = comment_on(alloc, address, fault)?;
         let put = self.text.put_bytes(line.as_bytes());
@@ -78,7 +78,7 @@ impl Document {
         address: &Iri,
         graph: &Graph,
     ) -> Result<(), NoMemory>
-        ensures { (lines : List (Line PageBlank)) → Stands self.old lines → OnOk result (Stands self.new (lines ++ lines_of place (accepted_page address.now (triples_seen graph.now)))) }
+        ensures { AddsLines result self.old self.new (lines_of place (accepted_page address.now (triples_seen graph.now))) }
     {
         let name = without_fragment(alloc, address)?;
         self.put_triples(place, &name, graph)
@@ -86,7 +86,7 @@ impl Document {
 
     /// Adds the triples of the page at this place, in the graph of this name.
     fn put_triples(&mut self, place: usize, name: &Iri, graph: &Graph) -> Result<(), NoMemory>
-        ensures { (lines : List (Line PageBlank)) → Stands self.old lines → OnOk result (Stands self.new (lines ++ map (statement_at place name.now) (triples_seen graph.now))) }
+        ensures { AddsLines result self.old self.new (map (statement_at place name.now) (triples_seen graph.now)) }
     {
         for i in 0..graph.len() {
             self.put_triple(place, name, graph.at(i))?;
@@ -96,7 +96,7 @@ impl Document {
 
     /// Adds the line of a triple of the page at this place, where no earlier line states it.
     fn put_triple(&mut self, place: usize, name: &Iri, triple: &Triple) -> Result<(), NoMemory>
-        ensures { (lines : List (Line PageBlank)) → Stands self.old lines → OnOk result (Stands self.new (lines ++ statement_at place name.now (triple_seen triple.now) ∷ [])) }
+        ensures { AddsLines result self.old self.new (statement_at place name.now (triple_seen triple.now) ∷ []) }
     {
         let triple = self.blanks.numbered(place, triple)?;
         let name = name.try_clone()?;

@@ -1,8 +1,7 @@
 //! Comments on pages that are refused.
 ghost use Rattle.std.specs.Prelude.{◌≡◌, ◌<◌, ◌^◌, ◌++◌, IfOk, OnOk, codes, encode_utf8_all, string_bytes};
-ghost use Rattle.std.specs.Fmt.{decimal};
 ghost use Rattle.rx_many.specs.Lines.{comment};
-ghost use Rattle.rx_many.specs.Writing.{line_text};
+ghost use Rattle.rx_many.specs.Writing.{comment_with, line_text};
 ghost use Rattle.rx_many.specs.Standing.{WritableComment};
 
 use crate::kinds::name_of;
@@ -36,7 +35,7 @@ fn comment_with(
     address: &str,
 ) -> Result<String, AllocError>
     ensures fits { (at < 2 ^ 64) × (token < 2 ^ 64) }
-    ensures spelled { IfOk result (λ line. string_bytes line ≡ codes "# refused: " ++ (kind.now ++ (codes " at byte " ++ (decimal at ++ (codes " in token " ++ (decimal token ++ (codes " of " ++ (address.now ++ codes "\n")))))))) }
+    ensures spelled { IfOk result (λ line. string_bytes line ≡ comment_with kind.now at token (address.now ++ codes "\n")) }
 {
     format!(in alloc; "# refused: {kind} at byte {at} in token {token} of {address}\n")
 }

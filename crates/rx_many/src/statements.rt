@@ -1,9 +1,9 @@
 //! The statements of a document.
-ghost use Rattle.std.specs.Prelude.{◌≡◌, ◌<◌, [], ◌∷◌, ◌++◌, true, IfOk, OnOk, MatchOption, Some, length, slice_get, if◌then◌else◌};
-ghost use Rattle.rx_model.specs.Sets.{contains};
+ghost use Rattle.std.specs.Prelude.{◌≡◌, ◌<◌, [], IfOk, OnOk, Some, length, slice_get};
 ghost use Rattle.rx_many.specs.Lines.{same_line};
+ghost use Rattle.rx_many.specs.Numbering.{known_one};
 ghost use Rattle.rx_many.specs.Seen.{statement_seen};
-ghost use Rattle.rx_many.specs.Standing.{IsAdded};
+ghost use Rattle.rx_many.specs.Standing.{AddsWhereNew};
 
 use rx_terms::{Iri, NoMemory, Triple};
 use rx_unique::Unique;
@@ -26,6 +26,7 @@ pub(crate) struct Statements {
 impl Model for Statements {
     ghost use Rattle.std.specs.Prelude.{ℕ, List, map};
     ghost use Rattle.rx_many.specs.Lines.{Line};
+    ghost use Rattle.rx_many.specs.Numbering.{known_one};
     ghost use Rattle.rx_many.specs.Seen.{statement_seen};
 
     ghost Value = { List (Line ℕ) };
@@ -44,8 +45,8 @@ impl Statements {
 
     /// Adds the statement at the end, where it isn't there yet, and gives its place then.
     pub(crate) fn add(&mut self, statement: Statement) -> Result<Option<usize>, NoMemory>
-        ensures list { OnOk result (self.new ≡ (if contains same_line self.old (statement_seen statement) then self.old else self.old ++ statement_seen statement ∷ [])) }
-        ensures place { IfOk result (λ place. MatchOption place (contains same_line self.old (statement_seen statement) ≡ true) (λ i. IsAdded self.old (statement_seen statement) self.new i)) }
+        ensures list { OnOk result (self.new ≡ known_one same_line self.old (statement_seen statement)) }
+        ensures place { IfOk result (AddsWhereNew self.old (statement_seen statement) self.new) }
     {
         let Ok((place, is_new)) = self.statements.insert_full(statement) else {
             return Err(NoMemory);

@@ -13,15 +13,8 @@ use Rattle.rx_notation.specs.Syntax.{Reference, Full, Short, Subject, Named, Lab
 use Rattle.rx_notation.specs.Grammar.{Full_stop, Semicolon_sign, Comma_sign, Left_bracket, Right_bracket, Brackets, Left_parenthesis, Right_parenthesis, Parentheses, Token, sign, noun, quoted, verb_token, tokens, statement_tokens, prefix_tokens, document_tokens}
 use Rattle.rx_notation.specs.Spelling.{SpellsReference, SpellsSubject, SpellsSuffix, SpellsToken, is_gap, SpellsBehind, SpellsTokens}
 use Rattle.rx_notation.proofs.Joining.{Opens, Puts, Adds, behind_gap, puts_token, puts_then, adds_gap, adds_nothing}
-use Rattle.rx_notation.proofs.LaidOut.{GoodPrefix, prefixes_spelled}
+use Rattle.rx_notation.proofs.LaidOut.{GoodPrefix, moved, prefixes_spelled}
 use Rattle.rx_nested.specs.Writing.{reference_text, subject_text, verb_text, suffix_text, inside_gap, line_gap, part_text, statement_text, document_text}
-
-moved : (a gap b stop end rest : Chars) → (a ++ (gap ++ (b ++ stop))) ++ (end ++ rest) ≡ (a ++ (gap ++ (b ++ (stop ++ end)))) ++ rest
-moved a gap b stop end rest =
-    append_assoc a (gap ++ (b ++ stop)) (end ++ rest)
-    ∙ ap (λ z. a ++ z) (append_assoc gap (b ++ stop) (end ++ rest) ∙ ap (λ z. gap ++ z) (append_assoc b stop (end ++ rest) ∙ ap (λ z. b ++ z) (sym (append_assoc stop end rest)) ∙ sym (append_assoc b (stop ++ end) rest))
-    ∙ sym (append_assoc gap (b ++ (stop ++ end)) rest))
-    ∙ sym (append_assoc a (gap ++ (b ++ (stop ++ end))) rest)
 
 -- ---- what is asked of the parts, where a short form has a prefix of the context, and labels are free
 

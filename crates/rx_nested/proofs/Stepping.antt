@@ -19,9 +19,6 @@ use Rattle.rx_nested.proofs.Unfolded.{node_unfolds, cell_unfolds}
 
 -- ---- texts and names
 
-texts : List Piece → Chars
-texts list = flat_map piece_text list
-
 pieces_text : {sort : Sort} (gap : Chars) (p : Part sort) (rest : List Piece) → flat_map piece_text (pieces gap p rest) ≡ part_text gap p ++ flat_map piece_text rest
 pieces_text gap (Noun s) rest = refl
 pieces_text gap (Quoted text suffix) rest = refl

@@ -58,7 +58,8 @@ module _ (context : Prefixes) where
   -- a node in brackets of which this is said
   abbrev pub bracket_steps : (Chars → List (Term ℕ)) → List Chars → List Step
   bracket_steps objects [] = say (words (codes "[]")) ∷ []
-  bracket_steps objects (p ∷ more) = say (words (codes "[ ")) ∷ (line_steps objects p ++ (lines_after inside_gap objects more ++ say (words (codes " ]")) ∷ []))
+  bracket_steps objects (p ∷ more) =
+      say (words (codes "[ ")) ∷ (line_steps objects p ++ (lines_after inside_gap objects more ++ say (words (codes " ]")) ∷ []))
 
   abbrev pub node_steps : List (Triple ℕ) → Shape → ℕ → List Step
   node_steps list shape.Labelled number = say (subject (Labelled number)) ∷ []
@@ -80,7 +81,8 @@ module _ (context : Prefixes) where
 
   abbrev pub statement_steps : List (Triple ℕ) → Node ℕ → List Step
   statement_steps list node =
-      say (subject (subject_of context node)) ∷ say (words (codes " ")) ∷ (said_steps (objects_of list node) (predicates_of list node) ++ say (words (codes " .\n")) ∷ [])
+      say (subject (subject_of context node)) ∷ say (words (codes " "))
+      ∷ (said_steps (objects_of list node) (predicates_of list node) ++ say (words (codes " .\n")) ∷ [])
 
 module _ (context : Prefixes) (list : List (Triple ℕ)) (shapes : ℕ → Shape) where
   -- ---- what a step comes to
@@ -98,7 +100,9 @@ module _ (context : Prefixes) (list : List (Triple ℕ)) (shapes : ℕ → Shape
 pub record StepsArePieces : Type 0 where
   pub objects : (context : Prefixes) (list : List (Triple ℕ)) (shapes : ℕ → Shape) → HaveShapes list shapes → (o : Term ℕ) (rest : List Piece)
       → step_pieces context list shapes (object o) rest ≡ steps_pieces context list shapes (term_steps context list shapes o) rest
-  pub cells : (context : Prefixes) (list : List (Triple ℕ)) (shapes : ℕ → Shape) → HaveShapes list shapes → (number : ℕ) (rest : List Piece) → Cell (set_of list) number
+  pub cells : (context : Prefixes) (list : List (Triple ℕ)) (shapes : ℕ → Shape) → HaveShapes list shapes
+      → (number : ℕ) (rest : List Piece) → Cell (set_of list) number
       → step_pieces context list shapes (after number) rest ≡ words (codes " ") ∷ steps_pieces context list shapes (cell_steps list number) rest
-  pub statements : (context : Prefixes) (list : List (Triple ℕ)) (shapes : ℕ → Shape) (node : Node ℕ) (rest : List Piece) → (p : Chars) → Among (predicates_of list node) p
+  pub statements : (context : Prefixes) (list : List (Triple ℕ)) (shapes : ℕ → Shape) (node : Node ℕ) (rest : List Piece)
+      → (p : Chars) → Among (predicates_of list node) p
       → statement_pieces (statement_of context list shapes node) rest ≡ steps_pieces context list shapes (statement_steps context list node) rest

@@ -23,10 +23,6 @@ last_due (x ∷ tasks) t = ap (λ z. z ++ task_seen x ∷ []) (last_due tasks t)
 pub pushed_due : (old new : List Task) (t : Task) → new ≡ old ++ t ∷ [] → due_on new ≡ task_seen t ∷ due_on old
 pushed_due old new t e = ap due_on e ∙ last_due old t
 
-pub nothing_due : (tasks : List Task) → length tasks ≡ 0 → due_on tasks ≡ []
-nothing_due [] e = refl
-nothing_due (x ∷ tasks) e = absurd (omega (arith, e))
-
 pub some_tasks : (m n : ℕ) (b : Bool) → b ≡ false → b ≡ (m == 0) → m ≡ n → 0 < n
 some_tasks m n b none is same =
     let test : (m == 0) ≡ false = sym is ∙ none in
@@ -112,10 +108,6 @@ module _ (gap : Words) where
 -- an inner part, and what stands before and behind it
 pub enclosed : (first last : Due) (inner old mid new : List Due) → mid ≡ last ∷ old → new ≡ inner ++ mid → first ∷ new ≡ (first ∷ (inner ++ last ∷ [])) ++ old
 enclosed first last inner old mid new e h = ap (λ z. first ∷ z) (h ∙ ap (λ z. inner ++ z) e ∙ sym (append_assoc inner (last ∷ []) old))
-
-pub no_brackets : (list : List (Triple ℕ)) (old : List Due) → length list ≡ 0 → Say (Fixed fixed.Empty) ∷ old ≡ bracket_due (runs by.Predicate list) ++ old
-no_brackets [] old e = refl
-no_brackets (t ∷ list) old e = absurd (omega (arith, e))
 
 pub some_brackets : (list : List (Triple ℕ)) (old mid new : List Due) → 0 < length list → mid ≡ Say (Fixed fixed.Close) ∷ old → new ≡ lines_due fixed.InsideGap (runs by.Predicate list) ++ mid
     → Say (Fixed fixed.Open) ∷ new ≡ bracket_due (runs by.Predicate list) ++ old

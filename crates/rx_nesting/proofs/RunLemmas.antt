@@ -41,9 +41,6 @@ module _ (source : Source) (first : List Due) (start : List Token) where
     pub each : (context : Prefixes) (rest : List Piece) → pieces_of context (tokens_seen now) ++ due_pieces context (list_of source) (shapes_of source) due rest
         ≡ pieces_of context (tokens_seen start) ++ due_pieces context (list_of source) (shapes_of source) first rest
 
-pub running_start : (source : Source) (first : List Due) (start : List Token) → AreCells (list_of source) first → Running source first start first start
-running_start source first start h = record { cells = h; each = λ context rest. refl }
-
 pub running_turn : (source : Source) (first : List Due) (start : List Token) → IsSource source → (due more new : List Due) (d : Due) (now next : List Token) (token : Token) → due ≡ d ∷ more
     → Say (token_seen token) ∷ new ≡ opened (list_of source) (shapes_of source) d ++ more → next ≡ now ++ token ∷ [] → Running source first start due now → Running source first start new next
 running_turn source first start is due more new d now next token top e grows h =
@@ -97,19 +94,11 @@ module _ (source : Source) (node : Node ℕ) (triples : List (Triple ℕ)) (is :
         ∙ ap (λ b. one_said context (list_of source) (shapes_of source) b node rest) (sym top));
   }
 
-  pub says_nothing : (old : List Token) → is_top (shapes_of source) node ≡ false → Says source node old old
-  says_nothing old top = record {
-    each = λ context rest. ap (λ b. pieces_of context (tokens_seen old) ++ one_said context (list_of source) (shapes_of source) b node rest) (sym top);
-  }
-
 -- ---- all statements
 
 -- the tokens are those of the subjects so far
 pub record Stated (source : Source) (groups : List Keyed) (now : List Token) : Type 0 where
   pub each : (context : Prefixes) (rest : List Piece) → pieces_of context (tokens_seen now) ++ rest ≡ all_said context (list_of source) (shapes_of source) groups rest
-
-pub stated_start : (source : Source) (groups : List Keyed) (now : List Token) → now ≡ [] → Stated source (take 0 groups) now
-stated_start source groups now none = record { each = λ context rest. ap (λ z. pieces_of context (tokens_seen z) ++ rest) none }
 
 module _ (context : Prefixes) (list : List (Triple ℕ)) (shapes : ℕ → Shape) where
   said_both : (xs ys : List Keyed) (rest : List Piece) → all_said context list shapes (xs ++ ys) rest ≡ all_said context list shapes xs (all_said context list shapes ys rest)

@@ -29,9 +29,6 @@ module _ (list : List (Triple ℕ)) where
       grows ∙ ap (λ z. z ++ option_to_list (slice_get list place)) h
       ∙ sym (ap (picked list) (one_more places i place at) ∙ picked_both (take i places) (place ∷ []) ∙ ap (λ z. picked list (take i places) ++ z) one)
 
-  pub picked_end : (places : List ℕ) (i : ℕ) (now : List (Triple ℕ)) → length places ≤ i → now ≡ picked list (take i places) → now ≡ picked list places
-  picked_end places i now past h = h ∙ ap (picked list) (take_all i places past)
-
 after_front : (front : List (Triple ℕ)) (t : Triple ℕ) (list : List (Triple ℕ)) → slice_get (front ++ t ∷ list) (length front) ≡ Some t
 after_front [] t list = refl
 after_front (x ∷ front) t list = after_front front t list
@@ -78,24 +75,3 @@ module _ (list : List (Triple ℕ)) (table : Table) (shapes : AreShapes list tab
 
   pub found_with : (p : Chars) → found list p places ≡ object_with list node p
   found_with p = found_is p places ∙ ap (λ z. first_of (map (λ (t : Triple ℕ). t.object) (filter (has_predicate p) z))) picked_are
-
--- ---- the search
-
-module _ (list : List (Triple ℕ)) (p : Chars) (places : List ℕ) (i place : ℕ) (at : slice_get places i ≡ Some place) where
-  found_from : found list p (drop i places) ≡ option_or (object_by p (slice_get list place)) (found list p (drop (i + 1) places))
-  found_from = ap (found list p) (go places i at)
-    where
-      go : (places : List ℕ) (i : ℕ) → slice_get places i ≡ Some place → drop i places ≡ place ∷ drop (i + 1) places
-      go [] i at = absurd (cc)
-      go (x ∷ places) zero at = let same : x ≡ place = cc in ap (λ z. z ∷ places) same
-      go (x ∷ places) (suc i) at = let up : suc i + 1 ≡ suc (i + 1) = omega arith in go places i at ∙ ap (λ n. place ∷ drop n (x ∷ places)) (sym up)
-
-  pub found_here : (o : Option (Term ℕ)) (x : Term ℕ) → o ≡ object_by p (slice_get list place) → o ≡ Some x → found list p places ≡ found list p (drop i places) → o ≡ found list p places
-  found_here o x is some h =
-      some ∙ sym (h ∙ found_from ∙ ap (λ z. option_or z (found list p (drop (i + 1) places))) (sym is ∙ some))
-
-  pub found_next : (o : Option (Term ℕ)) → o ≡ object_by p (slice_get list place) → o ≡ None → found list p places ≡ found list p (drop i places) → found list p places ≡ found list p (drop (i + 1) places)
-  found_next o is none h = h ∙ found_from ∙ ap (λ z. option_or z (found list p (drop (i + 1) places))) (sym is ∙ none)
-
-pub found_none : (list : List (Triple ℕ)) (p : Chars) (places : List ℕ) (i : ℕ) → length places ≤ i → found list p places ≡ found list p (drop i places) → None ≡ found list p places
-found_none list p places i past h = sym (h ∙ ap (found list p) (drop_of_length-le places past))

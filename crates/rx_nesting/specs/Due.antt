@@ -41,6 +41,10 @@ abbrev pub due_on : List Task → List Due
 due_on [] = []
 due_on (t ∷ tasks) = due_on tasks ++ task_seen t ∷ []
 
+-- the token is the first of what is due, and all behind that was put before what was due so far
+abbrev pub Opens : List Due → List Due → List Due → Token → Type 0
+Opens due old new token = Say (token_seen token) ∷ new ≡ due ++ old
+
 -- ---- what is due of several things, with words between them
 
 module _ {A : Type 0} (one : A → List Due) (gap : Words) where
@@ -73,7 +77,9 @@ verb_due t = Say (Verb (key_by by.Predicate t)) ∷ Say (Fixed fixed.Space) ∷ 
 
 -- a triple behind another
 abbrev pub behind_due : Words → Triple ℕ → Triple ℕ → List Due
-behind_due gap s t = if has_key by.Predicate (key_by by.Predicate t) s then Say (Fixed fixed.Comma) ∷ Object t.object ∷ [] else Say (Fixed gap) ∷ (verb_due t ++ Object t.object ∷ [])
+behind_due gap s t =
+    if has_key by.Predicate (key_by by.Predicate t) s then Say (Fixed fixed.Comma) ∷ Object t.object ∷ []
+    else Say (Fixed gap) ∷ (verb_due t ++ Object t.object ∷ [])
 
 -- triples behind another
 abbrev pub tail_due : Words → Triple ℕ → List (Triple ℕ) → List Due

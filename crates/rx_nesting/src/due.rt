@@ -1,8 +1,8 @@
 //! What is said of a node, as tasks. What comes last is put on the stack first.
-ghost use Rattle.std.specs.Prelude.{◌≡◌, ◌+◌, ◌-◌, ◌<◌, ◌++◌, length, map, OnOk, Some, slice_get};
+ghost use Rattle.std.specs.Prelude.{◌≡◌, ◌+◌, ◌-◌, ◌<◌, ◌++◌, length, OnOk, Some, slice_get};
 ghost use Rattle.rx_model.specs.Seen.{triple_seen};
 ghost use Rattle.rx_graph.specs.Resources.{resource_seen};
-ghost use Rattle.rx_groups.specs.Groups.{grouped};
+ghost use Rattle.rx_groups.specs.Groups.{grouped, lent_triples};
 ghost use Rattle.rx_groups.specs.Runs.{runs};
 ghost use Rattle.rx_groups.specs.declared.keys.By.TheVariants as by;
 ghost use Rattle.rx_nesting.specs.Due.{lines_due, statement_due, verb_due, behind_due, next_due, first_due};
@@ -21,7 +21,7 @@ pub(crate) fn push_statement<'a>(
     subject: Resource<'a>,
     triples: &[&'a Triple],
 ) -> Result<(), NoMemory>
-    ensures { OnOk result (stack.new ≡ statement_due (resource_seen subject.entry) (grouped by.Predicate (map (λ t. triple_seen t.now) triples.now)) ++ stack.old) }
+    ensures { OnOk result (stack.new ≡ statement_due (resource_seen subject.entry) (grouped by.Predicate (lent_triples triples.now)) ++ stack.old) }
 {
     let said = by_predicate(alloc, triples)?;
     push_said(stack, subject, &said)?;
@@ -33,7 +33,7 @@ fn push_said<'a>(
     subject: Resource<'a>,
     said: &[&'a Triple],
 ) -> Result<(), NoMemory>
-    ensures { OnOk result (stack.new ≡ statement_due (resource_seen subject.entry) (runs by.Predicate (map (λ t. triple_seen t.now) said.now)) ++ stack.old) }
+    ensures { OnOk result (stack.new ≡ statement_due (resource_seen subject.entry) (runs by.Predicate (lent_triples said.now)) ++ stack.old) }
 {
     stack.say(Words::End)?;
     push_lines(stack, said, Words::LineGap)?;
@@ -48,7 +48,7 @@ pub(crate) fn push_lines<'a>(
     said: &[&'a Triple],
     gap: Words,
 ) -> Result<(), NoMemory>
-    ensures { OnOk result (stack.new ≡ lines_due gap (runs by.Predicate (map (λ t. triple_seen t.now) said.now)) ++ stack.old) }
+    ensures { OnOk result (stack.new ≡ lines_due gap (runs by.Predicate (lent_triples said.now)) ++ stack.old) }
 {
     for i in (0..count_before(said)).rev() {
         push_next(stack, said, i, gap)?;
@@ -72,14 +72,14 @@ fn push_next<'a>(
     gap: Words,
 ) -> Result<(), NoMemory>
     requires { place + 1 < length said.now }
-    ensures { OnOk result (stack.new ≡ next_due gap place (map (λ t. triple_seen t.now) said.now) ++ stack.old) }
+    ensures { OnOk result (stack.new ≡ next_due gap place (lent_triples said.now) ++ stack.old) }
 {
     push_behind(stack, one_at(said, place), one_at(said, place + 1), gap)
 }
 
 fn one_at<'a>(said: &[&'a Triple], place: usize) -> &'a Triple
     requires { place < length said.now }
-    ensures { slice_get (map (λ t. triple_seen t.now) said.now) place ≡ Some (triple_seen result.now) }
+    ensures { slice_get (lent_triples said.now) place ≡ Some (triple_seen result.now) }
 {
     said[place]
 }
@@ -109,7 +109,7 @@ fn push_verb<'a>(stack: &mut Stack<'a>, triple: &'a Triple) -> Result<(), NoMemo
 
 /// The predicate and object of the first triple.
 fn push_first<'a>(stack: &mut Stack<'a>, said: &[&'a Triple]) -> Result<(), NoMemory>
-    ensures { OnOk result (stack.new ≡ first_due (map (λ t. triple_seen t.now) said.now) ++ stack.old) }
+    ensures { OnOk result (stack.new ≡ first_due (lent_triples said.now) ++ stack.old) }
 {
     if said.is_empty() {
         return Ok(());

@@ -1,10 +1,9 @@
 //! The tokens of a graph in which blank nodes are written where they are used, as far as their shapes allow.
-ghost use Rattle.std.specs.Prelude.{◌≡◌, [], map, IfOk, OnOk};
-ghost use Rattle.rx_model.specs.Seen.{triple_seen};
+ghost use Rattle.std.specs.Prelude.{◌≡◌, [], IfOk, OnOk};
 ghost use Rattle.rx_graph.specs.Resources.{resource_seen};
 ghost use Rattle.rx_shapes.specs.Table.{shape_in};
 ghost use Rattle.rx_nested.specs.Nesting.{is_top, is_top_by};
-ghost use Rattle.rx_groups.specs.Groups.{grouped};
+ghost use Rattle.rx_groups.specs.Groups.{grouped, lent_triples};
 ghost use Rattle.rx_groups.specs.declared.keys.By.TheVariants as by;
 ghost use Rattle.rx_nesting.specs.Due.{list_of, IsSource, AreCells, Comes, Says, AreTokens, IsSubject};
 
@@ -53,7 +52,7 @@ fn state<'a>(
     tokens: &mut Vec<Token<'a>>,
 ) -> Result<(), NoMemory>
     requires source { IsSource source.now }
-    requires subject { IsSubject (list_of source.now) (resource_seen subject) (map (λ t. triple_seen t.now) triples.now) }
+    requires subject { IsSubject (list_of source.now) (resource_seen subject) (lent_triples triples.now) }
     requires stack { stack.old ≡ [] }
     ensures says { OnOk result (Says source.now (resource_seen subject.entry) tokens.old.items tokens.new.items) }
     ensures stack { OnOk result (stack.new ≡ []) }

@@ -1,10 +1,11 @@
 //! What is said of a node, by the places of its triples.
-ghost use Rattle.std.specs.Prelude.{◌≡◌, ◌++◌, map, IfOk, OnOk, slice_get, option_map, option_to_list, bytes_eq, if◌then◌else◌};
+ghost use Rattle.std.specs.Prelude.{◌≡◌, ◌++◌, IfOk, OnOk, slice_get, option_map, option_to_list, bytes_eq, if◌then◌else◌};
 ghost use Rattle.rx_model.specs.Seen.{node_seen, term_seen, triple_seen, triples_seen};
 ghost use Rattle.rx_shapes.specs.Table.{AreShapes};
 ghost use Rattle.rx_groups.specs.Runs.{runs};
 ghost use Rattle.rx_groups.specs.declared.keys.By.TheVariants as by;
 ghost use Rattle.rx_nesting.specs.Said.{picked, predicate_of, object_by, found, said_of};
+ghost use Rattle.rx_groups.specs.Groups.{lent_triples, Gains};
 
 use rx_graph::Graph;
 use rx_groups::by_predicate;
@@ -27,7 +28,7 @@ pub(crate) fn said_of<'a>(
     node: &Node,
 ) -> Result<Vec<&'a Triple>, NoMemory>
     requires { AreShapes (triples_seen graph.now) shapes.now }
-    ensures { IfOk result (λ said. runs by.Predicate (map (λ t. triple_seen t.now) said.items) ≡ said_of (triples_seen graph.now) (node_seen node.now)) }
+    ensures { IfOk result (λ said. runs by.Predicate (lent_triples said.items) ≡ said_of (triples_seen graph.now) (node_seen node.now)) }
 {
     let triples = picked(alloc, graph, shapes.places(node))?;
     let said = by_predicate(alloc, &triples)?;
@@ -40,7 +41,7 @@ fn picked<'a>(
     graph: &'a Graph,
     places: &[usize],
 ) -> Result<Vec<&'a Triple>, NoMemory>
-    ensures { IfOk result (λ triples. map (λ t. triple_seen t.now) triples.items ≡ picked (triples_seen graph.now) places.now) }
+    ensures { IfOk result (λ triples. lent_triples triples.items ≡ picked (triples_seen graph.now) places.now) }
 {
     let mut triples = Vec::with_capacity(alloc, places.len())?;
     for i in 0..places.len() {
@@ -50,7 +51,7 @@ fn picked<'a>(
 }
 
 fn pick<'a>(triples: &mut Vec<&'a Triple>, graph: &'a Graph, place: usize) -> Result<(), NoMemory>
-    ensures { OnOk result (map (λ t. triple_seen t.now) triples.new.items ≡ map (λ t. triple_seen t.now) triples.old.items ++ option_to_list (slice_get (triples_seen graph.now) place)) }
+    ensures { OnOk result (Gains triples.old.items triples.new.items (option_to_list (slice_get (triples_seen graph.now) place))) }
 {
     let Some(triple) = triple_at(graph, place) else {
         return Ok(());

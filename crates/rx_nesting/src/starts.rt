@@ -1,13 +1,14 @@
 //! The first token of a task, and what is due after it.
-ghost use Rattle.std.specs.Prelude.{◌≡◌, [], ◌∷◌, ◌++◌, map, IfOk};
-ghost use Rattle.rx_model.specs.Seen.{term_seen, triple_seen};
+ghost use Rattle.std.specs.Prelude.{◌≡◌, [], ◌∷◌, IfOk};
+ghost use Rattle.rx_model.specs.Seen.{term_seen};
 ghost use Rattle.rx_groups.specs.Runs.{runs};
 ghost use Rattle.rx_groups.specs.declared.keys.By.TheVariants as by;
 ghost use Rattle.rx_model.specs.Terms as model;
 ghost use Rattle.rx_shapes.specs.declared.shapes.Shape.TheVariants as shape;
 ghost use Rattle.rx_nesting.specs.Said.{said_of};
 ghost use Rattle.rx_nesting.specs.Tokens.{token_seen};
-ghost use Rattle.rx_nesting.specs.Due.{task_seen, Say, After, bracket_due, iri_due, node_due, term_due, opened, list_of, shapes_of, IsSource};
+ghost use Rattle.rx_nesting.specs.Due.{Opens, task_seen, Say, After, bracket_due, iri_due, node_due, term_due, opened, list_of, shapes_of, IsSource};
+ghost use Rattle.rx_groups.specs.Groups.{lent_triples};
 
 use crate::cells::push_cell;
 use crate::due::push_lines;
@@ -26,7 +27,7 @@ pub(crate) fn start<'a>(
     task: Task<'a>,
 ) -> Result<Token<'a>, NoMemory>
     requires { IsSource source.now }
-    ensures { IfOk result (λ token. Say (token_seen token) ∷ stack.new ≡ opened (list_of source.now) (shapes_of source.now) (task_seen task.entry) ++ stack.old) }
+    ensures { IfOk result (Opens (opened (list_of source.now) (shapes_of source.now) (task_seen task.entry)) stack.old stack.new) }
 {
     match task {
         Task::Say(token) => Ok(token),
@@ -41,7 +42,7 @@ fn start_term<'a>(
     term: &'a Term,
 ) -> Result<Token<'a>, NoMemory>
     requires { IsSource source.now }
-    ensures { IfOk result (λ token. Say (token_seen token) ∷ stack.new ≡ term_due (list_of source.now) (shapes_of source.now) (term_seen term.now) ++ stack.old) }
+    ensures { IfOk result (Opens (term_due (list_of source.now) (shapes_of source.now) (term_seen term.now)) stack.old stack.new) }
 {
     match term {
         Term::Iri(iri) => Ok(iri_token(iri)),
@@ -74,7 +75,7 @@ fn start_node<'a>(
     shape: Shape,
 ) -> Result<Token<'a>, NoMemory>
     requires { IsSource source.now }
-    ensures { IfOk result (λ token. Say (token_seen token) ∷ stack.new ≡ node_due (list_of source.now) shape blank.0 ++ stack.old) }
+    ensures { IfOk result (Opens (node_due (list_of source.now) shape blank.0) stack.old stack.new) }
 {
     match shape {
         Shape::Labelled => Ok(Token::Noun(Resource::Blank(blank))),
@@ -89,7 +90,7 @@ fn start_inside<'a>(
     blank: Blank,
 ) -> Result<Token<'a>, NoMemory>
     requires { IsSource source.now }
-    ensures { IfOk result (λ token. Say (token_seen token) ∷ stack.new ≡ bracket_due (said_of (list_of source.now) (model.Blank blank.0)) ++ stack.old) }
+    ensures { IfOk result (Opens (bracket_due (said_of (list_of source.now) (model.Blank blank.0))) stack.old stack.new) }
 {
     let said = said_of(
         source.alloc,
@@ -103,7 +104,7 @@ fn start_inside<'a>(
 
 /// A node of which this is said, in brackets.
 fn start_brackets<'a>(stack: &mut Stack<'a>, said: &[&'a Triple]) -> Result<Token<'a>, NoMemory>
-    ensures { IfOk result (λ token. Say (token_seen token) ∷ stack.new ≡ bracket_due (runs by.Predicate (map (λ t. triple_seen t.now) said.now)) ++ stack.old) }
+    ensures { IfOk result (Opens (bracket_due (runs by.Predicate (lent_triples said.now))) stack.old stack.new) }
 {
     if said.is_empty() {
         return Ok(Token::Fixed(Words::Empty));
@@ -120,7 +121,7 @@ fn start_list<'a>(
     cell: Blank,
 ) -> Result<Token<'a>, NoMemory>
     requires { IsSource source.now }
-    ensures { IfOk result (λ token. Say (token_seen token) ∷ stack.new ≡ node_due (list_of source.now) shape.Cell cell.0 ++ stack.old) }
+    ensures { IfOk result (Opens (node_due (list_of source.now) shape.Cell cell.0) stack.old stack.new) }
 {
     stack.say(Words::CloseList)?;
     push_cell(source, stack, cell)?;
@@ -134,7 +135,7 @@ fn start_after<'a>(
     cell: Blank,
 ) -> Result<Token<'a>, NoMemory>
     requires { IsSource source.now }
-    ensures { IfOk result (λ token. Say (token_seen token) ∷ stack.new ≡ opened (list_of source.now) (shapes_of source.now) (After cell.0) ++ stack.old) }
+    ensures { IfOk result (Opens (opened (list_of source.now) (shapes_of source.now) (After cell.0)) stack.old stack.new) }
 {
     push_cell(source, stack, cell)?;
     Ok(Token::Fixed(Words::Space))

@@ -37,8 +37,5 @@ adds_gap gap {a} {f} g p = record { adds = λ rest ts k. subst (λ z. SpellsBehi
 pub adds_nothing : Adds [] (λ ts. ts)
 adds_nothing = record { adds = λ rest ts k. k }
 
-pub puts_by : {a b : Chars} {f : List Token → List Token} → a ≡ b → Puts a f → Puts b f
-puts_by {f = f} e p = subst (λ z. Puts z f) e p
-
 pub adds_by : {a b : Chars} {f : List Token → List Token} → a ≡ b → Adds a f → Adds b f
 adds_by {f = f} e p = subst (λ z. Adds z f) e p

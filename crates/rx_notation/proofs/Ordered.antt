@@ -24,7 +24,7 @@ not_after a b h = ap is_lt (nat_list_cmp_total.antisymm (encode_utf8_all b) (enc
     reversed Greater k = absurd (true≢false (sym k))
 
 -- the prefix comes before all of these
-abbrev before_all : Prefix → Prefixes → Bool
+abbrev pub before_all : Prefix → Prefixes → Bool
 before_all p ps = list_all (λ (later : Prefix). is_before p.0 later.0) ps
 
 placed_first : (p : Prefix) (ps : Prefixes) → before_all p ps ≡ true → placed p ps ≡ p ∷ ps
@@ -54,7 +54,7 @@ filter_rises keep (p ∷ ps) h = go (keep p) (filter_rises keep ps (and_parts _ 
 abbrev name_of : Prefix → Chars
 name_of p = p.0
 
-passes : (p q : Prefix) (ps : Prefixes) → before_all p ps ≡ true → Among ps q → is_before p.0 q.0 ≡ true
+pub passes : (p q : Prefix) (ps : Prefixes) → before_all p ps ≡ true → Among ps q → is_before p.0 q.0 ≡ true
 passes p q [] h m = absurd m
 passes p q (first ∷ more) h (inl e) = subst (λ (z : Prefix). is_before p.0 z.0 ≡ true) e (and_parts _ _ h).0
 passes p q (first ∷ more) h (inr m) = passes p q more (and_parts _ _ h).1 m

@@ -26,11 +26,13 @@ proper_triple t = record { subject = t.subject; predicate = t.predicate; object 
 -- law: the text of a list denotes the list's set, its triples as they are read; where no literal is typed xsd:string, they
 -- are the list's
 pub record LayoutDenotes : Type 0 where
-  pub denotes : (context : Prefixes) (list : List (Triple ℕ)) → IsContext context → IsWritable list → Turtle (turtle context list) (map proper_triple list)
+  pub denotes : (context : Prefixes) (list : List (Triple ℕ)) → IsContext context → IsWritable list
+      → Turtle (turtle context list) (map proper_triple list)
   pub stays : (list : List (Triple ℕ)) → ((t : Triple ℕ) → Among list t → IsProper t.object) → map proper_triple list ≡ list
 
 -- law: where the names of a context rise in byte order, each stands there once, and the prefixes that a text uses are in
 -- the context's order
 pub record RisingContexts : Type 0 where
   pub once : (context : Prefixes) → names_rise context ≡ true → names_differ (map (λ (prefix : Prefix). prefix.0) context) ≡ true
-  pub in_order : (context : Prefixes) (list : List (Triple ℕ)) → names_rise context ≡ true → prefixes_used context list ≡ those_among (used context list) context
+  pub in_order : (context : Prefixes) (list : List (Triple ℕ)) → names_rise context ≡ true
+      → prefixes_used context list ≡ those_among (used context list) context

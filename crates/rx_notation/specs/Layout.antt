@@ -72,7 +72,8 @@ predicate_text context list node predicate =
 -- all that is said of a subject, ended by a full stop and LF
 abbrev pub statement_text : Prefixes → List (Triple ℕ) → Node ℕ → Chars
 statement_text context list node =
-    resource_text context node ++ (codes " " ++ (separated (codes " ;\n    ") (map (predicate_text context list node) (predicates_of list node)) ++ codes " .\n"))
+    resource_text context node
+    ++ (codes " " ++ (separated (codes " ;\n    ") (map (predicate_text context list node) (predicates_of list node)) ++ codes " .\n"))
 
 -- ---- the prefixes that a text uses
 

@@ -2,3 +2,4 @@ pub mod Quads
 pub mod Spelling
 pub mod Document
 pub mod Writing
+pub mod Graphs

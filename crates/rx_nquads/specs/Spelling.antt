@@ -58,13 +58,15 @@ escape c =
 pub data SpellsString : Chars → Chars → Type 0 where
   nothing : SpellsString [] []
   itself : (c : ℕ) {spelling text : Chars} → stands_for_itself c ≡ true → SpellsString spelling text → SpellsString (c ∷ spelling) (c ∷ text)
-  escaped : (mark c : ℕ) {spelling text : Chars} → escape mark ≡ Some c → SpellsString spelling text → SpellsString (reverse_solidus ∷ mark ∷ spelling) (c ∷ text)
+  escaped : (mark c : ℕ) {spelling text : Chars} → escape mark ≡ Some c → SpellsString spelling text
+      → SpellsString (reverse_solidus ∷ mark ∷ spelling) (c ∷ text)
 
 -- what follows the quotes of a literal: nothing, `@` and a language tag (LANGTAG), or `^^` and a datatype
 pub data SpellsKind : Chars → Kind → Type 0 where
   plain : SpellsKind [] Plain
   tagged : (tag : Chars) → is_lang tag ≡ true → SpellsKind (commercial_at ∷ tag) (Tagged tag)
-  typed : (spelling datatype : Chars) {kind : Kind} → SpellsIri spelling datatype → kind ≡ kind_of datatype → SpellsKind (circumflex_accent ∷ circumflex_accent ∷ spelling) kind
+  typed : (spelling datatype : Chars) {kind : Kind} → SpellsIri spelling datatype → kind ≡ kind_of datatype
+      → SpellsKind (circumflex_accent ∷ circumflex_accent ∷ spelling) kind
 
 -- STRING_LITERAL_QUOTE with what follows it
 pub record SpellsLiteral (spelling : Chars) (text : Chars) (kind : Kind) : Type 0 where

@@ -17,6 +17,10 @@ abbrev pub term_text : Term ℕ → Chars
 term_text (Resource node) = node_text node
 term_text (Literal text kind) = string_text text ++ kind_text kind
 
+-- what ends a literal behind its text, and a space
+abbrev pub literal_end : Kind → Chars
+literal_end kind = codes "\"" ++ (kind_text kind ++ codes " ")
+
 -- the graph name and a space, where there is a name
 abbrev pub graph_text : Option Chars → Chars
 graph_text None = []
@@ -24,7 +28,9 @@ graph_text (Some name) = iri_text name ++ codes " "
 
 -- a line: `subject predicate object .`, or with the graph name before the full stop, and LF
 abbrev pub line_text : Option Chars → Triple ℕ → Chars
-line_text name t = node_text t.subject ++ (codes " " ++ (iri_text t.predicate ++ (codes " " ++ (term_text t.object ++ (codes " " ++ (graph_text name ++ codes ".\n"))))))
+line_text name t =
+    node_text t.subject
+    ++ (codes " " ++ (iri_text t.predicate ++ (codes " " ++ (term_text t.object ++ (codes " " ++ (graph_text name ++ codes ".\n"))))))
 
 abbrev pub nquads : List (Triple ℕ) → Option Chars → Chars
 nquads list name = flat_map (line_text name) list

@@ -1,7 +1,7 @@
 //! Lines of N-Quads in memory.
 ghost use Rattle.std.specs.Prelude.{◌≡◌, ◌++◌, [], option_map, IfOk, OnOk, encode_utf8_all};
 ghost use Rattle.rx_model.specs.Seen.{triple_seen};
-ghost use Rattle.rx_nquads.specs.Writing.{line_text};
+ghost use Rattle.rx_nquads.specs.Graphs.{lent_name, line_bytes};
 ghost use Rattle.rx_pieces.specs.Writable.{WritableTriple};
 
 use crate::writing::push_line;
@@ -41,8 +41,8 @@ impl Lines {
 
     /// Adds the line of a triple, its quad in the graph of this name where one is given.
     pub fn put(&mut self, triple: &Triple, name: Option<&Iri>) -> Result<(), NoMemory>
-        ensures line { OnOk result (self.new ≡ self.old ++ encode_utf8_all (line_text (option_map (λ iri. iri.now) name.entry) (triple_seen triple.now))) }
-        ensures writable { OnOk result (WritableTriple (option_map (λ iri. iri.now) name.entry) (triple_seen triple.now)) }
+        ensures line { OnOk result (self.new ≡ self.old ++ line_bytes name.entry triple.now) }
+        ensures writable { OnOk result (WritableTriple (lent_name name.entry) (triple_seen triple.now)) }
     {
         if self.pieces.has_failed() {
             return Err(NoMemory);

@@ -2,10 +2,9 @@
 //! functions are marked to be built into the loop over the lines, since each runs for every line.
 ghost use Rattle.std.specs.Prelude.{◌<◌, ◌^◌, ◌++◌, codes};
 ghost use Rattle.rx_model.specs.Seen.{kind_seen, node_seen, term_seen};
-ghost use Rattle.rx_nquads.specs.Writing.{node_text, kind_text, term_text};
+ghost use Rattle.rx_nquads.specs.Writing.{node_text, literal_end, term_text};
 ghost use Rattle.rx_pieces.specs.Writing.{blank_text};
-ghost use Rattle.rx_pieces.specs.Underway.{delivery};
-ghost use Rattle.rx_pieces.specs.Writable.{Adds, WritableTag, WritableIri, WritableNode, WritableKind, WritableTerm};
+ghost use Rattle.rx_pieces.specs.Writable.{Pushes, WritableTag, WritableIri, WritableNode, WritableKind, WritableTerm};
 
 use rx_pieces::{LABEL, Pieces, push, push_between, push_label, push_lang, push_text};
 use rx_ports::Sink;
@@ -20,7 +19,7 @@ const OBJECT: [u8; LABEL + 1] = [b' '; LABEL + 1];
 /// Adds the subject of a line, the space behind it, and the bracket before the predicate.
 #[inline(always)]
 pub(crate) fn push_subject<S: Sink>(out: &mut Pieces, sink: &mut S, subject: &Node)
-    ensures adds { Adds (delivery out.old (S.held sink.old) (S.faults sink.old)) (delivery out.new (S.held sink.new) (S.faults sink.new)) (node_text (node_seen subject.now) ++ codes " <") }
+    ensures adds { Pushes S.held S.faults out.old sink.old out.new sink.new (node_text (node_seen subject.now) ++ codes " <") }
     ensures writable { WritableNode (node_seen subject.now) }
 {
     match subject {
@@ -35,7 +34,7 @@ pub(crate) fn push_subject<S: Sink>(out: &mut Pieces, sink: &mut S, subject: &No
 /// Adds what ends a literal: the quotation mark behind its text, what it has beside the text, and a space.
 #[inline(always)]
 fn push_kind<S: Sink>(out: &mut Pieces, sink: &mut S, kind: &LiteralKind)
-    ensures adds { Adds (delivery out.old (S.held sink.old) (S.faults sink.old)) (delivery out.new (S.held sink.new) (S.faults sink.new)) (codes "\"" ++ (kind_text (kind_seen kind.now) ++ codes " ")) }
+    ensures adds { Pushes S.held S.faults out.old sink.old out.new sink.new (literal_end (kind_seen kind.now)) }
     ensures writable { WritableKind (kind_seen kind.now) }
 {
     match kind {
@@ -46,7 +45,7 @@ fn push_kind<S: Sink>(out: &mut Pieces, sink: &mut S, kind: &LiteralKind)
 }
 
 fn push_tag<S: Sink>(out: &mut Pieces, sink: &mut S, tag: &Lang)
-    ensures adds { Adds (delivery out.old (S.held sink.old) (S.faults sink.old)) (delivery out.new (S.held sink.new) (S.faults sink.new)) (codes "\"" ++ (kind_text (kind_seen (LiteralKind.Tagged tag.now)) ++ codes " ")) }
+    ensures adds { Pushes S.held S.faults out.old sink.old out.new sink.new (literal_end (kind_seen (LiteralKind.Tagged tag.now))) }
     ensures writable { WritableTag tag.now }
 {
     push(out, sink, "\"@");
@@ -55,7 +54,7 @@ fn push_tag<S: Sink>(out: &mut Pieces, sink: &mut S, tag: &Lang)
 }
 
 fn push_datatype<S: Sink>(out: &mut Pieces, sink: &mut S, datatype: &Iri)
-    ensures adds { Adds (delivery out.old (S.held sink.old) (S.faults sink.old)) (delivery out.new (S.held sink.new) (S.faults sink.new)) (codes "\"" ++ (kind_text (kind_seen (LiteralKind.Typed datatype.now)) ++ codes " ")) }
+    ensures adds { Pushes S.held S.faults out.old sink.old out.new sink.new (literal_end (kind_seen (LiteralKind.Typed datatype.now))) }
     ensures writable { WritableIri datatype.now }
 {
     push_between(out, sink, "\"^^<", datatype, "> ");
@@ -64,7 +63,7 @@ fn push_datatype<S: Sink>(out: &mut Pieces, sink: &mut S, datatype: &Iri)
 /// Adds a literal, and what stands before it behind the predicate.
 #[inline(always)]
 fn push_literal<S: Sink>(out: &mut Pieces, sink: &mut S, literal: &Literal)
-    ensures adds { Adds (delivery out.old (S.held sink.old) (S.faults sink.old)) (delivery out.new (S.held sink.new) (S.faults sink.new)) (codes "> " ++ (term_text (term_seen (Term.Literal literal.now)) ++ codes " ")) }
+    ensures adds { Pushes S.held S.faults out.old sink.old out.new sink.new (codes "> " ++ (term_text (term_seen (Term.Literal literal.now)) ++ codes " ")) }
     ensures writable { WritableTerm (term_seen (Term.Literal literal.now)) }
 {
     push_text(out, sink, "> \"", &literal.lexical);
@@ -74,7 +73,7 @@ fn push_literal<S: Sink>(out: &mut Pieces, sink: &mut S, literal: &Literal)
 /// Adds a blank node, and what stands before it behind the predicate.
 #[inline(always)]
 fn push_blank<S: Sink>(out: &mut Pieces, sink: &mut S, blank: Blank)
-    ensures adds { Adds (delivery out.old (S.held sink.old) (S.faults sink.old)) (delivery out.new (S.held sink.new) (S.faults sink.new)) (codes "> " ++ (blank_text blank.0 ++ codes " ")) }
+    ensures adds { Pushes S.held S.faults out.old sink.old out.new sink.new (codes "> " ++ (blank_text blank.0 ++ codes " ")) }
     ensures writable { blank.0 < 2 ^ 64 }
 {
     push(out, sink, "> ");
@@ -85,7 +84,7 @@ fn push_blank<S: Sink>(out: &mut Pieces, sink: &mut S, blank: Blank)
 /// Adds the object of a line with a space behind it, and before it the bracket behind the predicate and a space.
 #[inline(always)]
 pub(crate) fn push_object<S: Sink>(out: &mut Pieces, sink: &mut S, object: &Term)
-    ensures adds { Adds (delivery out.old (S.held sink.old) (S.faults sink.old)) (delivery out.new (S.held sink.new) (S.faults sink.new)) (codes "> " ++ (term_text (term_seen object.now) ++ codes " ")) }
+    ensures adds { Pushes S.held S.faults out.old sink.old out.new sink.new (codes "> " ++ (term_text (term_seen object.now) ++ codes " ")) }
     ensures writable { WritableTerm (term_seen object.now) }
 {
     match object {

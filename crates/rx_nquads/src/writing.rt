@@ -4,11 +4,9 @@ ghost use Rattle.std.specs.Str.{chars};
 ghost use Rattle.rx_ports.specs.Counts.{Rose};
 ghost use Rattle.rx_ports.specs.Told.{Moves, GrowsBy, GrowsByPart};
 ghost use Rattle.rx_model.specs.Seen.{triple_seen, triples_seen};
-ghost use Rattle.rx_nquads.specs.Quads.{quads};
-ghost use Rattle.rx_nquads.specs.Document.{Nquads};
+ghost use Rattle.rx_nquads.specs.Graphs.{DenoteGraph, graph_bytes, lent_name, line_bytes};
 ghost use Rattle.rx_nquads.specs.Writing.{graph_text, line_text, nquads};
-ghost use Rattle.rx_pieces.specs.Underway.{delivery};
-ghost use Rattle.rx_pieces.specs.Writable.{Adds, WritableName, WritableTriple};
+ghost use Rattle.rx_pieces.specs.Writable.{Pushes, WritableName, WritableTriple};
 
 use crate::terms::{push_object, push_subject};
 use rx_graph::Graph;
@@ -31,9 +29,9 @@ pub fn write<S: Sink>(
     name: Option<&Iri>,
     sink: &mut S,
 ) -> Result<(), WriteError>
-    ensures ok { OnOk result (Moves (GrowsBy (encode_utf8_all (nquads (triples_seen graph.now) (option_map (λ iri. iri.now) name.entry)))) (S.held sink.old) (S.held sink.new)) }
-    ensures denotes { OnOk result (Nquads (chars (encode_utf8_all (nquads (triples_seen graph.now) (option_map (λ iri. iri.now) name.entry)))) (quads (triples_seen graph.now) (option_map (λ iri. iri.now) name.entry))) }
-    ensures partly { IsErrOf result WriteError.Failed → Moves (GrowsByPart (encode_utf8_all (nquads (triples_seen graph.now) (option_map (λ iri. iri.now) name.entry)))) (S.held sink.old) (S.held sink.new) }
+    ensures ok { OnOk result (Moves (GrowsBy (graph_bytes graph.now name.entry)) (S.held sink.old) (S.held sink.new)) }
+    ensures denotes { OnOk result (DenoteGraph graph.now name.entry (graph_bytes graph.now name.entry)) }
+    ensures partly { IsErrOf result WriteError.Failed → Moves (GrowsByPart (graph_bytes graph.now name.entry)) (S.held sink.old) (S.held sink.new) }
     ensures cause { IsErrOf result WriteError.Failed → Rose (S.faults sink.old) (S.faults sink.new) }
     ensures untouched { IsErrOf result WriteError.NoMemory → sink.new ≡ sink.old }
     ensures later { S.faults sink.old ≤ S.faults sink.new }
@@ -50,8 +48,8 @@ pub fn write<S: Sink>(
 
 /// The graph's text in N-Quads, as `write` writes it.
 pub fn text(alloc: Global, graph: &Graph, name: Option<&Iri>) -> Result<Vec<u8>, NoMemory>
-    ensures bytes { IfOk result (λ bytes. bytes.items ≡ encode_utf8_all (nquads (triples_seen graph.now) (option_map (λ iri. iri.now) name.entry))) }
-    ensures denotes { IfOk result (λ bytes. Nquads (chars bytes.items) (quads (triples_seen graph.now) (option_map (λ iri. iri.now) name.entry))) }
+    ensures bytes { IfOk result (λ bytes. bytes.items ≡ graph_bytes graph.now name.entry) }
+    ensures denotes { IfOk result (λ bytes. DenoteGraph graph.now name.entry bytes.items) }
 {
     let mut whole = Whole::with_room(alloc, graph.len().saturating_mul(LINE))?;
     match write(alloc, graph, name, &mut whole) {
@@ -68,9 +66,9 @@ pub fn put_quad(
     triple: &Triple,
     name: Option<&Iri>,
 ) -> Result<(), NoMemory>
-    ensures ok { OnOk result (text.new.items ≡ text.old.items ++ encode_utf8_all (line_text (option_map (λ iri. iri.now) name.entry) (triple_seen triple.now))) }
+    ensures ok { OnOk result (text.new.items ≡ text.old.items ++ line_bytes name.entry triple.now) }
     ensures err { OnErr result (text.new.items ≡ text.old.items) }
-    ensures writable { OnOk result (WritableTriple (option_map (λ iri. iri.now) name.entry) (triple_seen triple.now)) }
+    ensures writable { OnOk result (WritableTriple (lent_name name.entry) (triple_seen triple.now)) }
 {
     let line = line_of(alloc, triple, name)?;
     let Ok(()) = text.extend_from_slice(line.as_slice()) else {
@@ -81,8 +79,8 @@ pub fn put_quad(
 
 /// The line of one triple.
 fn line_of(alloc: Global, triple: &Triple, name: Option<&Iri>) -> Result<Vec<u8>, NoMemory>
-    ensures bytes { IfOk result (λ line. line.items ≡ encode_utf8_all (line_text (option_map (λ iri. iri.now) name.entry) (triple_seen triple.now))) }
-    ensures writable { OnOk result (WritableTriple (option_map (λ iri. iri.now) name.entry) (triple_seen triple.now)) }
+    ensures bytes { IfOk result (λ line. line.items ≡ line_bytes name.entry triple.now) }
+    ensures writable { OnOk result (WritableTriple (lent_name name.entry) (triple_seen triple.now)) }
 {
     let mut whole = Whole::with_room(alloc, LINE)?;
     let Ok(mut pieces) = Pieces::new(alloc) else {
@@ -101,8 +99,8 @@ fn line_of(alloc: Global, triple: &Triple, name: Option<&Iri>) -> Result<Vec<u8>
 
 /// Adds the lines of all triples. Once the sink has failed, the rest isn't made.
 fn push_lines<S: Sink>(out: &mut Pieces, sink: &mut S, graph: &Graph, name: Option<&Iri>)
-    ensures adds { Adds (delivery out.old (S.held sink.old) (S.faults sink.old)) (delivery out.new (S.held sink.new) (S.faults sink.new)) (nquads (triples_seen graph.now) (option_map (λ iri. iri.now) name.entry)) }
-    ensures denotes { out.new.failed ≡ false → Nquads (chars (encode_utf8_all (nquads (triples_seen graph.now) (option_map (λ iri. iri.now) name.entry)))) (quads (triples_seen graph.now) (option_map (λ iri. iri.now) name.entry)) }
+    ensures adds { Pushes S.held S.faults out.old sink.old out.new sink.new (nquads (triples_seen graph.now) (lent_name name.entry)) }
+    ensures denotes { out.new.failed ≡ false → DenoteGraph graph.now name.entry (graph_bytes graph.now name.entry) }
 {
     for i in 0..graph.len() {
         if out.has_failed() {
@@ -120,8 +118,8 @@ pub(crate) fn push_line<S: Sink>(
     triple: &Triple,
     name: Option<&Iri>,
 )
-    ensures adds { Adds (delivery out.old (S.held sink.old) (S.faults sink.old)) (delivery out.new (S.held sink.new) (S.faults sink.new)) (line_text (option_map (λ iri. iri.now) name.entry) (triple_seen triple.now)) }
-    ensures writable { WritableTriple (option_map (λ iri. iri.now) name.entry) (triple_seen triple.now) }
+    ensures adds { Pushes S.held S.faults out.old sink.old out.new sink.new (line_text (lent_name name.entry) (triple_seen triple.now)) }
+    ensures writable { WritableTriple (lent_name name.entry) (triple_seen triple.now) }
 {
     push_subject(out, sink, &triple.subject);
     push_iri(out, sink, &triple.predicate);
@@ -133,8 +131,8 @@ pub(crate) fn push_line<S: Sink>(
 /// Adds the graph name and a space, where there is a name.
 #[inline(always)]
 fn push_name<S: Sink>(out: &mut Pieces, sink: &mut S, name: Option<&Iri>)
-    ensures adds { Adds (delivery out.old (S.held sink.old) (S.faults sink.old)) (delivery out.new (S.held sink.new) (S.faults sink.new)) (graph_text (option_map (λ iri. iri.now) name.entry)) }
-    ensures writable { WritableName (option_map (λ iri. iri.now) name.entry) }
+    ensures adds { Pushes S.held S.faults out.old sink.old out.new sink.new (graph_text (lent_name name.entry)) }
+    ensures writable { WritableName (lent_name name.entry) }
 {
     match name {
         None => {}

@@ -38,3 +38,8 @@ pub record Stands (start : Option (List ℕ)) (before : ℕ) (text : List ℕ) (
 -- the bytes were handed over, whatever was before
 pub record AddsBytes (old new : Delivery) (bytes : List ℕ) : Type 0 where
   pub stands : (start : Option (List ℕ)) (before : ℕ) (text : List ℕ) → Stands start before text old → Stands start before (text ++ bytes) new
+
+-- a call handed the bytes over: `out` and `sink` became the next ones, where a sink tells what it holds, and its count of faults
+abbrev pub PushesBytes : {S : Type 0} → (S → Option (List ℕ)) → (S → ℕ) → Underway → S → Underway → S → List ℕ → Type 0
+PushesBytes held faults out sink next_out next_sink bytes =
+    AddsBytes (delivery out (held sink) (faults sink)) (delivery next_out (held next_sink) (faults next_sink)) bytes

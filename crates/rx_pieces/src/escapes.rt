@@ -3,8 +3,7 @@ ghost use Rattle.std.specs.Prelude.{◌≡◌, ◌++◌};
 ghost use Rattle.std.specs.List.{list_any};
 ghost use Rattle.std.specs.Str.{chars};
 ghost use Rattle.rx_pieces.specs.Writing.{is_escaped, escaped_char, escaped_text};
-ghost use Rattle.rx_pieces.specs.Underway.{delivery};
-ghost use Rattle.rx_pieces.specs.Writable.{Adds, WritableText};
+ghost use Rattle.rx_pieces.specs.Writable.{Pushes, WritableText};
 
 use crate::pieces::Pieces;
 use crate::terms::push;
@@ -13,7 +12,7 @@ use rx_terms::Text;
 
 /// Adds words, and behind them a text with its escapes.
 pub fn push_text<S: Sink>(out: &mut Pieces, sink: &mut S, front: &str, text: &Text)
-    ensures adds { Adds (delivery out.old (S.held sink.old) (S.faults sink.old)) (delivery out.new (S.held sink.new) (S.faults sink.new)) (chars front.now ++ escaped_text text.now) }
+    ensures adds { Pushes S.held S.faults out.old sink.old out.new sink.new (chars front.now ++ escaped_text text.now) }
     ensures writable { WritableText text.now }
 {
     push(out, sink, front);
@@ -22,7 +21,7 @@ pub fn push_text<S: Sink>(out: &mut Pieces, sink: &mut S, front: &str, text: &Te
 
 /// Most texts have nothing to escape, and are written at once.
 fn push_escaped<S: Sink>(out: &mut Pieces, sink: &mut S, text: &str)
-    ensures { Adds (delivery out.old (S.held sink.old) (S.faults sink.old)) (delivery out.new (S.held sink.new) (S.faults sink.new)) (escaped_text (chars text.now)) }
+    ensures { Pushes S.held S.faults out.old sink.old out.new sink.new (escaped_text (chars text.now)) }
 {
     if has_escaped(text) {
         return push_escaping(out, sink, text);
@@ -31,7 +30,7 @@ fn push_escaped<S: Sink>(out: &mut Pieces, sink: &mut S, text: &str)
 }
 
 fn push_escaping<S: Sink>(out: &mut Pieces, sink: &mut S, text: &str)
-    ensures { Adds (delivery out.old (S.held sink.old) (S.faults sink.old)) (delivery out.new (S.held sink.new) (S.faults sink.new)) (escaped_text (chars text.now)) }
+    ensures { Pushes S.held S.faults out.old sink.old out.new sink.new (escaped_text (chars text.now)) }
 {
     for c in text.chars() {
         push_char(out, sink, c);
@@ -40,7 +39,7 @@ fn push_escaping<S: Sink>(out: &mut Pieces, sink: &mut S, text: &str)
 
 /// Adds a character of a literal, or its escape.
 fn push_char<S: Sink>(out: &mut Pieces, sink: &mut S, c: char)
-    ensures { Adds (delivery out.old (S.held sink.old) (S.faults sink.old)) (delivery out.new (S.held sink.new) (S.faults sink.new)) (escaped_char c) }
+    ensures { Pushes S.held S.faults out.old sink.old out.new sink.new (escaped_char c) }
 {
     match c {
         '"' => out.add(sink, b"\\\""),

@@ -4,8 +4,7 @@ ghost use Rattle.std.specs.Fmt.{decimal};
 ghost use Rattle.std.specs.List.{list_all};
 ghost use Rattle.rx_terms.specs.Ascii.{is_ascii};
 ghost use Rattle.rx_pieces.specs.Writing.{blank_text};
-ghost use Rattle.rx_pieces.specs.Underway.{delivery};
-ghost use Rattle.rx_pieces.specs.Writable.{Adds};
+ghost use Rattle.rx_pieces.specs.Writable.{Pushes};
 
 use crate::pieces::Pieces;
 use rx_ports::Sink;
@@ -19,7 +18,7 @@ pub const LABEL: usize = 23;
 pub fn push_label<S: Sink>(out: &mut Pieces, sink: &mut S, blank: Blank, text: &mut [u8])
     requires room { 23 ≤ length text.old }
     requires ascii { list_all is_ascii (drop 23 text.old) ≡ true }
-    ensures adds { Adds (delivery out.old (S.held sink.old) (S.faults sink.old)) (delivery out.new (S.held sink.new) (S.faults sink.new)) (blank_text blank.0 ++ drop 23 text.old) }
+    ensures adds { Pushes S.held S.faults out.old sink.old out.new sink.new (blank_text blank.0 ++ drop 23 text.old) }
     ensures writable { blank.0 < 2 ^ 64 }
 {
     let start = put_label(blank.0, text);

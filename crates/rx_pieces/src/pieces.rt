@@ -1,6 +1,6 @@
 //! Bytes on their way to a sink, which are sent in pieces.
 ghost use Rattle.std.specs.Prelude.{◌≡◌, ◌+◌, ◌≤◌, ℕ, [], IfOk, OnOk, is_err, length, false};
-ghost use Rattle.rx_pieces.specs.Underway.{AddsBytes, delivery, nothing_waits, keeps};
+ghost use Rattle.rx_pieces.specs.Underway.{nothing_waits, keeps, PushesBytes};
 
 use rx_ports::{Failed, Sink, put_all};
 use rx_terms::NoMemory;
@@ -52,7 +52,7 @@ impl Pieces {
     /// Adds bytes, which mostly fit into the piece.
     #[inline(always)]
     pub fn add<S: Sink>(&mut self, sink: &mut S, bytes: &[u8])
-        ensures { AddsBytes (delivery self.old (S.held sink.old) (S.faults sink.old)) (delivery self.new (S.held sink.new) (S.faults sink.new)) bytes.now }
+        ensures { PushesBytes S.held S.faults self.old sink.old self.new sink.new bytes.now }
     {
         if bytes.len() <= self.room() {
             self.keep(bytes);
@@ -84,7 +84,7 @@ impl Pieces {
     #[cold]
     #[inline(never)]
     fn add_sending<S: Sink>(&mut self, sink: &mut S, bytes: &[u8])
-        ensures { AddsBytes (delivery self.old (S.held sink.old) (S.faults sink.old)) (delivery self.new (S.held sink.new) (S.faults sink.new)) bytes.now }
+        ensures { PushesBytes S.held S.faults self.old sink.old self.new sink.new bytes.now }
     {
         let mut rest = bytes;
         while rest.len() > self.room() {
@@ -98,7 +98,7 @@ impl Pieces {
 
     /// Sends what waits, and begins the next piece.
     fn start_next<S: Sink>(&mut self, sink: &mut S)
-        ensures adds { AddsBytes (delivery self.old (S.held sink.old) (S.faults sink.old)) (delivery self.new (S.held sink.new) (S.faults sink.new)) [] }
+        ensures adds { PushesBytes S.held S.faults self.old sink.old self.new sink.new [] }
         ensures empty { self.new.waiting ≡ [] }
     {
         self.failed = self.send(sink).is_err();
@@ -107,7 +107,7 @@ impl Pieces {
 
     /// Sends what waits, unless the sink has failed. It answers `Failed` where a piece before it wasn't taken, too.
     pub fn send<S: Sink>(&self, sink: &mut S) -> Result<(), Failed>
-        ensures adds { AddsBytes (delivery self.now (S.held sink.old) (S.faults sink.old)) (delivery (nothing_waits (is_err result)) (S.held sink.new) (S.faults sink.new)) [] }
+        ensures adds { PushesBytes S.held S.faults self.now sink.old (nothing_waits (is_err result)) sink.new [] }
         ensures whole { OnOk result (self.now.failed ≡ false) }
     {
         if self.failed {

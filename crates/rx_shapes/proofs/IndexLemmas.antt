@@ -172,8 +172,3 @@ pub seen_at : (list : List CodeTriple) (i : ℕ) (t : CodeTriple) → slice_get 
 seen_at [] i t h = cc
 seen_at (x ∷ list) zero t h = let e : x ≡ t = cc in ap (λ z. Some (triple_seen z)) e
 seen_at (x ∷ list) (suc i) t h = seen_at list i t h
-
-pub seen_outside : (list : List CodeTriple) (i : ℕ) → length list ≤ i → slice_get (triples_seen list) i ≡ None
-seen_outside [] i h = refl
-seen_outside (x ∷ list) zero h = absurd (omega (arith, h))
-seen_outside (x ∷ list) (suc i) h = let past : length list ≤ i = omega (arith, h) in seen_outside list i past

@@ -59,11 +59,6 @@ marked_within [] a h = absurd (true≢false (sym h))
 marked_within (b ∷ marks) zero h = omega arith
 marked_within (b ∷ marks) (suc a) h = let less = marked_within marks a h in omega (arith, less)
 
-pub unmarked_within : (marks : List Bool) (a : ℕ) → get_or marks a true ≡ false → a < length marks
-unmarked_within [] a h = absurd (true≢false h)
-unmarked_within (b ∷ marks) zero h = omega arith
-unmarked_within (b ∷ marks) (suc a) h = let less = unmarked_within marks a h in omega (arith, less)
-
 either_default : (marks : List Bool) (a : ℕ) → a < length marks → get_or marks a true ≡ get_or marks a false
 either_default [] a h = absurd (omega (arith, h))
 either_default (b ∷ marks) zero h = refl

@@ -59,11 +59,6 @@ module _ {A : Type 0} where
   pub got_or : (f : ℕ → A) (n k : ℕ) (d : A) → k < n → get_or (table f 0 n) k d ≡ f k
   got_or f n k d h = let same : 0 + k ≡ k = omega arith in table_get_or f 0 n k d h ∙ ap f same
 
-  pub outside_or : (list : List A) (k : ℕ) (d : A) → length list ≤ k → get_or list k d ≡ d
-  outside_or [] k d h = refl
-  outside_or (x ∷ list) zero d h = absurd (omega (arith, h))
-  outside_or (x ∷ list) (suc k) d h = let past : length list ≤ k = omega (arith, h) in outside_or list k d past
-
   pub within_or : (list : List A) (k : ℕ) (a d : A) → slice_get list k ≡ Some a → get_or list k d ≡ a
   within_or [] k a d h = absurd (cc)
   within_or (x ∷ list) zero a d h = cc
@@ -72,10 +67,6 @@ module _ {A : Type 0} where
   pub table_same : (f g : ℕ → A) (j n : ℕ) → ((k : ℕ) → j ≤ k → f k ≡ g k) → table f j n ≡ table g j n
   table_same f g j zero h = refl
   table_same f g j (suc n) h = ap₂ ◌∷◌ (h j (omega arith)) (table_same f g (suc j) n (λ k le. h k (omega (arith, le))))
-
-pub table_length : {A : Type 0} (f : ℕ → A) (j n : ℕ) → length (table f j n) ≡ n
-table_length f j zero = refl
-table_length f j (suc n) = ap suc (table_length f (suc j) n)
 
 -- ---- a number that is filed
 

@@ -1,5 +1,5 @@
 -- The place that is found by the end of an IRI is that of the prefix of its short form.
-use Rattle.std.proofs.Common.{◌≡◌, ◌∙◌, ℕ, zero, suc, ◌+◌, ◌-◌, ◌<◌, ◌≤◌, Bool, true, false, cond, ◌&&◌, ◌==◌, nat_lt, nat_eq, List, [], ◌∷◌, ◌++◌, filter, find, length, take, drop, drop_of_length-le, get_or, slice_get, Option, Some, None, refl, sym, ap, ap₂, inl, inr, subst, true≢false, arith, if◌then◌else◌}
+use Rattle.std.proofs.Common.{◌≡◌, ◌∙◌, ℕ, zero, suc, ◌+◌, ◌-◌, ◌<◌, ◌≤◌, Bool, true, false, cond, ◌&&◌, ◌==◌, nat_lt, nat_eq, List, [], ◌∷◌, ◌++◌, filter, find, length, take, drop, drop_of_length-le, get_or, slice_get, Option, Some, None, refl, sym, ap, ap₂, subst, true≢false, arith, if◌then◌else◌}
 use Rattle.std.specs.Str.{encode_utf8_all}
 use Rattle.std.specs.Option.{option_or}
 use Rattle.std.specs.List.{list_all}
@@ -10,13 +10,12 @@ use Rattle.std.proofs.lemmas.Str.{encodes-append, encodes_same}
 use Rattle.rx_terms.specs.Ascii.{is_ascii}
 use Rattle.rx_terms.specs.Text.{Chars, begins_with}
 use Rattle.rx_terms.proofs.CharLemmas.{ascii-same}
-use Rattle.rx_model.specs.Sets.{Among}
 use Rattle.rx_model.proofs.Sets.{Among_of_filter, false_unless}
 use Rattle.rx_model.proofs.Exact.{exact_texts}
 use Rattle.rx_graph.proofs.SetLemmas.{same_truth}
 use Rattle.rx_notation.specs.Short.{Prefix, Prefixes, is_before, is_name_char, is_prefix_name, is_local_name, local_name, shortens, preferred, best, prefix_of, names_rise}
 use Rattle.rx_notation.proofs.Chosen.{best_among, front_and_rest}
-use Rattle.rx_notation.proofs.Ordered.{not_after}
+use Rattle.rx_notation.proofs.Ordered.{before_all, not_after, passes}
 use Rattle.rx_shorts.specs.Shorts.{begins_local, stands_for, place_from, place_at, place_below, place_of, IsPlace}
 
 -- ---- lists
@@ -47,14 +46,6 @@ module _ {A : Type 0} where
   filter_none f (x ∷ list) h = rw (h x) (filter_none f list h)
 
 -- ---- the longest of those that are longer and longer
-
-abbrev before_all : Prefix → Prefixes → Bool
-before_all p ps = list_all (λ (later : Prefix). is_before p.0 later.0) ps
-
-passes : (p q : Prefix) (ps : Prefixes) → before_all p ps ≡ true → Among ps q → is_before p.0 q.0 ≡ true
-passes p q [] h m = absurd m
-passes p q (first ∷ more) h (inl e) = subst (λ (z : Prefix). is_before p.0 z.0 ≡ true) e (and_parts _ _ h).0
-passes p q (first ∷ more) h (inr m) = passes p q more (and_parts _ _ h).1 m
 
 module _ (fits : Prefix → Bool) (size : Prefix → ℕ) where
   abbrev below : ℕ → Prefix → Bool

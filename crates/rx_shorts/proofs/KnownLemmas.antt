@@ -10,15 +10,6 @@ use Rattle.rx_shorts.specs.Slots.{IsSo}
 use Rattle.rx_shorts.specs.Known.{kept_by, IsEntry, AreEntries}
 use Rattle.rx_shorts.proofs.SlotLemmas.{nat_is, nat_is_not}
 
-empty_at : (n i : ℕ) → get_or (replicate n Empty) i Empty ≡ Empty
-empty_at zero i = refl
-empty_at (suc n) zero = refl
-empty_at (suc n) (suc i) = empty_at n i
-
--- where all are empty, nothing else is kept than what is found
-pub all_empty : (entries : List Entry) (n : ℕ) → entries ≡ replicate n Empty → (found : Chars → Option ℕ) → AreEntries found entries
-all_empty entries n e found = record { each = λ i. subst (IsEntry found) (sym (ap (λ (z : List Entry). get_or z i Empty) e ∙ empty_at n i)) tt }
-
 entry_so : (found : Chars → Option ℕ) (entry : Entry) (iri : Chars) → IsEntry found entry → IsSo (kept_by entry iri) (found iri)
 entry_so found Empty iri h = tt
 entry_so found (Kept hash kept place) iri h = go (pointwise nat_eq kept.now iri) refl

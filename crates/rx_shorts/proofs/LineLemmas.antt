@@ -43,9 +43,6 @@ module _ {A : Type 0} (f : A → Chars) (between : Chars) (plain : list_all is_a
       adds_by (sym (ap (separated between) more ∙ separated_more between (map f (take i list)) (f a)))
       (adds_then so_far (adds_then (adds_by (ap (λ z. if i == 0 then [] else z) (ascii-chars between plain) ∙ sym (gap_at list i a at)) first) last))
 
-  pub all_listed : {start now : Delivery} (list : List A) (i : ℕ) → length list ≤ i → Adds start now (separated between (map f (take i list))) → Adds start now (separated between (map f list))
-  all_listed list i past h = adds_by (ap (λ z. separated between (map f z)) (take_all i list past)) h
-
 -- ---- one behind another
 
 module _ {A : Type 0} (f : A → Chars) where
@@ -56,9 +53,6 @@ module _ {A : Type 0} (f : A → Chars) where
   pub joined : {start now next : Delivery} (list : List A) (i : ℕ) (a : A) → slice_get list i ≡ Some a → Adds start now (flat_map f (take i list)) → Adds now next (f a) → Adds start next (flat_map f (take (i + 1) list))
   joined list i a at so_far last =
       adds_by (sym (ap (flat_map f) (one_more list i a at) ∙ texts_both (take i list) (a ∷ []) ∙ ap (λ z. flat_map f (take i list) ++ z) (append-nil (f a)))) (adds_then so_far last)
-
-  pub all_joined : {start now : Delivery} (list : List A) (i : ℕ) → length list ≤ i → Adds start now (flat_map f (take i list)) → Adds start now (flat_map f list)
-  all_joined list i past h = adds_by (ap (flat_map f) (take_all i list past)) h
 
   -- the sink failed, and no more is written
   pub joined_failed : {start now : Delivery} (list : List A) (i : ℕ) → now.underway.failed ≡ true → Adds start now (flat_map f (take i list)) → Adds start now (flat_map f list)
@@ -92,10 +86,6 @@ prefix_turn marks context i mark row at there so_far last =
     line : (b : Bool) → flat_map prefix_text (one_chosen b row) ≡ (if b then prefix_text row else [])
     line true = append-nil (prefix_text row)
     line false = refl
-
-pub prefixes_end : {start now : Delivery} (marks : List Bool) (context : Prefixes) (i : ℕ) → length marks ≤ i → length context ≤ i
-    → Adds start now (flat_map prefix_text (chosen (take i marks) (take i context))) → Adds start now (flat_map prefix_text (chosen marks context))
-prefixes_end marks context i past beyond h = adds_by (ap₂ (λ m c. flat_map prefix_text (chosen m c)) (take_all i marks past) (take_all i context beyond)) h
 
 pub none_chosen : (marks : List Bool) (context : Prefixes) → list_any (λ mark. mark) marks ≡ false → chosen marks context ≡ []
 none_chosen [] context h = refl

@@ -107,9 +107,6 @@ rows_one_more context n i row up at is h = record { each = λ p m. go p (subst (
     go p (inl e) = subst IsRow e is
     go p (inr m) = h.each p (subst (λ (k : ℕ). Among (drop k context) p) (sym up) m)
 
-pub no_rows : (context : Prefixes) (n : ℕ) → n ≡ length context → AreRows (drop n context)
-no_rows context n e = record { each = λ p m. absurd (subst (λ (z : Prefixes). Among z p) (drop_of_length-le context (omega (arith, e))) m) }
-
 -- ---- from the end to the front
 
 pub below_turn : (context : Prefixes) (bytes : List ℕ) (n : ℕ) → 0 < n → place_below context bytes n
@@ -123,22 +120,9 @@ below_turn context bytes (suc n) h =
 abbrev from_here : Prefixes → List ℕ → ℕ → Option ℕ
 from_here context bytes n = option_or (place_at context bytes n) (place_below context bytes n)
 
-pub at_end : (context : Prefixes) (bytes : List ℕ) (n : ℕ) → length bytes ≤ n → place_at context bytes n ≡ None
-at_end context bytes n h = let nothing : get_or bytes n 0 ≡ 0 = get_or_past bytes n 0 h in ap (λ c. if begins_local c then place_from 0 context (take n bytes) else None) nothing
-
-pub from_end : (context : Prefixes) (bytes : List ℕ) → place_below context bytes (length bytes) ≡ from_here context bytes (length bytes)
-from_end context bytes = ap (λ (o : Option ℕ). option_or o (place_below context bytes (length bytes))) (sym (at_end context bytes (length bytes) (omega arith)))
-
 pub goes_on : (context : Prefixes) (bytes : List ℕ) (n : ℕ) (whole : Option ℕ) → 0 < n → place_at context bytes n ≡ None → is_name_char (get_or bytes (n - 1) 0) ≡ true → whole ≡ from_here context bytes n → whole ≡ from_here context bytes (n - 1)
 goes_on context bytes n whole some none name h =
     h ∙ ap (λ (o : Option ℕ). option_or o (place_below context bytes n)) none ∙ below_turn context bytes n some ∙ ap (λ b. if b then from_here context bytes (n - 1) else None) name
-
-pub stops : (context : Prefixes) (bytes : List ℕ) (n : ℕ) (whole : Option ℕ) → 0 < n → place_at context bytes n ≡ None → is_name_char (get_or bytes (n - 1) 0) ≡ false → whole ≡ from_here context bytes n → None ≡ whole
-stops context bytes n whole some none name h =
-    sym (h ∙ ap (λ (o : Option ℕ). option_or o (place_below context bytes n)) none ∙ below_turn context bytes n some ∙ ap (λ b. if b then from_here context bytes (n - 1) else None) name)
-
-pub found_here : (context : Prefixes) (bytes : List ℕ) (n p : ℕ) (whole : Option ℕ) → place_at context bytes n ≡ Some p → whole ≡ from_here context bytes n → Some p ≡ whole
-found_here context bytes n p whole at h = sym (h ∙ ap (λ (o : Option ℕ). option_or o (place_below context bytes n)) at)
 
 pub from_start : (context : Prefixes) (bytes : List ℕ) (n : ℕ) (whole : Option ℕ) → n ≡ 0 → whole ≡ from_here context bytes n → place_at context bytes 0 ≡ whole
 from_start context bytes n whole e h = sym (h ∙ ap (from_here context bytes) e ∙ or_none (place_at context bytes 0))

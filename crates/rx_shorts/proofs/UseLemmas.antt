@@ -69,9 +69,6 @@ none_more (p ∷ context) (suc n) h =
 pub unmarked_turn : (context : Prefixes) (n : ℕ) (old new : List Bool) → n < length context → new ≡ old ++ false ∷ [] → old ≡ unmarked (take n context) → new ≡ unmarked (take (n + 1) context)
 unmarked_turn context n old new within grows h = grows ∙ ap (λ z. z ++ false ∷ []) h ∙ sym (none_more context n within)
 
-pub unmarked_end : (context : Prefixes) (n : ℕ) (marks : List Bool) → length context ≤ n → marks ≡ unmarked (take n context) → marks ≡ unmarked context
-unmarked_end context n marks past h = h ∙ ap unmarked (take_all n context past)
-
 -- ---- what the marks are
 
 module _ {A : Type 0} where

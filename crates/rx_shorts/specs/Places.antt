@@ -17,7 +17,8 @@ found_in places bytes = get_by (λ iri. slice_cmp nat_cmp bytes iri.now) places.
 pub record Knows (places : Places) : Type 0 where
   pub length_of : (bytes : List ℕ) (place : ℕ) → found_in places bytes ≡ Some place → get_or places.lengths (length bytes) false ≡ true
   pub told : Tells places.slots (found_in places)
-  pub ends : (bytes : List ℕ) (place : ℕ) → found_in places bytes ≡ Some place → 0 < length bytes → get_or places.plain (get_or bytes (length bytes - 1) 0) false ≡ false
+  pub ends : (bytes : List ℕ) (place : ℕ) → found_in places bytes ≡ Some place → 0 < length bytes
+      → get_or places.plain (get_or bytes (length bytes - 1) 0) false ≡ false
   pub names : (byte : ℕ) → get_or places.plain byte false ≡ true → is_name_char byte ≡ true
 
 -- new is old with a place for these bytes

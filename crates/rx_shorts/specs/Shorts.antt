@@ -1,5 +1,5 @@
 -- How the prefix of an IRI's short form is found: by the characters at its end, which are those of a local name.
-use Rattle.std.specs.Prelude.{◌≡◌, ℕ, zero, suc, Bool, false, ◌&&◌, ◌||◌, ◌==◌, nat_eq, List, [], ◌∷◌, take, length, get_or, Option, Some, None, MatchOption, slice_get, encode_utf8_all, if◌then◌else◌}
+use Rattle.std.specs.Prelude.{◌≡◌, ◌<◌, ◌≤◌, ◌-◌, ℕ, zero, suc, Bool, false, ◌&&◌, ◌||◌, ◌==◌, nat_eq, List, [], ◌∷◌, take, length, get_or, Option, Some, None, MatchOption, slice_get, encode_utf8_all, if◌then◌else◌}
 use Rattle.std.specs.Cmp.Lexicographic.{pointwise}
 use Rattle.std.specs.Option.{option_or}
 use Rattle.rx_terms.specs.Ascii.{is_letter, low_line}
@@ -22,6 +22,11 @@ place_from place (prefix ∷ more) bytes = if stands_for bytes prefix then Some 
 -- the place of the prefix that stands for the first n bytes, where the others can be a local name
 abbrev pub place_at : Prefixes → List ℕ → ℕ → Option ℕ
 place_at context bytes n = if begins_local (get_or bytes n 0) then place_from 0 context (take n bytes) else None
+
+-- no prefix's IRI ends with the byte
+abbrev pub EndsNone : Prefixes → ℕ → Type 0
+EndsNone context byte =
+    (bytes : List ℕ) (n : ℕ) → 0 < n → n ≤ length bytes → get_or bytes (n - 1) 0 ≡ byte → place_at context bytes n ≡ None
 
 -- the place of the prefix with the longest IRI that has at most n - 1 of the bytes
 abbrev pub place_below : Prefixes → List ℕ → ℕ → Option ℕ

@@ -30,6 +30,10 @@ with_iri Free iri place = One iri place
 with_iri (One other first) iri place = if pointwise nat_eq other.now iri.now then One iri place else Many
 with_iri Many iri place = Many
 
+-- what is found, once a place is put in for these bytes
+abbrev pub placed : List ℕ → ℕ → (List ℕ → Option ℕ) → List ℕ → Option ℕ
+placed iri place found bytes = if pointwise nat_eq iri bytes then Some place else found bytes
+
 -- what is told is so
 abbrev pub IsSo : Option (Option ℕ) → Option ℕ → Type 0
 IsSo None place = Unit {0}

@@ -3,8 +3,7 @@ ghost use Rattle.std.specs.Prelude.{◌≡◌, [], flat_map, length, if◌then�
 ghost use Rattle.std.specs.List.{list_any};
 ghost use Rattle.std.specs.Str.{chars};
 ghost use Rattle.rx_notation.specs.Layout.{prefix_text, prefixes_text};
-ghost use Rattle.rx_pieces.specs.Underway.{delivery};
-ghost use Rattle.rx_pieces.specs.Writable.{Adds};
+ghost use Rattle.rx_pieces.specs.Writable.{Pushes};
 ghost use Rattle.rx_shorts.specs.Uses.{chosen};
 
 use crate::shorts::Shorts;
@@ -14,7 +13,7 @@ use rx_ports::Sink;
 /// Adds a line for each prefix that has a mark, and an empty line behind the last one.
 pub fn push_prefixes<S: Sink>(out: &mut Pieces, sink: &mut S, shorts: &Shorts, marks: &[bool])
     requires { length marks.now ≡ length shorts.now }
-    ensures { Adds (delivery out.old (S.held sink.old) (S.faults sink.old)) (delivery out.new (S.held sink.new) (S.faults sink.new)) (prefixes_text (chosen marks.now shorts.now)) }
+    ensures { Pushes S.held S.faults out.old sink.old out.new sink.new (prefixes_text (chosen marks.now shorts.now)) }
 {
     push_prefix_lines(out, sink, shorts, marks);
     if has_mark(marks) {
@@ -30,7 +29,7 @@ fn has_mark(marks: &[bool]) -> bool
 
 fn push_prefix_lines<S: Sink>(out: &mut Pieces, sink: &mut S, shorts: &Shorts, marks: &[bool])
     requires { length marks.now ≡ length shorts.now }
-    ensures { Adds (delivery out.old (S.held sink.old) (S.faults sink.old)) (delivery out.new (S.held sink.new) (S.faults sink.new)) (flat_map prefix_text (chosen marks.now shorts.now)) }
+    ensures { Pushes S.held S.faults out.old sink.old out.new sink.new (flat_map prefix_text (chosen marks.now shorts.now)) }
 {
     for i in 0..marks.len() {
         let (name, iri) = shorts.at(i);
@@ -40,7 +39,7 @@ fn push_prefix_lines<S: Sink>(out: &mut Pieces, sink: &mut S, shorts: &Shorts, m
 
 /// Adds the line of a prefix, where it has a mark.
 fn push_marked<S: Sink>(out: &mut Pieces, sink: &mut S, mark: bool, name: &str, iri: &str)
-    ensures { Adds (delivery out.old (S.held sink.old) (S.faults sink.old)) (delivery out.new (S.held sink.new) (S.faults sink.new)) (if mark then prefix_text (chars name.now, chars iri.now) else []) }
+    ensures { Pushes S.held S.faults out.old sink.old out.new sink.new (if mark then prefix_text (chars name.now, chars iri.now) else []) }
 {
     if mark {
         push_prefix(out, sink, name, iri);
@@ -48,7 +47,7 @@ fn push_marked<S: Sink>(out: &mut Pieces, sink: &mut S, mark: bool, name: &str, 
 }
 
 fn push_prefix<S: Sink>(out: &mut Pieces, sink: &mut S, name: &str, iri: &str)
-    ensures { Adds (delivery out.old (S.held sink.old) (S.faults sink.old)) (delivery out.new (S.held sink.new) (S.faults sink.new)) (prefix_text (chars name.now, chars iri.now)) }
+    ensures { Pushes S.held S.faults out.old sink.old out.new sink.new (prefix_text (chars name.now, chars iri.now)) }
 {
     push(out, sink, "@prefix ");
     push(out, sink, name);

@@ -4,7 +4,7 @@ ghost use Rattle.std.specs.Str.{chars};
 ghost use Rattle.rx_terms.specs.Iri.{IsIri};
 ghost use Rattle.rx_terms.specs.Text.{begins_with};
 ghost use Rattle.rx_notation.specs.Short.{is_name_char, prefix_of, names_rise};
-ghost use Rattle.rx_shorts.specs.Shorts.{place_at, place_below, place_of, IsPlace, IsShort};
+ghost use Rattle.rx_shorts.specs.Shorts.{EndsNone, place_at, place_below, place_of, IsPlace, IsShort};
 ghost use Rattle.rx_shorts.specs.Rows.{AreRows};
 ghost use Rattle.rx_shorts.specs.Slots.{IsSo};
 
@@ -148,7 +148,7 @@ impl<'a> Shorts<'a> {
     #[inline(always)]
     fn is_plain(&self, byte: u8) -> bool
         ensures name { result ≡ true → is_name_char byte ≡ true }
-        ensures none { result ≡ true → (bytes : List ℕ) (end : ℕ) → 0 < end → end ≤ length bytes → get_or bytes (end - 1) 0 ≡ byte → place_at self.now bytes end ≡ None }
+        ensures none { result ≡ true → EndsNone self.now byte }
     {
         self.places.is_plain(byte)
     }

@@ -1,7 +1,7 @@
 //! What a number of a text tells of the IRIs that prefixes stand for.
 ghost use Rattle.std.specs.Prelude.{◌≡◌, ◌<◌, ℕ, List, length, Option, Some, None, IfOk, if◌then◌else◌, nat_eq};
 ghost use Rattle.std.specs.Cmp.Lexicographic.{pointwise};
-ghost use Rattle.rx_shorts.specs.Slots.{number_of, slot_of, with_iri, told_by, told, Tells};
+ghost use Rattle.rx_shorts.specs.Slots.{number_of, slot_of, with_iri, placed, told_by, told, Tells};
 
 use rx_terms::NoMemory;
 use std::alloc::Global;
@@ -69,7 +69,7 @@ impl<'a> Slots<'a> {
 
     /// Puts the place of a prefix in, where it is the last for its IRI.
     pub(crate) fn put(&mut self, iri: &'a [u8], place: usize)
-        ensures { (found : List ℕ → Option ℕ) → Tells self.old found → Tells self.new (λ bytes. if pointwise nat_eq iri.now bytes then Some place else found bytes) }
+        ensures { (found : List ℕ → Option ℕ) → Tells self.old found → Tells self.new (placed iri.now place found) }
     {
         let slot = self.slot_of(iri);
         self.slots[slot] = self.slots[slot].with(iri, place);

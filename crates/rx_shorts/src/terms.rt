@@ -4,8 +4,7 @@ ghost use Rattle.rx_model.specs.Seen.{kind_seen, term_seen};
 ghost use Rattle.rx_graph.specs.Resources.{resource_seen};
 ghost use Rattle.rx_notation.specs.Layout.{short_iri, resource_text, verb_text, suffix_text, object_text};
 ghost use Rattle.rx_pieces.specs.Writing.{blank_text, string_text};
-ghost use Rattle.rx_pieces.specs.Underway.{delivery};
-ghost use Rattle.rx_pieces.specs.Writable.{Adds};
+ghost use Rattle.rx_pieces.specs.Writable.{Pushes};
 ghost use Rattle.rx_shorts.specs.Verbs.{key_text};
 
 use crate::shorts::Shorts;
@@ -20,7 +19,7 @@ const ROOM: [u8; LABEL] = [b' '; LABEL];
 
 /// Adds an IRI.
 pub(crate) fn push_iri<S: Sink>(out: &mut Pieces, sink: &mut S, shorts: &Shorts, iri: &Iri)
-    ensures { Adds (delivery out.old (S.held sink.old) (S.faults sink.old)) (delivery out.new (S.held sink.new) (S.faults sink.new)) (short_iri shorts.now iri.now) }
+    ensures { Pushes S.held S.faults out.old sink.old out.new sink.new (short_iri shorts.now iri.now) }
 {
     match shorts.short(iri) {
         None => push_between(out, sink, "<", iri, ">"),
@@ -34,7 +33,7 @@ pub(crate) fn push_iri<S: Sink>(out: &mut Pieces, sink: &mut S, shorts: &Shorts,
 
 /// Adds a subject.
 pub fn push_resource<S: Sink>(out: &mut Pieces, sink: &mut S, shorts: &Shorts, resource: Resource)
-    ensures { Adds (delivery out.old (S.held sink.old) (S.faults sink.old)) (delivery out.new (S.held sink.new) (S.faults sink.new)) (resource_text shorts.now (resource_seen resource.entry)) }
+    ensures { Pushes S.held S.faults out.old sink.old out.new sink.new (resource_text shorts.now (resource_seen resource.entry)) }
 {
     match resource {
         Resource::Iri(iri) => push_iri(out, sink, shorts, iri),
@@ -43,7 +42,7 @@ pub fn push_resource<S: Sink>(out: &mut Pieces, sink: &mut S, shorts: &Shorts, r
 }
 
 fn push_blank<S: Sink>(out: &mut Pieces, sink: &mut S, blank: Blank)
-    ensures { Adds (delivery out.old (S.held sink.old) (S.faults sink.old)) (delivery out.new (S.held sink.new) (S.faults sink.new)) (blank_text blank.0) }
+    ensures { Pushes S.held S.faults out.old sink.old out.new sink.new (blank_text blank.0) }
 {
     let mut text = ROOM;
     push_label(out, sink, blank, &mut text);
@@ -51,7 +50,7 @@ fn push_blank<S: Sink>(out: &mut Pieces, sink: &mut S, blank: Blank)
 
 /// Adds the predicate that is the key of a group.
 pub fn push_key<S: Sink>(out: &mut Pieces, sink: &mut S, shorts: &Shorts, key: Resource)
-    ensures { Adds (delivery out.old (S.held sink.old) (S.faults sink.old)) (delivery out.new (S.held sink.new) (S.faults sink.new)) (key_text shorts.now (resource_seen key.entry)) }
+    ensures { Pushes S.held S.faults out.old sink.old out.new sink.new (key_text shorts.now (resource_seen key.entry)) }
 {
     match key {
         Resource::Iri(iri) => push_verb(out, sink, shorts, iri),
@@ -60,7 +59,7 @@ pub fn push_key<S: Sink>(out: &mut Pieces, sink: &mut S, shorts: &Shorts, key: R
 }
 
 fn push_verb<S: Sink>(out: &mut Pieces, sink: &mut S, shorts: &Shorts, predicate: &Iri)
-    ensures { Adds (delivery out.old (S.held sink.old) (S.faults sink.old)) (delivery out.new (S.held sink.new) (S.faults sink.new)) (verb_text shorts.now predicate.now) }
+    ensures { Pushes S.held S.faults out.old sink.old out.new sink.new (verb_text shorts.now predicate.now) }
 {
     if is_type(predicate) {
         return push(out, sink, "a");
@@ -70,7 +69,7 @@ fn push_verb<S: Sink>(out: &mut Pieces, sink: &mut S, shorts: &Shorts, predicate
 
 /// Adds an object.
 pub fn push_object<S: Sink>(out: &mut Pieces, sink: &mut S, shorts: &Shorts, object: &Term)
-    ensures { Adds (delivery out.old (S.held sink.old) (S.faults sink.old)) (delivery out.new (S.held sink.new) (S.faults sink.new)) (object_text shorts.now (term_seen object.now)) }
+    ensures { Pushes S.held S.faults out.old sink.old out.new sink.new (object_text shorts.now (term_seen object.now)) }
 {
     match object {
         Term::Iri(iri) => push_iri(out, sink, shorts, iri),
@@ -81,7 +80,8 @@ pub fn push_object<S: Sink>(out: &mut Pieces, sink: &mut S, shorts: &Shorts, obj
 
 /// Adds a literal: its text in quotation marks, and its language tag or datatype.
 pub fn push_literal<S: Sink>(out: &mut Pieces, sink: &mut S, shorts: &Shorts, literal: &Literal)
-    ensures { Adds (delivery out.old (S.held sink.old) (S.faults sink.old)) (delivery out.new (S.held sink.new) (S.faults sink.new)) (string_text literal.now.lexical ++ suffix_text shorts.now (kind_seen literal.now.kind)) }
+    ensures { Pushes S.held S.faults out.old sink.old out.new sink.new
+        (string_text literal.now.lexical ++ suffix_text shorts.now (kind_seen literal.now.kind)) }
 {
     push_text(out, sink, "\"", &literal.lexical);
     push(out, sink, "\"");
@@ -89,7 +89,7 @@ pub fn push_literal<S: Sink>(out: &mut Pieces, sink: &mut S, shorts: &Shorts, li
 }
 
 fn push_suffix<S: Sink>(out: &mut Pieces, sink: &mut S, shorts: &Shorts, kind: &LiteralKind)
-    ensures { Adds (delivery out.old (S.held sink.old) (S.faults sink.old)) (delivery out.new (S.held sink.new) (S.faults sink.new)) (suffix_text shorts.now (kind_seen kind.now)) }
+    ensures { Pushes S.held S.faults out.old sink.old out.new sink.new (suffix_text shorts.now (kind_seen kind.now)) }
 {
     match kind {
         LiteralKind::Plain => {}
@@ -99,14 +99,14 @@ fn push_suffix<S: Sink>(out: &mut Pieces, sink: &mut S, shorts: &Shorts, kind: &
 }
 
 fn push_tag<S: Sink>(out: &mut Pieces, sink: &mut S, tag: &Lang)
-    ensures { Adds (delivery out.old (S.held sink.old) (S.faults sink.old)) (delivery out.new (S.held sink.new) (S.faults sink.new)) (codes "@" ++ tag.now) }
+    ensures { Pushes S.held S.faults out.old sink.old out.new sink.new (codes "@" ++ tag.now) }
 {
     push(out, sink, "@");
     push_lang(out, sink, tag);
 }
 
 fn push_datatype<S: Sink>(out: &mut Pieces, sink: &mut S, shorts: &Shorts, datatype: &Iri)
-    ensures { Adds (delivery out.old (S.held sink.old) (S.faults sink.old)) (delivery out.new (S.held sink.new) (S.faults sink.new)) (codes "^^" ++ short_iri shorts.now datatype.now) }
+    ensures { Pushes S.held S.faults out.old sink.old out.new sink.new (codes "^^" ++ short_iri shorts.now datatype.now) }
 {
     push(out, sink, "^^");
     push_iri(out, sink, shorts, datatype);

@@ -2,12 +2,11 @@
 use Rattle.std.specs.Prelude.{ℕ, List, [], ◌∷◌, ◌++◌, map, flat_map, codes}
 use Rattle.rx_terms.specs.Text.{Chars}
 use Rattle.rx_model.specs.Terms.{Triple}
-use Rattle.rx_model.specs.Seen.{triple_seen}
 use Rattle.rx_notation.specs.Short.{Prefixes}
 use Rattle.rx_notation.specs.Layout.{resource_text, object_text, separated, prefixes_text}
 use Rattle.rx_groups.specs.declared.keys.By.TheVariants as by
 use Rattle.rx_turtle.specs.declared.plan.Plan.{Plan}
-use Rattle.rx_groups.specs.Groups.{Keyed, grouped}
+use Rattle.rx_groups.specs.Groups.{Keyed, grouped, lent_triples}
 use Rattle.rx_groups.specs.Runs.{runs, Said, said_by, said_in}
 use Rattle.rx_shorts.specs.Uses.{chosen}
 use Rattle.rx_shorts.specs.Verbs.{key_text}
@@ -22,9 +21,12 @@ objects_text context list = separated (codes " , ") (map (λ (t : Triple ℕ). o
 abbrev pub group_text : Prefixes → Keyed → Chars
 group_text context group = key_text context group.0 ++ (codes " " ++ objects_text context group.1)
 
+-- what is said of a subject, predicate by predicate
+abbrev pub lines_text : Prefixes → List Keyed → Chars
+lines_text context groups = separated (codes " ;\n    ") (map (group_text context) groups)
+
 abbrev pub said_text : Prefixes → Said → Chars
-said_text context said =
-    resource_text context said.0 ++ (codes " " ++ (separated (codes " ;\n    ") (map (group_text context) said.1) ++ codes " .\n"))
+said_text context said = resource_text context said.0 ++ (codes " " ++ (lines_text context said.1 ++ codes " .\n"))
 
 abbrev pub plan_text : Prefixes → List Said → Chars
 plan_text context said = flat_map (said_text context) said
@@ -49,4 +51,5 @@ later (part ∷ parts) = parts
 
 -- the text of a plan
 abbrev pub text_of : Plan → Chars
-text_of plan = prefixes_text (chosen plan.marks.items plan.shorts) ++ statements_text plan.shorts (runs by.Subject (map (λ t. triple_seen t.now) plan.triples.items))
+text_of plan =
+    prefixes_text (chosen plan.marks.items plan.shorts) ++ statements_text plan.shorts (runs by.Subject (lent_triples plan.triples.items))

@@ -1,14 +1,12 @@
 //! Statements, one after another.
-ghost use Rattle.std.specs.Prelude.{◌≡◌, ◌==◌, ◌+◌, ◌<◌, ◌≤◌, [], codes, drop, length, map, if◌then◌else◌};
+ghost use Rattle.std.specs.Prelude.{◌≡◌, ◌==◌, ◌+◌, ◌<◌, ◌≤◌, [], drop, length, if◌then◌else◌};
 ghost use Rattle.std.specs.Str.{chars};
-ghost use Rattle.rx_model.specs.Seen.{triple_seen};
 ghost use Rattle.rx_graph.specs.Resources.{resource_seen};
-ghost use Rattle.rx_pieces.specs.Underway.{delivery};
-ghost use Rattle.rx_pieces.specs.Writable.{Adds};
-ghost use Rattle.rx_notation.specs.Layout.{separated};
+ghost use Rattle.rx_pieces.specs.Writable.{Pushes};
 ghost use Rattle.rx_groups.specs.declared.keys.By.TheVariants as by;
 ghost use Rattle.rx_groups.specs.Runs.{runs, said_in};
-ghost use Rattle.rx_turtle.specs.Written.{objects_text, group_text, first_line, said_text, statements_text, first_statement, later, text_of};
+ghost use Rattle.rx_turtle.specs.Written.{objects_text, group_text, lines_text, first_line, said_text, statements_text, first_statement, later, text_of};
+ghost use Rattle.rx_groups.specs.Groups.{lent_triples};
 
 use crate::plan::Plan;
 use rx_graph::Resource;
@@ -21,7 +19,7 @@ use rx_terms::Triple;
 /// Adds the whole text.
 pub(crate) fn push_plan<S: Sink>(out: &mut Pieces, sink: &mut S, plan: &Plan)
     requires { length plan.now.marks.items ≡ length plan.now.shorts }
-    ensures { Adds (delivery out.old (S.held sink.old) (S.faults sink.old)) (delivery out.new (S.held sink.new) (S.faults sink.new)) (text_of plan.now) }
+    ensures { Pushes S.held S.faults out.old sink.old out.new sink.new (text_of plan.now) }
 {
     push_prefixes(out, sink, &plan.shorts, &plan.marks);
     push_statements(out, sink, &plan.shorts, &plan.triples);
@@ -30,7 +28,7 @@ pub(crate) fn push_plan<S: Sink>(out: &mut Pieces, sink: &mut S, plan: &Plan)
 /// Adds a statement for each subject. The triples of a subject stand side by side, and of these those of a predicate. Once
 /// the sink has failed, the rest isn't made.
 fn push_statements<S: Sink>(out: &mut Pieces, sink: &mut S, shorts: &Shorts, triples: &[&Triple])
-    ensures { Adds (delivery out.old (S.held sink.old) (S.faults sink.old)) (delivery out.new (S.held sink.new) (S.faults sink.new)) (statements_text shorts.now (runs by.Subject (map (λ t. triple_seen t.now) triples.now))) }
+    ensures { Pushes S.held S.faults out.old sink.old out.new sink.new (statements_text shorts.now (runs by.Subject (lent_triples triples.now))) }
 {
     let mut at = 0;
     while at < triples.len() {
@@ -50,8 +48,9 @@ fn push_next_statement<S: Sink>(
     at: usize,
 ) -> usize
     requires { at < length triples.now }
-    ensures text { Adds (delivery out.old (S.held sink.old) (S.faults sink.old)) (delivery out.new (S.held sink.new) (S.faults sink.new)) (first_statement shorts.now (runs by.Subject (drop at (map (λ t. triple_seen t.now) triples.now)))) }
-    ensures next { runs by.Subject (drop result (map (λ t. triple_seen t.now) triples.now)) ≡ later (runs by.Subject (drop at (map (λ t. triple_seen t.now) triples.now))) }
+    ensures text { Pushes S.held S.faults out.old sink.old out.new sink.new
+        (first_statement shorts.now (runs by.Subject (drop at (lent_triples triples.now)))) }
+    ensures next { runs by.Subject (drop result (lent_triples triples.now)) ≡ later (runs by.Subject (drop at (lent_triples triples.now))) }
     ensures more { at < result }
     ensures within { result ≤ length triples.now }
 {
@@ -70,7 +69,8 @@ fn push_statement<S: Sink>(
     subject: Resource,
     triples: &[&Triple],
 )
-    ensures { Adds (delivery out.old (S.held sink.old) (S.faults sink.old)) (delivery out.new (S.held sink.new) (S.faults sink.new)) (said_text shorts.now (said_in (resource_seen subject.entry, map (λ t. triple_seen t.now) triples.now))) }
+    ensures { Pushes S.held S.faults out.old sink.old out.new sink.new
+        (said_text shorts.now (said_in (resource_seen subject.entry, lent_triples triples.now))) }
 {
     push_resource(out, sink, shorts, subject);
     push(out, sink, " ");
@@ -80,7 +80,7 @@ fn push_statement<S: Sink>(
 
 /// Adds a subject's predicates with their objects.
 fn push_lines<S: Sink>(out: &mut Pieces, sink: &mut S, shorts: &Shorts, triples: &[&Triple])
-    ensures { Adds (delivery out.old (S.held sink.old) (S.faults sink.old)) (delivery out.new (S.held sink.new) (S.faults sink.new)) (separated (codes " ;\n    ") (map (group_text shorts.now) (runs by.Predicate (map (λ t. triple_seen t.now) triples.now)))) }
+    ensures { Pushes S.held S.faults out.old sink.old out.new sink.new (lines_text shorts.now (runs by.Predicate (lent_triples triples.now))) }
 {
     let mut at = 0;
     while at < triples.len() {
@@ -98,8 +98,8 @@ fn push_next_line<S: Sink>(
     at: usize,
 ) -> usize
     requires { at < length triples.now }
-    ensures text { Adds (delivery out.old (S.held sink.old) (S.faults sink.old)) (delivery out.new (S.held sink.new) (S.faults sink.new)) (first_line shorts.now (runs by.Predicate (drop at (map (λ t. triple_seen t.now) triples.now)))) }
-    ensures next { runs by.Predicate (drop result (map (λ t. triple_seen t.now) triples.now)) ≡ later (runs by.Predicate (drop at (map (λ t. triple_seen t.now) triples.now))) }
+    ensures text { Pushes S.held S.faults out.old sink.old out.new sink.new (first_line shorts.now (runs by.Predicate (drop at (lent_triples triples.now)))) }
+    ensures next { runs by.Predicate (drop result (lent_triples triples.now)) ≡ later (runs by.Predicate (drop at (lent_triples triples.now))) }
     ensures more { at < result }
     ensures within { result ≤ length triples.now }
 {
@@ -121,7 +121,7 @@ fn place_before(triples: &[&Triple], rest: &[&Triple]) -> usize
 
 /// Adds the words, but before the first of some things.
 fn push_unless_first<S: Sink>(out: &mut Pieces, sink: &mut S, place: usize, words: &str)
-    ensures { Adds (delivery out.old (S.held sink.old) (S.faults sink.old)) (delivery out.new (S.held sink.new) (S.faults sink.new)) (if place == 0 then [] else chars words.now) }
+    ensures { Pushes S.held S.faults out.old sink.old out.new sink.new (if place == 0 then [] else chars words.now) }
 {
     if place > 0 {
         push(out, sink, words);
@@ -136,7 +136,7 @@ fn push_group<S: Sink>(
     predicate: Resource,
     triples: &[&Triple],
 )
-    ensures { Adds (delivery out.old (S.held sink.old) (S.faults sink.old)) (delivery out.new (S.held sink.new) (S.faults sink.new)) (group_text shorts.now (resource_seen predicate.entry, map (λ t. triple_seen t.now) triples.now)) }
+    ensures { Pushes S.held S.faults out.old sink.old out.new sink.new (group_text shorts.now (resource_seen predicate.entry, lent_triples triples.now)) }
 {
     push_key(out, sink, shorts, predicate);
     push(out, sink, " ");
@@ -144,7 +144,7 @@ fn push_group<S: Sink>(
 }
 
 fn push_objects<S: Sink>(out: &mut Pieces, sink: &mut S, shorts: &Shorts, triples: &[&Triple])
-    ensures { Adds (delivery out.old (S.held sink.old) (S.faults sink.old)) (delivery out.new (S.held sink.new) (S.faults sink.new)) (objects_text shorts.now (map (λ t. triple_seen t.now) triples.now)) }
+    ensures { Pushes S.held S.faults out.old sink.old out.new sink.new (objects_text shorts.now (lent_triples triples.now)) }
 {
     for i in 0..triples.len() {
         push_unless_first(out, sink, i, " , ");

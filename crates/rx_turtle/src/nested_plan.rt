@@ -1,14 +1,11 @@
 //! What is written of a nested text, made whole before the first byte is.
-ghost use Rattle.std.specs.Prelude.{◌≡◌, length, map, IfOk, encode_utf8_all};
-ghost use Rattle.std.specs.Str.{chars};
+ghost use Rattle.std.specs.Prelude.{◌≡◌, length, IfOk};
 ghost use Rattle.rx_model.specs.Seen.{triples_seen};
 ghost use Rattle.rx_shapes.specs.Table.{AreShapes, shape_in};
-ghost use Rattle.rx_pieces.specs.Underway.{delivery};
-ghost use Rattle.rx_pieces.specs.Writable.{Adds};
-ghost use Rattle.rx_notation.specs.Laws.{proper_triple};
-ghost use Rattle.rx_notation.specs.Meaning.{NestedTurtle};
+ghost use Rattle.rx_pieces.specs.Writable.{Pushes};
 ghost use Rattle.rx_nested.specs.Nesting.{nested};
 ghost use Rattle.rx_turtle.specs.Nested.{nested_of};
+ghost use Rattle.rx_turtle.specs.Graphs.{DenoteNested, nested_bytes};
 
 use crate::token_texts::push_tokens;
 use crate::token_uses::{is_graph, token_marks};
@@ -41,7 +38,7 @@ impl<'a> NestedPlan<'a> {
         requires { AreShapes (triples_seen graph.now) shapes.now }
         ensures text { IfOk result (λ plan. nested_of plan ≡ nested context.now.prefixes (triples_seen graph.now) (shape_in shapes.now)) }
         ensures sizes { IfOk result (λ plan. length plan.marks.items ≡ length plan.shorts) }
-        ensures denotes { IfOk result (λ plan. NestedTurtle (chars (encode_utf8_all (nested context.now.prefixes (triples_seen graph.now) (shape_in shapes.now)))) (map proper_triple (triples_seen graph.now))) }
+        ensures denotes { IfOk result (λ plan. DenoteNested graph.now (nested_bytes context.now.prefixes graph.now shapes.now)) }
     {
         let mut shorts = Shorts::of(alloc, context)?;
         let source = Source {
@@ -70,7 +67,7 @@ impl<'a> NestedPlan<'a> {
 /// Adds the whole text.
 pub(crate) fn push_nested<S: Sink>(out: &mut Pieces, sink: &mut S, plan: &NestedPlan)
     requires { length plan.now.marks.items ≡ length plan.now.shorts }
-    ensures { Adds (delivery out.old (S.held sink.old) (S.faults sink.old)) (delivery out.new (S.held sink.new) (S.faults sink.new)) (nested_of plan.now) }
+    ensures { Pushes S.held S.faults out.old sink.old out.new sink.new (nested_of plan.now) }
 {
     push_prefixes(out, sink, &plan.shorts, &plan.marks);
     push_tokens(out, sink, &plan.shorts, &plan.tokens);

@@ -1,13 +1,10 @@
 //! The nested text of a graph.
-ghost use Rattle.std.specs.Prelude.{◌≡◌, ◌≤◌, map, IfOk, IsErrOf, OnOk, encode_utf8_all};
-ghost use Rattle.std.specs.Str.{chars};
+ghost use Rattle.std.specs.Prelude.{◌≡◌, ◌≤◌, IfOk, IsErrOf, OnOk};
 ghost use Rattle.rx_ports.specs.Counts.{Rose};
 ghost use Rattle.rx_ports.specs.Told.{Moves, GrowsBy, GrowsByPart};
 ghost use Rattle.rx_model.specs.Seen.{triples_seen};
-ghost use Rattle.rx_shapes.specs.Table.{AreShapes, shape_in};
-ghost use Rattle.rx_notation.specs.Laws.{proper_triple};
-ghost use Rattle.rx_notation.specs.Meaning.{NestedTurtle};
-ghost use Rattle.rx_nested.specs.Nesting.{nested};
+ghost use Rattle.rx_shapes.specs.Table.{AreShapes};
+ghost use Rattle.rx_turtle.specs.Graphs.{DenoteNested, nested_bytes};
 
 use crate::nested_plan::{NestedPlan, push_nested};
 use rx_graph::Graph;
@@ -34,9 +31,10 @@ pub fn write_nested<S: Sink>(
     sink: &mut S,
 ) -> Result<(), WriteError>
     requires shapes { AreShapes (triples_seen graph.now) shapes.now }
-    ensures ok { OnOk result (Moves (GrowsBy (encode_utf8_all (nested context.now.prefixes (triples_seen graph.now) (shape_in shapes.now)))) (S.held sink.old) (S.held sink.new)) }
-    ensures denotes { OnOk result (NestedTurtle (chars (encode_utf8_all (nested context.now.prefixes (triples_seen graph.now) (shape_in shapes.now)))) (map proper_triple (triples_seen graph.now))) }
-    ensures partly { IsErrOf result WriteError.Failed → Moves (GrowsByPart (encode_utf8_all (nested context.now.prefixes (triples_seen graph.now) (shape_in shapes.now)))) (S.held sink.old) (S.held sink.new) }
+    ensures ok { OnOk result (Moves (GrowsBy (nested_bytes context.now.prefixes graph.now shapes.now)) (S.held sink.old) (S.held sink.new)) }
+    ensures denotes { OnOk result (DenoteNested graph.now (nested_bytes context.now.prefixes graph.now shapes.now)) }
+    ensures partly { IsErrOf result WriteError.Failed →
+        Moves (GrowsByPart (nested_bytes context.now.prefixes graph.now shapes.now)) (S.held sink.old) (S.held sink.new) }
     ensures cause { IsErrOf result WriteError.Failed → Rose (S.faults sink.old) (S.faults sink.new) }
     ensures untouched { IsErrOf result WriteError.NoMemory → sink.new ≡ sink.old }
     ensures later { S.faults sink.old ≤ S.faults sink.new }
@@ -64,8 +62,8 @@ pub fn nested(
     context: &Context,
 ) -> Result<Vec<u8>, NoMemory>
     requires shapes { AreShapes (triples_seen graph.now) shapes.now }
-    ensures bytes { IfOk result (λ bytes. bytes.items ≡ encode_utf8_all (nested context.now.prefixes (triples_seen graph.now) (shape_in shapes.now))) }
-    ensures denotes { IfOk result (λ bytes. NestedTurtle (chars bytes.items) (map proper_triple (triples_seen graph.now))) }
+    ensures bytes { IfOk result (λ bytes. bytes.items ≡ nested_bytes context.now.prefixes graph.now shapes.now) }
+    ensures denotes { IfOk result (λ bytes. DenoteNested graph.now bytes.items) }
 {
     let mut whole = Whole::with_room(alloc, graph.len().saturating_mul(TRIPLE))?;
     match write_nested(alloc, graph, shapes, context, &mut whole) {

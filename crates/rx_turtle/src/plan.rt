@@ -1,11 +1,9 @@
 //! What is written, made whole before the first byte is.
-ghost use Rattle.std.specs.Prelude.{◌≡◌, length, map, IfOk, encode_utf8_all};
-ghost use Rattle.std.specs.Str.{chars};
+ghost use Rattle.std.specs.Prelude.{◌≡◌, length, IfOk};
 ghost use Rattle.rx_model.specs.Seen.{triples_seen};
 ghost use Rattle.rx_notation.specs.Layout.{turtle};
-ghost use Rattle.rx_notation.specs.Laws.{proper_triple};
-ghost use Rattle.rx_notation.specs.Meaning.{Turtle};
 ghost use Rattle.rx_turtle.specs.Written.{text_of};
+ghost use Rattle.rx_turtle.specs.Graphs.{DenoteTurtle, turtle_bytes};
 
 use rx_graph::Graph;
 use rx_groups::arranged;
@@ -31,7 +29,7 @@ impl<'a> Plan<'a> {
     ) -> Result<Plan<'a>, NoMemory>
         ensures text { IfOk result (λ plan. text_of plan ≡ turtle context.now.prefixes (triples_seen graph.now)) }
         ensures sizes { IfOk result (λ plan. length plan.marks.items ≡ length plan.shorts) }
-        ensures denotes { IfOk result (λ plan. Turtle (chars (encode_utf8_all (turtle context.now.prefixes (triples_seen graph.now)))) (map proper_triple (triples_seen graph.now))) }
+        ensures denotes { IfOk result (λ plan. DenoteTurtle graph.now (turtle_bytes context.now.prefixes graph.now)) }
     {
         let mut shorts = Shorts::of(alloc, context)?;
         let Ok(marks) = used_marks(alloc, graph, &mut shorts) else {

@@ -1,8 +1,7 @@
 //! How tokens are written.
 ghost use Rattle.std.specs.Prelude.{◌≡◌};
 ghost use Rattle.std.specs.Str.{chars};
-ghost use Rattle.rx_pieces.specs.Underway.{delivery};
-ghost use Rattle.rx_pieces.specs.Writable.{Adds};
+ghost use Rattle.rx_pieces.specs.Writable.{Pushes};
 ghost use Rattle.rx_nesting.specs.Tokens.{token_seen, tokens_seen, words_text, shown_text, shown_texts};
 
 use rx_nesting::{Token, Words};
@@ -17,7 +16,7 @@ pub(crate) fn push_tokens<S: Sink>(
     shorts: &Shorts,
     tokens: &[Token],
 )
-    ensures { Adds (delivery out.old (S.held sink.old) (S.faults sink.old)) (delivery out.new (S.held sink.new) (S.faults sink.new)) (shown_texts shorts.now (tokens_seen tokens.now)) }
+    ensures { Pushes S.held S.faults out.old sink.old out.new sink.new (shown_texts shorts.now (tokens_seen tokens.now)) }
 {
     for i in 0..tokens.len() {
         if out.has_failed() {
@@ -28,7 +27,7 @@ pub(crate) fn push_tokens<S: Sink>(
 }
 
 fn push_token<S: Sink>(out: &mut Pieces, sink: &mut S, shorts: &Shorts, token: Token)
-    ensures { Adds (delivery out.old (S.held sink.old) (S.faults sink.old)) (delivery out.new (S.held sink.new) (S.faults sink.new)) (shown_text shorts.now (token_seen token.entry)) }
+    ensures { Pushes S.held S.faults out.old sink.old out.new sink.new (shown_text shorts.now (token_seen token.entry)) }
 {
     match token {
         Token::Fixed(words) => push_words(out, sink, words),
@@ -39,7 +38,7 @@ fn push_token<S: Sink>(out: &mut Pieces, sink: &mut S, shorts: &Shorts, token: T
 }
 
 fn push_words<S: Sink>(out: &mut Pieces, sink: &mut S, words: Words)
-    ensures { Adds (delivery out.old (S.held sink.old) (S.faults sink.old)) (delivery out.new (S.held sink.new) (S.faults sink.new)) (words_text words) }
+    ensures { Pushes S.held S.faults out.old sink.old out.new sink.new (words_text words) }
 {
     push(out, sink, words_text(words));
 }

@@ -1,12 +1,8 @@
 //! The text of a graph.
-ghost use Rattle.std.specs.Prelude.{◌≡◌, ◌≤◌, map, IfOk, IsErrOf, OnOk, encode_utf8_all};
-ghost use Rattle.std.specs.Str.{chars};
+ghost use Rattle.std.specs.Prelude.{◌≡◌, ◌≤◌, IfOk, IsErrOf, OnOk};
 ghost use Rattle.rx_ports.specs.Counts.{Rose};
 ghost use Rattle.rx_ports.specs.Told.{Moves, GrowsBy, GrowsByPart};
-ghost use Rattle.rx_model.specs.Seen.{triples_seen};
-ghost use Rattle.rx_notation.specs.Layout.{turtle};
-ghost use Rattle.rx_notation.specs.Laws.{proper_triple};
-ghost use Rattle.rx_notation.specs.Meaning.{Turtle};
+ghost use Rattle.rx_turtle.specs.Graphs.{DenoteTurtle, turtle_bytes};
 
 use crate::lines::push_plan;
 use crate::plan::Plan;
@@ -31,9 +27,10 @@ pub fn write<S: Sink>(
     context: &Context,
     sink: &mut S,
 ) -> Result<(), WriteError>
-    ensures ok { OnOk result (Moves (GrowsBy (encode_utf8_all (turtle context.now.prefixes (triples_seen graph.now)))) (S.held sink.old) (S.held sink.new)) }
-    ensures denotes { OnOk result (Turtle (chars (encode_utf8_all (turtle context.now.prefixes (triples_seen graph.now)))) (map proper_triple (triples_seen graph.now))) }
-    ensures partly { IsErrOf result WriteError.Failed → Moves (GrowsByPart (encode_utf8_all (turtle context.now.prefixes (triples_seen graph.now)))) (S.held sink.old) (S.held sink.new) }
+    ensures ok { OnOk result (Moves (GrowsBy (turtle_bytes context.now.prefixes graph.now)) (S.held sink.old) (S.held sink.new)) }
+    ensures denotes { OnOk result (DenoteTurtle graph.now (turtle_bytes context.now.prefixes graph.now)) }
+    ensures partly { IsErrOf result WriteError.Failed →
+        Moves (GrowsByPart (turtle_bytes context.now.prefixes graph.now)) (S.held sink.old) (S.held sink.new) }
     ensures cause { IsErrOf result WriteError.Failed → Rose (S.faults sink.old) (S.faults sink.new) }
     ensures untouched { IsErrOf result WriteError.NoMemory → sink.new ≡ sink.old }
     ensures later { S.faults sink.old ≤ S.faults sink.new }
@@ -55,8 +52,8 @@ pub fn write<S: Sink>(
 
 /// The graph's text in Turtle, as `write` writes it.
 pub fn text(alloc: Global, graph: &Graph, context: &Context) -> Result<Vec<u8>, NoMemory>
-    ensures bytes { IfOk result (λ bytes. bytes.items ≡ encode_utf8_all (turtle context.now.prefixes (triples_seen graph.now))) }
-    ensures denotes { IfOk result (λ bytes. Turtle (chars bytes.items) (map proper_triple (triples_seen graph.now))) }
+    ensures bytes { IfOk result (λ bytes. bytes.items ≡ turtle_bytes context.now.prefixes graph.now) }
+    ensures denotes { IfOk result (λ bytes. DenoteTurtle graph.now bytes.items) }
 {
     let mut whole = Whole::with_room(alloc, graph.len().saturating_mul(TRIPLE))?;
     match write(alloc, graph, context, &mut whole) {

@@ -24,13 +24,6 @@ earlier-more front (x ∷ xs) y =
     ap (λ (places : List (Option ℕ)). last_place x front ∷ places) (earlier-more (front ++ x ∷ []) xs y)
     ∙ ap (λ (f : List ℕ). last_place x front ∷ (earlier_places (front ++ x ∷ []) xs ++ last_place y f ∷ [])) (append_assoc front (x ∷ []) xs)
 
--- a front of the numbers
-pub earlier-front : (front xs : List ℕ) (k : ℕ) → earlier_places front (take k xs) ≡ take k (earlier_places front xs)
-earlier-front front [] zero = refl
-earlier-front front [] (suc k) = refl
-earlier-front front (x ∷ xs) zero = refl
-earlier-front front (x ∷ xs) (suc k) = ap (λ (places : List (Option ℕ)). last_place x front ∷ places) (earlier-front (front ++ x ∷ []) xs k)
-
 -- what is told at a place
 pub earlier-at : (front xs : List ℕ) (k : ℕ) → k < length xs → (d : Option ℕ) → get_or (earlier_places front xs) k d ≡ last_place (get_or xs k 0) (front ++ take k xs)
 earlier-at front [] k l d = absurd (omega (arith, l))

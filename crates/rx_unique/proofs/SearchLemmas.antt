@@ -270,11 +270,6 @@ module _ {K : Type 0} (test : K → Bool) where
   pub stored-old : (keys : List K) (p : ℕ) (d : K) → HasPlace keys p → (k : K) × (slice_get keys p ≡ Some k) × (test k ≡ true)
   stored-old keys p d has = (get_or keys p d, slice-or keys p d has.inside, ap (λ (i : ℕ). test (get_or keys i d)) (sym has.at) ∙ passes_at_first test keys d (omega (arith, has.inside, has.at)))
 
-  pub stored-still : (keys same_keys : List K) (p : ℕ) (d : K) → same_keys ≡ keys → HasPlace keys p → (k : K) × (slice_get same_keys p ≡ Some k) × (test k ≡ true)
-  stored-still keys same_keys p d same has =
-      let stored = stored-old keys p d has in
-      (stored.0, ap (λ (l : List K). slice_get l p) same ∙ stored.1, stored.2)
-
 -- ---- what is kept
 
 module _ {K : Type 0} (same : K → K → Bool) (k : K) (keys : List K) where

@@ -22,15 +22,6 @@ pub length-more : {A : Type 0} (xs : List A) (x : A) → length (xs ++ x ∷ [])
 length-more [] x = refl
 length-more (y ∷ ys) x = ap suc (length-more ys x)
 
-slice-front : (xs : List ℕ) (x i : ℕ) (p : ℕ) → slice_get xs i ≡ Some p → slice_get (xs ++ x ∷ []) i ≡ Some p
-slice-front [] x i p e = absurd (cc)
-slice-front (y ∷ ys) x zero p e = e
-slice-front (y ∷ ys) x (suc i) p e = slice-front ys x i p e
-
-slice-last : (xs : List ℕ) (x : ℕ) → slice_get (xs ++ x ∷ []) (length xs) ≡ Some x
-slice-last [] x = refl
-slice-last (y ∷ ys) x = slice-last ys x
-
 -- no key
 pub held-none : (slots others hashes : List ℕ) → hashes ≡ [] → AreHeld slots others hashes
 held-none slots others [] e = record { each = λ p l. absurd (omega (arith, l)) }
@@ -49,18 +40,6 @@ held-more slots others hashes more hash place is at held new = record {
 } where
   last : (p : ℕ) → p < length more → length hashes ≤ p → p ≡ length hashes
   last p l g = omega (arith, l, g, ap (λ (l : List ℕ). length l) is ∙ length-more hashes hash)
-
--- one of the others more
-other-more : (others : List ℕ) (other place : ℕ) → IsOther others place → IsOther (others ++ other ∷ []) place
-other-more others other place is = (is.0, slice-front others other is.0 place is.1)
-
-pub held-others : (slots others more hashes : List ℕ) (other : ℕ) → more ≡ others ++ other ∷ [] → AreHeld slots others hashes → AreHeld slots more hashes
-held-others slots others more hashes other is held = subst (λ (l : List ℕ). AreHeld slots l hashes) (sym is) (record {
-  each = λ p l. let one = held.each p l in record { taken = one.taken; own = also p (get_or hashes p 0) one.own };
-}) where
-  also : (p h : ℕ) → (mark_of slots h ≡ suc p) ⊎ IsOther others p → (mark_of slots h ≡ suc p) ⊎ IsOther (others ++ other ∷ []) p
-  also p h (inl own) = inl own
-  also p h (inr is) = inr (other-more others other p is)
 
 -- one key more of those that are gone through
 pub held-turn : (slots others hashes : List ℕ) (place : ℕ) → place < length hashes → AreHeld slots others (take place hashes) → IsHeld slots others (get_or hashes place 0) place → AreHeld slots others (take (place + 1) hashes)

@@ -24,14 +24,15 @@ struct Entry {
 }
 
 impl Model for Places {
-    ghost use Rattle.std.specs.Prelude.{List, ℕ, map};
+    ghost use Rattle.std.specs.Prelude.{List, ℕ};
+    ghost use Rattle.rx_unique.specs.Entries.{numbers_of, earlier_of};
     ghost use Rattle.rx_unique.specs.Places.{AreFiled};
 
     ghost Value = { List ℕ };
 
-    ghost view = { λ places. map (λ entry. entry.number) places.entries.items };
+    ghost view = { λ places. numbers_of places.entries.items };
 
-    ghost invariant = { λ places. AreFiled (map (λ entry. entry.number) places.entries.items) (map (λ entry. entry.earlier) places.entries.items) places.last };
+    ghost invariant = { λ places. AreFiled (numbers_of places.entries.items) (earlier_of places.entries.items) places.last };
 }
 
 impl Places {

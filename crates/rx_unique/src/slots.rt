@@ -81,6 +81,7 @@ impl Slots {
         ensures taken { mark_of self.new hash ≢ 0 }
         ensures own { IsTrue result → mark_of self.new hash ≡ suc place }
         ensures length { length self.new ≡ length self.old }
+        ensures stays { mark_of self.old hash ≢ 0 → self.new ≡ self.old }
     {
         let slot = self.slot_of(hash);
         if self.marks[slot] != 0 {

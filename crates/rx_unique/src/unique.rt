@@ -3,7 +3,8 @@ ghost use Rattle.std.specs.Prelude.{◌≡◌, ◌<◌, ℕ, Bool, List, [], ◌
 ghost use Rattle.std.specs.List.{list_any, position_or_len, IsDistinct};
 ghost use Rattle.rx_unique.specs.Hashes.{hash_of, quick_hash_of};
 ghost use Rattle.rx_unique.specs.Slots.{IsHeld, AreHeld};
-ghost use Rattle.rx_unique.specs.Unique.{insert_key, MayAdd};
+ghost use Rattle.rx_unique.specs.Unique.{insert_key};
+ghost use Rattle.rx_unique.specs.Others.{MayGain};
 
 use crate::hashes::{hash_of, quick_hash_of};
 use crate::others::Others;
@@ -35,7 +36,8 @@ impl<K: Eq + Hash> Model for Unique<K> {
 
     ghost view = { λ unique. unique.keys.items };
 
-    ghost invariant = { λ unique. AreKept K.eq (λ k. quick_hash_of (K.hash_input k)) (λ k. hash_of (K.hash_input k)) unique.keys.items unique.hashes.items unique.slots unique.others.places.items unique.others.numbers };
+    ghost invariant = { λ unique. AreKept K.eq (λ k. quick_hash_of (K.hash_input k)) (λ k. hash_of (K.hash_input k))
+        unique.keys.items unique.hashes.items unique.slots unique.others.places.items unique.others.numbers };
 }
 
 impl<K: Eq + Hash> Unique<K> {
@@ -185,7 +187,7 @@ fn file<K: Hash>(
     requires { 0 < length slots.old }
     ensures held { (hashes : List ℕ) → AreHeld slots.old others.old.places.items hashes → AreHeld slots.new others.new.places.items hashes }
     ensures own { OnOk result (IsHeld slots.new others.new.places.items hash place) }
-    ensures added { OnOk result (MayAdd place (hash_of (K.hash_input key.now)) others.old.places.items others.old.numbers others.new.places.items others.new.numbers) }
+    ensures added { OnOk result (MayGain place (hash_of (K.hash_input key.now)) others.old others.new) }
     ensures err { OnErr result ((others.new.places.items ≡ others.old.places.items) × (others.new.numbers ≡ others.old.numbers)) }
 {
     if slots.take(hash, place) {

@@ -1,7 +1,7 @@
 use Rattle.std.proofs.Common.{map}
 use Rattle.rx_model.specs.Seen.{triples_seen}
 use Rattle.rx_jsonld.specs.Value.{item_value}
-use Rattle.rx_jsonld.proofs.MemberLemmas.{then_ok}
+use Rattle.rx_json_text.proofs.MemberLemmas.{then_ok}
 use Rattle.rx_jsonld.proofs.TokenLemmas.{list_made}
 use Rattle.rx_jsonld.proofs.said.write_list.Goals as goal
 

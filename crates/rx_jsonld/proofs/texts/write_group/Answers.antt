@@ -1,7 +1,7 @@
 use Rattle.rx_model.specs.Seen.{triples_seen}
 use Rattle.rx_shapes.specs.Table.{shape_in}
 use Rattle.rx_jsonld.specs.Groups.{values_at}
-use Rattle.rx_jsonld.proofs.MemberLemmas.{then_ok}
+use Rattle.rx_json_text.proofs.MemberLemmas.{then_ok}
 use Rattle.rx_json_text.proofs.TokenLemmas.{group_made}
 use Rattle.rx_jsonld.proofs.texts.write_group.Goals as goal
 

@@ -6,7 +6,7 @@ use Rattle.rx_jsonld.specs.Places.{with_places}
 use Rattle.rx_json_text.specs.Tokens.{data_tokens}
 use Rattle.rx_jsonld.specs.Value.{id_text, string_of}
 use Rattle.rx_jsonld.proofs.GroupLemmas.{node_made}
-use Rattle.rx_jsonld.proofs.MemberLemmas.{then_ok}
+use Rattle.rx_json_text.proofs.MemberLemmas.{then_ok}
 use Rattle.rx_jsonld.proofs.PlaceLemmas.{said_found}
 use Rattle.rx_jsonld.proofs.texts.write_node.Goals as goal
 

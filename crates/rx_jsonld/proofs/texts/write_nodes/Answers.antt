@@ -2,7 +2,7 @@ use Rattle.std.proofs.Common.{map}
 use Rattle.rx_model.specs.Seen.{triples_seen}
 use Rattle.rx_shapes.specs.Table.{shape_in}
 use Rattle.rx_jsonld.specs.Value.{node_value, tops}
-use Rattle.rx_jsonld.proofs.MemberLemmas.{then_ok}
+use Rattle.rx_json_text.proofs.MemberLemmas.{then_ok}
 use Rattle.rx_json_text.proofs.TokenLemmas.{array_made}
 use Rattle.rx_jsonld.proofs.texts.write_nodes.Goals as goal
 
