@@ -1,7 +1,7 @@
 //! The elements of a page, each by its row and what it has beside it.
-ghost use Rattle.std.specs.Prelude.{◌≡◌, [], List, None};
+ghost use Rattle.std.specs.Prelude.{◌≡◌, [], List, None, Some, slice_get};
 ghost use Rattle.rx_terms.specs.Text.{Chars};
-ghost use Rattle.rx_microdata.specs.Elements.{Placed, names_of};
+ghost use Rattle.rx_microdata.specs.Elements.{Placed, is_item, is_top_level, names_of};
 ghost use Rattle.rx_item_table.specs.Showing.{ShowsRow};
 ghost use Rattle.rx_item_table.specs.Words.{names_in, types_in};
 ghost use Rattle.rx_item_properties.specs.Held.{AreTokens, AtPlace, HoldsRows, ShowsElement, ShowsTokens, names_beside, others_beside, own_beside, texts_in, texts_seen, types_beside};
@@ -11,6 +11,7 @@ use rx_item_table::{Row, Span};
 use rx_terms::Text;
 
 /// The element at a place.
+#[inline(always)]
 pub fn element_at(kept: &Kept, place: usize) -> Option<Element<'_>>
     ensures { (rows : List Placed) (base : Chars) → HoldsRows kept.now rows base → AtPlace kept.now rows place result }
 {
@@ -21,6 +22,32 @@ pub fn element_at(kept: &Kept, place: usize) -> Option<Element<'_>>
         return None;
     };
     Some(element_of(row, extra))
+}
+
+/// Whether the row at a place is that of a top-level item. It is asked of each row, and is cheaper than an element.
+pub fn is_top_at(kept: &Kept, place: usize) -> bool
+    ensures { (rows : List Placed) (base : Chars) (p : Placed) → HoldsRows kept.now rows base → slice_get rows place ≡ Some p → result ≡ is_top_level p }
+{
+    match kept.rows.get(place) {
+        Some(row) => is_top(row),
+        None => false,
+    }
+}
+
+fn is_top(row: &Row) -> bool
+    ensures { (words gathered : Chars) (times : List Chars) (p : Placed) → ShowsRow words gathered times row.now p → result ≡ is_top_level p }
+{
+    row.head.is_item && row.head.words.names().is_none()
+}
+
+/// Whether the row at a place is that of an item.
+pub fn is_item_at(kept: &Kept, place: usize) -> bool
+    ensures { (rows : List Placed) (base : Chars) (p : Placed) → HoldsRows kept.now rows base → slice_get rows place ≡ Some p → result ≡ is_item p }
+{
+    match kept.rows.get(place) {
+        Some(row) => row.head.is_item,
+        None => false,
+    }
 }
 
 /// The element of a row that has this beside it.

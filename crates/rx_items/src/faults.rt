@@ -9,7 +9,9 @@ ghost use Rattle.rx_items.specs.Expanding.{At, Finds, again, count_of, steps_in,
 ghost use Rattle.rx_items.specs.Pages.{VisitsGive, top_visits};
 
 use crate::visits::{Trail, enter, leave};
-use rx_item_properties::{Element, Kept, Tokens, element_at, listed, properties};
+use rx_item_properties::{
+    Element, Kept, Tokens, element_at, is_item_at, is_top_at, listed, properties,
+};
 use rx_tags::Stop;
 use std::alloc::Global;
 
@@ -33,12 +35,12 @@ fn pass_top(alloc: Global, kept: &Kept, trail: &mut Trail, place: usize) -> Resu
     ensures finds { (rows : List Placed) (base : Chars) (e : Placed) → HoldsRows kept.now rows base → trail.old.path.items ≡ [] → slice_get rows place ≡ Some e
         → Finds trail.old.visits (top_visits rows base e) trail.new.visits (λ done. ⊤) result }
 {
+    if !is_top_at(kept, place) {
+        return Ok(());
+    }
     let Some(element) = element_at(kept, place) else {
         return Ok(());
     };
-    if !element.is_top {
-        return Ok(());
-    }
     pass(alloc, kept, trail, &element, place)
 }
 
@@ -128,12 +130,12 @@ fn pass_property(alloc: Global, kept: &Kept, trail: &mut Trail, place: usize) ->
     ensures finds { (rows : List Placed) (base : Chars) (above : Visit) (left : ℕ) (e : Placed) → At kept.now rows base trail.old.path.items above left
         → slice_get rows place ≡ Some e → Finds trail.old.visits (visits_in rows base above left (steps_of e)) trail.new.visits (λ done. ⊤) result }
 {
+    if !is_item_at(kept, place) {
+        return Ok(());
+    }
     let Some(element) = element_at(kept, place) else {
         return Ok(());
     };
-    if !element.is_item {
-        return Ok(());
-    }
     pass_times(alloc, kept, trail, &element, place, count(&element.names))
 }
 

@@ -13,7 +13,7 @@ use crate::faults::visit_all;
 use crate::objects::page_object;
 use crate::visits::{Trail, visit};
 use crate::writing::written;
-use rx_item_properties::{Kept, element_at};
+use rx_item_properties::{Kept, element_at, is_top_at};
 use rx_json_text::push_to;
 use rx_tags::Stop;
 use rx_terms::NoMemory;
@@ -62,12 +62,12 @@ fn add_top(
         → Finds trail.old.visits (top_visits rows base e) trail.new.visits
         (λ done. map view items.new.items ≡ map view items.old.items ++ top_data rows base e) result }
 {
+    if !is_top_at(kept, place) {
+        return Ok(());
+    }
     let Some(element) = element_at(kept, place) else {
         return Ok(());
     };
-    if !element.is_top {
-        return Ok(());
-    }
     let value = visit(alloc, kept, trail, &element, place)?;
     let Ok(()) = push_to(items, value) else {
         return Err(Stop::NoMemory);

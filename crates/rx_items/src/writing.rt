@@ -14,7 +14,7 @@ ghost use Rattle.rx_items.specs.Pages.{top_data};
 use crate::named::{Named, by_name};
 use crate::parts::{write_id, write_plain, write_types};
 use crate::visits::NESTED;
-use rx_item_properties::{Element, Kept, element_at};
+use rx_item_properties::{Element, Kept, element_at, is_top_at};
 use rx_json_text::JsonText;
 use rx_terms::NoMemory;
 use std::alloc::Global;
@@ -63,12 +63,12 @@ fn write_top(alloc: Global, kept: &Kept, place: usize, out: &mut JsonText) -> Re
     ensures { (rows : List Placed) (base : Chars) (e : Placed) → HoldsRows kept.now rows base → slice_get rows place ≡ Some e
         → OnOk result (out.new ≡ out.old ++ each_tokens (top_data rows base e)) }
 {
+    if !is_top_at(kept, place) {
+        return Ok(());
+    }
     let Some(element) = element_at(kept, place) else {
         return Ok(());
     };
-    if !element.is_top {
-        return Ok(());
-    }
     write_item(alloc, kept, NESTED, &element, place, out)
 }
 

@@ -74,17 +74,15 @@ pass_each-returns-clause-finds t c rows base above left es at is stand =
 pub pass_property-returns-in_default-clause-finds : goal.pass_property-returns-in_default-clause-finds
 pass_property-returns-in_default-clause-finds t c rows base above left e at row = absurd (no_element rows c.args.place e row (c.in_default.ensures rows base at.holds))
 
-pub pass_property-returns-then-not-element-clause-finds : goal.pass_property-returns-then-not-element-clause-finds
-pass_property-returns-then-not-element-clause-finds t c rows base above left e at row =
-    let found = is_element c.args.kept.now rows c.args.place c.in-Some.element e row (c.in-Some.ensures rows base at.holds) in
-    let shown = found.shown in
-    (plain_passed rows base above left e c.args.trail.now.visits (sym shown.is_item ∙ c.if-not-element.true), tt)
+pub pass_property-returns-then-not-is_item_at-clause-finds : goal.pass_property-returns-then-not-is_item_at-clause-finds
+pass_property-returns-then-not-is_item_at-clause-finds t c rows base above left e at row =
+    (plain_passed rows base above left e c.args.trail.now.visits (sym (c.is_item_at.ensures rows base e at.holds row) ∙ c.if-not-is_item_at.true), tt)
 
 pub pass_property-returns-clause-finds : goal.pass_property-returns-clause-finds
 pass_property-returns-clause-finds t c rows base above left e at row =
     let found = is_element c.args.kept.now rows c.args.place c.in-Some.element e row (c.in-Some.ensures rows base at.holds) in
     let shown = found.shown in
-    let item = sym shown.is_item ∙ c.if-not-element.false in
+    let item = sym (c.is_item_at.ensures rows base e at.holds row) ∙ c.if-not-is_item_at.false in
     item_passed rows base above left e c.args.trail.now.visits c.pass_times.new.trail.visits c.count.result c.pass_times.result
     (c.count.ensures ∙ counted c.args.kept.now.words c.in-Some.element.names (names_of e) shown.names) item (c.pass_times.ensures.finds rows base above left e at row found item)
 

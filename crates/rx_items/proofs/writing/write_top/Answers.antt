@@ -8,15 +8,12 @@ use Rattle.rx_items.proofs.writing.write_top.Goals as goal
 pub returns-in_default : goal.returns-in_default
 returns-in_default c rows base e holds row = absurd (no_element rows c.args.place e row (c.in_default.ensures rows base holds))
 
-pub returns-then-not-element : goal.returns-then-not-element
-returns-then-not-element c rows base e holds row =
-    let found = is_element c.args.kept.now rows c.args.place c.in-Some.element e row (c.in-Some.ensures rows base holds) in
-    let shown = found.shown in
-    top_nothing rows base e c.args.out.now (sym shown.is_top ∙ c.if-not-element.true)
+pub returns-then-not-is_top_at : goal.returns-then-not-is_top_at
+returns-then-not-is_top_at c rows base e holds row =
+    top_nothing rows base e c.args.out.now (sym (c.is_top_at.ensures rows base e holds row) ∙ c.if-not-is_top_at.true)
 
 pub returns : goal.returns
 returns c rows base e holds row =
     let found = is_element c.args.kept.now rows c.args.place c.in-Some.element e row (c.in-Some.ensures rows base holds) in
-    let shown = found.shown in
-    let top = sym shown.is_top ∙ c.if-not-element.false in
+    let top = sym (c.is_top_at.ensures rows base e holds row) ∙ c.if-not-is_top_at.false in
     then_ok c.write_item.result (λ wrote. top_told rows base e c.args.out.now c.write_item.new.out top wrote) (c.write_item.ensures rows base e holds row found (item_of_top e top))
