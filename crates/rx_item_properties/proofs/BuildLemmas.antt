@@ -1,90 +1,85 @@
--- The elements of a table's rows, one after another.
-use Rattle.std.proofs.Common.{◌≡◌, ◌∙◌, ◌+◌, ◌<◌, ◌≤◌, ℕ, zero, suc, true, List, [], ◌∷◌, ◌++◌, length, take, get_or, Contains, ◌↔◌, Option, Some, None, refl, sym, ap, subst, arith}
-use Rattle.std.specs.Prelude.{slice_get, filter_map}
+-- What stands beside a table's rows, one after another.
+use Rattle.std.proofs.Common.{◌≡◌, ◌∙◌, ◌+◌, ◌≤◌, ℕ, zero, suc, Bool, true, false, List, [], ◌∷◌, ◌++◌, length, Option, Some, None, option_map, refl, sym, ap, subst, arith}
+use Rattle.std.specs.Prelude.{slice_get, unwrap_or}
 use mathlib.Core.Logic.{◌⊎◌, inl, inr}
-use Rattle.std.proofs.lemmas.Bool.{cases_lt}
-use Rattle.std.proofs.lemmas.List.{take_all}
+use Rattle.std.proofs.lemmas.List.{length-append}
 use Rattle.rx_terms.specs.Text.{Chars}
 use Rattle.rx_microdata.specs.Elements.{Placed, is_item}
-use Rattle.rx_item_properties.specs.Held.{ShowsElement, ShowsElements, HoldsRows, Numbered}
-use Rattle.rx_item_properties.specs.Built.{Reaches, Builds, Built}
-use Rattle.rx_item_properties.specs.declared.kept.Element.{Element}
-use Rattle.rx_item_properties.specs.declared.kept.Kept.{Kept}
-use Rattle.rx_item_properties.proofs.TakeLemmas.{one_more}
+use Rattle.rx_microdata.specs.Facts.{distinct_tokens}
+use Rattle.rx_item_table.specs.Showing.{ShowsRow}
+use Rattle.rx_item_table.specs.Words.{names_in, types_in}
+use Rattle.rx_item_table.specs.declared.rows.Row.{Row}
+use Rattle.rx_item_properties.specs.Held.{AllFit, AreTokens, Fits, Reaches, names_beside, runs_beside, types_beside}
+use Rattle.rx_item_properties.specs.Built.{Builds}
+use Rattle.rx_item_properties.specs.declared.kept.Extra.{Extra}
 
 pub same_there : (ps : List Placed) (i : ℕ) (a b : Placed) → slice_get ps i ≡ Some a → slice_get ps i ≡ Some b → a ≡ b
 same_there ps i a b e f = let found : Some a ≡ Some b = sym e ∙ f in cc (found)
 
-shown_more : (words text : Chars) (times : List Chars) (es : List Element) (ps : List Placed) (e : Element) (p : Placed) → ShowsElements words text times es ps → ShowsElement words text times e p
-    → ShowsElements words text times (es ++ e ∷ []) (ps ++ p ∷ [])
-shown_more words text times [] [] e p s h = (h, tt)
-shown_more words text times [] (q ∷ ps) e p s h = absurd s
-shown_more words text times (d ∷ es) [] e p s h = absurd s
-shown_more words text times (d ∷ es) (q ∷ ps) e p s h = (s.0, shown_more words text times es ps e p s.1 h)
+pub same_row : (rows : List Row) (i : ℕ) (a b : Row) → slice_get rows i ≡ Some a → slice_get rows i ≡ Some b → a ≡ b
+same_row rows i a b e f = let found : Some a ≡ Some b = sym e ∙ f in cc (found)
 
-as_many : (words text : Chars) (times : List Chars) (es : List Element) (ps : List Placed) → ShowsElements words text times es ps → length es ≡ length ps
-as_many words text times [] [] s = refl
-as_many words text times [] (q ∷ ps) s = absurd s
-as_many words text times (d ∷ es) [] s = absurd s
-as_many words text times (d ∷ es) (q ∷ ps) s = ap suc (as_many words text times es ps s.1)
-
-taken : (ps : List Placed) (i : ℕ) → i ≤ length ps → length (take i ps) ≡ i
-taken ps zero le = refl
-taken [] (suc i) le = absurd (omega (arith, le))
-taken (p ∷ ps) (suc i) le = ap suc (taken ps i (omega (arith, le)))
-
-at_end : (es : List Element) (e d : Element) (i : ℕ) → slice_get (es ++ e ∷ []) i ≡ Some d → slice_get es i ≡ Some d ⊎ ((i ≡ length es) × (e ≡ d))
-at_end [] e d zero g = inr (refl, cc (g))
-at_end [] e d (suc i) g = absurd (cc (g))
-at_end (x ∷ es) e d zero g = inl g
-at_end (x ∷ es) e d (suc i) g = by (at_end es e d i g)
+at_end : (xs : List Extra) (x d : Extra) (i : ℕ) → slice_get (xs ++ x ∷ []) i ≡ Some d → slice_get xs i ≡ Some d ⊎ ((i ≡ length xs) × (x ≡ d))
+at_end [] x d zero g = inr (refl, cc (g))
+at_end [] x d (suc i) g = absurd (cc (g))
+at_end (y ∷ xs) x d zero g = inl g
+at_end (y ∷ xs) x d (suc i) g = by (at_end xs x d i g)
   where
-    by : slice_get es i ≡ Some d ⊎ ((i ≡ length es) × (e ≡ d)) → slice_get es i ≡ Some d ⊎ ((suc i ≡ length (x ∷ es)) × (e ≡ d))
+    by : slice_get xs i ≡ Some d ⊎ ((i ≡ length xs) × (x ≡ d)) → slice_get xs i ≡ Some d ⊎ ((suc i ≡ length (y ∷ xs)) × (x ≡ d))
     by (inl h) = inl h
     by (inr h) = inr (ap suc h.0, h.1)
 
-within : (ps : List Placed) (i : ℕ) (p : Placed) → slice_get ps i ≡ Some p → (i < length ps) × (get_or ps i p ≡ p)
-within [] i p g = absurd (cc (g))
-within (q ∷ ps) zero p g = (omega arith, cc (g))
-within (q ∷ ps) (suc i) p g = let r = within ps i p g in let lt = r.0 in (omega (arith, lt), r.1)
-
-pub built_turn : (words text : Chars) (times : List Chars) (ps : List Placed) (members : List ℕ) (i : ℕ) (p : Placed) (old new : List Element) (e : Element) → slice_get ps i ≡ Some p
-    → Built words text times ps members i old → Builds words text times ps members i e → new ≡ old ++ e ∷ [] → Built words text times ps members (i + 1) new
-built_turn words text times ps members i p old new e there b h pushed =
-    subst (Built words text times ps members (i + 1)) (sym pushed) (record { shown = shown; reach = reach })
+pub fit_turn : (words : Chars) (ps : List Placed) (members : List ℕ) (rows : List Row) (i : ℕ) (old new : List Extra) (x : Extra) → AllFit words ps members rows i old
+    → Builds words ps members rows i x → new ≡ old ++ x ∷ [] → AllFit words ps members rows (i + 1) new
+fit_turn words ps members rows i old new x a b pushed =
+    subst (AllFit words ps members rows (i + 1)) (sym pushed) (record { size = length-append old (x ∷ []) ∙ ap (λ n. n + 1) a.size; fit = fit })
   where
-    lies : (i < length ps) × (get_or ps i p ≡ p)
-    lies = within ps i p there
-
-    size : length old ≡ i
-    size = let lt = lies.0 in as_many words text times old (take i ps) b.shown ∙ taken ps i (omega (arith, lt))
-
-    shown : ShowsElements words text times (old ++ e ∷ []) (take (i + 1) ps)
-    shown =
-        subst (ShowsElements words text times (old ++ e ∷ [])) (sym (one_more ps i p lies.0 ∙ ap (λ (q : Placed). take i ps ++ q ∷ []) lies.1)) (shown_more words text times old (take i ps) e p b.shown (h.shown p there))
-
-    reach : (j : ℕ) (q : Placed) (d : Element) → slice_get ps j ≡ Some q → slice_get (old ++ e ∷ []) j ≡ Some d → is_item q ≡ true → Reaches ps members j (d.reach.own ∷ d.reach.others.items) q
-    reach j q d g f item = by (at_end old e d j f)
+    fit : (j : ℕ) (row : Row) (p : Placed) (d : Extra) → slice_get rows j ≡ Some row → slice_get ps j ≡ Some p → slice_get (old ++ x ∷ []) j ≡ Some d → Fits words ps members j row p d
+    fit j row p d g h f = by (at_end old x d j f)
       where
-        by : slice_get old j ≡ Some d ⊎ ((j ≡ length old) × (e ≡ d)) → Reaches ps members j (d.reach.own ∷ d.reach.others.items) q
-        by (inl k) = b.reach j q d g k item
+        by : slice_get old j ≡ Some d ⊎ ((j ≡ length old) × (x ≡ d)) → Fits words ps members j row p d
+        by (inl k) = a.fit j row p d g h k
         by (inr k) =
-            let at : j ≡ i = k.0 ∙ size in
-            subst (λ (x : Element). Reaches ps members j (x.reach.own ∷ x.reach.others.items) q) k.1 (subst (λ n. Reaches ps members n (e.reach.own ∷ e.reach.others.items) q) (sym at) (h.reach q (ap (slice_get ps) (sym at) ∙ g) item))
+            let at : j ≡ i = k.0 ∙ a.size in
+            subst (λ (y : Extra). Fits words ps members j row p y) k.1 (subst (λ n. Fits words ps members n row p x) (sym at) (b row p (ap (slice_get rows) (sym at) ∙ g) (ap (slice_get ps) (sym at) ∙ h)))
 
-pub built_first : (words text : Chars) (times : List Chars) (ps : List Placed) (members : List ℕ) (es : List Element) → es ≡ [] → Built words text times ps members 0 es
-built_first words text times ps members es none =
-    subst (Built words text times ps members 0) (sym none) (record { shown = tt; reach = λ i p e g f item. absurd (cc (f)) })
+pub fit_end : (words : Chars) (ps : List Placed) (members : List ℕ) (rows : List Row) (i n : ℕ) (xs : List Extra) → i ≤ n → n ≤ i → AllFit words ps members rows i xs → AllFit words ps members rows n xs
+fit_end words ps members rows i n xs le ge a = let same : i ≡ n = omega (arith, le, ge) in subst (λ m. AllFit words ps members rows m xs) same a
 
--- all of them are held
-pub all_held : (kept : Kept) (ps : List Placed) (base : Chars) (count : ℕ) → count ≡ length ps → Built kept.words kept.text kept.times.items ps kept.members.items count kept.elements.items → Numbered 0 ps → kept.base ≡ base
-    → HoldsRows kept ps base
-all_held kept ps base count whole b n same = record {
-  shown = subst (ShowsElements kept.words kept.text kept.times.items kept.elements.items) (take_all count ps (omega (arith, whole))) b.shown;
-  base_is = same;
-  numbered = n;
-  reached = λ root e row element item x. b.reach root.place root e row element item x;
-}
+named : (o : Option Chars) → unwrap_or (option_map distinct_tokens o) [] ≡ distinct_tokens (unwrap_or o [])
+named None = refl
+named (Some text) = refl
 
-pub built_end : (words text : Chars) (times : List Chars) (ps : List Placed) (members : List ℕ) (i n : ℕ) (es : List Element) → i ≤ n → n ≤ i → Built words text times ps members i es → Built words text times ps members n es
-built_end words text times ps members i n es le ge b = let same : i ≡ n = omega (arith, le, ge) in subst (λ m. Built words text times ps members m es) same b
+-- what stands beside a row whose names and types are these, and whose runs give these properties
+pub fits_by : (words text : Chars) (times : List Chars) (ps : List Placed) (members : List ℕ) (rows : List Row) (place : ℕ) (row : Row) (p : Placed) (x : Extra)
+    → slice_get rows place ≡ Some row → slice_get ps place ≡ Some p → (s : ShowsRow words text times row p)
+    → AreTokens words (names_in row.head.words) (names_beside x) (distinct_tokens (unwrap_or s.itemprop []))
+    → AreTokens words (types_in row.head.words) (types_beside x) (distinct_tokens (unwrap_or s.itemtype []))
+    → (is_item p ≡ true → Reaches ps members place (runs_beside x) p) → Builds words ps members rows place x
+fits_by words text times ps members rows place row p x row_is there s names types reach = λ row2 p2 row2_is there2.
+    subst (λ (r : Row). Fits words ps members place r p2 x) (same_row rows place row row2 row_is row2_is)
+    (subst (λ (q : Placed). Fits words ps members place row q x) (same_there ps place p p2 there there2) (record {
+      names = subst (AreTokens words (names_in row.head.words) (names_beside x)) (sym (ap (λ (o : Option (List Chars)). unwrap_or o []) s.names ∙ named s.itemprop)) names;
+      types = subst (AreTokens words (types_in row.head.words) (types_beside x)) (sym s.types) types;
+      reach = reach;
+    }))
+
+pub fits_plain : (words text : Chars) (times : List Chars) (ps : List Placed) (members : List ℕ) (rows : List Row) (place : ℕ) (row : Row) (p : Placed) (x : Extra)
+    → slice_get rows place ≡ Some row → slice_get ps place ≡ Some p → (s : ShowsRow words text times row p)
+    → AreTokens words (names_in row.head.words) (names_beside x) (distinct_tokens (unwrap_or s.itemprop []))
+    → AreTokens words (types_in row.head.words) (types_beside x) (distinct_tokens (unwrap_or s.itemtype []))
+    → row.head.is_item ≡ false → Builds words ps members rows place x
+fits_plain words text times ps members rows place row p x row_is there s names types plain =
+    fits_by words text times ps members rows place row p x row_is there s names types (λ item. absurd (clash row.head.is_item (s.is_item ∙ item) plain))
+  where
+    clash : (b : Bool) → b ≡ true → b ≡ false → ⊥
+    clash true e f = cc (f)
+    clash false e f = cc (e)
+
+pub fits_there : (words text : Chars) (times : List Chars) (ps : List Placed) (members : List ℕ) (rows : List Row) (place : ℕ) (row : Row) (p : Placed) (x : Extra)
+    → slice_get rows place ≡ Some row → slice_get ps place ≡ Some p → (s : ShowsRow words text times row p)
+    → AreTokens words (names_in row.head.words) (names_beside x) (distinct_tokens (unwrap_or s.itemprop []))
+    → AreTokens words (types_in row.head.words) (types_beside x) (distinct_tokens (unwrap_or s.itemtype []))
+    → Reaches ps members place (runs_beside x) p → Builds words ps members rows place x
+fits_there words text times ps members rows place row p x row_is there s names types reach =
+    fits_by words text times ps members rows place row p x row_is there s names types (λ item. reach)

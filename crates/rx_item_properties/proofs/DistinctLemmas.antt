@@ -26,20 +26,11 @@ pub unseen : (fresh old : Bool) → fresh ≡ not old → fresh ≡ true → old
 unseen fresh true e f = sym (sym e ∙ f)
 unseen fresh false e f = refl
 
--- a token more of what is left
-pub seen_turn : (list whole : List Chars) (seen words more : List Chars) (token : Chars) → list ++ without_repeats_of seen words ≡ whole → words ≡ token ∷ more
-    → is_among seen token ≡ true → list ++ without_repeats_of seen more ≡ whole
-seen_turn list whole seen words more token e is among =
-    sym (ap (λ (ws : List Chars). list ++ without_repeats_of seen ws) is ∙ ap (λ b. list ++ cond b (without_repeats_of seen more) (token ∷ without_repeats_of (token ∷ seen) more)) among) ∙ e
-
 pub new_turn : (list whole : List Chars) (seen words more : List Chars) (token : Chars) → list ++ without_repeats_of seen words ≡ whole → words ≡ token ∷ more
     → is_among seen token ≡ false → (list ++ token ∷ []) ++ without_repeats_of (token ∷ seen) more ≡ whole
 new_turn list whole seen words more token e is among =
     append_assoc list (token ∷ []) (without_repeats_of (token ∷ seen) more)
     ∙ sym (ap (λ (ws : List Chars). list ++ without_repeats_of seen ws) is ∙ ap (λ b. list ++ cond b (without_repeats_of seen more) (token ∷ without_repeats_of (token ∷ seen) more)) among) ∙ e
-
-pub no_turn : (list whole seen words : List Chars) → list ++ without_repeats_of seen words ≡ whole → words ≡ [] → list ≡ whole
-no_turn list whole seen words e is = sym (append-nil list) ∙ sym (ap (λ (ws : List Chars). list ++ without_repeats_of seen ws) is) ∙ e
 
 pub sees_new : (old new : List ℕ → Bool) (seen : List Chars) (token : List ℕ) → IsUtf8 token → Sees old seen
     → ((text : List ℕ) → new text ≡ (same token text || old text)) → Sees new (chars token ∷ seen)
@@ -49,11 +40,3 @@ sees_new old new seen token u s added = record {
       let rest = s.at text v in
       added text ∙ (λ i. here i || rest i);
 }
-
-pub sees_old : (old new : List ℕ → Bool) (seen : List Chars) (token : List ℕ) → IsUtf8 token → Sees old seen
-    → ((text : List ℕ) → new text ≡ (same token text || old text)) → old token ≡ true → Sees new seen
-sees_old old new seen token u s added among = record { at = λ text v. added text ∙ by text v (same token text) refl }
-  where
-    by : (text : List ℕ) → IsUtf8 text → (b : Bool) → same token text ≡ b → (same token text || old text) ≡ is_among seen (chars text)
-    by text v false e = ap (λ b. b || old text) e ∙ s.at text v
-    by text v true e = ap (λ b. b || old text) e ∙ sym (sym (s.at text v) ∙ sym (ap old ((bytes_eq-Decides token text).0 e)) ∙ among)

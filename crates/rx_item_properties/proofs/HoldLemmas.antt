@@ -1,36 +1,90 @@
 -- What is kept of a page, row by row.
-use Rattle.std.proofs.Common.{◌≡◌, ◌∙◌, ◌+◌, ◌<◌, ◌≤◌, ℕ, zero, suc, Bool, true, false, cond, List, [], ◌∷◌, ◌++◌, map, filter, length, take, drop, Contains, ◌↔◌, Option, Some, None, refl, sym, ap, subst, arith, nat_cmp, Ordering, Less, Equal, Greater}
+use Rattle.std.proofs.Common.{get_or, ◌≡◌, ◌∙◌, ◌+◌, ◌<◌, ◌≤◌, ℕ, zero, suc, Bool, true, false, cond, List, [], ◌∷◌, ◌++◌, map, filter, length, take, drop, Contains, ◌↔◌, Option, Some, None, refl, sym, ap, subst, arith, nat_cmp, Ordering, Less, Equal, Greater}
 use Rattle.std.specs.Prelude.{slice_get}
+use Rattle.std.proofs.lemmas.Option.{slice_get-get_or}
 use Rattle.std.specs.List.{AllByRecursion}
 use Rattle.std.specs.List.Sorted.{IsStrictlySortedBy}
 use Rattle.rx_terms.specs.Text.{Chars}
 use Rattle.rx_microdata.specs.Elements.{Placed, is_item, names_of}
 use Rattle.rx_item_table.specs.Rows.{properties_in}
-use Rattle.rx_item_properties.specs.Held.{ShowsElement, ShowsElements, Numbered, places, AllStand, HoldsRows}
+use Rattle.rx_item_table.specs.Showing.{ShowsRow, ShowsRows}
+use Rattle.rx_item_table.specs.Words.{names_in, types_in}
+use Rattle.rx_item_table.specs.declared.rows.Row.{Row}
+use Rattle.rx_item_properties.specs.Held.{AreTokens, AtPlace, IsElement, Reaches, ShowsElement, Numbered, names_beside, others_beside, own_beside, places, types_beside, AllStand, HoldsRows}
 use Rattle.rx_item_properties.specs.Properties.{gathered}
 use Rattle.rx_item_properties.specs.declared.kept.Element.{Element}
+use Rattle.rx_item_properties.specs.declared.kept.Extra.{Extra}
 use Rattle.rx_item_properties.specs.declared.kept.Kept.{Kept}
+use Rattle.rx_item_properties.specs.declared.kept.Run.{Run}
 use Rattle.rx_item_properties.proofs.RisingLemmas.{Rises, same_rising, less_of}
 
--- a row and its element
-pub shows_at : (words gathered : Chars) (times : List Chars) (es : List Element) (ps : List Placed) (i : ℕ) (e : Element) (p : Placed) → ShowsElements words gathered times es ps
-    → slice_get es i ≡ Some e → slice_get ps i ≡ Some p → ShowsElement words gathered times e p
-shows_at words gathered times [] ps i e p s f g = absurd (cc (f))
-shows_at words gathered times (e1 ∷ es) [] i e p s f g = absurd s
-shows_at words gathered times (e1 ∷ es) (p1 ∷ ps) zero e p s f g =
+-- a row and what it shows
+pub shows_at : (words gathered : Chars) (times : List Chars) (rows : List Row) (ps : List Placed) (i : ℕ) (row : Row) (p : Placed) → ShowsRows words gathered times rows ps
+    → slice_get rows i ≡ Some row → slice_get ps i ≡ Some p → ShowsRow words gathered times row p
+shows_at words gathered times [] ps i row p s f g = absurd (cc (f))
+shows_at words gathered times (r1 ∷ rows) [] i row p s f g = absurd s
+shows_at words gathered times (r1 ∷ rows) (p1 ∷ ps) zero row p s f g =
     let same : p1 ≡ p = cc (g) in
-    let alike : e1 ≡ e = cc (f) in
-    subst (λ (x : Element). ShowsElement words gathered times x p) alike (subst (λ (x : Placed). ShowsElement words gathered times e1 x) same s.0)
-shows_at words gathered times (e1 ∷ es) (p1 ∷ ps) (suc i) e p s f g = shows_at words gathered times es ps i e p s.1 f g
+    let alike : r1 ≡ row = cc (f) in
+    subst (λ (x : Row). ShowsRow words gathered times x p) alike (subst (λ (x : Placed). ShowsRow words gathered times r1 x) same s.0)
+shows_at words gathered times (r1 ∷ rows) (p1 ∷ ps) (suc i) row p s f g = shows_at words gathered times rows ps i row p s.1 f g
 
--- each row has one
-pub has_element : (words gathered : Chars) (times : List Chars) (es : List Element) (ps : List Placed) (i : ℕ) (p : Placed) → ShowsElements words gathered times es ps
-    → slice_get ps i ≡ Some p → i < length es
-has_element words gathered times [] [] i p s g = absurd (cc (g))
-has_element words gathered times [] (p1 ∷ ps) i p s g = absurd s
-has_element words gathered times (e1 ∷ es) [] i p s g = absurd s
-has_element words gathered times (e1 ∷ es) (p1 ∷ ps) zero p s g = omega arith
-has_element words gathered times (e1 ∷ es) (p1 ∷ ps) (suc i) p s g = let h = has_element words gathered times es ps i p s.1 g in omega (arith, h)
+pub as_long : (words gathered : Chars) (times : List Chars) (rows : List Row) (ps : List Placed) → ShowsRows words gathered times rows ps → length rows ≡ length ps
+as_long words gathered times [] [] s = refl
+as_long words gathered times [] (p ∷ ps) s = absurd s
+as_long words gathered times (r ∷ rows) [] s = absurd s
+as_long words gathered times (r ∷ rows) (p ∷ ps) s = ap suc (as_long words gathered times rows ps s.1)
+
+-- the row of a place before the end
+pub placed_at : (ps : List Placed) (i : ℕ) → i < length ps → (p : Placed) × (slice_get ps i ≡ Some p)
+placed_at [] i lt = absurd (omega (arith, lt))
+placed_at (p ∷ ps) zero lt = (p, refl)
+placed_at (p ∷ ps) (suc i) lt = placed_at ps i (omega (arith, lt))
+
+none_at : (ps : List Placed) (i : ℕ) → length ps ≤ i → slice_get ps i ≡ None
+none_at [] i le = refl
+none_at (p ∷ ps) zero le = absurd (omega (arith, le))
+none_at (p ∷ ps) (suc i) le = none_at ps i (omega (arith, le))
+
+-- behind all rows there is no element
+pub behind_rows : (kept : Kept) (rows : List Placed) (base : Chars) (i : ℕ) → HoldsRows kept rows base → length kept.rows.items ≤ i → slice_get rows i ≡ None
+behind_rows kept rows base i h le =
+    let size = as_long kept.words kept.text kept.times.items kept.rows.items rows h.shown in none_at rows i (omega (arith, size, le))
+
+pub none_there : (kept : Kept) (rows : List Placed) (base : Chars) (i : ℕ) (p : Placed) → HoldsRows kept rows base → slice_get rows i ≡ Some p → length kept.rows.items ≤ i → ⊥
+none_there kept rows base i p h there le = let none : Some p ≡ None = sym there ∙ behind_rows kept rows base i h le in cc (none)
+
+-- the row at a place shows what stands there
+pub row_there : (kept : Kept) (rows : List Placed) (base : Chars) (i : ℕ) (row : Row) (p : Placed) → HoldsRows kept rows base → slice_get rows i ≡ Some p → i < length kept.rows.items → row ≡ get_or kept.rows.items i row
+    → ShowsRow kept.words kept.text kept.times.items row p
+row_there kept rows base i row p h there lt is =
+    shows_at kept.words kept.text kept.times.items kept.rows.items rows i row p h.shown (slice_get-get_or kept.rows.items i row lt ∙ ap Some (sym is)) there
+
+-- what stands at a place
+pub element_there : (kept : Kept) (rows : List Placed) (base : Chars) (i : ℕ) (row : Row) (x : Extra) (e : Element) → HoldsRows kept rows base → i < length kept.rows.items
+    → slice_get kept.rows.items i ≡ Some row → slice_get kept.extras.items i ≡ Some x
+    → ((p : Placed) → ShowsRow kept.words kept.text kept.times.items row p → AreTokens kept.words (names_in row.head.words) (names_beside x) (names_of p)
+    → AreTokens kept.words (types_in row.head.words) (types_beside x) p.facts.types → ShowsElement kept.words kept.text kept.times.items e p)
+    → e.own ≡ own_beside x → e.others.now ≡ others_beside x → AtPlace kept rows i (Some e)
+element_there kept rows base i row x e h lt row_is x_is shown own others =
+    let size = as_long kept.words kept.text kept.times.items kept.rows.items rows h.shown in
+    let p = placed_at rows i (omega (arith, lt, size)) in
+    let row_shows = shows_at kept.words kept.text kept.times.items kept.rows.items rows i row p.0 h.shown row_is p.1 in
+    let fits = h.extras.fit i row p.0 x row_is p.1 x_is in (
+      p.0,
+      p.1,
+      record {
+        shown = shown p.0 row_shows fits.names fits.types;
+        reached = λ item. subst (λ (runs : List Run). Reaches rows kept.members.items i runs p.0) (λ j. sym own j ∷ sym others j) (fits.reach item);
+      },
+    )
+
+-- an element is that of the row at its place
+pub is_element : (kept : Kept) (rows : List Placed) (place : ℕ) (e : Element) (p : Placed) → slice_get rows place ≡ Some p → AtPlace kept rows place (Some e) → IsElement kept rows place e p
+is_element kept rows place e p row at =
+    let found : Some at.0 ≡ Some p = sym at.1 ∙ row in
+    let same : at.0 ≡ p = cc (found) in
+    subst (λ (q : Placed). IsElement kept rows place e q) same at.2
 
 numbered_from : (k : ℕ) (ps : List Placed) (i : ℕ) (p : Placed) → Numbered k ps → slice_get ps i ≡ Some p → p.place ≡ k + i
 numbered_from k [] i p n g = absurd (cc (g))
@@ -78,12 +132,9 @@ places_rise f k (p ∷ ps) n = by (f p) (above f (suc k) p.place ps (let e = n.0
 
 -- what an item's runs give are the places of its properties
 pub list_is : (kept : Kept) (rows : List Placed) (base : Chars) (root : Placed) (e : Element) (place : ℕ) (list : List ℕ) → HoldsRows kept rows base
-    → slice_get rows place ≡ Some root → slice_get kept.elements.items place ≡ Some e → is_item root ≡ true → Rises list
-    → ((x : ℕ) → Contains list x ↔ Contains (gathered kept.members.items (e.reach.own ∷ e.reach.others.items) place) x) → list ≡ places (properties_in rows root)
-list_is kept rows base root e place list h row element item rise same =
-    let at = place_is rows place root h.numbered row in
-    let reached = h.reached root e (ap (slice_get rows) at ∙ row) (ap (slice_get kept.elements.items) at ∙ element) item in
-    let back : (x : ℕ) → Contains (gathered kept.members.items (e.reach.own ∷ e.reach.others.items) place) x ↔ Contains (places (properties_in rows root)) x =
-    subst (λ (n : ℕ). (x : ℕ) → Contains (gathered kept.members.items (e.reach.own ∷ e.reach.others.items) n) x ↔ Contains (places (properties_in rows root)) x) at reached in
+    → IsElement kept rows place e root → is_item root ≡ true → Rises list
+    → ((x : ℕ) → Contains list x ↔ Contains (gathered kept.members.items (e.own ∷ e.others.now) place) x) → list ≡ places (properties_in rows root)
+list_is kept rows base root e place list h element item rise same =
+    let back = element.reached item in
     same_rising list (places (properties_in rows root)) rise (places_rise _ 0 rows h.numbered)
     (λ x c. (back x).0 ((same x).0 c)) (λ x c. (same x).1 ((back x).1 c))

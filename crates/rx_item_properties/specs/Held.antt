@@ -1,19 +1,59 @@
 -- What is kept of a page, and the rows that it stands for.
-use Rattle.std.specs.Prelude.{◌≡◌, ⊤, ℕ, suc, true, List, [], ◌∷◌, map, slice_get, Contains, ◌↔◌, Option, Some}
+use denote.Ref.{Bor}
+use Rattle.std.specs.Prelude.{◌≡◌, ⊤, ℕ, suc, true, List, [], ◌∷◌, map, length, slice_get, Contains, ◌↔◌, Option, Some, None, option_map, Vec}
+use Rattle.std.specs.declared.alloc.Global.{Global}
 use Rattle.rx_terms.specs.Text.{Chars}
 use Rattle.rx_microdata.specs.Elements.{Placed, is_item, names_of, is_top_level}
 use Rattle.rx_item_table.specs.Rows.{properties_in}
-use Rattle.rx_item_table.specs.Showing.{Stands, ShowsWord, ShowsValue}
+use Rattle.rx_item_table.specs.Showing.{Stands, ShowsWord, ShowsValue, ShowsRows}
+use Rattle.rx_item_table.specs.Words.{names_in, types_in}
+use Rattle.rx_item_table.specs.declared.rows.Row.{Row}
+use Rattle.rx_item_table.specs.declared.spans.Span.{Span}
 use Rattle.rx_item_properties.specs.Properties.{gathered}
 use Rattle.rx_item_properties.specs.declared.kept.Element.{Element}
+use Rattle.rx_item_properties.specs.declared.kept.Extra.{Extra}
+use Rattle.rx_item_properties.specs.declared.kept.Extra.TheVariants as extra
 use Rattle.rx_item_properties.specs.declared.kept.Kept.{Kept}
+use Rattle.rx_item_properties.specs.declared.kept.Run.{Run}
 use Rattle.rx_item_properties.specs.declared.kept.Tokens.{Tokens}
 use Rattle.rx_item_properties.specs.declared.kept.Tokens.TheVariants as tokens
+
+abbrev pub texts_in : Option (Vec Chars Global) → Option (List Chars)
+texts_in list = option_map (λ (l : Vec Chars Global). l.items) list
+
+abbrev pub texts_seen : Option (Bor (List Chars)) → Option (List Chars)
+texts_seen list = option_map (λ (l : Bor (List Chars)). l.now) list
+
+-- what stands beside a row: lists of its names and of its types, where these aren't one token, and what it reaches
+abbrev pub names_beside : Extra → Option (List Chars)
+names_beside (extra.Plain run) = None
+names_beside (extra.Rare rare) = texts_in rare.value.names
+
+abbrev pub types_beside : Extra → Option (List Chars)
+types_beside (extra.Plain run) = None
+types_beside (extra.Rare rare) = texts_in rare.value.types
+
+abbrev pub own_beside : Extra → Run
+own_beside (extra.Plain run) = run
+own_beside (extra.Rare rare) = rare.value.reach.own
+
+abbrev pub others_beside : Extra → List Run
+others_beside (extra.Plain run) = []
+others_beside (extra.Rare rare) = rare.value.reach.others.items
+
+abbrev pub runs_beside : Extra → List Run
+runs_beside x = own_beside x ∷ others_beside x
+
+-- the tokens of an attribute, by where it stands in what is kept of tags and by the list of them, where there is one
+abbrev pub AreTokens : Chars → Option Span → Option (List Chars) → List Chars → Type 0
+AreTokens words span (Some list) texts = list ≡ texts
+AreTokens words None None texts = [] ≡ texts
+AreTokens words (Some span) None texts = (token : Chars) × (texts ≡ token ∷ []) × Stands words span token
 
 -- the tokens of an attribute, by what is kept of tags
 abbrev pub ShowsTokens : Chars → Tokens → List Chars → Type 0
 ShowsTokens words (tokens.One span) texts = (token : Chars) × (texts ≡ token ∷ []) × Stands words span token
-ShowsTokens words (tokens.Many list) texts = list.items ≡ texts
+ShowsTokens words (tokens.Many list) texts = list.now ≡ texts
 
 -- by what is kept of tags, the text that was gathered, and the own texts of times
 pub record ShowsElement (words gathered : Chars) (times : List Chars) (e : Element) (p : Placed) : Type 0 where
@@ -25,12 +65,6 @@ pub record ShowsElement (words gathered : Chars) (times : List Chars) (e : Eleme
   pub types : ShowsTokens words e.types p.facts.types
   pub item_id : ShowsWord words e.item_id p.facts.item_id
   pub value : ShowsValue words gathered times e.value p.facts.value
-
-abbrev pub ShowsElements : Chars → Chars → List Chars → List Element → List Placed → Type 0
-ShowsElements words gathered times [] [] = ⊤
-ShowsElements words gathered times [] (p ∷ ps) = ⊥
-ShowsElements words gathered times (e ∷ es) [] = ⊥
-ShowsElements words gathered times (e ∷ es) (p ∷ ps) = ShowsElement words gathered times e p × ShowsElements words gathered times es ps
 
 -- each row stands at its place
 abbrev pub Numbered : ℕ → List Placed → Type 0
@@ -45,9 +79,34 @@ abbrev pub AllStand : List Placed → List Placed → Type 0
 AllStand rows [] = ⊤
 AllStand rows (e ∷ es) = (slice_get rows e.place ≡ Some e) × AllStand rows es
 
+-- the runs of an item give its properties
+abbrev pub Reaches : List Placed → List ℕ → ℕ → List Run → Placed → Type 0
+Reaches ps members place runs root = (x : ℕ) → Contains (gathered members runs place) x ↔ Contains (places (properties_in ps root)) x
+
+-- what stands beside a row is that of its element
+pub record Fits (words : Chars) (ps : List Placed) (members : List ℕ) (place : ℕ) (row : Row) (p : Placed) (x : Extra) : Type 0 where
+  pub names : AreTokens words (names_in row.head.words) (names_beside x) (names_of p)
+  pub types : AreTokens words (types_in row.head.words) (types_beside x) p.facts.types
+  pub reach : is_item p ≡ true → Reaches ps members place (runs_beside x) p
+
+-- so does what stands beside each of the first so many rows
+pub record AllFit (words : Chars) (ps : List Placed) (members : List ℕ) (rows : List Row) (count : ℕ) (extras : List Extra) : Type 0 where
+  pub size : length extras ≡ count
+  pub fit : (i : ℕ) (row : Row) (p : Placed) (x : Extra) → slice_get rows i ≡ Some row → slice_get ps i ≡ Some p → slice_get extras i ≡ Some x
+      → Fits words ps members i row p x
+
 pub record HoldsRows (kept : Kept) (rows : List Placed) (base : Chars) : Type 0 where
-  pub shown : ShowsElements kept.words kept.text kept.times.items kept.elements.items rows
+  pub shown : ShowsRows kept.words kept.text kept.times.items kept.rows.items rows
   pub base_is : kept.base ≡ base
   pub numbered : Numbered 0 rows
-  pub reached : (root : Placed) (e : Element) → slice_get rows root.place ≡ Some root → slice_get kept.elements.items root.place ≡ Some e → is_item root ≡ true
-      → (x : ℕ) → Contains (gathered kept.members.items (e.reach.own ∷ e.reach.others.items) root.place) x ↔ Contains (places (properties_in rows root)) x
+  pub extras : AllFit kept.words rows kept.members.items kept.rows.items (length kept.rows.items) kept.extras.items
+
+-- an element is that of the row at a place, and its runs give its properties
+pub record IsElement (kept : Kept) (rows : List Placed) (place : ℕ) (e : Element) (p : Placed) : Type 0 where
+  pub shown : ShowsElement kept.words kept.text kept.times.items e p
+  pub reached : is_item p ≡ true → Reaches rows kept.members.items place (e.own ∷ e.others.now) p
+
+-- the element at a place, where there is one
+abbrev pub AtPlace : Kept → List Placed → ℕ → Option Element → Type 0
+AtPlace kept rows place None = slice_get rows place ≡ None
+AtPlace kept rows place (Some e) = (p : Placed) × (slice_get rows place ≡ Some p) × IsElement kept rows place e p

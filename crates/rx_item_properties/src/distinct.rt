@@ -1,5 +1,5 @@
 //! The tokens of a text, each once.
-ghost use Rattle.std.specs.Prelude.{◌≡◌, ℕ, List, [], ◌∷◌, ◌++◌, ◌||◌, not, true, IfOk, OnOk};
+ghost use Rattle.std.specs.Prelude.{◌≡◌, ℕ, List, [], ◌∷◌, ◌++◌, ◌||◌, not, true, Some, IfOk, OnOk};
 ghost use Rattle.std.specs.Char.{is_ascii_whitespace};
 ghost use Rattle.std.specs.List.{position};
 ghost use Rattle.std.specs.Str.{chars};
@@ -8,9 +8,8 @@ ghost use Rattle.rx_grammar.specs.Names.{same};
 ghost use Rattle.rx_microdata.specs.Facts.{distinct_tokens};
 ghost use Rattle.rx_item_table.specs.Showing.{Stands};
 ghost use Rattle.rx_item_properties.specs.Distinct.{has_text};
-ghost use Rattle.rx_item_properties.specs.Held.{ShowsTokens};
+ghost use Rattle.rx_item_properties.specs.Held.{AreTokens, texts_in};
 
-use crate::kept::Tokens;
 use rx_item_table::{Span, text_of};
 use rx_terms::{NoMemory, Text};
 use rx_values::TextStore;
@@ -18,17 +17,21 @@ use rx_words::first_token;
 use std::alloc::Global;
 use std::collections::BTreeSet;
 
-/// The tokens of an attribute's value, which stands there in what is kept of tags, without those that stood before.
-pub(crate) fn tokens_at(alloc: Global, words: &TextStore, span: Span) -> Result<Tokens, NoMemory>
-    ensures { (part : Chars) → Stands words.now span part → IfOk result (λ tokens. ShowsTokens words.now tokens (distinct_tokens part)) }
+/// The tokens of an attribute's value, which stands there in what is kept of tags, without those that stood before. There
+/// is no list of them where the value is one token, which needs no memory of its own.
+pub(crate) fn several_at(
+    alloc: Global,
+    words: &TextStore,
+    span: Span,
+) -> Result<Option<Vec<Text>>, NoMemory>
+    ensures { (part : Chars) → Stands words.now span part → IfOk result (λ list. AreTokens words.now (Some span) (texts_in list) (distinct_tokens part)) }
 {
     let text = text_of(words, span);
-    // most are, and need no memory of their own
     if is_token(text) {
-        return Ok(Tokens::One(span));
+        return Ok(None);
     }
     let list = distinct(alloc, text)?;
-    Ok(Tokens::Many(list))
+    Ok(Some(list))
 }
 
 /// Whether the text is a token and nothing else.

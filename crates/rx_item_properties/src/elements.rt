@@ -1,120 +1,139 @@
-//! The elements of a table's rows.
-ghost use Rattle.std.specs.Prelude.{◌≡◌, ◌<◌, ◌++◌, ◌∷◌, [], ℕ, length, IfOk, OnOk, List, Option, unwrap_or};
-ghost use Rattle.std.specs.List.Sorted.{IsNonDecreasing};
-ghost use Rattle.rx_grammar.specs.Trees.{Tree};
-ghost use Rattle.rx_item_table.specs.Rows.{rows_of};
-ghost use Rattle.rx_item_properties.specs.Members.{Sorted};
-ghost use Rattle.rx_item_properties.specs.Ids.{Looks, look_in};
-ghost use Rattle.rx_item_properties.specs.Built.{Builds, Built};
+//! The elements of a page, each by its row and what it has beside it.
+ghost use Rattle.std.specs.Prelude.{◌≡◌, [], List, None, Some, slice_get};
 ghost use Rattle.rx_terms.specs.Text.{Chars};
-ghost use Rattle.rx_microdata.specs.Elements.{Placed};
-ghost use Rattle.rx_microdata.specs.Facts.{distinct_tokens};
-ghost use Rattle.rx_item_properties.specs.Held.{ShowsElement, ShowsTokens};
-ghost use Rattle.rx_item_table.specs.Showing.{ShowsRow, ShowsWord};
+ghost use Rattle.rx_microdata.specs.Elements.{Placed, is_item, is_top_level, names_of};
+ghost use Rattle.rx_item_table.specs.Showing.{ShowsRow};
+ghost use Rattle.rx_item_table.specs.Words.{names_in, types_in};
+ghost use Rattle.rx_item_properties.specs.Held.{AreTokens, AtPlace, HoldsRows, ShowsElement, ShowsTokens, names_beside, others_beside, own_beside, texts_in, texts_seen, types_beside};
 
-use crate::distinct::tokens_at;
-use crate::kept::{Element, Reach, Tokens};
-use crate::reaches::{no_reach, reach_of};
-use crate::references::starts_of;
+use crate::kept::{Element, Extra, Kept, Run, Tokens};
 use rx_item_table::{Row, Span};
-use rx_terms::NoMemory;
-use rx_values::TextStore;
-use std::alloc::Global;
-use std::collections::BTreeMap;
+use rx_terms::Text;
 
-/// The elements of the rows, in order.
-pub(crate) fn elements_of(
-    alloc: Global,
-    words: &TextStore,
-    rows: &[Row],
-    keys: &[u128],
-    ids: &BTreeMap<&str, usize>,
-) -> Result<Vec<Element>, NoMemory>
-    ensures { (text : Chars) (times : List Chars) (tree : Tree) (members : List ℕ) → Sorted words.now text times rows.now (rows_of tree) keys.now members → IsNonDecreasing keys.now
-        → Looks ids.now (look_in (rows_of tree)) → IfOk result (λ elements. Built words.now text times (rows_of tree) members (length rows.now) elements.items) }
+/// The element at a place.
+#[inline(always)]
+pub fn element_at(kept: &Kept, place: usize) -> Option<Element<'_>>
+    ensures { (rows : List Placed) (base : Chars) → HoldsRows kept.now rows base → AtPlace kept.now rows place result }
 {
-    let mut elements = Vec::with_capacity(alloc, rows.len())?;
-    for place in 0..rows.len() {
-        let element = built(alloc, words, rows, keys, ids, place)?;
-        add_element(&mut elements, element)?;
-    }
-    Ok(elements)
-}
-
-fn add_element(elements: &mut Vec<Element>, element: Element) -> Result<(), NoMemory>
-    ensures { OnOk result (elements.new.items ≡ elements.old.items ++ element ∷ []) }
-{
-    match elements.push(element) {
-        Ok(()) => Ok(()),
-        Err(refused) => {
-            drop(refused);
-            Err(NoMemory)
-        }
-    }
-}
-
-/// The element of the row at this place.
-fn built(
-    alloc: Global,
-    words: &TextStore,
-    rows: &[Row],
-    keys: &[u128],
-    ids: &BTreeMap<&str, usize>,
-    place: usize,
-) -> Result<Element, NoMemory>
-    requires { place < length rows.now }
-    ensures { (text : Chars) (times : List Chars) (tree : Tree) (members : List ℕ) → Sorted words.now text times rows.now (rows_of tree) keys.now members → IsNonDecreasing keys.now
-        → Looks ids.now (look_in (rows_of tree)) → IfOk result (λ element. Builds words.now text times (rows_of tree) members place element) }
-{
-    let row = &rows[place];
-    if !row.head.is_item {
-        let plain = element_of(alloc, words, row, no_reach(alloc))?;
-        return Ok(plain);
-    }
-    let starts = starts_of(alloc, words, ids, row.head.words.references)?;
-    let reach = reach_of(alloc, rows, keys, starts.as_slice(), place)?;
-    let element = element_of(alloc, words, row, reach)?;
-    Ok(element)
-}
-
-/// The element of a row that reaches these members.
-fn element_of(
-    alloc: Global,
-    words: &TextStore,
-    row: &Row,
-    reach: Reach,
-) -> Result<Element, NoMemory>
-    ensures shown { (gathered : Chars) (times : List Chars) (p : Placed) → ShowsRow words.now gathered times row.now p → IfOk result (λ element. ShowsElement words.now gathered times element p) }
-    ensures reach { IfOk result (λ element. element.reach ≡ reach) }
-{
-    let Ok(names) = tokens_of(alloc, words, row.head.words.names) else {
-        drop(reach);
-        return Err(NoMemory);
+    let Some(row) = kept.rows.get(place) else {
+        return None;
     };
-    let Ok(types) = tokens_of(alloc, words, row.head.words.types) else {
-        drop(reach);
-        drop(names);
-        return Err(NoMemory);
+    let Some(extra) = kept.extras.get(place) else {
+        return None;
     };
-    Ok(Element {
+    Some(element_of(row, extra))
+}
+
+/// Whether the row at a place is that of a top-level item. It is asked of each row, and is cheaper than an element.
+pub fn is_top_at(kept: &Kept, place: usize) -> bool
+    ensures { (rows : List Placed) (base : Chars) (p : Placed) → HoldsRows kept.now rows base → slice_get rows place ≡ Some p → result ≡ is_top_level p }
+{
+    match kept.rows.get(place) {
+        Some(row) => is_top(row),
+        None => false,
+    }
+}
+
+fn is_top(row: &Row) -> bool
+    ensures { (words gathered : Chars) (times : List Chars) (p : Placed) → ShowsRow words gathered times row.now p → result ≡ is_top_level p }
+{
+    row.head.is_item && row.head.words.names().is_none()
+}
+
+/// Whether the row at a place is that of an item.
+pub fn is_item_at(kept: &Kept, place: usize) -> bool
+    ensures { (rows : List Placed) (base : Chars) (p : Placed) → HoldsRows kept.now rows base → slice_get rows place ≡ Some p → result ≡ is_item p }
+{
+    match kept.rows.get(place) {
+        Some(row) => row.head.is_item,
+        None => false,
+    }
+}
+
+/// The element of a row that has this beside it.
+fn element_of<'a>(row: &Row, extra: &'a Extra) -> Element<'a>
+    ensures shown { (words gathered : Chars) (times : List Chars) (p : Placed) → ShowsRow words gathered times row.now p
+        → AreTokens words (names_in row.now.head.words) (names_beside extra.now) (names_of p)
+        → AreTokens words (types_in row.now.head.words) (types_beside extra.now) p.facts.types
+        → ShowsElement words gathered times result p }
+    ensures own { result.own ≡ own_beside extra.now }
+    ensures others { result.others.now ≡ others_beside extra.now }
+{
+    let names = row.head.words.names();
+    Element {
         token: row.head.token,
         at: row.head.at,
         is_item: row.head.is_item,
-        is_top: row.head.is_item && row.head.words.names.is_none(),
-        names,
-        types,
-        item_id: row.head.words.item_id,
+        is_top: row.head.is_item && names.is_none(),
+        names: tokens(names, names_beside(extra)),
+        types: tokens(row.head.words.types(), types_beside(extra)),
+        item_id: row.head.words.item_id(),
         value: row.value,
-        reach,
-    })
+        own: own_beside(extra),
+        others: others_beside(extra),
+    }
 }
 
-/// The tokens of an attribute's value, each once, where there is one.
-fn tokens_of(alloc: Global, words: &TextStore, span: Option<Span>) -> Result<Tokens, NoMemory>
-    ensures { (word : Option Chars) → ShowsWord words.now span word → IfOk result (λ tokens. ShowsTokens words.now tokens (distinct_tokens (unwrap_or word []))) }
+/// The tokens of an attribute that stands there, where they take no memory of their own, or else these.
+fn tokens<'a>(span: Option<Span>, list: Option<&'a [Text]>) -> Tokens<'a>
+    ensures { (words : Chars) (texts : List Chars) → AreTokens words span (texts_seen list.entry) texts → ShowsTokens words result texts }
+{
+    match list {
+        Some(list) => Tokens::Many(list),
+        None => token(span),
+    }
+}
+
+fn token<'a>(span: Option<Span>) -> Tokens<'a>
+    ensures { (words : Chars) (texts : List Chars) → AreTokens words span None texts → ShowsTokens words result texts }
 {
     match span {
-        Some(span) => tokens_at(alloc, words, span),
-        None => Ok(Tokens::Many(Vec::new(alloc))),
+        Some(span) => Tokens::One(span),
+        None => Tokens::Many(&[]),
+    }
+}
+
+fn names_beside(extra: &Extra) -> Option<&[Text]>
+    ensures { texts_seen result ≡ names_beside extra.now }
+{
+    match extra {
+        Extra::Plain(_run) => None,
+        Extra::Rare(rare) => listed(&rare.as_ref().names),
+    }
+}
+
+fn types_beside(extra: &Extra) -> Option<&[Text]>
+    ensures { texts_seen result ≡ types_beside extra.now }
+{
+    match extra {
+        Extra::Plain(_run) => None,
+        Extra::Rare(rare) => listed(&rare.as_ref().types),
+    }
+}
+
+fn listed(list: &Option<Vec<Text>>) -> Option<&[Text]>
+    ensures { texts_seen result ≡ texts_in list.now }
+{
+    match list {
+        Some(list) => Some(list.as_slice()),
+        None => None,
+    }
+}
+
+fn own_beside(extra: &Extra) -> Run
+    ensures { result ≡ own_beside extra.now }
+{
+    match extra {
+        Extra::Plain(run) => *run,
+        Extra::Rare(rare) => rare.as_ref().reach.own,
+    }
+}
+
+fn others_beside(extra: &Extra) -> &[Run]
+    ensures { result.now ≡ others_beside extra.now }
+{
+    match extra {
+        Extra::Plain(_run) => &[],
+        Extra::Rare(rare) => rare.as_ref().reach.others.as_slice(),
     }
 }

@@ -4,19 +4,24 @@ ghost use Rattle.std.specs.Ordering.{nat_cmp};
 ghost use Rattle.std.specs.List.Sorted.{IsStrictlySortedBy};
 ghost use Rattle.rx_item_properties.specs.Properties.{part, gathered, is_other, are_listed, rise_behind, is_next};
 
-use crate::kept::{Reach, Run};
+use crate::kept::Run;
 use rx_terms::NoMemory;
 use std::alloc::Global;
 
-/// The places of an item's properties, which rise, where they stand so among the members.
-pub fn listed<'a>(members: &'a [usize], reach: &Reach, place: usize) -> Option<&'a [usize]>
+/// The places of the properties of an item that reaches these runs, which rise, where they stand so among the members.
+pub fn listed<'a>(
+    members: &'a [usize],
+    own: Run,
+    others: &[Run],
+    place: usize,
+) -> Option<&'a [usize]>
     ensures rise { IfSome result (λ list. IsStrictlySortedBy nat_cmp list.now) }
-    ensures same { IfSome result (λ list. (x : ℕ) → Contains list.now x ↔ Contains (gathered members.now (reach.now.own ∷ reach.now.others.items) place) x) }
+    ensures same { IfSome result (λ list. (x : ℕ) → Contains list.now x ↔ Contains (gathered members.now (own ∷ others.now) place) x) }
 {
-    if !reach.others.as_slice().is_empty() {
+    if !others.is_empty() {
         return None;
     }
-    let list = part(members, reach.own);
+    let list = part(members, own);
     if are_listed(list, place) {
         Some(list)
     } else {
@@ -53,17 +58,18 @@ fn is_next(before: usize, member: usize, place: usize) -> bool
     before < member && member != place
 }
 
-/// The places of an item's properties, which rise: those of the members that it reaches, but for its own.
+/// The places of the properties of an item that reaches these runs, which rise: those of the members in them, but for its own.
 pub fn properties(
     alloc: Global,
     members: &[usize],
-    reach: &Reach,
+    own: Run,
+    others: &[Run],
     place: usize,
 ) -> Result<Vec<usize>, NoMemory>
     ensures rise { IfOk result (λ list. IsStrictlySortedBy nat_cmp list.items) }
-    ensures same { IfOk result (λ list. (x : ℕ) → Contains list.items x ↔ Contains (gathered members.now (reach.now.own ∷ reach.now.others.items) place) x) }
+    ensures same { IfOk result (λ list. (x : ℕ) → Contains list.items x ↔ Contains (gathered members.now (own ∷ others.now) place) x) }
 {
-    let mut list = gathered(alloc, members, reach, place)?;
+    let mut list = gathered(alloc, members, own, others, place)?;
     list.sort_unstable();
     list.dedup();
     Ok(list)
@@ -72,14 +78,15 @@ pub fn properties(
 fn gathered(
     alloc: Global,
     members: &[usize],
-    reach: &Reach,
+    own: Run,
+    others: &[Run],
     place: usize,
 ) -> Result<Vec<usize>, NoMemory>
-    ensures { IfOk result (λ list. list.items ≡ gathered members.now (reach.now.own ∷ reach.now.others.items) place) }
+    ensures { IfOk result (λ list. list.items ≡ gathered members.now (own ∷ others.now) place) }
 {
     let mut list = Vec::new(alloc);
-    add_others(&mut list, part(members, reach.own), place)?;
-    for run in &reach.others {
+    add_others(&mut list, part(members, own), place)?;
+    for run in others {
         add_others(&mut list, part(members, *run), place)?;
     }
     Ok(list)

@@ -26,7 +26,7 @@ pub(crate) fn first_ids<'a>(
 {
     let mut ids = BTreeMap::new(alloc);
     for place in (0..rows.len()).rev() {
-        note_id(&mut ids, words, rows[place].head.words.id, place)?;
+        note_id(&mut ids, words, rows[place].head.words.id(), place)?;
     }
     Ok(ids)
 }

@@ -1,5 +1,5 @@
 //! What is kept of a page's elements once the page has ended.
-use rx_item_table::{RowValue, Span};
+use rx_item_table::{Row, RowValue, Span};
 use rx_terms::{Iri, Text};
 use rx_values::TextStore;
 
@@ -19,34 +19,55 @@ pub struct Reach {
     pub others: Vec<Run>,
 }
 
-/// The tokens of an attribute, each once.
+/// What takes memory of its own, which most elements don't have.
 #[derive(Drop)]
-pub enum Tokens {
+pub struct Rare {
+    /// The property names, each once, where they aren't one token.
+    pub names: Option<Vec<Text>>,
+    /// The types, each once, where they aren't one token.
+    pub types: Option<Vec<Text>>,
+    pub reach: Reach,
+}
+
+/// What an element has beside its row. There is one for each row, so it is small.
+#[derive(Drop)]
+pub enum Extra {
+    /// Nothing but, of an item, the run of the members that it reaches.
+    Plain(Run),
+    Rare(Box<Rare>),
+}
+
+/// The tokens of an attribute, each once.
+#[derive(Clone, Copy)]
+pub enum Tokens<'a> {
     /// The only one, where it stands in what is kept of tags.
     One(Span),
     /// None, or several.
-    Many(Vec<Text>),
+    Many(&'a [Text]),
 }
 
-/// An element that matters.
-#[derive(Drop)]
-pub struct Element {
+/// An element that matters, by its row and what it has beside it.
+#[derive(Clone, Copy)]
+pub struct Element<'a> {
     pub token: u64,
     pub at: u64,
     pub is_item: bool,
     pub is_top: bool,
-    pub names: Tokens,
-    pub types: Tokens,
+    pub names: Tokens<'a>,
+    pub types: Tokens<'a>,
     pub item_id: Option<Span>,
     pub value: RowValue,
-    /// Of an item, what it reaches.
-    pub reach: Reach,
+    /// Of an item, the members that it reaches: a run, and others that share none with it or each other.
+    pub own: Run,
+    pub others: &'a [Run],
 }
 
-/// The elements that matter, those with names once more by the items around them, the texts of both, and the base.
+/// What is kept of a page: the rows of its elements, what these have beside them, the places of those with a name by the
+/// items around them, the texts, and the base.
 #[derive(Drop)]
 pub struct Kept {
-    pub elements: Vec<Element>,
+    pub rows: Vec<Row>,
+    pub extras: Vec<Extra>,
     pub members: Vec<usize>,
     pub words: TextStore,
     pub text: TextStore,

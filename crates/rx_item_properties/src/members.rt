@@ -70,8 +70,10 @@ fn before(keys: &[u128], bound: u128) -> usize
 
 /// The members with this item around, from one place to another.
 pub(crate) fn between(keys: &[u128], scope: Option<usize>, from: usize, to: usize) -> Run
-    ensures from { IsNonDecreasing keys.now → IsPartitionPoint (λ key. nat_lt key (key_of scope from) ≡ true) (λ key. nat_lt key (key_of scope from) ≡ false) keys.now result.from }
-    ensures to { IsNonDecreasing keys.now → IsPartitionPoint (λ key. nat_lt key (key_of scope to) ≡ true) (λ key. nat_lt key (key_of scope to) ≡ false) keys.now result.to }
+    ensures from { IsNonDecreasing keys.now
+        → IsPartitionPoint (λ key. nat_lt key (key_of scope from) ≡ true) (λ key. nat_lt key (key_of scope from) ≡ false) keys.now result.from }
+    ensures to { IsNonDecreasing keys.now
+        → IsPartitionPoint (λ key. nat_lt key (key_of scope to) ≡ true) (λ key. nat_lt key (key_of scope to) ≡ false) keys.now result.to }
 {
     Run {
         from: before(keys, key_of(scope, from)),

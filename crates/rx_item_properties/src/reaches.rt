@@ -24,7 +24,8 @@ pub(crate) fn reach_of(
     starts: &[usize],
     place: usize,
 ) -> Result<Reach, NoMemory>
-    ensures reach { (words gathered : Chars) (times : List Chars) (tree : Tree) (members : List ℕ) → Sorted words gathered times rows.now (rows_of tree) keys.now members → IsNonDecreasing keys.now
+    ensures reach { (words gathered : Chars) (times : List Chars) (tree : Tree) (members : List ℕ)
+        → Sorted words gathered times rows.now (rows_of tree) keys.now members → IsNonDecreasing keys.now
         → IfOk result (λ reach. (x : ℕ) → Contains (in_runs members (reach.own ∷ reach.others.items)) x ↔ RunsReach (rows_of tree) place starts.now x) }
     ensures apart { IfOk result (λ reach. Apart 0 reach.others.items) }
     ensures one { starts.now ≡ [] → IfOk result (λ reach. reach.others.items ≡ []) }
@@ -59,7 +60,8 @@ fn runs_apart(
     starts: &[usize],
     place: usize,
 ) -> Result<Vec<Run>, NoMemory>
-    ensures reach { (words gathered : Chars) (times : List Chars) (tree : Tree) (members : List ℕ) → Sorted words gathered times rows.now (rows_of tree) keys.now members → IsNonDecreasing keys.now
+    ensures reach { (words gathered : Chars) (times : List Chars) (tree : Tree) (members : List ℕ)
+        → Sorted words gathered times rows.now (rows_of tree) keys.now members → IsNonDecreasing keys.now
         → IfOk result (λ runs. (x : ℕ) → Contains (in_runs members runs.items) x ↔ RunsReach (rows_of tree) place starts.now x) }
     ensures apart { IfOk result (λ runs. Apart 0 runs.items) }
 {
@@ -77,7 +79,8 @@ fn runs_of(
     starts: &[usize],
     place: usize,
 ) -> Result<Vec<Run>, NoMemory>
-    ensures { (words gathered : Chars) (times : List Chars) (tree : Tree) (members : List ℕ) → Sorted words gathered times rows.now (rows_of tree) keys.now members → IsNonDecreasing keys.now
+    ensures { (words gathered : Chars) (times : List Chars) (tree : Tree) (members : List ℕ)
+        → Sorted words gathered times rows.now (rows_of tree) keys.now members → IsNonDecreasing keys.now
         → IfOk result (λ runs. (x : ℕ) → Contains (in_runs members runs.items) x ↔ RunsReach (rows_of tree) place starts.now x) }
 {
     let mut runs = Vec::new(alloc);

@@ -30,7 +30,8 @@ pub(crate) fn starts_of(
 }
 
 fn starts_in(alloc: Global, ids: &BTreeMap<&str, usize>, text: &str) -> Result<Vec<usize>, NoMemory>
-    ensures { (look : Chars → Option ℕ) → Looks ids.now look → IfOk result (λ list. (n : ℕ) → Contains list.items n ↔ Contains (filter_map look (tokens (chars text.now))) n) }
+    ensures { (look : Chars → Option ℕ) → Looks ids.now look
+        → IfOk result (λ list. (n : ℕ) → Contains list.items n ↔ Contains (filter_map look (tokens (chars text.now))) n) }
 {
     let mut list = found_in(alloc, ids, text)?;
     list.sort_unstable();

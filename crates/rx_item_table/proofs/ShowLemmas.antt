@@ -5,6 +5,7 @@ use native.Mathlib.Omega.{arith}
 use Rattle.rx_terms.specs.Text.{Chars}
 use Rattle.rx_microdata.specs.Facts.{Value}
 use Rattle.rx_microdata.specs.Elements.{Placed}
+use Rattle.rx_item_table.specs.Words.{id_in, item_id_in, names_in, references_in, types_in}
 use Rattle.rx_item_table.specs.Showing.{Stands, ShowsWord, ShowsValue, ShowsRow, ShowsRows}
 use Rattle.rx_item_table.specs.declared.spans.Span.{Span}
 use Rattle.rx_item_table.specs.declared.rows.Row.{Row}
@@ -58,15 +59,15 @@ row_more words text mw mt times later low row p k o s = record {
   is_item = s.is_item;
   named = s.named;
   itemprop = s.itemprop;
-  has_names = word_more words mw row.head.words.names s.itemprop s.has_names;
+  has_names = word_more words mw (names_in row.head.words) s.itemprop s.has_names;
   names = s.names;
-  id = word_more words mw row.head.words.id p.facts.id s.id;
+  id = word_more words mw (id_in row.head.words) p.facts.id s.id;
   itemtype = s.itemtype;
-  has_types = word_more words mw row.head.words.types s.itemtype s.has_types;
+  has_types = word_more words mw (types_in row.head.words) s.itemtype s.has_types;
   types = s.types;
-  item_id = word_more words mw row.head.words.item_id p.facts.item_id s.item_id;
+  item_id = word_more words mw (item_id_in row.head.words) p.facts.item_id s.item_id;
   itemref = s.itemref;
-  has_references = word_more words mw row.head.words.references s.itemref s.has_references;
+  has_references = word_more words mw (references_in row.head.words) s.itemref s.has_references;
   references = s.references;
   value = value_more words text mw mt times later low row.value p.facts.value k o s.value;
 }

@@ -8,7 +8,8 @@ use Rattle.rx_microdata.specs.Facts.{Value, Written, Reference, attribute, facts
 use Rattle.rx_microdata.specs.Properties.{is_any}
 use Rattle.rx_item_table.specs.Rows.{matters, is_valued, needed}
 use Rattle.rx_item_table.specs.Rules.{rule_of, value_by}
-use Rattle.rx_item_table.specs.Words.{word_text, word_span, is_marked, after_names, after_id, after_types, after_item_id, text_of_words, words_of}
+use Rattle.rx_item_table.specs.Spans.{mark_of}
+use Rattle.rx_item_table.specs.Words.{word_text, word_span, span_if, names_in, id_in, types_in, item_id_in, references_in, is_marked, after_names, after_id, after_types, after_item_id, text_of_words, words_of}
 use Rattle.rx_item_table.specs.Values.{is_asked, taken_of, text_taken, taken_by, text_by, written, referred, own_unless}
 use Rattle.rx_item_table.specs.Showing.{Stands, ShowsWord, tag_in}
 use Rattle.rx_item_table.specs.declared.spans.Span.{Span}
@@ -42,6 +43,14 @@ word_shown text (Some part) = record {
   is_run = record { is_whole = ap (λ l. text ++ l) (sym (append_nil part)); from = refl; to = refl };
 }
 
+-- where it stands, by where the text ended before and behind it
+abbrev pub kept_span : Chars → Option Chars → Option Span
+kept_span text o = span_if (is_some o) (mark_of text) (mark_of (word_text text o))
+
+pub kept_shown : (text : Chars) (o : Option Chars) → ShowsWord (word_text text o) (kept_span text o) o
+kept_shown text None = tt
+kept_shown text (Some part) = word_shown text (Some part)
+
 pub word_later : (text later : Chars) (span : Option Span) (o : Option Chars) → More text later → ShowsWord text span o → ShowsWord later span o
 word_later text later span o m s = subst (λ l. ShowsWord l span o) (sym m.1) (word_more text m.0 span o s)
 
@@ -72,11 +81,11 @@ module _ (text : Chars) (attributes : List Attribute) where
 
   -- what each attribute says, once all are kept
   pub record WordsShown (later : Chars) : Type 0 where
-    pub names : ShowsWord later (words_of text attributes).names (value_of attributes (codes "itemprop"))
-    pub id : ShowsWord later (words_of text attributes).id (value_of attributes (codes "id"))
-    pub types : ShowsWord later (words_of text attributes).types (value_of attributes (codes "itemtype"))
-    pub item_id : ShowsWord later (words_of text attributes).item_id (value_of attributes (codes "itemid"))
-    pub references : ShowsWord later (words_of text attributes).references (value_of attributes (codes "itemref"))
+    pub names : ShowsWord later (names_in (words_of text attributes)) (value_of attributes (codes "itemprop"))
+    pub id : ShowsWord later (id_in (words_of text attributes)) (value_of attributes (codes "id"))
+    pub types : ShowsWord later (types_in (words_of text attributes)) (value_of attributes (codes "itemtype"))
+    pub item_id : ShowsWord later (item_id_in (words_of text attributes)) (value_of attributes (codes "itemid"))
+    pub references : ShowsWord later (references_in (words_of text attributes)) (value_of attributes (codes "itemref"))
 
   pub words_shown : (later : Chars) → More (text_of_words text attributes) later → WordsShown later
   words_shown later m =
@@ -87,11 +96,11 @@ module _ (text : Chars) (attributes : List Attribute) where
       let d = value_of attributes (codes "itemid") in
       let r = value_of attributes (codes "itemref") in
       record {
-        names = word_later (after_names text attributes) later (word_span text n) n (more_then (after_names text attributes) last later id_last m) (word_shown text n);
-        id = word_later (after_id text attributes) later (word_span (after_names text attributes) i) i (more_then (after_id text attributes) last later types_last m) (word_shown (after_names text attributes) i);
-        types = word_later (after_types text attributes) later (word_span (after_id text attributes) t) t (more_then (after_types text attributes) last later item_id_last m) (word_shown (after_id text attributes) t);
-        item_id = word_later (after_item_id text attributes) later (word_span (after_types text attributes) d) d (more_then (after_item_id text attributes) last later references_on m) (word_shown (after_types text attributes) d);
-        references = word_later last later (word_span (after_item_id text attributes) r) r m (word_shown (after_item_id text attributes) r);
+        names = word_later (after_names text attributes) later (kept_span text n) n (more_then (after_names text attributes) last later id_last m) (kept_shown text n);
+        id = word_later (after_id text attributes) later (kept_span (after_names text attributes) i) i (more_then (after_id text attributes) last later types_last m) (kept_shown (after_names text attributes) i);
+        types = word_later (after_types text attributes) later (kept_span (after_id text attributes) t) t (more_then (after_types text attributes) last later item_id_last m) (kept_shown (after_id text attributes) t);
+        item_id = word_later (after_item_id text attributes) later (kept_span (after_types text attributes) d) d (more_then (after_item_id text attributes) last later references_on m) (kept_shown (after_types text attributes) d);
+        references = word_later last later (kept_span (after_item_id text attributes) r) r m (kept_shown (after_item_id text attributes) r);
       }
 
 some_map : {X Y : Type 0} (f : X → Y) (o : Option X) → is_some (option_map f o) ≡ is_some o

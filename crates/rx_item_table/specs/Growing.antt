@@ -6,6 +6,7 @@ use Rattle.rx_item_table.specs.Spans.{mark_of}
 use Rattle.rx_item_table.specs.Words.{is_marked, words_of, text_of_words}
 use Rattle.rx_item_table.specs.Values.{is_named, taken_of, text_taken}
 use Rattle.rx_item_table.specs.declared.rows.Row.{Row}
+use Rattle.rx_item_table.specs.declared.rows.Words.{Words}
 use Rattle.rx_item_table.specs.declared.rows.Head.{Head}
 use Rattle.rx_item_table.specs.declared.rows.Open.{Open}
 use Rattle.rx_item_table.specs.declared.rows.RowValue.{RowValue}
@@ -83,11 +84,15 @@ head_of text tag token at = record {
 abbrev pub is_asked_of : Head → Bool
 is_asked_of head = not head.is_item && head.named
 
+-- what is kept of a tag's words, and then of its value
+abbrev pub with_tag : Growing → Tag → Growing
+with_tag g tag = record g { words = text_taken (text_of_words g.words tag.attributes) tag }
+
 -- an element begins
 abbrev pub begun : Growing → Tag → ℕ → ℕ → Growing
 begun g tag token at =
     if is_marked tag.attributes then
-    added (record g { words = text_taken (text_of_words g.words tag.attributes) tag }) (head_of g.words tag token at) (taken_of (text_of_words g.words tag.attributes) tag)
+    added (with_tag g tag) (head_of g.words tag token at) (taken_of (text_of_words g.words tag.attributes) tag)
     else passed g
 
 abbrev pub with_said : Option ℕ → Chars → List Chars → List Chars
@@ -108,9 +113,24 @@ ended_value other mark = other
 abbrev pub ended : Row → ℕ → ℕ → Row
 ended row past mark = record row { past = past; value = ended_value row.value mark }
 
+abbrev pub nothing_said : Words
+nothing_said = record {
+  from = 0;
+  names_end = 0;
+  id_end = 0;
+  types_end = 0;
+  item_id_end = 0;
+  references_end = 0;
+  has_names = false;
+  has_id = false;
+  has_types = false;
+  has_item_id = false;
+  has_references = false;
+}
+
 abbrev pub nothing_kept : Row
 nothing_kept = record {
-  head = record { token = 0; at = 0; is_item = false; named = false; words = record { names = None; id = None; types = None; item_id = None; references = None } };
+  head = record { token = 0; at = 0; is_item = false; named = false; words = nothing_said };
   past = 0;
   scope = None;
   value = value.Empty;

@@ -8,6 +8,7 @@ use Rattle.rx_microdata.specs.Elements.{Placed, names_of}
 use Rattle.rx_microdata.specs.Properties.{is_any}
 use Rattle.rx_item_table.specs.Rows.{rows_of}
 use Rattle.rx_item_table.specs.Spans.{IsRun}
+use Rattle.rx_item_table.specs.Words.{id_in, item_id_in, names_in, references_in, types_in}
 use Rattle.rx_item_table.specs.Growing.{Growing, begun, said, finished}
 use Rattle.rx_item_table.specs.declared.spans.Span.{Span}
 use Rattle.rx_item_table.specs.declared.rows.Row.{Row}
@@ -43,15 +44,15 @@ pub record ShowsRow (words gathered : Chars) (times : List Chars) (row : Row) (p
   pub is_item : row.head.is_item ≡ p.facts.is_item
   pub named : row.head.named ≡ is_any (names_of p)
   pub itemprop : Option Chars
-  pub has_names : ShowsWord words row.head.words.names itemprop
+  pub has_names : ShowsWord words (names_in row.head.words) itemprop
   pub names : p.facts.names ≡ option_map distinct_tokens itemprop
-  pub id : ShowsWord words row.head.words.id p.facts.id
+  pub id : ShowsWord words (id_in row.head.words) p.facts.id
   pub itemtype : Option Chars
-  pub has_types : ShowsWord words row.head.words.types itemtype
+  pub has_types : ShowsWord words (types_in row.head.words) itemtype
   pub types : p.facts.types ≡ distinct_tokens (unwrap_or itemtype [])
-  pub item_id : ShowsWord words row.head.words.item_id p.facts.item_id
+  pub item_id : ShowsWord words (item_id_in row.head.words) p.facts.item_id
   pub itemref : Option Chars
-  pub has_references : ShowsWord words row.head.words.references itemref
+  pub has_references : ShowsWord words (references_in row.head.words) itemref
   pub references : p.facts.references ≡ tokens (unwrap_or itemref [])
   pub value : ShowsValue words gathered times row.value p.facts.value
 

@@ -1,15 +1,73 @@
 //! What is kept of a page's elements.
+ghost use Rattle.std.specs.Prelude.{◌≡◌};
+ghost use Rattle.rx_item_table.specs.Words.{id_in, item_id_in, names_in, references_in, span_if, types_in};
+
 use crate::spans::Span;
 use rx_values::TextStore;
 
-/// Where the values of a tag's attributes stand in what is kept of tags, for those that are there.
+/// Where the values of a tag's attributes stand in what is kept of tags, one behind another, and which of them are there.
+/// There is one for each row, so it tells a place once where one value ends and the next begins.
 #[derive(Clone, Copy)]
 pub struct Words {
-    pub names: Option<Span>,
-    pub id: Option<Span>,
-    pub types: Option<Span>,
-    pub item_id: Option<Span>,
-    pub references: Option<Span>,
+    pub from: usize,
+    pub names_end: usize,
+    pub id_end: usize,
+    pub types_end: usize,
+    pub item_id_end: usize,
+    pub references_end: usize,
+    pub has_names: bool,
+    pub has_id: bool,
+    pub has_types: bool,
+    pub has_item_id: bool,
+    pub has_references: bool,
+}
+
+impl Words {
+    /// The property names.
+    pub fn names(&self) -> Option<Span>
+        ensures { result ≡ names_in self.now }
+    {
+        span_if(self.has_names, self.from, self.names_end)
+    }
+
+    /// The id.
+    pub fn id(&self) -> Option<Span>
+        ensures { result ≡ id_in self.now }
+    {
+        span_if(self.has_id, self.names_end, self.id_end)
+    }
+
+    /// The types of an item.
+    pub fn types(&self) -> Option<Span>
+        ensures { result ≡ types_in self.now }
+    {
+        span_if(self.has_types, self.id_end, self.types_end)
+    }
+
+    /// The id of an item.
+    pub fn item_id(&self) -> Option<Span>
+        ensures { result ≡ item_id_in self.now }
+    {
+        span_if(self.has_item_id, self.types_end, self.item_id_end)
+    }
+
+    /// The ids to which an item refers.
+    pub fn references(&self) -> Option<Span>
+        ensures { result ≡ references_in self.now }
+    {
+        span_if(self.has_references, self.item_id_end, self.references_end)
+    }
+}
+
+/// A run, where it is there.
+fn span_if(is_there: bool, from: usize, to: usize) -> Option<Span>
+    ensures { result ≡ span_if is_there from to }
+{
+    if is_there {
+        Some(Span { from, to })
+    } else {
+        None
+    }
 }
 
 /// The value of an element.

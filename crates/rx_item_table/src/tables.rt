@@ -1,14 +1,14 @@
 //! The table of a page's items, as the page is read.
 ghost use Rattle.std.specs.Prelude.{◌≡◌, IfOk, OnOk};
 ghost use Rattle.rx_tags.specs.Seen.{tag_seen};
-ghost use Rattle.rx_item_table.specs.Words.{text_of_words};
+ghost use Rattle.rx_item_table.specs.Words.{AreMarks, text_of_words};
 ghost use Rattle.std.specs.Str.{chars};
 ghost use Rattle.rx_item_table.specs.Growing as growing;
 
 use crate::rows::{Head, Open, PageRows, Row, RowValue};
 use crate::spans::Span;
 use crate::values::{Taken, is_named, take_value};
-use crate::words::{attribute, is_marked_tag, keep_words};
+use crate::words::{Marks, is_marked_by, keep_words, marks_of};
 use rx_tags::Tag;
 use rx_terms::NoMemory;
 use rx_values::TextStore;
@@ -69,10 +69,11 @@ impl Table {
     pub fn begin(&mut self, alloc: Global, tag: &Tag<'_>) -> Result<(), NoMemory>
         ensures { OnOk result (self.new ≡ begun self.old (tag_seen tag.now) tag.now.token tag.now.at) }
     {
-        if !is_marked_tag(tag) {
+        let marks = marks_of(tag);
+        if !is_marked_by(&marks) {
             return self.pass();
         }
-        let head = head_of(&mut self.words, tag)?;
+        let head = head_of(&mut self.words, tag, &marks)?;
         let taken = take_value(&mut self.words, tag, is_asked(head))?;
         self.add(alloc, head, taken)
     }
@@ -231,16 +232,17 @@ impl Table {
 }
 
 /// Keeps what a tag says of its row, but for the value.
-fn head_of(words: &mut TextStore, tag: &Tag<'_>) -> Result<Head, NoMemory>
+fn head_of(words: &mut TextStore, tag: &Tag<'_>, marks: &Marks<'_>) -> Result<Head, NoMemory>
+    requires { AreMarks (tag_seen tag.now).attributes marks.now }
     ensures text { OnOk result (words.new ≡ text_of_words words.old (tag_seen tag.now).attributes) }
     ensures head { IfOk result (λ head. head ≡ growing.head_of words.old (tag_seen tag.now) tag.now.token tag.now.at) }
 {
-    let words = keep_words(words, tag)?;
+    let words = keep_words(words, tag, marks)?;
     Ok(Head {
         token: tag.token,
         at: tag.at,
-        is_item: attribute(tag, "itemscope").is_some(),
-        named: is_named(tag),
+        is_item: marks.is_item,
+        named: is_named(marks.names),
         words,
     })
 }

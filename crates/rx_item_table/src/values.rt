@@ -1,13 +1,16 @@
 //! What a tag says of the value of its element.
-ghost use Rattle.std.specs.Prelude.{◌≡◌, IfOk, OnOk};
+ghost use Rattle.std.specs.Prelude.{◌≡◌, [], IfOk, OnOk, unwrap_or};
 ghost use Rattle.std.specs.Str.{chars};
+ghost use Rattle.rx_terms.specs.Text.{tokens};
+ghost use Rattle.rx_refs.specs.Views.{seen_slice};
+ghost use Rattle.rx_microdata.specs.Properties.{is_any};
 ghost use Rattle.rx_tags.specs.Seen.{tag_seen};
-ghost use Rattle.rx_item_table.specs.Values.{taken_by, taken_if, text_by, text_if, written, referred, own_unless, is_named};
+ghost use Rattle.rx_item_table.specs.Values.{taken_by, taken_if, text_by, text_if, written, referred, own_unless};
 ghost use Rattle.rx_item_table.specs.Rules.{rule_of as the_rule};
 
 use crate::rules::{ValueRule, rule_of};
 use crate::spans::Span;
-use crate::words::{attribute, keep_attribute};
+use crate::words::keep_attribute;
 use rx_tags::Tag;
 use rx_terms::NoMemory;
 use rx_values::TextStore;
@@ -55,11 +58,11 @@ fn own_unless(span: Option<Span>) -> Taken
     }
 }
 
-/// Whether the tag gives a property name.
-pub(crate) fn is_named(tag: &Tag<'_>) -> bool
-    ensures { result ≡ is_named (tag_seen tag.now).attributes }
+/// Whether there is a property name among these.
+pub(crate) fn is_named(names: Option<&str>) -> bool
+    ensures { result ≡ is_any (tokens (unwrap_or (seen_slice names.entry) [])) }
 {
-    match attribute(tag, "itemprop") {
+    match names {
         Some(names) => first_token(names).is_some(),
         None => false,
     }

@@ -14,7 +14,7 @@ use Rattle.rx_microdata.specs.Visits.{Visit, Bounds, visits_from, standard_bound
 use Rattle.rx_microdata.specs.Json.{grouped, named}
 use Rattle.rx_item_table.specs.Rows.{properties_in}
 use Rattle.rx_json_text.specs.Members.{with_last}
-use Rattle.rx_items.specs.Expanding.{path_of, kind_of, NoFault, FaultIs, Did, Step, with_name, steps_of, steps_in, visits_of, visits_in, data_of, pair_of, grouped_in}
+use Rattle.rx_items.specs.Expanding.{path_of, kind_of, NoFault, FaultIs, StepsTaken, Step, with_name, steps_of, steps_in, visits_of, visits_in, data_of, pair_of, grouped_in}
 use Rattle.rx_items.proofs.GroupLemmas.{grouped_more}
 
 -- ---- faults in a row
@@ -113,15 +113,15 @@ module _ (rows : List Placed) (base : Chars) (above : Visit) (left : ℕ) where
   grouped_step done e name =
       ap grouped (map-append (pair_of rows base above left) done (with_name e name ∷ [])) ∙ grouped_more (map (pair_of rows base above left) done) name (data_of rows base above left e)
 
-  pub did_more : (start before after : ℕ) (done : List Step) (e : Placed) (name : Chars) (old new : Members) → Did rows base above left start done before old
+  pub did_more : (start before after : ℕ) (done : List Step) (e : Placed) (name : Chars) (old new : Members) → StepsTaken rows base above left start done before old
       → NoFault before (visits_of rows base above left e) after → new ≡ with_last (encode_utf8_all name) (data_of rows base above left e) old
-      → Did rows base above left start (done ++ with_name e name ∷ []) after new
+      → StepsTaken rows base above left start (done ++ with_name e name ∷ []) after new
   did_more start before after done e name old new d n g = record {
     no_fault = subst (λ (vs : List Visit). NoFault start vs after) (sym (visits_more done (with_name e name))) (none_then start before after (visits_in rows base above left done) (visits_of rows base above left e) d.no_fault n);
     grouped = g ∙ ap (with_last (encode_utf8_all name) (data_of rows base above left e)) d.grouped ∙ sym (grouped_step done e name);
   }
 
-  pub fault_more : (start before : ℕ) (done more : List Step) (e : Placed) (name : Chars) (old : Members) (fault : Fault) → Did rows base above left start done before old
+  pub fault_more : (start before : ℕ) (done more : List Step) (e : Placed) (name : Chars) (old : Members) (fault : Fault) → StepsTaken rows base above left start done before old
       → FaultIs before (visits_of rows base above left e) fault → FaultIs start (visits_in rows base above left (done ++ with_name e name ∷ more)) fault
   fault_more start before done more e name old fault d f =
       let all = flat_append (λ (s : Step). visits_of rows base above left s.element) done (with_name e name ∷ more) in
@@ -135,11 +135,6 @@ module _ (rows : List Placed) (base : Chars) (above : Visit) (left : ℕ) where
       (fault_then start (visits_in rows base above left done) (visits_in rows base above left more) fault f)
 
   -- ---- what the definitions go by is what the steps go by
-
-  each_name : (e : Placed) (names : List Chars) → visits_in rows base above left (map (with_name e) names)
-      ≡ flat_map (λ (x : Placed). visits_of rows base above left x) (map (λ (name : Chars). e) names)
-  each_name e [] = refl
-  each_name e (name ∷ names) = ap (λ (l : List Visit). visits_of rows base above left e ++ l) (each_name e names)
 
   abbrev only : Placed → Bool → List Visit
   only e b = elim b as (λ item. List Visit) [ true ↦ visits_from (properties_in rows) (suc left) above e | false ↦ [] ]

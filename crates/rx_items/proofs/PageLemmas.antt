@@ -16,12 +16,12 @@ use Rattle.rx_microdata.specs.Visits.{Visit, visits_from, visits_by, first_fault
 use Rattle.rx_microdata.specs.Json.{Outcome, Given, json_of_item, json_by, list_of, refused}
 use Rattle.rx_microdata.proofs.Lists.{and_parts}
 use Rattle.rx_item_table.specs.Rows.{properties_in, outcome_in}
-use Rattle.rx_item_properties.specs.Held.{ShowsElements, HoldsRows}
-use Rattle.rx_items.specs.Expanding.{At, NoFault, FaultIs, Told, Finds}
+use Rattle.rx_item_properties.specs.Held.{HoldsRows}
+use Rattle.rx_items.specs.Expanding.{At, NoFault, FaultIs, HasFault, Finds}
 use Rattle.rx_items.specs.Pages.{TopsDid, top_visits, top_data, IsTextOf, TextGives, VisitsGive}
-use Rattle.rx_item_properties.specs.declared.kept.Element.{Element}
 use Rattle.rx_item_properties.specs.declared.kept.Kept.{Kept}
 use Rattle.rx_items.proofs.FoundLemmas.{none_then, then_fault, fault_then, none_at_all, flat_append}
+use Rattle.rx_item_properties.proofs.HoldLemmas.{as_long as rows_as_long}
 use Rattle.rx_item_properties.proofs.TakeLemmas.{one_more, cut_at}
 
 pub tops_at : {kept : Kept} {rows : List Placed} {base : Chars} (path : List ℕ) → HoldsRows kept rows base → path ≡ [] → At kept rows base path [] 40
@@ -30,14 +30,8 @@ tops_at path h e = record { holds = h; path_is = e; deep = omega arith }
 pub item_of_top : (e : Placed) → is_top_level e ≡ true → is_item e ≡ true
 item_of_top e top = (and_parts (is_item e) (is_absent e.facts.names) top).0
 
-same_length : (words gathered : Chars) (times : List Chars) (es : List Element) (ps : List Placed) → ShowsElements words gathered times es ps → length es ≡ length ps
-same_length words gathered times [] [] s = refl
-same_length words gathered times [] (p ∷ ps) s = absurd s
-same_length words gathered times (e ∷ es) [] s = absurd s
-same_length words gathered times (e ∷ es) (p ∷ ps) s = ap suc (same_length words gathered times es ps s.1)
-
-pub as_long : (kept : Kept) (rows : List Placed) (base : Chars) → HoldsRows kept rows base → length kept.elements.items ≡ length rows
-as_long kept rows base h = same_length kept.words kept.text kept.times.items kept.elements.items rows h.shown
+pub as_long : (kept : Kept) (rows : List Placed) (base : Chars) → HoldsRows kept rows base → length kept.rows.items ≡ length rows
+as_long kept rows base h = rows_as_long kept.words kept.text kept.times.items kept.rows.items rows h.shown
 
 pub record RowThere (rows : List Placed) (i : ℕ) : Type 0 where
   pub row : Placed
@@ -61,8 +55,8 @@ module _ (rows : List Placed) (base : Chars) where
       let Found : Bool → Type 0 = λ b. NoFault visits (visits_when e b) visits × (map view values ≡ map view values ++ data_when e b) in
       subst Found (sym plain) (none_at_all visits, sym (append-nil (map view values)))
 
-  pub top_told : (e : Placed) (visits : ℕ) (why : Stop) → is_top_level e ≡ true → Told visits (visits_from (properties_in rows) 41 [] e) why → Told visits (top_visits rows base e) why
-  top_told e visits why top f = subst (λ b. Told visits (visits_when e b) why) (sym top) f
+  pub top_told : (e : Placed) (visits : ℕ) (why : Stop) → is_top_level e ≡ true → HasFault visits (visits_from (properties_in rows) 41 [] e) why → HasFault visits (top_visits rows base e) why
+  top_told e visits why top f = subst (λ b. HasFault visits (visits_when e b) why) (sym top) f
 
   pub top_found : (e : Placed) (before after : ℕ) (old new : List Value) (value : Value) → is_top_level e ≡ true → NoFault before (visits_from (properties_in rows) 41 [] e) after
       → view value ≡ json_of_item (properties_in rows) base 40 e → new ≡ old ++ value ∷ []
@@ -109,7 +103,7 @@ module _ (rows : List Placed) (base : Chars) where
       by false ih = ih
 
   pub tops_err : (i before : ℕ) (e : Placed) (why : Stop) → i < length rows → e ≡ get_or rows i e → NoFault 0 (flat_map (top_visits rows base) (take i rows)) before
-      → Told before (top_visits rows base e) why → Told 0 (visits_by (properties_in rows) standard_bounds (filter is_top_level rows)) why
+      → HasFault before (top_visits rows base e) why → HasFault 0 (visits_by (properties_in rows) standard_bounds (filter is_top_level rows)) why
   tops_err i before e stop.NoMemory lt is d f = tt
   tops_err i before e (stop.Fault fault) lt is d f =
       let all : flat_map (top_visits rows base) rows ≡ flat_map (top_visits rows base) (take i rows) ++ (top_visits rows base e ++ flat_map (top_visits rows base) (drop (i + 1) rows)) =
@@ -168,7 +162,3 @@ module _ (rows : List Placed) (base : Chars) where
     given = ap (λ o. picked o (json_by (properties_in rows) base 40 (filter is_top_level rows))) none;
     spelled = spelled;
   }
-
-  pub text_refused : (why : Stop) → VisitsGive rows (Err why) → TextGives (outcome_in standard_bounds base rows) (Err why)
-  text_refused stop.NoMemory f = tt
-  text_refused (stop.Fault fault) f = ap (λ o. picked o (json_by (properties_in rows) base 40 (filter is_top_level rows))) f.found ∙ f.is

@@ -11,7 +11,7 @@ use Rattle.rx_item_table.specs.Rows.{properties_in}
 use Rattle.rx_item_properties.specs.Held.{ShowsTokens}
 use Rattle.rx_item_properties.specs.declared.kept.Tokens.{Tokens}
 use Rattle.rx_item_properties.specs.declared.kept.Tokens.TheVariants as tokens
-use Rattle.rx_items.specs.Expanding.{NoFault, FaultIs, Told, Finds, Step, with_name, steps_of, steps_in, visits_of, visits_in, again, count_of}
+use Rattle.rx_items.specs.Expanding.{NoFault, FaultIs, HasFault, Finds, Step, with_name, steps_of, steps_in, visits_of, visits_in, again, count_of}
 use Rattle.rx_items.proofs.FoundLemmas.{none_then, then_fault, fault_then, none_at_all, flat_append, no_visits}
 use Rattle.rx_items.proofs.VisitLemmas.{steps_one, property_err}
 
@@ -29,7 +29,7 @@ again_one i vs = again_both i 1 vs ∙ ap (λ (l : List Visit). again i vs ++ l)
 again_cut : (n i : ℕ) (vs : List Visit) → i < n → again n vs ≡ again i vs ++ (vs ++ again (n - (i + 1)) vs)
 again_cut n i vs lt = let e : n ≡ i + suc (n - (i + 1)) = omega (arith, lt) in ap (λ k. again k vs) e ∙ again_both i (suc (n - (i + 1))) vs
 
-pub times_err : (start middle n i : ℕ) (vs : List Visit) (x : Stop) → i < n → NoFault start (again i vs) middle → Told middle vs x → Told start (again n vs) x
+pub times_err : (start middle n i : ℕ) (vs : List Visit) (x : Stop) → i < n → NoFault start (again i vs) middle → HasFault middle vs x → HasFault start (again n vs) x
 times_err start middle n i vs stop.NoMemory lt p f = tt
 times_err start middle n i vs (stop.Fault fault) lt p f =
     subst (λ (l : List Visit). FaultIs start l fault) (sym (again_cut n i vs lt))
@@ -68,7 +68,7 @@ module _ (rows : List Placed) (base : Chars) (above : Visit) (left : ℕ) where
   both_visits xs ys = flat_append (λ (s : Step). visits_of rows base above left s.element) xs ys
 
   pub each_stop : (start middle : ℕ) (es : List Placed) (i : ℕ) (e : Placed) (x : Stop) → i < length es → e ≡ get_or es i e → NoFault start (visits_in rows base above left (steps_in (take i es))) middle
-      → Told middle (visits_in rows base above left (steps_of e)) x → Told start (visits_in rows base above left (steps_in es)) x
+      → HasFault middle (visits_in rows base above left (steps_of e)) x → HasFault start (visits_in rows base above left (steps_in es)) x
   each_stop start middle es i e stop.NoMemory lt is p f = tt
   each_stop start middle es i e (stop.Fault fault) lt is p f =
       property_err rows base above left start es i e (stop.Fault fault) lt is

@@ -122,10 +122,6 @@ sought_said signs chars = seeks_append [] first_child signs (map sign.said chars
 
 -- ---- what a collector stands for
 
-pub on_ok : {A E P Q : Type 0} (r : Result A E) → (P → Q) → OnOk r P → OnOk r Q
-on_ok (Ok a) f h = f h
-on_ok (Err e) f h = h
-
 -- one sign more
 pub collects_next : (setting : Setting) (old new : Collector) (signs : List Sign) (next : Sign) (count : ℕ) → count ≡ length old.table.line
     → new.address ≡ old.address → new.table ≡ told old.table next → BaseMoves old.address (λ seeking. seek count seeking next) old.base new.base

@@ -17,14 +17,14 @@ use Rattle.rx_microdata.specs.Elements.{Placed, is_item, names_of}
 use Rattle.rx_microdata.specs.Visits.{Visit, visits_from, standard_bounds, fault_of, first_fault, is_cycle, items_in}
 use Rattle.rx_microdata.specs.Json.{string_of, item_of, json_of_item, Refused}
 use Rattle.rx_item_table.specs.Rows.{properties_in}
-use Rattle.rx_item_properties.specs.Held.{AllStand, ShowsElement, places}
-use Rattle.rx_items.specs.Expanding.{At, path_of, kind_of, NoFault, FaultIs, Told, Finds, Did, Goes, Enters, Step, with_name, steps_of, steps_in, visits_of, visits_in, data_of, pair_of, grouped_in}
+use Rattle.rx_item_properties.specs.Held.{AllStand, places}
+use Rattle.rx_items.specs.Expanding.{At, path_of, kind_of, NoFault, FaultIs, HasFault, Finds, StepsTaken, TakesSteps, Enters, Step, with_name, steps_of, steps_in, visits_of, visits_in, data_of, pair_of, grouped_in}
 use Rattle.rx_item_properties.specs.declared.kept.Element.{Element}
 use Rattle.rx_item_properties.specs.declared.kept.Kept.{Kept}
 use Rattle.rx_items.specs.declared.visits.Trail.{Trail}
 use Rattle.rx_items.proofs.FoundLemmas.{none_at_all, fault_is, path_size, steps_pairs, steps_visits, fault_more, fault_stays}
 use Rattle.rx_item_properties.proofs.TakeLemmas.{cut_at, one_more}
-use Rattle.rx_item_properties.proofs.HoldLemmas.{has_element, shows_at, place_is}
+use Rattle.rx_item_properties.proofs.HoldLemmas.{place_is}
 
 -- what `?` hands on
 pub err_told : {X E : Type 0} (P : Result X E → Type 0) (r : Result X E) (x : E) → IsErrAnd r (λ y. y ≡ x) → P (Err x) → P r
@@ -34,25 +34,19 @@ err_told P (Err y) x e p = subst (λ z. P (Err z)) (sym e) p
 pub at_path : {kept : Kept} {rows : List Placed} {base : Chars} {path : List ℕ} {above : Visit} {left : ℕ} (other : List ℕ) → other ≡ path → At kept rows base path above left → At kept rows base other above left
 at_path other e at = record { holds = at.holds; path_is = e ∙ at.path_is; deep = at.deep }
 
-pub no_element : {kept : Kept} {rows : List Placed} {base : Chars} {path : List ℕ} {above : Visit} {left : ℕ} (place : ℕ) (e : Placed) → At kept rows base path above left
-    → slice_get rows place ≡ Some e → length kept.elements.items ≤ place → ⊥
-no_element {kept} {rows} place e at row over =
-    let lt = has_element kept.words kept.text kept.times.items kept.elements.items rows place e at.holds.shown row in absurd (omega (arith, lt, over))
-
-pub shown_in : {kept : Kept} {rows : List Placed} {base : Chars} {path : List ℕ} {above : Visit} {left : ℕ} (place : ℕ) (element : Element) (e : Placed) → At kept rows base path above left
-    → slice_get rows place ≡ Some e → slice_get kept.elements.items place ≡ Some element → ShowsElement kept.words kept.text kept.times.items element e
-shown_in {kept} {rows} place element e at row found = shows_at kept.words kept.text kept.times.items kept.elements.items rows place element e at.holds.shown found row
+pub no_element : (rows : List Placed) (place : ℕ) (e : Placed) → slice_get rows place ≡ Some e → slice_get rows place ≡ None → ⊥
+no_element rows place e row none = let found : Some e ≡ None = sym row ∙ none in cc (found)
 
 module _ (rows : List Placed) (base : Chars) (above : Visit) (left : ℕ) where
   -- ---- a property under each of its names
 
-  pub named_err : (start before : ℕ) (done : List Step) (e : Placed) (name : Chars) (old : Members) (x : Stop) → Did rows base above left start done before old
-      → Told before (visits_of rows base above left e) x → Told start (visits_in rows base above left (done ++ with_name e name ∷ [])) x
+  pub named_err : (start before : ℕ) (done : List Step) (e : Placed) (name : Chars) (old : Members) (x : Stop) → StepsTaken rows base above left start done before old
+      → HasFault before (visits_of rows base above left e) x → HasFault start (visits_in rows base above left (done ++ with_name e name ∷ [])) x
   named_err start before done e name old stop.NoMemory d f = tt
   named_err start before done e name old (stop.Fault fault) d f = fault_more rows base above left start before done [] e name old fault d f
 
   pub each_err : (start : ℕ) (done : List Step) (e : Placed) (names : List Chars) (i : ℕ) (name : Chars) (x : Stop) → names ≡ names_of e → i < length names → name ≡ get_or names i name
-      → Told start (visits_in rows base above left ((done ++ map (with_name e) (take i names)) ++ with_name e name ∷ [])) x → Told start (visits_in rows base above left (done ++ steps_of e)) x
+      → HasFault start (visits_in rows base above left ((done ++ map (with_name e) (take i names)) ++ with_name e name ∷ [])) x → HasFault start (visits_in rows base above left (done ++ steps_of e)) x
   each_err start done e names i name stop.NoMemory is lt at f = tt
   each_err start done e names i name (stop.Fault fault) is lt at f =
       let front = done ++ map (with_name e) (take i names) in
@@ -65,25 +59,25 @@ module _ (rows : List Placed) (base : Chars) (above : Visit) (left : ℕ) where
       (fault_stays rows base above left start (front ++ with_name e name ∷ []) (map (with_name e) (drop (i + 1) names)) fault f)
 
   pub each_on : (start after : ℕ) (done : List Step) (e : Placed) (names : List Chars) (i : ℕ) (name : Chars) (new : Members) → i < length names → name ≡ get_or names i name
-      → Did rows base above left start ((done ++ map (with_name e) (take i names)) ++ with_name e name ∷ []) after new
-      → Did rows base above left start (done ++ map (with_name e) (take (i + 1) names)) after new
+      → StepsTaken rows base above left start ((done ++ map (with_name e) (take i names)) ++ with_name e name ∷ []) after new
+      → StepsTaken rows base above left start (done ++ map (with_name e) (take (i + 1) names)) after new
   each_on start after done e names i name new lt is d =
       let all : (done ++ map (with_name e) (take i names)) ++ with_name e name ∷ [] ≡ done ++ map (with_name e) (take (i + 1) names) =
       append_assoc done (map (with_name e) (take i names)) (with_name e name ∷ [])
       ∙ ap (λ (l : List Step). done ++ l) (sym (map-append (with_name e) (take i names) (name ∷ [])))
       ∙ ap (λ (ns : List Chars). done ++ map (with_name e) ns) (ap (λ (n : Chars). take i names ++ n ∷ []) is ∙ sym (one_more names i name lt)) in
-      subst (λ (steps : List Step). Did rows base above left start steps after new) all d
+      subst (λ (steps : List Step). StepsTaken rows base above left start steps after new) all d
 
   -- the only name
   pub one_name : (start visits : ℕ) (done : List Step) (e : Placed) (token : Chars) (members : Members) (r : Result (Unit {0}) Stop) → names_of e ≡ token ∷ []
-      → Goes rows base above left start (done ++ with_name e token ∷ []) visits members r → Goes rows base above left start (done ++ steps_of e) visits members r
+      → TakesSteps rows base above left start (done ++ with_name e token ∷ []) visits members r → TakesSteps rows base above left start (done ++ steps_of e) visits members r
   one_name start visits done e token members r names g =
-      subst (λ (steps : List Step). Goes rows base above left start (done ++ steps) visits members r) (sym (ap (map (with_name e)) names)) g
+      subst (λ (steps : List Step). TakesSteps rows base above left start (done ++ steps) visits members r) (sym (ap (map (with_name e)) names)) g
 
   pub names_end : (start visits : ℕ) (done : List Step) (e : Placed) (names : List Chars) (i : ℕ) (members : Members) → names ≡ names_of e → length names ≤ i
-      → Did rows base above left start (done ++ map (with_name e) (take i names)) visits members → Did rows base above left start (done ++ steps_of e) visits members
+      → StepsTaken rows base above left start (done ++ map (with_name e) (take i names)) visits members → StepsTaken rows base above left start (done ++ steps_of e) visits members
   names_end start visits done e names i members is over d =
-      subst (λ (steps : List Step). Did rows base above left start steps visits members) (ap (λ (ns : List Chars). done ++ map (with_name e) ns) (take_all i names over ∙ is)) d
+      subst (λ (steps : List Step). StepsTaken rows base above left start steps visits members) (ap (λ (ns : List Chars). done ++ map (with_name e) ns) (take_all i names over ∙ is)) d
 
   -- ---- properties in a row
 
@@ -97,7 +91,7 @@ module _ (rows : List Placed) (base : Chars) (above : Visit) (left : ℕ) where
       ∙ ap (λ (x : Placed). steps_in (take i es) ++ steps_of x) (sym is)
 
   pub property_err : (start : ℕ) (es : List Placed) (i : ℕ) (e : Placed) (x : Stop) → i < length es → e ≡ get_or es i e
-      → Told start (visits_in rows base above left (steps_in (take i es) ++ steps_of e)) x → Told start (visits_in rows base above left (steps_in es)) x
+      → HasFault start (visits_in rows base above left (steps_in (take i es) ++ steps_of e)) x → HasFault start (visits_in rows base above left (steps_in es)) x
   property_err start es i e stop.NoMemory lt is f = tt
   property_err start es i e (stop.Fault fault) lt is f =
       let all : steps_in es ≡ (steps_in (take i es) ++ steps_of e) ++ steps_in (drop (i + 1) es) =
@@ -108,13 +102,13 @@ module _ (rows : List Placed) (base : Chars) (above : Visit) (left : ℕ) where
       (fault_stays rows base above left start (steps_in (take i es) ++ steps_of e) (steps_in (drop (i + 1) es)) fault f)
 
   pub property_on : (start after : ℕ) (es : List Placed) (i : ℕ) (e : Placed) (members : Members) → i < length es → e ≡ get_or es i e
-      → Did rows base above left start (steps_in (take i es) ++ steps_of e) after members → Did rows base above left start (steps_in (take (i + 1) es)) after members
-  property_on start after es i e members lt is d = subst (λ (steps : List Step). Did rows base above left start steps after members) (sym (steps_one es i e lt is)) d
+      → StepsTaken rows base above left start (steps_in (take i es) ++ steps_of e) after members → StepsTaken rows base above left start (steps_in (take (i + 1) es)) after members
+  property_on start after es i e members lt is d = subst (λ (steps : List Step). StepsTaken rows base above left start steps after members) (sym (steps_one es i e lt is)) d
 
-  pub properties_end : (start visits : ℕ) (es : List Placed) (i : ℕ) (members : Members) → length es ≤ i → Did rows base above left start (steps_in (take i es)) visits members
+  pub properties_end : (start visits : ℕ) (es : List Placed) (i : ℕ) (members : Members) → length es ≤ i → StepsTaken rows base above left start (steps_in (take i es)) visits members
       → NoFault start (visits_in rows base above left (steps_in es)) visits × (members ≡ grouped_in rows base above left (steps_in es))
   properties_end start visits es i members over d =
-      let all = subst (λ (xs : List Placed). Did rows base above left start (steps_in xs) visits members) (take_all i es over) d in (all.no_fault, all.grouped)
+      let all = subst (λ (xs : List Placed). StepsTaken rows base above left start (steps_in xs) visits members) (take_all i es over) d in (all.no_fault, all.grouped)
 
   -- ---- a value
 
@@ -134,11 +128,6 @@ module _ (rows : List Placed) (base : Chars) (above : Visit) (left : ℕ) where
       NoFault before (elim b as (λ item. List Visit) [ true ↦ visits_from (properties_in rows) (suc left) above e | false ↦ [] ]) before
       × (view value ≡ elim b as (λ item. Data) [ true ↦ json_of_item (properties_in rows) base left e | false ↦ string_of (said base e.facts.value) ]) in
       subst Found (sym plain) (none_at_all before, is)
-
-stands_at : (rows es : List Placed) (i : ℕ) (e : Placed) → AllStand rows es → slice_get es i ≡ Some e → slice_get rows e.place ≡ Some e
-stands_at rows [] i e s g = absurd (cc (g))
-stands_at rows (x ∷ es) zero e s g = let same : x ≡ e = cc (g) in subst (λ (y : Placed). slice_get rows y.place ≡ Some y) same s.0
-stands_at rows (x ∷ es) (suc i) e s g = stands_at rows es i e s.1 g
 
 -- the row that a place of the list stands for
 pub record RowAt (rows es : List Placed) (i place : ℕ) : Type 0 where
@@ -162,7 +151,7 @@ row_at rows es list i is stand lt = subst (λ (l : List ℕ). RowAt rows es i (g
 
 pub enter_err : (above : Visit) (root : Placed) (place : ℕ) (left : ℕ) (P : Placed → List Placed) (old new : Trail) (element : Element) (x : Stop)
     → old.path.items ≡ path_of above → root.place ≡ place → element.token ≡ root.facts.token → element.at ≡ root.facts.at → Enters old new element place (Err x)
-    → Told old.visits (visits_from P (suc left) above root) x
+    → HasFault old.visits (visits_from P (suc left) above root) x
 enter_err above root place left P old new element stop.NoMemory is at token decides f = tt
 enter_err above root place left P old new element (stop.Fault fault) is at token decides f =
     let fault_kind : fault_of standard_bounds old.visits (root ∷ above) ≡ Some f.0 = fault_is old.visits above root ∙ (λ i. kind_of (sym is i) old.visits (at i)) ∙ f.1 in
@@ -183,7 +172,7 @@ places_size (e ∷ es) = ap suc (places_size es)
 pub list_end : (list : List ℕ) (es : List Placed) (i : ℕ) → list ≡ places es → length list ≤ i → length es ≤ i
 list_end list es i is over = let size = ap (λ (l : List ℕ). length l) is ∙ places_size es in omega (arith, size, over)
 
-pub told : {X : Type 0} (start after : ℕ) (visits : List Visit) (Given : X → Type 0) (r : Result X Stop) (x : Stop) → IsErrAnd r (λ y. y ≡ x) → Told start visits x → Finds {X = X} start visits after Given r
+pub told : {X : Type 0} (start after : ℕ) (visits : List Visit) (Given : X → Type 0) (r : Result X Stop) (x : Stop) → IsErrAnd r (λ y. y ≡ x) → HasFault start visits x → Finds {X = X} start visits after Given r
 told {X} start after visits Given r x is f = err_told (λ (r : Result X Stop). Finds {X = X} start visits after Given r) r x is f
 
 not_cycle : (before : ℕ) (visit : Visit) → fault_of standard_bounds before visit ≡ None → is_cycle visit ≡ false
@@ -254,7 +243,7 @@ module _ (rows : List Placed) (base : Chars) (above : Visit) (root : Placed) (ro
       ∙ ap (λ n. first_fault standard_bounds n vs) next
 
   pub group_err : (before middle : ℕ) (x : Stop) → fault_of standard_bounds before (root ∷ above) ≡ None → middle ≡ before + 1
-      → Told middle (visits_in rows base (root ∷ above) room (steps_in (properties_in rows root))) x → Told before (visits_from (properties_in rows) (suc (suc room)) above root) x
+      → HasFault middle (visits_in rows base (root ∷ above) room (steps_in (properties_in rows root))) x → HasFault before (visits_from (properties_in rows) (suc (suc room)) above root) x
   unfolding inner
   group_err before middle stop.NoMemory none next f = tt
   group_err before middle (stop.Fault fault) none next f = record {

@@ -1,7 +1,6 @@
 -- The tokens of an item and of a page, part by part.
 use Rattle.std.proofs.Common.{◌≡◌, ◌∙◌, ◌+◌, ◌-◌, ◌<◌, ◌≤◌, ℕ, zero, suc, Bool, true, false, true≢false, ◌==◌, encode_utf8_all, List, [], ◌∷◌, ◌++◌, map, filter, length, take, get_or, codes, Option, Some, None, refl, sym, ap, subst, arith, append_assoc, append-nil}
 use Rattle.std.specs.Prelude.{flat_map, slice_get, OnOk, Result, Ok, Err}
-use Rattle.std.proofs.lemmas.Option.{slice_get_past}
 use Rattle.std.proofs.lemmas.List.{take_all}
 use Rattle.json.specs.Token.{Token}
 use Rattle.serde_json.specs.Data.{Data, array, object, item, Items, Members, no_members, member}
@@ -19,7 +18,7 @@ use Rattle.rx_items.specs.Expanding.{data_of}
 use Rattle.rx_items.specs.Named.{keys_in, value_if, value_at, grouped_at}
 use Rattle.rx_items.specs.Pages.{top_data}
 use Rattle.rx_items.proofs.NameLemmas.{keys_grouped}
-use Rattle.rx_items.proofs.PageLemmas.{as_long, row_data, all_data, RowThere, row_there}
+use Rattle.rx_items.proofs.PageLemmas.{row_data, all_data, RowThere, row_there}
 
 pub then_ok : {X E P Q : Type 0} (r : Result X E) → (P → Q) → OnOk r P → OnOk r Q
 then_ok (Ok x) f p = f p
@@ -28,14 +27,6 @@ then_ok (Err e) f p = p
 pub same_list : (ds : List Data) → items_of ds ≡ list_of ds
 same_list [] = refl
 same_list (d ∷ ds) = ap (item d) (same_list ds)
-
--- ---- rows
-
-pub row_of : (kept : Kept) (rows : List Placed) (base : Chars) (place : ℕ) → HoldsRows kept rows base → place < length kept.elements.items → RowThere rows place
-row_of kept rows base place h lt = row_there rows place (subst (λ (n : ℕ). place < n) (as_long kept rows base h) lt)
-
-pub no_row : (kept : Kept) (rows : List Placed) (base : Chars) (place : ℕ) → HoldsRows kept rows base → length kept.elements.items ≤ place → slice_get rows place ≡ None
-no_row kept rows base place h over = slice_get_past rows place (subst (λ (n : ℕ). n ≤ place) (as_long kept rows base h) over)
 
 -- ---- an object
 

@@ -56,7 +56,7 @@ steps_in es = flat_map steps_of es
 -- how many tokens an attribute has
 abbrev pub count_of : Tokens → ℕ
 count_of (tokens.One span) = 1
-count_of (tokens.Many list) = length list.items
+count_of (tokens.Many list) = length list.now
 
 -- the same visits so many times
 abbrev pub again : ℕ → List Visit → List Visit
@@ -76,13 +76,13 @@ pub record NoFault (before : ℕ) (visits : List Visit) (after : ℕ) : Type 0 w
   pub counted : after ≡ before + length visits
 
 -- these visits have the fault that stops, or there was no memory
-abbrev pub Told : ℕ → List Visit → Stop → Type 0
-Told before visits stop.NoMemory = ⊤
-Told before visits (stop.Fault fault) = FaultIs before visits fault
+abbrev pub HasFault : ℕ → List Visit → Stop → Type 0
+HasFault before visits stop.NoMemory = ⊤
+HasFault before visits (stop.Fault fault) = FaultIs before visits fault
 
 abbrev pub Finds : {X : Type 0} → ℕ → List Visit → ℕ → (X → Type 0) → Result X Stop → Type 0
 Finds before visits after Given (Ok x) = NoFault before visits after × Given x
-Finds before visits after Given (Err why) = Told before visits why
+Finds before visits after Given (Err why) = HasFault before visits why
 
 module _ (rows : List Placed) (base : Chars) (above : Visit) (left : ℕ) where
   -- the visits that a property makes under one of its names
@@ -103,14 +103,14 @@ module _ (rows : List Placed) (base : Chars) (above : Visit) (left : ℕ) where
 
 module _ (rows : List Placed) (base : Chars) (above : Visit) (left : ℕ) where
   -- these steps were taken without a fault, and their values stand under their names
-  pub record Did (start : ℕ) (steps : List Step) (visits : ℕ) (members : Members) : Type 0 where
+  pub record StepsTaken (start : ℕ) (steps : List Step) (visits : ℕ) (members : Members) : Type 0 where
     pub no_fault : NoFault start (visits_in rows base above left steps) visits
     pub grouped : members ≡ grouped_in rows base above left steps
 
   -- these steps are taken, or the first fault is told
-  abbrev pub Goes : ℕ → List Step → ℕ → Members → Result (Unit {0}) Stop → Type 0
-  Goes start steps visits group (Ok x) = Did start steps visits group
-  Goes start steps visits group (Err why) = Told start (visits_in rows base above left steps) why
+  abbrev pub TakesSteps : ℕ → List Step → ℕ → Members → Result (Unit {0}) Stop → Type 0
+  TakesSteps start steps visits group (Ok x) = StepsTaken start steps visits group
+  TakesSteps start steps visits group (Err why) = HasFault start (visits_in rows base above left steps) why
 
 -- a visit begins, or is refused
 abbrev pub Enters : Trail → Trail → Element → ℕ → Result (Unit {0}) Stop → Type 0

@@ -15,4 +15,5 @@ JsonNests = (page : List Placed) (base : Chars) (value : Data) → outcome_of st
 
 -- law: RFC 8259: the text is read as the value of which it is the text
 abbrev pub JsonIsReadBack : Type 0
-JsonIsReadBack = (page : List Placed) (base : Chars) (value : Data) → outcome_of standard_bounds page base ≡ Given value → read (compact_text value) ≡ Some value
+JsonIsReadBack =
+    (page : List Placed) (base : Chars) (value : Data) → outcome_of standard_bounds page base ≡ Given value → read (compact_text value) ≡ Some value

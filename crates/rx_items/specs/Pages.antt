@@ -12,7 +12,7 @@ use Rattle.rx_microdata.specs.Elements.{Placed, is_top_level}
 use Rattle.rx_microdata.specs.Visits.{Visit, visits_from, visits_by, first_fault, standard_bounds}
 use Rattle.rx_microdata.specs.Json.{Outcome, Given, Refused, json_of_item}
 use Rattle.rx_item_table.specs.Rows.{properties_in}
-use Rattle.rx_items.specs.Expanding.{NoFault, Told}
+use Rattle.rx_items.specs.Expanding.{NoFault, HasFault}
 
 -- what is answered is this outcome, where there is memory
 abbrev pub JsonGives : Outcome → Result Value Stop → Type 0
@@ -35,7 +35,7 @@ TextGives outcome (Err (stop.Fault fault)) = outcome ≡ Refused fault
 -- no visit is faulty, or the first fault is told
 abbrev pub VisitsGive : List Placed → Result (Unit {0}) Stop → Type 0
 VisitsGive rows (Ok done) = first_fault standard_bounds 0 (visits_by (properties_in rows) standard_bounds (filter is_top_level rows)) ≡ None
-VisitsGive rows (Err why) = Told 0 (visits_by (properties_in rows) standard_bounds (filter is_top_level rows)) why
+VisitsGive rows (Err why) = HasFault 0 (visits_by (properties_in rows) standard_bounds (filter is_top_level rows)) why
 
 module _ (rows : List Placed) (base : Chars) where
   -- the visits that begin with an element, where it is a top-level item
@@ -54,4 +54,4 @@ module _ (rows : List Placed) (base : Chars) where
   TopsGive (Ok values) =
       (first_fault standard_bounds 0 (visits_by (properties_in rows) standard_bounds (filter is_top_level rows)) ≡ None)
       × (map view values.items ≡ map (json_of_item (properties_in rows) base 40) (filter is_top_level rows))
-  TopsGive (Err why) = Told 0 (visits_by (properties_in rows) standard_bounds (filter is_top_level rows)) why
+  TopsGive (Err why) = HasFault 0 (visits_by (properties_in rows) standard_bounds (filter is_top_level rows)) why

@@ -50,7 +50,8 @@ impl Collector {
     }
 
     fn begin(&mut self, tag: &Tag<'_>) -> Result<(), Stop>
-        ensures { (setting : Setting) (signs : List Sign) → Collects setting self.old signs → Hears (way_of setting).refused (Collects setting) signs (begun (tag_shown tag.now) ∷ []) result self.new }
+        ensures { (setting : Setting) (signs : List Sign) → Collects setting self.old signs
+            → Hears (way_of setting).refused (Collects setting) signs (begun (tag_shown tag.now) ∷ []) result self.new }
     {
         let Ok(()) = begin_base(
             self.alloc,
@@ -68,7 +69,8 @@ impl Collector {
     }
 
     fn text(&mut self, text: &str) -> Result<(), Stop>
-        ensures hears { (setting : Setting) (signs : List Sign) → Collects setting self.old signs → Hears (way_of setting).refused (Collects setting) signs (map said (chars text.now)) result self.new }
+        ensures hears { (setting : Setting) (signs : List Sign) → Collects setting self.old signs
+            → Hears (way_of setting).refused (Collects setting) signs (map said (chars text.now)) result self.new }
         ensures quiet { IsIdle self.old.table → IsOk result × IsIdle self.new.table }
     {
         let Ok(()) = self.table.text(text) else {
@@ -78,7 +80,8 @@ impl Collector {
     }
 
     fn finish(&mut self) -> Result<(), Stop>
-        ensures { (setting : Setting) (signs : List Sign) → Collects setting self.old signs → Hears (way_of setting).refused (Collects setting) signs (finished ∷ []) result self.new }
+        ensures { (setting : Setting) (signs : List Sign) → Collects setting self.old signs
+            → Hears (way_of setting).refused (Collects setting) signs (finished ∷ []) result self.new }
     {
         let Ok(()) = end_base(
             self.alloc,

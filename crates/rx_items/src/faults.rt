@@ -4,12 +4,14 @@ ghost use Rattle.rx_terms.specs.Text.{Chars};
 ghost use Rattle.rx_microdata.specs.Elements.{Placed, is_item};
 ghost use Rattle.rx_microdata.specs.Visits.{Visit, visits_from};
 ghost use Rattle.rx_item_table.specs.Rows.{properties_in};
-ghost use Rattle.rx_item_properties.specs.Held.{AllStand, HoldsRows, places};
+ghost use Rattle.rx_item_properties.specs.Held.{AllStand, HoldsRows, IsElement, places};
 ghost use Rattle.rx_items.specs.Expanding.{At, Finds, again, count_of, steps_in, steps_of, visits_in};
 ghost use Rattle.rx_items.specs.Pages.{VisitsGive, top_visits};
 
 use crate::visits::{Trail, enter, leave};
-use rx_item_properties::{Element, Kept, Tokens, listed, properties};
+use rx_item_properties::{
+    Element, Kept, Tokens, element_at, is_item_at, is_top_at, listed, properties,
+};
 use rx_tags::Stop;
 use std::alloc::Global;
 
@@ -21,7 +23,7 @@ pub(crate) fn visit_all(alloc: Global, kept: &Kept) -> Result<(), Stop>
         path: Vec::new(alloc),
         visits: 0,
     };
-    for place in 0..kept.elements.as_slice().len() {
+    for place in 0..kept.rows.as_slice().len() {
         pass_top(alloc, kept, &mut trail, place)?;
     }
     Ok(())
@@ -33,13 +35,13 @@ fn pass_top(alloc: Global, kept: &Kept, trail: &mut Trail, place: usize) -> Resu
     ensures finds { (rows : List Placed) (base : Chars) (e : Placed) → HoldsRows kept.now rows base → trail.old.path.items ≡ [] → slice_get rows place ≡ Some e
         → Finds trail.old.visits (top_visits rows base e) trail.new.visits (λ done. ⊤) result }
 {
-    let Some(element) = kept.elements.get(place) else {
-        return Ok(());
-    };
-    if !element.is_top {
+    if !is_top_at(kept, place) {
         return Ok(());
     }
-    pass(alloc, kept, trail, element, place)
+    let Some(element) = element_at(kept, place) else {
+        return Ok(());
+    };
+    pass(alloc, kept, trail, &element, place)
 }
 
 /// Visits an item, and those in it.
@@ -48,12 +50,12 @@ fn pass(
     alloc: Global,
     kept: &Kept,
     trail: &mut Trail,
-    element: &Element,
+    element: &Element<'_>,
     place: usize,
 ) -> Result<(), Stop>
     ensures path { OnOk result (trail.new.path.items ≡ trail.old.path.items) }
     ensures finds { (rows : List Placed) (base : Chars) (above : Visit) (left : ℕ) (root : Placed) → At kept.now rows base trail.old.path.items above left
-        → slice_get rows place ≡ Some root → slice_get kept.now.elements.items place ≡ Some element.now → is_item root ≡ true
+        → slice_get rows place ≡ Some root → IsElement kept.now rows place element.now root → is_item root ≡ true
         → Finds trail.old.visits (visits_from (properties_in rows) (suc left) above root) trail.new.visits (λ done. ⊤) result }
 {
     enter(trail, element, place)?;
@@ -68,15 +70,15 @@ fn pass_item(
     alloc: Global,
     kept: &Kept,
     trail: &mut Trail,
-    element: &Element,
+    element: &Element<'_>,
     place: usize,
 ) -> Result<(), Stop>
     ensures path { OnOk result (trail.new.path.items ≡ trail.old.path.items) }
     ensures finds { (rows : List Placed) (base : Chars) (above : Visit) (left : ℕ) (root : Placed) → At kept.now rows base trail.old.path.items above left
-        → slice_get rows place ≡ Some root → slice_get kept.now.elements.items place ≡ Some element.now → is_item root ≡ true
+        → slice_get rows place ≡ Some root → IsElement kept.now rows place element.now root → is_item root ≡ true
         → Finds trail.old.visits (visits_in rows base above left (steps_in (properties_in rows root))) trail.new.visits (λ done. ⊤) result }
 {
-    match listed(kept.members.as_slice(), &element.reach, place) {
+    match listed(kept.members.as_slice(), element.own, element.others, place) {
         Some(list) => pass_each(alloc, kept, trail, list),
         None => pass_sorted(alloc, kept, trail, element, place),
     }
@@ -88,15 +90,21 @@ fn pass_sorted(
     alloc: Global,
     kept: &Kept,
     trail: &mut Trail,
-    element: &Element,
+    element: &Element<'_>,
     place: usize,
 ) -> Result<(), Stop>
     ensures path { OnOk result (trail.new.path.items ≡ trail.old.path.items) }
     ensures finds { (rows : List Placed) (base : Chars) (above : Visit) (left : ℕ) (root : Placed) → At kept.now rows base trail.old.path.items above left
-        → slice_get rows place ≡ Some root → slice_get kept.now.elements.items place ≡ Some element.now → is_item root ≡ true
+        → slice_get rows place ≡ Some root → IsElement kept.now rows place element.now root → is_item root ≡ true
         → Finds trail.old.visits (visits_in rows base above left (steps_in (properties_in rows root))) trail.new.visits (λ done. ⊤) result }
 {
-    let Ok(list) = properties(alloc, kept.members.as_slice(), &element.reach, place) else {
+    let Ok(list) = properties(
+        alloc,
+        kept.members.as_slice(),
+        element.own,
+        element.others,
+        place,
+    ) else {
         return Err(Stop::NoMemory);
     };
     pass_each(alloc, kept, trail, list.as_slice())
@@ -122,13 +130,13 @@ fn pass_property(alloc: Global, kept: &Kept, trail: &mut Trail, place: usize) ->
     ensures finds { (rows : List Placed) (base : Chars) (above : Visit) (left : ℕ) (e : Placed) → At kept.now rows base trail.old.path.items above left
         → slice_get rows place ≡ Some e → Finds trail.old.visits (visits_in rows base above left (steps_of e)) trail.new.visits (λ done. ⊤) result }
 {
-    let Some(element) = kept.elements.get(place) else {
-        return Ok(());
-    };
-    if !element.is_item {
+    if !is_item_at(kept, place) {
         return Ok(());
     }
-    pass_times(alloc, kept, trail, element, place, count(&element.names))
+    let Some(element) = element_at(kept, place) else {
+        return Ok(());
+    };
+    pass_times(alloc, kept, trail, &element, place, count(&element.names))
 }
 
 /// Visits an item so many times.
@@ -137,13 +145,13 @@ fn pass_times(
     alloc: Global,
     kept: &Kept,
     trail: &mut Trail,
-    element: &Element,
+    element: &Element<'_>,
     place: usize,
     times: usize,
 ) -> Result<(), Stop>
     ensures path { OnOk result (trail.new.path.items ≡ trail.old.path.items) }
     ensures finds { (rows : List Placed) (base : Chars) (above : Visit) (left : ℕ) (root : Placed) → At kept.now rows base trail.old.path.items above left
-        → slice_get rows place ≡ Some root → slice_get kept.now.elements.items place ≡ Some element.now → is_item root ≡ true
+        → slice_get rows place ≡ Some root → IsElement kept.now rows place element.now root → is_item root ≡ true
         → Finds trail.old.visits (again times (visits_from (properties_in rows) (suc left) above root)) trail.new.visits (λ done. ⊤) result }
 {
     for _ in 0..times {
@@ -153,7 +161,7 @@ fn pass_times(
 }
 
 /// How many tokens an attribute has.
-fn count(tokens: &Tokens) -> usize
+fn count(tokens: &Tokens<'_>) -> usize
     ensures { result ≡ count_of tokens.now }
 {
     match tokens {

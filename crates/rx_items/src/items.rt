@@ -38,7 +38,8 @@ impl Items {
 
     /// The items of a page that has ended with this table, whose references are resolved against this base.
     pub(crate) fn of_table(alloc: Global, table: Table, base: Iri) -> Result<Items, NoMemory>
-        ensures { (tree : Tree) → ShowsRows table.words table.text table.times table.rows (rows_of tree) → IfOk result (λ items. HoldsRows items (rows_of tree) base) }
+        ensures { (tree : Tree) → ShowsRows table.words table.text table.times table.rows (rows_of tree)
+            → IfOk result (λ items. HoldsRows items (rows_of tree) base) }
     {
         let kept = kept_of(alloc, table.into_rows(), base)?;
         Ok(Items { kept })
@@ -48,7 +49,8 @@ impl Items {
     /// the first faulty visit: an item within itself, items nested beyond 40, or more than 100,000 item objects.
     pub fn json(&self, alloc: Global) -> Result<Value, Stop>
         ensures rows { (rows : List Placed) (base : Chars) → HoldsRows self.now rows base → JsonGives (outcome_in standard_bounds base rows) result }
-        ensures tree { (tree : Tree) (base : Chars) → HoldsRows self.now (rows_of tree) base → JsonGives (outcome_of standard_bounds (elements_of tree) base) result }
+        ensures tree { (tree : Tree) (base : Chars) → HoldsRows self.now (rows_of tree) base
+            → JsonGives (outcome_of standard_bounds (elements_of tree) base) result }
     {
         page_of(alloc, &self.kept)
     }
@@ -57,7 +59,8 @@ impl Items {
     /// than the names and places of the properties of each item on one path.
     pub fn text(&self, alloc: Global) -> Result<Vec<u8>, Stop>
         ensures rows { (rows : List Placed) (base : Chars) → HoldsRows self.now rows base → TextGives (outcome_in standard_bounds base rows) result }
-        ensures tree { (tree : Tree) (base : Chars) → HoldsRows self.now (rows_of tree) base → TextGives (outcome_of standard_bounds (elements_of tree) base) result }
+        ensures tree { (tree : Tree) (base : Chars) → HoldsRows self.now (rows_of tree) base
+            → TextGives (outcome_of standard_bounds (elements_of tree) base) result }
     {
         text_of(alloc, &self.kept)
     }

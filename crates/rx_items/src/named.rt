@@ -4,11 +4,11 @@ ghost use Rattle.std.specs.List.Sorted.{IsSortedBy, IsStableBy};
 ghost use Rattle.rx_terms.specs.Text.{Chars};
 ghost use Rattle.rx_microdata.specs.Elements.{Placed, is_item};
 ghost use Rattle.rx_item_table.specs.Rows.{properties_in};
-ghost use Rattle.rx_item_properties.specs.Held.{HoldsRows};
+ghost use Rattle.rx_item_properties.specs.Held.{HoldsRows, IsElement};
 ghost use Rattle.rx_items.specs.Named.{ByName, is_before, key_at, keyed, keys_at, keys_in, keys_seen};
 
 use crate::readings::token_at;
-use rx_item_properties::{Element, Kept, Tokens, listed, properties};
+use rx_item_properties::{Element, Kept, Tokens, element_at, listed, properties};
 use rx_terms::{NoMemory, Text};
 use std::alloc::Global;
 
@@ -23,11 +23,11 @@ pub(crate) struct Named<'a> {
 pub(crate) fn by_name<'a>(
     alloc: Global,
     kept: &'a Kept,
-    element: &Element,
+    element: &Element<'_>,
     place: usize,
 ) -> Result<Vec<Named<'a>>, NoMemory>
     ensures { (rows : List Placed) (base : Chars) (root : Placed) → HoldsRows kept.now rows base → slice_get rows place ≡ Some root
-        → slice_get kept.now.elements.items place ≡ Some element.now → is_item root ≡ true → IfOk result (λ list. ByName (keys_in (properties_in rows root)) list.items) }
+        → IsElement kept.now rows place element.now root → is_item root ≡ true → IfOk result (λ list. ByName (keys_in (properties_in rows root)) list.items) }
 {
     let mut list = in_tree_order(alloc, kept, element, place)?;
     sort(&mut list)?;
@@ -46,14 +46,15 @@ fn sort(list: &mut Vec<Named<'_>>) -> Result<(), NoMemory>
 fn in_tree_order<'a>(
     alloc: Global,
     kept: &'a Kept,
-    element: &Element,
+    element: &Element<'_>,
     place: usize,
 ) -> Result<Vec<Named<'a>>, NoMemory>
     ensures { (rows : List Placed) (base : Chars) (root : Placed) → HoldsRows kept.now rows base → slice_get rows place ≡ Some root
-        → slice_get kept.now.elements.items place ≡ Some element.now → is_item root ≡ true → IfOk result (λ list. keys_seen list.items ≡ keys_in (properties_in rows root)) }
+        → IsElement kept.now rows place element.now root → is_item root ≡ true
+        → IfOk result (λ list. keys_seen list.items ≡ keys_in (properties_in rows root)) }
 {
     // most items refer to no element, and then the places stand in a row already
-    match listed(kept.members.as_slice(), &element.reach, place) {
+    match listed(kept.members.as_slice(), element.own, element.others, place) {
         Some(list) => named_at(alloc, kept, list),
         None => named_sorted(alloc, kept, element, place),
     }
@@ -63,19 +64,27 @@ fn in_tree_order<'a>(
 fn named_sorted<'a>(
     alloc: Global,
     kept: &'a Kept,
-    element: &Element,
+    element: &Element<'_>,
     place: usize,
 ) -> Result<Vec<Named<'a>>, NoMemory>
     ensures { (rows : List Placed) (base : Chars) (root : Placed) → HoldsRows kept.now rows base → slice_get rows place ≡ Some root
-        → slice_get kept.now.elements.items place ≡ Some element.now → is_item root ≡ true → IfOk result (λ list. keys_seen list.items ≡ keys_in (properties_in rows root)) }
+        → IsElement kept.now rows place element.now root → is_item root ≡ true
+        → IfOk result (λ list. keys_seen list.items ≡ keys_in (properties_in rows root)) }
 {
-    let list = properties(alloc, kept.members.as_slice(), &element.reach, place)?;
+    let list = properties(
+        alloc,
+        kept.members.as_slice(),
+        element.own,
+        element.others,
+        place,
+    )?;
     named_at(alloc, kept, list.as_slice())
 }
 
 /// The elements at these places under each of their names.
 fn named_at<'a>(alloc: Global, kept: &'a Kept, places: &[usize]) -> Result<Vec<Named<'a>>, NoMemory>
-    ensures { (rows : List Placed) (base : Chars) → HoldsRows kept.now rows base → IfOk result (λ list. keys_seen list.items ≡ flat_map (keys_at rows) places.now) }
+    ensures { (rows : List Placed) (base : Chars) → HoldsRows kept.now rows base
+        → IfOk result (λ list. keys_seen list.items ≡ flat_map (keys_at rows) places.now) }
 {
     let mut list = Vec::with_capacity(alloc, places.len())?;
     for place in places {
@@ -86,14 +95,15 @@ fn named_at<'a>(alloc: Global, kept: &'a Kept, places: &[usize]) -> Result<Vec<N
 
 /// Adds the element at a place under each of its names.
 fn add_names<'a>(list: &mut Vec<Named<'a>>, kept: &'a Kept, place: usize) -> Result<(), NoMemory>
-    ensures { (rows : List Placed) (base : Chars) → HoldsRows kept.now rows base → OnOk result (keys_seen list.new.items ≡ keys_seen list.old.items ++ keys_at rows place) }
+    ensures { (rows : List Placed) (base : Chars) → HoldsRows kept.now rows base
+        → OnOk result (keys_seen list.new.items ≡ keys_seen list.old.items ++ keys_at rows place) }
 {
-    let Some(element) = kept.elements.get(place) else {
+    let Some(element) = element_at(kept, place) else {
         return Ok(());
     };
-    match &element.names {
-        Tokens::One(span) => add_name(list, token_at(&kept.words, *span), place),
-        Tokens::Many(names) => add_each(list, names.as_slice(), place),
+    match element.names {
+        Tokens::One(span) => add_name(list, token_at(&kept.words, span), place),
+        Tokens::Many(names) => add_each(list, names, place),
     }
 }
 

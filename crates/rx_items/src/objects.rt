@@ -21,10 +21,11 @@ pub(crate) fn item_object(
     alloc: Global,
     id: Option<Value>,
     words: &TextStore,
-    types: &Tokens,
+    types: &Tokens<'_>,
     properties: Map<String, Value>,
 ) -> Result<Value, NoMemory>
-    ensures { (texts : List Chars) → ShowsTokens words.now types.now texts → IfOk result (λ value. view value ≡ object_of (option_map view id) texts (members_view properties.entries)) }
+    ensures { (texts : List Chars) → ShowsTokens words.now types.now texts
+        → IfOk result (λ value. view value ≡ object_of (option_map view id) texts (members_view properties.entries)) }
 {
     let members = with_properties(alloc, properties)?;
     let members = with_types(alloc, members, words, types)?;
@@ -57,9 +58,10 @@ fn with_types(
     alloc: Global,
     members: Map<String, Value>,
     words: &TextStore,
-    types: &Tokens,
+    types: &Tokens<'_>,
 ) -> Result<Map<String, Value>, NoMemory>
-    ensures { (texts : List Chars) → ShowsTokens words.now types.now texts → IfOk result (λ new. (properties : Data) → members_view members.entries ≡ member (codes "properties") properties no_members
+    ensures { (texts : List Chars) → ShowsTokens words.now types.now texts
+        → IfOk result (λ new. (properties : Data) → members_view members.entries ≡ member (codes "properties") properties no_members
         → members_view new.entries ≡ member (codes "properties") properties (with_types texts no_members)) }
 {
     let Ok(value) = types_value(alloc, words, types) else {
@@ -75,7 +77,11 @@ fn with_types(
 }
 
 /// The list of an item's types, where it has any.
-fn types_value(alloc: Global, words: &TextStore, types: &Tokens) -> Result<Option<Value>, NoMemory>
+fn types_value(
+    alloc: Global,
+    words: &TextStore,
+    types: &Tokens<'_>,
+) -> Result<Option<Value>, NoMemory>
     ensures { (texts : List Chars) → ShowsTokens words.now types.now texts → IfOk result (λ value. option_map view value ≡ types_data texts) }
 {
     match types {
@@ -83,7 +89,7 @@ fn types_value(alloc: Global, words: &TextStore, types: &Tokens) -> Result<Optio
             let value = one_text(alloc, text_of(words, *span))?;
             Ok(Some(value))
         }
-        Tokens::Many(list) => many_texts(alloc, list.as_slice()),
+        Tokens::Many(list) => many_texts(alloc, list),
     }
 }
 

@@ -13,7 +13,7 @@ use crate::faults::visit_all;
 use crate::objects::page_object;
 use crate::visits::{Trail, visit};
 use crate::writing::written;
-use rx_item_properties::Kept;
+use rx_item_properties::{Kept, element_at, is_top_at};
 use rx_json_text::push_to;
 use rx_tags::Stop;
 use rx_terms::NoMemory;
@@ -43,7 +43,7 @@ fn top_items(alloc: Global, kept: &Kept) -> Result<Vec<Value>, Stop>
         visits: 0,
     };
     let mut items = Vec::new(alloc);
-    for place in 0..kept.elements.as_slice().len() {
+    for place in 0..kept.rows.as_slice().len() {
         add_top(alloc, kept, &mut trail, &mut items, place)?;
     }
     Ok(items)
@@ -59,15 +59,16 @@ fn add_top(
 ) -> Result<(), Stop>
     ensures path { OnOk result (trail.new.path.items ≡ trail.old.path.items) }
     ensures finds { (rows : List Placed) (base : Chars) (e : Placed) → HoldsRows kept.now rows base → trail.old.path.items ≡ [] → slice_get rows place ≡ Some e
-        → Finds trail.old.visits (top_visits rows base e) trail.new.visits (λ done. map view items.new.items ≡ map view items.old.items ++ top_data rows base e) result }
+        → Finds trail.old.visits (top_visits rows base e) trail.new.visits
+        (λ done. map view items.new.items ≡ map view items.old.items ++ top_data rows base e) result }
 {
-    let Some(element) = kept.elements.get(place) else {
-        return Ok(());
-    };
-    if !element.is_top {
+    if !is_top_at(kept, place) {
         return Ok(());
     }
-    let value = visit(alloc, kept, trail, element, place)?;
+    let Some(element) = element_at(kept, place) else {
+        return Ok(());
+    };
+    let value = visit(alloc, kept, trail, &element, place)?;
     let Ok(()) = push_to(items, value) else {
         return Err(Stop::NoMemory);
     };

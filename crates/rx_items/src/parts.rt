@@ -26,7 +26,8 @@ pub(crate) fn write_id(
     item_id: Option<Span>,
     out: &mut JsonText,
 ) -> Result<(), NoMemory>
-    ensures { (id : Option Chars) → ShowsWord kept.now.words item_id id → OnOk result (out.new ≡ out.old ++ members_tokens (with_id kept.now.base id no_members)) }
+    ensures { (id : Option Chars) → ShowsWord kept.now.words item_id id
+        → OnOk result (out.new ≡ out.old ++ members_tokens (with_id kept.now.base id no_members)) }
 {
     let Some(span) = item_id else {
         return Ok(());
@@ -38,14 +39,14 @@ pub(crate) fn write_id(
 /// Writes the member of an item's types, where it has any.
 pub(crate) fn write_types(
     words: &TextStore,
-    types: &Tokens,
+    types: &Tokens<'_>,
     out: &mut JsonText,
 ) -> Result<(), NoMemory>
     ensures { (texts : List Chars) → ShowsTokens words.now types.now texts → OnOk result (out.new ≡ out.old ++ members_tokens (with_types texts no_members)) }
 {
     match types {
         Tokens::One(span) => write_type(text_of(words, *span), out),
-        Tokens::Many(list) => write_several(list.as_slice(), out),
+        Tokens::Many(list) => write_several(list, out),
     }
 }
 
@@ -87,7 +88,8 @@ pub(crate) fn write_plain(
     value: RowValue,
     out: &mut JsonText,
 ) -> Result<(), NoMemory>
-    ensures { (v : facts.Value) → ShowsValue kept.now.words kept.now.text kept.now.times.items value v → OnOk result (out.new ≡ out.old ++ data_tokens (string_of (said kept.now.base v))) }
+    ensures { (v : facts.Value) → ShowsValue kept.now.words kept.now.text kept.now.times.items value v
+        → OnOk result (out.new ≡ out.old ++ data_tokens (string_of (said kept.now.base v))) }
 {
     match value {
         RowValue::Empty => write_text("", out),

@@ -20,7 +20,8 @@ use std::alloc::Global;
 
 /// The value of an element that is no item.
 pub(crate) fn plain_value(alloc: Global, kept: &Kept, value: RowValue) -> Result<Value, NoMemory>
-    ensures { (v : facts.Value) → ShowsValue kept.now.words kept.now.text kept.now.times.items value v → IfOk result (λ json. view json ≡ string_of (said kept.now.base v)) }
+    ensures { (v : facts.Value) → ShowsValue kept.now.words kept.now.text kept.now.times.items value v
+        → IfOk result (λ json. view json ≡ string_of (said kept.now.base v)) }
 {
     match value {
         RowValue::Empty => text_value(alloc, ""),
@@ -40,7 +41,8 @@ pub(crate) fn id_value(
     kept: &Kept,
     item_id: Option<Span>,
 ) -> Result<Option<Value>, NoMemory>
-    ensures { (id : Option Chars) → ShowsWord kept.now.words item_id id → IfOk result (λ json. option_map view json ≡ option_map (λ reference. string_of (resolved kept.now.base reference)) id) }
+    ensures { (id : Option Chars) → ShowsWord kept.now.words item_id id
+        → IfOk result (λ json. option_map view json ≡ option_map (λ reference. string_of (resolved kept.now.base reference)) id) }
 {
     let Some(span) = item_id else {
         return Ok(None);

@@ -10,13 +10,13 @@ ghost use Rattle.rx_microdata.specs.Elements.{Placed, is_item, names_of};
 ghost use Rattle.rx_microdata.specs.Visits.{Visit, visits_from};
 ghost use Rattle.rx_microdata.specs.Json.{grouped, item_of, json_of_item};
 ghost use Rattle.rx_item_table.specs.Rows.{properties_in};
-ghost use Rattle.rx_item_properties.specs.Held.{AllStand, HoldsRows, ShowsElement, places};
-ghost use Rattle.rx_items.specs.Expanding.{At, Enters, Did, Finds, Goes, Step, data_of, grouped_in, kind_of, steps_in, steps_of, visits_in, visits_of, with_name};
+ghost use Rattle.rx_item_properties.specs.Held.{AllStand, HoldsRows, IsElement, ShowsElement, places};
+ghost use Rattle.rx_items.specs.Expanding.{At, Enters, StepsTaken, Finds, TakesSteps, Step, data_of, grouped_in, kind_of, steps_in, steps_of, visits_in, visits_of, with_name};
 
 use crate::objects::item_object;
 use crate::readings::{id_value, plain_value, token_at};
 use rx_grammar::{Fault, Kind};
-use rx_item_properties::{Element, Kept, Tokens, listed, properties};
+use rx_item_properties::{Element, Kept, Tokens, element_at, listed, properties};
 use rx_json_text::add_value;
 use rx_tags::Stop;
 use rx_terms::{NoMemory, Text};
@@ -71,7 +71,7 @@ fn are_many(visits: u32) -> bool
 }
 
 /// A visit begins, or is refused.
-pub(crate) fn enter(trail: &mut Trail, element: &Element, place: usize) -> Result<(), Stop>
+pub(crate) fn enter(trail: &mut Trail, element: &Element<'_>, place: usize) -> Result<(), Stop>
     ensures { Enters trail.old trail.new element.now place result }
 {
     if let Some(kind) = kind_of(trail, place) {
@@ -102,13 +102,14 @@ pub(crate) fn visit(
     alloc: Global,
     kept: &Kept,
     trail: &mut Trail,
-    element: &Element,
+    element: &Element<'_>,
     place: usize,
 ) -> Result<Value, Stop>
     ensures path { OnOk result (trail.new.path.items ≡ trail.old.path.items) }
     ensures finds { (rows : List Placed) (base : Chars) (above : Visit) (left : ℕ) (root : Placed) → At kept.now rows base trail.old.path.items above left
-        → slice_get rows place ≡ Some root → slice_get kept.now.elements.items place ≡ Some element.now → is_item root ≡ true
-        → Finds trail.old.visits (visits_from (properties_in rows) (suc left) above root) trail.new.visits (λ value. view value ≡ json_of_item (properties_in rows) base left root) result }
+        → slice_get rows place ≡ Some root → IsElement kept.now rows place element.now root → is_item root ≡ true
+        → Finds trail.old.visits (visits_from (properties_in rows) (suc left) above root) trail.new.visits
+        (λ value. view value ≡ json_of_item (properties_in rows) base left root) result }
 {
     enter(trail, element, place)?;
     let group = group_of(alloc, kept, trail, element, place)?;
@@ -125,12 +126,12 @@ fn group_of(
     alloc: Global,
     kept: &Kept,
     trail: &mut Trail,
-    element: &Element,
+    element: &Element<'_>,
     place: usize,
 ) -> Result<Map<String, Value>, Stop>
     ensures path { OnOk result (trail.new.path.items ≡ trail.old.path.items) }
     ensures finds { (rows : List Placed) (base : Chars) (above : Visit) (left : ℕ) (root : Placed) → At kept.now rows base trail.old.path.items above left
-        → slice_get rows place ≡ Some root → slice_get kept.now.elements.items place ≡ Some element.now → is_item root ≡ true
+        → slice_get rows place ≡ Some root → IsElement kept.now rows place element.now root → is_item root ≡ true
         → Finds trail.old.visits (visits_in rows base above left (steps_in (properties_in rows root))) trail.new.visits
         (λ group. members_view group.entries ≡ grouped_in rows base above left (steps_in (properties_in rows root))) result }
 {
@@ -147,17 +148,17 @@ fn fill_item(
     kept: &Kept,
     trail: &mut Trail,
     group: &mut Map<String, Value>,
-    element: &Element,
+    element: &Element<'_>,
     place: usize,
 ) -> Result<(), Stop>
     ensures path { OnOk result (trail.new.path.items ≡ trail.old.path.items) }
     ensures finds { (rows : List Placed) (base : Chars) (above : Visit) (left : ℕ) (root : Placed) → At kept.now rows base trail.old.path.items above left
-        → slice_get rows place ≡ Some root → slice_get kept.now.elements.items place ≡ Some element.now → is_item root ≡ true → members_view group.old.entries ≡ no_members
+        → slice_get rows place ≡ Some root → IsElement kept.now rows place element.now root → is_item root ≡ true → members_view group.old.entries ≡ no_members
         → Finds trail.old.visits (visits_in rows base above left (steps_in (properties_in rows root))) trail.new.visits
         (λ done. members_view group.new.entries ≡ grouped_in rows base above left (steps_in (properties_in rows root))) result }
 {
     // most items refer to no element, and then the places stand in a row already
-    match listed(kept.members.as_slice(), &element.reach, place) {
+    match listed(kept.members.as_slice(), element.own, element.others, place) {
         Some(list) => fill(alloc, kept, trail, group, list),
         None => fill_sorted(alloc, kept, trail, group, element, place),
     }
@@ -170,16 +171,22 @@ fn fill_sorted(
     kept: &Kept,
     trail: &mut Trail,
     group: &mut Map<String, Value>,
-    element: &Element,
+    element: &Element<'_>,
     place: usize,
 ) -> Result<(), Stop>
     ensures path { OnOk result (trail.new.path.items ≡ trail.old.path.items) }
     ensures finds { (rows : List Placed) (base : Chars) (above : Visit) (left : ℕ) (root : Placed) → At kept.now rows base trail.old.path.items above left
-        → slice_get rows place ≡ Some root → slice_get kept.now.elements.items place ≡ Some element.now → is_item root ≡ true → members_view group.old.entries ≡ no_members
+        → slice_get rows place ≡ Some root → IsElement kept.now rows place element.now root → is_item root ≡ true → members_view group.old.entries ≡ no_members
         → Finds trail.old.visits (visits_in rows base above left (steps_in (properties_in rows root))) trail.new.visits
         (λ done. members_view group.new.entries ≡ grouped_in rows base above left (steps_in (properties_in rows root))) result }
 {
-    let Ok(list) = properties(alloc, kept.members.as_slice(), &element.reach, place) else {
+    let Ok(list) = properties(
+        alloc,
+        kept.members.as_slice(),
+        element.own,
+        element.others,
+        place,
+    ) else {
         return Err(Stop::NoMemory);
     };
     fill(alloc, kept, trail, group, list.as_slice())
@@ -216,12 +223,13 @@ fn add_property(
     place: usize,
 ) -> Result<(), Stop>
     ensures path { OnOk result (trail.new.path.items ≡ trail.old.path.items) }
-    ensures finds { (rows : List Placed) (base : Chars) (above : Visit) (left : ℕ) (e : Placed) (done : List Step) (start : ℕ) → At kept.now rows base trail.old.path.items above left
-        → slice_get rows place ≡ Some e → Did rows base above left start done trail.old.visits (members_view group.old.entries)
-        → Goes rows base above left start (done ++ steps_of e) trail.new.visits (members_view group.new.entries) result }
+    ensures finds { (rows : List Placed) (base : Chars) (above : Visit) (left : ℕ) (e : Placed) (done : List Step) (start : ℕ)
+        → At kept.now rows base trail.old.path.items above left
+        → slice_get rows place ≡ Some e → StepsTaken rows base above left start done trail.old.visits (members_view group.old.entries)
+        → TakesSteps rows base above left start (done ++ steps_of e) trail.new.visits (members_view group.new.entries) result }
 {
-    match kept.elements.get(place) {
-        Some(element) => add_values(alloc, kept, trail, group, element, place),
+    match element_at(kept, place) {
+        Some(element) => add_values(alloc, kept, trail, group, &element, place),
         None => Ok(()),
     }
 }
@@ -233,22 +241,22 @@ fn add_values(
     kept: &Kept,
     trail: &mut Trail,
     group: &mut Map<String, Value>,
-    element: &Element,
+    element: &Element<'_>,
     place: usize,
 ) -> Result<(), Stop>
     ensures path { OnOk result (trail.new.path.items ≡ trail.old.path.items) }
-    ensures finds { (rows : List Placed) (base : Chars) (above : Visit) (left : ℕ) (e : Placed) (done : List Step) (start : ℕ) → At kept.now rows base trail.old.path.items above left
-        → slice_get rows place ≡ Some e → slice_get kept.now.elements.items place ≡ Some element.now → Did rows base above left start done trail.old.visits (members_view group.old.entries)
-        → Goes rows base above left start (done ++ steps_of e) trail.new.visits (members_view group.new.entries) result }
+    ensures finds { (rows : List Placed) (base : Chars) (above : Visit) (left : ℕ) (e : Placed) (done : List Step) (start : ℕ)
+        → At kept.now rows base trail.old.path.items above left
+        → slice_get rows place ≡ Some e → IsElement kept.now rows place element.now e
+        → StepsTaken rows base above left start done trail.old.visits (members_view group.old.entries)
+        → TakesSteps rows base above left start (done ++ steps_of e) trail.new.visits (members_view group.new.entries) result }
 {
-    match &element.names {
+    match element.names {
         Tokens::One(span) => {
-            let name = token_at(&kept.words, *span);
+            let name = token_at(&kept.words, span);
             add_named(alloc, kept, trail, group, element, place, name)
         }
-        Tokens::Many(names) => {
-            add_each(alloc, kept, trail, group, element, place, names.as_slice())
-        }
+        Tokens::Many(names) => { add_each(alloc, kept, trail, group, element, place, names) }
     }
 }
 
@@ -259,15 +267,16 @@ fn add_each(
     kept: &Kept,
     trail: &mut Trail,
     group: &mut Map<String, Value>,
-    element: &Element,
+    element: &Element<'_>,
     place: usize,
     names: &[Text],
 ) -> Result<(), Stop>
     ensures path { OnOk result (trail.new.path.items ≡ trail.old.path.items) }
-    ensures finds { (rows : List Placed) (base : Chars) (above : Visit) (left : ℕ) (e : Placed) (done : List Step) (start : ℕ) → At kept.now rows base trail.old.path.items above left
-        → slice_get rows place ≡ Some e → slice_get kept.now.elements.items place ≡ Some element.now → names.now ≡ names_of e
-        → Did rows base above left start done trail.old.visits (members_view group.old.entries)
-        → Goes rows base above left start (done ++ steps_of e) trail.new.visits (members_view group.new.entries) result }
+    ensures finds { (rows : List Placed) (base : Chars) (above : Visit) (left : ℕ) (e : Placed) (done : List Step) (start : ℕ)
+        → At kept.now rows base trail.old.path.items above left
+        → slice_get rows place ≡ Some e → IsElement kept.now rows place element.now e → names.now ≡ names_of e
+        → StepsTaken rows base above left start done trail.old.visits (members_view group.old.entries)
+        → TakesSteps rows base above left start (done ++ steps_of e) trail.new.visits (members_view group.new.entries) result }
 {
     for name in names {
         add_named(alloc, kept, trail, group, element, place, name.as_str())?;
@@ -283,15 +292,16 @@ fn add_named(
     kept: &Kept,
     trail: &mut Trail,
     group: &mut Map<String, Value>,
-    element: &Element,
+    element: &Element<'_>,
     place: usize,
     name: &str,
 ) -> Result<(), Stop>
     ensures path { OnOk result (trail.new.path.items ≡ trail.old.path.items) }
-    ensures finds { (rows : List Placed) (base : Chars) (above : Visit) (left : ℕ) (e : Placed) (token : Chars) (done : List Step) (start : ℕ) → At kept.now rows base trail.old.path.items above left
-        → slice_get rows place ≡ Some e → slice_get kept.now.elements.items place ≡ Some element.now → name.now ≡ encode_utf8_all token
-        → Did rows base above left start done trail.old.visits (members_view group.old.entries)
-        → Goes rows base above left start (done ++ with_name e token ∷ []) trail.new.visits (members_view group.new.entries) result }
+    ensures finds { (rows : List Placed) (base : Chars) (above : Visit) (left : ℕ) (e : Placed) (token : Chars) (done : List Step) (start : ℕ)
+        → At kept.now rows base trail.old.path.items above left
+        → slice_get rows place ≡ Some e → IsElement kept.now rows place element.now e → name.now ≡ encode_utf8_all token
+        → StepsTaken rows base above left start done trail.old.visits (members_view group.old.entries)
+        → TakesSteps rows base above left start (done ++ with_name e token ∷ []) trail.new.visits (members_view group.new.entries) result }
 {
     let value = value_of(alloc, kept, trail, element, place)?;
     let Ok(()) = add_value(alloc, group, name, value) else {
@@ -307,12 +317,12 @@ fn value_of(
     alloc: Global,
     kept: &Kept,
     trail: &mut Trail,
-    element: &Element,
+    element: &Element<'_>,
     place: usize,
 ) -> Result<Value, Stop>
     ensures path { OnOk result (trail.new.path.items ≡ trail.old.path.items) }
     ensures finds { (rows : List Placed) (base : Chars) (above : Visit) (left : ℕ) (e : Placed) → At kept.now rows base trail.old.path.items above left
-        → slice_get rows place ≡ Some e → slice_get kept.now.elements.items place ≡ Some element.now
+        → slice_get rows place ≡ Some e → IsElement kept.now rows place element.now e
         → Finds trail.old.visits (visits_of rows base above left e) trail.new.visits (λ value. view value ≡ data_of rows base above left e) result }
 {
     if element.is_item {
@@ -328,10 +338,11 @@ fn value_of(
 fn finish(
     alloc: Global,
     kept: &Kept,
-    element: &Element,
+    element: &Element<'_>,
     group: Map<String, Value>,
 ) -> Result<Value, NoMemory>
-    ensures { (root : Placed) (pairs : List (Chars × Data)) → ShowsElement kept.now.words kept.now.text kept.now.times.items element.now root → members_view group.entries ≡ grouped pairs
+    ensures { (root : Placed) (pairs : List (Chars × Data)) → ShowsElement kept.now.words kept.now.text kept.now.times.items element.now root
+        → members_view group.entries ≡ grouped pairs
         → IfOk result (λ value. view value ≡ item_of kept.now.base root.facts pairs) }
 {
     let Ok(id) = id_value(alloc, kept, element.item_id) else {

@@ -42,7 +42,8 @@ impl Model for ItemWalk {
 /// The items of a whole page.
 fn items_of(collector: Collector) -> Result<Items, NoMemory>
     requires { IsWhole way_of Collects collector }
-    ensures { (setting : Setting) (bytes : List ℕ) (whole : Whole (way_of setting) (Collects setting) bytes collector) → IfOk result (λ items. HoldsRows items (rows_of whole.tree) (base_in setting.address whole.tree)) }
+    ensures { (setting : Setting) (bytes : List ℕ) (whole : Whole (way_of setting) (Collects setting) bytes collector)
+        → IfOk result (λ items. HoldsRows items (rows_of whole.tree) (base_in setting.address whole.tree)) }
 {
     let Collector {
         alloc,
@@ -77,7 +78,8 @@ impl ItemWalk {
     pub fn feed(&mut self, piece: &[u8]) -> Result<(), Stop>
         ensures gives { (setting : Setting) (bytes : List ℕ) → walks.Stands setting self.old bytes → walks.FeedGives setting bytes piece.now result self.new }
         ensures place { (setting : Setting) (bytes : List ℕ) → walks.Stands setting self.old bytes → PlaceGives (way_of setting) bytes piece.now result }
-        ensures quiet { (setting : Setting) (bytes : List ℕ) → walks.Stands setting self.old bytes → IsBetween setting.syntax setting.limits bytes → is_quiet piece.now ≡ true → IsIdle self.old.listener.table → IsNoMemory result ≡ false }
+        ensures quiet { (setting : Setting) (bytes : List ℕ) → walks.Stands setting self.old bytes → IsBetween setting.syntax setting.limits bytes
+            → is_quiet piece.now ≡ true → IsIdle self.old.listener.table → IsNoMemory result ≡ false }
         ensures asked { MayAnswer self.old.failed self.old.spent result }
         ensures keeps { Answered result self.new.failed self.new.spent }
     {

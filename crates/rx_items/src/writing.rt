@@ -7,14 +7,14 @@ ghost use Rattle.rx_terms.specs.Text.{Chars};
 ghost use Rattle.rx_microdata.specs.Elements.{Placed, is_item, is_top_level};
 ghost use Rattle.rx_microdata.specs.Json.{json_by, json_of_item};
 ghost use Rattle.rx_item_table.specs.Rows.{properties_in};
-ghost use Rattle.rx_item_properties.specs.Held.{HoldsRows};
+ghost use Rattle.rx_item_properties.specs.Held.{HoldsRows, IsElement};
 ghost use Rattle.rx_items.specs.Named.{ending, grouped_at, key_seen, keys_in, keys_seen, name_seen, opening, tokens_behind, value_at};
 ghost use Rattle.rx_items.specs.Pages.{top_data};
 
 use crate::named::{Named, by_name};
 use crate::parts::{write_id, write_plain, write_types};
 use crate::visits::NESTED;
-use rx_item_properties::{Element, Kept};
+use rx_item_properties::{Element, Kept, element_at, is_top_at};
 use rx_json_text::JsonText;
 use rx_terms::NoMemory;
 use std::alloc::Global;
@@ -52,7 +52,7 @@ fn write_tops(alloc: Global, kept: &Kept, out: &mut JsonText) -> Result<(), NoMe
     ensures { (rows : List Placed) (base : Chars) → HoldsRows kept.now rows base
         → OnOk result (out.new ≡ out.old ++ each_tokens (map (json_of_item (properties_in rows) base 40) (filter is_top_level rows))) }
 {
-    for place in 0..kept.elements.as_slice().len() {
+    for place in 0..kept.rows.as_slice().len() {
         write_top(alloc, kept, place, out)?;
     }
     Ok(())
@@ -63,13 +63,13 @@ fn write_top(alloc: Global, kept: &Kept, place: usize, out: &mut JsonText) -> Re
     ensures { (rows : List Placed) (base : Chars) (e : Placed) → HoldsRows kept.now rows base → slice_get rows place ≡ Some e
         → OnOk result (out.new ≡ out.old ++ each_tokens (top_data rows base e)) }
 {
-    let Some(element) = kept.elements.get(place) else {
-        return Ok(());
-    };
-    if !element.is_top {
+    if !is_top_at(kept, place) {
         return Ok(());
     }
-    write_item(alloc, kept, NESTED, element, place, out)
+    let Some(element) = element_at(kept, place) else {
+        return Ok(());
+    };
+    write_item(alloc, kept, NESTED, &element, place, out)
 }
 
 /// Writes the object of an item, in which so many items may nest, itself included.
@@ -78,12 +78,12 @@ fn write_item(
     alloc: Global,
     kept: &Kept,
     left: usize,
-    element: &Element,
+    element: &Element<'_>,
     place: usize,
     out: &mut JsonText,
 ) -> Result<(), NoMemory>
     ensures { (rows : List Placed) (base : Chars) (root : Placed) → HoldsRows kept.now rows base → slice_get rows place ≡ Some root
-        → slice_get kept.now.elements.items place ≡ Some element.now → is_item root ≡ true
+        → IsElement kept.now rows place element.now root → is_item root ≡ true
         → OnOk result (out.new ≡ out.old ++ data_tokens (json_of_item (properties_in rows) base left root)) }
 {
     if left == 0 {
@@ -103,12 +103,12 @@ fn write_properties(
     alloc: Global,
     kept: &Kept,
     left: usize,
-    element: &Element,
+    element: &Element<'_>,
     place: usize,
     out: &mut JsonText,
 ) -> Result<(), NoMemory>
     ensures { (rows : List Placed) (base : Chars) (root : Placed) → HoldsRows kept.now rows base → slice_get rows place ≡ Some root
-        → slice_get kept.now.elements.items place ≡ Some element.now → is_item root ≡ true
+        → IsElement kept.now rows place element.now root → is_item root ≡ true
         → OnOk result (out.new ≡ out.old ++ data_tokens (object (grouped_at rows base left (keys_in (properties_in rows root))))) }
 {
     let list = by_name(alloc, kept, element, place)?;
@@ -166,11 +166,11 @@ fn write_value(
     ensures { (rows : List Placed) (base : Chars) → HoldsRows kept.now rows base
         → OnOk result (out.new ≡ out.old ++ data_tokens (value_at rows base left place)) }
 {
-    let Some(element) = kept.elements.get(place) else {
+    let Some(element) = element_at(kept, place) else {
         return out.null();
     };
     if element.is_item {
-        return write_item(alloc, kept, left, element, place, out);
+        return write_item(alloc, kept, left, &element, place, out);
     }
     write_plain(alloc, kept, element.value, out)
 }

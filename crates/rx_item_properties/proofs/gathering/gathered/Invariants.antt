@@ -4,4 +4,4 @@ use Rattle.rx_item_properties.proofs.gathering.gathered.Given as goal
 
 abbrev pub invariant-loop-run : goal.invariant-loop-run
 invariant-loop-run l =
-    l.list.items ++ gathered l.members (drop l.run-index l.reach.others.items) l.place ≡ gathered l.members (l.reach.own ∷ l.reach.others.items) l.place
+    l.list.items ++ gathered l.members (drop l.run-index l.others) l.place ≡ gathered l.members (l.fn.own ∷ l.others) l.place

@@ -7,5 +7,5 @@ returns-then-are_listed-clause-rise c = listed_rises c.args.place c.part-list.re
 
 pub returns-then-are_listed-clause-same : goal.returns-then-are_listed-clause-same
 returns-then-are_listed-clause-same c x =
-    listed_same c.args.members.now c.args.reach.now.own c.args.reach.now.others.items c.args.place c.part-list.result.now _ (rw c.as_slice.ensures.value at c.is_empty.ensures) c.if-not-is_empty.false c.part-list.ensures
+    listed_same c.args.members.now c.args.own c.args.others.now c.args.place c.part-list.result.now _ c.is_empty.ensures c.if-not-is_empty.false c.part-list.ensures
     (sym c.are_listed.ensures ∙ c.if-are_listed.true) x

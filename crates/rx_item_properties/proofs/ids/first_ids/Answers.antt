@@ -1,8 +1,10 @@
-use Rattle.std.proofs.Common.{◌≡◌, ◌∙◌, ◌+◌, ◌-◌, ◌<◌, ℕ, List, [], Option, option_map, ap, sym, arith, drop, length, refl}
+use Rattle.std.proofs.Common.{◌≡◌, ◌∙◌, ◌+◌, ◌-◌, ◌<◌, ℕ, List, [], Option, option_map, ap, sym, arith, drop, length, refl, subst}
 use Rattle.std.specs.Str.{chars}
 use Rattle.rx_microdata.specs.Elements.{Placed}
 use Rattle.rx_microdata.specs.Properties.{first_with_id}
 use Rattle.rx_item_table.specs.Growing.{nothing_kept}
+use Rattle.rx_item_table.specs.Showing.{ShowsWord}
+use Rattle.rx_item_table.specs.declared.spans.Span.{Span}
 use Rattle.rx_item_properties.specs.Ids.{place_of}
 use Rattle.rx_item_properties.proofs.IdLemmas.{no_ids, empty_ids, row_shown, id_turn, all_ids}
 use Rattle.rx_item_properties.proofs.ids.first_ids.Goals as goal
@@ -20,7 +22,7 @@ loop-place-preserved c gathered times ps shows n text utf8 =
     let shown = row_shown c.args.words.now gathered times c.args.rows.now ps (l.place - 1) nothing_kept shows (omega (arith, above, within)) in
     let next : l.place ≡ (l.place - 1) + 1 = omega (arith, above) in
     id_turn ps (l.place - 1) l.place shown.0 (chars text) (place_of c.note_id.new.ids text) (place_of l.ids text) n shown.1 next (l.invariant gathered times ps shows n text utf8)
-    (c.in_ok-note_id.ensures shown.0.facts.id shown.2.id text utf8)
+    (c.in_ok-note_id.ensures shown.0.facts.id (subst (λ (span : Option Span). ShowsWord c.args.words.now span shown.0.facts.id) (sym c.id.ensures) shown.2.id) text utf8)
 
 pub returns : goal.returns
 returns c gathered times ps shows n text utf8 =

@@ -14,5 +14,5 @@ returns c text times tree shows =
       places = rw c.as_slice.ensures.value at c.in_ok-members.ensures;
       small = subst (λ (n : ℕ). n ≤ 18446744073709551615) (rows_length c.args.words.now text times c.args.rows.now ps shows) c.in_ok-keys.ensures.small;
     } in
-    c.in_ok-elements.ensures text times tree c.in_ok-members.members.items (rw c.as_slice-2.ensures.value sorted) (rw c.as_slice-2.ensures.value c.in_ok-keys.ensures.sorted)
+    c.in_ok-extras.ensures text times tree c.in_ok-members.members.items (rw c.as_slice-2.ensures.value sorted) (rw c.as_slice-2.ensures.value c.in_ok-keys.ensures.sorted)
     (c.in_ok-ids.ensures text times ps shows (numbered tree None 0))

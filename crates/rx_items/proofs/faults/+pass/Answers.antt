@@ -1,18 +1,17 @@
 use Rattle.std.proofs.Common.{◌∙◌, ℕ, suc, List, ◌∷◌, ap, sym, subst, Contains, ◌↔◌, Some, arith}
-use Rattle.std.proofs.lemmas.Option.{slice_get-get_or}
 use Rattle.rx_microdata.specs.Visits.{visits_from}
 use Rattle.rx_microdata.specs.Elements.{names_of}
 use Rattle.rx_item_table.specs.Rows.{properties_in}
 use Rattle.rx_item_properties.specs.Properties.{gathered}
-use Rattle.rx_items.specs.Expanding.{Told, NoFault, steps_in, visits_in, again}
-use Rattle.rx_item_properties.proofs.HoldLemmas.{list_is, all_stand, place_is}
-use Rattle.rx_items.proofs.VisitLemmas.{at_path, no_element, shown_in, row_at, list_end, told, enter_err, enter_ok, group_err, group_ok}
+use Rattle.rx_items.specs.Expanding.{HasFault, NoFault, steps_in, visits_in, again}
+use Rattle.rx_item_properties.proofs.HoldLemmas.{is_element, list_is, all_stand, place_is}
+use Rattle.rx_items.proofs.VisitLemmas.{at_path, no_element, row_at, list_end, told, enter_err, enter_ok, group_err, group_ok}
 use Rattle.rx_items.proofs.PassLemmas.{times_err, times_on, times_end, counted, item_passed, plain_passed, each_stop, each_more, each_end}
 use Rattle.rx_items.proofs.faults.+pass.Goals as goal
 
 pub pass-returns-in_err-enter-clause-finds : goal.pass-returns-in_err-enter-clause-finds
 pass-returns-in_err-enter-clause-finds t c rows base above left root at row found item =
-    let shown = shown_in c.args.place c.args.element.now root at row found in
+    let shown = found.shown in
     told c.args.trail.now.visits c.enter.new.trail.visits (visits_from (properties_in rows) (suc left) above root) _ c.from_residual.result c.in_err-enter.field-0.0 c.from_residual.ensures.1
     (enter_err above root c.args.place left (properties_in rows) c.args.trail.now c.enter.new.trail c.args.element.now c.in_err-enter.field-0.0 at.path_is (place_is rows c.args.place root at.holds.numbered row) shown.token shown.at c.in_err-enter.ensures)
 
@@ -21,7 +20,7 @@ pass-returns-in_err-pass_item-clause-finds t c rows base above left root at row 
     let entered = enter_ok c.args.kept.now rows base above left root c.args.place c.args.trail.now c.enter.new.trail c.args.element.now at row c.in_ok-enter.ensures in
     let inner = c.in_err-pass_item.ensures.finds rows base (root ∷ above) entered.room root entered.at row found item in
     told c.args.trail.now.visits c.pass_item.new.trail.visits (visits_from (properties_in rows) (suc left) above root) _ c.from_residual-in_err-pass_item.result c.in_err-pass_item.field-0.0 c.from_residual-in_err-pass_item.ensures.1
-    (subst (λ (n : ℕ). Told c.args.trail.now.visits (visits_from (properties_in rows) (suc n) above root) c.in_err-pass_item.field-0.0) (sym entered.left_is)
+    (subst (λ (n : ℕ). HasFault c.args.trail.now.visits (visits_from (properties_in rows) (suc n) above root) c.in_err-pass_item.field-0.0) (sym entered.left_is)
     (group_err rows base above root entered.room c.args.trail.now.visits c.enter.new.trail.visits c.in_err-pass_item.field-0.0 entered.no_fault c.in_ok-enter.ensures.2 inner))
 
 pub pass-returns-clause-finds : goal.pass-returns-clause-finds
@@ -34,18 +33,18 @@ pass-returns-clause-finds t c rows base above left root at row found item =
 
 pub pass_item-returns-in-Some-clause-finds : goal.pass_item-returns-in-Some-clause-finds
 pass_item-returns-in-Some-clause-finds t c rows base above left root at row found item =
-    let runs = c.args.element.now.reach.own ∷ c.args.element.now.reach.others.items in
+    let runs = c.args.element.now.own ∷ c.args.element.now.others.now in
     let same : (x : ℕ) → Contains c.in-Some.list.now x ↔ Contains (gathered c.as_slice.result.now runs c.args.place) x = c.in-Some.ensures.same in
     let all = subst (λ (ms : List ℕ). (x : ℕ) → Contains c.in-Some.list.now x ↔ Contains (gathered ms runs c.args.place) x) c.as_slice.ensures.value same in
-    let list = list_is c.args.kept.now rows base root c.args.element.now c.args.place c.in-Some.list.now at.holds row found item c.in-Some.ensures.rise all in
+    let list = list_is c.args.kept.now rows base root c.args.element.now c.args.place c.in-Some.list.now at.holds found item c.in-Some.ensures.rise all in
     c.pass_each.ensures.finds rows base above left (properties_in rows root) at list (all_stand _ rows at.holds.numbered)
 
 pub pass_sorted-returns-clause-finds : goal.pass_sorted-returns-clause-finds
 pass_sorted-returns-clause-finds t c rows base above left root at row found item =
-    let runs = c.args.element.now.reach.own ∷ c.args.element.now.reach.others.items in
+    let runs = c.args.element.now.own ∷ c.args.element.now.others.now in
     let same : (x : ℕ) → Contains c.in-Ok.list.items x ↔ Contains (gathered c.as_slice.result.now runs c.args.place) x = c.in-Ok.ensures.same in
     let all = subst (λ (ms : List ℕ). (x : ℕ) → Contains c.in-Ok.list.items x ↔ Contains (gathered ms runs c.args.place) x) c.as_slice.ensures.value same in
-    let list = list_is c.args.kept.now rows base root c.args.element.now c.args.place c.in-Ok.list.items at.holds row found item c.in-Ok.ensures.rise all in
+    let list = list_is c.args.kept.now rows base root c.args.element.now c.args.place c.in-Ok.list.items at.holds found item c.in-Ok.ensures.rise all in
     c.pass_each.ensures.finds rows base above left (properties_in rows root) at (c.as_slice-2.ensures.value ∙ list) (all_stand _ rows at.holds.numbered)
 
 pub pass_each-returns-in_err-pass_property-clause-finds : goal.pass_each-returns-in_err-pass_property-clause-finds
@@ -73,23 +72,19 @@ pass_each-returns-clause-finds t c rows base above left es at is stand =
     (each_end rows base above left c.args.trail.now.visits l.trail.visits es l.place-index (list_end c.args.list.now es l.place-index is c.loop-place-test.false) (l.invariant.did rows base above left es at is stand), tt)
 
 pub pass_property-returns-in_default-clause-finds : goal.pass_property-returns-in_default-clause-finds
-pass_property-returns-in_default-clause-finds t c rows base above left e at row = absurd (no_element c.args.place e at row (rw c.deref.ensures.value at c.in_default.ensures.lookup.3))
+pass_property-returns-in_default-clause-finds t c rows base above left e at row = absurd (no_element rows c.args.place e row (c.in_default.ensures rows base at.holds))
 
-pub pass_property-returns-then-not-element-clause-finds : goal.pass_property-returns-then-not-element-clause-finds
-pass_property-returns-then-not-element-clause-finds t c rows base above left e at row =
-    let lookup = rw c.deref.ensures.value at c.in-Some.ensures.lookup.3 in
-    let found = slice_get-get_or c.args.kept.now.elements.items c.args.place c.in-Some.element.now lookup.0 ∙ ap Some (sym (lookup.1 c.in-Some.element.now)) in
-    let shown = shown_in c.args.place c.in-Some.element.now e at row found in
-    (plain_passed rows base above left e c.args.trail.now.visits (sym shown.is_item ∙ c.if-not-element.true), tt)
+pub pass_property-returns-then-not-is_item_at-clause-finds : goal.pass_property-returns-then-not-is_item_at-clause-finds
+pass_property-returns-then-not-is_item_at-clause-finds t c rows base above left e at row =
+    (plain_passed rows base above left e c.args.trail.now.visits (sym (c.is_item_at.ensures rows base e at.holds row) ∙ c.if-not-is_item_at.true), tt)
 
 pub pass_property-returns-clause-finds : goal.pass_property-returns-clause-finds
 pass_property-returns-clause-finds t c rows base above left e at row =
-    let lookup = rw c.deref.ensures.value at c.in-Some.ensures.lookup.3 in
-    let found = slice_get-get_or c.args.kept.now.elements.items c.args.place c.in-Some.element.now lookup.0 ∙ ap Some (sym (lookup.1 c.in-Some.element.now)) in
-    let shown = shown_in c.args.place c.in-Some.element.now e at row found in
-    let item = sym shown.is_item ∙ c.if-not-element.false in
+    let found = is_element c.args.kept.now rows c.args.place c.in-Some.element e row (c.in-Some.ensures rows base at.holds) in
+    let shown = found.shown in
+    let item = sym (c.is_item_at.ensures rows base e at.holds row) ∙ c.if-not-is_item_at.false in
     item_passed rows base above left e c.args.trail.now.visits c.pass_times.new.trail.visits c.count.result c.pass_times.result
-    (c.count.ensures ∙ counted c.args.kept.now.words c.in-Some.element.now.names (names_of e) shown.names) item (c.pass_times.ensures.finds rows base above left e at row found item)
+    (c.count.ensures ∙ counted c.args.kept.now.words c.in-Some.element.names (names_of e) shown.names) item (c.pass_times.ensures.finds rows base above left e at row found item)
 
 pub pass_times-returns-in_err-pass-clause-finds : goal.pass_times-returns-in_err-pass-clause-finds
 pass_times-returns-in_err-pass-clause-finds t c rows base above left root at row found item =

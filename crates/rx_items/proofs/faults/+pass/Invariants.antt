@@ -4,7 +4,7 @@ use Rattle.rx_terms.specs.Text.{Chars}
 use Rattle.rx_microdata.specs.Elements.{Placed, is_item}
 use Rattle.rx_microdata.specs.Visits.{Visit, visits_from}
 use Rattle.rx_item_table.specs.Rows.{properties_in}
-use Rattle.rx_item_properties.specs.Held.{AllStand, places}
+use Rattle.rx_item_properties.specs.Held.{IsElement, AllStand, places}
 use Rattle.rx_items.specs.Expanding.{At, NoFault, again, steps_in, visits_in}
 use Rattle.rx_items.proofs.faults.+pass.Given as goal
 
@@ -38,6 +38,6 @@ invariant-pass_times-loop l = record {
   path : l.trail.path.items ≡ l.initial.trail.path.items;
   within : l.counter ≤ l.times;
   did : (rows : List Placed) (base : Chars) (above : Visit) (left : ℕ) (root : Placed) → At l.kept rows base l.initial.trail.path.items above left
-      → slice_get rows l.place ≡ Some root → slice_get l.kept.elements.items l.place ≡ Some l.element → is_item root ≡ true
+      → slice_get rows l.place ≡ Some root → IsElement l.kept rows l.place l.element root → is_item root ≡ true
       → NoFault l.initial.trail.visits (again l.counter (visits_from (properties_in rows) (suc left) above root)) l.trail.visits;
 }

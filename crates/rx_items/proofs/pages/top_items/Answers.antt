@@ -1,5 +1,5 @@
 use Rattle.std.proofs.Common.{◌∙◌, ◌<◌, ◌≤◌, ℕ, List, length, ap, subst}
-use Rattle.rx_item_properties.specs.declared.kept.Element.{Element}
+use Rattle.rx_item_table.specs.declared.rows.Row.{Row}
 use Rattle.rx_items.specs.Pages.{TopsGive}
 use Rattle.rx_items.proofs.VisitLemmas.{err_told}
 use Rattle.rx_items.proofs.PageLemmas.{as_long, row_there, tops_err, top_on, tops_end}
@@ -8,7 +8,7 @@ use Rattle.rx_items.proofs.pages.top_items.Goals as goal
 pub returns-in_err-add_top : goal.returns-in_err-add_top
 returns-in_err-add_top c rows base holds =
     let l = c.loop-place in
-    let lt = subst (λ (n : ℕ). l.place < n) (ap (λ (l : List Element). length l) c.as_slice-place-end.ensures.value ∙ as_long c.args.kept.now rows base holds) c.loop-place-test.true in
+    let lt = subst (λ (n : ℕ). l.place < n) (ap (λ (l : List Row). length l) c.as_slice-place-end.ensures.value ∙ as_long c.args.kept.now rows base holds) c.loop-place-test.true in
     let r = row_there rows l.place lt in
     err_told (λ r. TopsGive rows base r) c.from_residual.result c.in_err-add_top.field-0.0 c.from_residual.ensures.1
     (tops_err rows base l.place l.trail.visits r.row c.in_err-add_top.field-0.0 lt r.is (l.invariant.did rows base holds).no_fault (c.in_err-add_top.ensures.finds rows base r.row holds l.invariant.path r.row_is))
@@ -19,7 +19,7 @@ loop-place-preserved c =
     record {
       path = c.in_ok-add_top.ensures.path ∙ l.invariant.path;
       did = λ rows base holds.
-          let lt = subst (λ (n : ℕ). l.place < n) (ap (λ (l : List Element). length l) c.as_slice-place-end.ensures.value ∙ as_long c.args.kept.now rows base holds) c.loop-place-test.true in
+          let lt = subst (λ (n : ℕ). l.place < n) (ap (λ (l : List Row). length l) c.as_slice-place-end.ensures.value ∙ as_long c.args.kept.now rows base holds) c.loop-place-test.true in
           let r = row_there rows l.place lt in
           let done = c.in_ok-add_top.ensures.finds rows base r.row holds l.invariant.path r.row_is in
           top_on rows base l.place l.trail.visits c.add_top.new.trail.visits r.row l.items.items c.add_top.new.items.items lt r.is (l.invariant.did rows base holds) done.0 done.1;
@@ -28,5 +28,5 @@ loop-place-preserved c =
 pub returns : goal.returns
 returns c rows base holds =
     let l = c.loop-place in
-    let over = subst (λ (n : ℕ). n ≤ l.place) (ap (λ (l : List Element). length l) c.as_slice-place-end.ensures.value ∙ as_long c.args.kept.now rows base holds) c.loop-place-test.false in
+    let over = subst (λ (n : ℕ). n ≤ l.place) (ap (λ (l : List Row). length l) c.as_slice-place-end.ensures.value ∙ as_long c.args.kept.now rows base holds) c.loop-place-test.false in
     tops_end rows base l.place l.trail.visits l.items.items over (l.invariant.did rows base holds)

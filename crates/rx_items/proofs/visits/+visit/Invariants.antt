@@ -5,8 +5,8 @@ use Rattle.serde_json.specs.View.{members_view}
 use Rattle.rx_terms.specs.Text.{Chars}
 use Rattle.rx_microdata.specs.Elements.{Placed, names_of}
 use Rattle.rx_microdata.specs.Visits.{Visit}
-use Rattle.rx_item_properties.specs.Held.{AllStand, places}
-use Rattle.rx_items.specs.Expanding.{At, Did, Step, with_name, steps_in}
+use Rattle.rx_item_properties.specs.Held.{IsElement, AllStand, places}
+use Rattle.rx_items.specs.Expanding.{At, StepsTaken, Step, with_name, steps_in}
 use Rattle.rx_items.proofs.visits.+visit.Given as goal
 
 abbrev pub decreases-visit : goal.decreases-visit
@@ -43,14 +43,14 @@ abbrev pub invariant-fill-loop-place : goal.invariant-fill-loop-place
 invariant-fill-loop-place l = record {
   path : l.trail.path.items ≡ l.initial.trail.path.items;
   did : (rows : List Placed) (base : Chars) (above : Visit) (left : ℕ) (es : List Placed) → At l.kept rows base l.initial.trail.path.items above left → l.list ≡ places es → AllStand rows es
-      → members_view l.initial.group.entries ≡ no_members → Did rows base above left l.initial.trail.visits (steps_in (take l.place-index es)) l.trail.visits (members_view l.group.entries);
+      → members_view l.initial.group.entries ≡ no_members → StepsTaken rows base above left l.initial.trail.visits (steps_in (take l.place-index es)) l.trail.visits (members_view l.group.entries);
 }
 
 abbrev pub invariant-add_each-loop-name : goal.invariant-add_each-loop-name
 invariant-add_each-loop-name l = record {
   path : l.trail.path.items ≡ l.initial.trail.path.items;
   did : (rows : List Placed) (base : Chars) (above : Visit) (left : ℕ) (e : Placed) (done : List Step) (start : ℕ) → At l.kept rows base l.initial.trail.path.items above left
-      → slice_get rows l.place ≡ Some e → slice_get l.kept.elements.items l.place ≡ Some l.element → l.names ≡ names_of e
-      → Did rows base above left start done l.initial.trail.visits (members_view l.initial.group.entries)
-      → Did rows base above left start (done ++ map (with_name e) (take l.name-index l.names)) l.trail.visits (members_view l.group.entries);
+      → slice_get rows l.place ≡ Some e → IsElement l.kept rows l.place l.element e → l.names ≡ names_of e
+      → StepsTaken rows base above left start done l.initial.trail.visits (members_view l.initial.group.entries)
+      → StepsTaken rows base above left start (done ++ map (with_name e) (take l.name-index l.names)) l.trail.visits (members_view l.group.entries);
 }

@@ -1,18 +1,17 @@
 use Rattle.std.proofs.Common.{◌∙◌, ◌++◌, ap, sym, Some, None, append_assoc}
-use Rattle.std.proofs.lemmas.Option.{slice_get-get_or}
 use Rattle.rx_json_text.specs.Tokens.{data_tokens}
 use Rattle.rx_microdata.specs.Facts.{said}
 use Rattle.rx_microdata.specs.Json.{string_of, json_of_item}
 use Rattle.rx_item_table.specs.Rows.{properties_in}
-use Rattle.rx_item_properties.proofs.HoldLemmas.{shows_at, all_stand}
+use Rattle.rx_item_properties.proofs.HoldLemmas.{all_stand}
 use Rattle.rx_items.specs.Named.{keys_in, keys_seen, name_seen, opening, tokens_behind, value_at, grouped_at}
 use Rattle.rx_items.proofs.NameLemmas.{by_name_told}
-use Rattle.rx_items.proofs.WritingLemmas.{then_ok, row_of, no_row, object_made, item_told, value_none, value_item, value_plain, data_told}
+use Rattle.rx_items.proofs.WritingLemmas.{then_ok, object_made, item_told, value_none, value_item, value_plain, data_told}
 use Rattle.rx_items.proofs.writing.+write_item.Goals as goal
 
 pub write_item-returns : goal.write_item-returns
 write_item-returns t c rows base root holds row found item =
-    let shown = shows_at c.args.kept.now.words c.args.kept.now.text c.args.kept.now.times.items c.args.kept.now.elements.items rows c.args.place c.args.element.now root holds.shown found row in
+    let shown = found.shown in
     then_ok c.end_object.result
     (λ ended. item_told rows base c.args.kept.now.base c.args.left c.args.out.now c.begin_object.new.self c.write_id.new.out c.key.new.self c.write_properties.new.out c.write_types.new.out c.end_object.new.self root
     c.if-left-eq0.false (all_stand _ rows holds.numbered) holds.base_is c.in_ok-begin_object.ensures (c.in_ok-write_id.ensures root.facts.item_id shown.item_id) c.in_ok-key.ensures
@@ -37,29 +36,23 @@ write_named-returns t c rows base holds =
 
 pub write_value-returns-in_default : goal.write_value-returns-in_default
 write_value-returns-in_default t c rows base holds =
-    let none = value_none rows base c.args.left c.args.place (no_row c.args.kept.now rows base c.args.place holds (rw c.deref.ensures.value at c.in_default.ensures.lookup.3)) in
+    let none = value_none rows base c.args.left c.args.place (c.in_default.ensures rows base holds) in
     then_ok c.null.result (λ wrote. wrote ∙ ap (λ ts. c.args.out.now ++ ts) (sym none)) c.null.ensures
 
 pub write_value-returns-then-element : goal.write_value-returns-then-element
 write_value-returns-then-element t c rows base holds =
-    let lookup = rw c.deref.ensures.value at c.in-Some.ensures.lookup.3 in
-    let found = slice_get-get_or c.args.kept.now.elements.items c.args.place c.in-Some.element.now lookup.0 ∙ ap Some (sym (lookup.1 c.in-Some.element.now)) in
-    let r = row_of c.args.kept.now rows base c.args.place holds lookup.0 in
-    let shown = shows_at c.args.kept.now.words c.args.kept.now.text c.args.kept.now.times.items c.args.kept.now.elements.items rows c.args.place c.in-Some.element.now r.row holds.shown found r.row_is in
-    let item = sym shown.is_item ∙ c.if-element.true in
+    let at = c.in-Some.ensures rows base holds in
+    let item = sym at.2.shown.is_item ∙ c.if-element.true in
     then_ok c.write_item.result
-    (λ wrote. data_told c.args.out.now c.write_item.new.out (json_of_item (properties_in rows) base c.args.left r.row) (value_at rows base c.args.left c.args.place)
-    (value_item rows base c.args.left c.args.place r.row r.row_is item) wrote)
-    (c.write_item.ensures rows base r.row holds r.row_is found item)
+    (λ wrote. data_told c.args.out.now c.write_item.new.out (json_of_item (properties_in rows) base c.args.left at.0) (value_at rows base c.args.left c.args.place)
+    (value_item rows base c.args.left c.args.place at.0 at.1 item) wrote)
+    (c.write_item.ensures rows base at.0 holds at.1 at.2 item)
 
 pub write_value-returns : goal.write_value-returns
 write_value-returns t c rows base holds =
-    let lookup = rw c.deref.ensures.value at c.in-Some.ensures.lookup.3 in
-    let found = slice_get-get_or c.args.kept.now.elements.items c.args.place c.in-Some.element.now lookup.0 ∙ ap Some (sym (lookup.1 c.in-Some.element.now)) in
-    let r = row_of c.args.kept.now rows base c.args.place holds lookup.0 in
-    let shown = shows_at c.args.kept.now.words c.args.kept.now.text c.args.kept.now.times.items c.args.kept.now.elements.items rows c.args.place c.in-Some.element.now r.row holds.shown found r.row_is in
-    let plain = sym shown.is_item ∙ c.if-element.false in
+    let at = c.in-Some.ensures rows base holds in
+    let plain = sym at.2.shown.is_item ∙ c.if-element.false in
     then_ok c.write_plain.result
-    (λ wrote. data_told c.args.out.now c.write_plain.new.out (string_of (said c.args.kept.now.base r.row.facts.value)) (value_at rows base c.args.left c.args.place)
-    (ap (λ b. string_of (said b r.row.facts.value)) holds.base_is ∙ value_plain rows base c.args.left c.args.place r.row r.row_is plain) wrote)
-    (c.write_plain.ensures r.row.facts.value shown.value)
+    (λ wrote. data_told c.args.out.now c.write_plain.new.out (string_of (said c.args.kept.now.base at.0.facts.value)) (value_at rows base c.args.left c.args.place)
+    (ap (λ b. string_of (said b at.0.facts.value)) holds.base_is ∙ value_plain rows base c.args.left c.args.place at.0 at.1 plain) wrote)
+    (c.write_plain.ensures at.0.facts.value at.2.shown.value)

@@ -1,5 +1,5 @@
 use Rattle.std.proofs.Common.{◌∙◌, ◌<◌, ◌≤◌, ℕ, List, length, ap, subst}
-use Rattle.rx_item_properties.specs.declared.kept.Element.{Element}
+use Rattle.rx_item_table.specs.declared.rows.Row.{Row}
 use Rattle.rx_items.proofs.PageLemmas.{as_long, row_there}
 use Rattle.rx_items.proofs.WritingLemmas.{tops_on, tops_told}
 use Rattle.rx_items.proofs.writing.write_tops.Goals as goal
@@ -7,12 +7,12 @@ use Rattle.rx_items.proofs.writing.write_tops.Goals as goal
 pub loop-place-preserved : goal.loop-place-preserved
 loop-place-preserved c rows base holds =
     let l = c.loop-place in
-    let lt = subst (λ (n : ℕ). l.place < n) (ap (λ (l : List Element). length l) c.as_slice-place-end.ensures.value ∙ as_long c.args.kept.now rows base holds) c.loop-place-test.true in
+    let lt = subst (λ (n : ℕ). l.place < n) (ap (λ (l : List Row). length l) c.as_slice-place-end.ensures.value ∙ as_long c.args.kept.now rows base holds) c.loop-place-test.true in
     let r = row_there rows l.place lt in
     tops_on rows base c.args.out.now l.out c.write_top.new.out l.place r.row lt r.is (l.invariant rows base holds) (c.in_ok-write_top.ensures rows base r.row holds r.row_is)
 
 pub returns : goal.returns
 returns c rows base holds =
     let l = c.loop-place in
-    let over = subst (λ (n : ℕ). n ≤ l.place) (ap (λ (l : List Element). length l) c.as_slice-place-end.ensures.value ∙ as_long c.args.kept.now rows base holds) c.loop-place-test.false in
+    let over = subst (λ (n : ℕ). n ≤ l.place) (ap (λ (l : List Row). length l) c.as_slice-place-end.ensures.value ∙ as_long c.args.kept.now rows base holds) c.loop-place-test.false in
     tops_told rows base c.args.out.now l.out l.place over (l.invariant rows base holds)
