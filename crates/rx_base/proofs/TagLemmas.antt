@@ -3,10 +3,9 @@ use Rattle.std.proofs.Common.{◌≡◌, ◌∙◌, ap, sym, refl, Option, Some,
 use Rattle.std.specs.List.{list_all}
 use Rattle.std.specs.Str.{chars}
 use Rattle.rx_terms.specs.Ascii.{is_ascii}
-use Rattle.rx_terms.specs.Text.{Chars}
+use Rattle.rx_terms.specs.Text.{Chars, seen_slice}
 use Rattle.rx_terms.proofs.CharLemmas.{ascii-chars}
 use Rattle.rx_rdfa.specs.Tree.{value_of_first}
-use Rattle.rx_refs.specs.Views.{seen_slice}
 use Rattle.rx_grammar.specs.Tokens.{value_of}
 
 same-attribute : (attributes : List (Chars × Chars)) (name : Chars) → value_of attributes name ≡ value_of_first attributes name

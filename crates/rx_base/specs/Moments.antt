@@ -20,7 +20,8 @@ children_of line children (sign ∷ signs) = children_of (line_on line sign) (ch
 -- root so far.
 pub data Moment : List Tag → List Tag → Sign → Option Chars → Type 0 where
   -- in the head, which is the root's first child, a base with href begins
-  base_begins : (root head : Tag) (t : StartTag) (href : Chars) → bytes_eq head.name (codes "head") ≡ true → base_href (read_tag t) ≡ Some href → Moment (head ∷ root ∷ []) (head ∷ []) (begun t) (Some href)
+  base_begins : (root head : Tag) (t : StartTag) (href : Chars) → bytes_eq head.name (codes "head") ≡ true → base_href (read_tag t) ≡ Some href
+      → Moment (head ∷ root ∷ []) (head ∷ []) (begun t) (Some href)
   -- this head ends
   head_ends : (root head : Tag) → bytes_eq head.name (codes "head") ≡ true → Moment (head ∷ root ∷ []) (head ∷ []) finished None
   -- the root's first child begins, and is no head

@@ -1,5 +1,5 @@
 -- What is looked for, and what was found, as a machine's state.
-use Rattle.rx_refs.specs.Views.{seen_slice}
+use Rattle.rx_terms.specs.Text.{seen_slice}
 use Rattle.rx_base.specs.declared.seeking.Sought.{Sought}
 use Rattle.rx_base.specs.declared.seeking.Sought.TheVariants as looks
 use Rattle.rx_base.specs.declared.seeking.Clue.{Clue}

@@ -1,12 +1,12 @@
 -- What was read of a file, read by read.
 use Rattle.std.proofs.Common.{◌≡◌, ◌∙◌, ℕ, ◌+◌, ◌≤◌, ◌<◌, List, [], ◌∷◌, ◌++◌, length, take, sym, ap, refl, arith, Ok, Err, Some, append_assoc, length-append, length-take}
-use Rattle.rx_ports.specs.Told.{Told, Starts, Reads}
+use Rattle.rx_ports.specs.Shelves.{ShelfContent, Starts, Reads}
 use Rattle.rx_ports.specs.Files.{file_of}
 use Rattle.rx_ports.specs.declared.shelf.Failed.{Failed}
 use Rattle.rx_command.specs.Files.{HasRead, ReadsFile, ReadsOn, TakesSome, TakesOf, size_of}
 
 -- nothing of a started file was read
-pub read_start : (name bytes : List ℕ) (x y : Told) → bytes ≡ [] → Starts name (Ok tt) x y → HasRead name bytes x y
+pub read_start : (name bytes : List ℕ) (x y : ShelfContent) → bytes ≡ [] → Starts name (Ok tt) x y → HasRead name bytes x y
 read_start name bytes x y e s = record {
   files = s.files;
   file = s.left ∙ ap (λ b. Some (b ++ y.left)) (sym e);
@@ -19,7 +19,7 @@ empty_rest before now old [] f e l = refl
 empty_rest before now old (c ∷ new) f e l = absurd (omega (arith, ap length f, ap length e, length-append before old, length-append now (c ∷ new)))
 
 -- a read gave bytes, which were kept
-pub reads_on : (buf before now : List ℕ) (k : ℕ) (x y : Told) → Reads buf (Ok k) x y → 0 < length buf → k ≤ length buf → now ≡ before ++ take k buf → ReadsOn before now k x y
+pub reads_on : (buf before now : List ℕ) (k : ℕ) (x y : ShelfContent) → Reads buf (Ok k) x y → 0 < length buf → k ≤ length buf → now ≡ before ++ take k buf → ReadsOn before now k x y
 reads_on buf before now k x y r room within e = record {
   files = r.files;
   bytes = ap (λ b. before ++ b) r.left ∙ sym (append_assoc before _ _) ∙ ap (λ b. b ++ y.left) (sym e);
@@ -29,7 +29,7 @@ reads_on buf before now k x y r room within e = record {
 }
 
 -- a read went on
-pub read_more : (name bytes next : List ℕ) (k : ℕ) (x y z : Told) → HasRead name bytes x y → ReadsOn bytes next k y z → HasRead name next x z
+pub read_more : (name bytes next : List ℕ) (k : ℕ) (x y z : ShelfContent) → HasRead name bytes x y → ReadsOn bytes next k y z → HasRead name next x z
 read_more name bytes next k x y z h r = record {
   files = r.files ∙ h.files;
   file = h.file ∙ ap Some r.bytes;
@@ -37,7 +37,7 @@ read_more name bytes next k x y z h r = record {
 }
 
 -- a read gave nothing
-pub read_end : (name bytes next : List ℕ) (limit k : ℕ) (x y z : Told) → HasRead name bytes x y → ReadsOn bytes next k y z → k ≡ 0 → length next ≤ limit + 1
+pub read_end : (name bytes next : List ℕ) (limit k : ℕ) (x y z : ShelfContent) → HasRead name bytes x y → ReadsOn bytes next k y z → k ≡ 0 → length next ≤ limit + 1
     → ReadsFile name limit next x z
 read_end name bytes next limit k x y z h r none most = record {
   read = read_more name bytes next k x y z h r;
@@ -46,12 +46,12 @@ read_end name bytes next limit k x y z h r none most = record {
 }
 
 -- a byte past the limit was read
-pub read_past : (name bytes : List ℕ) (limit : ℕ) (x y : Told) → HasRead name bytes x y → limit < length bytes → length bytes ≤ limit + 1 → ReadsFile name limit bytes x y
+pub read_past : (name bytes : List ℕ) (limit : ℕ) (x y : ShelfContent) → HasRead name bytes x y → limit < length bytes → length bytes ≤ limit + 1 → ReadsFile name limit bytes x y
 read_past name bytes limit x y h past most = record { read = h; most = most; whole = λ l. absurd (omega arith) }
 
 -- ---- how much was taken
 
-pub reads_some : (buf : List ℕ) (k : ℕ) (x y : Told) → Reads buf (Ok k) x y → k ≤ length buf → TakesSome (length buf) x y
+pub reads_some : (buf : List ℕ) (k : ℕ) (x y : ShelfContent) → Reads buf (Ok k) x y → k ≤ length buf → TakesSome (length buf) x y
 reads_some buf k x y r within = record {
   files = r.files;
   sum = omega (arith, ap length r.left, length-append (take k buf) y.left, length-take k buf, r.taken);
@@ -59,13 +59,13 @@ reads_some buf k x y r within = record {
 }
 
 -- nothing was started
-pub takes_none : (name : List ℕ) (limit : ℕ) (error : Failed) (x y : Told) → Starts name (Err error) x y → TakesOf name limit x y
+pub takes_none : (name : List ℕ) (limit : ℕ) (error : Failed) (x y : ShelfContent) → Starts name (Err error) x y → TakesOf name limit x y
 takes_none name limit error x y s = record { files = s.files; file = omega (arith, s.taken); most = omega (arith, s.taken) }
 
-size-read : (name bytes : List ℕ) (x y : Told) → HasRead name bytes x y → size_of (file_of x.files name) ≡ length bytes + length y.left
+size-read : (name bytes : List ℕ) (x y : ShelfContent) → HasRead name bytes x y → size_of (file_of x.files name) ≡ length bytes + length y.left
 size-read name bytes x y h = ap size_of h.file ∙ length-append bytes y.left
 
-pub takes_read : (name bytes : List ℕ) (limit : ℕ) (x y : Told) → HasRead name bytes x y → length bytes ≤ limit + 1 → TakesOf name limit x y
+pub takes_read : (name bytes : List ℕ) (limit : ℕ) (x y : ShelfContent) → HasRead name bytes x y → length bytes ≤ limit + 1 → TakesOf name limit x y
 takes_read name bytes limit x y h most = record {
   files = h.files;
   file = omega (arith, h.taken, size-read name bytes x y h);
@@ -73,7 +73,7 @@ takes_read name bytes limit x y h most = record {
 }
 
 -- some of the file was read, and some more was taken and lost
-pub takes_more : (name bytes : List ℕ) (limit room : ℕ) (x y z : Told) → HasRead name bytes x y → TakesSome room y z → length bytes + room ≤ limit + 1 → TakesOf name limit x z
+pub takes_more : (name bytes : List ℕ) (limit room : ℕ) (x y z : ShelfContent) → HasRead name bytes x y → TakesSome room y z → length bytes + room ≤ limit + 1 → TakesOf name limit x z
 takes_more name bytes limit room x y z h t within = record {
   files = t.files ∙ h.files;
   file = omega (arith, h.taken, size-read name bytes x y h, t.sum);

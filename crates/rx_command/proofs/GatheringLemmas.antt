@@ -3,7 +3,7 @@ use Rattle.std.proofs.Common.{◌≡◌, ◌∙◌, ◌+◌, ◌-◌, ◌≤◌,
 use Rattle.std.specs.Prelude.{slice_get}
 use Rattle.rx_ports.specs.Counts.{Rose}
 use Rattle.rx_ports.specs.Files.{file_of}
-use Rattle.rx_ports.specs.Told.{Told, Moves, Lacks}
+use Rattle.rx_ports.specs.Shelves.{ShelfContent, Moves, Lacks}
 use Rattle.rx_ports.proofs.MoveLemmas.{moves_then}
 use Rattle.rx_chars.specs.declared.syntax.Syntax.{Syntax}
 use Rattle.rx_grammar.specs.declared.faults.Fault.{Fault}
@@ -117,14 +117,14 @@ judged_graphs syntax context files (one ∷ listed) (page ∷ pages) a =
 
 -- ---- a page
 
-both_moves : {first second : Told → Told → Type 0} {a b : Option Told} (both : Told → Told → Type 0) → ((x y : Told) → first x y → second x y → both x y) → Moves first a b → Moves second a b → Moves both a b
+both_moves : {first second : ShelfContent → ShelfContent → Type 0} {a b : Option ShelfContent} (both : ShelfContent → ShelfContent → Type 0) → ((x y : ShelfContent) → first x y → second x y → both x y) → Moves first a b → Moves second a b → Moves both a b
 both_moves both f m n = record { same = m.same; taken = λ x y p q. f x y (m.taken x y p q) (n.taken x y p q) }
 
-pub takes_nothing : (context : Context) (syntax : Syntax) (one : Listed) (x : Told) → TakesPart context syntax one x x
+pub takes_nothing : (context : Context) (syntax : Syntax) (one : Listed) (x : ShelfContent) → TakesPart context syntax one x x
 takes_nothing context syntax one x = record { files = refl; part = 0; is = nothing_of (IsThat context) syntax x.files one; taken = omega arith }
 
 -- nor of any of them
-pub none_taken : (context : Context) (syntax : Syntax) (listed : List Listed) (x : Told) → TakesParts context syntax listed x x
+pub none_taken : (context : Context) (syntax : Syntax) (listed : List Listed) (x : ShelfContent) → TakesParts context syntax listed x x
 none_taken context syntax listed x =
     let none : total (none_of listed) ≡ 0 = total_none listed in
     record { files = refl; parts = none_of listed; are = are_none (IsThat context) syntax x.files listed; taken = omega (arith, none) }
@@ -140,7 +140,7 @@ module _ (a : Approach) (syntax : Syntax) (context : Context) (address page name
   same_way = ap (λ (b : Approach). way_of b) same_approach
 
   -- how much of it was read
-  part_of : (x y : Told) → TakesOf name 1073807359 x y → TakesToFirst (way_of a) name x y → TakesPart context syntax One x y
+  part_of : (x y : ShelfContent) → TakesOf name 1073807359 x y → TakesToFirst (way_of a) name x y → TakesPart context syntax One x y
   part_of x y t f =
       let size : size_of (file_of x.files name) ≡ size_of (file_of x.files (encode_utf8_all page)) = ap (λ z. size_of (file_of x.files z)) named in
       record {
@@ -158,11 +158,11 @@ module _ (a : Approach) (syntax : Syntax) (context : Context) (address page name
         taken = omega arith;
       }
 
-  pub page_takes : (told now : Option Told) → Moves (TakesOf name 1073807359) told now → Moves (TakesToFirst (way_of a) name) told now → Moves (TakesPart context syntax One) told now
+  pub page_takes : (told now : Option ShelfContent) → Moves (TakesOf name 1073807359) told now → Moves (TakesToFirst (way_of a) name) told now → Moves (TakesPart context syntax One) told now
   page_takes told now t f = both_moves (TakesPart context syntax One) (λ x y p q. part_of x y p q) t f
 
   -- what it gives
-  gives_triples : (list : List CodeTriple) (x y : Told) → ReadsWhole (GivesList a.syntax a.context a.address) name list x y → Judges GivesTriples syntax context x.files One (accepted_page address (numbered nat_eq (copied nat_eq (triples_seen list))))
+  gives_triples : (list : List CodeTriple) (x y : ShelfContent) → ReadsWhole (GivesList a.syntax a.context a.address) name list x y → Judges GivesTriples syntax context x.files One (accepted_page address (numbered nat_eq (copied nat_eq (triples_seen list))))
   gives_triples list x y c =
       let triples : List (Triple ℕ) = numbered nat_eq (copied nat_eq (triples_seen list)) in
       let own : GivesTriples a.syntax a.context a.address c.bytes triples =
@@ -174,7 +174,7 @@ module _ (a : Approach) (syntax : Syntax) (context : Context) (address page name
         judged = subst (λ (b : Approach). GivesTriples b.syntax b.context b.address c.bytes triples) same_approach own;
       }
 
-  gives_fault : (fault : Fault) (x y : Told) → Finds (way_of a) name fault x y → Judges GivesTriples syntax context x.files One (refused_page address fault)
+  gives_fault : (fault : Fault) (x y : ShelfContent) → Finds (way_of a) name fault x y → Judges GivesTriples syntax context x.files One (refused_page address fault)
   gives_fault fault x y c = record {
     bytes = c.bytes;
     file = ap (λ z. file_of x.files z) (sym named) ∙ c.file;
@@ -182,13 +182,13 @@ module _ (a : Approach) (syntax : Syntax) (context : Context) (address page name
     judged = subst (λ (w : Way). HasFirst w c.bytes fault) same_way c.is;
   }
 
-  pub adds_accepted : (told now : Option Told) (before after : List Page) (list : List CodeTriple) → Moves (TakesOf name 1073807359) told now → Moves (TakesToFirst (way_of a) name) told now
+  pub adds_accepted : (told now : Option ShelfContent) (before after : List Page) (list : List CodeTriple) → Moves (TakesOf name 1073807359) told now → Moves (TakesToFirst (way_of a) name) told now
       → Moves (ReadsWhole (GivesList a.syntax a.context a.address) name list) told now → after ≡ before ++ accepted_page address (numbered nat_eq (copied nat_eq (triples_seen list))) ∷ [] → AddsPage context syntax One before after told now
   adds_accepted told now before after list t f m e =
       let page : Page = accepted_page address (numbered nat_eq (copied nat_eq (triples_seen list))) in
       record { page = page; adds = e; reads = both_moves (ReadsListed context syntax One page) (λ x y c p. record { judged = gives_triples list x y c; takes = p }) m (page_takes told now t f) }
 
-  pub adds_refused : (told now : Option Told) (before after : List Page) (fault : Fault) → Moves (TakesOf name 1073807359) told now → Moves (TakesToFirst (way_of a) name) told now
+  pub adds_refused : (told now : Option ShelfContent) (before after : List Page) (fault : Fault) → Moves (TakesOf name 1073807359) told now → Moves (TakesToFirst (way_of a) name) told now
       → Moves (Finds (way_of a) name fault) told now → after ≡ before ++ refused_page address fault ∷ [] → AddsPage context syntax One before after told now
   adds_refused told now before after fault t f m e =
       let page : Page = refused_page address fault in
@@ -197,7 +197,7 @@ module _ (a : Approach) (syntax : Syntax) (context : Context) (address page name
 -- ---- page after page
 
 module _ (context : Context) (syntax : Syntax) where
-  part_then : (listed : List Listed) (one : Listed) (x y z : Told) → TakesParts context syntax listed x y → TakesPart context syntax one y z → TakesParts context syntax (listed ++ one ∷ []) x z
+  part_then : (listed : List Listed) (one : Listed) (x y z : ShelfContent) → TakesParts context syntax listed x y → TakesPart context syntax one y z → TakesParts context syntax (listed ++ one ∷ []) x z
   part_then listed one x y z p q =
       let is : IsPart (IsThat context) syntax x.files one q.part = subst (λ (f : FileList). IsPart (IsThat context) syntax f one q.part) p.files q.is in
       let sum : total (p.parts ++ q.part ∷ []) ≡ total p.parts + (q.part + 0) = total_both p.parts (q.part ∷ []) in
@@ -209,7 +209,7 @@ module _ (context : Context) (syntax : Syntax) where
       }
 
   -- nothing of those behind
-  part_alone : (listed rest : List Listed) (x y : Told) → TakesParts context syntax listed x y → TakesParts context syntax (listed ++ rest) x y
+  part_alone : (listed rest : List Listed) (x y : ShelfContent) → TakesParts context syntax listed x y → TakesParts context syntax (listed ++ rest) x y
   part_alone listed rest x y p =
       let sum : total (p.parts ++ none_of rest) ≡ total p.parts + total (none_of rest) = total_both p.parts (none_of rest) in
       record {
@@ -219,30 +219,30 @@ module _ (context : Context) (syntax : Syntax) where
         taken = omega (arith, p.taken, sum);
       }
 
-  read_then : (listed : List Listed) (one : Listed) (pages : List Page) (page : Page) (x y z : Told) → ReadsEach context syntax listed pages x y → ReadsListed context syntax one page y z → ReadsEach context syntax (listed ++ one ∷ []) (pages ++ page ∷ []) x z
+  read_then : (listed : List Listed) (one : Listed) (pages : List Page) (page : Page) (x y z : ShelfContent) → ReadsEach context syntax listed pages x y → ReadsListed context syntax one page y z → ReadsEach context syntax (listed ++ one ∷ []) (pages ++ page ∷ []) x z
   read_then listed one pages page x y z r q =
       let judged : Judges GivesTriples syntax context x.files one page = subst (λ (f : FileList). Judges GivesTriples syntax context f one page) r.takes.files q.judged in
       record { judged = judges_both GivesTriples syntax context x.files listed (one ∷ []) pages (page ∷ []) r.judged (judged, tt); takes = part_then listed one x y z r.takes q.takes }
 
-  reads_none : (x : Told) → ReadsEach context syntax [] [] x x
+  reads_none : (x : ShelfContent) → ReadsEach context syntax [] [] x x
   reads_none x = record { judged = tt; takes = record { files = refl; parts = []; are = tt; taken = omega arith } }
 
   -- before the first
-  pub none_added : (now : List Page) (told : Option Told) → AddsPages context syntax [] now now told told
+  pub none_added : (now : List Page) (told : Option ShelfContent) → AddsPages context syntax [] now now told told
   none_added now told = record { pages = []; adds = sym (end now); reads = record { same = refl; taken = λ x y p q. at x y (some_told x y (sym p ∙ q)) } }
     where
       end : (xs : List Page) → xs ++ [] ≡ xs
       end [] = refl
       end (x ∷ xs) = ap (λ z. x ∷ z) (end xs)
 
-      some_told : (x y : Told) → ◌≡◌ {A = Option Told} (Some x) (Some y) → x ≡ y
+      some_told : (x y : ShelfContent) → ◌≡◌ {A = Option ShelfContent} (Some x) (Some y) → x ≡ y
       some_told x y e = cc
 
-      at : (x y : Told) → x ≡ y → ReadsEach context syntax [] [] x y
-      at x y e = subst (λ (z : Told). ReadsEach context syntax [] [] x z) e (reads_none x)
+      at : (x y : ShelfContent) → x ≡ y → ReadsEach context syntax [] [] x y
+      at x y e = subst (λ (z : ShelfContent). ReadsEach context syntax [] [] x z) e (reads_none x)
 
   -- one more
-  pub next_added : (listed : List Listed) (i : ℕ) (one : Listed) (before now next : List Page) (told mid late : Option Told) → slice_get listed i ≡ Some one → AddsPages context syntax (take i listed) before now told mid → AddsPage context syntax one now next mid late
+  pub next_added : (listed : List Listed) (i : ℕ) (one : Listed) (before now next : List Page) (told mid late : Option ShelfContent) → slice_get listed i ≡ Some one → AddsPages context syntax (take i listed) before now told mid → AddsPage context syntax one now next mid late
       → AddsPages context syntax (take (i + 1) listed) before next told late
   next_added listed i one before now next told mid late at a p =
       subst (λ (ls : List Listed). AddsPages context syntax ls before next told late) (front_more listed i one at)
@@ -253,14 +253,14 @@ module _ (context : Context) (syntax : Syntax) where
       })
 
   -- all
-  pub all_added : (listed : List Listed) (i : ℕ) (before now : List Page) (told late : Option Told) → length listed ≤ i → AddsPages context syntax (take i listed) before now told late → AddsPages context syntax listed before now told late
+  pub all_added : (listed : List Listed) (i : ℕ) (before now : List Page) (told late : Option ShelfContent) → length listed ≤ i → AddsPages context syntax (take i listed) before now told late → AddsPages context syntax listed before now told late
   all_added listed i before now told late l a = subst (λ (ls : List Listed). AddsPages context syntax ls before now told late) (all_of i listed l) a
 
-  pub all_taken : (listed : List Listed) (i : ℕ) (before now : List Page) (told late : Option Told) → length listed ≤ i → AddsPages context syntax (take i listed) before now told late → Moves (TakesParts context syntax listed) told late
+  pub all_taken : (listed : List Listed) (i : ℕ) (before now : List Page) (told late : Option ShelfContent) → length listed ≤ i → AddsPages context syntax (take i listed) before now told late → Moves (TakesParts context syntax listed) told late
   all_taken listed i before now told late l a = let all = all_added listed i before now told late l a in record { same = all.reads.same; taken = λ x y p q. (all.reads.taken x y p q).takes }
 
   -- those so far, and some of one more
-  pub some_taken : (listed : List Listed) (i : ℕ) (one : Listed) (before now : List Page) (told mid late : Option Told) → slice_get listed i ≡ Some one → AddsPages context syntax (take i listed) before now told mid → Moves (TakesPart context syntax one) mid late
+  pub some_taken : (listed : List Listed) (i : ℕ) (one : Listed) (before now : List Page) (told mid late : Option ShelfContent) → slice_get listed i ≡ Some one → AddsPages context syntax (take i listed) before now told mid → Moves (TakesPart context syntax one) mid late
       → Moves (TakesParts context syntax listed) told late
   some_taken listed i one before now told mid late at a p =
       moves_then (TakesParts context syntax listed)
@@ -274,7 +274,7 @@ lacks_at files [] i one e f = absurd (cc)
 lacks_at files (first ∷ listed) zero one e f = let same : first ≡ one = (cc) in inl (ap (λ (k : Listed). file_of files (encode_utf8_all k.page)) same ∙ f)
 lacks_at files (first ∷ listed) (suc i) one e f = inr (lacks_at files listed i one e f)
 
-lacks_listed : (context : Context) (syntax : Syntax) (front listed : List Listed) (pages : List Page) (i : ℕ) (one : Listed) (told mid : Option Told) → slice_get listed i ≡ Some one → Moves (ReadsEach context syntax front pages) told mid → Lacks mid (encode_utf8_all one.page)
+lacks_listed : (context : Context) (syntax : Syntax) (front listed : List Listed) (pages : List Page) (i : ℕ) (one : Listed) (told mid : Option ShelfContent) → slice_get listed i ≡ Some one → Moves (ReadsEach context syntax front pages) told mid → Lacks mid (encode_utf8_all one.page)
     → TellsThat (λ t. LacksPage t.files listed) told
 lacks_listed context syntax front listed pages i one told None at m l = absurd l
 lacks_listed context syntax front listed pages i one None (Some y) at m l = let e = m.same in absurd (cc)
@@ -283,7 +283,7 @@ lacks_listed context syntax front listed pages i one (Some x) (Some y) at m l =
     lacks_at x.files listed i one at (sym (ap (λ f. file_of f (encode_utf8_all one.page)) r.takes.files) ∙ l)
 
 -- a page that could not be read
-pub listed_failed : (context : Context) (syntax : Syntax) (listed : List Listed) (i : ℕ) (one : Listed) (before now : List Page) (told mid : Option Told) (m n k : ℕ) → slice_get listed i ≡ Some one → AddsPages context syntax (take i listed) before now told mid → m ≤ n
+pub listed_failed : (context : Context) (syntax : Syntax) (listed : List Listed) (i : ℕ) (one : Listed) (before now : List Page) (told mid : Option ShelfContent) (m n k : ℕ) → slice_get listed i ≡ Some one → AddsPages context syntax (take i listed) before now told mid → m ≤ n
     → Rose n k ⊎ Lacks mid (encode_utf8_all one.page) → Rose m k ⊎ TellsThat (λ t. LacksPage t.files listed) told
 listed_failed context syntax listed i one before now told mid m n k at a low (inl rose) = inl (rose_before m n k low rose)
 listed_failed context syntax listed i one before now told mid m n k at a low (inr lacks) = inr (lacks_listed context syntax (take i listed) listed a.pages i one told mid at a.reads lacks)
@@ -291,7 +291,7 @@ listed_failed context syntax listed i one before now told mid m n k at a low (in
 -- ---- the context file before them
 
 module _ (g : Gathering) where
-  pub context_taken : (x y : Told) → TakesContext g.context x y → TakesGathering g x y
+  pub context_taken : (x y : ShelfContent) → TakesContext g.context x y → TakesGathering g x y
   context_taken x y t =
       let none : total (none_of g.pages) ≡ 0 = total_none g.pages in
       record {
@@ -302,7 +302,7 @@ module _ (g : Gathering) where
         most = omega (arith, t.most, none);
       }
 
-  gathering_taken : (context : Context) (x y z : Told) → ReadsContext g.context context x y → TakesParts context g.syntax g.pages y z → TakesGathering g x z
+  gathering_taken : (context : Context) (x y z : ShelfContent) → ReadsContext g.context context x y → TakesParts context g.syntax g.pages y z → TakesGathering g x z
   gathering_taken context x y z r p =
       let here : AreParts (IsThat context) g.syntax x.files g.pages p.parts = subst (λ (f : FileList). AreParts (IsThat context) g.syntax f g.pages p.parts) r.takes.files p.are in
       record {
@@ -313,10 +313,10 @@ module _ (g : Gathering) where
         most = omega (arith, p.taken, r.takes.most);
       }
 
-  pub gathering_takes : (context : Context) (told mid late : Option Told) → Moves (ReadsContext g.context context) told mid → Moves (TakesParts context g.syntax g.pages) mid late → Moves (TakesGathering g) told late
+  pub gathering_takes : (context : Context) (told mid late : Option ShelfContent) → Moves (ReadsContext g.context context) told mid → Moves (TakesParts context g.syntax g.pages) mid late → Moves (TakesGathering g) told late
   gathering_takes context told mid late r p = moves_then (TakesGathering g) (λ x y z c q. gathering_taken context x y z c q) r p
 
-  pub gathers_pages : (context : Context) (before now : List Page) (told mid late : Option Told) → before ≡ [] → Moves (ReadsContext g.context context) told mid → AddsPages context g.syntax g.pages before now mid late → Moves (GathersPages g now) told late
+  pub gathers_pages : (context : Context) (before now : List Page) (told mid late : Option ShelfContent) → before ≡ [] → Moves (ReadsContext g.context context) told mid → AddsPages context g.syntax g.pages before now mid late → Moves (GathersPages g now) told late
   gathers_pages context before now told mid late none r a =
       let same : a.pages ≡ now = sym (a.adds ∙ ap (λ b. b ++ a.pages) none) in
       moves_then (GathersPages g now)
@@ -328,21 +328,21 @@ module _ (g : Gathering) where
             (subst (λ (f : FileList). JudgesEach GivesTriples g.syntax context f g.pages a.pages) c.takes.files q.judged);
       }) r a.reads
 
-  context_lacks : (told : Option Told) → TellsThat (LacksContext g.context) told → TellsThat (LacksOne g) told
+  context_lacks : (told : Option ShelfContent) → TellsThat (LacksContext g.context) told → TellsThat (LacksOne g) told
   context_lacks None l = l
   context_lacks (Some x) l = inl l
 
-  pub context_failed : (told : Option Told) (m n : ℕ) → Rose m n ⊎ TellsThat (LacksContext g.context) told → Rose m n ⊎ TellsThat (LacksOne g) told
+  pub context_failed : (told : Option ShelfContent) (m n : ℕ) → Rose m n ⊎ TellsThat (LacksContext g.context) told → Rose m n ⊎ TellsThat (LacksOne g) told
   context_failed told m n (inl rose) = inl rose
   context_failed told m n (inr lacks) = inr (context_lacks told lacks)
 
-  page_lacks : (context : Context) (told mid : Option Told) → Moves (ReadsContext g.context context) told mid → TellsThat (λ t. LacksPage t.files g.pages) mid → TellsThat (LacksOne g) told
+  page_lacks : (context : Context) (told mid : Option ShelfContent) → Moves (ReadsContext g.context context) told mid → TellsThat (λ t. LacksPage t.files g.pages) mid → TellsThat (LacksOne g) told
   page_lacks context told None r l = absurd l
   page_lacks context None (Some y) r l = let e = r.same in absurd (cc)
   page_lacks context (Some x) (Some y) r l =
       let c = r.taken x y refl refl in
       inr (has_context g.context x context c.is, subst (λ (f : FileList). LacksPage f g.pages) c.takes.files l)
 
-  pub gathering_failed : (context : Context) (told mid : Option Told) (m n k : ℕ) → Moves (ReadsContext g.context context) told mid → m ≤ n → Rose n k ⊎ TellsThat (λ t. LacksPage t.files g.pages) mid → Rose m k ⊎ TellsThat (LacksOne g) told
+  pub gathering_failed : (context : Context) (told mid : Option ShelfContent) (m n k : ℕ) → Moves (ReadsContext g.context context) told mid → m ≤ n → Rose n k ⊎ TellsThat (λ t. LacksPage t.files g.pages) mid → Rose m k ⊎ TellsThat (LacksOne g) told
   gathering_failed context told mid m n k r low (inl rose) = inl (rose_before m n k low rose)
   gathering_failed context told mid m n k r low (inr lacks) = inr (page_lacks context told mid r lacks)

@@ -1,7 +1,7 @@
 -- How a run ends where the words name a page.
 use Rattle.std.proofs.Common.{◌≡◌, ◌⊎◌, inl, inr, ℕ, List, ap, refl, Option, Some, None, encode_utf8_all}
 use Rattle.rx_ports.specs.Counts.{Rose}
-use Rattle.rx_ports.specs.Told.{Told, Moves, GrowsBy, GrowsByPart, Stays}
+use Rattle.rx_ports.specs.Shelves.{ShelfContent, Moves, GrowsBy, GrowsByPart, Stays}
 use Rattle.rx_ports.proofs.MoveLemmas.{moves_at, moves_same}
 use Rattle.rx_grammar.specs.declared.faults.Fault.{Fault}
 use Rattle.rx_ports.specs.Files.{file_of}
@@ -17,7 +17,7 @@ use Rattle.rx_command.proofs.OutcomeLemmas.{the_fault}
 use Rattle.rx_command.proofs.RunLemmas.{moved, named_there, named_right, not_sample, not_gathering}
 use Rattle.rx_command.proofs.TextLemmas.{the_text}
 
-read_to_end : (asked : Asked) (found : Outcome) (told now : Option Told) (shelf : Told) → told ≡ Some shelf → Moves (JobText asked found) told now → IsRead now
+read_to_end : (asked : Asked) (found : Outcome) (told now : Option ShelfContent) (shelf : ShelfContent) → told ≡ Some shelf → Moves (JobText asked found) told now → IsRead now
 read_to_end asked found None now shelf e m = absurd (cc)
 read_to_end asked found (Some told) None shelf e m = let w = m.same in absurd (cc)
 read_to_end asked found (Some told) (Some now) shelf e m = (m.taken told now refl refl).page.left
@@ -26,7 +26,7 @@ read_to_end asked found (Some told) (Some now) shelf e m = (m.taken told now ref
 pub unused : (held : Option (List ℕ)) → Moves Stays held held
 unused held = moves_same Stays (λ x. refl) held
 
-module _ (words : List (List ℕ)) (asked : Asked) (a : page_asked words ≡ Some asked) (told now : Option Told) where
+module _ (words : List (List ℕ)) (asked : Asked) (a : page_asked words ≡ Some asked) (told now : Option ShelfContent) where
   -- what the task has on the page that was read it has on the page that is named
   named : (holds : Task → Context → List ℕ → Type 0) (bytes others : List ℕ) (context : Context) (page : NamesPage words told bytes) → IsContext asked.context page.shelf context
       → file_of page.shelf.files (encode_utf8_all asked.page) ≡ Some others → holds asked.task context others → holds page.asked.task page.context bytes
@@ -61,7 +61,7 @@ module _ (words : List (List ℕ)) (asked : Asked) (a : page_asked words ≡ Som
       let r = moves_at page.shelf m page.tells in
       (named (λ task context file. IsTheFault task context file fault) bytes (r.1).bytes (r.1).context page (r.1).holds (r.1).file (the_fault asked.task (r.1).context (r.1).bytes fault (r.1).refused), stays)
 
-module _ (words : List (List ℕ)) (told : Option Told) (asked : Asked) (a : page_asked words ≡ Some asked) (bytes : List ℕ) (page : NamesPage words told bytes) where
+module _ (words : List (List ℕ)) (told : Option ShelfContent) (asked : Asked) (a : page_asked words ≡ Some asked) (bytes : List ℕ) (page : NamesPage words told bytes) where
   pub answers_failed : (before after : ℕ) (held kept : Option (List ℕ)) → Rose before after ⊎ TellsThat (IsLacking asked) told → Moves Stays held kept → Rose before after × Moves Stays held kept
   answers_failed before after held kept (inl rose) stays = (rose, stays)
   answers_failed before after held kept (inr lacks) stays = absurd (named_there words told asked a bytes page lacks)
@@ -70,7 +70,7 @@ module _ (words : List (List ℕ)) (told : Option Told) (asked : Asked) (a : pag
   names_no_other other = named_right words told asked a bytes page other
 
 -- words that ask for a sample or for several pages name none
-module _ (words : List (List ℕ)) (told : Option Told) (bytes : List ℕ) (page : NamesPage words told bytes) where
+module _ (words : List (List ℕ)) (told : Option ShelfContent) (bytes : List ℕ) (page : NamesPage words told bytes) where
   pub names_sample : (count : ℕ) → job words ≡ Some (samples count) → ⊥
   names_sample count is = not_sample words page.asked count page.asks is
 

@@ -4,7 +4,7 @@ use Rattle.std.proofs.Common.{nat_eq, ◌≡◌, ◌∙◌, ◌+◌, ◌≤◌, 
 use Rattle.std.proofs.lemmas.Bool.Decides.{nat_tests}
 use Rattle.rx_ports.specs.Counts.{Rose}
 use Rattle.rx_ports.specs.Files.{file_of}
-use Rattle.rx_ports.specs.Told.{Told, Moves, Lacks}
+use Rattle.rx_ports.specs.Shelves.{ShelfContent, Moves, Lacks}
 use Rattle.rx_ports.proofs.MoveLemmas.{moves_at, moves_then}
 use Rattle.rx_names.specs.ContextFiles.{context_of}
 use Rattle.rx_chars.specs.declared.syntax.Syntax.{Syntax}
@@ -53,7 +53,7 @@ whole_is : (bytes left : List ℕ) (valid : Bool) → (length bytes ≤ 65536 �
 whole_is bytes left valid w small e =
     ap is_context (ap (λ l. bytes ++ l) (w small) ∙ append-nil bytes) ∙ ap (λ b. b && is_some (context_of bytes)) (short (length bytes) small) ∙ e
 
-pub was_tested : (told now : Option Told) (file name bytes : List ℕ) (valid : Bool) → name ≡ encode_utf8_all file → Moves (ReadsFile name 65536 bytes) told now
+pub was_tested : (told now : Option ShelfContent) (file name bytes : List ℕ) (valid : Bool) → name ≡ encode_utf8_all file → Moves (ReadsFile name 65536 bytes) told now
     → length bytes ≤ 65536 → is_some (context_of bytes) ≡ valid → WhereTold (IsContextFile file valid) told
 was_tested None now file name bytes valid named m small e = tt
 was_tested (Some t) now file name bytes valid named m small e =
@@ -64,7 +64,7 @@ was_tested (Some t) now file name bytes valid named m small e =
       tested = whole_is bytes (r.0).left valid (r.1).whole small e;
     }
 
-pub was_long : (told now : Option Told) (file name bytes : List ℕ) → name ≡ encode_utf8_all file → Moves (ReadsFile name 65536 bytes) told now
+pub was_long : (told now : Option ShelfContent) (file name bytes : List ℕ) → name ≡ encode_utf8_all file → Moves (ReadsFile name 65536 bytes) told now
     → 65536 < length bytes → WhereTold (IsContextFile file false) told
 was_long None now file name bytes named m past = tt
 was_long (Some t) now file name bytes named m past =
@@ -76,31 +76,31 @@ was_long (Some t) now file name bytes named m past =
       tested = ap (λ b. b && is_some (context_of (bytes ++ (r.0).left))) (long (length (bytes ++ (r.0).left)) all);
     }
 
-pub takes_context : (file name : List ℕ) → name ≡ encode_utf8_all file → (x y : Told) → TakesOf name 65536 x y → TakesContext (Some file) x y
+pub takes_context : (file name : List ℕ) → name ≡ encode_utf8_all file → (x y : ShelfContent) → TakesOf name 65536 x y → TakesContext (Some file) x y
 takes_context file name named x y t =
     let size : size_of (file_of x.files name) ≡ size_of (file_of x.files (encode_utf8_all file)) = ap (λ n. size_of (file_of x.files n)) named in
     record { files = t.files; size = omega (arith, t.file, size); most = t.most }
 
-pub was_context : (told now : Option Told) (file name bytes : List ℕ) (context : Context) → name ≡ encode_utf8_all file → Moves (ReadsFile name 65536 bytes) told now
+pub was_context : (told now : Option ShelfContent) (file name bytes : List ℕ) (context : Context) → name ≡ encode_utf8_all file → Moves (ReadsFile name 65536 bytes) told now
     → length bytes ≤ 65536 → context_of bytes ≡ Some context → WhereTold (λ t. IsFileOf file t context) told
 was_context None now file name bytes context named m small e = tt
 was_context (Some t) now file name bytes context named m small e =
     let r = moves_at t m refl in
     record { bytes = bytes; file = ap (file_of t.files) (sym named) ∙ ((r.1).read.file ∙ ap Some (ap (λ l. bytes ++ l) ((r.1).whole small) ∙ append-nil bytes)); small = small; reads = e }
 
-reads_context : (told now : Option Told) (file : List ℕ) (context : Context) → WhereTold (λ t. IsFileOf file t context) told → Moves (TakesContext (Some file)) told now → Moves (ReadsContext (Some file) context) told now
+reads_context : (told now : Option ShelfContent) (file : List ℕ) (context : Context) → WhereTold (λ t. IsFileOf file t context) told → Moves (TakesContext (Some file)) told now → Moves (ReadsContext (Some file) context) told now
 reads_context told now file context w m = record {
   same = m.same;
   taken = λ x y p q. record { is = subst (WhereTold (λ t. IsFileOf file t context)) p w; takes = m.taken x y p q };
 }
 
-pub if_context : {E : Type 0} (r : Result Context E) (told now : Option Told) (lent : Option (List ℕ)) (file : List ℕ) → lent ≡ Some file → IfOk r (λ context. WhereTold (λ t. IsFileOf file t context) told) → Moves (TakesContext (Some file)) told now
+pub if_context : {E : Type 0} (r : Result Context E) (told now : Option ShelfContent) (lent : Option (List ℕ)) (file : List ℕ) → lent ≡ Some file → IfOk r (λ context. WhereTold (λ t. IsFileOf file t context) told) → Moves (TakesContext (Some file)) told now
     → IfOk r (λ context. Moves (ReadsContext lent context) told now)
 if_context (Ok context) told now lent file e w m = subst (λ f. Moves (ReadsContext f context) told now) (sym e) (reads_context told now file context w m)
 if_context (Err error) told now lent file e w m = tt
 
 -- one context holds
-pub one_context : (file : Option (List ℕ)) (shelf : Told) (a b : Context) → IsContext file shelf a → IsContext file shelf b → a ≡ b
+pub one_context : (file : Option (List ℕ)) (shelf : ShelfContent) (a b : Context) → IsContext file shelf a → IsContext file shelf b → a ≡ b
 one_context None shelf a b p q = p ∙ sym q
 one_context (Some name) shelf a b p q =
     let both : Some p.bytes ≡ Some q.bytes = sym p.file ∙ q.file in
@@ -109,7 +109,7 @@ one_context (Some name) shelf a b p q =
     (cc)
 
 -- a context that holds is there
-pub has_context : (file : Option (List ℕ)) (shelf : Told) (context : Context) → IsContext file shelf context → HasContext file shelf
+pub has_context : (file : Option (List ℕ)) (shelf : ShelfContent) (context : Context) → IsContext file shelf context → HasContext file shelf
 has_context None shelf context h = tt
 has_context (Some name) shelf context h =
     record { bytes = h.bytes; file = h.file; tested = ap (λ b. b && is_some (context_of h.bytes)) (short (length h.bytes) h.small) ∙ ap is_some h.reads }
@@ -134,21 +134,21 @@ reads_later (checks syntax) fault a b now l r = omega (arith, l, r)
 
 -- ---- the page after it
 
-pub takes_before : (asked : Asked) (file : Option (List ℕ)) → file ≡ asked.context → (x y : Told) → TakesContext file x y → TakesFiles (Some asked) x y
+pub takes_before : (asked : Asked) (file : Option (List ℕ)) → file ≡ asked.context → (x y : ShelfContent) → TakesContext file x y → TakesFiles (Some asked) x y
 takes_before asked file e x y t =
     let m : TakesContext asked.context x y = subst (λ f. TakesContext f x y) e t in
     record { files = m.files; size = omega (arith, m.size); most = omega (arith, m.most) }
 
-pub takes_both : (asked : Asked) (file : Option (List ℕ)) (limit : ℕ) → file ≡ asked.context → page_limit ≡ limit + 1 → (x y z : Told) → TakesContext file x y → TakesOf (encode_utf8_all asked.page) limit y z → TakesFiles (Some asked) x z
+pub takes_both : (asked : Asked) (file : Option (List ℕ)) (limit : ℕ) → file ≡ asked.context → page_limit ≡ limit + 1 → (x y z : ShelfContent) → TakesContext file x y → TakesOf (encode_utf8_all asked.page) limit y z → TakesFiles (Some asked) x z
 takes_both asked file limit e l x y z t p =
     let m : TakesContext asked.context x y = subst (λ f. TakesContext f x y) e t in
     let size : size_of (file_of y.files (encode_utf8_all asked.page)) ≡ size_of (file_of x.files (encode_utf8_all asked.page)) = ap (λ f. size_of (file_of f (encode_utf8_all asked.page))) m.files in
     record { files = p.files ∙ m.files; size = omega (arith, m.size, p.file, size); most = omega (arith, m.most, p.most, l) }
 
-there_before : (asked : Asked) (file : Option (List ℕ)) (context : Context) (bytes : List ℕ) (x y : Told) → ReadsContext file context x y → file_of y.files (encode_utf8_all asked.page) ≡ Some bytes → file_of x.files (encode_utf8_all asked.page) ≡ Some bytes
+there_before : (asked : Asked) (file : Option (List ℕ)) (context : Context) (bytes : List ℕ) (x y : ShelfContent) → ReadsContext file context x y → file_of y.files (encode_utf8_all asked.page) ≡ Some bytes → file_of x.files (encode_utf8_all asked.page) ≡ Some bytes
 there_before asked file context bytes x y c h = sym (ap (λ f. file_of f (encode_utf8_all asked.page)) c.takes.files) ∙ h
 
-pub job_text : (asked : Asked) (file : Option (List ℕ)) (context : Context) (outcome : Outcome) → file ≡ asked.context → (x y z : Told) → ReadsContext file context x y → PageText asked.task context (encode_utf8_all asked.page) outcome y z → JobText asked outcome x z
+pub job_text : (asked : Asked) (file : Option (List ℕ)) (context : Context) (outcome : Outcome) → file ≡ asked.context → (x y z : ShelfContent) → ReadsContext file context x y → PageText asked.task context (encode_utf8_all asked.page) outcome y z → JobText asked outcome x z
 job_text asked file context outcome e x y z c p =
     record {
       context = context;
@@ -156,7 +156,7 @@ job_text asked file context outcome e x y z c p =
       page = record { bytes = p.bytes; file = there_before asked file context p.bytes x y c p.file; gives = p.gives; graph = p.graph; left = p.left };
     }
 
-pub job_refused : (asked : Asked) (file : Option (List ℕ)) (context : Context) (fault : Fault) → file ≡ asked.context → (x y z : Told) → ReadsContext file context x y → PageRefused asked.task context (encode_utf8_all asked.page) fault y z → JobRefused asked fault x z
+pub job_refused : (asked : Asked) (file : Option (List ℕ)) (context : Context) (fault : Fault) → file ≡ asked.context → (x y z : ShelfContent) → ReadsContext file context x y → PageRefused asked.task context (encode_utf8_all asked.page) fault y z → JobRefused asked fault x z
 job_refused asked file context fault e x y z c p =
     let size : y.taken ≤ x.taken + context_size asked.context x = subst (λ f. y.taken ≤ x.taken + context_size f x) e c.takes.size in
     record {
@@ -170,7 +170,7 @@ job_refused asked file context fault e x y z c p =
 
 -- ---- what a page is
 
-pub page_right : (syntax : Syntax) (context : Context) (name named : List ℕ) (done : Unit {0}) → named ≡ name → (x y : Told) → ReadsWhole (GivesRight syntax context) named done x y → PageText (checks syntax) context name found.Right x y
+pub page_right : (syntax : Syntax) (context : Context) (name named : List ℕ) (done : Unit {0}) → named ≡ name → (x y : ShelfContent) → ReadsWhole (GivesRight syntax context) named done x y → PageText (checks syntax) context name found.Right x y
 page_right syntax context name named done e x y c =
     let right : IsRight syntax context c.bytes ok_line = record { tree = c.gives.tree; is = record { page = c.gives.page; accepted = c.gives.accepted }; spelled = refl } in
     record { bytes = c.bytes; file = sym (ap (λ n. file_of x.files n) e) ∙ c.file; gives = right; graph = λ read. right; left = c.left }
@@ -219,7 +219,7 @@ text_made e context form outcome list bytes f spelled denotes given =
 
 pub page_text : (e : Extraction) (context : Context) (name named : List ℕ) (form : Form) (outcome : Outcome) (list : List CodeTriple) → named ≡ name → form ≡ form_in e.format e.graph context
     → IsFormText form (numbered nat_eq (copied nat_eq (triples_seen list))) (text_of outcome) → (Denoted outcome → FormDenotes form (text_of outcome) (numbered nat_eq (copied nat_eq (triples_seen list))))
-    → (x y : Told) → ReadsWhole (GivesList e.syntax context e.address) named list x y → PageText (extracts e) context name outcome x y
+    → (x y : ShelfContent) → ReadsWhole (GivesList e.syntax context e.address) named list x y → PageText (extracts e) context name outcome x y
 page_text e context name named form outcome list n f spelled denotes x y c =
     let made = text_made e context form outcome list c.bytes f spelled denotes c.gives in
     record { bytes = c.bytes; file = sym (ap (λ n. file_of x.files n) n) ∙ c.file; gives = made.0; graph = made.1; left = c.left }
@@ -236,18 +236,18 @@ pub for_check : (holds : Task → Context → List ℕ → Type 0) (asked : Aske
     → asked ≡ record { task = checks syntax; context = file; page = page } → holds (checks syntax) context (encode_utf8_all page) → holds asked.task context (encode_utf8_all asked.page)
 for_check holds asked syntax file page context is h = subst (λ (k : Asked). holds k.task context (encode_utf8_all k.page)) (sym is) h
 
-pub page_found : (task : Task) (way : Way) (context : Context) (name named : List ℕ) (fault : Fault) → named ≡ name → way ≡ way_in task context → (x y : Told) → Finds way named fault x y → PageRefused task context name fault x y
+pub page_found : (task : Task) (way : Way) (context : Context) (name named : List ℕ) (fault : Fault) → named ≡ name → way ≡ way_in task context → (x y : ShelfContent) → Finds way named fault x y → PageRefused task context name fault x y
 page_found task way context name named fault e w x y f =
     record { bytes = f.bytes; file = sym (ap (λ n. file_of x.files n) e) ∙ f.file; refused = refuses_first task context f.bytes fault (subst (λ (z : Way). HasFirst z f.bytes fault) w f.is); reads = reads_to task fault x.taken y.taken f.read }
 
 -- why a page was not read
-pub fails_refused : (way : Way) (name named : List ℕ) (e : InputError) (fault : Fault) (told now : Option Told) → named ≡ name → PageFails way named e told now → e ≡ error.Refused fault → Moves (Finds way name fault) told now
+pub fails_refused : (way : Way) (name named : List ℕ) (e : InputError) (fault : Fault) (told now : Option ShelfContent) → named ≡ name → PageFails way named e told now → e ≡ error.Refused fault → Moves (Finds way name fault) told now
 fails_refused way name named e fault told now n g is = subst (λ x. Moves (Finds way x fault) told now) n (subst (λ x. PageFails way named x told now) is g)
 
-pub fails_clean : (way : Way) (name named : List ℕ) (e : InputError) (told now : Option Told) → named ≡ name → PageFails way named e told now → e ≡ error.Failed → Moves (ReadsClean way name) told now
+pub fails_clean : (way : Way) (name named : List ℕ) (e : InputError) (told now : Option ShelfContent) → named ≡ name → PageFails way named e told now → e ≡ error.Failed → Moves (ReadsClean way name) told now
 fails_clean way name named e told now n g is = subst (λ x. Moves (ReadsClean way x) told now) n (subst (λ x. PageFails way named x told now) is g)
 
-pub fails_no_context : (way : Way) (name : List ℕ) (e : InputError) (told now : Option Told) → PageFails way name e told now → e ≡ error.BadContext → ⊥
+pub fails_no_context : (way : Way) (name : List ℕ) (e : InputError) (told now : Option ShelfContent) → PageFails way name e told now → e ≡ error.BadContext → ⊥
 fails_no_context way name e told now g is = subst (λ x. PageFails way name x told now) is g
 
 pub for_itemization : (holds : Task → Context → List ℕ → Type 0) (asked : Asked) (i : Itemization) (page : Chars) (context : Context)
@@ -255,22 +255,22 @@ pub for_itemization : (holds : Task → Context → List ℕ → Type 0) (asked 
 for_itemization holds asked i page context is h = subst (λ (k : Asked). holds k.task context (encode_utf8_all k.page)) (sym is) h
 
 -- where no context file is named the standard context holds, and nothing is read
-standard_holds : (x : Told) → ReadsContext None standard x x
+standard_holds : (x : ShelfContent) → ReadsContext None standard x x
 standard_holds x = record { is = refl; takes = record { files = refl; size = omega arith; most = omega arith } }
 
-pub standard_stays : (told : Option Told) → Moves (ReadsContext None standard) told told
+pub standard_stays : (told : Option ShelfContent) → Moves (ReadsContext None standard) told told
 standard_stays None = record { same = refl; taken = λ x y p q. absurd (cc) }
 standard_stays (Some t) = record { same = refl; taken = λ x y p q. at x y (some_told t x p) (some_told t y q) }
   where
-    some_told : (a b : Told) → ◌≡◌ {A = Option Told} (Some a) (Some b) → a ≡ b
+    some_told : (a b : ShelfContent) → ◌≡◌ {A = Option ShelfContent} (Some a) (Some b) → a ≡ b
     some_told a b e = cc
 
-    at : (x y : Told) → t ≡ x → t ≡ y → ReadsContext None standard x y
-    at x y p q = subst (λ (z : Told). ReadsContext None standard z y) p (subst (λ (z : Told). ReadsContext None standard t z) q (standard_holds t))
+    at : (x y : ShelfContent) → t ≡ x → t ≡ y → ReadsContext None standard x y
+    at x y p q = subst (λ (z : ShelfContent). ReadsContext None standard z y) p (subst (λ (z : ShelfContent). ReadsContext None standard t z) q (standard_holds t))
 
 -- what a call gives
 
-pub if_job : (r : Result Outcome InputError) (asked : Asked) (file : Option (List ℕ)) (context : Context) (told mid now : Option Told) → file ≡ asked.context → Moves (ReadsContext file context) told mid
+pub if_job : (r : Result Outcome InputError) (asked : Asked) (file : Option (List ℕ)) (context : Context) (told mid now : Option ShelfContent) → file ≡ asked.context → Moves (ReadsContext file context) told mid
     → IfOk r (λ outcome. Moves (PageText asked.task context (encode_utf8_all asked.page) outcome) mid now) → IfOk r (λ outcome. Moves (JobText asked outcome) told now)
 if_job (Ok outcome) asked file context told mid now e m p = moves_then (JobText asked outcome) (λ x y z c t. job_text asked file context outcome e x y z c t) m p
 if_job (Err error) asked file context told mid now e m p = tt
@@ -278,14 +278,14 @@ if_job (Err error) asked file context told mid now e m p = tt
 pub rose_before : (a b c : ℕ) → a ≤ b → Rose b c → Rose a c
 rose_before a b c low rose = omega (arith, low, rose)
 
-lacks_page : (told mid : Option Told) (asked : Asked) (file : Option (List ℕ)) (context : Context) (name : List ℕ) → file ≡ asked.context → name ≡ encode_utf8_all asked.page → Moves (ReadsContext file context) told mid → Lacks mid name → TellsThat (IsLacking asked) told
+lacks_page : (told mid : Option ShelfContent) (asked : Asked) (file : Option (List ℕ)) (context : Context) (name : List ℕ) → file ≡ asked.context → name ≡ encode_utf8_all asked.page → Moves (ReadsContext file context) told mid → Lacks mid name → TellsThat (IsLacking asked) told
 lacks_page told None asked file context name e named m l = absurd l
 lacks_page None (Some y) asked file context name e named m l = let e = m.same in absurd (cc)
 lacks_page (Some x) (Some y) asked file context name e named m l =
     let c = m.taken x y refl refl in
     inr (has_context asked.context x context (subst (λ f. IsContext f x context) e c.is), sym (ap (λ n. file_of y.files n) named ∙ ap (λ f. file_of f (encode_utf8_all asked.page)) c.takes.files) ∙ l)
 
-pub page_failed : (told mid : Option Told) (asked : Asked) (file : Option (List ℕ)) (context : Context) (name : List ℕ) (a b c : ℕ) → file ≡ asked.context → name ≡ encode_utf8_all asked.page → Moves (ReadsContext file context) told mid → a ≤ b
+pub page_failed : (told mid : Option ShelfContent) (asked : Asked) (file : Option (List ℕ)) (context : Context) (name : List ℕ) (a b c : ℕ) → file ≡ asked.context → name ≡ encode_utf8_all asked.page → Moves (ReadsContext file context) told mid → a ≤ b
     → Rose b c ⊎ Lacks mid name → Rose a c ⊎ TellsThat (IsLacking asked) told
 page_failed told mid asked file context name a b c e named m low (inl rose) = inl (rose_before a b c low rose)
 page_failed told mid asked file context name a b c e named m low (inr lacks) = inr (lacks_page told mid asked file context name e named m lacks)
@@ -293,14 +293,14 @@ page_failed told mid asked file context name a b c e named m low (inr lacks) = i
 -- ---- where a read failed
 
 -- the context file
-pub context_stops : (asked : Asked) (file : Option (List ℕ)) → file ≡ asked.context → (x y : Told) → TakesContext file x y → StopsCleanly (Some asked) x y
+pub context_stops : (asked : Asked) (file : Option (List ℕ)) → file ≡ asked.context → (x y : ShelfContent) → TakesContext file x y → StopsCleanly (Some asked) x y
 context_stops asked file e x y t context holds bytes f =
     let m : TakesContext asked.context x y = subst (λ f. TakesContext f x y) e t in
     let c = unread_clean (syntax_in asked.task) (aim_in asked.task context) (encode_utf8_all asked.page) (record { files = x.files; left = x.left; taken = x.taken + context_size asked.context x }) y m.size bytes f in
     record { bytes = c.bytes; rest = c.rest; are = c.are; taken = c.taken; clean = c.clean }
 
 -- the page
-pub page_stops : (asked : Asked) (file : Option (List ℕ)) (context : Context) (way : Way) → file ≡ asked.context → way ≡ way_in asked.task context → (x y z : Told) → ReadsContext file context x y → ReadsClean way (encode_utf8_all asked.page) y z → StopsCleanly (Some asked) x z
+pub page_stops : (asked : Asked) (file : Option (List ℕ)) (context : Context) (way : Way) → file ≡ asked.context → way ≡ way_in asked.task context → (x y z : ShelfContent) → ReadsContext file context x y → ReadsClean way (encode_utf8_all asked.page) y z → StopsCleanly (Some asked) x z
 page_stops asked file context way e is x y z c r other holds bytes f =
     let size : y.taken ≤ x.taken + context_size asked.context x = subst (λ f. y.taken ≤ x.taken + context_size f x) e c.takes.size in
     let same : context ≡ other = one_context asked.context x context other (subst (λ f. IsContext f x context) e c.is) holds in

@@ -8,8 +8,8 @@ use Rattle.rx_grammar.specs.Trees.{Tree}
 use Rattle.rx_grammar.specs.declared.faults.Fault.{Fault}
 use Rattle.rx_grammar.specs.declared.faults.Kind.{Kind}
 use Rattle.rx_grammar.specs.declared.faults.Kind.TheVariants.{Cycle, ItemsTooNested, ItemsTooMany}
-use Rattle.rx_tags.specs.declared.stops.Stop.{Stop}
-use Rattle.rx_tags.specs.declared.stops.Stop.TheVariants as stop
+use Rattle.rx_grammar.specs.declared.stops.Stop.{Stop}
+use Rattle.rx_grammar.specs.declared.stops.Stop.TheVariants as stop
 use Rattle.rx_rdfa.specs.Names.{Context}
 use Rattle.rx_microdata.specs.Base.{base_in}
 use Rattle.rx_microdata.specs.Elements.{elements_of, is_top_level}
@@ -20,7 +20,7 @@ use Rattle.rx_items.specs.Pages.{IsTextOf, TextGives}
 use Rattle.rx_item_properties.specs.declared.kept.Kept.{Kept}
 use Rattle.rx_command.specs.JsonTexts.{AreItems, JsonTextGives}
 use Rattle.rx_ports.specs.Files.{file_of}
-use Rattle.rx_ports.specs.Told.{Told}
+use Rattle.rx_ports.specs.Shelves.{ShelfContent}
 use Rattle.rx_job.specs.Words.{Itemization, itemizes}
 use Rattle.rx_command.specs.declared.outcomes.Outcome.{Outcome as Found}
 use Rattle.rx_command.specs.Inputs.{PageText, PageRefused}
@@ -81,13 +81,13 @@ item_of_items address tree fault e = item_kind (λ kind. is_of_items kind ≡ tr
 -- ---- what a page is
 
 pub page_items : (i : Itemization) (context : Context) (name named : List ℕ) (kept : Kept) (outcome_is : Found) → named ≡ name → ((address : Chars) (tree : Tree) → AreItems address tree kept → JsonText address tree (text_of outcome_is))
-    → (x y : Told) → ReadsWhole (GivesItems i.syntax i.address) named kept x y → PageText (itemizes i) context name outcome_is x y
+    → (x y : ShelfContent) → ReadsWhole (GivesItems i.syntax i.address) named kept x y → PageText (itemizes i) context name outcome_is x y
 page_items i context name named kept outcome_is n json x y c =
     let has : HasItems i c.bytes (text_of outcome_is) = record { tree = c.gives.tree; page = c.gives.page; json = json i.address c.gives.tree c.gives.holds } in
     record { bytes = c.bytes; file = sym (ap (λ n. file_of x.files n) n) ∙ c.file; gives = has; graph = λ read. has; left = c.left }
 
 pub page_item_fault : (i : Itemization) (context : Context) (name named : List ℕ) (kept : Kept) (fault : Fault) → named ≡ name → ((address : Chars) (tree : Tree) → AreItems address tree kept → outcome standard_bounds address tree ≡ Refused fault)
-    → (x y : Told) → ReadsWhole (GivesItems i.syntax i.address) named kept x y → PageRefused (itemizes i) context name fault x y
+    → (x y : ShelfContent) → ReadsWhole (GivesItems i.syntax i.address) named kept x y → PageRefused (itemizes i) context name fault x y
 page_item_fault i context name named kept fault n faulty x y c =
     let is : outcome standard_bounds i.address c.gives.tree ≡ Refused fault = faulty i.address c.gives.tree c.gives.holds in
     record {

@@ -14,13 +14,13 @@ use Rattle.rx_nquads.specs.Writing.{nquads}
 use Rattle.rx_rdfa.specs.Standard as names
 use Rattle.rx_nest.specs.Signs.{sees, nothing_seen}
 use Rattle.rx_base.specs.Lines.{line_of}
-use Rattle.rx_walk.specs.Walks.{Walked, Stands, Ended, open_line}
+use Rattle.rx_walk.specs.Walks.{Walked, WalkStands, Ended, open_line}
 use Rattle.rx_reading.specs.Ways.{Way}
 use Rattle.rx_command.specs.Reading.{standard, Aim, for_triples, setting_for, way_for}
 use Rattle.rx_job.specs.Words.{most_items}
 use Rattle.rx_command.specs.Samples.{head, item_before, item_behind, items_to, cut_in, sample_page, tail, depth_at, open_after, larger, deepest, deepest_in, sample_setting, sample_address, triples_in, line_with, line_for, IsSample}
 use Rattle.rx_reading.specs.Faults.{Refuses, Stops}
-use Rattle.rx_command.specs.declared.readers.Reader.TheVariants as reader
+use Rattle.rx_command.specs.declared.passes.Pass.TheVariants as reader
 use Rattle.rx_command.specs.Feeding.{Fed, FedTo, FedWhole, IsDue, TakesPiece}
 use Rattle.rx_command.specs.declared.samples.Feeding.{Feeding}
 use Rattle.rx_grammar.specs.PageFaults.{FaultAt}
@@ -54,13 +54,13 @@ no_fault_at_end count fault few f = let page = samples_are_pages count few in no
 
 -- ---- behind a piece
 
-pub depth_is : (walk : Walked) (bytes : List ℕ) (s : Stands sample_setting sample_address walk bytes) → length (open_line s) ≡ depth_at bytes
+pub depth_is : (walk : Walked) (bytes : List ℕ) (s : WalkStands sample_setting sample_address walk bytes) → length (open_line s) ≡ depth_at bytes
 depth_is walk bytes s =
     let shown = s.goes.shown in
     let signs_are : (sees nothing_seen shown.told).signs ≡ s.goes.signs = ap (λ x. x.signs) shown.sight ∙ (ap (λ x. s.goes.signs ++ x) s.paid ∙ append-nil s.goes.signs) in
     sym (ap open_after shown.at.read ∙ ap (λ x. length (line_of [] x)) signs_are)
 
-pub size_fits : (walk : Walked) (bytes : List ℕ) → Stands sample_setting sample_address walk bytes → length bytes ≤ 1073741824
+pub size_fits : (walk : Walked) (bytes : List ℕ) → WalkStands sample_setting sample_address walk bytes → length bytes ≤ 1073741824
 size_fits walk bytes s = not_longer Html sample_aim (reader.Walks walk) bytes s
 
 -- ---- the line
@@ -89,18 +89,18 @@ if_sample items count size depth list (Err error) s d e h = tt
 -- ---- feeding
 
 -- before the first item nothing is fed
-pub none_fed : (s : Feeding) → Stands sample_setting sample_address s.walk [] → s.size ≡ 0 → s.depth ≡ 0 → s.piece.items ≡ head → FedTo 0 s
+pub none_fed : (s : Feeding) → WalkStands sample_setting sample_address s.walk [] → s.size ≡ 0 → s.depth ≡ 0 → s.piece.items ≡ head → FedTo 0 s
 none_fed s stands size depth piece = record { bytes = []; fed = record { stands = stands; size = size }; due = piece; depth = depth }
 
 -- the piece was fed
-pub fed_piece : (bytes piece lent : List ℕ) (old new : Feeding) (n : ℕ) → Fed bytes old → lent ≡ piece → Stands sample_setting sample_address new.walk (bytes ++ lent) → n ≡ length lent → new.size ≡ old.size + n → Fed (bytes ++ piece) new
+pub fed_piece : (bytes piece lent : List ℕ) (old new : Feeding) (n : ℕ) → Fed bytes old → lent ≡ piece → WalkStands sample_setting sample_address new.walk (bytes ++ lent) → n ≡ length lent → new.size ≡ old.size + n → Fed (bytes ++ piece) new
 fed_piece bytes piece lent old new n f e s l k =
-    record { stands = subst (λ p. Stands sample_setting sample_address new.walk (bytes ++ p)) e s; size = omega (arith, k, l, ap length e, f.size, length-append bytes piece) }
+    record { stands = subst (λ p. WalkStands sample_setting sample_address new.walk (bytes ++ p)) e s; size = omega (arith, k, l, ap length e, f.size, length-append bytes piece) }
 
-pub fits_on : (bytes piece lent : List ℕ) (old : Feeding) (walk : Walked) (n : ℕ) → Fed bytes old → lent ≡ piece → Stands sample_setting sample_address walk (bytes ++ lent) → n ≡ length lent → old.size + n ≤ 1073741824
+pub fits_on : (bytes piece lent : List ℕ) (old : Feeding) (walk : Walked) (n : ℕ) → Fed bytes old → lent ≡ piece → WalkStands sample_setting sample_address walk (bytes ++ lent) → n ≡ length lent → old.size + n ≤ 1073741824
 fits_on bytes piece lent old walk n f e s l = omega (arith, size_fits walk (bytes ++ lent) s, length-append bytes lent, l, f.size)
 
-pub deeper : (walk : Walked) (bytes piece lent : List ℕ) (depth now then : ℕ) → lent ≡ piece → (s : Stands sample_setting sample_address walk (bytes ++ lent)) → now ≡ length (open_line s) → then ≡ larger depth now → then ≡ larger depth (depth_at (bytes ++ piece))
+pub deeper : (walk : Walked) (bytes piece lent : List ℕ) (depth now then : ℕ) → lent ≡ piece → (s : WalkStands sample_setting sample_address walk (bytes ++ lent)) → now ≡ length (open_line s) → then ≡ larger depth now → then ≡ larger depth (depth_at (bytes ++ piece))
 deeper walk bytes piece lent depth now then e s n t = t ∙ ap (λ k. larger depth k) (n ∙ (depth_is walk (bytes ++ lent) s ∙ ap (λ p. depth_at (bytes ++ p)) e))
 
 -- the cut in the item
@@ -117,10 +117,10 @@ item_fed i depth bytes s f e p d k =
       depth = k ∙ (ap (λ n. larger n (depth_at bytes)) d ∙ ap (λ x. larger (deepest_in i) (depth_at x)) e);
     }
 
-pub started : (walk : Walked) (context : Context) (address : Chars) (l : Limits) (bytes : List ℕ) → l ≡ standard → context ≡ names.standard → address ≡ sample_address → Stands (record { syntax = Html; limits = l; context = context }) address walk bytes → Stands sample_setting sample_address walk bytes
+pub started : (walk : Walked) (context : Context) (address : Chars) (l : Limits) (bytes : List ℕ) → l ≡ standard → context ≡ names.standard → address ≡ sample_address → WalkStands (record { syntax = Html; limits = l; context = context }) address walk bytes → WalkStands sample_setting sample_address walk bytes
 started walk context address l bytes limits context_is address_is s =
-    subst (λ a. Stands sample_setting a walk bytes) address_is
-    (subst (λ (k : Context). Stands (setting_for Html k) address walk bytes) context_is (subst (λ (x : Limits). Stands (record { syntax = Html; limits = x; context = context }) address walk bytes) limits s))
+    subst (λ a. WalkStands sample_setting a walk bytes) address_is
+    (subst (λ (k : Context). WalkStands (setting_for Html k) address walk bytes) context_is (subst (λ (x : Limits). WalkStands (record { syntax = Html; limits = x; context = context }) address walk bytes) limits s))
 
 -- the last piece was fed
 pub whole_fed : (count : ℕ) (bytes : List ℕ) (old new : Feeding) → bytes ++ old.piece.items ≡ sample_page count → old.depth ≡ deepest_in count → TakesPiece bytes old new → FedWhole count new

@@ -2,7 +2,7 @@
 use Rattle.std.proofs.Common.{◌≡◌, ◌≢◌, ◌∙◌, ℕ, ◌⊎◌, inl, inr, List, [], ◌∷◌, sym, ap, subst, refl, Option, Some, None, is_some, true, false, encode_utf8_all}
 use Rattle.std.specs.Str.{chars}
 use Rattle.rx_ports.specs.Counts.{Rose}
-use Rattle.rx_ports.specs.Told.{Told, Moves, GrowsBy, GrowsByPart, Stays}
+use Rattle.rx_ports.specs.Shelves.{ShelfContent, Moves, GrowsBy, GrowsByPart, Stays}
 use Rattle.rx_ports.proofs.MoveLemmas.{moves_at, moves_weaker}
 use Rattle.rx_grammar.specs.declared.faults.Fault.{Fault}
 use Rattle.rx_rdfa.specs.Names.{Context}
@@ -25,14 +25,14 @@ use Rattle.rx_command.proofs.RunLemmas.{there, not_other, not_missing, meets}
 
 -- ---- how it ends
 
-where_moved : {step : Told → Told → Type 0} (holds : Told → Type 0) (told now : Option Told) → ((x y : Told) → step x y → holds x) → Moves step told now → WhereTold holds told
+where_moved : {step : ShelfContent → ShelfContent → Type 0} (holds : ShelfContent → Type 0) (told now : Option ShelfContent) → ((x y : ShelfContent) → step x y → holds x) → Moves step told now → WhereTold holds told
 where_moved holds None now f m = tt
 where_moved holds (Some t) now f m = let r = moves_at t m refl in f t r.0 r.1
 
-is_gathered : (g : Gathering) (pages : List Page) (text : List ℕ) → text ≡ encode_utf8_all (gathered pages) → (x y : Told) → GathersPages g pages x y → IsGathered g text x
+is_gathered : (g : Gathering) (pages : List Page) (text : List ℕ) → text ≡ encode_utf8_all (gathered pages) → (x y : ShelfContent) → GathersPages g pages x y → IsGathered g text x
 is_gathered g pages text e x y p = record { context = p.context; holds = p.holds; pages = pages; judged = p.judged; spelled = e }
 
-denotes_gathered : (g : Gathering) (pages : List Page) (text : List ℕ) → DenotesPages (chars text) pages → (x y : Told) → GathersPages g pages x y → DenotesGathered g text x
+denotes_gathered : (g : Gathering) (pages : List Page) (text : List ℕ) → DenotesPages (chars text) pages → (x y : ShelfContent) → GathersPages g pages x y → DenotesGathered g text x
 denotes_gathered g pages text d x y p = record { context = p.context; holds = p.holds; pages = pages; judged = judged_graphs g.syntax p.context x.files g.pages pages p.judged; denotes = d }
 
 module _ (g : Gathering) (old new : Devices) where
@@ -59,7 +59,7 @@ module _ (g : Gathering) (old new : Devices) where
 
 -- ---- files that are there and missing
 
-other_context : (file : Option (List ℕ)) (shelf : Told) → LacksContext file shelf → HasOther file shelf → ⊥
+other_context : (file : Option (List ℕ)) (shelf : ShelfContent) → LacksContext file shelf → HasOther file shelf → ⊥
 other_context None shelf l o = o
 other_context (Some name) shelf l o = there _ o.bytes o.file l
 
@@ -77,7 +77,7 @@ not_page files [] h l = l
 not_page files (one ∷ listed) h (inl l) = some_none _ h.0 l
 not_page files (one ∷ listed) h (inr l) = not_page files listed h.1 l
 
-module _ (g : Gathering) (t : Told) where
+module _ (g : Gathering) (t : ShelfContent) where
   not_lacks : HasContext g.context t → HasPages t.files g.pages → LacksOne g t → ⊥
   not_lacks c p (inl l) = not_missing g.context t c l
   not_lacks c p (inr l) = not_page t.files g.pages p l.1
@@ -92,15 +92,15 @@ module _ (g : Gathering) (t : Told) where
   other_lacks o (inl l) = other_context g.context t l o
   other_lacks o (inr l) = not_other g.context t l.0 o
 
-where_at : (holds : Told → Type 0) (told : Option Told) (t : Told) → told ≡ Some t → WhereTold holds told → holds t
+where_at : (holds : ShelfContent → Type 0) (told : Option ShelfContent) (t : ShelfContent) → told ≡ Some t → WhereTold holds told → holds t
 where_at holds told t e w = subst (WhereTold holds) e w
 
-tells_at : (holds : Told → Type 0) (told : Option Told) (t : Told) → told ≡ Some t → TellsThat holds told → holds t
+tells_at : (holds : ShelfContent → Type 0) (told : Option ShelfContent) (t : ShelfContent) → told ≡ Some t → TellsThat holds told → holds t
 tells_at holds told t e w = subst (TellsThat holds) e w
 
 -- ---- what that says of each status
 
-module _ (g : Gathering) (old new : Devices) (t : Told) (tells : old.told ≡ Some t) where
+module _ (g : Gathering) (old new : Devices) (t : ShelfContent) (tells : old.told ≡ Some t) where
   when_lacking : (s : Status) → EndsAs g s old new → LacksOne g t → (s ≡ status.ReadFault) ⊎ (s ≡ status.Memory)
   when_lacking status.Done e l = absurd (gathered_lacks g t e.0 (where_at (IsGathered g e.0) old.told t tells e.1) l)
   when_lacking status.WriteFault e l = absurd (gathered_lacks g t e.0 (where_at (IsGathered g e.0) old.told t tells e.1) l)
@@ -181,17 +181,17 @@ module _ (words : List (List ℕ)) (g : Gathering) (j : job words ≡ Some (gath
   pub several_faultless : (fault : Fault) → HasPageFault words old.told fault → ⊥
   several_faultless fault r = no_fault_of_page fault r
 
-  pub several_done : s ≡ status.Done → (t : Told) → old.told ≡ Some t → (text : List ℕ) × Yields words old.told text × Moves (GrowsBy text) old.held new.held
+  pub several_done : s ≡ status.Done → (t : ShelfContent) → old.told ≡ Some t → (text : List ℕ) × Yields words old.told text × Moves (GrowsBy text) old.held new.held
   several_done is t tells =
       let d = ends_at status.Done is in
       (d.0, inr (inr (record { gathering = g; shelf = t; asks = asks_several; tells = tells; is = where_at (IsGathered g d.0) old.told t tells d.1 })), d.3)
 
-  pub several_denote : s ≡ status.Done → (t : Told) → old.told ≡ Some t → (text : List ℕ) × YieldsGraph words old.told text × Moves (GrowsBy text) old.held new.held
+  pub several_denote : s ≡ status.Done → (t : ShelfContent) → old.told ≡ Some t → (text : List ℕ) × YieldsGraph words old.told text × Moves (GrowsBy text) old.held new.held
   several_denote is t tells =
       let d = ends_at status.Done is in
       (d.0, inr (inr (record { gathering = g; shelf = t; asks = asks_several; tells = tells; denotes = where_at (DenotesGathered g d.0) old.told t tells d.2 })), d.3)
 
-  pub several_partly : s ≡ status.WriteFault → (t : Told) → old.told ≡ Some t → (text : List ℕ) × Yields words old.told text × Moves (GrowsByPart text) old.held new.held
+  pub several_partly : s ≡ status.WriteFault → (t : ShelfContent) → old.told ≡ Some t → (text : List ℕ) × Yields words old.told text × Moves (GrowsByPart text) old.held new.held
   several_partly is t tells =
       let d = ends_at status.WriteFault is in
       (d.0, inr (inr (record { gathering = g; shelf = t; asks = asks_several; tells = tells; is = where_at (IsGathered g d.0) old.told t tells d.1 })), d.2)
@@ -221,7 +221,7 @@ module _ (words : List (List ℕ)) (g : Gathering) (j : job words ≡ Some (gath
   pub several_name_context : s ≡ status.BadContext → is_some (context_asked words) ≡ true
   several_name_context is = ap is_some its_context ∙ (ends_at status.BadContext is).0
 
-  pub several_bad_context : s ≡ status.BadContext → (t : Told) → old.told ≡ Some t → HasBadContext words old.told
+  pub several_bad_context : s ≡ status.BadContext → (t : ShelfContent) → old.told ≡ Some t → HasBadContext words old.told
   several_bad_context is t tells =
       let d = ends_at status.BadContext is in
       record { shelf = t; tells = tells; holds = subst (λ k. HasOther k t) (sym its_context) (where_at (HasOther g.context) old.told t tells d.1) }

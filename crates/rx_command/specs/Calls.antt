@@ -1,7 +1,7 @@
 -- What a call says of a shelf that may tell its files.
 use Rattle.std.specs.Prelude.{◌≡◌, ◌⊎◌, ℕ, List, Option, Result, Err, IfOk, IsErrOf}
 use Rattle.rx_ports.specs.Counts.{Rose}
-use Rattle.rx_ports.specs.Told.{Told, Moves, Lacks}
+use Rattle.rx_ports.specs.Shelves.{ShelfContent, Moves, Lacks}
 use Rattle.rx_grammar.specs.declared.faults.Fault.{Fault}
 use Rattle.rx_command.specs.declared.errors.InputError.{InputError}
 use Rattle.rx_command.specs.declared.errors.InputError.TheVariants as error
@@ -10,21 +10,21 @@ use Rattle.rx_command.specs.Reading.{ReadsClean}
 use Rattle.rx_command.specs.Inputs.{TellsThat}
 
 -- where the call gives something, the shelf moved so
-abbrev pub GivesBy : {A : Type 0} → Result A InputError → (A → Told → Told → Type 0) → Option Told → Option Told → Type 0
+abbrev pub GivesBy : {A : Type 0} → Result A InputError → (A → ShelfContent → ShelfContent → Type 0) → Option ShelfContent → Option ShelfContent → Type 0
 GivesBy result step old new = IfOk result (λ given. Moves (step given) old new)
 
 -- where it refuses the page with a fault, the shelf moved so
-abbrev pub RefusesBy : {A : Type 0} → Result A InputError → (Fault → Told → Told → Type 0) → Option Told → Option Told → Type 0
+abbrev pub RefusesBy : {A : Type 0} → Result A InputError → (Fault → ShelfContent → ShelfContent → Type 0) → Option ShelfContent → Option ShelfContent → Type 0
 RefusesBy result step old new = (fault : Fault) → result ≡ Err (error.Refused fault) → Moves (step fault) old new
 
 -- where the call failed, what was read of the file holds no fault but that it ends
-abbrev pub StopsBy : {A : Type 0} → Result A InputError → Way → List ℕ → Option Told → Option Told → Type 0
+abbrev pub StopsBy : {A : Type 0} → Result A InputError → Way → List ℕ → Option ShelfContent → Option ShelfContent → Type 0
 StopsBy result way name old new = IsErrOf result error.Failed → Moves (ReadsClean way name) old new
 
 -- the shelf failed, or tells its files, and this holds of them
-abbrev pub FailedOr : {F : Type 0} → (F → Option Told) → (F → ℕ) → F → F → (Told → Type 0) → Type 0
+abbrev pub FailedOr : {F : Type 0} → (F → Option ShelfContent) → (F → ℕ) → F → F → (ShelfContent → Type 0) → Type 0
 FailedOr told faults old new lacks = Rose (faults old) (faults new) ⊎ TellsThat lacks (told old)
 
 -- the shelf failed, or tells that this file is missing
-abbrev pub FailedOrLacks : {F : Type 0} → (F → Option Told) → (F → ℕ) → F → F → List ℕ → Type 0
+abbrev pub FailedOrLacks : {F : Type 0} → (F → Option ShelfContent) → (F → ℕ) → F → F → List ℕ → Type 0
 FailedOrLacks told faults old new name = Rose (faults old) (faults new) ⊎ Lacks (told old) name

@@ -1,7 +1,7 @@
 -- Context files of a job.
 use Rattle.std.specs.Prelude.{◌≡◌, ℕ, ◌+◌, ◌≤◌, nat_le, Bool, true, false, ◌&&◌, List, length, Option, Some, None, is_some, encode_utf8_all}
 use Rattle.rx_ports.specs.Files.{file_of}
-use Rattle.rx_ports.specs.Told.{Told}
+use Rattle.rx_ports.specs.Shelves.{ShelfContent}
 use Rattle.rx_terms.specs.Text.{Chars}
 use Rattle.rx_rdfa.specs.Names.{Context}
 use Rattle.rx_rdfa.specs.Standard.{standard}
@@ -27,39 +27,39 @@ abbrev pub is_context : List ℕ → Bool
 is_context bytes = nat_le (length bytes) largest_context && is_some (context_of bytes)
 
 -- the file is there, and whether it is a context is this
-pub record IsContextFile (name : Chars) (valid : Bool) (shelf : Told) : Type 0 where
+pub record IsContextFile (name : Chars) (valid : Bool) (shelf : ShelfContent) : Type 0 where
   pub bytes : List ℕ
   pub file : file_of shelf.files (encode_utf8_all name) ≡ Some bytes
   pub tested : is_context bytes ≡ valid
 
 -- no context file is named, or one that is there and is a context
-abbrev pub HasContext : Option Chars → Told → Type 0
+abbrev pub HasContext : Option Chars → ShelfContent → Type 0
 HasContext None shelf = Unit {0}
 HasContext (Some name) shelf = IsContextFile name true shelf
 
 -- a context file is named, and it is there and is no context
-abbrev pub HasOther : Option Chars → Told → Type 0
+abbrev pub HasOther : Option Chars → ShelfContent → Type 0
 HasOther None shelf = ⊥
 HasOther (Some name) shelf = IsContextFile name false shelf
 
 -- a context file is named, and it isn't there
-abbrev pub LacksContext : Option Chars → Told → Type 0
+abbrev pub LacksContext : Option Chars → ShelfContent → Type 0
 LacksContext None shelf = ⊥
 LacksContext (Some name) shelf = file_of shelf.files (encode_utf8_all name) ≡ None
 
 -- the file is there, and is this context
-pub record IsFileOf (name : Chars) (shelf : Told) (context : Context) : Type 0 where
+pub record IsFileOf (name : Chars) (shelf : ShelfContent) (context : Context) : Type 0 where
   pub bytes : List ℕ
   pub file : file_of shelf.files (encode_utf8_all name) ≡ Some bytes
   pub small : length bytes ≤ largest_context
   pub reads : context_of bytes ≡ Some context
 
 -- the context that holds: the standard one, or that of the file that is named
-abbrev pub IsContext : Option Chars → Told → Context → Type 0
+abbrev pub IsContext : Option Chars → ShelfContent → Context → Type 0
 IsContext None shelf context = context ≡ standard
 IsContext (Some name) shelf context = IsFileOf name shelf context
 
-abbrev pub context_size : Option Chars → Told → ℕ
+abbrev pub context_size : Option Chars → ShelfContent → ℕ
 context_size None shelf = 0
 context_size (Some name) shelf = size_of (file_of shelf.files (encode_utf8_all name))
 
@@ -69,12 +69,12 @@ context_limit None = 0
 context_limit (Some name) = largest_context + 1
 
 -- no more was taken than the context file has, nor more than its limit
-pub record TakesContext (file : Option Chars) (old new : Told) : Type 0 where
+pub record TakesContext (file : Option Chars) (old new : ShelfContent) : Type 0 where
   pub files : new.files ≡ old.files
   pub size : new.taken ≤ old.taken + context_size file old
   pub most : new.taken ≤ old.taken + context_limit file
 
 -- the context file was read, where one is named, and this is the context that holds
-pub record ReadsContext (file : Option Chars) (context : Context) (old new : Told) : Type 0 where
+pub record ReadsContext (file : Option Chars) (context : Context) (old new : ShelfContent) : Type 0 where
   pub is : IsContext file old context
   pub takes : TakesContext file old new

@@ -1,13 +1,13 @@
 -- A sample page as it is fed to a walk.
 use Rattle.std.specs.Prelude.{◌≡◌, ◌≤◌, ℕ, List, [], ◌++◌, length}
-use Rattle.rx_walk.specs.Walks.{Stands}
+use Rattle.rx_walk.specs.Walks.{WalkStands}
 use Rattle.rx_command.specs.declared.samples.Feeding.{Feeding}
 use Rattle.rx_command.specs.Samples.{items_to, sample_page, sample_setting, sample_address, larger, deepest_in, deepest, depth_at}
 use Rattle.rx_job.specs.Words.{most_items}
 
 -- the walk stands behind these bytes, which are counted
 pub record Fed (bytes : List ℕ) (s : Feeding) : Type 0 where
-  pub stands : Stands sample_setting sample_address s.walk bytes
+  pub stands : WalkStands sample_setting sample_address s.walk bytes
   pub size : s.size ≡ length bytes
 
 -- the page up to the end of so many items was fed, or stands in the piece

@@ -1,16 +1,16 @@
 -- What reading a file does to a shelf that tells of itself.
 use Rattle.std.specs.Prelude.{◌≡◌, ℕ, ◌+◌, ◌≤◌, List, [], ◌++◌, length, Option, Some, None}
-use Rattle.rx_ports.specs.Told.{Told}
+use Rattle.rx_ports.specs.Shelves.{ShelfContent}
 use Rattle.rx_ports.specs.Files.{file_of}
 
 -- these bytes of the file were read
-pub record HasRead (name bytes : List ℕ) (old new : Told) : Type 0 where
+pub record HasRead (name bytes : List ℕ) (old new : ShelfContent) : Type 0 where
   pub files : new.files ≡ old.files
   pub file : file_of old.files name ≡ Some (bytes ++ new.left)
   pub taken : new.taken ≡ old.taken + length bytes
 
 -- a read gave n bytes, which were added to those before; none only at the end
-pub record ReadsOn (before now : List ℕ) (n : ℕ) (old new : Told) : Type 0 where
+pub record ReadsOn (before now : List ℕ) (n : ℕ) (old new : ShelfContent) : Type 0 where
   pub files : new.files ≡ old.files
   pub bytes : before ++ old.left ≡ now ++ new.left
   pub taken : new.taken ≡ old.taken + n
@@ -18,13 +18,13 @@ pub record ReadsOn (before now : List ℕ) (n : ℕ) (old new : Told) : Type 0 w
   pub at_end : n ≡ 0 → old.left ≡ []
 
 -- at most so many bytes of what was left were taken
-pub record TakesSome (room : ℕ) (old new : Told) : Type 0 where
+pub record TakesSome (room : ℕ) (old new : ShelfContent) : Type 0 where
   pub files : new.files ≡ old.files
   pub sum : length new.left + new.taken ≡ length old.left + old.taken
   pub most : new.taken ≤ old.taken + room
 
 -- the file was read to its end, or to one byte past the limit
-pub record ReadsFile (name : List ℕ) (limit : ℕ) (bytes : List ℕ) (old new : Told) : Type 0 where
+pub record ReadsFile (name : List ℕ) (limit : ℕ) (bytes : List ℕ) (old new : ShelfContent) : Type 0 where
   pub read : HasRead name bytes old new
   pub most : length bytes ≤ limit + 1
   pub whole : length bytes ≤ limit → new.left ≡ []
@@ -35,7 +35,7 @@ size_of None = 0
 size_of (Some bytes) = length bytes
 
 -- no more was taken than the file has, and at most one byte past the limit
-pub record TakesOf (name : List ℕ) (limit : ℕ) (old new : Told) : Type 0 where
+pub record TakesOf (name : List ℕ) (limit : ℕ) (old new : ShelfContent) : Type 0 where
   pub files : new.files ≡ old.files
   pub file : new.taken ≤ old.taken + size_of (file_of old.files name)
   pub most : new.taken ≤ old.taken + (limit + 1)

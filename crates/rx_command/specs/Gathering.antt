@@ -2,7 +2,7 @@
 use Rattle.std.specs.Prelude.{◌≡◌, ℕ, ◌+◌, ◌≤◌, List, [], ◌∷◌, ◌++◌, Option, Some, is_some, true, encode_utf8_all}
 use Rattle.std.specs.Str.{chars}
 use Rattle.rx_ports.specs.Files.{file_of}
-use Rattle.rx_ports.specs.Told.{Told, Moves}
+use Rattle.rx_ports.specs.Shelves.{ShelfContent, Moves}
 use Rattle.rx_terms.specs.Text.{Chars}
 use Rattle.rx_model.specs.Terms.{Triple, set_of}
 use Rattle.rx_model.specs.Numbered.{Renamed}
@@ -65,7 +65,7 @@ JudgesEach gives syntax context files (listed ∷ more) (page ∷ pages) =
 JudgesEach gives syntax context files listed pages = ⊥
 
 -- the text is the document of the listed pages, as they are judged where the job's context holds
-pub record IsGathered (gathering : Gathering) (text : List ℕ) (shelf : Told) : Type 0 where
+pub record IsGathered (gathering : Gathering) (text : List ℕ) (shelf : ShelfContent) : Type 0 where
   pub context : Context
   pub holds : IsContext gathering.context shelf context
   pub pages : List Page
@@ -74,7 +74,7 @@ pub record IsGathered (gathering : Gathering) (text : List ℕ) (shelf : Told) :
 
 -- the text denotes exactly the quads of the accepted pages: of each the graph that RDFa's rules give its tree, under its
 -- address without fragment, all blank nodes being renamed together one to one
-pub record DenotesGathered (gathering : Gathering) (text : List ℕ) (shelf : Told) : Type 0 where
+pub record DenotesGathered (gathering : Gathering) (text : List ℕ) (shelf : ShelfContent) : Type 0 where
   pub context : Context
   pub holds : IsContext gathering.context shelf context
   pub pages : List Page
@@ -82,17 +82,17 @@ pub record DenotesGathered (gathering : Gathering) (text : List ℕ) (shelf : To
   pub denotes : DenotesPages (chars text) pages
 
 -- the words ask for several pages, the shelf tells its files, and this is the text of the pages
-pub record GatheredText (words : List Chars) (told : Option Told) (text : List ℕ) : Type 0 where
+pub record GatheredText (words : List Chars) (told : Option ShelfContent) (text : List ℕ) : Type 0 where
   pub gathering : Gathering
-  pub shelf : Told
+  pub shelf : ShelfContent
   pub asks : gathering_asked words ≡ Some gathering
   pub tells : told ≡ Some shelf
   pub is : IsGathered gathering text shelf
 
 -- .. and this text denotes what they give
-pub record GatheredGraphs (words : List Chars) (told : Option Told) (text : List ℕ) : Type 0 where
+pub record GatheredGraphs (words : List Chars) (told : Option ShelfContent) (text : List ℕ) : Type 0 where
   pub gathering : Gathering
-  pub shelf : Told
+  pub shelf : ShelfContent
   pub asks : gathering_asked words ≡ Some gathering
   pub tells : told ≡ Some shelf
   pub denotes : DenotesGathered gathering text shelf
@@ -103,9 +103,9 @@ HasPages files [] = Unit {0}
 HasPages files (listed ∷ more) = (is_some (file_of files (encode_utf8_all listed.page)) ≡ true) × HasPages files more
 
 -- the words ask for several pages, the shelf tells its files, the context is one, and each page is there
-pub record HasAll (words : List Chars) (told : Option Told) : Type 0 where
+pub record HasAll (words : List Chars) (told : Option ShelfContent) : Type 0 where
   pub gathering : Gathering
-  pub shelf : Told
+  pub shelf : ShelfContent
   pub asks : gathering_asked words ≡ Some gathering
   pub tells : told ≡ Some shelf
   pub context : HasContext gathering.context shelf
@@ -132,7 +132,7 @@ total [] = 0
 total (part ∷ parts) = part + total parts
 
 -- no more was taken than the context file has, nor than is read of it at most, and one part of each page
-pub record TakesGathering (gathering : Gathering) (old new : Told) : Type 0 where
+pub record TakesGathering (gathering : Gathering) (old new : ShelfContent) : Type 0 where
   pub files : new.files ≡ old.files
   pub parts : List ℕ
   pub are : AreParts (IsContext gathering.context old) gathering.syntax old.files gathering.pages parts
@@ -145,43 +145,43 @@ abbrev pub IsThat : Context → Context → Type 0
 IsThat context other = context ≡ other
 
 -- no more was taken than a part of the page
-pub record TakesPart (context : Context) (syntax : Syntax) (listed : Listed) (old new : Told) : Type 0 where
+pub record TakesPart (context : Context) (syntax : Syntax) (listed : Listed) (old new : ShelfContent) : Type 0 where
   pub files : new.files ≡ old.files
   pub part : ℕ
   pub is : IsPart (IsThat context) syntax old.files listed part
   pub taken : new.taken ≤ old.taken + part
 
 -- of each page
-pub record TakesParts (context : Context) (syntax : Syntax) (listed : List Listed) (old new : Told) : Type 0 where
+pub record TakesParts (context : Context) (syntax : Syntax) (listed : List Listed) (old new : ShelfContent) : Type 0 where
   pub files : new.files ≡ old.files
   pub parts : List ℕ
   pub are : AreParts (IsThat context) syntax old.files listed parts
   pub taken : new.taken ≤ old.taken + total parts
 
 -- the page was read and is judged so
-pub record ReadsListed (context : Context) (syntax : Syntax) (listed : Listed) (page : Page) (old new : Told) : Type 0 where
+pub record ReadsListed (context : Context) (syntax : Syntax) (listed : Listed) (page : Page) (old new : ShelfContent) : Type 0 where
   pub judged : Judges GivesTriples syntax context old.files listed page
   pub takes : TakesPart context syntax listed old new
 
 -- all of them were
-pub record ReadsEach (context : Context) (syntax : Syntax) (listed : List Listed) (pages : List Page) (old new : Told) : Type 0 where
+pub record ReadsEach (context : Context) (syntax : Syntax) (listed : List Listed) (pages : List Page) (old new : ShelfContent) : Type 0 where
   pub judged : JudgesEach GivesTriples syntax context old.files listed pages
   pub takes : TakesParts context syntax listed old new
 
 -- this page was read, and added
-pub record AddsPage (context : Context) (syntax : Syntax) (listed : Listed) (before now : List Page) (old new : Option Told) : Type 0 where
+pub record AddsPage (context : Context) (syntax : Syntax) (listed : Listed) (before now : List Page) (old new : Option ShelfContent) : Type 0 where
   pub page : Page
   pub adds : now ≡ before ++ page ∷ []
   pub reads : Moves (ReadsListed context syntax listed page) old new
 
 -- these pages were read, and added
-pub record AddsPages (context : Context) (syntax : Syntax) (listed : List Listed) (before now : List Page) (old new : Option Told) : Type 0 where
+pub record AddsPages (context : Context) (syntax : Syntax) (listed : List Listed) (before now : List Page) (old new : Option ShelfContent) : Type 0 where
   pub pages : List Page
   pub adds : now ≡ before ++ pages
   pub reads : Moves (ReadsEach context syntax listed pages) old new
 
 -- the context file was read, where one is named, and then the pages, which are judged so
-pub record GathersPages (gathering : Gathering) (pages : List Page) (old new : Told) : Type 0 where
+pub record GathersPages (gathering : Gathering) (pages : List Page) (old new : ShelfContent) : Type 0 where
   pub context : Context
   pub holds : IsContext gathering.context old context
   pub judged : JudgesEach GivesTriples gathering.syntax context old.files gathering.pages pages

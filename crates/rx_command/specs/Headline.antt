@@ -1,7 +1,7 @@
 -- The one outcome of a page, and how a run that reads it ends.
 use Rattle.std.specs.Prelude.{◌≡◌, ◌⊎◌, ℕ, Bool, true, false, not, List, [], Option}
 use Rattle.rx_ports.specs.Counts.{Rose}
-use Rattle.rx_ports.specs.Told.{Told, Moves, GrowsBy, GrowsByPart, Stays}
+use Rattle.rx_ports.specs.Shelves.{ShelfContent, Moves, GrowsBy, GrowsByPart, Stays}
 use Rattle.rx_terms.specs.Text.{Chars}
 use Rattle.rx_rdfa.specs.Names.{Context}
 use Rattle.rx_grammar.specs.declared.faults.Fault.{Fault}
@@ -72,7 +72,7 @@ pub record IsTheText (task : Task) (context : Context) (bytes text : List ℕ) :
   pub denotes : TaskDenotes task context bytes text
 
 -- the started file was read to its end
-abbrev pub IsRead : Option Told → Type 0
+abbrev pub IsRead : Option ShelfContent → Type 0
 IsRead told = TellsThat (λ shelf. shelf.left ≡ []) told
 
 -- How a run ends that is to do this task on these bytes: their one text was written, and they were read to their end; or

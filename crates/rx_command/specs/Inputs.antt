@@ -1,7 +1,7 @@
 -- Reading what a job names.
 use Rattle.std.specs.Prelude.{◌≡◌, ℕ, ◌+◌, List, [], Option, Some, None, encode_utf8_all}
 use Rattle.rx_ports.specs.Files.{file_of}
-use Rattle.rx_ports.specs.Told.{Told}
+use Rattle.rx_ports.specs.Shelves.{ShelfContent}
 use Rattle.rx_rdfa.specs.Names.{Context}
 use Rattle.rx_grammar.specs.declared.faults.Fault.{Fault}
 use Rattle.rx_job.specs.Words.{Asked, Task}
@@ -12,7 +12,7 @@ use Rattle.rx_command.specs.Written.{text_of, Denoted}
 use Rattle.rx_command.specs.declared.outcomes.Outcome.{Outcome}
 
 -- the page of this name is there, and what it gives has the text that the task makes of it; it was read to its end
-pub record PageText (task : Task) (context : Context) (name : List ℕ) (outcome : Outcome) (old new : Told) : Type 0 where
+pub record PageText (task : Task) (context : Context) (name : List ℕ) (outcome : Outcome) (old new : ShelfContent) : Type 0 where
   pub bytes : List ℕ
   pub file : file_of old.files name ≡ Some bytes
   pub gives : TaskGives task context bytes (text_of outcome)
@@ -20,20 +20,20 @@ pub record PageText (task : Task) (context : Context) (name : List ℕ) (outcome
   pub left : new.left ≡ []
 
 -- it is there, and the task refuses it with this fault, past which no more than a piece was read
-pub record PageRefused (task : Task) (context : Context) (name : List ℕ) (fault : Fault) (old new : Told) : Type 0 where
+pub record PageRefused (task : Task) (context : Context) (name : List ℕ) (fault : Fault) (old new : ShelfContent) : Type 0 where
   pub bytes : List ℕ
   pub file : file_of old.files name ≡ Some bytes
   pub refused : TaskRefuses task context bytes fault
   pub reads : ReadsTo task fault old.taken new.taken
 
 -- a context holds, and under it the page gives this
-pub record JobText (asked : Asked) (outcome : Outcome) (old new : Told) : Type 0 where
+pub record JobText (asked : Asked) (outcome : Outcome) (old new : ShelfContent) : Type 0 where
   pub context : Context
   pub holds : IsContext asked.context old context
   pub page : PageText asked.task context (encode_utf8_all asked.page) outcome old new
 
 -- or this fault
-pub record JobRefused (asked : Asked) (fault : Fault) (old new : Told) : Type 0 where
+pub record JobRefused (asked : Asked) (fault : Fault) (old new : ShelfContent) : Type 0 where
   pub context : Context
   pub holds : IsContext asked.context old context
   pub bytes : List ℕ
@@ -42,17 +42,17 @@ pub record JobRefused (asked : Asked) (fault : Fault) (old new : Told) : Type 0 
   pub reads : ReadsTo asked.task fault (old.taken + context_size asked.context old) new.taken
 
 -- A read that failed: whatever context holds, the bytes that were read of the page hold no fault but that they end.
-abbrev pub StopsClean : Asked → List ℕ → ℕ → Told → Told → Type 0
+abbrev pub StopsClean : Asked → List ℕ → ℕ → ShelfContent → ShelfContent → Type 0
 StopsClean asked name before old new =
     (context : Context) → IsContext asked.context old context → (file : List ℕ) → file_of old.files name ≡ Some file
     → IsClean (way_in asked.task context) file before new.taken
 
 -- the shelf tells its files, and this holds of them
-abbrev pub TellsThat : (Told → Type 0) → Option Told → Type 0
+abbrev pub TellsThat : (ShelfContent → Type 0) → Option ShelfContent → Type 0
 TellsThat holds None = ⊥
 TellsThat holds (Some shelf) = holds shelf
 
 -- where the shelf tells its files, this holds of them
-abbrev pub WhereTold : (Told → Type 0) → Option Told → Type 0
+abbrev pub WhereTold : (ShelfContent → Type 0) → Option ShelfContent → Type 0
 WhereTold holds None = Unit {0}
 WhereTold holds (Some shelf) = holds shelf

@@ -2,8 +2,8 @@
 use Rattle.std.specs.Prelude.{◌≡◌, ℕ, List, Result, Ok, Err}
 use Rattle.rx_terms.specs.Text.{Chars}
 use Rattle.rx_grammar.specs.Trees.{Tree}
-use Rattle.rx_tags.specs.declared.stops.Stop.{Stop}
-use Rattle.rx_tags.specs.declared.stops.Stop.TheVariants as stop
+use Rattle.rx_grammar.specs.declared.stops.Stop.{Stop}
+use Rattle.rx_grammar.specs.declared.stops.Stop.TheVariants as stop
 use Rattle.rx_microdata.specs.Base.{base_in}
 use Rattle.rx_microdata.specs.Json.{Refused, outcome}
 use Rattle.rx_microdata.specs.Visits.{standard_bounds}

@@ -3,7 +3,7 @@ use Rattle.std.specs.Prelude.{◌≡◌, ◌⊎◌, ℕ, ◌+◌, ◌≤◌, Boo
 use Rattle.std.specs.Fmt.{decimal}
 use Rattle.rx_ports.specs.Counts.{Rose}
 use Rattle.rx_ports.specs.Files.{file_of}
-use Rattle.rx_ports.specs.Told.{Told, Moves, GrowsBy, GrowsByPart, Stays}
+use Rattle.rx_ports.specs.Shelves.{ShelfContent, Moves, GrowsBy, GrowsByPart, Stays}
 use Rattle.rx_terms.specs.Text.{Chars}
 use Rattle.rx_job.specs.Words.{Job, Asked, Gathering, reads, gathers, samples, job}
 use Rattle.rx_many.specs.Writing.{kind_name}
@@ -36,12 +36,12 @@ reads_files (Some (gathers gathering)) = true
 reads_files (Some (samples count)) = false
 
 -- a page was asked for, or several, and the shelf's count of faults rose, or it tells its files and lacks one that is named
-pub record ReadCause (words : List Chars) (told : Option Told) (before now : ℕ) : Type 0 where
+pub record ReadCause (words : List Chars) (told : Option ShelfContent) (before now : ℕ) : Type 0 where
   pub asks : reads_files (job words) ≡ true
   pub cause : Rose before now ⊎ LacksFile words told
 
 -- how much the files have that are named, and how much of them is read at most
-abbrev pub named_size : Option Asked → Told → ℕ
+abbrev pub named_size : Option Asked → ShelfContent → ℕ
 named_size None told = 0
 named_size (Some asked) told = context_size asked.context told + size_of (file_of told.files (encode_utf8_all asked.page))
 
@@ -51,20 +51,20 @@ named_limit (Some asked) = context_limit asked.context + page_limit
 
 -- no more was taken than the files have that are named, nor more than the limit of the page and, where a context file
 -- is named, one byte past the largest of these
-pub record TakesFiles (asked : Option Asked) (old new : Told) : Type 0 where
+pub record TakesFiles (asked : Option Asked) (old new : ShelfContent) : Type 0 where
   pub files : new.files ≡ old.files
   pub size : new.taken ≤ old.taken + named_size asked old
   pub most : new.taken ≤ old.taken + named_limit asked
 
 -- how much is taken for what is asked for
-abbrev pub TakesJob : Option Job → Told → Told → Type 0
+abbrev pub TakesJob : Option Job → ShelfContent → ShelfContent → Type 0
 TakesJob None old new = TakesFiles None old new
 TakesJob (Some (reads asked)) old new = TakesFiles (Some asked) old new
 TakesJob (Some (gathers gathering)) old new = TakesGathering gathering old new
 TakesJob (Some (samples count)) old new = TakesFiles None old new
 
 -- the page that is asked for was read to its end
-abbrev pub IsAtEnd : Option Asked → Option Told → Type 0
+abbrev pub IsAtEnd : Option Asked → Option ShelfContent → Type 0
 IsAtEnd None told = Unit {0}
 IsAtEnd (Some asked) None = Unit {0}
 IsAtEnd (Some asked) (Some told) = told.left ≡ []
@@ -104,7 +104,7 @@ SampleEnds count status.BadContext old new before now = ⊥
 
 -- what the shelf, out and err tell, and their counts of faults
 pub record Devices : Type 0 where
-  pub told : Option Told
+  pub told : Option ShelfContent
   pub read_faults : ℕ
   pub held : Option (List ℕ)
   pub write_faults : ℕ
@@ -138,11 +138,11 @@ pub record GatheringEnds (gathering : Gathering) (s : Status) (old new : Devices
   pub says : SaysAs s old new
 
 -- a page that is refused was read no further than a piece past the byte that decides the fault, where that isn't an item's
-abbrev pub TakesToFault : Option Asked → Fault → Told → Told → Type 0
+abbrev pub TakesToFault : Option Asked → Fault → ShelfContent → ShelfContent → Type 0
 TakesToFault None fault old new = Unit {0}
 TakesToFault (Some asked) fault old new = ReadsTo asked.task fault (old.taken + context_size asked.context old) new.taken
 
 -- where the page is there, what was read of it behind the context file holds no fault but that it ends
-abbrev pub StopsCleanly : Option Asked → Told → Told → Type 0
+abbrev pub StopsCleanly : Option Asked → ShelfContent → ShelfContent → Type 0
 StopsCleanly None old new = Unit {0}
 StopsCleanly (Some asked) old new = StopsClean asked (encode_utf8_all asked.page) (old.taken + context_size asked.context old) old new

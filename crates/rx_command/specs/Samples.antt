@@ -14,7 +14,7 @@ use Rattle.rx_nquads.specs.Writing.{nquads}
 use Rattle.rx_base.specs.Lines.{line_of}
 use Rattle.rx_walk.specs.Settings.{Setting}
 use Rattle.rx_command.specs.Reading.{standard, setting_for}
-use Rattle.rx_ports.specs.Told.{Told}
+use Rattle.rx_ports.specs.Shelves.{ShelfContent}
 use Rattle.rx_job.specs.Words.{job, samples, most_items}
 use Rattle.rx_command.specs.Outcome.{IsAccepted, base_in, facts_in, HasPageText, HasPageGraph}
 use Rattle.rx_command.specs.Gathering.{GatheredText, GatheredGraphs}
@@ -87,7 +87,7 @@ triples_in tree = written (base_in sample_address tree) (facts_in names.standard
 abbrev pub line_with : ℕ → ℕ → ℕ → ℕ → ℕ → List ℕ
 line_with count size triples output depth =
     codes "sample " ++ (decimal count ++ (codes ": " ++ (decimal size ++ (codes " bytes, " ++ (decimal triples
-      ++ (codes " triples, " ++ (decimal output ++ (codes " output bytes, depth " ++ (decimal depth ++ codes "\n")))))))))
+    ++ (codes " triples, " ++ (decimal output ++ (codes " output bytes, depth " ++ (decimal depth ++ codes "\n")))))))))
 
 -- the line that is said of a page of so many items with these triples
 abbrev pub line_for : ℕ → List (Triple ℕ) → List ℕ
@@ -107,9 +107,9 @@ pub record SaysOfSample (words : List Chars) (line : List ℕ) : Type 0 where
   pub is : IsSample count line
 
 -- the outcome is this text
-abbrev pub Yields : List Chars → Option Told → List ℕ → Type 0
+abbrev pub Yields : List Chars → Option ShelfContent → List ℕ → Type 0
 Yields words told text = HasPageText words told text ⊎ (SaysOfSample words text ⊎ GatheredText words told text)
 
 -- the outcome is this text, which, where pages are read, denotes exactly their graphs
-abbrev pub YieldsGraph : List Chars → Option Told → List ℕ → Type 0
+abbrev pub YieldsGraph : List Chars → Option ShelfContent → List ℕ → Type 0
 YieldsGraph words told text = HasPageGraph words told text ⊎ (SaysOfSample words text ⊎ GatheredGraphs words told text)

@@ -1,10 +1,10 @@
 //! Reading a whole file.
 ghost use Rattle.std.specs.Prelude.{◌≡◌, ◌+◌, ◌≤◌, ◌<◌, ◌^◌, ◌⊎◌, IfOk, IsErrOf, length, vec_len};
 ghost use Rattle.rx_ports.specs.Counts.{Rose};
-ghost use Rattle.rx_ports.specs.Told.{Moves, Lacks};
+ghost use Rattle.rx_ports.specs.Shelves.{Moves, Lacks};
 ghost use Rattle.rx_command.specs.Files.{ReadsFile, ReadsOn, TakesSome, TakesOf};
 
-use rx_ports::Shelf;
+use rx_ports::{PIECE, Shelf};
 use std::alloc::Global;
 
 /// Why a file wasn't read.
@@ -13,9 +13,6 @@ pub enum ReadError {
     Failed,
     NoMemory,
 }
-
-/// How many bytes are asked for at a time.
-const PIECE: usize = 65_536;
 
 /// Reads a file to its end, or to one byte past the limit, which is in bytes.
 pub fn read_file<F: Shelf>(

@@ -1,7 +1,7 @@
 //! Several pages in one dataset: the context file is read, and then each page in order.
 ghost use Rattle.std.specs.Prelude.{◌≡◌, ◌≤◌, ◌++◌, [], ◌∷◌, length, IfOk, OnOk, IsErrOf, Err, is_some, true, encode_utf8_all};
 ghost use Rattle.rx_many.specs.Pages.{accepted_page, refused_page};
-ghost use Rattle.rx_ports.specs.Told.{Moves};
+ghost use Rattle.rx_ports.specs.Shelves.{Moves};
 ghost use Rattle.rx_job.specs.Jobs.{several_seen, page_at};
 ghost use Rattle.rx_command.specs.declared.errors.InputError as errors;
 ghost use Rattle.rx_command.specs.Contexts.{HasOther, TakesContext};

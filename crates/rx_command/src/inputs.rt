@@ -1,6 +1,6 @@
 //! Doing a job: its context file is read, and then its page.
 ghost use Rattle.std.specs.Prelude.{◌≡◌, ◌≤◌, IfOk, IsErrOf, Err, Some, encode_utf8_all, is_some, true, false};
-ghost use Rattle.rx_ports.specs.Told.{Moves};
+ghost use Rattle.rx_ports.specs.Shelves.{Moves};
 ghost use Rattle.rx_job.specs.Words.{checks};
 ghost use Rattle.rx_job.specs.Jobs.{page_by, reads_page, has_context, text_in};
 ghost use Rattle.rx_command.specs.Files.{TakesOf};

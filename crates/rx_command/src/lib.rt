@@ -19,7 +19,7 @@ mod inputs;
 mod json_texts;
 mod outcomes;
 mod pages;
-mod readers;
+mod passes;
 mod samples;
 mod shaped;
 mod statuses;

@@ -1,17 +1,17 @@
 //! Reading a page as its bytes come.
 ghost use Rattle.std.specs.Prelude.{◌≡◌, ◌<◌, ◌≤◌, [], IfOk, IsErrOf, length, vec_len};
 ghost use Rattle.rx_ports.specs.Counts.{Rose};
-ghost use Rattle.rx_ports.specs.Told.{Moves};
+ghost use Rattle.rx_ports.specs.Shelves.{Moves};
 ghost use Rattle.rx_command.specs.Reading.{for_items, for_faults, way_for, Starts, MakesTriples, FindsItems, FindsFaults, NextGives, GivesItems, GivesRight, FileGives, PageGives, TakesToFirst, FromStart, FromWhere, EndsWithList, EndsWithItems, EndsRight};
 ghost use Rattle.rx_command.specs.Files.{TakesSome, TakesOf};
 ghost use Rattle.rx_command.specs.Ways.{way_of, GivesListOf};
 ghost use Rattle.rx_command.specs.Calls.{FailedOrLacks};
 
 use crate::errors::InputError;
-use crate::readers::Reader;
+use crate::passes::Pass;
 use rx_items::{ItemWalk, Items};
 use rx_names::Context;
-use rx_ports::Shelf;
+use rx_ports::{PIECE, Shelf};
 use rx_terms::{Iri, NoMemory, TripleList};
 use rx_walk::{Check, Limits, Stop, Syntax, Walk};
 use std::alloc::Global;
@@ -23,9 +23,6 @@ pub(crate) struct Approach {
     pub(crate) context: Context,
     pub(crate) address: Iri,
 }
-
-/// The most bytes that a read asks for.
-const PIECE: usize = 65_536;
 
 /// The most bytes that a page has.
 const LARGEST_PAGE: usize = 1_073_741_824;
@@ -74,7 +71,7 @@ pub(crate) fn read_page_by<F: Shelf>(
     let Ok(walk) = Walk::new(alloc, syntax, context, address, Limits::standard()) else {
         return Err(InputError::NoMemory);
     };
-    let mut reader = Reader::Walks(walk);
+    let mut reader = Pass::Walks(walk);
     match feed_file_by(shelf, name, &mut reader, piece) {
         Ok(()) => list_of(reader),
         Err(error) => {
@@ -100,7 +97,7 @@ pub(crate) fn read_items<F: Shelf>(
     let Ok(walk) = ItemWalk::new(alloc, syntax, address, Limits::standard()) else {
         return Err(InputError::NoMemory);
     };
-    let mut reader = Reader::Itemizes(walk);
+    let mut reader = Pass::Itemizes(walk);
     match feed_file(alloc, shelf, name, &mut reader) {
         Ok(()) => items_of(reader),
         Err(error) => {
@@ -126,7 +123,7 @@ pub(crate) fn check_page<F: Shelf>(
     let Ok(check) = Check::new(alloc, syntax, context, Limits::standard()) else {
         return Err(InputError::NoMemory);
     };
-    let mut reader = Reader::Checks(check);
+    let mut reader = Pass::Checks(check);
     match feed_file(alloc, shelf, name, &mut reader) {
         Ok(()) => checked(reader),
         Err(error) => {
@@ -149,7 +146,7 @@ fn feed_file<F: Shelf>(
     alloc: Global,
     shelf: &mut F,
     name: &str,
-    reader: &mut Reader,
+    reader: &mut Pass,
 ) -> Result<(), InputError>
     requires { Starts reader.old }
     ensures gives { FromStart reader.old (λ syntax aim. FileGives syntax aim name.now result reader.new (F.told shelf.old) (F.told shelf.new)) }
@@ -168,7 +165,7 @@ fn feed_file<F: Shelf>(
 fn feed_file_by<F: Shelf>(
     shelf: &mut F,
     name: &str,
-    reader: &mut Reader,
+    reader: &mut Pass,
     piece: &mut [u8],
 ) -> Result<(), InputError>
     requires starts { Starts reader.old }
@@ -196,7 +193,7 @@ fn feed_file_by<F: Shelf>(
 // Reads on once, and takes what was read.
 fn feed_next<F: Shelf>(
     shelf: &mut F,
-    reader: &mut Reader,
+    reader: &mut Pass,
     piece: &mut [u8],
 ) -> Result<usize, InputError>
     requires { 0 < length piece.old }
@@ -218,15 +215,15 @@ fn feed_next<F: Shelf>(
 }
 
 // The page's end, where its triples are wanted.
-fn list_of(reader: Reader) -> Result<TripleList, InputError>
+fn list_of(reader: Pass) -> Result<TripleList, InputError>
     requires { MakesTriples reader }
     ensures gives { EndsWithList reader result }
     ensures reads_none { IsErrOf result InputError.Failed → ⊥ }
 {
     let walk = match reader {
-        Reader::Walks(walk) => walk,
-        Reader::Itemizes(_walk) => unreachable!(),
-        Reader::Checks(_check) => unreachable!(),
+        Pass::Walks(walk) => walk,
+        Pass::Itemizes(_walk) => unreachable!(),
+        Pass::Checks(_check) => unreachable!(),
     };
     match walk.finish() {
         Ok(list) => Ok(list),
@@ -236,15 +233,15 @@ fn list_of(reader: Reader) -> Result<TripleList, InputError>
 }
 
 // The page's end, where its items are wanted.
-fn items_of(reader: Reader) -> Result<Items, InputError>
+fn items_of(reader: Pass) -> Result<Items, InputError>
     requires { FindsItems reader }
     ensures gives { EndsWithItems reader result }
     ensures reads_none { IsErrOf result InputError.Failed → ⊥ }
 {
     let walk = match reader {
-        Reader::Walks(_walk) => unreachable!(),
-        Reader::Itemizes(walk) => walk,
-        Reader::Checks(_check) => unreachable!(),
+        Pass::Walks(_walk) => unreachable!(),
+        Pass::Itemizes(walk) => walk,
+        Pass::Checks(_check) => unreachable!(),
     };
     match walk.finish() {
         Ok(items) => Ok(items),
@@ -254,15 +251,15 @@ fn items_of(reader: Reader) -> Result<Items, InputError>
 }
 
 // The page's end, where only its faults are wanted.
-fn checked(reader: Reader) -> Result<(), InputError>
+fn checked(reader: Pass) -> Result<(), InputError>
     requires { FindsFaults reader }
     ensures gives { EndsRight reader result }
     ensures reads_none { IsErrOf result InputError.Failed → ⊥ }
 {
     let check = match reader {
-        Reader::Walks(_walk) => unreachable!(),
-        Reader::Itemizes(_walk) => unreachable!(),
-        Reader::Checks(check) => check,
+        Pass::Walks(_walk) => unreachable!(),
+        Pass::Itemizes(_walk) => unreachable!(),
+        Pass::Checks(check) => check,
     };
     match check.finish() {
         Ok(()) => Ok(()),

@@ -2,7 +2,7 @@
 ghost use Rattle.std.specs.Prelude.{◌≡◌, IfOk, OnOk, IsErrOf, map};
 ghost use Rattle.std.specs.Str.{chars};
 ghost use Rattle.rx_ports.specs.Counts.{Rose};
-ghost use Rattle.rx_ports.specs.Told.{Moves, GrowsBy, GrowsByPart};
+ghost use Rattle.rx_ports.specs.Shelves.{Moves, GrowsBy, GrowsByPart};
 ghost use Rattle.rx_model.specs.Seen.{triples_seen};
 ghost use Rattle.rx_shapes.specs.Table.{AreShapes};
 ghost use Rattle.rx_notation.specs.Laws.{proper_triple};

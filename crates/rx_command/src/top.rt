@@ -1,7 +1,7 @@
 //! The top call.
 ghost use Rattle.std.specs.Prelude.{◌≡◌, ◌≢◌, ◌≤◌, ◌⊎◌, ℕ, List, None, Some, IfOk, is_some, true, string_bytes};
 ghost use Rattle.rx_ports.specs.Counts.{Rose};
-ghost use Rattle.rx_ports.specs.Told.{Told, Moves, GrowsBy, GrowsByPart, Stays};
+ghost use Rattle.rx_ports.specs.Shelves.{ShelfContent, Moves, GrowsBy, GrowsByPart, Stays};
 ghost use Rattle.rx_job.specs.Jobs.{several_seen};
 ghost use Rattle.rx_job.specs.Words.{gathering_asked, job, most_items, page_asked, samples};
 ghost use Rattle.rx_command.specs.Contexts.{TakesContext, context_asked};
@@ -48,12 +48,22 @@ pub fn run<F: Shelf, O: Sink, E: Sink>(
     // its items), and the page was read to its end; or Refused with the one fault that the page has, out unchanged; or the
     // shelf or out failed; or there was no memory.
     ensures answers { AnswersPage words.now result
-        (record { told = F.told shelf.old; read_faults = F.faults shelf.old;
-            held = O.held out.old; write_faults = O.faults out.old;
-            said = E.held err.old; say_faults = E.faults err.old })
-        (record { told = F.told shelf.new; read_faults = F.faults shelf.new;
-            held = O.held out.new; write_faults = O.faults out.new;
-            said = E.held err.new; say_faults = E.faults err.new }) }
+        (record {
+          told = F.told shelf.old;
+          read_faults = F.faults shelf.old;
+          held = O.held out.old;
+          write_faults = O.faults out.old;
+          said = E.held err.old;
+          say_faults = E.faults err.old;
+        })
+        (record {
+          told = F.told shelf.new;
+          read_faults = F.faults shelf.new;
+          held = O.held out.new;
+          write_faults = O.faults out.new;
+          said = E.held err.new;
+          say_faults = E.faults err.new;
+        }) }
 
     // Usage comes only where the words ask for nothing, and then the shelf is as it was. Where they ask for nothing there is no
     // other answer but want of memory.
@@ -63,17 +73,17 @@ pub fn run<F: Shelf, O: Sink, E: Sink>(
 
     // Done comes only where there is a text, that of the page, of several pages or of a sample: out has then grown by
     // exactly that, and a page that alone is asked for was read to its end.
-    ensures done { result ≡ Status.Done → (told : Told) → F.told shelf.old ≡ Some told →
+    ensures done { result ≡ Status.Done → (told : ShelfContent) → F.told shelf.old ≡ Some told →
         (text : List ℕ) × Yields words.now (F.told shelf.old) text × Moves (GrowsBy text) (O.held out.old) (O.held out.new) }
     // The text of an extraction denotes exactly the graph that RDFa's rules give the page's tree, its blank nodes renamed
     // one to one; that of several pages denotes the graphs of those that are accepted, each under its address, and no two
     // share a blank node.
-    ensures denotes { result ≡ Status.Done → (told : Told) → F.told shelf.old ≡ Some told →
+    ensures denotes { result ≡ Status.Done → (told : ShelfContent) → F.told shelf.old ≡ Some told →
         (text : List ℕ) × YieldsGraph words.now (F.told shelf.old) text × Moves (GrowsBy text) (O.held out.old) (O.held out.new) }
     ensures to_end { result ≡ Status.Done → IsAtEnd (page_asked words.now) (F.told shelf.new) }
 
     // Refused comes only where the page has this fault, and never where several pages are asked for.
-    ensures refused { (fault : Fault) → result ≡ Status.Refused fault → (told : Told) → F.told shelf.old ≡ Some told →
+    ensures refused { (fault : Fault) → result ≡ Status.Refused fault → (told : ShelfContent) → F.told shelf.old ≡ Some told →
         HasPageFault words.now (F.told shelf.old) fault }
     ensures refuses_one { (fault : Fault) → result ≡ Status.Refused fault → gathering_asked words.now ≡ None }
     // The page is then read no further than 65,536 bytes past the byte that decides the fault, unless that is an item's,
@@ -90,7 +100,7 @@ pub fn run<F: Shelf, O: Sink, E: Sink>(
 
     // WriteFault comes only where out failed, which then holds a proper front of the text more than before.
     ensures write_fault { result ≡ Status.WriteFault → Rose (O.faults out.old) (O.faults out.new) }
-    ensures partly { result ≡ Status.WriteFault → (told : Told) → F.told shelf.old ≡ Some told →
+    ensures partly { result ≡ Status.WriteFault → (told : ShelfContent) → F.told shelf.old ≡ Some told →
         (text : List ℕ) × Yields words.now (F.told shelf.old) text × Moves (GrowsByPart text) (O.held out.old) (O.held out.new) }
 
     // On any other status nothing is written.
@@ -99,7 +109,7 @@ pub fn run<F: Shelf, O: Sink, E: Sink>(
     // BadContext comes only where the words name a context file, which is there and has another shape or is too long; and
     // then, where nothing failed, there is no other answer but want of memory. No more is read than that file has.
     ensures names_context { result ≡ Status.BadContext → is_some (context_asked words.now) ≡ true }
-    ensures bad_context { result ≡ Status.BadContext → (told : Told) → F.told shelf.old ≡ Some told → HasBadContext words.now (F.told shelf.old) }
+    ensures bad_context { result ≡ Status.BadContext → (told : ShelfContent) → F.told shelf.old ≡ Some told → HasBadContext words.now (F.told shelf.old) }
     ensures refuses_context { HasBadContext words.now (F.told shelf.old) → ¬ Rose (F.faults shelf.old) (F.faults shelf.new)
         → (result ≡ Status.BadContext) ⊎ (result ≡ Status.Memory) }
     ensures takes_context { result ≡ Status.BadContext → Moves (TakesContext (context_asked words.now)) (F.told shelf.old) (F.told shelf.new) }
@@ -221,12 +231,22 @@ fn run_several<F: Shelf, O: Sink, E: Sink>(
     err: &mut E,
 ) -> Status
     ensures { GatheringEnds (several_seen several.entry) result
-        (record { told = F.told shelf.old; read_faults = F.faults shelf.old;
-            held = O.held out.old; write_faults = O.faults out.old;
-            said = E.held err.old; say_faults = E.faults err.old })
-        (record { told = F.told shelf.new; read_faults = F.faults shelf.new;
-            held = O.held out.new; write_faults = O.faults out.new;
-            said = E.held err.new; say_faults = E.faults err.new }) }
+        (record {
+          told = F.told shelf.old;
+          read_faults = F.faults shelf.old;
+          held = O.held out.old;
+          write_faults = O.faults out.old;
+          said = E.held err.old;
+          say_faults = E.faults err.old;
+        })
+        (record {
+          told = F.told shelf.new;
+          read_faults = F.faults shelf.new;
+          held = O.held out.new;
+          write_faults = O.faults out.new;
+          said = E.held err.new;
+          say_faults = E.faults err.new;
+        }) }
 {
     let many = match gather(alloc, shelf, several) {
         Ok(many) => many,

@@ -1,8 +1,7 @@
 -- The facts of a tag from its attributes.
 use Rattle.std.proofs.Common.{◌≡◌, ◌∙◌, refl, ap₂, Bool, List, ℕ, Option, Some, None, Bor}
 use Rattle.std.specs.Prelude.{is_some, option_and_then}
-use Rattle.rx_terms.specs.Text.{Chars}
-use Rattle.rx_refs.specs.Views.{seen_slice}
+use Rattle.rx_terms.specs.Text.{Chars, seen_slice}
 use Rattle.rx_rdfa.specs.Tree.{Tag}
 use Rattle.rx_rdfa.specs.Names.{Context}
 use Rattle.rx_rdfa.specs.Facts.{link}

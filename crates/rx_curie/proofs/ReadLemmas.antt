@@ -6,11 +6,10 @@ use Rattle.std.proofs.lemmas.Bool.{and_from}
 use Rattle.std.proofs.lemmas.Bool.Decides.{nat_tests}
 use Rattle.std.proofs.lemmas.List.{reverse-append, reverse-reverse}
 use Rattle.rx_terms.specs.Ascii.{left_bracket, right_bracket}
-use Rattle.rx_terms.specs.Text.{Chars, begins_with, is_empty}
+use Rattle.rx_terms.specs.Text.{Chars, begins_with, is_empty, seen_slice}
 use Rattle.rx_terms.specs.Iri.{has_scheme}
 use Rattle.rx_terms.proofs.CharLemmas.{ascii-chars}
-use Rattle.rx_refs.specs.Views.{seen_slice}
-use Rattle.rx_refs.proofs.PartLemmas.{by_test}
+use Rattle.rx_terms.proofs.Bools.{by_test}
 use Rattle.rx_rdfa.specs.Tree.{Tag}
 use Rattle.rx_rdfa.specs.Names.{Context}
 use Rattle.rx_rdfa.specs.Readings.{Joined, read_parts, xhtml_vocabulary}

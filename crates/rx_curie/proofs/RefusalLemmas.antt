@@ -10,7 +10,8 @@ use Rattle.rx_terms.specs.Iri.{has_scheme, is_scheme, is_scheme_char, begins_wit
 use Rattle.rx_refs.specs.Parts.{before, behind}
 use Rattle.rx_refs.specs.Dots.{holds}
 use Rattle.rx_refs.specs.Resolve.{cleaned, cleaned_char, digit}
-use Rattle.rx_refs.proofs.PartLemmas.{by_test, behind-some, behind-none, before-lacks}
+use Rattle.rx_terms.proofs.Bools.{by_test}
+use Rattle.rx_refs.proofs.PartLemmas.{behind-some, behind-none, before-lacks}
 use Rattle.rx_refs.proofs.SchemeLemmas.{cleaned-append, has_scheme-cut, has_scheme-uncut, none_at, forbidden-small, uncleaned}
 use Rattle.rx_rdfa.specs.Tree.{Tag, attribute}
 use Rattle.rx_rdfa.specs.Names.{Context, vocab, declared_or, unless_empty}
@@ -18,8 +19,7 @@ use Rattle.rx_terms.specs.Literal.{rdf_lang_string}
 use Rattle.rx_rdfa.specs.Facts.{Facts, Datatype, Empty, Is, facts, predicate, predicates, datatype_of}
 use Rattle.rx_rdfa.specs.Refusals.{Refusal, RelativeVocab, XmlLiteral, HtmlLiteral, is_relative, is_datatype, refusal, rdf_xml_literal, rdf_html}
 use Rattle.rx_grammar.specs.declared.faults.Kind.{Kind}
-use Rattle.rx_names.specs.Lines.{Kept, Stands}
-use Rattle.rx_grammar.specs.declared.faults.Kind.{Kind}
+use Rattle.rx_names.specs.Lines.{Kept, NamesStand}
 use Rattle.rx_curie.specs.declared.facts.FactsError.TheVariants as error
 use Rattle.rx_curie.specs.Given.{own_vocabulary, vocabulary_from, kind_of, RefusesFor}
 use Rattle.rx_curie.specs.Refusing.{is_iri, markup, markup_of}
@@ -163,6 +163,6 @@ refuses-none (Some refused) e = absurd (cc)
 
 -- what is told of the refusal of a tag's attributes, told of the tag
 pub refused-line : (kept : Kept) (attributes tag : Tag) (told : Option Kind) → attributes ≡ tag
-    → ((above : List Tag) → Stands kept (attributes ∷ above) → is_relative (vocabulary_from above attributes) ≡ false → told ≡ option_map kind_of (refusal (facts kept.context above attributes)))
-    → (above : List Tag) → Stands kept (tag ∷ above) → is_relative (vocabulary_from above tag) ≡ false → told ≡ option_map kind_of (refusal (facts kept.context above tag))
-refused-line kept attributes tag told e line = subst (λ t. (above : List Tag) → Stands kept (t ∷ above) → is_relative (vocabulary_from above t) ≡ false → told ≡ option_map kind_of (refusal (facts kept.context above t))) e line
+    → ((above : List Tag) → NamesStand kept (attributes ∷ above) → is_relative (vocabulary_from above attributes) ≡ false → told ≡ option_map kind_of (refusal (facts kept.context above attributes)))
+    → (above : List Tag) → NamesStand kept (tag ∷ above) → is_relative (vocabulary_from above tag) ≡ false → told ≡ option_map kind_of (refusal (facts kept.context above tag))
+refused-line kept attributes tag told e line = subst (λ t. (above : List Tag) → NamesStand kept (t ∷ above) → is_relative (vocabulary_from above t) ≡ false → told ≡ option_map kind_of (refusal (facts kept.context above t))) e line

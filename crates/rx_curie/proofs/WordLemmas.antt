@@ -7,7 +7,7 @@ use Rattle.std.proofs.lemmas.Bool.Decides.{nat_tests, Decides-eqb}
 use Rattle.rx_terms.specs.Text.{Chars, begins_with}
 use Rattle.rx_terms.specs.Iri.{is_forbidden}
 use Rattle.rx_refs.specs.Resolve.{cleaned}
-use Rattle.rx_refs.proofs.PartLemmas.{by_test}
+use Rattle.rx_terms.proofs.Bools.{by_test}
 use Rattle.rx_curie.specs.Refusing.{is_uncleaned}
 
 pub same-behind : (front a b : Chars) → bytes_eq (front ++ a) (front ++ b) ≡ bytes_eq a b

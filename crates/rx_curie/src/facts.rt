@@ -6,7 +6,7 @@ ghost use Rattle.rx_curie.specs.Seen.{kind_seen};
 
 use crate::literals::{is_word, own_vocabulary, put_datatype, put_language, put_vocabulary};
 use crate::makers::IriMaker;
-use crate::nodes::Nodes2;
+use crate::nodes::TypeList;
 use crate::predicates::{put_link, put_properties};
 use crate::refs::Ref;
 use crate::refusals::refusal_by;
@@ -60,7 +60,7 @@ pub struct Facts {
     /// The predicates of `property`.
     pub property: Option<Iris>,
     /// The types of `typeof`.
-    pub types: Option<Nodes2>,
+    pub types: Option<TypeList>,
     /// The text of `content`.
     pub content: Option<Text>,
     /// The text of `datetime`.
@@ -90,7 +90,7 @@ impl Facts {
     ghost use Rattle.rx_rdfa.specs.Refusals.{is_relative};
     ghost use Rattle.rx_rdfa.specs.Facts as the;
     ghost use Rattle.rx_names.specs.Tags.{tag_of};
-    ghost use Rattle.rx_names.specs.Lines.{Stands, vocabulary_of};
+    ghost use Rattle.rx_names.specs.Lines.{NamesStand, vocabulary_of};
     ghost use Rattle.rx_names.specs.Views.{names_seen};
     ghost use Rattle.rx_curie.specs.Given.{own_vocabulary, vocabulary_from, no_facts, Gives, GivesIn, IsRefused, is_for_meaning};
     ghost use Rattle.rx_curie.specs.Seen.{facts_seen};
@@ -104,7 +104,7 @@ impl Facts {
         tag: &Tag<'_>,
         names: &NamesView<'_>,
     ) -> Result<Facts, FactsError>
-        ensures line { (above : List StartTag) → Stands (names_seen names.now) (tag_of tag.now ∷ above)
+        ensures line { (above : List StartTag) → NamesStand (names_seen names.now) (tag_of tag.now ∷ above)
             → is_relative (vocabulary_from above (tag_of tag.now)) ≡ false
             → Gives result (the.facts (names_seen names.now).context above (tag_of tag.now)) }
         ensures relative { is_relative (vocabulary_of (names_seen names.now)) ≡ true
@@ -151,7 +151,7 @@ impl Facts {
         tag: &Tag<'_>,
         names: &NamesView<'_>,
     ) -> Result<(), FactsError>
-        ensures line { (above : List StartTag) → Stands (names_seen names.now) (tag_of tag.now ∷ above)
+        ensures line { (above : List StartTag) → NamesStand (names_seen names.now) (tag_of tag.now ∷ above)
             → is_relative (vocabulary_from above (tag_of tag.now)) ≡ false
             → GivesIn result self.new (the.facts (names_seen names.now).context above (tag_of tag.now)) }
         ensures relative { is_relative (vocabulary_of (names_seen names.now)) ≡ true
@@ -181,7 +181,7 @@ impl Facts {
         requires name { chars name.now ≡ tag.now.name }
         requires own { is_relative (own_vocabulary tag.now) ≡ false }
         requires vocabulary { is_relative (vocabulary_of (names_seen names.now)) ≡ false }
-        ensures { OnOk result ((line : List StartTag) → Stands (names_seen names.now) line
+        ensures { OnOk result ((line : List StartTag) → NamesStand (names_seen names.now) line
             → facts_seen self.new ≡ the.facts_of (names_seen names.now).context line tag.now) }
     {
         let property = tag.value("property");

@@ -25,7 +25,7 @@ mod types;
 
 pub use facts::{Datatype, ElementKind, Facts, FactsError};
 pub use makers::IriMaker;
-pub use nodes::Nodes2;
+pub use nodes::TypeList;
 pub use readings::{Reading, read_resource, read_term};
 pub use refs::Ref;
 pub use refusals::refusal_of;

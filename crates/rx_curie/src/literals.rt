@@ -4,14 +4,13 @@ ghost use Rattle.std.specs.List.{list_all};
 ghost use Rattle.std.specs.Str.{chars};
 ghost use Rattle.rx_terms.specs.Ascii.{is_ascii};
 ghost use Rattle.rx_terms.specs.Iri.{has_scheme};
-ghost use Rattle.rx_terms.specs.Text.{Chars, trimmed};
+ghost use Rattle.rx_terms.specs.Text.{Chars, trimmed, seen_slice};
 ghost use Rattle.rx_refs.specs.Resolve.{cleaned};
-ghost use Rattle.rx_refs.specs.Views.{seen_slice};
 ghost use Rattle.rx_rdfa.specs.Tree.{Tag as StartTag};
 ghost use Rattle.rx_rdfa.specs.Names.{language, unless_empty};
 ghost use Rattle.rx_rdfa.specs.Refusals.{is_relative};
 ghost use Rattle.rx_rdfa.specs.Facts as the;
-ghost use Rattle.rx_names.specs.Lines.{Stands, vocabulary_of};
+ghost use Rattle.rx_names.specs.Lines.{NamesStand, vocabulary_of};
 ghost use Rattle.rx_names.specs.Views.{names_seen};
 ghost use Rattle.rx_curie.specs.Given.{own_vocabulary};
 ghost use Rattle.rx_curie.specs.Seen.{datatype_seen};
@@ -36,7 +35,7 @@ pub(crate) fn put_datatype(
     value: Option<&str>,
 ) -> Result<(), NoMemory>
     requires { is_relative (vocabulary_of (names_seen names.now)) ≡ false }
-    ensures { OnOk result ((line : List StartTag) → Stands (names_seen names.now) line
+    ensures { OnOk result ((line : List StartTag) → NamesStand (names_seen names.now) line
         → option_map datatype_seen field.new ≡
         option_map (λ value. the.datatype_of (the.predicate (names_seen names.now).context line (trimmed value))) (seen_slice value.entry)) }
 {
@@ -144,7 +143,7 @@ pub(crate) fn put_language(
     alloc: Global,
     names: &NamesView<'_>,
 ) -> Result<(), NoMemory>
-    ensures { OnOk result ((line : List StartTag) → Stands (names_seen names.now) line → field.new ≡ language line) }
+    ensures { OnOk result ((line : List StartTag) → NamesStand (names_seen names.now) line → field.new ≡ language line) }
 {
     let Some(language) = names.lang() else {
         empty(field);

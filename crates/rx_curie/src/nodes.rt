@@ -9,11 +9,11 @@ use std::marker::Model;
 
 /// A list of IRIs and authors' blank nodes that only grows, in the order of its pushes. A contract sees the list.
 #[derive(Debug, Drop)]
-pub struct Nodes2 {
+pub struct TypeList {
     nodes: Vec<Ref>,
 }
 
-impl Model for Nodes2 {
+impl Model for TypeList {
     ghost use Rattle.std.specs.Prelude.{◌≡◌, List, true};
     ghost use Rattle.rx_curie.specs.declared.refs.Ref.{Ref};
     ghost use Rattle.rx_curie.specs.Nodes.{are_nodes};
@@ -25,12 +25,12 @@ impl Model for Nodes2 {
     ghost invariant = { λ list. are_nodes list.nodes.items ≡ true };
 }
 
-impl Nodes2 {
+impl TypeList {
     /// An empty list.
-    pub fn new(alloc: Global) -> Nodes2
+    pub fn new(alloc: Global) -> TypeList
         ensures empty { result ≡ [] }
     {
-        Nodes2 {
+        TypeList {
             nodes: Vec::new(alloc),
         }
     }

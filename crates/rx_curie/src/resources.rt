@@ -1,10 +1,10 @@
 //! What `about`, `resource`, `href` and `src` name.
 ghost use Rattle.std.specs.Prelude.{◌≡◌, List, IfOk, OnOk, option_map, option_and_then};
 ghost use Rattle.std.specs.Str.{chars};
-ghost use Rattle.rx_refs.specs.Views.{seen_slice};
+ghost use Rattle.rx_terms.specs.Text.{seen_slice};
 ghost use Rattle.rx_rdfa.specs.Tree.{Tag};
 ghost use Rattle.rx_rdfa.specs.Facts as the;
-ghost use Rattle.rx_names.specs.Lines.{Stands};
+ghost use Rattle.rx_names.specs.Lines.{NamesStand};
 ghost use Rattle.rx_names.specs.Views.{names_seen};
 ghost use Rattle.rx_curie.specs.Seen.{ref_seen};
 
@@ -26,7 +26,7 @@ pub(crate) fn put_resource(
     names: &NamesView<'_>,
     value: Option<&str>,
 ) -> Result<(), NoMemory>
-    ensures { OnOk result ((line : List Tag) → Stands (names_seen names.now) line
+    ensures { OnOk result ((line : List Tag) → NamesStand (names_seen names.now) line
         → option_map ref_seen field.new ≡ option_and_then (the.resource_of (names_seen names.now).context line) (seen_slice value.entry)) }
 {
     let Some(value) = value else {
@@ -44,7 +44,7 @@ fn resource_of(
     names: &NamesView<'_>,
     value: &str,
 ) -> Result<Option<Ref>, NoMemory>
-    ensures { IfOk result (λ made. (line : List Tag) → Stands (names_seen names.now) line
+    ensures { IfOk result (λ made. (line : List Tag) → NamesStand (names_seen names.now) line
         → option_map ref_seen made ≡ the.resource_of (names_seen names.now).context line (chars value.now)) }
 {
     let Some(reading) = read_resource(names, value) else {

@@ -1,20 +1,20 @@
 //! The types of `typeof`.
 ghost use Rattle.std.specs.Prelude.{◌≡◌, ◌++◌, List, false, true, IfOk, OnOk, option_map, option_to_list};
 ghost use Rattle.std.specs.Str.{chars};
-ghost use Rattle.rx_refs.specs.Views.{seen_slice};
+ghost use Rattle.rx_terms.specs.Text.{seen_slice};
 ghost use Rattle.rx_rdfa.specs.Tree.{Tag};
 ghost use Rattle.rx_rdfa.specs.Refusals.{is_relative};
 ghost use Rattle.rx_rdfa.specs.Readings as readings;
 ghost use Rattle.rx_rdfa.specs.Readings.{is_term};
 ghost use Rattle.rx_rdfa.specs.Facts as the;
-ghost use Rattle.rx_names.specs.Lines.{Stands, vocabulary_of};
+ghost use Rattle.rx_names.specs.Lines.{NamesStand, vocabulary_of};
 ghost use Rattle.rx_names.specs.Views.{names_seen};
 ghost use Rattle.rx_curie.specs.Seen.{refs_seen};
 
 use crate::fields::empty;
 use crate::made::ref_of;
 use crate::makers::IriMaker;
-use crate::nodes::Nodes2;
+use crate::nodes::TypeList;
 use crate::readings::read_no_term;
 use crate::refs::Ref;
 use crate::term_iris::{known_term, term_iri};
@@ -25,13 +25,13 @@ use rx_words::first_token;
 /// Puts the types into the field, where the attribute is there.
 #[inline(always)]
 pub(crate) fn put_types(
-    field: &mut Option<Nodes2>,
+    field: &mut Option<TypeList>,
     maker: &mut IriMaker,
     names: &NamesView<'_>,
     value: Option<&str>,
 ) -> Result<(), NoMemory>
     requires { is_relative (vocabulary_of (names_seen names.now)) ≡ false }
-    ensures { OnOk result ((line : List Tag) → Stands (names_seen names.now) line
+    ensures { OnOk result ((line : List Tag) → NamesStand (names_seen names.now) line
         → option_map refs_seen field.new ≡ option_map (the.types_of (names_seen names.now).context line) (seen_slice value.entry)) }
 {
     let Some(value) = value else {
@@ -44,12 +44,12 @@ pub(crate) fn put_types(
 }
 
 /// The types that the tokens name, in order.
-fn types_of(maker: &mut IriMaker, names: &NamesView<'_>, value: &str) -> Result<Nodes2, NoMemory>
+fn types_of(maker: &mut IriMaker, names: &NamesView<'_>, value: &str) -> Result<TypeList, NoMemory>
     requires { is_relative (vocabulary_of (names_seen names.now)) ≡ false }
-    ensures { IfOk result (λ types. (line : List Tag) → Stands (names_seen names.now) line
+    ensures { IfOk result (λ types. (line : List Tag) → NamesStand (names_seen names.now) line
         → refs_seen types ≡ the.types_of (names_seen names.now).context line (chars value.now)) }
 {
-    let mut types = Nodes2::new(maker.alloc);
+    let mut types = TypeList::new(maker.alloc);
     let mut rest = value;
     while let Some((token, behind)) = first_token(rest) {
         push_type(maker, &mut types, names, token)?;
@@ -61,12 +61,12 @@ fn types_of(maker: &mut IriMaker, names: &NamesView<'_>, value: &str) -> Result<
 /// Adds the type that the token names, if it does.
 fn push_type(
     maker: &mut IriMaker,
-    types: &mut Nodes2,
+    types: &mut TypeList,
     names: &NamesView<'_>,
     token: &str,
 ) -> Result<(), NoMemory>
     requires { is_relative (vocabulary_of (names_seen names.now)) ≡ false }
-    ensures { OnOk result ((line : List Tag) → Stands (names_seen names.now) line
+    ensures { OnOk result ((line : List Tag) → NamesStand (names_seen names.now) line
         → refs_seen types.new ≡
         refs_seen types.old ++ option_to_list (option_map the.ref_of (readings.read_term (names_seen names.now).context line (chars token.now)))) }
 {
@@ -82,13 +82,13 @@ fn push_type(
 /// The same of a term.
 fn push_term(
     maker: &mut IriMaker,
-    types: &mut Nodes2,
+    types: &mut TypeList,
     names: &NamesView<'_>,
     token: &str,
 ) -> Result<(), NoMemory>
     requires term { is_term (chars token.now) ≡ true }
     requires vocabulary { is_relative (vocabulary_of (names_seen names.now)) ≡ false }
-    ensures { OnOk result ((line : List Tag) → Stands (names_seen names.now) line
+    ensures { OnOk result ((line : List Tag) → NamesStand (names_seen names.now) line
         → refs_seen types.new ≡
         refs_seen types.old ++ option_to_list (option_map the.ref_of (readings.read_term (names_seen names.now).context line (chars token.now)))) }
 {
@@ -101,11 +101,11 @@ fn push_term(
 /// The same of a token that is no term.
 fn push_no_term(
     maker: &mut IriMaker,
-    types: &mut Nodes2,
+    types: &mut TypeList,
     names: &NamesView<'_>,
     token: &str,
 ) -> Result<(), NoMemory>
-    ensures { OnOk result ((line : List Tag) → Stands (names_seen names.now) line
+    ensures { OnOk result ((line : List Tag) → NamesStand (names_seen names.now) line
         → refs_seen types.new ≡
         refs_seen types.old ++ option_to_list (option_map the.ref_of (readings.read_no_term (names_seen names.now).context line (chars token.now)))) }
 {

@@ -6,7 +6,7 @@ use Rattle.rx_rdfa.specs.Renaming.{label_of}
 use Rattle.rx_curie.specs.declared.refs.Ref.{Ref as CodeRef}
 use Rattle.rx_curie.specs.Seen.{ref_seen, refs_seen}
 use Rattle.rx_element.specs.Labels.{Numbered, number_of, draw, Drawn, DrawnSome}
-use Rattle.rx_element.proofs.LabelLemmas.{by_test}
+use Rattle.rx_terms.proofs.Bools.{by_test}
 
 pub drop_at : {A : Type 0} (xs : List A) (i : ℕ) (x : A) → slice_get xs i ≡ Some x → drop i xs ≡ x ∷ drop (suc i) xs
 drop_at [] i x h = absurd (cc)

@@ -5,15 +5,12 @@ use Rattle.std.specs.Prelude.{nat_lt}
 use Rattle.std.specs.Str.{chars, IsUtf8}
 use Rattle.std.proofs.lemmas.List.{map-append, length-map}
 use Rattle.std.proofs.lemmas.Bool.Decides.{nat_tests}
+use Rattle.rx_terms.proofs.Bools.{by_test}
 use Rattle.rx_terms.proofs.CharLemmas.{same-chars}
 use Rattle.rx_model.proofs.Exact.{exact_texts}
 use Rattle.rx_lists.specs.Rows.{first_place}
 use Rattle.rx_element.specs.Labels.{Numbered, number_of}
 use Rattle.rx_element.specs.Rows.{rows, IsNew}
-
-pub by_test : {G : Type 0} (b : Bool) → (b ≡ true → G) → (b ≡ false → G) → G
-by_test true f g = f refl
-by_test false f g = g refl
 
 pub either_way : (a b : List ℕ) → bytes_eq a b ≡ bytes_eq b a
 either_way a b =

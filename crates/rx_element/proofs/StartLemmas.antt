@@ -13,7 +13,7 @@ use Rattle.rx_element.specs.declared.contexts.Waiting.TheVariants as code
 use Rattle.rx_element.specs.Contexts.{waiting_seen}
 use Rattle.rx_element.specs.Triples.{completed_by}
 use Rattle.rx_element.specs.Starts.{vocabulary_by, typed_by, linked_by, values_of, found_by, start_by}
-use Rattle.rx_element.proofs.LabelLemmas.{by_test}
+use Rattle.rx_terms.proofs.Bools.{by_test}
 
 module _ (N : Naming ℕ ℕ) (base : Chars) (S : Standing ℕ ℕ) where
   voc : (v : Option Chars) → vocabulary_by base v ≡ option_to_list (option_map (λ vocab. to_node (Iri base) uses_vocabulary (Iri vocab)) v)

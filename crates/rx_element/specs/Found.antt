@@ -8,14 +8,14 @@ use Rattle.rx_rdfa.specs.Naming.{Naming}
 use Rattle.rx_rdfa.specs.Facts.{Facts, Ref}
 use Rattle.rx_rdfa.specs.Resources.{Standing, Resources, about, base_at_root, linked_resource, parent_for_head_and_body, new_blank}
 use Rattle.rx_element.specs.declared.resources.Found.{Found}
-use Rattle.rx_element.specs.declared.places.Place.{Place}
+use Rattle.rx_element.specs.declared.places.Surroundings.{Surroundings}
 
 -- the first present of resource, href and src
 abbrev pub linked_ref : Facts → Option Ref
 linked_ref facts = option_or facts.resource (option_or facts.href facts.src)
 
 -- the new node of the element
-abbrev pub fresh_node : Place → Node ℕ
+abbrev pub fresh_node : Surroundings → Node ℕ
 fresh_node at = Blank at.fresh
 
 abbrev pub page_node : Chars → Node ℕ

@@ -10,7 +10,7 @@ use Rattle.rx_element.specs.Labels.{Numbered}
 use Rattle.rx_element.specs.Moment.{moment, labelled}
 use Rattle.rx_element.specs.declared.places.Level.{Level}
 use Rattle.rx_element.specs.declared.places.Level.TheVariants.{Root, RootChild, Deeper}
-use Rattle.rx_element.specs.declared.places.Place.{Place}
+use Rattle.rx_element.specs.declared.places.Surroundings.{Surroundings}
 
 -- the level of an element inside so many others
 abbrev pub level_at : ℕ → Level
@@ -28,14 +28,14 @@ path_at Deeper = []
 abbrev pub standing_by : Level → Inherited ℕ ℕ → Facts → Standing ℕ ℕ
 standing_by level around facts = record { facts = facts; path = path_at level; around = around }
 
-abbrev pub standing : Place → Facts → Standing ℕ ℕ
+abbrev pub standing : Surroundings → Facts → Standing ℕ ℕ
 standing at facts = standing_by at.level (context_seen at.around.now) facts
 
-abbrev pub naming : Place → Naming ℕ ℕ
+abbrev pub naming : Surroundings → Naming ℕ ℕ
 naming at = moment at.labels.now at.fresh 0 0
 
 -- what the rules say of an element with these facts at a place
-abbrev pub ruled : {A : Type 0} → (Naming ℕ ℕ → Chars → Standing ℕ ℕ → A) → Place → Facts → A
+abbrev pub ruled : {A : Type 0} → (Naming ℕ ℕ → Chars → Standing ℕ ℕ → A) → Surroundings → Facts → A
 ruled rule at facts = rule (naming at) at.base.now (standing at facts)
 
 -- the node that a reading names

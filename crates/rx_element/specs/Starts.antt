@@ -14,7 +14,7 @@ use Rattle.rx_element.specs.TextRules.{resource_term, value_by}
 use Rattle.rx_element.specs.Places.{naming, named}
 use Rattle.rx_element.specs.Triples.{completed_by}
 use Rattle.rx_element.specs.declared.contexts.Waiting.{Waiting}
-use Rattle.rx_element.specs.declared.places.Place.{Place}
+use Rattle.rx_element.specs.declared.places.Surroundings.{Surroundings}
 
 abbrev pub vocabulary_by : Chars → Option Chars → List (Triple ℕ)
 vocabulary_by base None = []
@@ -56,14 +56,14 @@ start_by naming base facts here value above waiting =
     else (found_by naming base facts here ++ (values_of facts here.subject value ++ filter_map (completed_by above here.subject) waiting)))
 
 -- the same at a place
-abbrev pub start_here : Place → Facts → Resources ℕ → Option (Term ℕ) → List (Triple ℕ)
+abbrev pub start_here : Surroundings → Facts → Resources ℕ → Option (Term ℕ) → List (Triple ℕ)
 start_here at facts here value =
     start_by (naming at) at.base.now facts here value (node_seen at.around.now.subject) at.around.now.hanging
 
 -- the value of an element at a place, none where it is the element's text
-abbrev pub value_here : Place → Facts → Resources ℕ → Option (Term ℕ)
+abbrev pub value_here : Surroundings → Facts → Resources ℕ → Option (Term ℕ)
 value_here at facts here = value_by (naming at) at.base.now facts here
 
 -- that a node is of a type
-abbrev pub type_of : Place → Node ℕ → Ref → Triple ℕ
+abbrev pub type_of : Surroundings → Node ℕ → Ref → Triple ℕ
 type_of at typed name = spo typed rdf_type (resource_term (named at.labels.now at.base.now name))

@@ -6,7 +6,7 @@ ghost use Rattle.rx_curie.specs.Seen.{ref_seen, refs_seen, facts_seen};
 ghost use Rattle.rx_element.specs.Labels.{Drawn, DrawnSome};
 
 use crate::labels::Labels;
-use rx_curie::{Facts, Nodes2, Ref};
+use rx_curie::{Facts, Ref, TypeList};
 use rx_terms::NoMemory;
 
 /// Gives each label of the facts that has none the next number, and answers the number that comes next then. After want
@@ -24,7 +24,7 @@ pub fn draw_labels(labels: &mut Labels, facts: &Facts, next: u64) -> Result<u64,
 }
 
 #[inline(always)]
-fn draw_all_types(labels: &mut Labels, types: &Option<Nodes2>, next: u64) -> Result<u64, NoMemory>
+fn draw_all_types(labels: &mut Labels, types: &Option<TypeList>, next: u64) -> Result<u64, NoMemory>
     requires { next + length (flat_map label_of (listed (option_map refs_seen types.now))) < 2 ^ 64 }
     ensures ok { IfOk result (λ after. Drawn labels.old next (flat_map label_of (listed (option_map refs_seen types.now))) labels.new after) }
     ensures err { OnErr result (DrawnSome labels.old next (flat_map label_of (listed (option_map refs_seen types.now))) labels.new) }
@@ -61,7 +61,7 @@ fn draw_ref(labels: &mut Labels, name: &Ref, next: u64) -> Result<u64, NoMemory>
 }
 
 #[inline(never)]
-fn draw_types(labels: &mut Labels, types: &Nodes2, next: u64) -> Result<u64, NoMemory>
+fn draw_types(labels: &mut Labels, types: &TypeList, next: u64) -> Result<u64, NoMemory>
     requires { next + length (flat_map label_of (refs_seen types.now)) < 2 ^ 64 }
     ensures ok { IfOk result (λ after. Drawn labels.old next (flat_map label_of (refs_seen types.now)) labels.new after) }
     ensures err { OnErr result (DrawnSome labels.old next (flat_map label_of (refs_seen types.now)) labels.new) }

@@ -15,7 +15,7 @@ use crate::blanks::number_after;
 use crate::contexts::{Context, Hangings};
 use crate::drawing::draw_labels;
 use crate::labels::Labels;
-use crate::places::{Place, level_at};
+use crate::places::{Surroundings, level_at};
 use crate::resources::{Found, clone_option};
 use crate::values::{TextRule, value_now};
 use rx_curie::Facts;
@@ -68,7 +68,7 @@ impl Placed {
     {
         let fresh = draw_labels(labels, facts, next_blank)?;
         let context = plain_context(alloc, subject, object)?;
-        let place = Place {
+        let place = Surroundings {
             alloc,
             base,
             around: &context,

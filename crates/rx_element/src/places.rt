@@ -24,7 +24,7 @@ pub enum Level {
 
 /// Where an element stands: the base, what it inherits, its level, and the numbers of blank nodes.
 #[derive(Clone, Copy)]
-pub struct Place<'a> {
+pub struct Surroundings<'a> {
     pub alloc: Global,
     pub base: &'a Iri,
     /// What the element inherits.

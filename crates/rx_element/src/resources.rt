@@ -6,7 +6,7 @@ ghost use Rattle.rx_curie.specs.Seen.{ref_seen, facts_seen};
 ghost use Rattle.rx_element.specs.Found.{linked_ref, fresh_node, page_node, property_type, found_seen};
 ghost use Rattle.rx_element.specs.Places.{path_at, naming, ruled};
 
-use crate::places::{Level, Place, named};
+use crate::places::{Level, Surroundings, named};
 use rx_curie::{ElementKind, Facts, Ref};
 use rx_terms::{Blank, NoMemory, Node};
 
@@ -60,7 +60,7 @@ pub(crate) fn linked_ref(facts: &Facts) -> Option<&Ref>
     }
 }
 
-impl<'a> Place<'a> {
+impl<'a> Surroundings<'a> {
     /// The resource that is named.
     fn named(&self, name: &Ref) -> Result<Node, NoMemory>
         ensures { IfOk result (λ node. node_seen node ≡ resource_named (naming self.now) self.now.base.now (ref_seen name.now)) }

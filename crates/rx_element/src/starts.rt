@@ -12,11 +12,11 @@ ghost use Rattle.rx_element.specs.Places.{naming, ruled};
 ghost use Rattle.rx_element.specs.Starts.{vocabulary_by, types_of, properties_of, links_of, values_of, found_by, start_here, value_here, type_of};
 
 use crate::iris::OwnIris;
-use crate::places::{Place, named};
+use crate::places::{Surroundings, named};
 use crate::resources::Found;
 use crate::triples::{push_completed, push_each};
 use crate::values::{into_term, node_term, value_now};
-use rx_curie::{Facts, Nodes2, Ref};
+use rx_curie::{Facts, Ref, TypeList};
 use rx_terms::{Iri, Iris, NoMemory, Node, Term, Triple, TripleList};
 
 /// What the start of an element finds: its resources, and the value of its property where that isn't its text.
@@ -108,7 +108,7 @@ fn push_properties(
     }
 }
 
-impl<'a> Place<'a> {
+impl<'a> Surroundings<'a> {
     /// The start of the element: finds its resources and its value, and adds its triples. After want of memory some may
     /// have been added.
     pub fn start(
@@ -173,7 +173,7 @@ impl<'a> Place<'a> {
         out: &mut TripleList,
         iris: &OwnIris,
         typed: &Node,
-        types: &Option<Nodes2>,
+        types: &Option<TypeList>,
     ) -> Result<(), NoMemory>
         ensures { OnOk result (Gains out.old out.new
             (types_of (naming self.now) self.now.base.now (node_seen typed.now) (listed (option_map refs_seen types.now)))) }
@@ -190,7 +190,7 @@ impl<'a> Place<'a> {
         out: &mut TripleList,
         iris: &OwnIris,
         typed: &Node,
-        types: &Nodes2,
+        types: &TypeList,
     ) -> Result<(), NoMemory>
         ensures { OnOk result (Gains out.old out.new (types_of (naming self.now) self.now.base.now (node_seen typed.now) (refs_seen types.now))) }
     {

@@ -26,7 +26,7 @@ use Rattle.rx_element.specs.Labels.{Numbered, number_of, draw}
 use Rattle.rx_element.specs.Moment.{moment}
 use Rattle.rx_element.specs.Places.{level_at, standing_by}
 use Rattle.rx_element.specs.TextRules.{text_literal}
-use Rattle.rx_element.proofs.LabelLemmas.{by_test}
+use Rattle.rx_terms.proofs.Bools.{by_test}
 use Rattle.rx_eval.specs.OwnersSeen.{Owning, put_entries, places_for, fill_all}
 use Rattle.rx_eval.specs.States.{Text, Frame, State}
 use Rattle.rx_eval.specs.Entering.{Gathers, next_number, owner_begun, places_at}

@@ -22,13 +22,13 @@ use Rattle.rx_rdfa.proofs.Calls.{after-append}
 use Rattle.rx_rdfa.proofs.Exact.{exact_owners}
 use Rattle.rx_rdfa.proofs.RenamedMachine.{fill_rename}
 use Rattle.rx_element.specs.TextRules.{text_literal}
-use Rattle.rx_element.proofs.LabelLemmas.{by_test}
+use Rattle.rx_terms.proofs.Bools.{by_test}
 use Rattle.rx_eval.specs.States.{Text, Frame, State}
 use Rattle.rx_eval.specs.Keeping.{gathers_some}
 use Rattle.rx_eval.specs.Ending.{Ending, ending, end_owner, say_text, end_frame, TextAt, Closes}
 use Rattle.rx_eval.specs.Numbering.{Numbering, Name, Number, named, Grown}
 use Rattle.rx_eval.specs.Slots.{Slots, owner_place, slot_waits, waits, Fills, FillUp, Within}
-use Rattle.rx_eval.specs.Standing.{Layer, frames_in, paths_in, begun_by, own_in, under_in, open_in, places_of, waiter_of, said_of, KeptAt, LayerStands, LayersStand, Coming, Pending, owner_depth, WaitsFor, AllWaitFor, RunsBy, Runs, IsOver, page_context, Phase, Stands, StandsOn}
+use Rattle.rx_eval.specs.Standing.{Layer, frames_in, paths_in, begun_by, own_in, under_in, open_in, places_of, waiter_of, said_of, KeptAt, LayerStands, LayersStand, Coming, Pending, owner_depth, WaitsFor, AllWaitFor, RunsBy, Runs, IsOver, page_context, Phase, EvaluatorStands, StandsOn}
 use Rattle.rx_eval.proofs.NameLemmas.{grown_then, node_later}
 use Rattle.rx_eval.proofs.FillLemmas.{within_more, or_false, fill_quiet, of_filled, snoc_last, snoc_front}
 use Rattle.rx_eval.proofs.CellLemmas.{IsFull, AllFull}
@@ -449,5 +449,5 @@ module _ (to : Numbering) (list : List Call) (state new : State) (c : Closes sta
   left_in true e p = absurd (not_empty new.frames c.frame (sym c.popped ∙ p.frames))
   left_in false e p = left_by p.layers p.slots e p.by
 
-pub left_stands : (to : Numbering) (list : List Call) (state new : State) → Closes state new → Stands to list state → StandsOn to (list ++ Leave ∷ []) new
+pub left_stands : (to : Numbering) (list : List Call) (state new : State) → Closes state new → EvaluatorStands to list state → StandsOn to (list ++ Leave ∷ []) new
 left_stands to list state new c s = left_in to list state new c s.page state.ended refl s.phase

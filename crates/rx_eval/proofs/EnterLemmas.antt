@@ -18,7 +18,7 @@ use Rattle.rx_lists.specs.declared.lists.Owner.{Owner}
 use Rattle.rx_element.specs.Labels.{Numbered}
 use Rattle.rx_element.specs.Moment.{moment}
 use Rattle.rx_element.specs.TextRules.{resource_term}
-use Rattle.rx_element.proofs.LabelLemmas.{by_test}
+use Rattle.rx_terms.proofs.Bools.{by_test}
 use Rattle.rx_eval.specs.Handing.{begun, begun_number}
 use Rattle.rx_eval.specs.Frames.{hanging_by}
 use Rattle.rx_eval.specs.Elements.{handed_by, owner_in, begun_below, begun_below_number}

@@ -9,7 +9,7 @@ use Rattle.rx_lists.specs.declared.lists.Owner.{Owner}
 use Rattle.rx_lists.specs.declared.lists.SlotId.{SlotId}
 use Rattle.rx_element.specs.declared.contexts.Waiting.{Waiting}
 use Rattle.rx_eval.specs.Entries.{put_each, slots_for, put_awaited}
-use Rattle.rx_element.proofs.LabelLemmas.{by_test}
+use Rattle.rx_terms.proofs.Bools.{by_test}
 use Rattle.rx_element.proofs.DrawLemmas.{drop_at, nothing_left}
 
 pub set_end : {A : Type 0} (xs : List A) (x y : A) → slice_set (xs ++ x ∷ []) (length xs) y ≡ xs ++ y ∷ []

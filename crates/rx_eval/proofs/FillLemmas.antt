@@ -8,7 +8,7 @@ use Rattle.rx_rdfa.specs.Lists.{Entry, map_entry, of_owner}
 use Rattle.rx_rdfa.specs.Machine.{Slot, Full, Waiting, fill, fill_slot}
 use Rattle.rx_rdfa.specs.Tables.{Table, table_from}
 use Rattle.rx_lists.specs.declared.lists.SlotId.{SlotId}
-use Rattle.rx_element.proofs.LabelLemmas.{by_test}
+use Rattle.rx_terms.proofs.Bools.{by_test}
 use Rattle.rx_eval.specs.OwnersSeen.{Owning, owning, put_entries, with_item, fill_seen, fill_all}
 use Rattle.rx_eval.specs.Slots.{Slots, Open, owner_place, item_of, table_in, owners_of, slot_waits, waits, HasItem, HasPlace, HasPlaces, Waiter, Fills, FillUp, Apart, WithinPlaces, WithinOption, Within}
 use Rattle.rx_eval.proofs.PlaceLemmas.{set_length, still_at, fill_past_all}

@@ -15,7 +15,7 @@ use Rattle.rx_rdfa.specs.Lists.{Entry, map_entry, entry, linked, touched, valued
 use Rattle.rx_rdfa.specs.Machine.{Slot, Full, Waiting, fill, fill_slot, slot_of}
 use Rattle.rx_rdfa.specs.Renaming.{rename_slot}
 use Rattle.rx_rdfa.proofs.Exact.{exact_owners}
-use Rattle.rx_element.proofs.LabelLemmas.{by_test}
+use Rattle.rx_terms.proofs.Bools.{by_test}
 use Rattle.rx_eval.specs.OwnersSeen.{Owning, put_at, put_entries, places_for, fill_all}
 use Rattle.rx_eval.specs.Numbering.{Name, Number}
 use Rattle.rx_eval.specs.Slots.{Slots, Open, owner_place, item_of, slot_waits, waits, HasPlace, HasPlaces, WithinPlaces}

@@ -11,7 +11,7 @@ use Rattle.rx_rdfa.specs.Machine.{Slot, Full, Waiting}
 use Rattle.rx_rdfa.specs.Renaming.{rename_slot, rename_entry}
 use Rattle.rx_rdfa.specs.Tables.{Table, put, table_from}
 use Rattle.rx_rdfa.proofs.Exact.{exact_owners}
-use Rattle.rx_element.proofs.LabelLemmas.{by_test}
+use Rattle.rx_terms.proofs.Bools.{by_test}
 use Rattle.rx_eval.specs.OwnersSeen.{Owning, owning, put_at, put_entries}
 use Rattle.rx_eval.specs.Numbering.{Name, Number, name_by, named}
 use Rattle.rx_eval.specs.Slots.{Slots, Open, owner_place, item_of, table_in, owners_of, Apart}

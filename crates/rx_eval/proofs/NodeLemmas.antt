@@ -1,5 +1,6 @@
 -- The code's test of nodes is that of the rules.
 use Rattle.std.proofs.Common.{◌≡◌, ◌↔◌, Bool, true, false, rules, nat_eq, sym, refl}
+use Rattle.rx_terms.proofs.Bools.{same_truth}
 use Rattle.rx_terms.specs.declared.triples.Node.{Node as CodeNode}
 use Rattle.rx_terms.specs.contracts.triples.NodePartialEq.TheImpl as node_impl
 use Rattle.rx_model.specs.Terms.{same_node}
@@ -11,11 +12,6 @@ node_eq = (node_impl.ghosts).eq
 
 exact_node : (a b : CodeNode) → (node_eq a b ≡ true) ↔ (node_seen a ≡ node_seen b)
 exact_node a b = search rules
-
-same_truth : (a b : Bool) → (a ≡ true → b ≡ true) → (b ≡ true → a ≡ true) → a ≡ b
-same_truth true b f g = sym (f refl)
-same_truth false true f g = g refl
-same_truth false false f g = refl
 
 pub nodes_agree : (a b : CodeNode) → node_eq a b ≡ same_node nat_eq (node_seen a) (node_seen b)
 nodes_agree a b =

@@ -8,7 +8,7 @@ use Rattle.rx_element.specs.declared.places.Level.{Level}
 use Rattle.rx_eval.specs.OwnersSeen.{Owning}
 use Rattle.rx_eval.specs.Entering.{Gathers, resources_by, places_at}
 use Rattle.rx_element.specs.Labels.{Numbered, Drawn}
-use Rattle.rx_element.specs.Contexts.{context_seen}
+use Rattle.rx_element.specs.Contexts.{context_seen, waiting_seen}
 use Rattle.rx_eval.specs.Opening.{around_in}
 use Rattle.rx_eval.specs.Opened.{handed_on}
 use Rattle.rx_eval.specs.States.{frame_seen, text_seen}
@@ -17,7 +17,6 @@ use Rattle.rx_eval.specs.declared.frames.Frame.{Frame as CodeFrame}
 use Rattle.rx_eval.specs.declared.frames.Gathered.{Gathered}
 use Rattle.rx_element.specs.declared.contexts.Waiting.{Waiting}
 use Rattle.rx_element.specs.declared.contexts.Waiting.TheVariants as code
-use Rattle.rx_element.specs.Contexts.{waiting_seen}
 use Rattle.rx_eval.specs.Waits.{Wait, wait_seen, wait_by}
 use Rattle.rx_element.proofs.DrawLemmas.{drawn_most}
 

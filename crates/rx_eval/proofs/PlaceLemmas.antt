@@ -5,7 +5,7 @@ use Rattle.rx_model.specs.Terms.{Term}
 use Rattle.rx_rdfa.specs.Tables.{Table, put}
 use Rattle.rx_rdfa.specs.Lists.{entry}
 use Rattle.rx_lists.specs.declared.lists.SlotId.{SlotId}
-use Rattle.rx_element.proofs.LabelLemmas.{by_test}
+use Rattle.rx_terms.proofs.Bools.{by_test}
 use Rattle.rx_eval.specs.Listing.{Entries}
 use Rattle.rx_eval.specs.OwnersSeen.{Owning, owning, lists_in, open_seen, list_place, item_count, next_place, places_for, put_at, put_entries, with_item, fill_seen, fill_all}
 use Rattle.rx_eval.specs.Reserving.{ReservedAreFilled}

@@ -25,7 +25,7 @@ use Rattle.rx_eval.specs.Entries.{put_each, put_awaited, slots_for}
 use Rattle.rx_eval.specs.OwnersSeen.{Owning, owning, slots_seen, owning_seen, owners_seen, put_at, put_entries, with_item, open_seen, lists_in, list_place, item_count, next_place, places_for, fill_seen, fill_all, cells_seen, ended_by, ended, forgotten_seen}
 use Rattle.rx_eval.specs.Listing.{Entries, awaited_entry}
 use Rattle.rx_element.proofs.DrawLemmas.{nothing_left}
-use Rattle.rx_element.proofs.LabelLemmas.{by_test}
+use Rattle.rx_terms.proofs.Bools.{by_test}
 
 abbrev pub item_seen : Option (Option CodeTerm) → Option (Option (Term ℕ))
 item_seen item = option_map (option_map term_seen) item

@@ -10,7 +10,7 @@ use Rattle.rx_eval.specs.States.{State}
 use Rattle.rx_eval.specs.Opened.{handed_on}
 use Rattle.rx_eval.specs.Waits.{wait_by, Shows}
 use Rattle.rx_eval.specs.Numbering.{Numbering, Name, Number, named}
-use Rattle.rx_eval.specs.Standing.{Stands, context_after}
+use Rattle.rx_eval.specs.Standing.{EvaluatorStands, context_after}
 use Rattle.rx_eval.specs.Shown.{ShowsAfter}
 use Rattle.rx_eval.proofs.StandLemmas.{hands_on}
 
@@ -23,7 +23,7 @@ waits_same : {O P : Type 0} (g : O → P) (hs : List (rules.Hanging O)) → map 
 waits_same g [] = refl
 waits_same g (h ∷ hs) = ap₂ ◌∷◌ (wait_same g h) (waits_same g hs)
 
-pub shows_after : (to : Numbering) (list : List Call) (state : State) (shown : Inherited) → Shows shown (handed_on state.page state.frames) → Stands to list state → ShowsAfter to state.base list shown
+pub shows_after : (to : Numbering) (list : List Call) (state : State) (shown : Inherited) → Shows shown (handed_on state.page state.frames) → EvaluatorStands to list state → ShowsAfter to state.base list shown
 shows_after to list state shown s h =
     let k = hands_on to list state h in
     record {

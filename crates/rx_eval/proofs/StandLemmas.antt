@@ -23,7 +23,7 @@ use Rattle.rx_eval.specs.States.{State}
 use Rattle.rx_eval.specs.Opened.{handed_on, Opens, begun_state, read_text}
 use Rattle.rx_eval.specs.Numbering.{Numbering, Name, Number, Itself, name_by, named, Numbers}
 use Rattle.rx_eval.specs.Slots.{owner_place}
-use Rattle.rx_eval.specs.Standing.{Layer, open_in, Runs, Phase, Stands, StandsOn, page_context, no_numbers, number_in, Makes, HandsOn}
+use Rattle.rx_eval.specs.Standing.{Layer, open_in, Runs, Phase, EvaluatorStands, StandsOn, page_context, no_numbers, number_in, Makes, HandsOn}
 use Rattle.rx_eval.proofs.LayerLemmas.{frames_length, handed_now}
 use Rattle.rx_eval.proofs.LeavesLemmas.{text_read}
 use Rattle.rx_eval.proofs.BeginLemmas.{entered_runs}
@@ -33,7 +33,7 @@ use Rattle.rx_eval.proofs.BeginLemmas.{entered_runs}
 no_label : Numbers no_numbers [] 0 (2 ^ 61)
 no_label = record { label = λ l. refl; bounded = λ b n e. absurd (cc e); one_to_one = λ a b n e f. absurd (cc e); low = omega arith; high = omega arith }
 
-pub begun_stands : (base : Chars) (levels : ℕ) → Stands no_numbers [] (begun_state base levels)
+pub begun_stands : (base : Chars) (levels : ℕ) → EvaluatorStands no_numbers [] (begun_state base levels)
 begun_stands base levels = record {
   page = refl;
   phase = record {
@@ -80,14 +80,14 @@ module _ (to : Numbering) (list : List Call) (state : State) where
         };
       }
 
-  pub enter_stands : (facts : Facts) (new : State) → Opens state facts new → state.ended ≡ false → state.drawn + 1 + length (labels facts) ≤ 2 ^ 61 → Stands to list state → StandsOn to (list ++ Enter facts ∷ []) new
+  pub enter_stands : (facts : Facts) (new : State) → Opens state facts new → state.ended ≡ false → state.drawn + 1 + length (labels facts) ≤ 2 ^ 61 → EvaluatorStands to list state → StandsOn to (list ++ Enter facts ∷ []) new
   enter_stands facts new o e room s = enter_in facts new state.ended refl e s.phase o s.page room
 
   text_in : (chars : Chars) (b : Bool) → Phase b to machine state → Phase b to (read chars machine) (read_text chars state)
   text_in chars true p = record { numbers = p.numbers; frames = p.frames; standings = p.standings; texts = ap (map (λ t. t ++ chars)) p.texts; out = p.out }
   text_in chars false p = text_read to machine state chars p
 
-  pub text_stands : (chars : Chars) → Stands to list state → Stands to (list ++ Read chars ∷ []) (read_text chars state)
+  pub text_stands : (chars : Chars) → EvaluatorStands to list state → EvaluatorStands to (list ++ Read chars ∷ []) (read_text chars state)
   text_stands chars s = record {
     page = s.page;
     phase = subst (λ (m : Machine Bnode Owner). Phase state.ended to m (read_text chars state)) (sym (after-append model state.base list (Read chars ∷ []) begun)) (text_in chars state.ended s.phase);
@@ -111,7 +111,7 @@ module _ (to : Numbering) (list : List Call) (state : State) where
         ∙ ap (rename_inherited (named to) (named (owner_place (open_in state.base p.layers)))) (ap (inherit model state.base) (sym p.by.standings) ∙ (frames_at model state.base list).context);
   }
 
-  pub hands_on : Stands to list state → HandsOn to list state
+  pub hands_on : EvaluatorStands to list state → HandsOn to list state
   hands_on s = hands_in state.ended s.phase s.page
 
   depth_in : (b : Bool) → Phase b to machine state → length state.frames ≡ length (line_after list no_line).facts
@@ -119,7 +119,7 @@ module _ (to : Numbering) (list : List Call) (state : State) where
   depth_in false p =
       ap length p.by.frames ∙ frames_length p.layers ∙ sym (length-map p.layers (λ l. l.at)) ∙ ap length (sym p.by.standings) ∙ (frames_at model state.base list).open_elements
 
-  pub depth_stands : Stands to list state → length state.frames ≡ length (line_after list no_line).facts
+  pub depth_stands : EvaluatorStands to list state → length state.frames ≡ length (line_after list no_line).facts
   depth_stands s = depth_in state.ended s.phase
 
 -- ---- the end
@@ -229,13 +229,13 @@ module _ (to : Numbering) where
   finish_in state tree true p = makes state.base tree state.out state.labels state.drawn state.cells p.numbers (p.out ∙ ap (map (rename (named to))) (list_is state.base tree))
 
   -- after the calls for a tree the triples are the tree's
-  pub finish_makes : (state : State) (tree : Nodes Facts) → Stands to (calls tree) state → Makes to state.base tree state.out
+  pub finish_makes : (state : State) (tree : Nodes Facts) → EvaluatorStands to (calls tree) state → Makes to state.base tree state.out
   finish_makes state tree s = finish_in state tree state.ended s.phase
 
 -- ---- as the calls say it
 
-pub begun_as : (base : Chars) (levels : ℕ) (new : State) → new ≡ begun_state base levels → Stands no_numbers [] new
-begun_as base levels new e = subst (Stands no_numbers []) (sym e) (begun_stands base levels)
+pub begun_as : (base : Chars) (levels : ℕ) (new : State) → new ≡ begun_state base levels → EvaluatorStands no_numbers [] new
+begun_as base levels new e = subst (EvaluatorStands no_numbers []) (sym e) (begun_stands base levels)
 
-pub text_as : (to : Numbering) (list : List Call) (state : State) (chars : Chars) (new : State) → new ≡ read_text chars state → Stands to list state → Stands to (list ++ Read chars ∷ []) new
-text_as to list state chars new e s = subst (Stands to (list ++ Read chars ∷ [])) (sym e) (text_stands to list state chars s)
+pub text_as : (to : Numbering) (list : List Call) (state : State) (chars : Chars) (new : State) → new ≡ read_text chars state → EvaluatorStands to list state → EvaluatorStands to (list ++ Read chars ∷ []) new
+text_as to list state chars new e s = subst (EvaluatorStands to (list ++ Read chars ∷ [])) (sym e) (text_stands to list state chars s)

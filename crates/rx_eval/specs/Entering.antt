@@ -18,7 +18,7 @@ use Rattle.rx_element.specs.Moment.{moment}
 use Rattle.rx_element.specs.Places.{standing_by, standing, naming}
 use Rattle.rx_element.specs.TextRules.{IsTextRule}
 use Rattle.rx_element.specs.declared.places.Level.{Level}
-use Rattle.rx_element.specs.declared.places.Place.{Place}
+use Rattle.rx_element.specs.declared.places.Surroundings.{Surroundings}
 use Rattle.rx_eval.specs.OwnersSeen.{Owning, owning, owners_seen, put_entries, places_for}
 use Rattle.rx_eval.specs.Listing.{Entries, entries_in}
 use Rattle.rx_eval.specs.States.{Text, text_seen}
@@ -116,16 +116,16 @@ module _ (labels : Numbered) (fresh : ℕ) (base : Chars) (level : Level) (aroun
       (owners_begun (moment labels fresh 0 0) (standing_by level around facts) resources_by owners)
 
 -- what holds of an element at a place
-abbrev pub at_place : {A : Type 0} → (Numbered → ℕ → Chars → Level → Inherited ℕ ℕ → Facts → A) → Place → Facts → A
+abbrev pub at_place : {A : Type 0} → (Numbered → ℕ → Chars → Level → Inherited ℕ ℕ → Facts → A) → Surroundings → Facts → A
 at_place f at facts = f at.labels.now at.fresh at.base.now at.level (context_seen at.around.now) facts
 
 -- what is known of an element's text, where it gathers that
-abbrev pub GathersAt : Place → Facts → Owners → ℕ → Option Gathered → Type 0
+abbrev pub GathersAt : Surroundings → Facts → Owners → ℕ → Option Gathered → Type 0
 GathersAt at facts owners mark gathered =
     IfSome gathered (λ g. Gathers facts (at_place resources_by at facts) (at_place places_at at facts (owners_seen owners)) mark (text_seen g))
 
 -- the same of an element at a place that isn't skipped, with the resources that were found and the owners so far
-module _ (at : Place) (facts : Facts) (here : Resources ℕ) (owners : Owners) where
+module _ (at : Surroundings) (facts : Facts) (here : Resources ℕ) (owners : Owners) where
   abbrev pub naming_found : Naming ℕ ℕ
   naming_found = naming_by at.labels.now at.fresh (standing at facts) here (length owners)
 

@@ -8,7 +8,7 @@ use Rattle.rx_rdfa.specs.Inherited.{inherited, up}
 use Rattle.rx_rdfa.specs.Calls.{Call, line_after, no_line}
 use Rattle.rx_eval.specs.States.{State}
 use Rattle.rx_eval.specs.Numbering.{Numbering}
-use Rattle.rx_eval.specs.Standing.{gathers_text, Stands}
+use Rattle.rx_eval.specs.Standing.{gathers_text, EvaluatorStands}
 
 -- of the elements of a line, from the root on, whether each gathers its text by the rules; the line's first element, the
 -- innermost, stands at the path, and the others are those around it
@@ -25,7 +25,7 @@ gathering_after base list = gathering_along base (line_after list no_line).facts
 -- law: the frames that keep a text are, one for one from the root's on, those of the open elements that gather their text by
 -- the rules
 abbrev pub KeepsWhereGathered : Type 0
-KeepsWhereGathered = (to : Numbering) (list : List Call) (state : State) → Stands to list state
+KeepsWhereGathered = (to : Numbering) (list : List Call) (state : State) → EvaluatorStands to list state
     → map (λ f. is_some f.text) state.frames ≡ gathering_after state.base list
 
 -- the facts of an element that says nothing, of one with property, and of one with content beside it

@@ -11,7 +11,7 @@ use Rattle.rx_eval.specs.declared.inherited.Inherited.{Inherited}
 use Rattle.rx_eval.specs.States.{State}
 use Rattle.rx_eval.specs.Waits.{waits, wait_by}
 use Rattle.rx_eval.specs.Numbering.{Numbering, Number, named}
-use Rattle.rx_eval.specs.Standing.{Stands, Makes, context_after}
+use Rattle.rx_eval.specs.Standing.{EvaluatorStands, Makes, context_after}
 
 -- what is shown is what a child of the innermost open element inherits by the rules after these calls, each blank node
 -- with its number
@@ -22,4 +22,4 @@ pub record ShowsAfter (to : Numbering) (base : Chars) (list : List Call) (shown 
 
 -- of every tree for whose calls the state stands the triples are the list
 abbrev pub IsMade : State → List (Triple ℕ) → Type 0
-IsMade state triples = (to : Numbering) (tree : Nodes Facts) → Stands to (calls tree) state → Makes to state.base tree triples
+IsMade state triples = (to : Numbering) (tree : Nodes Facts) → EvaluatorStands to (calls tree) state → Makes to state.base tree triples

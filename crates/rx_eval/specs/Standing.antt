@@ -178,7 +178,7 @@ Phase false to m state = Runs to m state
 Phase true to m state = IsOver to m state
 
 -- the evaluator stands for the calls, under the numbering
-pub record Stands (to : Numbering) (list : List Call) (state : State) : Type 0 where
+pub record EvaluatorStands (to : Numbering) (list : List Call) (state : State) : Type 0 where
   pub page : state.page ≡ page_context state.base
   pub phase : Phase state.ended to (after model state.base list begun) state
 
@@ -186,7 +186,7 @@ pub record Stands (to : Numbering) (list : List Call) (state : State) : Type 0 w
 pub record StandsOn (old : Numbering) (list : List Call) (state : State) : Type 0 where
   pub now : Numbering
   pub grown : Grown old now
-  pub stands : Stands now list state
+  pub stands : EvaluatorStands now list state
 
 -- none has a number yet
 abbrev pub no_numbers : Numbering

@@ -15,10 +15,10 @@ ghost use Rattle.rx_eval.specs.Elements.{handed_by, hanging_below, owner_in, beg
 ghost use Rattle.rx_eval.specs.Entering.{Gathers, GathersAt, GathersFound, handed_found, owners_found, entries_found, own_found, below_found, at_place, start_at, below_at, lists_at, gathers_at, own_at, below_own_at};
 
 use crate::frames::{Frame, Gathered, Target, clone_iris, waiting_of};
-use crate::handing::{begin, hangs, object_below};
+use crate::handing::begin;
 use crate::listing::put_all;
 use rx_curie::Facts;
-use rx_element::{Context, Found, Hangings, OwnIris, Place, TextRule};
+use rx_element::{Context, Found, Hangings, OwnIris, Surroundings, TextRule, hangs, object_below};
 use rx_lists::{Lists, Owner, SlotId};
 use rx_terms::{Iris, NoMemory, Node, Term, TripleList};
 use std::alloc::Global;
@@ -108,7 +108,7 @@ fn skipped(around: &Context) -> Result<Frame, NoMemory>
 /// The start of an element at a place: adds its triples, begins its owners, puts what it has into lists, and gives its
 /// frame, whose text begins at the mark.
 pub(crate) fn enter(
-    place: &Place<'_>,
+    place: &Surroundings<'_>,
     facts: &Facts,
     iris: &OwnIris,
     lists: &mut Lists,
@@ -132,7 +132,7 @@ pub(crate) fn enter(
 
 /// The same of an element that isn't skipped, but for its triples.
 fn enter_found(
-    place: &Place<'_>,
+    place: &Surroundings<'_>,
     facts: &Facts,
     found: &Found,
     value: &Option<Term>,

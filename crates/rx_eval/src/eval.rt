@@ -9,7 +9,7 @@ ghost use Rattle.rx_eval.specs.Keeping.{gathers_some, first_of, is_place};
 ghost use Rattle.rx_eval.specs.Opened.{handed_on, Opens, MayOpen, begun_state, read_text};
 ghost use Rattle.rx_eval.specs.Waits.{Shows};
 ghost use Rattle.rx_eval.specs.Numbering.{Numbering};
-ghost use Rattle.rx_eval.specs.Standing.{Stands, StandsOn, no_numbers};
+ghost use Rattle.rx_eval.specs.Standing.{EvaluatorStands, StandsOn, no_numbers};
 ghost use Rattle.rx_eval.specs.Shown.{ShowsAfter, IsMade};
 ghost use Rattle.rx_eval.specs.Ending.{Closes};
 ghost use Rattle.rx_eval.specs.States.{owner_seen};
@@ -21,7 +21,7 @@ use crate::inherited::Inherited;
 use crate::numbers::label_count;
 use crate::opening::{around, next_number};
 use rx_curie::Facts;
-use rx_element::{Context, Hangings, Labels, OwnIris, Place, draw_labels, level_at};
+use rx_element::{Context, Hangings, Labels, OwnIris, Surroundings, draw_labels, level_at};
 use rx_lists::{Lists, Owner};
 use rx_terms::{Iri, NoMemory, Node, TripleList};
 use rx_values::TextStore;
@@ -88,7 +88,7 @@ impl Eval {
     /// How many elements are open.
     pub fn depth(&self) -> u32
         ensures frames { result ≡ length self.now.frames }
-        ensures stands { (to : Numbering) (list : List Call) → Stands to list self.now → result ≡ length (line_after list no_line).facts }
+        ensures stands { (to : Numbering) (list : List Call) → EvaluatorStands to list self.now → result ≡ length (line_after list no_line).facts }
     {
         let _levels = self.levels;
         self.frames.as_slice().len() as u32
@@ -98,7 +98,7 @@ impl Eval {
     /// triples' blank nodes.
     pub fn inherited(&self) -> Inherited<'_>
         ensures frames { Shows result (handed_on self.now.page self.now.frames) }
-        ensures stands { (to : Numbering) (list : List Call) → Stands to list self.now → ShowsAfter to self.now.base list result }
+        ensures stands { (to : Numbering) (list : List Call) → EvaluatorStands to list self.now → ShowsAfter to self.now.base list result }
     {
         let context = around(&self.page, self.frames.as_slice());
         Inherited {
@@ -111,7 +111,7 @@ impl Eval {
     /// No element, before the root, with the memory for so many levels of frames.
     pub fn new(alloc: Global, base: Iri, levels: u32) -> Result<Eval, NoMemory>
         ensures ok { IfOk result (λ eval. eval ≡ begun_state base levels) }
-        ensures stands { IfOk result (λ eval. Stands no_numbers [] eval) }
+        ensures stands { IfOk result (λ eval. EvaluatorStands no_numbers [] eval) }
     {
         let page = Node::Iri(base.try_clone()?);
         let mut lists = Lists::new(alloc)?;
@@ -153,7 +153,7 @@ impl Eval {
     pub fn enter(&mut self, facts: &Facts) -> Result<(), NoMemory>
         requires { self.old.spent ≡ false → MayOpen self.old (facts_seen facts.now) }
         ensures ok { OnOk result (Opens self.old (facts_seen facts.now) self.new) }
-        ensures stands { OnOk result ((to : Numbering) (list : List Call) → Stands to list self.old
+        ensures stands { OnOk result ((to : Numbering) (list : List Call) → EvaluatorStands to list self.old
             → StandsOn to (list ++ Enter (facts_seen facts.now) ∷ []) self.new) }
         ensures unspent { OnOk result (self.old.spent ≡ false) }
         ensures spent { OnErr result (self.new.spent ≡ true) }
@@ -171,7 +171,7 @@ impl Eval {
     /// Text inside the innermost element. It is kept only while some open element gathers it; else it takes no memory.
     pub fn text(&mut self, text: &str) -> Result<(), NoMemory>
         ensures ok { OnOk result (self.new ≡ read_text (chars text.now) self.old) }
-        ensures stands { OnOk result ((to : Numbering) (list : List Call) → Stands to list self.old → Stands to (list ++ Read (chars text.now) ∷ []) self.new) }
+        ensures stands { OnOk result ((to : Numbering) (list : List Call) → EvaluatorStands to list self.old → EvaluatorStands to (list ++ Read (chars text.now) ∷ []) self.new) }
         ensures unspent { OnOk result (self.old.spent ≡ false) }
         ensures spent { OnErr result (self.new.spent ≡ true) }
         ensures quiet { self.old.spent ≡ false → gathers_some self.old.frames ≡ false → IsOk result }
@@ -195,7 +195,7 @@ impl Eval {
     pub fn leave(&mut self) -> Result<(), NoMemory>
         requires { self.old.spent ≡ false → 0 < length self.old.frames }
         ensures ok { OnOk result (Closes self.old self.new) }
-        ensures stands { OnOk result ((to : Numbering) (list : List Call) → Stands to list self.old → StandsOn to (list ++ Leave ∷ []) self.new) }
+        ensures stands { OnOk result ((to : Numbering) (list : List Call) → EvaluatorStands to list self.old → StandsOn to (list ++ Leave ∷ []) self.new) }
         ensures unspent { OnOk result (self.old.spent ≡ false) }
         ensures spent { OnErr result (self.new.spent ≡ true) }
     {
@@ -267,7 +267,7 @@ impl Eval {
         let frames = self.frames.as_slice();
         let depth = frames.len();
         let around = around(&self.page, frames);
-        let place = Place {
+        let place = Surroundings {
             alloc: self.alloc,
             base: &self.base,
             around,

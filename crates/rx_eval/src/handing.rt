@@ -1,18 +1,12 @@
 //! What an element begins and hands on (RDFa Core 1.1, section 7.5, steps 8, 10 and 13).
-ghost use Rattle.std.specs.Prelude.{◌≡◌, [], ◌∷◌, ◌++◌, Some, OnOk, IfOk, nat_eq, option_map, length};
+ghost use Rattle.std.specs.Prelude.{◌≡◌, [], ◌∷◌, ◌++◌, Some, OnOk, IfOk, nat_eq, length};
 ghost use Rattle.rx_model.specs.Terms.{same_node};
 ghost use Rattle.rx_model.specs.Seen.{node_seen};
-ghost use Rattle.rx_rdfa.specs.Inherited.{hangs, holds_some, listed, object_below};
-ghost use Rattle.rx_curie.specs.Seen.{facts_seen};
-ghost use Rattle.rx_element.specs.Found.{found_seen};
-ghost use Rattle.rx_element.specs.Places.{naming, standing};
 ghost use Rattle.rx_lists.specs.Owners.{owned};
 ghost use Rattle.rx_eval.specs.Handing.{begun, begun_number};
 
-use rx_curie::Facts;
-use rx_element::{Found, Place, clone_option};
 use rx_lists::{Lists, Owner};
-use rx_terms::{Iris, NoMemory, Node};
+use rx_terms::{NoMemory, Node};
 
 /// Whether the two are one node.
 #[inline(always)]
@@ -20,40 +14,6 @@ pub(crate) fn is_same(a: &Node, b: &Node) -> bool
     ensures { result ≡ same_node nat_eq (node_seen a.now) (node_seen b.now) }
 {
     *a == *b
-}
-
-fn has_some(predicates: &Option<Iris>) -> bool
-    ensures { result ≡ holds_some (listed predicates.now) }
-{
-    match predicates {
-        Some(predicates) => !predicates.is_empty(),
-        None => false,
-    }
-}
-
-/// Whether the predicates of `rel` and `rev` wait for subjects further down.
-pub(crate) fn hangs(facts: &Facts, found: &Found) -> bool
-    ensures { result ≡ hangs (facts_seen facts.now) (found_seen found.now) }
-{
-    if found.object.is_some() {
-        return false;
-    }
-    has_some(&facts.rel) || has_some(&facts.rev)
-}
-
-/// The object that the children inherit, where it isn't the subject.
-pub(crate) fn object_below(
-    place: &Place<'_>,
-    facts: &Facts,
-    found: &Found,
-) -> Result<Option<Node>, NoMemory>
-    ensures { IfOk result (λ object. option_map node_seen object
-        ≡ object_below (naming place.now) (standing place.now (facts_seen facts.now)) (found_seen found.now)) }
-{
-    if hangs(facts, found) {
-        return Ok(Some(place.fresh()));
-    }
-    clone_option(&found.object)
 }
 
 /// A new owner of lists with the subject, where that isn't the other node.

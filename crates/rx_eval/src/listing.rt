@@ -9,9 +9,8 @@ ghost use Rattle.rx_eval.specs.OwnersSeen.{owners_seen, places_for};
 ghost use Rattle.rx_eval.specs.Listing.{Puts, entries_for, linked_entries, touched_entries, awaited_entry, own_entries, listed_entries, entries_in, own_places, places_unless, reserved};
 
 use crate::entries::{add_awaited, add_each, slot_each, touch_each};
-use crate::handing::hangs;
 use rx_curie::Facts;
-use rx_element::{Found, Waiting, node_term};
+use rx_element::{Found, Waiting, hangs, node_term};
 use rx_lists::{Lists, Owner, SlotId};
 use rx_terms::{Iris, NoMemory, Node, Term};
 use std::alloc::Global;

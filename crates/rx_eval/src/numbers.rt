@@ -4,7 +4,7 @@ ghost use Rattle.rx_rdfa.specs.Inherited.{listed};
 ghost use Rattle.rx_rdfa.specs.Renaming.{label_of, label_of_option, labels as labels_of};
 ghost use Rattle.rx_curie.specs.Seen.{ref_seen, refs_seen, facts_seen};
 
-use rx_curie::{Facts, Nodes2, Ref};
+use rx_curie::{Facts, Ref, TypeList};
 
 /// How many labels the facts have, each counted as often as it stands.
 pub(crate) fn label_count(facts: &Facts) -> u128
@@ -37,7 +37,7 @@ fn one_if_label(name: &Ref) -> u128
     }
 }
 
-fn type_count(types: &Option<Nodes2>) -> u128
+fn type_count(types: &Option<TypeList>) -> u128
     ensures count { result ≡ length (flat_map label_of (listed (option_map refs_seen types.now))) }
     ensures bound { result ≤ 2 ^ 64 }
 {
@@ -47,7 +47,7 @@ fn type_count(types: &Option<Nodes2>) -> u128
     }
 }
 
-fn count_all(types: &Nodes2) -> u128
+fn count_all(types: &TypeList) -> u128
     ensures count { result ≡ length (flat_map label_of (refs_seen types.now)) }
     ensures bound { result ≤ 2 ^ 64 }
 {

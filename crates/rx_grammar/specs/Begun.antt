@@ -38,19 +38,24 @@ pub data Phase : Type 0 where
 
 -- The tokens are these open elements with all that stands in them so far; `to` is what follows. At most `left` levels open below them.
 pub data Open (syntax : Syntax) : ℕ → List Item → List Item → Line → Type 0 where
-  a_root : {left : ℕ} {from inner to : List Item} {inside : Tree} {stood : Bool} (lead : List Item) (item : Item) (t : Tag) → Lead lead stood → Opens syntax outside item t → t.name ≡ root_name → is_alone syntax outside t ≡ false
-      → Drops (drops_line_feed outside t) (place_in syntax outside t.name).content from inner → Holds syntax left (place_in syntax outside t.name) t.name inner to inside
+  a_root : {left : ℕ} {from inner to : List Item} {inside : Tree} {stood : Bool} (lead : List Item) (item : Item) (t : Tag) → Lead lead stood
+      → Opens syntax outside item t → t.name ≡ root_name → is_alone syntax outside t ≡ false
+      → Drops (drops_line_feed outside t) (place_in syntax outside t.name).content from inner
+      → Holds syntax left (place_in syntax outside t.name) t.name inner to inside
       → Open syntax left (lead ++ item ∷ from) to (start_of item t ∷ [])
-  a_child : {left : ℕ} {all from inner to : List Item} {inside : Tree} {line : Line} (item : Item) (t : Tag) → Open syntax (suc left) all (item ∷ from) line → Opens syntax (inside_of syntax line) item t → is_alone syntax (inside_of syntax line) t ≡ false
+  a_child : {left : ℕ} {all from inner to : List Item} {inside : Tree} {line : Line} (item : Item) (t : Tag) → Open syntax (suc left) all (item ∷ from) line
+      → Opens syntax (inside_of syntax line) item t → is_alone syntax (inside_of syntax line) t ≡ false
       → is_among (enders_of syntax line) t.name ≡ false
-      → Drops (drops_line_feed (inside_of syntax line) t) (place_in syntax (inside_of syntax line) t.name).content from inner → Holds syntax left (place_in syntax (inside_of syntax line) t.name) t.name inner to inside
+      → Drops (drops_line_feed (inside_of syntax line) t) (place_in syntax (inside_of syntax line) t.name).content from inner
+      → Holds syntax left (place_in syntax (inside_of syntax line) t.name) t.name inner to inside
       → has_element (enders (inside_of syntax line) t.name) inside ≡ false
       → Open syntax left all to (start_of item t ∷ line)
 
 -- The tokens stand at the front of a page, with these elements open.
 pub data Stands (syntax : Syntax) : ℕ → List Item → Line → Phase → Type 0 where
   not_begun : {depth : ℕ} {items : List Item} (stood : Bool) → Lead items stood → Stands syntax depth items [] (before stood)
-  still_open : {left : ℕ} {items : List Item} {t : StartTag} {above : Line} (depth : ℕ) → Open syntax left items [] (t ∷ above) → length (t ∷ above) + left ≡ depth → Stands syntax depth items (t ∷ above) within
+  still_open : {left : ℕ} {items : List Item} {t : StartTag} {above : Line} (depth : ℕ) → Open syntax left items [] (t ∷ above)
+      → length (t ∷ above) + left ≡ depth → Stands syntax depth items (t ∷ above) within
   ended : {depth : ℕ} {items : List Item} (tree : Tree) → Document syntax depth items tree → Stands syntax depth items [] after
 
 -- The bytes, before `next` or nothing, are whole tokens that can stand at the front of a page; `line` and `phase` tell where it has come to.

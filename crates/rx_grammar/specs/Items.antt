@@ -33,7 +33,8 @@ last_from last (entry ∷ entries) = last_from entry.last entries
 -- The characters are these tokens, one after another, where `next` stands after the last.
 pub data Spelled (syntax : Syntax) : List Entry → Option ℕ → List Item → Type 0 where
   no_more : {next : Option ℕ} → Spelled syntax [] next []
-  one : {next : Option ℕ} (c : Entry) (run rest : List Entry) (item : Item) {items : List Item} → Spells syntax item.content (values (c ∷ run)) (next_of (values rest) next) item.token → item.first ≡ c.first → item.last ≡ last_from c.last run
+  one : {next : Option ℕ} (c : Entry) (run rest : List Entry) (item : Item) {items : List Item}
+      → Spells syntax item.content (values (c ∷ run)) (next_of (values rest) next) item.token → item.first ≡ c.first → item.last ≡ last_from c.last run
       → Spelled syntax rest next items → Spelled syntax ((c ∷ run) ++ rest) next (item ∷ items)
 
 -- No tag has more bytes than the limit.

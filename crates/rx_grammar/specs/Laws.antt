@@ -33,7 +33,8 @@ PageOrFault = (syntax : Syntax) (limits : Limits) (bytes : List ℕ)
 
 -- not both,
 abbrev pub NotBoth : Type 0
-NotBoth = (syntax : Syntax) (limits : Limits) (bytes : List ℕ) (tree : Tree) (fault : Fault) → Page syntax limits bytes tree → FaultAt syntax limits bytes fault → ⊥
+NotBoth =
+    (syntax : Syntax) (limits : Limits) (bytes : List ℕ) (tree : Tree) (fault : Fault) → Page syntax limits bytes tree → FaultAt syntax limits bytes fault → ⊥
 
 -- and at most one fault
 abbrev pub OneFault : Type 0

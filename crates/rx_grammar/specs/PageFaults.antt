@@ -56,8 +56,10 @@ is_opening_begun text = list_any (λ opening. begins_with text opening) openings
 
 -- These characters begin a token and aren't yet one.
 pub data Unfinished (syntax : Syntax) (inside : Content) : Chars → Type 0 where
-  token_begun : (c d : ℕ) (run rest : Chars) {next : Option ℕ} (token : Token) → Spells syntax inside (c ∷ (run ++ d ∷ rest)) next token → Unfinished syntax inside (c ∷ run)
-  tag_begun : (text : Chars) → is_known_tag syntax inside (less_than_sign ∷ text) ≡ true → BeginsTag syntax text → Unfinished syntax inside (less_than_sign ∷ text)
+  token_begun : (c d : ℕ) (run rest : Chars) {next : Option ℕ} (token : Token) → Spells syntax inside (c ∷ (run ++ d ∷ rest)) next token
+      → Unfinished syntax inside (c ∷ run)
+  tag_begun : (text : Chars) → is_known_tag syntax inside (less_than_sign ∷ text) ≡ true → BeginsTag syntax text
+      → Unfinished syntax inside (less_than_sign ∷ text)
   run_begun : (run : Chars) → has_references inside ≡ true → is_begun run ≡ true → Unfinished syntax inside (ampersand ∷ run)
   opening_begun : (text : Chars) → syntax ≡ Xhtml → has_markup inside ≡ true → is_opening_begun text ≡ true → Unfinished syntax inside (less_than_sign ∷ text)
 
@@ -139,27 +141,35 @@ BeginsNoDoctype syntax text = (rest : Chars) → IsDoctype syntax (text ++ rest)
 -- After these tokens, with these elements open, the characters of the next token through the last one, which decides its fault.
 pub data Faulty (syntax : Syntax) (depth : ℕ) (items : List Item) (line : Line) (phase : Phase) (inside : Content) : Kind → Chars → Type 0 where
   -- in a tag
-  in_tag : {found : Kind} (text : Chars) → is_known_tag syntax inside (less_than_sign ∷ text) ≡ true → TagFault syntax found text → Faulty syntax depth items line phase inside found (less_than_sign ∷ text)
+  in_tag : {found : Kind} (text : Chars) → is_known_tag syntax inside (less_than_sign ∷ text) ≡ true → TagFault syntax found text
+      → Faulty syntax depth items line phase inside found (less_than_sign ∷ text)
   -- XHTML: `<` and what begins nothing
-  no_markup : (text : Chars) (c : ℕ) → syntax ≡ Xhtml → has_markup inside ≡ true → is_opening_begun text ≡ true → meets_opening (text ++ c ∷ []) ≡ false → begins (begins_tag syntax) (text ++ c ∷ []) ≡ false
+  no_markup : (text : Chars) (c : ℕ) → syntax ≡ Xhtml → has_markup inside ≡ true → is_opening_begun text ≡ true → meets_opening (text ++ c ∷ []) ≡ false
+      → begins (begins_tag syntax) (text ++ c ∷ []) ≡ false
       → Faulty syntax depth items line phase inside kind.BadTag (less_than_sign ∷ (text ++ c ∷ []))
   -- a reference in text
-  in_run : {found : Kind} (run : Chars) → has_references inside ≡ true → RunFault syntax found run → Faulty syntax depth items line phase inside found (ampersand ∷ run)
+  in_run : {found : Kind} (run : Chars) → has_references inside ≡ true → RunFault syntax found run
+      → Faulty syntax depth items line phase inside found (ampersand ∷ run)
   -- XML 1.0, 2.5: `--` in a comment
   in_comment : (text : Chars) (c : ℕ) → syntax ≡ Xhtml → has_markup inside ≡ true → IsFirst (ends_with (codes "--")) text → c ≢ greater_than_sign
       → Faulty syntax depth items line phase inside kind.StrictText (less_than_sign ∷ (codes "!--" ++ (text ++ c ∷ [])))
   -- XML 1.0, 2.4: `]]>` in text
   section_end : inside ≡ content.Strict → ends_in_brackets items ≡ true → Faulty syntax depth items line phase inside kind.StrictText (greater_than_sign ∷ [])
   -- a document type that goes on to none, or that isn't the first thing but for comments and white space
-  no_doctype : (keyword text : Chars) (c : ℕ) → has_markup inside ≡ true → cased syntax keyword ≡ doctype_word syntax → BeginsDoctype syntax (keyword ++ text) → BeginsNoDoctype syntax (keyword ++ (text ++ c ∷ []))
+  no_doctype : (keyword text : Chars) (c : ℕ) → has_markup inside ≡ true → cased syntax keyword ≡ doctype_word syntax → BeginsDoctype syntax (keyword ++ text)
+      → BeginsNoDoctype syntax (keyword ++ (text ++ c ∷ []))
       → Faulty syntax depth items line phase inside kind.BadDoctype (less_than_sign ∷ exclamation_mark ∷ (keyword ++ (text ++ c ∷ [])))
-  late_doctype : (text : Chars) → has_markup inside ≡ true → IsDoctype syntax text → phase ≢ before false → Faulty syntax depth items line phase inside kind.BadDoctype (less_than_sign ∷ exclamation_mark ∷ text)
+  late_doctype : (text : Chars) → has_markup inside ≡ true → IsDoctype syntax text → phase ≢ before false
+      → Faulty syntax depth items line phase inside kind.BadDoctype (less_than_sign ∷ exclamation_mark ∷ text)
   -- text outside the root; a `<` that is text is known as such at the next character
-  outside_text : (c : ℕ) → inside ≡ content.Outside → is_white_space c ≡ false → c ≢ less_than_sign → Faulty syntax depth items line phase inside kind.Outside (c ∷ [])
-  outside_less_than : (c : ℕ) → syntax ≡ Html → inside ≡ content.Outside → begins_markup c ≡ false → Faulty syntax depth items line phase inside kind.Outside (less_than_sign ∷ c ∷ [])
+  outside_text : (c : ℕ) → inside ≡ content.Outside → is_white_space c ≡ false → c ≢ less_than_sign
+      → Faulty syntax depth items line phase inside kind.Outside (c ∷ [])
+  outside_less_than : (c : ℕ) → syntax ≡ Html → inside ≡ content.Outside → begins_markup c ≡ false
+      → Faulty syntax depth items line phase inside kind.Outside (less_than_sign ∷ c ∷ [])
   outside_section : syntax ≡ Xhtml → inside ≡ content.Outside → Faulty syntax depth items line phase inside kind.Outside (codes "<![CDATA[")
   -- a whole tag
-  at_tag : {found : Kind} (chars : Chars) (t : Tag) → Spells syntax inside chars None (tag t) → first_row (tag_rows syntax depth line phase t) ≡ Some found → Faulty syntax depth items line phase inside found chars
+  at_tag : {found : Kind} (chars : Chars) (t : Tag) → Spells syntax inside chars None (tag t) → first_row (tag_rows syntax depth line phase t) ≡ Some found
+      → Faulty syntax depth items line phase inside found chars
 
 -- The bytes are whole characters: whole tokens at the front of a page, with `line` and `phase`, and a run of characters behind them.
 pub record Reached (syntax : Syntax) (limits : Limits) (bytes : List ℕ) (items : List Item) (line : Line) (phase : Phase) (run : List Entry) : Type 0 where
@@ -210,17 +220,21 @@ pub record Before (syntax : Syntax) (limits : Limits) (bytes : List ℕ) (token 
 pub data FaultAt (syntax : Syntax) (limits : Limits) (bytes : List ℕ) : Fault → Type 0 where
   page_too_long : (token at : ℕ) (b : Before syntax limits bytes token at) → at ≡ limits.page → IsShort syntax limits b.line b.run token at
       → FaultAt syntax limits bytes (record { kind = kind.PageTooLong; token = token; at = at })
-  not_utf8 : (token at : ℕ) (b : Before syntax limits bytes token at) → at < limits.page → IsShort syntax limits b.line b.run token at → BeginNone (b.part ++ b.byte ∷ [])
+  not_utf8 : (token at : ℕ) (b : Before syntax limits bytes token at) → at < limits.page → IsShort syntax limits b.line b.run token at
+      → BeginNone (b.part ++ b.byte ∷ [])
       → FaultAt syntax limits bytes (record { kind = kind.NotUtf8; token = token; at = at })
   nul : (token at : ℕ) (b : Before syntax limits bytes token at) → at < limits.page → IsShort syntax limits b.line b.run token at → b.part ≡ [] → b.byte ≡ 0
       → FaultAt syntax limits bytes (record { kind = kind.Nul; token = token; at = at })
   -- the tag's byte after the limit, where the run is known to be a tag before it
-  tag_too_long : (token at : ℕ) (b : Before syntax limits bytes token at) → at < limits.page → is_known_tag syntax (inside_of syntax b.line).content (values b.run) ≡ true → at ≡ token + limits.tag → GoesOn (b.part ++ b.byte ∷ [])
+  tag_too_long : (token at : ℕ) (b : Before syntax limits bytes token at) → at < limits.page
+      → is_known_tag syntax (inside_of syntax b.line).content (values b.run) ≡ true → at ≡ token + limits.tag → GoesOn (b.part ++ b.byte ∷ [])
       → FaultAt syntax limits bytes (record { kind = kind.TagTooLong; token = token; at = at })
   -- the character at which it is known, where the limit is passed then
   known_too_long : (whole rest : List ℕ) (items : List Item) (line : Line) (phase : Phase) (first : Entry) (more : List Entry) (c : Entry)
-      → bytes ≡ whole ++ rest → Reached syntax limits whole items line phase ((first ∷ more) ++ c ∷ []) → Unfinished syntax (inside_of syntax line).content (values (first ∷ more))
-      → is_known_tag syntax (inside_of syntax line).content (values (first ∷ more)) ≡ false → is_known_tag syntax (inside_of syntax line).content (values ((first ∷ more) ++ c ∷ [])) ≡ true
+      → bytes ≡ whole ++ rest → Reached syntax limits whole items line phase ((first ∷ more) ++ c ∷ [])
+      → Unfinished syntax (inside_of syntax line).content (values (first ∷ more))
+      → is_known_tag syntax (inside_of syntax line).content (values (first ∷ more)) ≡ false
+      → is_known_tag syntax (inside_of syntax line).content (values ((first ∷ more) ++ c ∷ [])) ≡ true
       → first.first + limits.tag ≤ c.last → c.last < limits.page
       → FaultAt syntax limits bytes (record { kind = kind.TagTooLong; token = first.first; at = c.last })
   -- the last character of the run decides

@@ -31,7 +31,8 @@ pub record Closes (inner : Content) (name : Chars) (item : Item) : Type 0 where
 
 -- Directly after a start tag that drops it, a line feed is passed over.
 pub data Drops (drops : Bool) (inner : Content) : List Item → List Item → Type 0 where
-  a_line_feed : {items : List Item} (item : Item) → drops ≡ true → item.content ≡ inner → is_line_feed item.token ≡ true → Drops drops inner (item ∷ items) items
+  a_line_feed : {items : List Item} (item : Item) → drops ≡ true → item.content ≡ inner → is_line_feed item.token ≡ true
+      → Drops drops inner (item ∷ items) items
   another : {items : List Item} (item : Item) → (drops && is_line_feed item.token) ≡ false → Drops drops inner (item ∷ items) (item ∷ items)
   no_more : Drops drops inner [] []
 
@@ -43,23 +44,32 @@ shown hidden nodes = if hidden then end else nodes
 -- in an element named `parent`, and at most `left` levels of elements open there.
 pub data Holds (syntax : Syntax) : ℕ → Place → Chars → List Item → List Item → Tree → Type 0 where
   nothing : {left : ℕ} {place : Place} {parent : Chars} {to : List Item} → Holds syntax left place parent to to end
-  a_text : {left : ℕ} {place : Place} {parent : Chars} {from to : List Item} {nodes : Tree} (item : Item) (chars : Chars) → item.content ≡ place.content → text_of item.token ≡ Some chars
+  a_text : {left : ℕ} {place : Place} {parent : Chars} {from to : List Item} {nodes : Tree} (item : Item) (chars : Chars) → item.content ≡ place.content
+      → text_of item.token ≡ Some chars
       → Holds syntax left place parent from to nodes → Holds syntax left place parent (item ∷ from) to (after_text chars nodes)
-  a_comment : {left : ℕ} {place : Place} {parent : Chars} {from to : List Item} {nodes : Tree} (item : Item) → item.content ≡ place.content → item.token ≡ comment
+  a_comment : {left : ℕ} {place : Place} {parent : Chars} {from to : List Item} {nodes : Tree} (item : Item) → item.content ≡ place.content
+      → item.token ≡ comment
       → Holds syntax left place parent from to nodes → Holds syntax left place parent (item ∷ from) to nodes
   -- an element that is its start tag alone
-  alone : {left : ℕ} {place : Place} {parent : Chars} {from to : List Item} {nodes : Tree} (item : Item) (t : Tag) → Opens syntax place item t → is_alone syntax place t ≡ true
+  alone : {left : ℕ} {place : Place} {parent : Chars} {from to : List Item} {nodes : Tree} (item : Item) (t : Tag) → Opens syntax place item t
+      → is_alone syntax place t ≡ true
       → Holds syntax (suc left) place parent from to nodes → Holds syntax (suc left) place parent (item ∷ from) to (element (start_of item t) end nodes)
   -- a start tag, what is inside, and the end tag of its name
-  closed : {left : ℕ} {place : Place} {parent : Chars} {from inner after to : List Item} {inside nodes : Tree} (item close : Item) (t : Tag) → Opens syntax place item t → is_alone syntax place t ≡ false
-      → Drops (drops_line_feed place t) (place_in syntax place t.name).content from inner → Holds syntax left (place_in syntax place t.name) t.name inner (close ∷ after) inside
+  closed : {left : ℕ} {place : Place} {parent : Chars} {from inner after to : List Item} {inside nodes : Tree} (item close : Item) (t : Tag)
+      → Opens syntax place item t → is_alone syntax place t ≡ false
+      → Drops (drops_line_feed place t) (place_in syntax place t.name).content from inner
+      → Holds syntax left (place_in syntax place t.name) t.name inner (close ∷ after) inside
       → has_element (enders place t.name) inside ≡ false → Closes (place_in syntax place t.name).content t.name close
-      → Holds syntax (suc left) place parent after to nodes → Holds syntax (suc left) place parent (item ∷ from) to (element (start_of item t) (shown (hides place t) inside) nodes)
+      → Holds syntax (suc left) place parent after to nodes
+      → Holds syntax (suc left) place parent (item ∷ from) to (element (start_of item t) (shown (hides place t) inside) nodes)
   -- a start tag and what is inside, where its end tag may be omitted before what follows
-  unclosed : {left : ℕ} {place : Place} {parent : Chars} {from inner after to : List Item} {inside nodes : Tree} (item : Item) (t : Tag) → Opens syntax place item t → is_alone syntax place t ≡ false
-      → Drops (drops_line_feed place t) (place_in syntax place t.name).content from inner → Holds syntax left (place_in syntax place t.name) t.name inner after inside
+  unclosed : {left : ℕ} {place : Place} {parent : Chars} {from inner after to : List Item} {inside nodes : Tree} (item : Item) (t : Tag)
+      → Opens syntax place item t → is_alone syntax place t ≡ false
+      → Drops (drops_line_feed place t) (place_in syntax place t.name).content from inner
+      → Holds syntax left (place_in syntax place t.name) t.name inner after inside
       → has_element (enders place t.name) inside ≡ false → is_ended_by place parent t.name after ≡ true
-      → Holds syntax (suc left) place parent after to nodes → Holds syntax (suc left) place parent (item ∷ from) to (element (start_of item t) (shown (hides place t) inside) nodes)
+      → Holds syntax (suc left) place parent after to nodes
+      → Holds syntax (suc left) place parent (item ∷ from) to (element (start_of item t) (shown (hides place t) inside) nodes)
 
 -- White space, comments and at most one document type. The last index tells whether there is one.
 abbrev pub is_between : Token → Bool
@@ -69,7 +79,8 @@ is_between _ = false
 
 pub data Lead : List Item → Bool → Type 0 where
   no_more : Lead [] false
-  passed : {items : List Item} {stood : Bool} (item : Item) → item.content ≡ content.Outside → is_between item.token ≡ true → Lead items stood → Lead (item ∷ items) stood
+  passed : {items : List Item} {stood : Bool} (item : Item) → item.content ≡ content.Outside → is_between item.token ≡ true → Lead items stood
+      → Lead (item ∷ items) stood
   a_doctype : {items : List Item} (item : Item) → item.content ≡ content.Outside → item.token ≡ doctype → Lead items false → Lead (item ∷ items) true
 
 abbrev pub root_name : Chars

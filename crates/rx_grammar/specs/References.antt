@@ -101,6 +101,9 @@ IsKept Xhtml run text = ⊥
 -- A value as it is written, and the value. `means` tells what references stand for.
 pub data Denotes (syntax : Syntax) (means : Chars → Option ℕ) : Chars → Chars → Type 0 where
   nothing : Denotes syntax means [] []
-  character : {text value : Chars} (c : ℕ) → is_plain syntax c ≡ true → Denotes syntax means text value → Denotes syntax means (c ∷ text) (value_char syntax c ∷ value)
-  reference : {text value : Chars} (body : Chars) (c : ℕ) → is_body body ≡ true → means body ≡ Some c → Denotes syntax means text value → Denotes syntax means (ampersand ∷ (body ++ semicolon ∷ text)) (c ∷ value)
-  kept : {text value : Chars} (run : Chars) → IsKept syntax run text → Denotes syntax means text value → Denotes syntax means (ampersand ∷ (run ++ text)) (ampersand ∷ (run ++ value))
+  character : {text value : Chars} (c : ℕ) → is_plain syntax c ≡ true → Denotes syntax means text value
+      → Denotes syntax means (c ∷ text) (value_char syntax c ∷ value)
+  reference : {text value : Chars} (body : Chars) (c : ℕ) → is_body body ≡ true → means body ≡ Some c → Denotes syntax means text value
+      → Denotes syntax means (ampersand ∷ (body ++ semicolon ∷ text)) (c ∷ value)
+  kept : {text value : Chars} (run : Chars) → IsKept syntax run text → Denotes syntax means text value
+      → Denotes syntax means (ampersand ∷ (run ++ text)) (ampersand ∷ (run ++ value))

@@ -96,21 +96,25 @@ ends_unquoted c = is_white_space c || c == greater_than_sign
 -- What follows an attribute's name: nothing, or `=` and its value. The last index tells what may come after it.
 pub data Assigns (syntax : Syntax) : Chars → Chars → (ℕ → Bool) → Type 0 where
   no_value : syntax ≡ Html → Assigns syntax [] [] ends_name
-  unquoted : (before after value : Chars) → syntax ≡ Html → list_all is_white_space before ≡ true → list_all is_white_space after ≡ true → is_unquoted value ≡ true
+  unquoted : (before after value : Chars) → syntax ≡ Html → list_all is_white_space before ≡ true → list_all is_white_space after ≡ true
+      → is_unquoted value ≡ true
       → Assigns syntax (before ++ equals_sign ∷ (after ++ value)) value ends_unquoted
-  quoted : (before after value : Chars) (mark : ℕ) → is_quote mark ≡ true → list_all is_white_space before ≡ true → list_all is_white_space after ≡ true → list_all (λ c. not (c == mark)) value ≡ true
+  quoted : (before after value : Chars) (mark : ℕ) → is_quote mark ≡ true → list_all is_white_space before ≡ true → list_all is_white_space after ≡ true
+      → list_all (λ c. not (c == mark)) value ≡ true
       → Assigns syntax (before ++ equals_sign ∷ (after ++ mark ∷ (value ++ mark ∷ []))) value (λ c. true)
 
 -- What follows the name of a start tag, through its `>`: attributes, and whether the tag is self-closing.
 pub data Attributes (syntax : Syntax) : Chars → List Attribute → Bool → Type 0 where
   no_more : (gap : Chars) → is_last_gap syntax gap ≡ true → Attributes syntax (gap ++ greater_than_sign ∷ []) [] (ends_in_solidus gap)
   one : (gap name assigned value : Chars) (follows : ℕ → Bool) (rest : Chars) {more : List Attribute} {slash : Bool}
-      → is_gap syntax gap ≡ true → is_attribute_name syntax name ≡ true → Assigns syntax assigned value follows → begins follows rest ≡ true → Attributes syntax rest more slash
+      → is_gap syntax gap ≡ true → is_attribute_name syntax name ≡ true → Assigns syntax assigned value follows → begins follows rest ≡ true
+      → Attributes syntax rest more slash
       → Attributes syntax (gap ++ (name ++ (assigned ++ rest))) ((name, value) ∷ more) slash
 
 -- The characters of a tag after its `<`, through its `>`.
 pub data Shape (syntax : Syntax) : Chars → Tag → Type 0 where
-  a_start : (name rest : Chars) {attributes : List Attribute} {slash : Bool} → is_tag_name syntax name ≡ true → begins ends_name rest ≡ true → Attributes syntax rest attributes slash
+  a_start : (name rest : Chars) {attributes : List Attribute} {slash : Bool} → is_tag_name syntax name ≡ true → begins ends_name rest ≡ true
+      → Attributes syntax rest attributes slash
       → Shape syntax (name ++ rest) (record { closing = false; name = name; attributes = attributes; slash = slash })
   an_end : (name spaces : Chars) → is_tag_name syntax name ≡ true → list_all is_white_space spaces ≡ true
       → Shape syntax (solidus ∷ (name ++ (spaces ++ greater_than_sign ∷ []))) (record { closing = true; name = name; attributes = []; slash = false })

@@ -111,26 +111,39 @@ pub record IsDoctype (syntax : Syntax) (text : Chars) : Type 0 where
 -- The characters spell this token in this content, where `next` stands after them, or nothing.
 pub data Spells (syntax : Syntax) (inside : Content) : Chars → Option ℕ → Token → Type 0 where
   -- start tags and end tags
-  a_tag : {next : Option ℕ} (text : Chars) (t : Tag) → has_markup inside ≡ true → SpellsTag syntax text t → Spells syntax inside (less_than_sign ∷ text) next (tag t)
+  a_tag : {next : Option ℕ} (text : Chars) (t : Tag) → has_markup inside ≡ true → SpellsTag syntax text t
+      → Spells syntax inside (less_than_sign ∷ text) next (tag t)
   -- HTML, 13.1.2: raw text ends by its own end tag alone
-  an_end_of_raw : {next : Option ℕ} (text name : Chars) (t : Tag) → raw_name inside ≡ Some name → SpellsTag syntax text t → t.closing ≡ true → t.name ≡ name → Spells syntax inside (less_than_sign ∷ text) next (tag t)
+  an_end_of_raw : {next : Option ℕ} (text name : Chars) (t : Tag) → raw_name inside ≡ Some name → SpellsTag syntax text t → t.closing ≡ true → t.name ≡ name
+      → Spells syntax inside (less_than_sign ∷ text) next (tag t)
   -- text
   a_character : {next : Option ℕ} (c : ℕ) → is_text inside c ≡ true → Spells syntax inside (c ∷ []) next (character c)
   -- a `<` before a character that begins no markup (HTML)
-  a_less_than : {next : Option ℕ} → syntax ≡ Html → has_less_than inside ≡ true → IsBefore (λ c. not (begins_markup c)) next → Spells syntax inside (less_than_sign ∷ []) next (kept (less_than_sign ∷ []))
+  a_less_than : {next : Option ℕ} → syntax ≡ Html → has_less_than inside ≡ true → IsBefore (λ c. not (begins_markup c)) next
+      → Spells syntax inside (less_than_sign ∷ []) next (kept (less_than_sign ∷ []))
   -- `<`, `</` or a longer front of the end tag, in raw text, that goes on to none
-  a_raw_run : {next : Option ℕ} (text name : Chars) → raw_name inside ≡ Some name → begins_end name text ≡ true → IsBefore (stops_end name text) next → Spells syntax inside (less_than_sign ∷ text) next (kept (less_than_sign ∷ text))
+  a_raw_run : {next : Option ℕ} (text name : Chars) → raw_name inside ≡ Some name → begins_end name text ≡ true → IsBefore (stops_end name text) next
+      → Spells syntax inside (less_than_sign ∷ text) next (kept (less_than_sign ∷ text))
   -- references
-  a_reference : {next : Option ℕ} (body : Chars) (c : ℕ) → has_references inside ≡ true → is_body body ≡ true → meaning syntax body ≡ Some c → Spells syntax inside (ampersand ∷ (body ++ semicolon ∷ [])) next (reference c)
-  a_kept_run : {next : Option ℕ} (run : Chars) → keeps_runs inside ≡ true → is_begun run ≡ true → IsBefore (stops_at run) next → Spells syntax inside (ampersand ∷ run) next (kept (ampersand ∷ run))
+  a_reference : {next : Option ℕ} (body : Chars) (c : ℕ) → has_references inside ≡ true → is_body body ≡ true → meaning syntax body ≡ Some c
+      → Spells syntax inside (ampersand ∷ (body ++ semicolon ∷ [])) next (reference c)
+  a_kept_run : {next : Option ℕ} (run : Chars) → keeps_runs inside ≡ true → is_begun run ≡ true → IsBefore (stops_at run) next
+      → Spells syntax inside (ampersand ∷ run) next (kept (ampersand ∷ run))
   -- comments of HTML; `<!` and `<?` that begin nothing else are bogus comments
-  a_comment : {next : Option ℕ} (text : Chars) → syntax ≡ Html → has_markup inside ≡ true → IsFirst ends_comment text → Spells syntax inside (less_than_sign ∷ exclamation_mark ∷ (codes "--" ++ text)) next comment
-  a_bogus_comment : {next : Option ℕ} (text : Chars) → syntax ≡ Html → has_markup inside ≡ true → begins_declaration inside text ≡ false → IsFirst (ends_with (codes ">")) text → Spells syntax inside (less_than_sign ∷ exclamation_mark ∷ text) next comment
-  a_question : {next : Option ℕ} (text : Chars) → syntax ≡ Html → has_markup inside ≡ true → IsFirst (ends_with (codes ">")) text → Spells syntax inside (less_than_sign ∷ question_mark ∷ text) next comment
+  a_comment : {next : Option ℕ} (text : Chars) → syntax ≡ Html → has_markup inside ≡ true → IsFirst ends_comment text
+      → Spells syntax inside (less_than_sign ∷ exclamation_mark ∷ (codes "--" ++ text)) next comment
+  a_bogus_comment : {next : Option ℕ} (text : Chars) → syntax ≡ Html → has_markup inside ≡ true → begins_declaration inside text ≡ false
+      → IsFirst (ends_with (codes ">")) text → Spells syntax inside (less_than_sign ∷ exclamation_mark ∷ text) next comment
+  a_question : {next : Option ℕ} (text : Chars) → syntax ≡ Html → has_markup inside ≡ true → IsFirst (ends_with (codes ">")) text
+      → Spells syntax inside (less_than_sign ∷ question_mark ∷ text) next comment
   -- XML 1.0, 2.5 and 2.6: comments, which have no `--` in them, and processing instructions
-  a_strict_comment : {next : Option ℕ} (text : Chars) → syntax ≡ Xhtml → has_markup inside ≡ true → IsFirst (ends_with (codes "--")) text → Spells syntax inside (less_than_sign ∷ exclamation_mark ∷ (codes "--" ++ (text ++ greater_than_sign ∷ []))) next comment
-  an_instruction : {next : Option ℕ} (text : Chars) → syntax ≡ Xhtml → has_markup inside ≡ true → IsFirst (ends_with (codes "?>")) text → Spells syntax inside (less_than_sign ∷ question_mark ∷ text) next comment
+  a_strict_comment : {next : Option ℕ} (text : Chars) → syntax ≡ Xhtml → has_markup inside ≡ true → IsFirst (ends_with (codes "--")) text
+      → Spells syntax inside (less_than_sign ∷ exclamation_mark ∷ (codes "--" ++ (text ++ greater_than_sign ∷ []))) next comment
+  an_instruction : {next : Option ℕ} (text : Chars) → syntax ≡ Xhtml → has_markup inside ≡ true → IsFirst (ends_with (codes "?>")) text
+      → Spells syntax inside (less_than_sign ∷ question_mark ∷ text) next comment
   -- XML 1.0, 2.7; HTML, 13.1.5: CDATA sections
-  a_section : {next : Option ℕ} (text : Chars) → has_sections inside ≡ true → IsFirst (ends_with (codes "]]>")) (text ++ codes "]]>") → Spells syntax inside (less_than_sign ∷ exclamation_mark ∷ (codes "[CDATA[" ++ (text ++ codes "]]>"))) next (section text)
+  a_section : {next : Option ℕ} (text : Chars) → has_sections inside ≡ true
+      → IsFirst (ends_with (codes "]]>")) (text ++ codes "]]>") → Spells syntax inside (less_than_sign ∷ exclamation_mark ∷ (codes "[CDATA[" ++ (text ++ codes "]]>"))) next (section text)
   -- the document type
-  a_doctype : {next : Option ℕ} (text : Chars) → has_markup inside ≡ true → IsDoctype syntax text → Spells syntax inside (less_than_sign ∷ exclamation_mark ∷ text) next doctype
+  a_doctype : {next : Option ℕ} (text : Chars) → has_markup inside ≡ true → IsDoctype syntax text
+      → Spells syntax inside (less_than_sign ∷ exclamation_mark ∷ text) next doctype

@@ -77,6 +77,8 @@ pub data TagFault (syntax : Syntax) : Kind → Chars → Type 0 where
   -- no tag goes on so
   bad_tag : (front : Chars) (c : ℕ) → BeginsTag syntax front → BeginsNoShape syntax (front ++ c ∷ []) → TagFault syntax BadTag (front ++ c ∷ [])
   -- a value doesn't
-  in_value : {kind : Kind} (front : Chars) (c : ℕ) → BeginsTag syntax front → DecidesValue syntax kind (front ++ c ∷ []) → TagFault syntax kind (front ++ c ∷ [])
+  in_value : {kind : Kind} (front : Chars) (c : ℕ) → BeginsTag syntax front → DecidesValue syntax kind (front ++ c ∷ [])
+      → TagFault syntax kind (front ++ c ∷ [])
   -- XML 1.0, 3.1: the tag is whole, and a name stands twice in it
-  repeated : (chars : Chars) (parts : Tag) → Reads syntax (meaning syntax) chars parts → is_repeated syntax parts.attributes ≡ true → TagFault syntax RepeatedAttribute chars
+  repeated : (chars : Chars) (parts : Tag) → Reads syntax (meaning syntax) chars parts → is_repeated syntax parts.attributes ≡ true
+      → TagFault syntax RepeatedAttribute chars

@@ -7,7 +7,9 @@
 mod contents;
 mod faults;
 mod limits;
+mod stops;
 
 pub use contents::{Content, RawName};
 pub use faults::{Fault, Kind};
 pub use limits::Limits;
+pub use stops::Stop;

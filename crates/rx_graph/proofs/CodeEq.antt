@@ -15,7 +15,7 @@ use Rattle.rx_model.specs.Terms.{same_node, same_triple}
 use Rattle.rx_model.proofs.Exact.{exact_numbers, exact_nodes, exact_triples}
 use Rattle.rx_model.proofs.Seen.{triple_tells}
 use Rattle.rx_model.specs.Seen.{triple_seen}
-use Rattle.rx_graph.proofs.SetLemmas.{same_truth}
+use Rattle.rx_terms.proofs.Bools.{same_truth}
 
 abbrev pub code_eq : CodeTriple → CodeTriple → Bool
 code_eq = (triple_eq.ghosts).eq

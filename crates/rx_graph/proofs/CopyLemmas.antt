@@ -19,7 +19,8 @@ use Rattle.rx_graph.specs.Resources.{number_in, live_by}
 use Rattle.rx_graph.specs.Patterns.{places, edges_by, ArePatterns, AreReferenced}
 use Rattle.rx_graph.specs.Ways.{mark_at, Step, Goes, stays, goes_on, all_led, Led, led_here, led_on, EachOnce, IsWalk}
 use Rattle.rx_graph.specs.Copying.{link_to, number_of, linked, AreLinks, gives_by, own_key, put_at, is_key, owned, AreOwn, gives, contents, IsIndex, IsContent, AreContents}
-use Rattle.rx_graph.proofs.SetLemmas.{seen_more, same_truth}
+use Rattle.rx_terms.proofs.Bools.{same_truth}
+use Rattle.rx_graph.proofs.SetLemmas.{seen_more}
 use Rattle.rx_graph.proofs.PatternLemmas.{edges_more, edges_are, live_is, places_more, length_so_far, number_same, number_small, number_there}
 use Rattle.rx_graph.proofs.PlaceLemmas.{place_for, any_of, any_has, any_by, sorted_places, same_places}
 use Rattle.rx_graph.proofs.WayLemmas.{goes_trans, goes_by, step_within, pushed_old, pushed_new, pushed_cases, pushed_length, pushed_beyond, pushed_row, empty_none, empty_row, empty_length}

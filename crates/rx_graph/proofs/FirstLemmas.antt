@@ -1,10 +1,9 @@
 -- Which triples of a list are the first of their kind.
-use Rattle.std.proofs.Common.{◌≡◌, ℕ, suc, ◌+◌, ◌<◌, ◌≤◌, Bool, true, false, not, List, [], ◌∷◌, ◌++◌, map, length, take, get_or, slice_get, Some, refl, sym, ap, ap₂, ◌∙◌, if◌then◌else◌, nat_eq, true≢false, length-append, arith}
-use Rattle.std.proofs.Common.{◌||◌, ◌&&◌, ⊎_elim, option_map}
+use Rattle.std.proofs.Common.{◌≡◌, ℕ, suc, ◌+◌, ◌<◌, ◌≤◌, Bool, true, false, not, List, [], ◌∷◌, ◌++◌, map, length, take, get_or, slice_get, Some, refl, sym, ap, ap₂, ◌∙◌, if◌then◌else◌, nat_eq, true≢false, length-append, arith, ◌||◌, ◌&&◌, ⊎_elim, option_map}
 use Rattle.std.proofs.lemmas.List.{map-append, take_all, take-map}
 use Rattle.std.proofs.Math.Bool.{or-false}
 use Rattle.std.proofs.lemmas.Option.{slice_get-map, get_or_from_slice_get}
-use Rattle.rx_model.specs.Sets.{IsExact}
+use Rattle.rx_model.specs.Sets.{IsExact, contains, distinct}
 use Rattle.rx_model.proofs.Sets.{Among-contains, Among_by_contains, Among_distinct, Among_of_distinct, or_cases, or_left, or_right, and_left, and_right, not_true, false_unless}
 use Rattle.rx_model.proofs.Exact.{exact_numbers, exact_triples}
 use Rattle.rx_model.proofs.Seen.{triple_tells}
@@ -13,14 +12,14 @@ use Rattle.rx_graph.specs.Keys.{key_of, TellsRepeats}
 use Rattle.rx_graph.proofs.KeyLemmas.{contains_more}
 use Rattle.rx_unique.specs.Unique.{insert_key}
 use Rattle.rx_terms.specs.declared.triples.Triple.{Triple as CodeTriple}
-use Rattle.rx_model.specs.Sets.{contains, distinct}
 use Rattle.rx_model.specs.Terms.{Triple, same_triple}
 use Rattle.rx_model.specs.Seen.{triple_seen, triples_seen}
 use Rattle.rx_graph.specs.declared.firsts.Lent.{Lent}
 use Rattle.rx_graph.specs.Lent.{lent_seen}
 use Rattle.rx_graph.specs.Graph.{added, added_all, marks_after, first_marks}
 use Rattle.rx_graph.proofs.CodeEq.{lent_eq, lents_agree_back}
-use Rattle.rx_graph.proofs.SetLemmas.{insert_seen, graph_grows, seen_more, owned_turn, same_truth}
+use Rattle.rx_terms.proofs.Bools.{same_truth}
+use Rattle.rx_graph.proofs.SetLemmas.{insert_seen, graph_grows, seen_more, owned_turn}
 use Rattle.rx_graph.proofs.PlaceLemmas.{added_distinct}
 
 pub lent_added : (list : List Lent) (t : Lent) → map lent_seen (insert_key lent_eq list t) ≡ added (map lent_seen list) (lent_seen t)

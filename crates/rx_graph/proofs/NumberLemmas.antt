@@ -15,7 +15,8 @@ use Rattle.std.specs.List.{position_or_len}
 use Rattle.std.proofs.lemmas.List.{map-append}
 use Rattle.std.proofs.lemmas.List.Recursion.{is_position_or_len}
 use Rattle.rx_graph.proofs.CodeEq.{blank_eq, exact_blank}
-use Rattle.rx_graph.proofs.SetLemmas.{distinct_grows, same_truth, insert_seen, seen_more, distinct_apart}
+use Rattle.rx_terms.proofs.Bools.{same_truth}
+use Rattle.rx_graph.proofs.SetLemmas.{distinct_grows, insert_seen, seen_more, distinct_apart}
 
 abbrev pub number_of : CodeBlank → ℕ
 number_of b = b.0

@@ -1,14 +1,12 @@
 -- Blank nodes that have their numbers already.
-use Rattle.std.proofs.Common.{◌≡◌, ◌∙◌, ℕ, zero, suc, ◌<◌, ◌≤◌, Bool, true, false, ◌||◌, List, [], ◌∷◌, ◌++◌, map, length, refl, sym, ap, ap₂, true≢false, if◌then◌else◌, nat_eq, arith, length-append, ◌+◌, take, take_all, slice_get, Option, Some, None, IfSome, MatchOption, is_some}
+use Rattle.std.proofs.Common.{◌≡◌, ◌∙◌, ℕ, zero, suc, ◌<◌, ◌≤◌, Bool, true, false, ◌||◌, List, [], ◌∷◌, ◌++◌, map, length, refl, sym, ap, ap₂, true≢false, if◌then◌else◌, nat_eq, arith, length-append, ◌+◌, take, take_all, slice_get, Option, Some, None, IfSome, MatchOption, is_some, ⊎_elim}
 use Rattle.std.proofs.lemmas.Bool.{cases_lt}
 use Rattle.std.proofs.lemmas.Bool.Decides.{nat_tests}
-use Rattle.std.proofs.Common.{⊎_elim}
 use Rattle.rx_model.specs.Sets.{Among, contains, distinct}
 use Rattle.rx_model.specs.Terms.{Node, Iri, Blank, Term, Resource, Literal, Triple}
-use Rattle.rx_model.specs.Numbered.{blanks, place_in, rename_node, rename_term, rename, numbered}
+use Rattle.rx_model.specs.Numbered.{blanks, place_in, rename_node, rename_term, rename, numbered, blanks_of}
 use Rattle.rx_model.proofs.Exact.{exact_numbers}
 use Rattle.rx_terms.specs.declared.triples.Triple.{Triple as CodeTriple}
-use Rattle.rx_model.specs.Numbered.{blanks_of}
 use Rattle.rx_model.specs.Seen.{triple_seen, triples_seen}
 use Rattle.rx_graph.specs.Numbering.{known_one, known, numbers_to}
 use Rattle.rx_graph.proofs.NumberLemmas.{contains_append, place_append, contains_last, all_in_distinct, same_list_by, numbers_turn}

@@ -2,10 +2,10 @@
 use Rattle.std.proofs.Common.{◌≡◌, Bool, true, false, not, ◌||◌, List, [], ◌∷◌, ◌++◌, map, filter, refl, sym, ap, ap₂, ◌∙◌, inl, inr, true≢false, if◌then◌else◌, nat_eq, ℕ, append-nil, Result, Ok, Err, is_err, is_ok, IfOk, suc, ◌+◌, take, length, slice_get, slice_set, get_or, zero, ◌<◌, Option, None, Some, IfSome, arith}
 use Rattle.std.proofs.Math.Seq.{take-suc}
 use Rattle.std.proofs.lemmas.Option.{slice_get_within, get_or_from_slice_get}
-use Rattle.std.specs.List.{IsDistinct, AllByRecursion}
+use Rattle.std.specs.List.{IsDistinct, AllByRecursion, list_any}
 use Rattle.std.proofs.lemmas.List.Elements.{filter-append}
-use Rattle.std.specs.List.{list_any}
 use Rattle.std.proofs.lemmas.List.{map-append}
+use Rattle.rx_terms.proofs.Bools.{same_truth}
 use Rattle.rx_unique.specs.Unique.{insert_key}
 use Rattle.rx_terms.specs.declared.triples.Triple.{Triple as CodeTriple}
 use Rattle.rx_model.specs.Sets.{Among, IsExact, contains, distinct}
@@ -16,11 +16,6 @@ use Rattle.rx_model.proofs.Exact.{exact_numbers, exact_triples}
 use Rattle.rx_model.proofs.Seen.{triple_tells}
 use Rattle.rx_graph.specs.Graph.{added}
 use Rattle.rx_graph.specs.Rows.{pushed}
-
--- two tests that have one truth are the same
-pub same_truth : (a b : Bool) → (a ≡ true → b ≡ true) → (b ≡ true → a ≡ true) → a ≡ b
-same_truth true b h k = sym (h refl)
-same_truth false b h k = sym (false_unless b (λ e. true≢false (sym (k e))))
 
 -- ---- a set of the code and its list in the model
 

@@ -9,7 +9,7 @@ use Rattle.rx_model.proofs.Sets.{Among_left, Among_right, Among_cases, Among-con
 use Rattle.rx_model.proofs.Exact.{exact_numbers}
 use Rattle.std.specs.List.{IsDistinct, AllByRecursion, list_any}
 use Rattle.rx_unique.specs.Unique.{insert_key}
-use Rattle.rx_graph.proofs.SetLemmas.{same_truth}
+use Rattle.rx_terms.proofs.Bools.{same_truth}
 use Rattle.rx_graph.specs.Rows.{pushed, empty_rows}
 use Rattle.rx_graph.specs.Numbering.{known_one, numbers_to}
 use Rattle.rx_graph.specs.Ways.{mark_at, Step, Goes, stays, goes_on, turned_row, IsTurned, spread_one, spread_all, Marked, LeadsToMark, Joined, next_row, AreNexts, merged, only_lead, all_led, is_led, AreLed, led_one, led_all, Led, led_here, led_on, EachOnce, IsWalk}

@@ -12,7 +12,8 @@ use Rattle.rx_model.specs.Terms.{Node, Triple, same_node}
 use Rattle.rx_model.proofs.Sets.{Among-contains, Among_by_contains, Among_of_distinct, Among_distinct}
 use Rattle.rx_model.proofs.Exact.{exact_nodes, exact_numbers}
 use Rattle.rx_graph.specs.Resources.{node_added, AreDistinct}
-use Rattle.rx_graph.proofs.SetLemmas.{same_truth, one_more}
+use Rattle.rx_terms.proofs.Bools.{same_truth}
+use Rattle.rx_graph.proofs.SetLemmas.{one_more}
 use Rattle.rx_groups.specs.declared.keys.By.{By}
 use Rattle.rx_groups.specs.declared.keys.By.TheVariants as by
 use Rattle.rx_groups.specs.Groups.{Keyed, key_by, has_key, keys_by, keys_in, grouped}

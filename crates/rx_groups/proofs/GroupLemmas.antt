@@ -8,7 +8,8 @@ use Rattle.rx_model.specs.Terms.{Node, Triple, same_node}
 use Rattle.rx_model.specs.Seen.{triple_seen}
 use Rattle.rx_model.proofs.Exact.{exact_nodes, exact_numbers}
 use Rattle.rx_graph.specs.Resources.{resource_seen, node_added, number_in, AreDistinct}
-use Rattle.rx_graph.proofs.SetLemmas.{same_truth, distinct_grows, one_more}
+use Rattle.rx_terms.proofs.Bools.{same_truth}
+use Rattle.rx_graph.proofs.SetLemmas.{distinct_grows, one_more}
 use Rattle.rx_groups.specs.declared.keys.By.{By}
 use Rattle.rx_groups.specs.declared.groups.Group.{Group}
 use Rattle.rx_groups.specs.Groups.{Keyed, group_seen, key_by, has_key, keys_by, grouped, put_in}

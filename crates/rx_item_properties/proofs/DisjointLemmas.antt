@@ -22,19 +22,19 @@ Covered [] p = ⊥
 Covered (run ∷ runs) p = Within run p ⊎ Covered runs p
 
 -- a place of these runs, and what stands there
-pub record Stands (members : List ℕ) (runs : List Run) (x : ℕ) : Type 0 where
+pub record IsRunOf (members : List ℕ) (runs : List Run) (x : ℕ) : Type 0 where
   pub at : ℕ
   pub covered : Covered runs at
   pub is : slice_get members at ≡ Some x
 
-next_run : (members : List ℕ) (run : Run) (runs : List Run) (x : ℕ) → Stands members runs x → Stands members (run ∷ runs) x
+next_run : (members : List ℕ) (run : Run) (runs : List Run) (x : ℕ) → IsRunOf members runs x → IsRunOf members (run ∷ runs) x
 next_run members run runs x s = record { at = s.at; covered = inr s.covered; is = s.is }
 
-stands_in : (members : List ℕ) (runs : List Run) (x : ℕ) → Contains (in_runs members runs) x → Stands members runs x
+stands_in : (members : List ℕ) (runs : List Run) (x : ℕ) → Contains (in_runs members runs) x → IsRunOf members runs x
 stands_in members [] x c = none x c
 stands_in members (run ∷ runs) x c = by (stands_in members runs x) (Contains-append_cases (part members run) (in_runs members runs) x c)
   where
-    by : (Contains (in_runs members runs) x → Stands members runs x) → Contains (part members run) x ⊎ Contains (in_runs members runs) x → Stands members (run ∷ runs) x
+    by : (Contains (in_runs members runs) x → IsRunOf members runs x) → Contains (part members run) x ⊎ Contains (in_runs members runs) x → IsRunOf members (run ∷ runs) x
     by ih (inl d) = let p = in_part members run x d in record { at = p.at; covered = inl (p.low, p.high); is = p.is }
     by ih (inr d) = next_run members run runs x (ih d)
 

@@ -11,7 +11,7 @@ use Rattle.rx_microdata.specs.Elements.{Placed}
 use Rattle.rx_microdata.specs.Properties.{first_with_id, has_id, is_same_id}
 use Rattle.rx_item_properties.specs.Held.{Numbered}
 use Rattle.rx_item_table.specs.Spans.{IsRun}
-use Rattle.rx_item_table.specs.Showing.{ShowsRow, ShowsRows, ShowsWord, Stands}
+use Rattle.rx_item_table.specs.Showing.{ShowsRow, ShowsRows, ShowsWord, ShowsPart}
 use Rattle.rx_item_table.specs.declared.spans.Span.{Span}
 use Rattle.rx_item_table.specs.declared.rows.Row.{Row}
 use Rattle.std.specs.BTreeMap.{BTreeMap, is_at}

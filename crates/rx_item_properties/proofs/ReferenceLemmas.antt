@@ -1,7 +1,6 @@
 -- Tokens that are looked up one after another.
 use Rattle.std.proofs.Common.{◌≡◌, ◌∙◌, ℕ, List, [], ◌∷◌, ◌++◌, append_assoc, Option, Some, None, sym, ap, refl, subst}
-use Rattle.std.specs.Prelude.{option_to_list, filter_map}
-use Rattle.std.specs.Prelude.{unwrap_or}
+use Rattle.std.specs.Prelude.{option_to_list, filter_map, unwrap_or}
 use Rattle.std.specs.Str.{chars}
 use Rattle.rx_terms.specs.Text.{Chars}
 use Rattle.rx_item_table.specs.Spans.{IsRun}

@@ -5,7 +5,7 @@ use Rattle.std.specs.declared.alloc.Global.{Global}
 use Rattle.rx_terms.specs.Text.{Chars}
 use Rattle.rx_microdata.specs.Elements.{Placed, is_item, names_of, is_top_level}
 use Rattle.rx_item_table.specs.Rows.{properties_in}
-use Rattle.rx_item_table.specs.Showing.{Stands, ShowsWord, ShowsValue, ShowsRows}
+use Rattle.rx_item_table.specs.Showing.{ShowsPart, ShowsWord, ShowsValue, ShowsRows}
 use Rattle.rx_item_table.specs.Words.{names_in, types_in}
 use Rattle.rx_item_table.specs.declared.rows.Row.{Row}
 use Rattle.rx_item_table.specs.declared.spans.Span.{Span}
@@ -48,11 +48,11 @@ runs_beside x = own_beside x ∷ others_beside x
 abbrev pub AreTokens : Chars → Option Span → Option (List Chars) → List Chars → Type 0
 AreTokens words span (Some list) texts = list ≡ texts
 AreTokens words None None texts = [] ≡ texts
-AreTokens words (Some span) None texts = (token : Chars) × (texts ≡ token ∷ []) × Stands words span token
+AreTokens words (Some span) None texts = (token : Chars) × (texts ≡ token ∷ []) × ShowsPart words span token
 
 -- the tokens of an attribute, by what is kept of tags
 abbrev pub ShowsTokens : Chars → Tokens → List Chars → Type 0
-ShowsTokens words (tokens.One span) texts = (token : Chars) × (texts ≡ token ∷ []) × Stands words span token
+ShowsTokens words (tokens.One span) texts = (token : Chars) × (texts ≡ token ∷ []) × ShowsPart words span token
 ShowsTokens words (tokens.Many list) texts = list.now ≡ texts
 
 -- by what is kept of tags, the text that was gathered, and the own texts of times

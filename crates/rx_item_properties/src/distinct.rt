@@ -6,7 +6,7 @@ ghost use Rattle.std.specs.Str.{chars};
 ghost use Rattle.rx_terms.specs.Text.{Chars, tokens};
 ghost use Rattle.rx_grammar.specs.Names.{same};
 ghost use Rattle.rx_microdata.specs.Facts.{distinct_tokens};
-ghost use Rattle.rx_item_table.specs.Showing.{Stands};
+ghost use Rattle.rx_item_table.specs.Showing.{ShowsPart};
 ghost use Rattle.rx_item_properties.specs.Distinct.{has_text};
 ghost use Rattle.rx_item_properties.specs.Held.{AreTokens, texts_in};
 
@@ -24,7 +24,7 @@ pub(crate) fn several_at(
     words: &TextStore,
     span: Span,
 ) -> Result<Option<Vec<Text>>, NoMemory>
-    ensures { (part : Chars) → Stands words.now span part → IfOk result (λ list. AreTokens words.now (Some span) (texts_in list) (distinct_tokens part)) }
+    ensures { (part : Chars) → ShowsPart words.now span part → IfOk result (λ list. AreTokens words.now (Some span) (texts_in list) (distinct_tokens part)) }
 {
     let text = text_of(words, span);
     if is_token(text) {

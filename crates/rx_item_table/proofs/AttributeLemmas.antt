@@ -6,7 +6,7 @@ use Rattle.std.proofs.Common.{sym, ap, ◌∙◌}
 use denote.Ref.{Bor}
 use Rattle.rx_terms.specs.Ascii.{is_ascii}
 use Rattle.rx_terms.proofs.CharLemmas.{ascii-chars}
-use Rattle.rx_refs.specs.Views.{seen_slice}
+use Rattle.rx_terms.specs.Text.{seen_slice}
 use Rattle.rx_grammar.specs.Tokens.{Attribute, value_of}
 
 pub found : (attributes : List Attribute) (name : List ℕ) (result : Option (Bor (List ℕ))) → list_all is_ascii name ≡ true

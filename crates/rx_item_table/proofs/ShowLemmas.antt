@@ -6,7 +6,7 @@ use Rattle.rx_terms.specs.Text.{Chars}
 use Rattle.rx_microdata.specs.Facts.{Value}
 use Rattle.rx_microdata.specs.Elements.{Placed}
 use Rattle.rx_item_table.specs.Words.{id_in, item_id_in, names_in, references_in, types_in}
-use Rattle.rx_item_table.specs.Showing.{Stands, ShowsWord, ShowsValue, ShowsRow, ShowsRows}
+use Rattle.rx_item_table.specs.Showing.{ShowsPart, ShowsWord, ShowsValue, ShowsRow, ShowsRows}
 use Rattle.rx_item_table.specs.declared.spans.Span.{Span}
 use Rattle.rx_item_table.specs.declared.rows.Row.{Row}
 use Rattle.rx_item_table.specs.declared.rows.RowValue.{RowValue}
@@ -14,7 +14,7 @@ use Rattle.rx_item_table.specs.declared.rows.RowValue.TheVariants as value
 use Rattle.rx_item_table.proofs.ListLemmas.{append_assoc}
 use Rattle.rx_item_table.proofs.SaidLemmas.{Keeps}
 
-pub stands_more : (text more : Chars) (span : Span) (part : Chars) → Stands text span part → Stands (text ++ more) span part
+pub stands_more : (text more : Chars) (span : Span) (part : Chars) → ShowsPart text span part → ShowsPart (text ++ more) span part
 stands_more text more span part s = record {
   front = s.front;
   rest = s.rest ++ more;

@@ -15,7 +15,7 @@ use Rattle.rx_item_table.specs.Spans.{mark_of}
 use Rattle.rx_item_table.specs.Words.{is_marked, text_of_words}
 use Rattle.rx_item_table.specs.Values.{taken_of, text_taken}
 use Rattle.rx_item_table.specs.Growing.{Growing, nothing_open, innermost, row_value, is_text, own_of, with_own, passed, added, head_of, with_said, said, ended_value, ended, nothing_kept, with_end, finished}
-use Rattle.rx_item_table.specs.Showing.{Stands, ShowsValue, ShowsRow, ShowsRows, tag_in, after, nothing_read, TablesShow}
+use Rattle.rx_item_table.specs.Showing.{ShowsPart, ShowsValue, ShowsRow, ShowsRows, tag_in, after, nothing_read, TablesShow}
 use Rattle.rx_item_table.specs.declared.rows.Row.{Row}
 use Rattle.rx_item_table.specs.declared.rows.Open.{Open}
 use Rattle.rx_item_table.specs.declared.values.Taken.{Taken}
@@ -221,9 +221,9 @@ value_shown : (tk : Taken) (words later front longer more_text : Chars) (times m
     → ShowsValue later longer (times ++ own_times tk own more) (ended_value (row_value tk (mark_of front) (length times)) (mark_of longer)) v
 value_shown taken.Empty words later front longer mt times more v all own w t g s = s
 value_shown (taken.Written span) words later front longer mt times more v all own w t g s =
-    (s.0, s.1, subst (λ l. Stands l span s.0) (sym w.1) (stands_more words w.0 span s.0 s.2))
+    (s.0, s.1, subst (λ l. ShowsPart l span s.0) (sym w.1) (stands_more words w.0 span s.0 s.2))
 value_shown (taken.Reference span) words later front longer mt times more v all own w t g s =
-    (s.0, s.1, subst (λ l. Stands l span s.0) (sym w.1) (stands_more words w.0 span s.0 s.2))
+    (s.0, s.1, subst (λ l. ShowsPart l span s.0) (sym w.1) (stands_more words w.0 span s.0 s.2))
 value_shown taken.Text words later front longer mt times more v all own w t g s =
     let whole : longer ≡ front ++ all = t ∙ ap (λ l. front ++ l) (g refl) in (
       all,

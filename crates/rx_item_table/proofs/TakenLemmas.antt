@@ -11,7 +11,7 @@ use Rattle.rx_item_table.specs.Rules.{rule_of, value_by}
 use Rattle.rx_item_table.specs.Spans.{mark_of}
 use Rattle.rx_item_table.specs.Words.{word_text, word_span, span_if, names_in, id_in, types_in, item_id_in, references_in, is_marked, after_names, after_id, after_types, after_item_id, text_of_words, words_of}
 use Rattle.rx_item_table.specs.Values.{is_asked, taken_of, text_taken, taken_by, text_by, written, referred, own_unless}
-use Rattle.rx_item_table.specs.Showing.{Stands, ShowsWord, tag_in}
+use Rattle.rx_item_table.specs.Showing.{ShowsPart, ShowsWord, tag_in}
 use Rattle.rx_item_table.specs.declared.spans.Span.{Span}
 use Rattle.rx_item_table.specs.declared.values.Taken.{Taken}
 use Rattle.rx_item_table.specs.declared.values.Taken.TheVariants as taken
@@ -125,8 +125,8 @@ asked t inner = ap (λ b. not (is_some (attribute t "itemscope")) && b) (any_nam
 -- what is taken of a value says the value, with the text and the own text of the element
 abbrev pub ShowsTaken : Chars → Taken → Value → Chars → Chars → Type 0
 ShowsTaken words taken.Empty v all own = v ≡ Written []
-ShowsTaken words (taken.Written span) v all own = (part : Chars) × (v ≡ Written part) × Stands words span part
-ShowsTaken words (taken.Reference span) v all own = (part : Chars) × (v ≡ Reference part) × Stands words span part
+ShowsTaken words (taken.Written span) v all own = (part : Chars) × (v ≡ Written part) × ShowsPart words span part
+ShowsTaken words (taken.Reference span) v all own = (part : Chars) × (v ≡ Reference part) × ShowsPart words span part
 ShowsTaken words taken.Text v all own = v ≡ Written all
 ShowsTaken words taken.OwnText v all own = v ≡ Written own
 

@@ -16,7 +16,7 @@ use Rattle.rx_item_table.specs.declared.rows.RowValue.{RowValue}
 use Rattle.rx_item_table.specs.declared.rows.RowValue.TheVariants as value
 
 -- the whole has this part there
-pub record Stands (whole : Chars) (span : Span) (part : Chars) : Type 0 where
+pub record ShowsPart (whole : Chars) (span : Span) (part : Chars) : Type 0 where
   pub front : Chars
   pub rest : Chars
   pub is_run : IsRun whole span front part rest
@@ -25,15 +25,15 @@ abbrev pub ShowsWord : Chars → Option Span → Option Chars → Type 0
 ShowsWord whole None None = ⊤
 ShowsWord whole None (Some part) = ⊥
 ShowsWord whole (Some span) None = ⊥
-ShowsWord whole (Some span) (Some part) = Stands whole span part
+ShowsWord whole (Some span) (Some part) = ShowsPart whole span part
 
 -- by what is kept of tags, the text that was gathered, and the own texts of times
 abbrev pub ShowsValue : Chars → Chars → List Chars → RowValue → Value → Type 0
 ShowsValue words gathered times value.Empty v = v ≡ Written []
-ShowsValue words gathered times (value.Written span) v = (part : Chars) × (v ≡ Written part) × Stands words span part
-ShowsValue words gathered times (value.Reference span) v = (part : Chars) × (v ≡ Reference part) × Stands words span part
+ShowsValue words gathered times (value.Written span) v = (part : Chars) × (v ≡ Written part) × ShowsPart words span part
+ShowsValue words gathered times (value.Reference span) v = (part : Chars) × (v ≡ Reference part) × ShowsPart words span part
 ShowsValue words gathered times (value.Running from) v = ⊥
-ShowsValue words gathered times (value.Run span) v = (part : Chars) × (v ≡ Written part) × Stands gathered span part
+ShowsValue words gathered times (value.Run span) v = (part : Chars) × (v ≡ Written part) × ShowsPart gathered span part
 ShowsValue words gathered times (value.Own time) v = (part : Chars) × (v ≡ Written part) × (slice_get times time ≡ Some part)
 
 pub record ShowsRow (words gathered : Chars) (times : List Chars) (row : Row) (p : Placed) : Type 0 where

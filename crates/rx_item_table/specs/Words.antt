@@ -1,7 +1,6 @@
 -- What is kept of a tag's attributes.
 use Rattle.std.specs.Prelude.{◌≡◌, ℕ, Bool, ◌||◌, List, ◌++◌, Option, Some, None, is_some, codes, if◌then◌else◌}
-use Rattle.rx_terms.specs.Text.{Chars}
-use Rattle.rx_refs.specs.Views.{seen_slice}
+use Rattle.rx_terms.specs.Text.{Chars, seen_slice}
 use Rattle.rx_grammar.specs.Tokens.{Attribute, value_of}
 use Rattle.rx_item_table.specs.Spans.{mark_of, span_of}
 use Rattle.rx_item_table.specs.declared.spans.Span.{Span}

@@ -127,9 +127,8 @@ impl Table {
 
 impl Table {
     ghost use Rattle.std.specs.Prelude.{Some, length, IsOk};
-    ghost use Rattle.rx_item_table.specs.Growing.{IsIdle};
+    ghost use Rattle.rx_item_table.specs.Growing.{IsIdle, said, finished, with_own, with_said, with_end};
     ghost use Rattle.rx_item_table.specs.Spans.{mark_of};
-    ghost use Rattle.rx_item_table.specs.Growing.{said, finished, with_own, with_said, with_end};
 
     // A `time` begins whose own text is read.
     fn add_own(&mut self, alloc: Global, taken: Taken) -> Result<(), NoMemory>

@@ -1,8 +1,7 @@
 //! What a tag says of the value of its element.
 ghost use Rattle.std.specs.Prelude.{◌≡◌, [], IfOk, OnOk, unwrap_or};
 ghost use Rattle.std.specs.Str.{chars};
-ghost use Rattle.rx_terms.specs.Text.{tokens};
-ghost use Rattle.rx_refs.specs.Views.{seen_slice};
+ghost use Rattle.rx_terms.specs.Text.{tokens, seen_slice};
 ghost use Rattle.rx_microdata.specs.Properties.{is_any};
 ghost use Rattle.rx_tags.specs.Seen.{tag_seen};
 ghost use Rattle.rx_item_table.specs.Values.{taken_by, taken_if, text_by, text_if, written, referred, own_unless};

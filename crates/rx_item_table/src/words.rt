@@ -4,7 +4,7 @@ ghost use Rattle.std.specs.List.{list_all};
 ghost use Rattle.std.specs.Str.{chars};
 ghost use Rattle.rx_terms.specs.Ascii.{is_ascii};
 ghost use Rattle.rx_grammar.specs.Tokens.{Attribute, value_of};
-ghost use Rattle.rx_refs.specs.Views.{seen_slice};
+ghost use Rattle.rx_terms.specs.Text.{seen_slice};
 ghost use Rattle.rx_tags.specs.Seen.{tag_seen};
 ghost use Rattle.rx_item_table.specs.Words.{AreMarks, kept_of, word_span, word_text, words_of, text_of_words, is_marked};
 

@@ -11,8 +11,8 @@ use Rattle.rx_nest.specs.Signs.{Sign, signs_of}
 use Rattle.rx_microdata.specs.Base as microdata
 use Rattle.rx_microdata.specs.Base.{base_in}
 use Rattle.rx_microdata.specs.Elements.{Placed}
-use Rattle.rx_tags.specs.declared.stops.Stop.{Stop}
-use Rattle.rx_tags.specs.declared.stops.Stop.TheVariants as stop
+use Rattle.rx_grammar.specs.declared.stops.Stop.{Stop}
+use Rattle.rx_grammar.specs.declared.stops.Stop.TheVariants as stop
 use Rattle.rx_reading.specs.Readings.{IsWhole, Whole, Unfinished}
 use Rattle.rx_base.specs.Lines as lines
 use Rattle.rx_base.specs.Seekings.{Seeking, first_child, base_child, known, sought}

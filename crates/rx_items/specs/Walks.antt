@@ -4,8 +4,8 @@ use Rattle.rx_grammar.specs.declared.faults.Kind.TheVariants.{Unended}
 use Rattle.rx_grammar.specs.Pages.{Page}
 use Rattle.rx_grammar.specs.PageFaults.{FaultAt}
 use Rattle.rx_grammar.specs.Trees.{Tree}
-use Rattle.rx_tags.specs.declared.stops.Stop.{Stop}
-use Rattle.rx_tags.specs.declared.stops.Stop.TheVariants as stop
+use Rattle.rx_grammar.specs.declared.stops.Stop.{Stop}
+use Rattle.rx_grammar.specs.declared.stops.Stop.TheVariants as stop
 use Rattle.rx_reading.specs.Readings as readings
 use Rattle.rx_reading.specs.Readings.{Read}
 use Rattle.rx_microdata.specs.Base.{base_in}
@@ -20,8 +20,8 @@ abbrev pub Walked : Type 0
 Walked = Read Collector
 
 -- The walk stands for these bytes of a page: its elements were told, and nothing is due.
-abbrev pub Stands : Setting → Walked → List ℕ → Type 0
-Stands setting walk bytes = readings.Stands (way_of setting) (Collects setting) walk bytes
+abbrev pub ItemWalkStands : Setting → Walked → List ℕ → Type 0
+ItemWalkStands setting walk bytes = readings.ReadingStands (way_of setting) (Collects setting) walk bytes
 
 abbrev pub FeedGives : Setting → List ℕ → List ℕ → Result (Unit {0}) Stop → Walked → Type 0
 FeedGives setting bytes piece result new = readings.FeedGives (way_of setting) (Collects setting) bytes piece result new

@@ -3,7 +3,7 @@ ghost use Rattle.std.specs.Prelude.{◌≡◌, ◌∷◌, ◌++◌, [], List, ma
 ghost use Rattle.std.proofs.Common.{refl};
 ghost use Rattle.std.specs.Str.{chars};
 ghost use Rattle.rx_rdfa.specs.Base.{base_by};
-ghost use Rattle.rx_refs.specs.Views.{seen_slice};
+ghost use Rattle.rx_terms.specs.Text.{seen_slice};
 ghost use Rattle.rx_nest.specs.Nests.{tag_shown};
 ghost use Rattle.rx_nest.specs.Signs.{Sign, begun, said, finished};
 ghost use Rattle.rx_reading.specs.Listening.{Hears};

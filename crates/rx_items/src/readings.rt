@@ -7,7 +7,7 @@ ghost use Rattle.rx_refs.specs.Resolve.{resolved};
 ghost use Rattle.rx_microdata.specs.Facts.{said};
 ghost use Rattle.rx_microdata.specs.Facts as facts;
 ghost use Rattle.rx_microdata.specs.Json.{string_of};
-ghost use Rattle.rx_item_table.specs.Showing.{ShowsValue, ShowsWord, Stands};
+ghost use Rattle.rx_item_table.specs.Showing.{ShowsValue, ShowsWord, ShowsPart};
 
 use crate::objects::string_value;
 use rx_item_properties::Kept;
@@ -53,7 +53,7 @@ pub(crate) fn id_value(
 
 /// The token that stands there in what is kept of tags.
 pub(crate) fn token_at(words: &TextStore, span: Span) -> &str
-    ensures { (token : Chars) → Stands words.now span token → result.now ≡ encode_utf8_all token }
+    ensures { (token : Chars) → ShowsPart words.now span token → result.now ≡ encode_utf8_all token }
 {
     text_of(words, span)
 }

@@ -66,7 +66,7 @@ impl ItemWalk {
         address: Iri,
         limits: Limits,
     ) -> Result<ItemWalk, NoMemory>
-        ensures { IfOk result (λ walk. walks.Stands (record { syntax = syntax; limits = limits; address = address }) walk []) }
+        ensures { IfOk result (λ walk. walks.ItemWalkStands (record { syntax = syntax; limits = limits; address = address }) walk []) }
     {
         let collector = Collector::new(alloc, address);
         let reading = Reading::new(alloc, syntax, limits, collector)?;
@@ -76,9 +76,9 @@ impl ItemWalk {
     /// Takes the whole piece. Text takes no memory where no value gathers it: a piece without `<` and `&` then never wants
     /// memory where no token is unfinished.
     pub fn feed(&mut self, piece: &[u8]) -> Result<(), Stop>
-        ensures gives { (setting : Setting) (bytes : List ℕ) → walks.Stands setting self.old bytes → walks.FeedGives setting bytes piece.now result self.new }
-        ensures place { (setting : Setting) (bytes : List ℕ) → walks.Stands setting self.old bytes → PlaceGives (way_of setting) bytes piece.now result }
-        ensures quiet { (setting : Setting) (bytes : List ℕ) → walks.Stands setting self.old bytes → IsBetween setting.syntax setting.limits bytes
+        ensures gives { (setting : Setting) (bytes : List ℕ) → walks.ItemWalkStands setting self.old bytes → walks.FeedGives setting bytes piece.now result self.new }
+        ensures place { (setting : Setting) (bytes : List ℕ) → walks.ItemWalkStands setting self.old bytes → PlaceGives (way_of setting) bytes piece.now result }
+        ensures quiet { (setting : Setting) (bytes : List ℕ) → walks.ItemWalkStands setting self.old bytes → IsBetween setting.syntax setting.limits bytes
             → is_quiet piece.now ≡ true → IsIdle self.old.listener.table → IsNoMemory result ≡ false }
         ensures asked { MayAnswer self.old.failed self.old.spent result }
         ensures keeps { Answered result self.new.failed self.new.spent }
@@ -88,7 +88,7 @@ impl ItemWalk {
 
     /// The page's end: its items. `Unended` comes exactly where the bytes are no page and no earlier fault stands in them.
     pub fn finish(self) -> Result<Items, Stop>
-        ensures gives { (setting : Setting) (bytes : List ℕ) → walks.Stands setting self bytes → walks.EndGives setting bytes result }
+        ensures gives { (setting : Setting) (bytes : List ℕ) → walks.ItemWalkStands setting self bytes → walks.EndGives setting bytes result }
         ensures asked { MayAnswer self.failed self.spent result }
     {
         let collector = match self.reading.finish() {

@@ -11,7 +11,7 @@ use Rattle.std.proofs.lemmas.Bool.Decides.{nat_tests}
 use Rattle.std.proofs.lemmas.Str.Parse.{IsDigitsTest, numerals_by_value, parse_digits}
 use Rattle.rx_terms.specs.Ascii.{is_ascii}
 use Rattle.rx_terms.proofs.CharLemmas.{ascii-same}
-use Rattle.rx_reader.proofs.Bools.{split}
+use Rattle.rx_terms.proofs.Bools.{split}
 use Rattle.rx_job.specs.Words.{count_of, digit_zero, is_number, most_items}
 
 digit_ascii : (c : ℕ) → is_ascii_digit c ≡ true → is_ascii c ≡ true

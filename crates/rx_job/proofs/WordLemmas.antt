@@ -2,7 +2,7 @@
 use Rattle.std.proofs.Common.{◌≡◌, ◌∙◌, ◌<◌, length, arith, is_some, ◌||◌, true, false, Bool, List, [], ◌∷◌, ◌++◌, ap, refl, sym, subst, append_assoc, append-nil, Option, Some, None, if◌then◌else◌}
 use Rattle.std.specs.Cmp.Lexicographic.{bytes_decides}
 use Rattle.rx_terms.specs.Text.{Chars}
-use Rattle.rx_reader.proofs.Bools.{by_test}
+use Rattle.rx_terms.proofs.Bools.{by_test}
 use Rattle.rx_job.specs.declared.options.Name.{Name}
 use Rattle.rx_job.specs.declared.options.Name.TheVariants as name
 use Rattle.rx_job.specs.Options.{NoOption, word_of, named, put, value_of, with_value, none_given}

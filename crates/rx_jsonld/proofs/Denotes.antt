@@ -27,7 +27,7 @@ use Rattle.rx_jsonld.specs.Value.{node_value, tops, jsonld}
 use Rattle.rx_jsonld.specs.Meaning.{all_triples, Name, Label, Place, JsonLd}
 use Rattle.rx_jsonld.specs.Laws.{ValueDenotes}
 use Rattle.rx_jsonld.proofs.Cells.{IsChain, cells_chain, chain_differs, one_root, of_listed, to_listed, listed_there, there_listed, root_subject}
-use Rattle.rx_jsonld.proofs.Parts.{Stands, Naming, FreeNode, label_of, item_is, cell_triples, told}
+use Rattle.rx_jsonld.proofs.Parts.{PartStands, Naming, FreeNode, label_of, item_is, cell_triples, told}
 use Rattle.rx_jsonld.proofs.Docs.{times_both, Docs, docs}
 
 -- ---- counts
@@ -125,7 +125,7 @@ module _ (cells : List ℕ) where
   not_before (y ∷ front) more x d (inl e) = d.0 (Among_right front (x ∷ more) y (inl (sym e)))
   not_before (y ∷ front) more x d (inr m) = not_before front more x d.1 m
 
-  stands_from : Differ cells → (front xs : List ℕ) → front ++ xs ≡ cells → Stands name_of (length front) xs
+  stands_from : Differ cells → (front xs : List ℕ) → front ++ xs ≡ cells → PartStands name_of (length front) xs
   stands_from d front [] e = tt
   stands_from d front (x ∷ more) e =
       let there : contains nat_eq cells x ≡ true = Among-contains nat_eq exact_numbers cells x (subst (λ (z : List ℕ). Among z x) e (Among_right front (x ∷ more) x (inl refl))) in
@@ -134,7 +134,7 @@ module _ (cells : List ℕ) where
       let longer : length (front ++ x ∷ []) ≡ length front + 1 = length-append front (x ∷ []) in
       let next : length (front ++ x ∷ []) ≡ suc (length front) = omega (arith, longer) in (
         ap (λ t. cond t (Place (place_in nat_eq cells x)) (label_of x)) there ∙ ap Place place,
-        subst (λ n. Stands name_of n more) next (stands_from d (front ++ x ∷ []) more (append_assoc front (x ∷ []) more ∙ e)),
+        subst (λ n. PartStands name_of n more) next (stands_from d (front ++ x ∷ []) more (append_assoc front (x ∷ []) more ∙ e)),
       )
 
   -- ---- names and numbers, there and back

@@ -17,7 +17,7 @@ use Rattle.rx_jsonld.specs.Lists.{cells_at, is_listed}
 use Rattle.rx_jsonld.specs.Value.{string_of, id_text, with_said, with_all, node_value}
 use Rattle.rx_jsonld.specs.Document.{Id, NodeObject, Document, SpellsEach, SpellsNode, ids}
 use Rattle.rx_jsonld.specs.Meaning.{cells_of_all, entries_triples, triples_by, node_triples, all_triples, Name, Label, Place}
-use Rattle.rx_jsonld.proofs.Parts.{Stands, stands_front, stands_behind, Naming, FreeNode, node_named, told}
+use Rattle.rx_jsonld.proofs.Parts.{PartStands, stands_front, stands_behind, Naming, FreeNode, node_named, told}
 use Rattle.rx_jsonld.proofs.Entries.{Part, part_cells, part_triples, part_entries, Inserted, AllFine, all_spelled, all_size, all_named, said_step}
 
 -- ---- counts
@@ -108,7 +108,7 @@ module _ (list : List (Triple ℕ)) (shapes : ℕ → Shape) (have : HaveShapes 
       pub cells : List ℕ
       pub triples : List (Triple ℕ)
       pub size : cells_of_all node ≡ length cells
-      pub named : (names : ℕ → Name) → Naming list shapes names → (n : ℕ) → Stands names n cells → node_triples Label Place node n ≡ map (rename names) triples
+      pub named : (names : ℕ → Name) → Naming list shapes names → (n : ℕ) → PartStands names n cells → node_triples Label Place node n ≡ map (rename names) triples
       pub count : (b : ℕ) → times b cells ≡ times b (cells_by (about list s))
       pub from : (u : Triple ℕ) → Among triples u → Among (told_by (about list s)) u
       pub put : (u : Triple ℕ) → Among (told_by (about list s)) u → Among triples u
@@ -147,7 +147,7 @@ module _ (list : List (Triple ℕ)) (shapes : ℕ → Shape) (have : HaveShapes 
     pub spelled : SpellsEach SpellsNode (items_of (map (node_value list shapes) ss)) doc
     pub cells : List ℕ
     pub triples : List (Triple ℕ)
-    pub named : (names : ℕ → Name) → Naming list shapes names → (n : ℕ) → Stands names n cells → all_triples Label Place doc n ≡ map (rename names) triples
+    pub named : (names : ℕ → Name) → Naming list shapes names → (n : ℕ) → PartStands names n cells → all_triples Label Place doc n ≡ map (rename names) triples
     pub count : (b : ℕ) → times b cells ≡ times b (flat_map (λ (s : Node ℕ). cells_by (about list s)) ss)
     pub from : (u : Triple ℕ) → Among triples u → (s : Node ℕ) × Among ss s × Among (told_by (about list s)) u
     pub put : (s : Node ℕ) (u : Triple ℕ) → Among ss s → Among (told_by (about list s)) u → Among triples u
@@ -173,7 +173,7 @@ module _ (list : List (Triple ℕ)) (shapes : ℕ → Shape) (have : HaveShapes 
         cells = first.cells ++ rest.cells;
         triples = first.triples ++ rest.triples;
         named = λ names naming n k.
-            let behind_it : Stands names (n + cells_of_all first.node) rest.cells = subst (λ z. Stands names (n + z) rest.cells) (sym first.size) (stands_behind names n first.cells rest.cells k) in
+            let behind_it : PartStands names (n + cells_of_all first.node) rest.cells = subst (λ z. PartStands names (n + z) rest.cells) (sym first.size) (stands_behind names n first.cells rest.cells k) in
             ap₂ (λ a b. a ++ b) (first.named names naming n (stands_front names n first.cells rest.cells k)) (rest.named names naming (n + cells_of_all first.node) behind_it)
             ∙ sym (map-append (rename names) first.triples rest.triples);
         count = λ b.

@@ -26,7 +26,7 @@ use Rattle.rx_jsonld.specs.Document.{Object, Entry, Id, Types, Says, SpellsEach,
 use Rattle.rx_jsonld.specs.Meaning.{cells_in, cells_in_all, cells_of, cells_of_all, node_of, object_triples, objects_triples, type_triple, entry_triples, entries_triples, Name, Label, Place}
 use Rattle.rx_jsonld.proofs.OneDocument.{id_is_no_iri, type_is_no_iri}
 use Rattle.rx_jsonld.proofs.Cells.{cells_none}
-use Rattle.rx_jsonld.proofs.Parts.{Stands, stands_front, stands_behind, Naming, FreeNode, FreeTerm, node_named, cell_triples, told, ObjectDoc, object_doc, free_object}
+use Rattle.rx_jsonld.proofs.Parts.{PartStands, stands_front, stands_behind, Naming, FreeNode, FreeTerm, node_named, cell_triples, told, ObjectDoc, object_doc, free_object}
 
 -- an entry, with the cells and the triples that it says of a subject
 pub record Part : Type 0 where
@@ -90,7 +90,7 @@ module _ (list : List (Triple ℕ)) (shapes : ℕ → Shape) (s : Node ℕ) wher
   pub record Fine (key : List ℕ) (value : Data) (part : Part) : Type 0 where
     pub spelled : SpellsEntry key value part.entry
     pub size : cells_of part.entry ≡ length part.cells
-    pub named : (names : ℕ → Name) → Naming list shapes names → (n : ℕ) → Stands names n part.cells
+    pub named : (names : ℕ → Name) → Naming list shapes names → (n : ℕ) → PartStands names n part.cells
         → entry_triples Label Place (rename_node names s) part.entry n ≡ map (rename names) part.triples
 
   abbrev pub AllFine : Members → List Part → Type 0
@@ -111,14 +111,14 @@ module _ (list : List (Triple ℕ)) (shapes : ℕ → Shape) (s : Node ℕ) wher
   all_size (member key value more) [] h = absurd h
   all_size (member key value more) (part ∷ parts) h = ap₂ (λ a b. a + b) h.0.size (all_size more parts h.1) ∙ sym (length-append part.cells (part_cells parts))
 
-  pub all_named : (names : ℕ → Name) → Naming list shapes names → (ms : Members) (parts : List Part) → AllFine ms parts → (n : ℕ) → Stands names n (part_cells parts)
+  pub all_named : (names : ℕ → Name) → Naming list shapes names → (ms : Members) (parts : List Part) → AllFine ms parts → (n : ℕ) → PartStands names n (part_cells parts)
       → entries_triples Label Place (rename_node names s) (part_entries parts) n ≡ map (rename names) (part_triples parts)
   all_named names naming no_members [] h n k = refl
   all_named names naming no_members (part ∷ parts) h n k = absurd h
   all_named names naming (member key value more) [] h n k = absurd h
   all_named names naming (member key value more) (part ∷ parts) h n k =
       let first = h.0.named names naming n (stands_front names n part.cells (part_cells parts) k) in
-      let rest : Stands names (n + cells_of part.entry) (part_cells parts) = subst (λ z. Stands names (n + z) (part_cells parts)) (sym h.0.size) (stands_behind names n part.cells (part_cells parts) k) in
+      let rest : PartStands names (n + cells_of part.entry) (part_cells parts) = subst (λ z. PartStands names (n + z) (part_cells parts)) (sym h.0.size) (stands_behind names n part.cells (part_cells parts) k) in
       ap₂ (λ a b. a ++ b) first (all_named names naming more parts h.1 (n + cells_of part.entry) rest) ∙ sym (map-append (rename names) part.triples (part_triples parts))
 
   -- ---- one thing more under a key
@@ -225,7 +225,7 @@ module _ (list : List (Triple ℕ)) (shapes : ℕ → Shape) (s : Node ℕ) wher
 
     -- ---- an object under its predicate
 
-    one_named : (names : ℕ → Name) → Naming list shapes names → (n : ℕ) → Stands names n (cells_at shapes list t)
+    one_named : (names : ℕ → Name) → Naming list shapes names → (n : ℕ) → PartStands names n (cells_at shapes list t)
         → object_triples Label Place (rename_node names s) t.predicate the_object.object n ≡ map (rename names) (told list shapes t)
     one_named names naming n k = the_object.named names naming (rename_node names s) t.predicate n k ∙ told_named names
 
@@ -257,7 +257,7 @@ module _ (list : List (Triple ℕ)) (shapes : ℕ → Shape) (s : Node ℕ) wher
                 named = λ names naming n k.
                     let first : objects_triples Label Place (rename_node names s) q objects n ≡ map (rename names) part.triples =
                     sym (ap (λ x. entry_triples Label Place (rename_node names s) x n) e) ∙ fine.named names naming n (stands_front names n part.cells (cells_at shapes list t) k) in
-                    let rest : Stands names (n + cells_in_all objects) (cells_at shapes list t) = subst (λ z. Stands names (n + z) (cells_at shapes list t)) (sym size) (stands_behind names n part.cells (cells_at shapes list t) k) in
+                    let rest : PartStands names (n + cells_in_all objects) (cells_at shapes list t) = subst (λ z. PartStands names (n + z) (cells_at shapes list t)) (sym size) (stands_behind names n part.cells (cells_at shapes list t) k) in
                     let last : object_triples Label Place (rename_node names s) q the_object.object (n + cells_in_all objects) ≡ map (rename names) (told list shapes t) =
                     ap (λ p. object_triples Label Place (rename_node names s) p the_object.object (n + cells_in_all objects)) same ∙ one_named names naming (n + cells_in_all objects) rest in
                     objects_more (rename_node names s) q objects the_object.object n ∙ ap₂ (λ a b. a ++ b) first last ∙ sym (map-append (rename names) part.triples (told list shapes t));

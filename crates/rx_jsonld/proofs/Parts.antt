@@ -42,17 +42,17 @@ no_label (c ∷ d ∷ text) is = go (c == low_line) refl
 -- ---- names by place
 
 -- the numbers have these places, from one on
-abbrev pub Stands : (ℕ → Name) → ℕ → List ℕ → Type 0
-Stands names n [] = Unit {0}
-Stands names n (b ∷ more) = (names b ≡ Place n) × Stands names (suc n) more
+abbrev pub PartStands : (ℕ → Name) → ℕ → List ℕ → Type 0
+PartStands names n [] = Unit {0}
+PartStands names n (b ∷ more) = (names b ≡ Place n) × PartStands names (suc n) more
 
-pub stands_front : (names : ℕ → Name) (n : ℕ) (xs ys : List ℕ) → Stands names n (xs ++ ys) → Stands names n xs
+pub stands_front : (names : ℕ → Name) (n : ℕ) (xs ys : List ℕ) → PartStands names n (xs ++ ys) → PartStands names n xs
 stands_front names n [] ys h = tt
 stands_front names n (x ∷ xs) ys h = (h.0, stands_front names (suc n) xs ys h.1)
 
-pub stands_behind : (names : ℕ → Name) (n : ℕ) (xs ys : List ℕ) → Stands names n (xs ++ ys) → Stands names (n + length xs) ys
-stands_behind names n [] ys h = let e : n ≡ n + 0 = omega arith in subst (λ k. Stands names k ys) e h
-stands_behind names n (x ∷ xs) ys h = let e : suc n + length xs ≡ n + suc (length xs) = omega arith in subst (λ k. Stands names k ys) e (stands_behind names (suc n) xs ys h.1)
+pub stands_behind : (names : ℕ → Name) (n : ℕ) (xs ys : List ℕ) → PartStands names n (xs ++ ys) → PartStands names (n + length xs) ys
+stands_behind names n [] ys h = let e : n ≡ n + 0 = omega arith in subst (λ k. PartStands names k ys) e h
+stands_behind names n (x ∷ xs) ys h = let e : suc n + length xs ≡ n + suc (length xs) = omega arith in subst (λ k. PartStands names k ys) e (stands_behind names (suc n) xs ys h.1)
 
 -- the label of a number
 abbrev pub label_of : ℕ → Name
@@ -124,7 +124,7 @@ module _ (list : List (Triple ℕ)) (shapes : ℕ → Shape) where
   triple_path : {B : Type 0} (s s' : Node B) (p : Chars) (o o' : Term B) → s ≡ s' → o ≡ o' → spo s p o ≡ spo s' p o'
   triple_path s s' p o o' e f = λ i. record { subject = e i; predicate = p; object = f i }
 
-  after_named : (names : ℕ → Name) (more : List ℕ) (n : ℕ) → Stands names n more → list_node Label Place (items_doc more) n ≡ rename_node names (node_after more)
+  after_named : (names : ℕ → Name) (more : List ℕ) (n : ℕ) → PartStands names n more → list_node Label Place (items_doc more) n ≡ rename_node names (node_after more)
   after_named names [] n h = refl
   after_named names (b ∷ more) n h = ap Blank (sym h.0)
 
@@ -141,7 +141,7 @@ module _ (list : List (Triple ℕ)) (shapes : ℕ → Shape) where
         go (Resource (Blank c)) e = item_free list shapes have b c (subst (λ (o : Term ℕ). Among list (spo (Blank b) rdf_first o)) e l.of.pair.first)
         go (Literal text kind) e = tt
 
-    list_named : (names : ℕ → Name) → Naming names → (cells : List ℕ) (n : ℕ) → IsChain list cells → Stands names n cells → list_triples Label Place (items_doc cells) n ≡ map (rename names) (cell_triples cells)
+    list_named : (names : ℕ → Name) → Naming names → (cells : List ℕ) (n : ℕ) → IsChain list cells → PartStands names n cells → list_triples Label Place (items_doc cells) n ≡ map (rename names) (cell_triples cells)
     list_named names naming [] n links h = refl
     list_named names naming (b ∷ more) n links h =
         let here : Blank (Place n) ≡ rename_node names (Blank b) = ap Blank (sym h.0) in
@@ -156,7 +156,7 @@ module _ (list : List (Triple ℕ)) (shapes : ℕ → Shape) where
       pub object : Object
       pub spelled : SpellsObject (object_value list shapes t) object
       pub size : cells_in object ≡ length (cells_at shapes list t)
-      pub named : (names : ℕ → Name) → Naming names → (s : Node Name) (p : Chars) (n : ℕ) → Stands names n (cells_at shapes list t)
+      pub named : (names : ℕ → Name) → Naming names → (s : Node Name) (p : Chars) (n : ℕ) → PartStands names n (cells_at shapes list t)
           → object_triples Label Place s p object n ≡ spo s p (rename_term names (proper_term t.object)) ∷ map (rename names) (cell_triples (cells_at shapes list t))
 
     pub free_object : (t : Triple ℕ) → Among list t → is_listed shapes list t.subject ≡ false → first_cell shapes t ≡ None → FreeTerm t.object

@@ -13,7 +13,8 @@ use Rattle.rx_model.specs.Terms.{Node, Iri, Blank, Term, Triple, same_node}
 use Rattle.rx_model.specs.Seen.{node_seen, triple_seen, triples_seen}
 use Rattle.rx_model.proofs.Sets.{Among_cases, Among-contains, Among_by_contains, Among_distinct, Among_of_distinct}
 use Rattle.rx_graph.specs.Resources.{node_added}
-use Rattle.rx_graph.proofs.SetLemmas.{same_truth, distinct_grows, seen_more}
+use Rattle.rx_terms.proofs.Bools.{same_truth}
+use Rattle.rx_graph.proofs.SetLemmas.{distinct_grows, seen_more}
 use Rattle.rx_pieces.specs.Writable.{WritableTriple}
 use Rattle.rx_shapes.specs.Shapes.{rdf_rest}
 use Rattle.rx_shapes.specs.Rows.{positions}

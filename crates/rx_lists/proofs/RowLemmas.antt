@@ -3,6 +3,7 @@ use Rattle.std.proofs.Common.{◌≡◌, ◌∙◌, ℕ, zero, suc, ◌+◌, ◌
 use Rattle.std.specs.List.{position, position_or_len, list_any}
 use Rattle.std.specs.Prelude.{nat_lt}
 use Rattle.std.proofs.lemmas.Bool.Decides.{nat_tests}
+use Rattle.rx_terms.proofs.Bools.{by_test}
 use Rattle.rx_terms.specs.declared.triples.Term.{Term}
 use Rattle.rx_terms.specs.contracts.iris.IriPartialEq.TheImpl as iri_impl
 use Rattle.rx_model.specs.Sets.{IsExact}
@@ -12,10 +13,6 @@ use Rattle.rx_terms.specs.declared.triples.Node.{Node}
 use Rattle.std.proofs.lemmas.List.{map-append, length-map}
 use Rattle.rx_lists.specs.Owners.{Owned, owned, with_lists, with_slot, with_term, Slots, slots_at, predicates_of, place_of, slots_of}
 use Rattle.rx_lists.specs.Rows.{rows, first_place, FoundAt}
-
-by_test : {G : Type 0} (b : Bool) → (b ≡ true → G) → (b ≡ false → G) → G
-by_test true f g = f refl
-by_test false f g = g refl
 
 abbrev iri_eq : List ℕ → List ℕ → Bool
 iri_eq = (iri_impl.ghosts).eq

@@ -12,7 +12,8 @@ use Rattle.rx_model.specs.Seen.{triple_seen}
 use Rattle.rx_model.proofs.Sets.{and_left, and_right, and_both}
 use Rattle.rx_model.proofs.Exact.{exact_numbers, exact_texts, exact_triples}
 use Rattle.rx_model.proofs.Seen.{triple_tells}
-use Rattle.rx_graph.proofs.SetLemmas.{same_truth, any_seen, insert_seen}
+use Rattle.rx_terms.proofs.Bools.{same_truth}
+use Rattle.rx_graph.proofs.SetLemmas.{any_seen, insert_seen}
 use Rattle.rx_graph.proofs.NumberLemmas.{same_node_by}
 use Rattle.rx_many.specs.declared.blanks.PageBlank.{PageBlank as CodeBlank}
 use Rattle.rx_many.specs.contracts.blanks.PageBlankPartialEq.TheImpl as blank_impl

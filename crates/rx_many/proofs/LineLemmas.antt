@@ -19,7 +19,7 @@ use Rattle.rx_many.specs.Numbering.{known}
 use Rattle.rx_refs.specs.Resolve.{without_fragment}
 use Rattle.rx_many.specs.Pages.{accepted_page}
 use Rattle.rx_many.specs.Seen.{page_seen}
-use Rattle.rx_many.specs.Standing.{WritableComment, WritableLine, Keeps, Stands, Writes}
+use Rattle.rx_many.specs.Standing.{WritableComment, WritableLine, Keeps, DocumentStands, Writes}
 use Rattle.rx_many.specs.Writing.{line_text, text_of}
 use Rattle.rx_many.specs.declared.documents.Document.{Document}
 use Rattle.rx_many.specs.declared.pages.Page.{Page as CodePage}
@@ -151,9 +151,9 @@ numbered_more lines l =
 
 -- ---- one line more
 
-module _ (d new : Document) (lines : List (Line PageBlank)) (s : Stands d lines) where
+module _ (d new : Document) (lines : List (Line PageBlank)) (s : DocumentStands d lines) where
   pub stands_comment : (address : Chars) (fault : Fault) → new.text ≡ d.text ++ encode_utf8_all (line_text (comment address fault)) → new.blanks ≡ d.blanks → new.statements ≡ d.statements → WritableComment address fault
-      → Stands new (lines ++ comment address fault ∷ [])
+      → DocumentStands new (lines ++ comment address fault ∷ [])
   stands_comment address fault e f g w =
       let l : Line PageBlank = comment address fault in
       let keeps : Keeps new.text d.statements (numbered_lines lines ++ comment address fault ∷ []) = keeps_comment d.text d.statements (numbered_lines lines) s.keeps address fault new.text e w in
@@ -172,7 +172,7 @@ module _ (d new : Document) (lines : List (Line PageBlank)) (s : Stands d lines)
         ap (λ z. numbered_lines lines ++ statement name z ∷ []) (renamed ∙ ap (λ z. rename (place_in same_blank z) (rename (at_place place) t)) numbers_now)
         ∙ numbered_more lines (statement_at place name t)
 
-    pub stands_old : contains same_line d.statements (statement name u) ≡ true → new.text ≡ d.text → new.statements ≡ d.statements → Stands new (lines ++ statement_at place name t ∷ [])
+    pub stands_old : contains same_line d.statements (statement name u) ≡ true → new.text ≡ d.text → new.statements ≡ d.statements → DocumentStands new (lines ++ statement_at place name t ∷ [])
     stands_old there e g =
         let l : Line PageBlank = statement_at place name t in
         let keeps : Keeps d.text d.statements (numbered_lines lines ++ statement name u ∷ []) = keeps_old d.text d.statements (numbered_lines lines) s.keeps (statement name u) there in
@@ -184,7 +184,7 @@ module _ (d new : Document) (lines : List (Line PageBlank)) (s : Stands d lines)
 
     pub stands_new : contains same_line d.statements (statement name u) ≡ false → new.text ≡ d.text ++ encode_utf8_all (line_text (statement name u))
         → new.statements ≡ (if contains same_line d.statements (statement name u) then d.statements else d.statements ++ statement name u ∷ []) → WritableTriple (Some name) u
-        → Stands new (lines ++ statement_at place name t ∷ [])
+        → DocumentStands new (lines ++ statement_at place name t ∷ [])
     stands_new lacks e g w =
         let added : new.statements ≡ d.statements ++ statement name u ∷ [] = g ∙ ap (λ b. if b then d.statements else d.statements ++ statement name u ∷ []) lacks in
         let keeps : Keeps new.text new.statements (numbered_lines lines ++ statement name u ∷ []) = keeps_new d.text d.statements (numbered_lines lines) s.keeps (statement name u) new.text new.statements lacks e added w in
@@ -195,8 +195,8 @@ module _ (d new : Document) (lines : List (Line PageBlank)) (s : Stands d lines)
 
 -- ---- the triples of a page, and the pages
 
-pub stands_none : {d : Document} {lines : List (Line PageBlank)} → Stands d lines → Stands d (lines ++ [])
-stands_none {d = d} {lines = lines} s = subst (λ (z : List (Line PageBlank)). Stands d z) (sym (append-nil lines)) s
+pub stands_none : {d : Document} {lines : List (Line PageBlank)} → DocumentStands d lines → DocumentStands d (lines ++ [])
+stands_none {d = d} {lines = lines} s = subst (λ (z : List (Line PageBlank)). DocumentStands d z) (sym (append-nil lines)) s
 
 pub triples_more : (lines : List (Line PageBlank)) (place : ℕ) (name : Chars) (list : List CodeTriple) (i : ℕ) (t : CodeTriple) → slice_get list i ≡ Some t
     → (lines ++ map (statement_at place name) (triples_seen (take i list))) ++ statement_at place name (triple_seen t) ∷ [] ≡ lines ++ map (statement_at place name) (triples_seen (take (i + 1) list))
@@ -225,16 +225,16 @@ pages_more pages i page at =
     ap (λ n. lines_from 0 (map page_seen (take i pages)) ++ lines_of n (page_seen page)) here ∙ pages_on 0 pages i page at ∙ ap (λ n. lines_from 0 (map page_seen (take n pages))) up
 
 -- the same where the name is at hand by another name
-module _ (d new : Document) (lines : List (Line PageBlank)) (s : Stands d lines) (place : ℕ) (name named : Chars) (same : named ≡ name) (t u : Triple ℕ)
+module _ (d new : Document) (lines : List (Line PageBlank)) (s : DocumentStands d lines) (place : ℕ) (name named : Chars) (same : named ≡ name) (t u : Triple ℕ)
     (grows : new.blanks ≡ known same_blank d.blanks (blanks_of (rename (at_place place) t))) (renamed : u ≡ rename (place_in same_blank new.blanks) (rename (at_place place) t)) where
-  pub old_statement : contains same_line d.statements (statement named u) ≡ true → new.text ≡ d.text → new.statements ≡ d.statements → Stands new (lines ++ statement_at place name t ∷ [])
-  old_statement there e g = subst (λ (n : Chars). Stands new (lines ++ statement_at place n t ∷ [])) same (stands_old d new lines s place named t u grows renamed there e g)
+  pub old_statement : contains same_line d.statements (statement named u) ≡ true → new.text ≡ d.text → new.statements ≡ d.statements → DocumentStands new (lines ++ statement_at place name t ∷ [])
+  old_statement there e g = subst (λ (n : Chars). DocumentStands new (lines ++ statement_at place n t ∷ [])) same (stands_old d new lines s place named t u grows renamed there e g)
 
   pub new_statement : contains same_line d.statements (statement named u) ≡ false → new.text ≡ d.text ++ encode_utf8_all (line_text (statement named u))
       → new.statements ≡ (if contains same_line d.statements (statement named u) then d.statements else d.statements ++ statement named u ∷ []) → WritableTriple (Some named) u
-      → Stands new (lines ++ statement_at place name t ∷ [])
-  new_statement lacks e g w = subst (λ (n : Chars). Stands new (lines ++ statement_at place n t ∷ [])) same (stands_new d new lines s place named t u grows renamed lacks e g w)
+      → DocumentStands new (lines ++ statement_at place name t ∷ [])
+  new_statement lacks e g w = subst (λ (n : Chars). DocumentStands new (lines ++ statement_at place n t ∷ [])) same (stands_new d new lines s place named t u grows renamed lacks e g w)
 
 pub in_graph : (new : Document) (lines : List (Line PageBlank)) (place : ℕ) (address name : Chars) (triples : List (Triple ℕ)) → name ≡ without_fragment address
-    → Stands new (lines ++ map (statement_at place name) triples) → Stands new (lines ++ lines_of place (accepted_page address triples))
-in_graph new lines place address name triples e s = subst (λ (n : Chars). Stands new (lines ++ map (statement_at place n) triples)) e s
+    → DocumentStands new (lines ++ map (statement_at place name) triples) → DocumentStands new (lines ++ lines_of place (accepted_page address triples))
+in_graph new lines place address name triples e s = subst (λ (n : Chars). DocumentStands new (lines ++ map (statement_at place n) triples)) e s

@@ -25,7 +25,7 @@ pub record Keeps (text : List ℕ) (statements lines : List (Line ℕ)) : Type 0
   pub writable : (line : Line ℕ) → Among (kept lines) line → WritableLine line
 
 -- the document is that of these lines
-pub record Stands (document : Document) (lines : List (Line PageBlank)) : Type 0 where
+pub record DocumentStands (document : Document) (lines : List (Line PageBlank)) : Type 0 where
   pub numbers : document.blanks ≡ table lines
   pub keeps : Keeps document.text document.statements (numbered_lines lines)
 
@@ -41,7 +41,7 @@ AddsWhereNew old line new place = MatchOption place (contains same_line old line
 
 -- of whatever lines the document was, it is of these and those that were added
 abbrev pub AddsLines : {T E : Type 0} → Result T E → Document → Document → List (Line PageBlank) → Type 0
-AddsLines result old new more = (lines : List (Line PageBlank)) → Stands old lines → OnOk result (Stands new (lines ++ more))
+AddsLines result old new more = (lines : List (Line PageBlank)) → DocumentStands old lines → OnOk result (DocumentStands new (lines ++ more))
 
 -- the line's text was added
 pub record Writes (old : Document) (line : Line ℕ) (new : Document) : Type 0 where

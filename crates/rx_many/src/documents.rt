@@ -4,7 +4,7 @@ ghost use Rattle.rx_model.specs.Seen.{triple_seen, triples_seen};
 ghost use Rattle.rx_many.specs.Lines.{Line, comment, statement_at, lines_of, lines_from};
 ghost use Rattle.rx_many.specs.Pages.{accepted_page};
 ghost use Rattle.rx_many.specs.Seen.{page_seen};
-ghost use Rattle.rx_many.specs.Standing.{AddsLines, Stands, Writes};
+ghost use Rattle.rx_many.specs.Standing.{AddsLines, DocumentStands, Writes};
 
 use crate::blanks::Blanks;
 use crate::pages::{Judgement, Page};
@@ -27,7 +27,7 @@ pub(crate) struct Document {
 
 /// The document of the pages.
 pub(crate) fn document_of(alloc: Global, pages: &[Page]) -> Result<Document, NoMemory>
-    ensures { IfOk result (λ document. Stands document (lines_from 0 (map page_seen pages.now))) }
+    ensures { IfOk result (λ document. DocumentStands document (lines_from 0 (map page_seen pages.now))) }
 {
     let mut document = Document::new(alloc)?;
     for i in 0..pages.len() {
@@ -41,7 +41,7 @@ pub(crate) fn document_of(alloc: Global, pages: &[Page]) -> Result<Document, NoM
 
 impl Document {
     fn new(alloc: Global) -> Result<Document, NoMemory>
-        ensures { IfOk result (λ document. Stands document []) }
+        ensures { IfOk result (λ document. DocumentStands document []) }
     {
         let text = Lines::new(alloc)?;
         Ok(Document {

@@ -10,7 +10,7 @@ use Rattle.rx_grammar.specs.declared.contents.Content.{Content}
 use Rattle.rx_grammar.specs.declared.faults.Kind.TheVariants.{BadDoctype}
 use Rattle.rx_grammar.specs.Tags.{cased_char}
 use Rattle.rx_pages.specs.Scanner as told
-use Rattle.rx_reader.proofs.Bools.{split}
+use Rattle.rx_terms.proofs.Bools.{split}
 use Rattle.rx_marks.specs.declared.marks.DoctypePhase.{DoctypePhase}
 use Rattle.rx_marks.specs.declared.marks.DoctypePhase.TheVariants as phases
 use Rattle.rx_marks.specs.declared.marks.Mark.TheVariants as mark

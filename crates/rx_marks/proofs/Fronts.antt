@@ -3,7 +3,7 @@ use Rattle.std.proofs.Common.{◌≡◌, ◌∙◌, ℕ, Bool, true, false, [], 
 use Rattle.std.specs.Prelude.{◌&&◌}
 use Rattle.std.specs.List.{list_all}
 use Rattle.rx_terms.specs.Text.{Chars, begins_with}
-use Rattle.rx_reader.proofs.Bools.{both}
+use Rattle.rx_terms.proofs.Bools.{both}
 use Rattle.rx_reader.proofs.Fronts.{equal}
 
 abbrev pub head_of : Chars → Option ℕ

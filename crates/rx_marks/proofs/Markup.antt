@@ -16,7 +16,7 @@ use Rattle.rx_grammar.specs.Spelling.{has_markup, has_references, has_less_than,
 use Rattle.rx_grammar.specs.PageFaults.{is_known_tag}
 use Rattle.rx_reader.specs.Tables.{is_html}
 use Rattle.rx_reader.specs.TagReader.{TagState, fresh, tag_step, moved, checked}
-use Rattle.rx_reader.proofs.Bools.{split, by_test, both}
+use Rattle.rx_terms.proofs.Bools.{split, by_test, both}
 use Rattle.rx_pages.specs.Scanner as told
 use Rattle.rx_pages.proofs.Reading.{markup_is}
 use Rattle.rx_tags.specs.TagBufs.{TagSoFar, no_tag, MayStep}

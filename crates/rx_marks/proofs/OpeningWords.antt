@@ -11,7 +11,7 @@ use Rattle.rx_chars.specs.declared.syntax.Syntax.TheVariants.{Html, Xhtml}
 use Rattle.rx_grammar.specs.declared.contents.Content.{Content}
 use Rattle.rx_grammar.specs.Spelling.{has_sections, begins_declaration}
 use Rattle.rx_grammar.specs.PageFaults.{meets_opening}
-use Rattle.rx_reader.proofs.Bools.{by_test, untrue, not_both_ways}
+use Rattle.rx_terms.proofs.Bools.{by_test, untrue, not_both_ways}
 use Rattle.rx_reader.proofs.Fronts.{equal}
 use Rattle.rx_marks.specs.declared.marks.Word.{Word}
 use Rattle.rx_marks.specs.declared.marks.Word.TheVariants as word
@@ -155,9 +155,6 @@ first_of s w first chars next left e = sym (ap head_list e)
 pub word_length : (s : Syntax) (w : Word) (t : Chars) (next : ℕ) (left : Chars) → marks.opening_text s w ≡ map (marks.opening_char s w) t ++ next ∷ left → length (marks.opening_text s w) ≡ length t + (length left + 1)
 word_length s w t next left e =
     ap length e ∙ (length-append (map (marks.opening_char s w) t) (next ∷ left) ∙ ap (λ k. k + length (next ∷ left)) (length-map t (marks.opening_char s w)) ∙ (omega arith))
-
-pub not_whole : (n k : ℕ) → (n + 1 == n + ((k + 1) + 1)) ≡ false
-not_whole n k = by_test {G = (n + 1 == n + ((k + 1) + 1)) ≡ false} (n + 1 == n + ((k + 1) + 1)) (λ h. absurd (let e : n + 1 ≡ n + ((k + 1) + 1) = eqb-true (n + 1) (n + ((k + 1) + 1)) h in omega arith)) (λ h. h)
 
 -- the characters of a word that is whole
 pub exact : (s : Syntax) (w : Word) (t : Chars) (c next : ℕ) (left : Chars) → marks.opening_text s w ≡ map (marks.opening_char s w) t ++ next ∷ left → marks.opening_char s w c ≡ next → left ≡ [] → marks.opening_text s w ≡ plain_text s w (t ++ c ∷ [])

@@ -16,7 +16,7 @@ use Rattle.rx_grammar.specs.PageFaults.{is_known_tag, meets_opening}
 use Rattle.rx_pages.specs.Scanner as told
 use Rattle.rx_pages.proofs.Reading.{markup_is}
 use Rattle.rx_pages.proofs.Comments.{bogus_at}
-use Rattle.rx_reader.proofs.Bools.{split, by_test, both}
+use Rattle.rx_terms.proofs.Bools.{split, by_test, both}
 use Rattle.rx_reader.proofs.Fronts.{equal, begins_append}
 use Rattle.rx_marks.specs.declared.marks.Word.{Word}
 use Rattle.rx_marks.specs.declared.marks.Word.TheVariants as word
@@ -270,10 +270,6 @@ module _ (s : Syntax) (i : Content) (p : Pending) (text : Chars) (c : ℕ) (h : 
         goes = v;
         pends = record { none = h.none; first = c; chars = []; are = ap (λ x. x ++ c ∷ []) h.are; markup = h.markup; looked = l; count = refl; next = next; left = left; word = e };
       }
-
-always_looks : (s : Syntax) (i : Content) → (marks.looks_for s i word.Dashes ≡ true) × (marks.looks_for s i word.Doctype ≡ true)
-always_looks Html i = (refl, refl)
-always_looks Xhtml i = (refl, refl)
 
 pub at_opened_means : (s : Syntax) (i : Content) (p : Pending) (text : Chars) (c : ℕ) → InOpened s i p.run text → Means s i p text c (marks.at_opened s i c)
 at_opened_means Html i p text c h =

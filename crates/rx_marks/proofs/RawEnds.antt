@@ -1,10 +1,9 @@
 -- In raw text, behind `<`, a move says what the verdict is.
 use Rattle.std.proofs.Common.{◌≡◌, ◌∙◌, ℕ, ◌+◌, Bool, true, false, [], ◌∷◌, ◌++◌, refl, ap, sym, subst, Option, Some, Ok, eqb-true, length, map, take, drop, slice_get, append_assoc, append-nil, inl, inr, arith, add-one, ◌≤◌}
-use Rattle.std.proofs.lemmas.Bool.{leb-true}
+use Rattle.std.proofs.lemmas.Bool.{leb-true, cond-true, cond-false, and_from, or_left, or_right}
 use Rattle.std.specs.Prelude.{◌==◌, ◌&&◌, ◌||◌, not, nat_le}
 use Rattle.std.specs.List.{list_all}
 use Rattle.std.proofs.lemmas.Bool.Decides.{nat_tests}
-use Rattle.std.proofs.lemmas.Bool.{cond-true, cond-false, and_from, or_left, or_right}
 use Rattle.std.proofs.lemmas.List.{length-append, length-map, map-append}
 use Rattle.std.proofs.Math.Seq.{drop-append_seam, take-append_seam}
 use Rattle.rx_terms.specs.Ascii.{less_than_sign, solidus, lowered_char, between, is_letter, is_white_space}
@@ -28,7 +27,7 @@ use Rattle.rx_reader.specs.declared.phases.TagPhase.TheVariants as phase
 use Rattle.rx_reader.specs.Tables.{is_last, move_of}
 use Rattle.rx_reader.specs.TagReader.{TagState, fresh, tag_on, tag_step, moved, checked}
 use Rattle.rx_reader.proofs.TagLaws.{tag_on-append}
-use Rattle.rx_reader.proofs.Bools.{split, by_test, both, neither, either}
+use Rattle.rx_terms.proofs.Bools.{split, by_test, both, neither, either}
 use Rattle.rx_reader.proofs.Fronts.{equal}
 use Rattle.rx_pages.specs.Scanner as told
 use Rattle.rx_pages.proofs.Reading.{raw_is}

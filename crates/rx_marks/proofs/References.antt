@@ -19,7 +19,7 @@ use Rattle.rx_reader.specs.declared.phases.RunMove.{RunMove}
 use Rattle.rx_reader.specs.declared.phases.RunMove.TheVariants as run_moves
 use Rattle.rx_reader.specs.Tables.{run_move}
 use Rattle.rx_reader.specs.Values.{no_meaning}
-use Rattle.rx_reader.proofs.Bools.{split, both, either, untrue}
+use Rattle.rx_terms.proofs.Bools.{split, both, either, untrue}
 use Rattle.rx_reader.proofs.Runs.{RunIs, at_ampersand, in_name, at_hash, in_decimal, at_mark, in_hexadecimal, goes_on, closes, stops, run_begun}
 use Rattle.rx_pages.specs.Scanner as told
 use Rattle.rx_pages.proofs.Texts.{semicolon_stops}

@@ -4,7 +4,7 @@ use Rattle.std.specs.Prelude.{◌&&◌, ◌||◌, ◌==◌}
 use Rattle.rx_terms.specs.Text.{Chars, is_empty}
 use Rattle.rx_grammar.specs.Names.{same}
 use Rattle.rx_grammar.specs.Spelling.{ends_with}
-use Rattle.rx_reader.proofs.Bools.{by_test}
+use Rattle.rx_terms.proofs.Bools.{by_test}
 
 pub and_false : (b : Bool) → (b && false) ≡ false
 and_false true = refl
@@ -42,10 +42,6 @@ swap false false = refl
 no_more : (e : Chars) (d : ℕ) → same (e ++ d ∷ []) [] ≡ false
 no_more [] d = refl
 no_more (x ∷ e) d = refl
-
-longer : (text : Chars) (c : ℕ) → same [] (text ++ c ∷ []) ≡ false
-longer [] c = refl
-longer (t ∷ text) c = refl
 
 pub same_snoc : (e : Chars) (d : ℕ) (text : Chars) (c : ℕ) → same (e ++ d ∷ []) (text ++ c ∷ []) ≡ (same e text && (d == c))
 same_snoc [] d [] c = and_true (d == c)

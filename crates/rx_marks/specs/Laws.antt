@@ -11,7 +11,9 @@ use Rattle.rx_marks.specs.Pending.{Pending, Pends}
 
 -- Whatever the characters are for which the mark stands: its move says what the verdict on the next one is, and what pends with it.
 abbrev pub MovesAreVerdicts : Type 0
-MovesAreVerdicts = (syntax : Syntax) (inside : Content) (pending : Pending) (text : Chars) (c : ℕ) → Pends syntax inside pending text → Means syntax inside pending text c (move_of syntax inside pending.mark c)
+MovesAreVerdicts =
+    (syntax : Syntax) (inside : Content) (pending : Pending) (text : Chars) (c : ℕ) → Pends syntax inside pending text
+    → Means syntax inside pending text c (move_of syntax inside pending.mark c)
 
 -- These characters are known to begin a tag where the mark says so, and with one more where it says so with this one.
 abbrev pub KnownAreTags : Type 0

@@ -225,3 +225,7 @@ module _ (syntax : Syntax) (inside : Content) where
 
   abbrev pub Pends : Pending → Chars → Type 0
   Pends p text = PendsAs p.mark p.run p.tag text
+
+-- a CDATA section with this text so far, behind which no bracket stands
+abbrev pub in_section : Pending → Chars → Pending
+in_section old run = record { mark = mark.Section brackets.None; run = run; tag = old.tag }

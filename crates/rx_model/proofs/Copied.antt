@@ -2,7 +2,7 @@
 use Rattle.std.proofs.Common.{◌≡◌, ◌≢◌, ◌⊎◌, Bool, true, false, not, cond, ◌&&◌, List, [], ◌∷◌, flat_map, filter_map, Option, Some, None, option_map, is_none, refl, sym, ap, ◌∙◌, subst, inl, inr, true≢false, bytes_eq}
 use Rattle.rx_model.specs.Sets.{Among, IsExact}
 use Rattle.rx_terms.specs.Text.{Chars}
-use Rattle.rx_model.specs.Terms.{Node, Iri, Term, Resource, Literal, Triple, Graph, same_node, same_term, same_triple}
+use Rattle.rx_model.specs.Terms.{Node, Iri, Term, Resource, Literal, Triple, same_node, same_term, same_triple}
 use Rattle.rx_model.specs.Copied.{rdf_type, rdfa_copy, rdfa_pattern, spo, type_pattern, copy, SaysPattern, Closed, held, copied_from, Referenced, SaysLive, patterned, is_pattern, pattern_object, live, edge, edges, leads, says_pattern, is_referenced, given, replaced, treated, copied, CopiesPatterns}
 use Rattle.rx_model.proofs.Sets.{or_cases, or_left, or_right, and_left, and_right, and_both, not_true, false_unless, Among-contains, Among_by_contains, Among_of_distinct, Among_distinct, Among_flat_map, Among_of_flat_map, Among_filter_map, Among_of_filter_map}
 use Rattle.rx_model.proofs.Leads.{leads_self, leads_on, leads_pair, leads_keep}
@@ -71,9 +71,6 @@ module _ {B : Type 0} (same : B → B → Bool) (exact : IsExact same) where
             let p : (u.subject, t) ≡ e = cc in
             let c : u ≡ copy e.0 e.1 = λ i. record { subject = (p i).0; predicate = l.0 i; object = (l.1 ∙ ap (λ (x : Node B × Node B). Resource x.1) p) i } in
             (subst (Among list) c m, subst (λ z. Among list (type_pattern z)) (ap (λ (x : Node B × Node B). x.1) p) l.2)
-
-    g : Graph B
-    g = Among list
 
     es : List (Node B × Node B)
     es = edges same list
@@ -156,9 +153,6 @@ module _ {B : Type 0} (same : B → B → Bool) (exact : IsExact same) where
         go : (l : Option (Node B)) → live same list p o ≡ l → live same list p o ≡ None
         go None e = e
         go (Some t) e = let r = of_live p o t e in absurd (n (t, r.0, r.1, held r.2))
-
-    live_says : (p : Chars) (o : Term B) (t : Node B) → live same list p o ≡ Some t → SaysLive (Closed (Among list)) p o
-    live_says p o t e = let r = of_live p o t e in (t, r.0, r.1, held r.2)
 
     says_live : (p : Chars) (o : Term B) → SaysLive (Closed (Among list)) p o → (t : Node B) × (live same list p o ≡ Some t)
     says_live p o (t, e, f, c) = (t, rw (e, f) (live_some t (pattern_held c (refl, refl))))

@@ -1,6 +1,7 @@
 -- The law of names.
 use Rattle.std.proofs.Common.{◌≡◌, ◌⊎◌, ℕ, Bool, true, false, cond, nat_eq, List, [], ◌∷◌, ◌++◌, map, refl, sym, ap, ap₂, ◌∙◌, inl, inr, true≢false}
 use Rattle.std.proofs.lemmas.Bool.Decides.{Decides-eqb}
+use Rattle.rx_terms.proofs.Bools.{same_truth}
 use Rattle.rx_model.specs.Sets.{Among, IsExact, contains}
 use Rattle.rx_model.specs.Terms.{Node, Iri, Blank, Term, Resource, Literal, Triple}
 use Rattle.rx_model.specs.Numbered.{rename_node, rename_term, rename, blank_of_node, blank_of_term, blanks, numbered}
@@ -19,10 +20,6 @@ same_sum same (inr a) (inl m) = false
 module _ {A : Type 0} (same : A → A → Bool) (exact : IsExact same) (table : List A) (to : A → ℕ) (one_to_one : (a b : A) → Among table a → Among table b → to a ≡ to b → a ≡ b) where
   number : A → ℕ ⊎ A
   number b = cond (contains same table b) (inl (to b)) (inr b)
-
-  same_truth : (b c : Bool) → (b ≡ true → c ≡ true) → (c ≡ true → b ≡ true) → b ≡ c
-  same_truth true c h k = sym (h refl)
-  same_truth false c h k = sym (false_unless c (λ e. true≢false (sym (k e))))
 
   number_keeps : (a b : A) → same a b ≡ same_sum same (number a) (number b)
   unfolding number

@@ -10,10 +10,12 @@ abbrev pub Keeps : {A B : Type 0} → (A → A → Bool) → (B → B → Bool) 
 Keeps {A} same same' to = (a b : A) → same a b ≡ same' (to a) (to b)
 
 abbrev pub NumbersForgetNames : {A B : Type 0} → (A → A → Bool) → (B → B → Bool) → Type 0
-NumbersForgetNames {A} {B} same same' = (to : A → B) → Keeps same same' to → (list : List (Triple A)) → numbered same' (map (rename to) list) ≡ numbered same list
+NumbersForgetNames {A} {B} same same' =
+    (to : A → B) → Keeps same same' to → (list : List (Triple A)) → numbered same' (map (rename to) list) ≡ numbered same list
 
 abbrev pub CopyingKeepsNames : {A B : Type 0} → (A → A → Bool) → (B → B → Bool) → Type 0
-CopyingKeepsNames {A} {B} same same' = (to : A → B) → Keeps same same' to → (list : List (Triple A)) → copied same' (map (rename to) list) ≡ map (rename to) (copied same list)
+CopyingKeepsNames {A} {B} same same' =
+    (to : A → B) → Keeps same same' to → (list : List (Triple A)) → copied same' (map (rename to) list) ≡ map (rename to) (copied same list)
 
 -- law: where the blank nodes of a list have other names, each its own, what is written of it is the same
 abbrev pub NamesDoNotMatter : {A : Type 0} → (A → A → Bool) → Type 0

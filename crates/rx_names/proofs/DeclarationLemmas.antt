@@ -8,16 +8,15 @@ use Rattle.std.proofs.lemmas.Grind.{flat_map-append}
 use Rattle.std.proofs.lemmas.List.{map-append, take_more, append-nil, reverse-append, reverse-reverse}
 use Rattle.std.proofs.lemmas.Slice.Eq.{bytes_eq-Decides}
 use Rattle.rx_terms.specs.Ascii.{lowered_char, colon}
-use Rattle.rx_terms.specs.Text.{Chars, trimmed, lowered, begins_with}
+use Rattle.rx_terms.specs.Text.{Chars, trimmed, lowered, begins_with, seen_slice}
 use Rattle.rx_terms.specs.Iri.{has_scheme}
 use Rattle.rx_terms.proofs.CharLemmas.{ascii-chars}
-use Rattle.rx_refs.specs.Views.{seen_slice}
-use Rattle.rx_refs.proofs.PartLemmas.{by_test}
+use Rattle.rx_terms.proofs.Bools.{by_test}
 use Rattle.rx_rdfa.specs.Names.{Table, counts, xmlns_of, prefix_name, without_colon, pairs_after}
-use Rattle.rx_names.specs.declared.rows.Row.{Row}
+use Rattle.rx_names.specs.declared.rows.Declaration.{Declaration}
 use Rattle.rx_names.specs.Rows.{mapping_rows, prefix_row}
 
-pub becomes : {A E : Type 0} (r : Result A E) (new a b : List Row) → a ≡ b → OnOk r (new ≡ a) → OnOk r (new ≡ b)
+pub becomes : {A E : Type 0} (r : Result A E) (new a b : List Declaration) → a ≡ b → OnOk r (new ≡ a) → OnOk r (new ≡ b)
 becomes (Ok x) new a b e h = h ∙ e
 becomes (Err x) new a b e h = tt
 
@@ -64,15 +63,15 @@ one-namespace name value rest clean e f =
     ap (λ (x : Chars). mapping_rows ((lowered rest, x) ∷ [])) f ∙ sym (ap (λ (x : Chars). mapping_rows (xmlns_of (x, value))) whole)
 
 -- one attribute more
-pub more-namespaces : (attributes : List (Chars × Chars)) (i : ℕ) (a : Chars × Chars) (old rows new : List Row) → i < length attributes → get_or attributes i a ≡ a
+pub more-namespaces : (attributes : List (Chars × Chars)) (i : ℕ) (a : Chars × Chars) (old rows new : List Declaration) → i < length attributes → get_or attributes i a ≡ a
     → rows ≡ old ++ mapping_rows (flat_map xmlns_of (take i attributes)) → new ≡ rows ++ mapping_rows (xmlns_of a) → new ≡ old ++ mapping_rows (flat_map xmlns_of (take (i + 1) attributes))
 more-namespaces attributes i a old rows new within is e f =
     let whole : take (i + 1) attributes ≡ take i attributes ++ a ∷ [] = take_more attributes i a within ∙ ap (λ (x : Chars × Chars). take i attributes ++ x ∷ []) is in
     let cut : flat_map xmlns_of (take (i + 1) attributes) ≡ flat_map xmlns_of (take i attributes) ++ xmlns_of a =
     ap (flat_map xmlns_of) whole ∙ flat_map-append xmlns_of (take i attributes) (a ∷ []) ∙ ap (λ (x : Table). flat_map xmlns_of (take i attributes) ++ x) (append-nil (xmlns_of a)) in
-    f ∙ ap (λ (x : List Row). x ++ mapping_rows (xmlns_of a)) e
+    f ∙ ap (λ (x : List Declaration). x ++ mapping_rows (xmlns_of a)) e
     ∙ append_assoc old (mapping_rows (flat_map xmlns_of (take i attributes))) (mapping_rows (xmlns_of a))
-    ∙ ap (λ (x : List Row). old ++ x) (sym (ap mapping_rows cut ∙ mapping-append (flat_map xmlns_of (take i attributes)) (xmlns_of a)))
+    ∙ ap (λ (x : List Declaration). old ++ x) (sym (ap mapping_rows cut ∙ mapping-append (flat_map xmlns_of (take i attributes)) (xmlns_of a)))
 
 -- The pairs of `prefix`
 
@@ -95,7 +94,7 @@ split-name token None h = names-none token h
 split-name token (Some front) h = names-prefix token (chars front.now) h
 
 -- a token that no name stood before
-pub waits : (rows whole : List Row) (waiting r : Option (Bor (List ℕ))) (words : List Chars) (token : Chars) (more : List Chars) → rows ++ mapping_rows (pairs_after (seen_slice waiting) words) ≡ whole
+pub waits : (rows whole : List Declaration) (waiting r : Option (Bor (List ℕ))) (words : List Chars) (token : Chars) (more : List Chars) → rows ++ mapping_rows (pairs_after (seen_slice waiting) words) ≡ whole
     → waiting ≡ None → words ≡ token ∷ more → MatchOption r ((front : Chars) → token ≢ front ++ colon ∷ []) (λ front. token ≡ chars front.now ++ colon ∷ [])
     → rows ++ mapping_rows (pairs_after (seen_slice r) more) ≡ whole
 waits rows whole waiting r words token more e none is h =
@@ -104,13 +103,13 @@ waits rows whole waiting r words token more e none is h =
     sym (ap (λ (t : Table). rows ++ mapping_rows t) here) ∙ e
 
 -- a token behind its name
-pub pairs_up : (rows new whole : List Row) (waiting : Option (Bor (List ℕ))) (name : Bor (List ℕ)) (words : List Chars) (token : Chars) (more : List Chars) → rows ++ mapping_rows (pairs_after (seen_slice waiting) words) ≡ whole
+pub pairs_up : (rows new whole : List Declaration) (waiting : Option (Bor (List ℕ))) (name : Bor (List ℕ)) (words : List Chars) (token : Chars) (more : List Chars) → rows ++ mapping_rows (pairs_after (seen_slice waiting) words) ≡ whole
     → waiting ≡ Some name → words ≡ token ∷ more → new ≡ rows ++ mapping_rows ((lowered (chars name.now), token) ∷ []) → new ++ mapping_rows (pairs_after None more) ≡ whole
 pairs_up rows new whole waiting name words token more e some is n =
     let pair : Table = (lowered (chars name.now), token) ∷ [] in
     let here : pairs_after (seen_slice waiting) words ≡ pair ++ pairs_after None more =
     ap (λ (w : Option (Bor (List ℕ))). pairs_after (seen_slice w) words) some ∙ ap (pairs_after (Some (chars name.now))) is in
-    ap (λ (x : List Row). x ++ mapping_rows (pairs_after None more)) n
+    ap (λ (x : List Declaration). x ++ mapping_rows (pairs_after None more)) n
     ∙ append_assoc rows (mapping_rows pair) (mapping_rows (pairs_after None more))
-    ∙ ap (λ (x : List Row). rows ++ x) (sym (mapping-append pair (pairs_after None more)))
+    ∙ ap (λ (x : List Declaration). rows ++ x) (sym (mapping-append pair (pairs_after None more)))
     ∙ ap (λ (t : Table). rows ++ mapping_rows t) (sym here) ∙ e

@@ -5,7 +5,7 @@ use Rattle.std.specs.Str.{IsUtf8, is_utf8}
 use Rattle.std.proofs.lemmas.Str.{is_utf8-from_IsUtf8, IsUtf8-from_is_utf8}
 use Rattle.serde_json.specs.Data.{Data}
 use Rattle.serde_json.specs.Read.{read}
-use Rattle.rx_refs.proofs.PartLemmas.{by_test}
+use Rattle.rx_terms.proofs.Bools.{by_test}
 use Rattle.rx_names.specs.ContextFiles.{context_of_data, context_of}
 
 pub read-context : (bytes : List ℕ) (value : Data) → IsUtf8 bytes → read bytes ≡ Some value → context_of bytes ≡ context_of_data value

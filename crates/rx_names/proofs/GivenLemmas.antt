@@ -8,7 +8,7 @@ use Rattle.std.proofs.lemmas.Bool.{and_parts}
 use Rattle.std.proofs.lemmas.Slice.Eq.{bytes_eq-Decides}
 use Rattle.rx_terms.specs.Iri.{IsIri, is_iri, has_scheme, has_forbidden}
 use Rattle.rx_terms.specs.Text.{Chars, lowered}
-use Rattle.rx_refs.proofs.PartLemmas.{by_test}
+use Rattle.rx_terms.proofs.Bools.{by_test}
 use Rattle.rx_rdfa.specs.Names.{Table, value_at}
 use Rattle.rx_names.specs.Tables.{rise}
 use Rattle.rx_names.specs.Given.{given, are_given, are_lowered}
@@ -19,15 +19,15 @@ is_iri-true text h =
     let parts = and_parts (has_scheme text) (not (has_forbidden text)) h in
     record { scheme = parts.0; clean = by_test (has_forbidden text) (λ t. let g : false ≡ true = rw t at parts.1 in absurd (cc g)) (λ t. t) }
 
-abbrev pub Row : Type 0
-Row = Bor (List ℕ) × Bor (List ℕ)
+abbrev pub Declaration : Type 0
+Declaration = Bor (List ℕ) × Bor (List ℕ)
 
-pub given-rises : (rows : List Row) → are_given (given rows) ≡ true → rise (given rows) ≡ true
+pub given-rises : (rows : List Declaration) → are_given (given rows) ≡ true → rise (given rows) ≡ true
 given-rises rows h = (and_parts (rise (given rows)) (list_all (λ row. is_iri row.1) (given rows)) h).0
 
-pub given-iri : (rows : List Row) (i : ℕ) (d : Row) → are_given (given rows) ≡ true → i < length rows → IsIri (chars (get_or rows i d).1.now)
+pub given-iri : (rows : List Declaration) (i : ℕ) (d : Declaration) → are_given (given rows) ≡ true → i < length rows → IsIri (chars (get_or rows i d).1.now)
 given-iri rows i d h below = is_iri-true (chars (get_or rows i d).1.now) (at rows i below (and_parts (rise (given rows)) (list_all (λ row. is_iri row.1) (given rows)) h).1) where
-  at : (rows : List Row) (i : ℕ) → i < length rows → list_all (λ (row : Chars × Chars). is_iri row.1) (given rows) ≡ true → is_iri (chars (get_or rows i d).1.now) ≡ true
+  at : (rows : List Declaration) (i : ℕ) → i < length rows → list_all (λ (row : Chars × Chars). is_iri row.1) (given rows) ≡ true → is_iri (chars (get_or rows i d).1.now) ≡ true
   at [] i l a = absurd (omega arith)
   at (row ∷ rows) zero l a = (and_parts (is_iri (chars row.1.now)) (list_all (λ row. is_iri row.1) (given rows)) a).0
   at (row ∷ rows) (suc i) l a = at rows i (omega arith) ((and_parts (is_iri (chars row.1.now)) (list_all (λ row. is_iri row.1) (given rows)) a).1)

@@ -7,11 +7,11 @@ use Rattle.std.proofs.lemmas.List.{reverse-append, length-map}
 use Rattle.std.proofs.lemmas.List.Sums.{sum_by-cons}
 use Rattle.std.proofs.Math.Seq.{get_or-append_seam, take-append_seam}
 use Rattle.rx_terms.specs.Text.{Chars, trimmed, begins_with}
-use Rattle.rx_refs.proofs.PartLemmas.{by_test}
+use Rattle.rx_terms.proofs.Bools.{by_test}
 use Rattle.rx_rdfa.specs.Tree.{Tag, attribute}
 use Rattle.rx_rdfa.specs.Names.{Context, Table, value_at, counts, xmlns_of, of_prefix, declarations, declared_or, unless_empty, as_lang, prefix, vocab, language}
 use Rattle.rx_names.specs.Rows.{prefix_row, vocabulary_rows, language_rows, language_attribute, rows_of, last_of, prefix_in, vocabulary_in, language_in, flattened, declared, one_if_some}
-use Rattle.rx_names.specs.Lines.{Kept, pushed, popped, kept_of, Stands, prefix_of, vocabulary_of, language_of, declared_along}
+use Rattle.rx_names.specs.Lines.{Kept, pushed, popped, kept_of, NamesStand, prefix_of, vocabulary_of, language_of, declared_along}
 use Rattle.rx_names.proofs.RowLemmas.{last-append, or-none, or-assoc}
 
 -- Prefixes
@@ -51,7 +51,7 @@ prefix-kept context (tag ∷ above) name =
     ∙ ap (λ o. option_or o (option_or (last_of (prefix_in name) (kept_of context above).rows) (value_at name context.prefixes))) (prefix-tag name tag)
     ∙ ap (option_or (value_at name (reverse (declarations tag)))) (prefix-kept context above name)
 
-pub prefix-line : (kept : Kept) (line : List Tag) (name : Chars) → Stands kept line → prefix_of kept name ≡ prefix kept.context line name
+pub prefix-line : (kept : Kept) (line : List Tag) (name : Chars) → NamesStand kept line → prefix_of kept name ≡ prefix kept.context line name
 prefix-line kept line name s =
     ap (λ (k : Kept). option_or (last_of (prefix_in name) k.rows) (value_at name kept.context.prefixes)) s.is ∙ prefix-kept kept.context line name
 
@@ -86,7 +86,7 @@ vocabulary-kept context (tag ∷ above) =
     ∙ said-or (attribute tag (codes "vocab")) (λ value. unless_empty (trimmed value)) (last_of vocabulary_in (kept_of context above).rows)
     ∙ ap (declared_or (attribute tag (codes "vocab")) (λ value. unless_empty (trimmed value))) (vocabulary-kept context above)
 
-pub vocabulary-line : (kept : Kept) (line : List Tag) → Stands kept line → vocabulary_of kept ≡ vocab line
+pub vocabulary-line : (kept : Kept) (line : List Tag) → NamesStand kept line → vocabulary_of kept ≡ vocab line
 vocabulary-line kept line s = ap vocabulary_of s.is ∙ vocabulary-kept kept.context line
 
 -- The language
@@ -115,7 +115,7 @@ language-kept context (tag ∷ above) =
     ∙ said-or (language_attribute tag) as_lang (last_of language_in (kept_of context above).rows)
     ∙ ap (declared_or (language_attribute tag) as_lang) (language-kept context above)
 
-pub language-line : (kept : Kept) (line : List Tag) → Stands kept line → language_of kept ≡ language line
+pub language-line : (kept : Kept) (line : List Tag) → NamesStand kept line → language_of kept ≡ language line
 language-line kept line s = ap language_of s.is ∙ language-kept kept.context line
 
 -- How many rows there are
@@ -160,5 +160,5 @@ rows-kept : (context : Context) (line : List Tag) → length (kept_of context li
 rows-kept context [] = omega arith
 rows-kept context (tag ∷ above) = omega (arith, length-append (kept_of context above).rows (rows_of tag), rows-kept context above, tag-count tag, sum_by-cons declared tag above)
 
-pub rows-line : (kept : Kept) (line : List Tag) → Stands kept line → length kept.rows ≤ declared_along line
+pub rows-line : (kept : Kept) (line : List Tag) → NamesStand kept line → length kept.rows ≤ declared_along line
 rows-line kept line s = omega (arith, ap (λ (k : Kept). length k.rows) s.is, rows-kept kept.context line)

@@ -12,7 +12,7 @@ use Rattle.std.proofs.lemmas.Cmp.{nat_list_cmp_total}
 use Rattle.std.proofs.lemmas.Slice.Eq.{bytes_eq-Decides}
 use Rattle.std.proofs.lemmas.List.{map-append, take-map, drop-map, length-map}
 use Rattle.rx_terms.specs.Text.{Chars, lowered}
-use Rattle.rx_refs.proofs.PartLemmas.{by_test}
+use Rattle.rx_terms.proofs.Bools.{by_test}
 use Rattle.rx_rdfa.specs.Names.{Table, value_at}
 use Rattle.rx_names.specs.Tables.{byte_order, is_before, rise, put, folded_onto, folded}
 use Rattle.rx_names.specs.declared.tables.Mapping.{Mapping}

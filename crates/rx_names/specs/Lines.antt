@@ -4,12 +4,12 @@ use Rattle.std.specs.Option.{option_or}
 use Rattle.rx_terms.specs.Text.{Chars}
 use Rattle.rx_rdfa.specs.Tree.{Tag}
 use Rattle.rx_rdfa.specs.Names.{Context, value_at}
-use Rattle.rx_names.specs.declared.rows.Row.{Row}
+use Rattle.rx_names.specs.declared.rows.Declaration.{Declaration}
 use Rattle.rx_names.specs.Rows.{rows_of, last_of, prefix_in, vocabulary_in, language_in, flattened, declared}
 
 pub record Kept : Type 0 where
   pub context : Context
-  pub rows : List Row
+  pub rows : List Declaration
   pub marks : List ℕ
 
 abbrev pub no_tags : Context → Kept
@@ -32,7 +32,7 @@ kept_of context [] = no_tags context
 kept_of context (tag ∷ above) = pushed (kept_of context above) tag
 
 -- what is kept is that of this line
-pub record Stands (kept : Kept) (line : List Tag) : Type 0 where
+pub record NamesStand (kept : Kept) (line : List Tag) : Type 0 where
   pub is : kept ≡ kept_of kept.context line
 
 abbrev pub prefix_of : Kept → Chars → Option Chars

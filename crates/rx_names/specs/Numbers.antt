@@ -4,20 +4,20 @@ use Rattle.std.specs.List.{list_all}
 use Rattle.std.specs.Str.{encode_utf8_all}
 use Rattle.std.specs.Hash.DefaultHasher as sip
 use Rattle.rx_terms.specs.Text.{Chars}
-use Rattle.rx_names.specs.declared.rows.Row.{Row}
-use Rattle.rx_names.specs.declared.rows.Row.TheVariants as row
+use Rattle.rx_names.specs.declared.rows.Declaration.{Declaration}
+use Rattle.rx_names.specs.declared.rows.Declaration.TheVariants as row
 use Rattle.rx_names.specs.Rows.{is_sound}
 
 -- the SipHash of the text
 unfoldable pub number_of : Chars → ℕ
 number_of text = sip.finish (sip.write sip.initial (encode_utf8_all text))
 
-abbrev pub row_number : Row → ℕ
+abbrev pub row_number : Declaration → ℕ
 row_number (row.Prefix key iri) = number_of key
 row_number (row.Vocabulary value) = 0
 row_number (row.Language value) = 1
 
 -- the rows, with their numbers
-pub record AreNumbered (rows : List Row) (numbers : List ℕ) : Type 0 where
+pub record AreNumbered (rows : List Declaration) (numbers : List ℕ) : Type 0 where
   pub sound : list_all is_sound rows ≡ true
   pub are : numbers ≡ map row_number rows

@@ -5,21 +5,21 @@ use Rattle.rx_terms.specs.Text.{Chars, trimmed, lowered, begins_with}
 use Rattle.rx_terms.specs.Iri.{has_scheme}
 use Rattle.rx_rdfa.specs.Tree.{Tag, attribute}
 use Rattle.rx_rdfa.specs.Names.{Table, counts, declarations, of_prefix, unless_empty, as_lang}
-use Rattle.rx_names.specs.declared.rows.Row.{Row}
-use Rattle.rx_names.specs.declared.rows.Row.TheVariants as row
+use Rattle.rx_names.specs.declared.rows.Declaration.{Declaration}
+use Rattle.rx_names.specs.declared.rows.Declaration.TheVariants as row
 
-abbrev pub prefix_row : Chars × Chars → Row
+abbrev pub prefix_row : Chars × Chars → Declaration
 prefix_row mapping = row.Prefix mapping.0 mapping.1
 
 -- the mappings that count
-abbrev pub mapping_rows : Table → List Row
+abbrev pub mapping_rows : Table → List Declaration
 mapping_rows table = map prefix_row (filter counts table)
 
-abbrev pub vocabulary_rows : Option Chars → List Row
+abbrev pub vocabulary_rows : Option Chars → List Declaration
 vocabulary_rows None = []
 vocabulary_rows (Some value) = row.Vocabulary (unless_empty (trimmed value)) ∷ []
 
-abbrev pub language_rows : Option Chars → List Row
+abbrev pub language_rows : Option Chars → List Declaration
 language_rows None = []
 language_rows (Some value) = row.Language (as_lang value) ∷ []
 
@@ -27,25 +27,25 @@ abbrev pub language_attribute : Tag → Option Chars
 language_attribute tag = option_or (attribute tag (codes "xml:lang")) (attribute tag (codes "lang"))
 
 -- the declarations of a tag that count, in the order in which a later one holds before an earlier one
-abbrev pub rows_of : Tag → List Row
+abbrev pub rows_of : Tag → List Declaration
 rows_of tag = map prefix_row (declarations tag) ++ (vocabulary_rows (attribute tag (codes "vocab")) ++ language_rows (language_attribute tag))
 
 -- the last of the rows of which `f` says something
-abbrev pub last_of : {A : Type 0} → (Row → Option A) → List Row → Option A
+abbrev pub last_of : {A : Type 0} → (Declaration → Option A) → List Declaration → Option A
 last_of f [] = None
 last_of f (first ∷ rows) = option_or (last_of f rows) (f first)
 
-abbrev pub prefix_in : Chars → Row → Option Chars
+abbrev pub prefix_in : Chars → Declaration → Option Chars
 prefix_in name (row.Prefix key iri) = if bytes_eq key name then Some iri else None
 prefix_in name (row.Vocabulary value) = None
 prefix_in name (row.Language value) = None
 
-abbrev pub vocabulary_in : Row → Option (Option Chars)
+abbrev pub vocabulary_in : Declaration → Option (Option Chars)
 vocabulary_in (row.Prefix key iri) = None
 vocabulary_in (row.Vocabulary value) = Some value
 vocabulary_in (row.Language value) = None
 
-abbrev pub language_in : Row → Option (Option Chars)
+abbrev pub language_in : Declaration → Option (Option Chars)
 language_in (row.Prefix key iri) = None
 language_in (row.Vocabulary value) = None
 language_in (row.Language value) = Some value
@@ -55,7 +55,7 @@ flattened None = None
 flattened (Some value) = value
 
 -- a prefix is in lower case, and its IRI has a scheme
-abbrev pub is_sound : Row → Bool
+abbrev pub is_sound : Declaration → Bool
 is_sound (row.Prefix key iri) = bytes_eq (lowered key) key && has_scheme iri
 is_sound (row.Vocabulary value) = true
 is_sound (row.Language value) = true

@@ -4,7 +4,7 @@ ghost use Rattle.std.specs.List.{list_all};
 ghost use Rattle.std.specs.Str.{chars};
 ghost use Rattle.rx_terms.specs.Ascii.{is_ascii};
 ghost use Rattle.rx_rdfa.specs.Tree.{attribute};
-ghost use Rattle.rx_refs.specs.Views.{seen_slice};
+ghost use Rattle.rx_terms.specs.Text.{seen_slice};
 ghost use Rattle.rx_names.specs.Marks.{mark_of, name_mark, has_mark};
 ghost use Rattle.rx_names.specs.Tags.{tag_of};
 

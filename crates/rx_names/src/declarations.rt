@@ -2,15 +2,14 @@
 ghost use Rattle.std.specs.Prelude.{◌≡◌, [], ◌∷◌, ◌++◌, OnOk, IfOk};
 ghost use Rattle.std.specs.List.{flat_map};
 ghost use Rattle.std.specs.Str.{chars};
-ghost use Rattle.rx_terms.specs.Text.{lowered, tokens};
+ghost use Rattle.rx_terms.specs.Text.{lowered, tokens, seen_slice};
 ghost use Rattle.rx_rdfa.specs.Names.{counts, xmlns_of, of_prefix, pairs, unless_empty};
 ghost use Rattle.rx_rdfa.specs.Tree.{attribute};
-ghost use Rattle.rx_refs.specs.Views.{seen_slice};
 ghost use Rattle.rx_names.specs.Tags.{tag_of};
 ghost use Rattle.rx_names.specs.Rows.{rows_of, mapping_rows, vocabulary_rows, language_rows, language_attribute};
 
 use crate::attributes::Attributes;
-use crate::rows::{Row, Rows};
+use crate::rows::{Declaration, Rows};
 use crate::words::{is_low_line, is_nc_name};
 use rx_tags::Tag;
 use rx_terms::{Lang, NoMemory, Text, has_scheme};
@@ -99,7 +98,7 @@ fn push_mapping(alloc: Global, rows: &mut Rows, name: &str, iri: &str) -> Result
         return Ok(());
     }
     let iri = Text::of(alloc, iri)?;
-    rows.push(Row::Prefix(name, iri))
+    rows.push(Declaration::Prefix(name, iri))
 }
 
 /// Whether a declaration counts: the prefix is an NCName other than `_`, and the IRI has a scheme.
@@ -116,7 +115,7 @@ fn push_vocabulary(alloc: Global, rows: &mut Rows, value: Option<&str>) -> Resul
         return Ok(());
     };
     let vocabulary = text_unless_empty(alloc, trim(value))?;
-    rows.push(Row::Vocabulary(vocabulary))
+    rows.push(Declaration::Vocabulary(vocabulary))
 }
 
 fn text_unless_empty(alloc: Global, text: &str) -> Result<Option<Text>, NoMemory>
@@ -136,5 +135,5 @@ fn push_language(alloc: Global, rows: &mut Rows, value: Option<&str>) -> Result<
         return Ok(());
     };
     let language = Lang::of(alloc, value)?;
-    rows.push(Row::Language(language))
+    rows.push(Declaration::Language(language))
 }

@@ -3,13 +3,12 @@ ghost use Rattle.std.specs.Prelude.{◌≡◌, [], ◌++◌, length, take, map, 
 ghost use Rattle.std.specs.List.{list_all};
 ghost use Rattle.std.specs.Str.{chars};
 ghost use Rattle.rx_terms.specs.Iri.{has_scheme};
-ghost use Rattle.rx_terms.specs.Text.{lowered};
-ghost use Rattle.rx_refs.specs.Views.{seen_slice};
+ghost use Rattle.rx_terms.specs.Text.{lowered, seen_slice};
 ghost use Rattle.rx_names.specs.Rows.{is_sound, last_of, prefix_in, vocabulary_in, language_in, flattened};
 ghost use Rattle.rx_names.specs.Numbers.{row_number};
 
 use crate::numbers::{LANGUAGE, VOCABULARY, number_of};
-use crate::rows::{Row, Rows};
+use crate::rows::{Declaration, Rows};
 use rx_terms::NoMemory;
 use rx_unique::Places;
 use std::alloc::Global;
@@ -22,17 +21,17 @@ const FEW: usize = 16;
 /// list.
 #[derive(Debug, Drop)]
 pub(crate) struct KeptRows {
-    rows: Vec<Row>,
+    rows: Vec<Declaration>,
     // of each row its number, so that a look-up goes to the rows of one number alone
     places: Places,
 }
 
 impl Model for KeptRows {
     ghost use Rattle.std.specs.Prelude.{List};
-    ghost use Rattle.rx_names.specs.declared.rows.Row.{Row};
+    ghost use Rattle.rx_names.specs.declared.rows.Declaration.{Declaration};
     ghost use Rattle.rx_names.specs.Numbers.{AreNumbered};
 
-    ghost Value = { List Row };
+    ghost Value = { List Declaration };
 
     ghost view = { λ kept. kept.rows.items };
 
@@ -152,7 +151,7 @@ impl KeptRows {
 }
 
 /// Adds the numbers of the rows, or none of them.
-fn push_numbers(places: &mut Places, rows: &[Row]) -> Result<(), NoMemory>
+fn push_numbers(places: &mut Places, rows: &[Declaration]) -> Result<(), NoMemory>
     requires { list_all is_sound rows.now ≡ true }
     ensures ok { OnOk result (places.new ≡ places.old ++ map row_number rows.now) }
     ensures err { OnErr result (places.new ≡ places.old) }

@@ -2,12 +2,11 @@
 ghost use Rattle.std.specs.Prelude.{◌≡◌, ◌<◌, ◌≤◌, [], ◌∷◌, List, length, true, OnOk, OnErr, IfOk, IfSome};
 ghost use Rattle.std.specs.Str.{chars};
 ghost use Rattle.rx_terms.specs.Iri.{has_scheme};
-ghost use Rattle.rx_terms.specs.Text.{lowered};
-ghost use Rattle.rx_refs.specs.Views.{seen_slice};
+ghost use Rattle.rx_terms.specs.Text.{lowered, seen_slice};
 ghost use Rattle.rx_rdfa.specs.Tree.{Tag as StartTag};
 ghost use Rattle.rx_rdfa.specs.Names.{prefix, vocab, language, term};
 ghost use Rattle.rx_names.specs.Tags.{tag_of};
-ghost use Rattle.rx_names.specs.Lines.{no_tags, pushed, popped, Stands, prefix_of, vocabulary_of, language_of, declared_along};
+ghost use Rattle.rx_names.specs.Lines.{no_tags, pushed, popped, NamesStand, prefix_of, vocabulary_of, language_of, declared_along};
 ghost use Rattle.rx_names.specs.Views.{names_seen};
 
 use crate::contexts::Context;
@@ -41,7 +40,7 @@ impl Names {
     /// The names of the context alone, with room for so many levels of elements.
     pub fn new(alloc: Global, context: Context, levels: u32) -> Result<Names, NoMemory>
         ensures none { IfOk result (λ names. names ≡ no_tags context) }
-        ensures line { IfOk result (λ names. Stands names []) }
+        ensures line { IfOk result (λ names. NamesStand names []) }
     {
         Ok(Names {
             alloc,
@@ -54,7 +53,7 @@ impl Names {
     /// Adds the declarations of the start tag of an element inside the others.
     pub fn push(&mut self, tag: &Tag<'_>) -> Result<(), NoMemory>
         ensures ok { OnOk result (self.new ≡ pushed self.old (tag_of tag.now)) }
-        ensures line { OnOk result ((line : List StartTag) → Stands self.old line → Stands self.new (tag_of tag.now ∷ line)) }
+        ensures line { OnOk result ((line : List StartTag) → NamesStand self.old line → NamesStand self.new (tag_of tag.now ∷ line)) }
         ensures err { OnErr result (self.new ≡ self.old) }
     {
         let mut added = Rows::new(self.alloc);
@@ -72,7 +71,7 @@ impl Names {
     pub fn pop(&mut self)
         requires { 0 < length self.old.marks }
         ensures popped { self.new ≡ popped self.old }
-        ensures line { (tag : StartTag) (line : List StartTag) → Stands self.old (tag ∷ line) → Stands self.new line }
+        ensures line { (tag : StartTag) (line : List StartTag) → NamesStand self.old (tag ∷ line) → NamesStand self.new line }
     {
         if let Some(mark) = self.marks.pop() {
             self.rows.truncate(mark);
@@ -82,7 +81,7 @@ impl Names {
     /// How many declarations are kept.
     pub fn rows(&self) -> usize
         ensures count { result ≡ length self.now.rows }
-        ensures bound { (line : List StartTag) → Stands self.now line → result ≤ declared_along line }
+        ensures bound { (line : List StartTag) → NamesStand self.now line → result ≤ declared_along line }
     {
         self.rows.len()
     }
@@ -135,7 +134,7 @@ impl<'a> NamesView<'a> {
     /// the context says (RDFa Core 1.1, section 7.5, step 3).
     pub fn prefix(&self, name: &str) -> Option<&'a str>
         ensures kept { seen_slice result ≡ prefix_of (names_seen self.now) (lowered (chars name.now)) }
-        ensures line { (line : List StartTag) → Stands (names_seen self.now) line
+        ensures line { (line : List StartTag) → NamesStand (names_seen self.now) line
             → seen_slice result ≡ prefix (names_seen self.now).context line (lowered (chars name.now)) }
         ensures scheme { IfSome result (λ iri. has_scheme (chars iri.now) ≡ true) }
     {
@@ -147,7 +146,7 @@ impl<'a> NamesView<'a> {
     /// 7.5, step 2).
     pub fn vocab(&self) -> Option<&'a str>
         ensures kept { seen_slice result ≡ vocabulary_of (names_seen self.now) }
-        ensures line { (line : List StartTag) → Stands (names_seen self.now) line → seen_slice result ≡ vocab line }
+        ensures line { (line : List StartTag) → NamesStand (names_seen self.now) line → seen_slice result ≡ vocab line }
     {
         let names = self.names;
         names.vocab()
@@ -157,7 +156,7 @@ impl<'a> NamesView<'a> {
     /// 1.1, section 7.5, step 4).
     pub fn lang(&self) -> Option<&'a str>
         ensures kept { seen_slice result ≡ language_of (names_seen self.now) }
-        ensures line { (line : List StartTag) → Stands (names_seen self.now) line → seen_slice result ≡ language line }
+        ensures line { (line : List StartTag) → NamesStand (names_seen self.now) line → seen_slice result ≡ language line }
     {
         let names = self.names;
         names.lang()

@@ -11,7 +11,7 @@ use std::marker::Model;
 
 /// A declaration of a start tag.
 #[derive(Debug, Drop)]
-pub enum Row {
+pub enum Declaration {
     /// A prefix in lower case, and the IRI that it stands for.
     Prefix(Text, Text),
     /// The default vocabulary, none where the attribute is empty.
@@ -23,16 +23,16 @@ pub enum Row {
 /// The declarations of a start tag, in their order. A contract sees the list.
 #[derive(Debug, Drop)]
 pub(crate) struct Rows {
-    rows: Vec<Row>,
+    rows: Vec<Declaration>,
 }
 
 impl Model for Rows {
     ghost use Rattle.std.specs.Prelude.{◌≡◌, List, true};
     ghost use Rattle.std.specs.List.{list_all};
-    ghost use Rattle.rx_names.specs.declared.rows.Row.{Row};
+    ghost use Rattle.rx_names.specs.declared.rows.Declaration.{Declaration};
     ghost use Rattle.rx_names.specs.Rows.{is_sound};
 
-    ghost Value = { List Row };
+    ghost Value = { List Declaration };
 
     ghost view = { λ rows. rows.rows.items };
 
@@ -48,7 +48,7 @@ impl Rows {
         }
     }
 
-    pub(crate) fn push(&mut self, row: Row) -> Result<(), NoMemory>
+    pub(crate) fn push(&mut self, row: Declaration) -> Result<(), NoMemory>
         requires { is_sound row ≡ true }
         ensures ok { OnOk result (self.new ≡ self.old ++ row ∷ []) }
         ensures err { OnErr result (self.new ≡ self.old) }
@@ -60,7 +60,7 @@ impl Rows {
     }
 
     /// The rows as a list.
-    pub(crate) fn into_list(self) -> Vec<Row>
+    pub(crate) fn into_list(self) -> Vec<Declaration>
         ensures rows { result.items ≡ self }
         ensures sound { list_all is_sound result.items ≡ true }
     {
@@ -69,12 +69,11 @@ impl Rows {
     }
 }
 
-impl Row {
+impl Declaration {
     ghost use Rattle.std.specs.Prelude.{◌≡◌, true, option_map, IfSome};
     ghost use Rattle.std.specs.Str.{chars};
     ghost use Rattle.rx_terms.specs.Iri.{has_scheme};
-    ghost use Rattle.rx_terms.specs.Text.{lowered};
-    ghost use Rattle.rx_refs.specs.Views.{seen_slice};
+    ghost use Rattle.rx_terms.specs.Text.{lowered, seen_slice};
     ghost use Rattle.rx_names.specs.Rows.{is_sound, prefix_in, vocabulary_in, language_in};
     ghost use Rattle.rx_names.specs.Numbers.{row_number};
 
@@ -84,9 +83,9 @@ impl Row {
         ensures number { result ≡ row_number self.now }
     {
         match self {
-            Row::Prefix(key, _iri) => number_of(key.as_str()),
-            Row::Vocabulary(_vocabulary) => VOCABULARY,
-            Row::Language(_language) => LANGUAGE,
+            Declaration::Prefix(key, _iri) => number_of(key.as_str()),
+            Declaration::Vocabulary(_vocabulary) => VOCABULARY,
+            Declaration::Language(_language) => LANGUAGE,
         }
     }
 
@@ -97,15 +96,15 @@ impl Row {
         ensures scheme { IfSome result (λ iri. has_scheme (chars iri.now) ≡ true) }
     {
         match self {
-            Row::Prefix(key, iri) => {
+            Declaration::Prefix(key, iri) => {
                 if is_same_lowered(key.as_str(), name) {
                     Some(iri.as_str())
                 } else {
                     None
                 }
             }
-            Row::Vocabulary(_vocabulary) => None,
-            Row::Language(_language) => None,
+            Declaration::Vocabulary(_vocabulary) => None,
+            Declaration::Language(_language) => None,
         }
     }
 
@@ -114,10 +113,10 @@ impl Row {
         ensures value { option_map seen_slice result ≡ vocabulary_in self.now }
     {
         match self {
-            Row::Prefix(_key, _iri) => None,
-            Row::Vocabulary(None) => Some(None),
-            Row::Vocabulary(Some(vocabulary)) => Some(Some(vocabulary.as_str())),
-            Row::Language(_language) => None,
+            Declaration::Prefix(_key, _iri) => None,
+            Declaration::Vocabulary(None) => Some(None),
+            Declaration::Vocabulary(Some(vocabulary)) => Some(Some(vocabulary.as_str())),
+            Declaration::Language(_language) => None,
         }
     }
 
@@ -126,10 +125,10 @@ impl Row {
         ensures value { option_map seen_slice result ≡ language_in self.now }
     {
         match self {
-            Row::Prefix(_key, _iri) => None,
-            Row::Vocabulary(_vocabulary) => None,
-            Row::Language(None) => Some(None),
-            Row::Language(Some(language)) => Some(Some(language.as_str())),
+            Declaration::Prefix(_key, _iri) => None,
+            Declaration::Vocabulary(_vocabulary) => None,
+            Declaration::Language(None) => Some(None),
+            Declaration::Language(Some(language)) => Some(Some(language.as_str())),
         }
     }
 }

@@ -4,8 +4,7 @@ ghost use Rattle.std.specs.Cmp.Lexicographic.{slice_cmp};
 ghost use Rattle.std.specs.Ordering.{nat_cmp};
 ghost use Rattle.std.specs.Str.{chars};
 ghost use Rattle.rx_terms.specs.Iri.{IsIri, has_scheme};
-ghost use Rattle.rx_terms.specs.Text.{Chars, lowered};
-ghost use Rattle.rx_refs.specs.Views.{seen_slice};
+ghost use Rattle.rx_terms.specs.Text.{Chars, lowered, seen_slice};
 ghost use Rattle.rx_rdfa.specs.Names.{value_at};
 ghost use Rattle.rx_names.specs.Tables.{byte_order, rise, put, folded, IsThere, IsGap};
 

@@ -7,29 +7,28 @@ use Rattle.rx_grammar.specs.declared.faults.Fault.{Fault}
 use Rattle.rx_grammar.specs.declared.limits.Limits.{Limits}
 use Rattle.rx_grammar.specs.Items.{Item}
 use Rattle.rx_grammar.specs.Trees.{StartTag}
-use Rattle.rx_pages.specs.PageReader.{no_bytes, no_page}
+use Rattle.rx_pages.specs.PageReader.{no_bytes, no_page, Scanning}
 use Rattle.rx_scan.specs.Scanner.{Scanner}
 use Rattle.rx_scan.specs.Steps as scan
-use Rattle.rx_nest.specs.declared.lines.Own.{Own}
-use Rattle.rx_nest.specs.declared.lines.Own.TheVariants as own
-use Rattle.rx_nest.specs.declared.heard.Owed.{Owed}
-use Rattle.rx_nest.specs.declared.heard.Heard.{Heard}
-use Rattle.rx_nest.specs.declared.heard.Heard.TheVariants as heard
-use Rattle.rx_nest.specs.declared.heard.Did.{Did}
-use Rattle.rx_nest.specs.declared.heard.Did.TheVariants as did
+use Rattle.rx_nest.specs.declared.lines.TagAction.{TagAction}
+use Rattle.rx_nest.specs.declared.lines.TagAction.TheVariants as own
+use Rattle.rx_nest.specs.declared.tree_tokens.PendingEvents.{PendingEvents}
+use Rattle.rx_nest.specs.declared.tree_tokens.TreeToken.{TreeToken}
+use Rattle.rx_nest.specs.declared.tree_tokens.TreeToken.TheVariants as tree_token
+use Rattle.rx_nest.specs.declared.tree_tokens.EventKind.{EventKind}
+use Rattle.rx_nest.specs.declared.tree_tokens.EventKind.TheVariants as did
 use Rattle.rx_nest.specs.Lines.{Lines}
 use Rattle.rx_nest.specs.Signs.{Sign, sees, nothing_seen}
 use Rattle.rx_nest.specs.Follows.{flags_of, own_signs}
-use Rattle.rx_pages.specs.PageReader.{Scanning}
 use Rattle.rx_scan.proofs.MarkLemmas.{none_marked}
-use Rattle.rx_nest.specs.Heard.{first_own, own_next, next_own, next_owed, first_of, paid}
-use Rattle.rx_nest.specs.Nests.{Nested, At, Stands, Stops, Unshown, LendsStart, begins_own, IsATag, a_tag, read_before, read_now, HeardOf, DidOf, Done, DidLends, did_signs, did_more, did_skipped, heard_signs, hears_more, hears_skipped, Lends, Heeds, last_tag, owed_signs, owes_begin, left, own_left}
+use Rattle.rx_nest.specs.TreeTokens.{first_own, own_next, next_own, next_owed, first_of, paid}
+use Rattle.rx_nest.specs.Nests.{Nested, At, NestStands, Stops, Unshown, LendsStart, begins_own, IsATag, a_tag, read_before, read_now, TokenOf, DidOf, Done, DidLends, did_signs, did_more, did_skipped, heard_signs, hears_more, hears_skipped, Lends, Heeds, last_tag, owed_signs, owes_begin, left, own_left}
 use Rattle.rx_nest.proofs.TextSteps.{sees_append}
 use Rattle.rx_nest.proofs.Heeding.{front_rest}
 use Rattle.rx_nest.proofs.Sizes.{still_so}
 
 -- before the first byte
-pub new_at : (syntax : Syntax) (limits : Limits) (v : Scanner) (line : Lines) → v.reading.setting ≡ scan.first_setting syntax limits → scan.Stands v no_bytes → line ≡ record { syntax = syntax; depth = limits.depth; begun = false; levels = [] }
+pub new_at : (syntax : Syntax) (limits : Limits) (v : Scanner) (line : Lines) → v.reading.setting ≡ scan.first_setting syntax limits → scan.ScanStands v no_bytes → line ≡ record { syntax = syntax; depth = limits.depth; begun = false; levels = [] }
     → At syntax limits [] [] v line
 new_at syntax limits v line setting stands e =
     subst (λ (x : Lines). At syntax limits [] [] v x) (sym e)
@@ -49,52 +48,52 @@ some_left k = grind (arith, nat_tests)
 one_fewer : (k : ℕ) → suc k - 1 ≡ k
 one_fewer k = omega arith
 
-one_next : (k : ℕ) (o : Option Own) → next_owed (record { ends = suc k; own = o }) ≡ Some (did.Finish, record { ends = k; own = o })
+one_next : (k : ℕ) (o : Option TagAction) → next_owed (record { ends = suc k; own = o }) ≡ Some (did.Finish, record { ends = k; own = o })
 one_next k o = ap (λ b. if b then Some (did.Finish, record { ends = suc k - 1; own = o }) else next_own o) (some_left k) ∙ ap (λ n. Some (did.Finish, record { ends = n; own = o })) (one_fewer k)
 
-one_first : (k : ℕ) (o : Own) (drops : Bool) → first_of (heard.Tag (record { ends = suc k; own = o; drops = drops })) ≡ (did.Finish, record { ends = k; own = Some o })
+one_first : (k : ℕ) (o : TagAction) (drops : Bool) → first_of (tree_token.Tag (record { ends = suc k; own = o; drops = drops })) ≡ (did.Finish, record { ends = k; own = Some o })
 one_first k o drops = ap (λ b. if b then (did.Finish, record { ends = suc k - 1; own = Some o }) else first_own o) (some_left k) ∙ ap (λ n. (did.Finish, record { ends = n; own = Some o })) (one_fewer k)
 
 -- what is done first, and what is owed then
-pub record Turn (signs : List Sign) (d : Did) (owed : Owed) (v : Scanner) : Type 0 where
+pub record Turn (signs : List Sign) (d : EventKind) (owed : PendingEvents) (v : Scanner) : Type 0 where
   pub signs_are : signs ≡ did_signs d v ++ owed_signs owed (last_tag v)
   pub begin_left : owes_begin owed.own ≡ true → LendsStart v
   pub quiet : did_more d ≡ false
   pub is_read : (s : Scanning) (bytes : List ℕ) (items : List Item) → IsATag items → DidOf d v s bytes items
 
-own_turn : (o : Own) (v : Scanner) → Turn (own_signs o (last_tag v)) (first_own o).0 (first_own o).1 v
+own_turn : (o : TagAction) (v : Scanner) → Turn (own_signs o (last_tag v)) (first_own o).0 (first_own o).1 v
 own_turn own.Nothing v = record { signs_are = refl; begin_left = λ h. absurd (cc); quiet = refl; is_read = λ s bytes items t. a_tag t }
 own_turn own.Begin v = record { signs_are = refl; begin_left = λ h. absurd (cc); quiet = refl; is_read = λ s bytes items t. read_now t }
 own_turn own.Alone v = record { signs_are = refl; begin_left = λ h. absurd (cc); quiet = refl; is_read = λ s bytes items t. read_now t }
 own_turn own.Finish v = record { signs_are = refl; begin_left = λ h. absurd (cc); quiet = refl; is_read = λ s bytes items t. read_now t }
 
 -- an own that begins no element lends nothing
-own_lends : (o : Own) (v : Scanner) → (owes_begin (Some o) ≡ true → LendsStart v) → DidLends (first_own o).0 v
+own_lends : (o : TagAction) (v : Scanner) → (owes_begin (Some o) ≡ true → LendsStart v) → DidLends (first_own o).0 v
 own_lends own.Nothing v h = tt
 own_lends own.Begin v h = h refl
 own_lends own.Alone v h = h refl
 own_lends own.Finish v h = tt
 
-pub record Due (owed : Owed) (d : Did) (next : Owed) (v : Scanner) : Type 0 where
+pub record Due (owed : PendingEvents) (d : EventKind) (next : PendingEvents) (v : Scanner) : Type 0 where
   pub signs_are : owed_signs owed (last_tag v) ≡ did_signs d v ++ owed_signs next (last_tag v)
   pub lends : DidLends d v
   pub begin_left : owes_begin next.own ≡ true → LendsStart v
   pub quiet : did_more d ≡ false
   pub is_due : (s : Scanning) (bytes : List ℕ) (items : List Item) → items ≡ [] → DidOf d v s bytes items
 
-abbrev IsNext : Owed → Did → Owed → Type 0
-IsNext owed d next = ◌≡◌ {A = Option (Did × Owed)} (next_owed owed) (Some (d, next))
+abbrev IsNext : PendingEvents → EventKind → PendingEvents → Type 0
+IsNext owed d next = ◌≡◌ {A = Option (EventKind × PendingEvents)} (next_owed owed) (Some (d, next))
 
-pub due : (owed : Owed) (d : Did) (next : Owed) (v : Scanner) → IsNext owed d next → (owes_begin owed.own ≡ true → LendsStart v) → Due owed d next v
+pub due : (owed : PendingEvents) (d : EventKind) (next : PendingEvents) (v : Scanner) → IsNext owed d next → (owes_begin owed.own ≡ true → LendsStart v) → Due owed d next v
 due owed d next v h lends = by owed.ends owed.own refl refl
   where
-    by : (k : ℕ) (o : Option Own) → owed.ends ≡ k → owed.own ≡ o → Due owed d next v
+    by : (k : ℕ) (o : Option TagAction) → owed.ends ≡ k → owed.own ≡ o → Due owed d next v
     by (suc k) o e p =
         let is : next_owed owed ≡ Some (did.Finish, record { ends = k; own = o }) = ap next_owed (ap (λ x. record { ends = x; own = owed.own }) e ∙ ap (λ x. record { ends = suc k; own = x }) p) ∙ one_next k o in
-        let same : ◌≡◌ {A = Option (Did × Owed)} (Some (did.Finish, record { ends = k; own = o })) (Some (d, next)) = sym is ∙ h in
-        let pair : ◌≡◌ {A = Did × Owed} (did.Finish, record { ends = k; own = o }) (d, next) = cc in
-        let d_is : did.Finish ≡ d = ap (λ (x : Did × Owed). x.0) pair in
-        let next_is : record { ends = k; own = o } ≡ next = ap (λ (x : Did × Owed). x.1) pair in
+        let same : ◌≡◌ {A = Option (EventKind × PendingEvents)} (Some (did.Finish, record { ends = k; own = o })) (Some (d, next)) = sym is ∙ h in
+        let pair : ◌≡◌ {A = EventKind × PendingEvents} (did.Finish, record { ends = k; own = o }) (d, next) = cc in
+        let d_is : did.Finish ≡ d = ap (λ (x : EventKind × PendingEvents). x.0) pair in
+        let next_is : record { ends = k; own = o } ≡ next = ap (λ (x : EventKind × PendingEvents). x.1) pair in
         let owed_is : owed ≡ record { ends = suc k; own = o } = ap (λ x. record { ends = x; own = owed.own }) e ∙ ap (λ x. record { ends = suc k; own = x }) p in
         subst (λ x. Due owed x next v) d_is
         (subst (λ x. Due owed did.Finish x v) next_is
@@ -106,54 +105,54 @@ due owed d next v h lends = by owed.ends owed.own refl refl
         let owed_is : owed ≡ record { ends = 0; own = Some o } = ap (λ x. record { ends = x; own = owed.own }) e ∙ ap (λ x. record { ends = 0; own = x }) p in
         subst (λ x. Due x d next v) (sym owed_is) (own_due o (λ b. lends (ap owes_begin p ∙ b)) (sym is ∙ h))
       where
-        own_due : (o : Own) → (owes_begin (Some o) ≡ true → LendsStart v) → ◌≡◌ {A = Option (Did × Owed)} (own_next o) (Some (d, next)) → Due (record { ends = 0; own = Some o }) d next v
+        own_due : (o : TagAction) → (owes_begin (Some o) ≡ true → LendsStart v) → ◌≡◌ {A = Option (EventKind × PendingEvents)} (own_next o) (Some (d, next)) → Due (record { ends = 0; own = Some o }) d next v
         own_due own.Nothing l k = absurd (cc)
         own_due own.Begin l k =
-            let pair : ◌≡◌ {A = Did × Owed} (did.Begin, paid) (d, next) = cc in
-            subst (λ (x : Did × Owed). Due (record { ends = 0; own = Some own.Begin }) x.0 x.1 v) pair (record { signs_are = refl; lends = l refl; begin_left = λ b. absurd (cc); quiet = refl; is_due = λ s bytes items e. read_before e })
+            let pair : ◌≡◌ {A = EventKind × PendingEvents} (did.Begin, paid) (d, next) = cc in
+            subst (λ (x : EventKind × PendingEvents). Due (record { ends = 0; own = Some own.Begin }) x.0 x.1 v) pair (record { signs_are = refl; lends = l refl; begin_left = λ b. absurd (cc); quiet = refl; is_due = λ s bytes items e. read_before e })
         own_due own.Finish l k =
-            let pair : ◌≡◌ {A = Did × Owed} (did.Finish, paid) (d, next) = cc in
-            subst (λ (x : Did × Owed). Due (record { ends = 0; own = Some own.Finish }) x.0 x.1 v) pair (record { signs_are = refl; lends = tt; begin_left = λ b. absurd (cc); quiet = refl; is_due = λ s bytes items e. read_before e })
+            let pair : ◌≡◌ {A = EventKind × PendingEvents} (did.Finish, paid) (d, next) = cc in
+            subst (λ (x : EventKind × PendingEvents). Due (record { ends = 0; own = Some own.Finish }) x.0 x.1 v) pair (record { signs_are = refl; lends = tt; begin_left = λ b. absurd (cc); quiet = refl; is_due = λ s bytes items e. read_before e })
         own_due own.Alone l k =
-            let pair : ◌≡◌ {A = Did × Owed} (did.Begin, record { ends = 0; own = Some own.Finish }) (d, next) = cc in
-            subst (λ (x : Did × Owed). Due (record { ends = 0; own = Some own.Alone }) x.0 x.1 v) pair (record { signs_are = refl; lends = l refl; begin_left = λ b. absurd (cc); quiet = refl; is_due = λ s bytes items e. read_before e })
+            let pair : ◌≡◌ {A = EventKind × PendingEvents} (did.Begin, record { ends = 0; own = Some own.Finish }) (d, next) = cc in
+            subst (λ (x : EventKind × PendingEvents). Due (record { ends = 0; own = Some own.Alone }) x.0 x.1 v) pair (record { signs_are = refl; lends = l refl; begin_left = λ b. absurd (cc); quiet = refl; is_due = λ s bytes items e. read_before e })
 
 -- one event fewer is due, and it shows something
-pub record Fewer (owed : Owed) (d : Did) (next : Owed) : Type 0 where
+pub record Fewer (owed : PendingEvents) (d : EventKind) (next : PendingEvents) : Type 0 where
   pub one : left owed ≡ left next + 1
   pub quiet : did_more d ≡ false
   pub seen : did_skipped d ≡ false
 
-pub fewer : (owed : Owed) (d : Did) (next : Owed) → IsNext owed d next → Fewer owed d next
+pub fewer : (owed : PendingEvents) (d : EventKind) (next : PendingEvents) → IsNext owed d next → Fewer owed d next
 fewer owed d next h = by owed.ends owed.own refl refl
   where
-    by : (k : ℕ) (o : Option Own) → owed.ends ≡ k → owed.own ≡ o → Fewer owed d next
+    by : (k : ℕ) (o : Option TagAction) → owed.ends ≡ k → owed.own ≡ o → Fewer owed d next
     by (suc k) o e p =
         let is : next_owed owed ≡ Some (did.Finish, record { ends = k; own = o }) = ap next_owed (ap (λ x. record { ends = x; own = owed.own }) e ∙ ap (λ x. record { ends = suc k; own = x }) p) ∙ one_next k o in
-        let same : ◌≡◌ {A = Option (Did × Owed)} (Some (did.Finish, record { ends = k; own = o })) (Some (d, next)) = sym is ∙ h in
-        let pair : ◌≡◌ {A = Did × Owed} (did.Finish, record { ends = k; own = o }) (d, next) = cc in
+        let same : ◌≡◌ {A = Option (EventKind × PendingEvents)} (Some (did.Finish, record { ends = k; own = o })) (Some (d, next)) = sym is ∙ h in
+        let pair : ◌≡◌ {A = EventKind × PendingEvents} (did.Finish, record { ends = k; own = o }) (d, next) = cc in
         let q : own_left owed.own ≡ own_left o = ap own_left p in
-        subst (λ (x : Did × Owed). Fewer owed x.0 x.1) pair (record { one = omega (arith, e, q); quiet = refl; seen = refl })
+        subst (λ (x : EventKind × PendingEvents). Fewer owed x.0 x.1) pair (record { one = omega (arith, e, q); quiet = refl; seen = refl })
     by zero None e p = absurd (let is : next_owed owed ≡ None = rw (e, p) refl in let w : None ≡ Some (d, next) = sym is ∙ h in cc)
     by zero (Some o) e p = let is : next_owed owed ≡ own_next o = rw (e, p) refl in own_fewer o (ap own_left p) (sym is ∙ h)
       where
-        own_fewer : (o : Own) → own_left owed.own ≡ own_left (Some o) → ◌≡◌ {A = Option (Did × Owed)} (own_next o) (Some (d, next)) → Fewer owed d next
+        own_fewer : (o : TagAction) → own_left owed.own ≡ own_left (Some o) → ◌≡◌ {A = Option (EventKind × PendingEvents)} (own_next o) (Some (d, next)) → Fewer owed d next
         own_fewer own.Nothing q k = absurd (cc)
         own_fewer own.Begin q k =
-            let pair : ◌≡◌ {A = Did × Owed} (did.Begin, paid) (d, next) = cc in
-            subst (λ (x : Did × Owed). Fewer owed x.0 x.1) pair (record { one = omega (arith, e, q); quiet = refl; seen = refl })
+            let pair : ◌≡◌ {A = EventKind × PendingEvents} (did.Begin, paid) (d, next) = cc in
+            subst (λ (x : EventKind × PendingEvents). Fewer owed x.0 x.1) pair (record { one = omega (arith, e, q); quiet = refl; seen = refl })
         own_fewer own.Finish q k =
-            let pair : ◌≡◌ {A = Did × Owed} (did.Finish, paid) (d, next) = cc in
-            subst (λ (x : Did × Owed). Fewer owed x.0 x.1) pair (record { one = omega (arith, e, q); quiet = refl; seen = refl })
+            let pair : ◌≡◌ {A = EventKind × PendingEvents} (did.Finish, paid) (d, next) = cc in
+            subst (λ (x : EventKind × PendingEvents). Fewer owed x.0 x.1) pair (record { one = omega (arith, e, q); quiet = refl; seen = refl })
         own_fewer own.Alone q k =
-            let pair : ◌≡◌ {A = Did × Owed} (did.Begin, record { ends = 0; own = Some own.Finish }) (d, next) = cc in
-            subst (λ (x : Did × Owed). Fewer owed x.0 x.1) pair (record { one = omega (arith, e, q); quiet = refl; seen = refl })
+            let pair : ◌≡◌ {A = EventKind × PendingEvents} (did.Begin, record { ends = 0; own = Some own.Finish }) (d, next) = cc in
+            subst (λ (x : EventKind × PendingEvents). Fewer owed x.0 x.1) pair (record { one = omega (arith, e, q); quiet = refl; seen = refl })
 
 -- nothing is owed
-pub none_due : (owed : Owed) (t : StartTag) → next_owed owed ≡ None → owed_signs owed t ≡ []
+pub none_due : (owed : PendingEvents) (t : StartTag) → next_owed owed ≡ None → owed_signs owed t ≡ []
 none_due owed t h = by owed.ends owed.own refl refl
   where
-    by : (k : ℕ) (o : Option Own) → owed.ends ≡ k → owed.own ≡ o → owed_signs owed t ≡ []
+    by : (k : ℕ) (o : Option TagAction) → owed.ends ≡ k → owed.own ≡ o → owed_signs owed t ≡ []
     by (suc k) o e p = absurd (let is : next_owed owed ≡ Some (did.Finish, record { ends = k; own = o }) = ap next_owed (ap (λ x. record { ends = x; own = owed.own }) e ∙ ap (λ x. record { ends = suc k; own = x }) p) ∙ one_next k o in let w : None ≡ Some (did.Finish, record { ends = k; own = o }) = sym h ∙ is in cc)
     by zero None e p = rw (e, p) refl
     by zero (Some own.Nothing) e p = rw (e, p) refl
@@ -162,66 +161,66 @@ none_due owed t h = by owed.ends owed.own refl refl
     by zero (Some own.Alone) e p = absurd (let is : next_owed owed ≡ own_next own.Alone = rw (e, p) refl in let w : None ≡ own_next own.Alone = sym h ∙ is in cc)
 
 -- Behind what is skipped nothing is due.
-pub record Passed (h : Heard) : Type 0 where
+pub record Passed (h : TreeToken) : Type 0 where
   pub some : hears_more h ≡ false
   pub none : left (first_of h).1 ≡ 0
 
-pub passed_turn : (h : Heard) → did_skipped (first_of h).0 ≡ true → Passed h
-passed_turn heard.More s = absurd (cc)
-passed_turn heard.Skipped s = record { some = refl; none = refl }
-passed_turn heard.Text s = absurd (cc)
-passed_turn (heard.Tag told) s = by told.ends told.own refl refl
+pub passed_turn : (h : TreeToken) → did_skipped (first_of h).0 ≡ true → Passed h
+passed_turn tree_token.More s = absurd (cc)
+passed_turn tree_token.Skipped s = record { some = refl; none = refl }
+passed_turn tree_token.Text s = absurd (cc)
+passed_turn (tree_token.Tag told) s = by told.ends told.own refl refl
   where
-    own_passed : (o : Own) → did_skipped (first_own o).0 ≡ true → left (first_own o).1 ≡ 0
+    own_passed : (o : TagAction) → did_skipped (first_own o).0 ≡ true → left (first_own o).1 ≡ 0
     own_passed own.Nothing s = refl
     own_passed own.Begin s = absurd (cc)
     own_passed own.Finish s = absurd (cc)
     own_passed own.Alone s = absurd (cc)
 
-    by : (k : ℕ) (o : Own) → told.ends ≡ k → told.own ≡ o → Passed (heard.Tag told)
+    by : (k : ℕ) (o : TagAction) → told.ends ≡ k → told.own ≡ o → Passed (tree_token.Tag told)
     by zero o e p =
         let is : told ≡ record { ends = 0; own = o; drops = told.drops } = ap (λ x. record { ends = x; own = told.own; drops = told.drops }) e ∙ ap (λ x. record { ends = 0; own = x; drops = told.drops }) p in
-        record { some = refl; none = ap (λ x. left (first_of (heard.Tag x)).1) is ∙ own_passed o (ap (λ x. did_skipped (first_of (heard.Tag x)).0) (sym is) ∙ s) }
+        record { some = refl; none = ap (λ x. left (first_of (tree_token.Tag x)).1) is ∙ own_passed o (ap (λ x. did_skipped (first_of (tree_token.Tag x)).0) (sym is) ∙ s) }
     by (suc k) o e p =
         let is : told ≡ record { ends = suc k; own = o; drops = told.drops } = ap (λ x. record { ends = x; own = told.own; drops = told.drops }) e ∙ ap (λ x. record { ends = suc k; own = x; drops = told.drops }) p in
-        absurd (let w : false ≡ true = ap (λ (x : Did × Owed). did_skipped x.0) (sym (one_first k o told.drops)) ∙ (ap (λ x. did_skipped (first_of (heard.Tag x)).0) (sym is) ∙ s) in cc)
+        absurd (let w : false ≡ true = ap (λ (x : EventKind × PendingEvents). did_skipped x.0) (sym (one_first k o told.drops)) ∙ (ap (λ x. did_skipped (first_of (tree_token.Tag x)).0) (sym is) ∙ s) in cc)
 
 -- what was heard
-pub record First (h : Heard) (v : Scanner) : Type 0 where
+pub record First (h : TreeToken) (v : Scanner) : Type 0 where
   pub signs_are : heard_signs h v ≡ did_signs (first_of h).0 v ++ owed_signs (first_of h).1 (last_tag v)
   pub lends : DidLends (first_of h).0 v
   pub begin_left : owes_begin (first_of h).1.own ≡ true → LendsStart v
   pub more : did_more (first_of h).0 ≡ hears_more h
   pub skipped : hears_skipped h ≡ true → did_skipped (first_of h).0 ≡ true
-  pub is_read : (s : Scanning) (bytes : List ℕ) (items : List Item) → HeardOf h v s bytes items → DidOf (first_of h).0 v s bytes items
+  pub is_read : (s : Scanning) (bytes : List ℕ) (items : List Item) → TokenOf h v s bytes items → DidOf (first_of h).0 v s bytes items
 
-pub first_turn : (h : Heard) (v : Scanner) → Lends h v → First h v
-first_turn heard.More v l = record { signs_are = refl; lends = tt; begin_left = λ b. absurd (cc); more = refl; skipped = λ b. b; is_read = λ s bytes items h. h }
-first_turn heard.Skipped v l = record { signs_are = refl; lends = tt; begin_left = λ b. absurd (cc); more = refl; skipped = λ b. b; is_read = λ s bytes items h. h }
-first_turn heard.Text v l = record { signs_are = sym (append-nil (did_signs did.Text v)); lends = l; begin_left = λ b. absurd (cc); more = refl; skipped = λ b. b; is_read = λ s bytes items h. h }
-first_turn (heard.Tag told) v l = by told.ends told.own refl refl
+pub first_turn : (h : TreeToken) (v : Scanner) → Lends h v → First h v
+first_turn tree_token.More v l = record { signs_are = refl; lends = tt; begin_left = λ b. absurd (cc); more = refl; skipped = λ b. b; is_read = λ s bytes items h. h }
+first_turn tree_token.Skipped v l = record { signs_are = refl; lends = tt; begin_left = λ b. absurd (cc); more = refl; skipped = λ b. b; is_read = λ s bytes items h. h }
+first_turn tree_token.Text v l = record { signs_are = sym (append-nil (did_signs did.Text v)); lends = l; begin_left = λ b. absurd (cc); more = refl; skipped = λ b. b; is_read = λ s bytes items h. h }
+first_turn (tree_token.Tag told) v l = by told.ends told.own refl refl
   where
-    by : (k : ℕ) (o : Own) → told.ends ≡ k → told.own ≡ o → First (heard.Tag told) v
+    by : (k : ℕ) (o : TagAction) → told.ends ≡ k → told.own ≡ o → First (tree_token.Tag told) v
     by zero o e p =
         let is : told ≡ record { ends = 0; own = o; drops = told.drops } = ap (λ x. record { ends = x; own = told.own; drops = told.drops }) e ∙ ap (λ x. record { ends = 0; own = x; drops = told.drops }) p in
         let t = own_turn o v in
-        subst (λ x. First (heard.Tag x) v) (sym is) (record { signs_are = t.signs_are; lends = own_lends o v (λ b. l (ap begins_own p ∙ b)); begin_left = t.begin_left; more = t.quiet; skipped = λ b. absurd (cc); is_read = t.is_read })
+        subst (λ x. First (tree_token.Tag x) v) (sym is) (record { signs_are = t.signs_are; lends = own_lends o v (λ b. l (ap begins_own p ∙ b)); begin_left = t.begin_left; more = t.quiet; skipped = λ b. absurd (cc); is_read = t.is_read })
     by (suc k) o e p =
         let is : told ≡ record { ends = suc k; own = o; drops = told.drops } = ap (λ x. record { ends = x; own = told.own; drops = told.drops }) e ∙ ap (λ x. record { ends = suc k; own = x; drops = told.drops }) p in
         let first = one_first k o told.drops in
-        subst (λ x. First (heard.Tag x) v) (sym is)
+        subst (λ x. First (tree_token.Tag x) v) (sym is)
         (record {
-          signs_are = ap (λ (x : Did × Owed). did_signs x.0 v ++ owed_signs x.1 (last_tag v)) (sym first);
-          lends = subst (λ (x : Did × Owed). DidLends x.0 v) (sym first) tt;
-          begin_left = λ b. l (ap begins_own p ∙ (ap (λ (x : Did × Owed). owes_begin x.1.own) (sym first) ∙ b));
-          more = ap (λ (x : Did × Owed). did_more x.0) first;
+          signs_are = ap (λ (x : EventKind × PendingEvents). did_signs x.0 v ++ owed_signs x.1 (last_tag v)) (sym first);
+          lends = subst (λ (x : EventKind × PendingEvents). DidLends x.0 v) (sym first) tt;
+          begin_left = λ b. l (ap begins_own p ∙ (ap (λ (x : EventKind × PendingEvents). owes_begin x.1.own) (sym first) ∙ b));
+          more = ap (λ (x : EventKind × PendingEvents). did_more x.0) first;
           skipped = λ b. absurd (cc);
-          is_read = λ s bytes items t. subst (λ (x : Did × Owed). DidOf x.0 v s bytes items) (sym first) (read_now t);
+          is_read = λ s bytes items t. subst (λ (x : EventKind × PendingEvents). DidOf x.0 v s bytes items) (sym first) (read_now t);
         })
 
-module _ (syntax : Syntax) (limits : Limits) (old : Nested) (bytes : List ℕ) (signs : List Sign) (st : Stands syntax limits old bytes signs) (piece : List ℕ) where
+module _ (syntax : Syntax) (limits : Limits) (old : Nested) (bytes : List ℕ) (signs : List Sign) (st : NestStands syntax limits old bytes signs) (piece : List ℕ) where
   -- what is due is told
-  pub due_done : (d : Did) (next : Owed) (new : Nested) → IsNext old.owed d next → new ≡ record { scan = old.scan; line = old.line; owed = next; failed = old.failed; spent = old.spent } → Done syntax limits bytes signs piece 0 d new
+  pub due_done : (d : EventKind) (next : PendingEvents) (new : Nested) → IsNext old.owed d next → new ≡ record { scan = old.scan; line = old.line; owed = next; failed = old.failed; spent = old.spent } → Done syntax limits bytes signs piece 0 d new
   due_done d next new h e =
       let u = due old.owed d next old.scan h st.lends in
       subst (λ x. Done syntax limits bytes signs piece 0 d x) (sym e)
@@ -250,7 +249,7 @@ module _ (syntax : Syntax) (limits : Limits) (old : Nested) (bytes : List ℕ) (
       })
 
   -- what is read is told
-  pub read_done : (n : ℕ) (h : Heard) (new : Nested) → scan.TakesSome piece n (hears_more h) → next_owed old.owed ≡ None → Heeds syntax limits bytes st.told piece n h old.line new.scan new.line → new.owed ≡ (first_of h).1 → new.failed ≡ None → new.spent ≡ false
+  pub read_done : (n : ℕ) (h : TreeToken) (new : Nested) → scan.TakesSome piece n (hears_more h) → next_owed old.owed ≡ None → Heeds syntax limits bytes st.told piece n h old.line new.scan new.line → new.owed ≡ (first_of h).1 → new.failed ≡ None → new.spent ≡ false
       → Done syntax limits bytes signs piece n (first_of h).0 new
   read_done n h new takes none heeds owed failed spent =
       let f = first_turn h new.scan heeds.lends in
@@ -265,8 +264,8 @@ module _ (syntax : Syntax) (limits : Limits) (old : Nested) (bytes : List ℕ) (
               ∙ (ap (λ x. sees x heeds.events) (st.sight ∙ ap (λ x. record { flags = flags_of old.line.levels; signs = x }) paid_up)
               ∙ (heeds.shows signs
               ∙ ap (λ x. record { flags = flags_of new.line.levels; signs = x })
-              (ap (λ x. signs ++ x) f.signs_are ∙ (sym (append_assoc signs (did_signs (first_of h).0 new.scan) (owed_signs (first_of h).1 (last_tag new.scan))) ∙ ap (λ (x : Owed). (signs ++ did_signs (first_of h).0 new.scan) ++ owed_signs x (last_tag new.scan)) (sym owed)))));
-          lends = λ b. f.begin_left (ap (λ (x : Owed). owes_begin x.own) (sym owed) ∙ b);
+              (ap (λ x. signs ++ x) f.signs_are ∙ (sym (append_assoc signs (did_signs (first_of h).0 new.scan) (owed_signs (first_of h).1 (last_tag new.scan))) ∙ ap (λ (x : PendingEvents). (signs ++ did_signs (first_of h).0 new.scan) ++ owed_signs x (last_tag new.scan)) (sym owed)))));
+          lends = λ b. f.begin_left (ap (λ (x : PendingEvents). owes_begin x.own) (sym owed) ∙ b);
           unfailed = failed;
           unspent = spent;
         };

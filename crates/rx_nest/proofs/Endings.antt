@@ -1,5 +1,5 @@
 -- The end of a page.
-use Rattle.std.proofs.Common.{◌≡◌, ◌≢◌, ◌∙◌, ℕ, Bool, true, false, List, [], ◌∷◌, ◌++◌, refl, sym, ap, subst, length, Some, None, Result, Ok, Err, arith}
+use Rattle.std.proofs.Common.{◌≡◌, ◌≢◌, ◌∙◌, ℕ, Bool, true, false, List, [], ◌∷◌, ◌++◌, refl, sym, ap, subst, length, Some, None, Result, Ok, Err}
 use Rattle.std.specs.Prelude.{◌&&◌, map, take, if◌then◌else◌}
 use Rattle.std.specs.Str.{chars}
 use Rattle.rx_terms.specs.Text.{Chars}
@@ -10,29 +10,23 @@ use Rattle.rx_grammar.specs.declared.limits.Limits.{Limits}
 use Rattle.rx_grammar.specs.Items.{Item}
 use Rattle.rx_grammar.specs.PageFaults.{FaultAt}
 use Rattle.rx_pages.specs.Nesting.{Event}
-use Rattle.rx_pages.specs.PageReader.{Progress, page_read, end_of, may_end, is_over, is_none_left, fault_in, token_at}
+use Rattle.rx_pages.specs.PageReader.{Progress, page_read, end_of, may_end, is_over, fault_in, Scanning}
 use Rattle.rx_pages.proofs.OnlyPages.{found_fault}
-use Rattle.rx_tags.specs.declared.stops.Stop.{Stop}
-use Rattle.rx_tags.specs.declared.stops.Stop.TheVariants as stops
 use Rattle.rx_scan.specs.Scanner.{Scanner}
 use Rattle.rx_scan.specs.Steps as scan
 use Rattle.rx_nest.specs.Lines.{Lines, is_none_open}
 use Rattle.rx_nest.specs.Levels.{Levels}
 use Rattle.rx_nest.specs.Signs.{Sign, said, sees, nothing_seen}
 use Rattle.rx_nest.specs.Follows.{phase_at}
-use Rattle.rx_nest.specs.declared.heard.Did.{Did}
-use Rattle.rx_nest.specs.declared.heard.Did.TheVariants as did
+use Rattle.rx_nest.specs.declared.tree_tokens.EventKind.{EventKind}
+use Rattle.rx_nest.specs.declared.tree_tokens.EventKind.TheVariants as did
 use Rattle.rx_nest.specs.declared.nests.Event as shown
 use Rattle.rx_nest.specs.declared.nests.Event.TheVariants as event
-use Rattle.rx_pages.specs.PageReader.{Scanning}
-use Rattle.rx_nest.specs.Nests.{did_skipped, is_skipped, DidOf, TellsOf, Nested, At, Stands, Done, DidLends, did_signs, did_more, event_signs, is_more, Speaks, Shown, KeepsOn, Keeps, Stepped, EndsWith, Ended, last_tag, last_text, owed_signs}
+use Rattle.rx_nest.specs.Nests.{did_skipped, is_skipped, DidOf, TellsOf, Nested, At, NestStands, Done, DidLends, did_signs, did_more, event_signs, is_more, Speaks, Shown, Stepped, EndsWith, Ended, last_tag, last_text, owed_signs}
 use Rattle.rx_pages.proofs.Sizes.{read_size}
 use Rattle.rx_nest.proofs.TreeSeen.{whole}
 
 module _ (syntax : Syntax) (limits : Limits) (bytes : List ℕ) (told : List Event) (v : Scanner) (line : Lines) (at : At syntax limits bytes told v line) where
-  progress : Progress
-  progress = record { now = at.now; told = told }
-
   abbrev over_now : Bool
   over_now = line.begun && is_none_open line.levels
 
@@ -47,31 +41,14 @@ module _ (syntax : Syntax) (limits : Limits) (bytes : List ℕ) (told : List Eve
   end_is : (b : Bool) → may_end at.now ≡ b → end_of (page_read syntax limits bytes) ≡ (if b then Ok (record { now = at.now; told = told }) else Err (fault_in at.now.scan Unended))
   end_is b e = ap end_of at.read ∙ ap (λ x. if x then Ok (record { now = at.now; told = told }) else Err (fault_in at.now.scan Unended)) e
 
-  pub unwhole_ends : (fault : Fault) → fault ≡ fault_in at.now.scan Unended → (scan.IsWhole at.now.scan → ⊥) → EndsWith syntax limits bytes told (Some fault)
-  unwhole_ends fault is part = end_is false (by at.now.scan.held at.now.scan.run refl refl) ∙ ap (λ x. Err x) (sym is)
-    where
-      by : (held : _) (run : _) → at.now.scan.held ≡ held → at.now.scan.run ≡ run → (is_none_left held && is_none_left run && is_over at.now.nest.phase) ≡ false
-      by (x ∷ held) run h r = refl
-      by [] (x ∷ run) h r = refl
-      by [] [] h r = absurd (part (record { run = r; held = h }))
-
   whole_end : scan.IsWhole at.now.scan → may_end at.now ≡ over_now
   whole_end w = rw (w.run, w.held) phase_over
-
-  pub open_ends : scan.IsWhole at.now.scan → over_now ≡ false → (n : ℕ) → n ≡ at.now.scan.at → EndsWith syntax limits bytes told (Some (record { kind = Unended; token = n; at = n }))
-  open_ends w h n e = end_is false (whole_end w ∙ h) ∙ ap (λ x. Err x) (fault_is ∙ ap (λ x. record { kind = Unended; token = x; at = x }) (sym e))
-    where
-      token_is : token_at at.now.scan ≡ at.now.scan.at
-      token_is = rw (w.run, w.held) (omega arith)
-
-      fault_is : fault_in at.now.scan Unended ≡ record { kind = Unended; token = at.now.scan.at; at = at.now.scan.at }
-      fault_is = ap (λ x. record { kind = Unended; token = x; at = at.now.scan.at }) token_is
 
   pub over_ends : scan.IsWhole at.now.scan → over_now ≡ true → EndsWith syntax limits bytes told None
   over_ends w h = (record { now = at.now; told = told }, end_is true (whole_end w ∙ h), refl)
 
 -- what was told at a page's end is its tree
-module _ (syntax : Syntax) (limits : Limits) (old : Nested) (bytes : List ℕ) (signs : List Sign) (st : Stands syntax limits old bytes signs) where
+module _ (syntax : Syntax) (limits : Limits) (old : Nested) (bytes : List ℕ) (signs : List Sign) (st : NestStands syntax limits old bytes signs) where
   pub fault_ends : (fault : Fault) → EndsWith syntax limits bytes st.told (Some fault) → FaultAt syntax limits bytes fault × (fault.kind ≡ Unended) × (fault.at ≡ length bytes)
   fault_ends fault h = (found_fault syntax limits bytes fault h, ap (λ (x : Fault). x.kind) same, ap (λ (x : Fault). x.at) same ∙ (read_size syntax limits bytes (record { now = st.at.now; told = st.told }) st.at.read).0)
     where
@@ -105,7 +82,7 @@ speaks_so (event.Begin t) (c ∷ told) h n = absurd (cc)
 speaks_so event.Finish told h n = tt
 speaks_so event.Skipped told h n = tt
 
-record Tells (d : Did) (v : Scanner) (e : shown.Event) : Type 0 where
+record Tells (d : EventKind) (v : Scanner) (e : shown.Event) : Type 0 where
   signs_are : event_signs e ≡ did_signs d v
   speaks : Speaks e
   more : is_more e ≡ did_more d
@@ -120,19 +97,19 @@ not_skipped (event.Begin t) signs h n = refl
 not_skipped (event.Text text) signs h n = refl
 not_skipped event.Finish signs h n = refl
 
-tells : (d : Did) (v : Scanner) (e : shown.Event) → DidLends d v → Shown d v e → Tells d v e
+tells : (d : EventKind) (v : Scanner) (e : shown.Event) → DidLends d v → Shown d v e → Tells d v e
 tells did.More v e l s = subst (λ x. Tells did.More v x) (sym s) (record { signs_are = refl; speaks = tt; more = refl; skipped = refl; tells = λ s bytes items h. h })
 tells did.Skipped v e l s = subst (λ x. Tells did.Skipped v x) (sym s) (record { signs_are = refl; speaks = tt; more = refl; skipped = refl; tells = λ s bytes items h. h })
 tells did.Finish v e l s = subst (λ x. Tells did.Finish v x) (sym s) (record { signs_are = refl; speaks = tt; more = refl; skipped = refl; tells = λ s bytes items h. h })
 tells did.Begin v e l s = let is = s.1 l in record { signs_are = is.signs_are; speaks = is.speaks; more = s.0; skipped = not_skipped e (did_signs did.Begin v) is.signs_are (λ z. cc); tells = is.tells }
 tells did.Text v e l s = let is = s.1 l.0 in record { signs_are = is.signs_are; speaks = speaks_so e (last_text v) is.signs_are l.1; more = s.0; skipped = not_skipped e (did_signs did.Text v) is.signs_are (some_said (last_text v) l.1); tells = is.tells }
 
-pub stepped : (syntax : Syntax) (limits : Limits) (bytes : List ℕ) (signs : List Sign) (piece : List ℕ) (n : ℕ) (d : Did) (e : shown.Event) (new : Nested) → Done syntax limits bytes signs piece n d new → Shown d new.scan e → Stepped syntax limits bytes signs piece n e new
+pub stepped : (syntax : Syntax) (limits : Limits) (bytes : List ℕ) (signs : List Sign) (piece : List ℕ) (n : ℕ) (d : EventKind) (e : shown.Event) (new : Nested) → Done syntax limits bytes signs piece n d new → Shown d new.scan e → Stepped syntax limits bytes signs piece n e new
 stepped syntax limits bytes signs piece n d e new done s =
     let t = tells d new.scan e done.lends s in
     record {
       fits = done.fits;
-      stands = subst (λ x. Stands syntax limits new (bytes ++ take n piece) (signs ++ x)) (sym t.signs_are) done.stands;
+      stands = subst (λ x. NestStands syntax limits new (bytes ++ take n piece) (signs ++ x)) (sym t.signs_are) done.stands;
       speaks = t.speaks;
       all = λ m. done.all (sym t.more ∙ m);
       passed = λ m. done.passed (sym t.skipped ∙ m);
@@ -148,13 +125,9 @@ stepped syntax limits bytes signs piece n d e new done s =
     }
 
 -- an event is nothing exactly where nothing was done
-pub shown_more : (d : Did) (v : Scanner) (e : shown.Event) → Shown d v e → is_more e ≡ did_more d
+pub shown_more : (d : EventKind) (v : Scanner) (e : shown.Event) → Shown d v e → is_more e ≡ did_more d
 shown_more did.More v e s = ap is_more s
 shown_more did.Skipped v e s = ap is_more s
 shown_more did.Finish v e s = ap is_more s
 shown_more did.Begin v e s = s.0
 shown_more did.Text v e s = s.0
-
-pub keeps_stop : (old : Nested) (piece : List ℕ) (stop : Stop) (new : Nested) → KeepsOn old piece (Err stop) new → Keeps old piece (Err stop) new
-keeps_stop old piece (stops.Fault fault) new k = k
-keeps_stop old piece stops.NoMemory new k = k

@@ -4,7 +4,7 @@ use Rattle.std.proofs.lemmas.Bool.Decides.{nat_tests}
 use Rattle.std.specs.Prelude.{◌&&◌, not, map, nat_le, if◌then◌else◌}
 use Rattle.rx_terms.specs.Text.{Chars}
 use Rattle.rx_chars.specs.declared.syntax.Syntax.{Syntax}
-use Rattle.rx_reader.proofs.Bools.{by_test}
+use Rattle.rx_terms.proofs.Bools.{by_test}
 use Rattle.rx_grammar.specs.declared.faults.Fault.{Fault}
 use Rattle.rx_grammar.specs.declared.faults.Kind.{Kind}
 use Rattle.rx_grammar.specs.declared.limits.Limits.{Limits}
@@ -21,7 +21,7 @@ use Rattle.rx_pages.specs.Nesting.{Event, begins, says, finishes, Nesting, Step,
 use Rattle.rx_pages.specs.PageReader.{Scanned, Progress, spot_of, read_byte, with_events, steps_on, no_step, progress_of, nested_items, page_byte_on, telling, page_on, page_read, nothing_read}
 use Rattle.rx_pages.proofs.FaultWalk.{fault_stays}
 use Rattle.rx_nest.specs.Signs.{Sign, begun, said, finished, Flags, is_hidden, Sight, see, sees, nothing_seen}
-use Rattle.rx_nest.specs.Nests.{Nested, Stands, owed_signs, last_tag}
+use Rattle.rx_nest.specs.Nests.{Nested, NestStands, owed_signs, last_tag}
 use Rattle.rx_nest.specs.Fronts.{Front, unbegun, inside, over as ended, goes, goes_on, front_of, levels_of, IsFront}
 
 -- the signs lead from one front to another, at no time past the limit
@@ -423,7 +423,7 @@ module _ (syntax : Syntax) (limits : Limits) where
   page_held : (bytes : List ℕ) (q : Progress) → page_read syntax limits bytes ≡ Ok q → HeldAt q
   page_held bytes q e = bytes_held bytes nothing_read q (record { has_begun = false; shown = record { along = refl; deep = refl; sized = omega arith; well = tt; none = λ z. refl }; phase_at = refl }) e
 
-pub shows_one : (syntax : Syntax) (limits : Limits) (nest : Nested) (bytes : List ℕ) (signs : List Sign) → Stands syntax limits nest bytes signs → IsFront limits.depth signs
+pub shows_one : (syntax : Syntax) (limits : Limits) (nest : Nested) (bytes : List ℕ) (signs : List Sign) → NestStands syntax limits nest bytes signs → IsFront limits.depth signs
 shows_one syntax limits nest bytes signs st =
     let h = page_held syntax limits bytes (record { now = st.at.now; told = st.told }) st.at.read in
     let all : Along limits.depth unbegun (signs ++ owed_signs nest.owed (last_tag nest.scan)) (front_at h.has_begun (sees nothing_seen st.told).flags) =

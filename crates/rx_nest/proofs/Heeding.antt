@@ -25,7 +25,7 @@ use Rattle.rx_scan.specs.declared.places.Setting.{Setting}
 use Rattle.rx_scan.specs.Scanner.{Scanner}
 use Rattle.rx_scan.specs.Steps.{HasMark, mark_bytes, IsOne, IsTag, Skips, a_mark, a_comment, an_empty_section, a_line_feed, texts_of, keeps_first, after_some, ends_leading, setting_behind, Faults, is_more}
 use Rattle.rx_scan.specs.Steps as scan
-use Rattle.rx_nest.specs.declared.heard.Heard.{Heard}
+use Rattle.rx_nest.specs.declared.tree_tokens.TreeToken.{TreeToken}
 use Rattle.rx_nest.specs.Lines.{Lines, says_text, is_none_open}
 use Rattle.rx_nest.specs.Levels.{Levels, hidden_under}
 use Rattle.rx_nest.specs.Signs.{Sign, said, is_hidden, sees}
@@ -120,7 +120,7 @@ module _ (syntax : Syntax) (limits : Limits) (bytes : List ℕ) (told : List Eve
   follows_same : (m : Nesting) → m.line ≡ nest.line → m.phase ≡ nest.phase → Follows line m
   follows_same m l p = record { levels_are = subst (λ (x : Line). AreLevels line.syntax line.levels x) (sym l) at.follows.levels_are; stood = at.follows.stood; phase_is = p ∙ at.follows.phase_is; none_yet = at.follows.none_yet }
 
-  module _ (xs : List ℕ) (mid : Scanner) (next : Scanning) (items : List Item) (reads : scan_from syntax limits spot s xs ≡ Ok (record { next = next; items = items })) (stands : scan.Stands mid next) where
+  module _ (xs : List ℕ) (mid : Scanner) (next : Scanning) (items : List Item) (reads : scan_from syntax limits spot s xs ≡ Ok (record { next = next; items = items })) (stands : scan.ScanStands mid next) where
     -- tokens that leave the elements as they are
     module _ (shown : Bool → List Sign) (q : Quiet syntax limits spot nest items shown) where
       pub quiet_at : mid.reading.setting ≡ setting_by nest.line nest.phase (if is_none_left items then nest.drops else false) → At syntax limits (bytes ++ xs) (told ++ q.step.events) mid line
@@ -137,7 +137,7 @@ module _ (syntax : Syntax) (limits : Limits) (bytes : List ℕ) (told : List Eve
             depth_is = at.depth_is;
           }
 
-      pub quiet_shows : (h : Heard) → shown (is_hidden (flags_of line.levels)) ≡ heard_signs h mid → (signs : List Sign) → sees (record { flags = flags_of line.levels; signs = signs }) q.step.events ≡ record { flags = flags_of line.levels; signs = signs ++ heard_signs h mid }
+      pub quiet_shows : (h : TreeToken) → shown (is_hidden (flags_of line.levels)) ≡ heard_signs h mid → (signs : List Sign) → sees (record { flags = flags_of line.levels; signs = signs }) q.step.events ≡ record { flags = flags_of line.levels; signs = signs ++ heard_signs h mid }
       quiet_shows h e signs = q.shows (flags_of line.levels) signs ∙ ap (λ x. record { flags = flags_of line.levels; signs = signs ++ x }) e
 
   -- text shows where an element is open that doesn't hide it
@@ -220,7 +220,7 @@ module _ (syntax : Syntax) (limits : Limits) (bytes : List ℕ) (told : List Eve
                 ∙ (p.read ∙ (ap (λ (z : Step). from_there syntax limits spot next z.next ((told ++ []) ++ z.events)) none ∙ ap (λ z. from_there syntax limits spot next doctype_next.next z) (append-nil (told ++ [])))))));
           }
 
-      pub doctype_at : (mid : Scanner) → scan.Stands mid next → mid.reading.setting ≡ setting_behind token.Doctype v.reading.setting (item ∷ []) → At syntax limits (bytes ++ xs) (told ++ []) mid line
+      pub doctype_at : (mid : Scanner) → scan.ScanStands mid next → mid.reading.setting ≡ setting_behind token.Doctype v.reading.setting (item ∷ []) → At syntax limits (bytes ++ xs) (told ++ []) mid line
       doctype_at mid stands e =
           record {
             now = record { scan = next; nest = doctype_next.next };

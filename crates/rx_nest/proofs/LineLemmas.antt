@@ -3,7 +3,7 @@ use Rattle.std.proofs.Common.{◌≡◌, ◌∙◌, ℕ, suc, ◌+◌, Bool, tru
 use Rattle.std.specs.Prelude.{◌&&◌, not}
 use Rattle.rx_terms.specs.Text.{Chars}
 use Rattle.rx_chars.specs.declared.syntax.Syntax.{Syntax}
-use Rattle.rx_reader.proofs.Bools.{by_test}
+use Rattle.rx_terms.proofs.Bools.{by_test}
 use Rattle.rx_grammar.specs.Names.{same, is_among}
 use Rattle.rx_grammar.specs.Contents.{Place, is_html}
 use Rattle.rx_grammar.specs.Omission.{enders, names_of, has_row, is_omissible, is_held}
@@ -79,10 +79,6 @@ module _ (syntax : Syntax) where
       by_test (ends_by true name level)
       (λ e. rw (e, sym (end_test name level levels t above h) ∙ e) (end_kept name levels above h.4))
       (λ e. rw (e, sym (end_test name level levels t above h) ∙ e) h)
-
--- one element ends, and more
-abbrev finish_all : ℕ → List Sign → List Sign
-finish_all n signs = signs ++ finishing n
 
 append_assoc : (a b c : List Sign) → (a ++ b) ++ c ≡ a ++ (b ++ c)
 append_assoc [] b c = refl

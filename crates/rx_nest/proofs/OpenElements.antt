@@ -13,19 +13,19 @@ use Rattle.rx_pages.specs.PageReader.{Scanned, Progress, read_byte, scan_from, s
 use Rattle.rx_pages.specs.Fronts.{ReadsTo}
 use Rattle.rx_pages.proofs.ScanSteps.{page_append}
 use Rattle.rx_pages.proofs.Underway.{reads_to, nothing_unfinished, unfinished_follows_front}
-use Rattle.rx_tags.specs.declared.stops.Stop.{Stop}
-use Rattle.rx_tags.specs.declared.stops.Stop.TheVariants as stop
+use Rattle.rx_grammar.specs.declared.stops.Stop.{Stop}
+use Rattle.rx_grammar.specs.declared.stops.Stop.TheVariants as stop
 use Rattle.rx_tags.specs.declared.tags.Tag.{Tag}
 use Rattle.rx_tags.specs.Seen.{tag_seen}
 use Rattle.rx_scan.specs.Scanner.{Scanner}
 use Rattle.rx_scan.specs.declared.answers.Token.{Token}
 use Rattle.rx_scan.specs.declared.answers.Token.TheVariants as token
-use Rattle.rx_nest.specs.declared.lines.Told.{Told}
+use Rattle.rx_nest.specs.declared.lines.TagEffect.{TagEffect}
 use Rattle.rx_nest.specs.declared.lines.Refused.{Refused}
 use Rattle.rx_nest.specs.declared.lines.Refused.TheVariants as refused
 use Rattle.rx_nest.specs.Lines.{Lines, TagGives, GivesBy}
 use Rattle.rx_nest.specs.Follows.{AreLevels}
-use Rattle.rx_nest.specs.Heard.{Hears, heard_of}
+use Rattle.rx_nest.specs.TreeTokens.{TakesToken, token_result}
 use Rattle.rx_nest.specs.Nests.{At, Stops, StaysAtFault, OpenBefore}
 use Rattle.rx_nest.specs.OpenElements.{HasOpen, HasOpenUnderway, HasOpenOfFronts}
 use Rattle.rx_nest.proofs.LineLemmas.{length_is}
@@ -39,16 +39,16 @@ tag_stays : (closing : Bool) (old new : Lines) (t : _) (kind : Kind) → GivesBy
 tag_stays true old new t kind g = g.1
 tag_stays false old new t kind g = g.1
 
-pub stays_heard : (A : Type 0) (why : Stop) (old new : Lines) (t : Token) → Hears old t (Err why) new → StaysAtFault {A = A} (Err why) old new
+pub stays_heard : (A : Type 0) (why : Stop) (old new : Lines) (t : Token) → TakesToken old t (Err why) new → StaysAtFault {A = A} (Err why) old new
 stays_heard A stop.NoMemory old new t h = tt
 stays_heard A (stop.Fault fault) old new t h = by t h
   where
-    by_tag : (g : Tag) (taken : Result Told Refused) → Err (stop.Fault fault) ≡ heard_of g taken → TagGives old (tag_seen g) taken new → new ≡ old
+    by_tag : (g : Tag) (taken : Result TagEffect Refused) → Err (stop.Fault fault) ≡ token_result g taken → TagGives old (tag_seen g) taken new → new ≡ old
     by_tag g (Ok told) e gives = absurd (cc)
     by_tag g (Err (refused.Fault kind)) e gives = tag_stays (tag_seen g).closing old new (tag_seen g) kind gives
     by_tag g (Err refused.NoMemory) e gives = absurd (cc)
 
-    by : (x : Token) → Hears old x (Err (stop.Fault fault)) new → new ≡ old
+    by : (x : Token) → TakesToken old x (Err (stop.Fault fault)) new → new ≡ old
     by token.More k = k.1
     by token.Skipped k = k.1
     by token.Doctype k = k.1

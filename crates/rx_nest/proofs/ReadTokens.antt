@@ -5,7 +5,7 @@ use Rattle.std.specs.Str.{chars}
 use Rattle.rx_terms.specs.Text.{Chars}
 use Rattle.rx_chars.specs.declared.syntax.Syntax.{Syntax}
 use Rattle.rx_chars.specs.declared.syntax.Syntax.TheVariants.{Html, Xhtml}
-use Rattle.rx_reader.proofs.Bools.{by_test}
+use Rattle.rx_terms.proofs.Bools.{by_test}
 use Rattle.rx_grammar.specs.declared.contents.Content.{Content}
 use Rattle.rx_grammar.specs.declared.contents.Content.TheVariants as content
 use Rattle.rx_grammar.specs.declared.contents.RawName.{RawName}
@@ -14,14 +14,13 @@ use Rattle.rx_grammar.specs.declared.faults.Kind.{Kind}
 use Rattle.rx_grammar.specs.declared.limits.Limits.{Limits}
 use Rattle.rx_grammar.specs.Names.{same, is_among, name_of_raw}
 use Rattle.rx_grammar.specs.Tokens as tokens
-use Rattle.rx_grammar.specs.Tokens.{tag}
 use Rattle.rx_grammar.specs.Contents.{Place, inside_at, inside_html, inside_foreign, in_html, raw_place, raw_names, rcdata_names, html_in_svg}
 use Rattle.rx_grammar.specs.Items.{Item}
 use Rattle.rx_grammar.specs.Begun.{Line, inside_of}
 use Rattle.rx_pages.specs.Nesting.{Event, Nesting, Step, content_at, nest_step}
 use Rattle.rx_pages.specs.PageReader.{Spot, spot_of, Scanning, scan_from, may_lead, Progress}
-use Rattle.rx_tags.specs.declared.stops.Stop.{Stop}
-use Rattle.rx_tags.specs.declared.stops.Stop.TheVariants as stop
+use Rattle.rx_grammar.specs.declared.stops.Stop.{Stop}
+use Rattle.rx_grammar.specs.declared.stops.Stop.TheVariants as stop
 use Rattle.rx_tags.specs.declared.tags.Tag.{Tag}
 use Rattle.rx_tags.specs.Seen.{tag_seen}
 use Rattle.rx_scan.specs.declared.answers.What.{What}
@@ -31,19 +30,19 @@ use Rattle.rx_scan.specs.declared.answers.Token.TheVariants as token
 use Rattle.rx_scan.specs.declared.places.Setting.{Setting}
 use Rattle.rx_scan.specs.Scanner.{Scanner}
 use Rattle.rx_scan.specs.Entries.{IsNoMemory}
-use Rattle.rx_scan.specs.Steps.{shows_tag, shows_skipped, texts_of, IsOne, IsTag, Skips, a_mark, a_comment, an_empty_section, a_line_feed, Are, Shows, ShowsTag, after_some, ends_leading, setting_behind, is_more, is_of_syntax}
+use Rattle.rx_scan.specs.Steps.{shows_tag, shows_skipped, texts_of, IsTag, Skips, a_mark, a_comment, an_empty_section, a_line_feed, Are, Shows, ShowsTag, ends_leading, setting_behind, is_more, is_of_syntax}
 use Rattle.rx_scan.specs.Steps as scan
-use Rattle.rx_nest.specs.declared.heard.Heard.{Heard}
-use Rattle.rx_nest.specs.declared.heard.Heard.TheVariants as heard
-use Rattle.rx_nest.specs.declared.lines.Told.{Told}
+use Rattle.rx_nest.specs.declared.tree_tokens.TreeToken.{TreeToken}
+use Rattle.rx_nest.specs.declared.tree_tokens.TreeToken.TheVariants as tree_token
+use Rattle.rx_nest.specs.declared.lines.TagEffect.{TagEffect}
 use Rattle.rx_nest.specs.declared.lines.Refused.{Refused}
 use Rattle.rx_nest.specs.declared.lines.Refused.TheVariants as refused
 use Rattle.rx_nest.specs.Lines.{Lines, TagGives, GivesBy, Begins, Ends, own_of_end, shown_under, says_text, is_none_open}
 use Rattle.rx_nest.specs.Levels.{Levels, place_under, kept, ends_by}
 use Rattle.rx_nest.specs.Signs.{Sign, said, is_hidden, finishing}
 use Rattle.rx_nest.specs.Follows.{Follows, flags_of, phase_at, own_signs, own_tag, tag_by}
-use Rattle.rx_nest.specs.Heard.{Hears, HearsTag, heard_of}
-use Rattle.rx_nest.specs.Nests.{Stops, IsBetween, begins_own, IsATag, hears_skipped, a_skipped_one, a_doctype, some_text, HeardOf, Completes, At, setting_of, start_seen, heard_signs, Lends, is_tag_heard, hears_more, Heeds, ReadGives, last_text, has_text, last_tag}
+use Rattle.rx_nest.specs.TreeTokens.{TakesToken, TakesTag, token_result}
+use Rattle.rx_nest.specs.Nests.{Stops, IsBetween, begins_own, IsATag, hears_skipped, a_skipped_one, a_doctype, some_text, TokenOf, Completes, At, setting_of, start_seen, heard_signs, Lends, is_tag_heard, hears_more, Heeds, ReadGives, last_text, has_text, last_tag}
 use Rattle.rx_nest.proofs.LineLemmas.{place_is}
 use Rattle.rx_nest.proofs.Takes.{Taken, tag_steps}
 use Rattle.rx_nest.proofs.TextSteps.{said_by, Quiet, none_quiet, texts_quiet, comment_quiet, empty_quiet, line_feed_quiet}
@@ -108,26 +107,26 @@ module _ where
   inside_is Xhtml (t ∷ above) = refl
 
 -- nothing is heard exactly where no token is complete
-pub more_same : (t : Token) (h : Heard) (old new : Lines) → Hears old t (Ok h) new → is_more t ≡ hears_more h
+pub more_same : (t : Token) (h : TreeToken) (old new : Lines) → TakesToken old t (Ok h) new → is_more t ≡ hears_more h
 more_same t h old new hears = by t hears
   where
-    same : (a : Heard) → ◌≡◌ {A = Result Heard Stop} (Ok h) (Ok a) → a ≡ h
+    same : (a : TreeToken) → ◌≡◌ {A = Result TreeToken Stop} (Ok h) (Ok a) → a ≡ h
     same a e = cc
 
-    text_more : (says : Bool) → false ≡ hears_more (if says then heard.Text else heard.Skipped)
+    text_more : (says : Bool) → false ≡ hears_more (if says then tree_token.Text else tree_token.Skipped)
     text_more true = refl
     text_more false = refl
 
-    tag_more : (g : Tag) (taken : Result Told Refused) → ◌≡◌ {A = Result Heard Stop} (Ok h) (heard_of g taken) → false ≡ hears_more h
-    tag_more g (Ok tells) e = ap hears_more (same (heard.Tag tells) e)
+    tag_more : (g : Tag) (taken : Result TagEffect Refused) → ◌≡◌ {A = Result TreeToken Stop} (Ok h) (token_result g taken) → false ≡ hears_more h
+    tag_more g (Ok tells) e = ap hears_more (same (tree_token.Tag tells) e)
     tag_more g (Err (refused.Fault kind)) e = absurd (cc)
     tag_more g (Err refused.NoMemory) e = absurd (cc)
 
-    by : (x : Token) → Hears old x (Ok h) new → is_more x ≡ hears_more h
-    by token.More k = ap hears_more (same heard.More k.0)
-    by token.Skipped k = ap hears_more (same heard.Skipped k.0)
-    by token.Doctype k = ap hears_more (same heard.Skipped k.0)
-    by (token.Text text) k = text_more (says_text old) ∙ ap hears_more (same (if says_text old then heard.Text else heard.Skipped) k.0)
+    by : (x : Token) → TakesToken old x (Ok h) new → is_more x ≡ hears_more h
+    by token.More k = ap hears_more (same tree_token.More k.0)
+    by token.Skipped k = ap hears_more (same tree_token.Skipped k.0)
+    by token.Doctype k = ap hears_more (same tree_token.Skipped k.0)
+    by (token.Text text) k = text_more (says_text old) ∙ ap hears_more (same (if says_text old then tree_token.Text else tree_token.Skipped) k.0)
     by (token.Start g) k = tag_more g k.taken k.is
     by (token.End g) k = tag_more g k.taken k.is
 
@@ -174,7 +173,7 @@ module _ (syntax : Syntax) (limits : Limits) (bytes : List ℕ) (told : List Eve
     unskipped e f h = absurd (let w : true ≡ false = sym h ∙ (ap shows_skipped e ∙ f) in cc)
 
     -- tokens that leave the elements as they are
-    quiet_heeds : (h : Heard) (shown : Bool → List Sign) → Quiet syntax limits spot nest items shown → ends_leading t ≡ false → shown (is_hidden (flags_of line.levels)) ≡ heard_signs h mid → Lends h mid → (hears_more h ≡ true → n ≡ length piece) → (shows_skipped t ≡ true → hears_skipped h ≡ true) → HeardOf h mid s front items
+    quiet_heeds : (h : TreeToken) (shown : Bool → List Sign) → Quiet syntax limits spot nest items shown → ends_leading t ≡ false → shown (is_hidden (flags_of line.levels)) ≡ heard_signs h mid → Lends h mid → (hears_more h ≡ true → n ≡ length piece) → (shows_skipped t ≡ true → hears_skipped h ≡ true) → TokenOf h mid s front items
         → Heeds syntax limits bytes told piece n h line mid line
     quiet_heeds h shown q l e lends all k tells =
         record {
@@ -184,16 +183,16 @@ module _ (syntax : Syntax) (limits : Limits) (bytes : List ℕ) (told : List Eve
           shows = quiet_shows syntax limits bytes told v line at front mid st.scanned.next items reads st.stands shown q h e;
           lends = lends;
           all = all;
-          tokens = tokens_of (hears_skipped h) (HeardOf h mid) k tells;
+          tokens = tokens_of (hears_skipped h) (TokenOf h mid) k tells;
         }
 
     quiet_of : (shown : Bool → List Sign) (other : List Item) → items ≡ other → Quiet syntax limits spot nest other shown → Quiet syntax limits spot nest items shown
     quiet_of shown other e q = subst (λ i. Quiet syntax limits spot nest i shown) (sym e) q
 
-    more_heeds : t ≡ token.More → Heeds syntax limits bytes told piece n heard.More line mid line
+    more_heeds : t ≡ token.More → Heeds syntax limits bytes told piece n tree_token.More line mid line
     more_heeds e =
         let none : items ≡ [] = subst (λ x. Are v.reading.setting.drops x s front items) e st.are in
-        quiet_heeds heard.More (λ hidden. []) (quiet_of (λ hidden. []) [] none (none_quiet syntax limits spot nest refl)) (ap ends_leading e) refl tt (λ h. st.all (ap is_more e)) (unskipped e refl) none
+        quiet_heeds tree_token.More (λ hidden. []) (quiet_of (λ hidden. []) [] none (none_quiet syntax limits spot nest refl)) (ap ends_leading e) refl tt (λ h. st.all (ap is_more e)) (unskipped e refl) none
 
     abbrev silent : Bool → List Sign
     silent hidden = []
@@ -204,13 +203,13 @@ module _ (syntax : Syntax) (limits : Limits) (bytes : List ℕ) (told : List Eve
     skips_quiet (an_empty_section o) = quiet_of silent (o.item ∷ []) o.one (empty_quiet syntax limits spot nest o.item refl o.is)
     skips_quiet (a_line_feed item d one l) = quiet_of silent (item ∷ []) one (line_feed_quiet syntax limits spot nest item refl (ap (λ (x : Setting). x.drops) (sym at.setting) ∙ d) l)
 
-    skip_heeds : t ≡ token.Skipped → Heeds syntax limits bytes told piece n heard.Skipped line mid line
+    skip_heeds : t ≡ token.Skipped → Heeds syntax limits bytes told piece n tree_token.Skipped line mid line
     skip_heeds e =
         let skips = subst (λ x. Are v.reading.setting.drops x s front items) e st.are in
-        quiet_heeds heard.Skipped silent (skips_quiet skips) (ap ends_leading e) refl tt (λ h. absurd (cc)) (λ h. refl) (a_skipped_one v.reading.setting.drops skips)
+        quiet_heeds tree_token.Skipped silent (skips_quiet skips) (ap ends_leading e) refl tt (λ h. absurd (cc)) (λ h. refl) (a_skipped_one v.reading.setting.drops skips)
 
-    abbrev text_heard : Bool → Heard
-    text_heard says = if says then heard.Text else heard.Skipped
+    abbrev text_heard : Bool → TreeToken
+    text_heard says = if says then tree_token.Text else tree_token.Skipped
 
     text_signs : (says : Bool) (text : Chars) → text ≡ last_text mid → (if says then map said text else []) ≡ heard_signs (text_heard says) mid
     text_signs true text e = ap (λ x. map said x) e
@@ -220,7 +219,7 @@ module _ (syntax : Syntax) (limits : Limits) (bytes : List ℕ) (told : List Eve
     text_lends true h = h
     text_lends false h = tt
 
-    text_of : (says : Bool) (text : Chars) → text ≡ last_text mid → text ≢ [] → texts_of items ≡ Some text → HeardOf (text_heard says) mid s front items
+    text_of : (says : Bool) (text : Chars) → text ≡ last_text mid → text ≢ [] → texts_of items ≡ Some text → TokenOf (text_heard says) mid s front items
     text_of true text e some h = h ∙ ap (λ x. Some x) e
     text_of false text e some h = some_text text h some
 
@@ -237,7 +236,7 @@ module _ (syntax : Syntax) (limits : Limits) (bytes : List ℕ) (told : List Eve
         (said_is syntax limits bytes told v line at (chars text.now) ∙ text_signs (says_text line) (chars text.now) is.0) (text_lends (says_text line) (is.1, λ h. are.1 (is.0 ∙ h))) (never_more (says_text line)) (unskipped e refl)
         (text_of (says_text line) (chars text.now) is.0 are.1 are.0)
 
-    doctype_heeds : t ≡ token.Doctype → Heeds syntax limits bytes told piece n heard.Skipped line mid line
+    doctype_heeds : t ≡ token.Doctype → Heeds syntax limits bytes told piece n tree_token.Skipped line mid line
     doctype_heeds e =
         let one = subst (λ x. Are v.reading.setting.drops x s front items) e st.are in
         let reads_one : scan_from syntax limits spot s front ≡ Ok (record { next = st.scanned.next; items = one.item ∷ [] }) = reads ∙ ap (λ i. Ok (record { next = st.scanned.next; items = i })) one.one in
@@ -249,7 +248,7 @@ module _ (syntax : Syntax) (limits : Limits) (bytes : List ℕ) (told : List Eve
           shows = λ signs. ap (λ x. record { flags = flags_of line.levels; signs = x }) (sym (append-nil signs));
           lends = tt;
           all = λ h. absurd (cc);
-          tokens = tokens_of true (HeardOf heard.Skipped mid) (unskipped e refl) (a_doctype one);
+          tokens = tokens_of true (TokenOf tree_token.Skipped mid) (unskipped e refl) (a_doctype one);
         }
 
     -- a tag
@@ -268,10 +267,10 @@ module _ (syntax : Syntax) (limits : Limits) (bytes : List ℕ) (told : List Eve
           let steps : nest_step line.syntax line.depth nest item ≡ Err kind = tag_steps line new nest item (tag_seen g) (Err (refused.Fault kind)) at.follows is.is gives in
           tag_stops syntax limits bytes told v line at front st.scanned.next item reads_tag g is.is is.first_is is.last_is ends kind (steps_as (Err kind) steps) piece (drop n piece) (sym (front_rest n piece)) (λ rest m. unskips (st.mark rest m).0)
 
-      pub hears_refused : (fault : Fault) → HearsTag line g (Err (stop.Fault fault)) new → (shows_skipped t ≡ true → ⊥) → Stops syntax limits bytes told piece fault
+      pub hears_refused : (fault : Fault) → TakesTag line g (Err (stop.Fault fault)) new → (shows_skipped t ≡ true → ⊥) → Stops syntax limits bytes told piece fault
       hears_refused fault h unskips = by h.taken h.is h.gives
         where
-          by : (taken : Result Told Refused) → Err (stop.Fault fault) ≡ heard_of g taken → TagGives line (tag_seen g) taken new → Stops syntax limits bytes told piece fault
+          by : (taken : Result TagEffect Refused) → Err (stop.Fault fault) ≡ token_result g taken → TagGives line (tag_seen g) taken new → Stops syntax limits bytes told piece fault
           by (Ok told) e gives = absurd (cc)
           by (Err refused.NoMemory) e gives = absurd (let w : Err (stop.Fault fault) ≡ Err stop.NoMemory = e in cc)
           by (Err (refused.Fault kind)) e gives =
@@ -279,7 +278,7 @@ module _ (syntax : Syntax) (limits : Limits) (bytes : List ℕ) (told : List Eve
               subst (λ f. Stops syntax limits bytes told piece f) (sym same) (tag_refused kind gives unskips)
 
       -- the elements after it
-      module _ (tells : Told) (taken : Taken line nest item tells new) (b : Becomes line new) (closing : Bool) (shown : TagShown mid closing g) (no_lead : (if ends_leading t then false else may_lead nest.phase) ≡ false) (opening : begins_own tells.own ≡ true → closing ≡ false) (unmarked : shows_skipped t ≡ true → false ≡ true) where
+      module _ (tells : TagEffect) (taken : Taken line nest item tells new) (b : Becomes line new) (closing : Bool) (shown : TagShown mid closing g) (no_lead : (if ends_leading t then false else may_lead nest.phase) ≡ false) (opening : begins_own tells.own ≡ true → closing ≡ false) (unmarked : shows_skipped t ≡ true → false ≡ true) where
         abbrev step : Step
         step = taken.step
 
@@ -299,9 +298,6 @@ module _ (syntax : Syntax) (limits : Limits) (bytes : List ℕ) (told : List Eve
             by [] = refl
             by (level ∷ levels) = refl
 
-        setting_by : Setting → Bool → Setting
-        setting_by x d = record { syntax = x.syntax; limits = x.limits; inside = inside; leads = x.leads; drops = d }
-
         mid_setting : mid.reading.setting ≡ setting_behind t (setting_of syntax limits nest) (item ∷ [])
         mid_setting = st.setting ∙ (ap (λ i. setting_behind t v.reading.setting i) is.one ∙ ap (λ x. setting_behind t x (item ∷ [])) at.setting)
 
@@ -319,7 +315,7 @@ module _ (syntax : Syntax) (limits : Limits) (bytes : List ℕ) (told : List Eve
             ∙ (ap (λ x. start_seen (tag_seen g) mid.reading.place.token x) (is.last_is ∙ shown.shows.2)
             ∙ ap (λ x. start_seen x mid.reading.place.token mid.reading.end) shown.shows.0))
 
-        pub tag_heeds : scan.Stands (scan.inside_of inside tells.drops mid) st.scanned.next → Heeds syntax limits bytes told piece n (heard.Tag tells) line (scan.inside_of inside tells.drops mid) new
+        pub tag_heeds : scan.ScanStands (scan.inside_of inside tells.drops mid) st.scanned.next → Heeds syntax limits bytes told piece n (tree_token.Tag tells) line (scan.inside_of inside tells.drops mid) new
         tag_heeds stands =
             record {
               fits = st.fits;
@@ -352,10 +348,10 @@ module _ (syntax : Syntax) (limits : Limits) (bytes : List ℕ) (told : List Eve
       is_open [] e p = absurd (cc)
       is_open (level ∷ levels) e p = cc
 
-      begins_so : (tells : Told) → Begins line (tag_seen g) tells new → Becomes line new
+      begins_so : (tells : TagEffect) → Begins line (tag_seen g) tells new → Becomes line new
       begins_so tells h = record { syntax = ap (λ (x : Lines). x.syntax) h.becomes; depth = ap (λ (x : Lines). x.depth) h.becomes; begun = ap (λ (x : Lines). x.begun) h.becomes }
 
-      ends_so : (tells : Told) → Ends line (tag_seen g) tells new → Becomes line new
+      ends_so : (tells : TagEffect) → Ends line (tag_seen g) tells new → Becomes line new
       ends_so tells h = record { syntax = ap (λ (x : Lines). x.syntax) h.becomes; depth = ap (λ (x : Lines). x.depth) h.becomes; begun = ap (λ (x : Lines). x.begun) h.becomes ∙ open_has_begun (is_open line.levels h.there) }
 
       open_phase : line.begun ≡ true → may_lead nest.phase ≡ false
@@ -365,16 +361,16 @@ module _ (syntax : Syntax) (limits : Limits) (bytes : List ℕ) (told : List Eve
           by [] = refl
           by (level ∷ levels) = refl
 
-    gives_of : (g : Tag) (new : Lines) (tells : Told) → HearsTag line g (Ok (heard.Tag tells)) new → TagGives line (tag_seen g) (Ok tells) new
+    gives_of : (g : Tag) (new : Lines) (tells : TagEffect) → TakesTag line g (Ok (tree_token.Tag tells)) new → TagGives line (tag_seen g) (Ok tells) new
     gives_of g new tells h = by h.taken h.is h.gives
       where
-        by : (taken : Result Told Refused) → Ok (heard.Tag tells) ≡ heard_of g taken → TagGives line (tag_seen g) taken new → TagGives line (tag_seen g) (Ok tells) new
+        by : (taken : Result TagEffect Refused) → Ok (tree_token.Tag tells) ≡ token_result g taken → TagGives line (tag_seen g) taken new → TagGives line (tag_seen g) (Ok tells) new
         by (Ok other) e gives = let same : tells ≡ other = cc in subst (λ x. TagGives line (tag_seen g) (Ok x) new) (sym same) gives
-        by (Err (refused.Fault kind)) e gives = absurd (let w : Ok (heard.Tag tells) ≡ Err (stop.Fault (record { kind = kind; token = g.token; at = g.at })) = e in cc)
-        by (Err refused.NoMemory) e gives = absurd (let w : Ok (heard.Tag tells) ≡ Err stop.NoMemory = e in cc)
+        by (Err (refused.Fault kind)) e gives = absurd (let w : Ok (tree_token.Tag tells) ≡ Err (stop.Fault (record { kind = kind; token = g.token; at = g.at })) = e in cc)
+        by (Err refused.NoMemory) e gives = absurd (let w : Ok (tree_token.Tag tells) ≡ Err stop.NoMemory = e in cc)
 
-    start_heeds : (g : Tag) → t ≡ token.Start g → Shows mid.what mid.reading t → (new : Lines) (tells : Told) → HearsTag line g (Ok (heard.Tag tells)) new → scan.Stands (scan.inside_of (place_under new.levels).content tells.drops mid) st.scanned.next
-        → Heeds syntax limits bytes told piece n (heard.Tag tells) line (scan.inside_of (place_under new.levels).content tells.drops mid) new
+    start_heeds : (g : Tag) → t ≡ token.Start g → Shows mid.what mid.reading t → (new : Lines) (tells : TagEffect) → TakesTag line g (Ok (tree_token.Tag tells)) new → scan.ScanStands (scan.inside_of (place_under new.levels).content tells.drops mid) st.scanned.next
+        → Heeds syntax limits bytes told piece n (tree_token.Tag tells) line (scan.inside_of (place_under new.levels).content tells.drops mid) new
     start_heeds g e shows new tells h stands =
         let are = subst (λ x. Are v.reading.setting.drops x s front items) e st.are in
         let last = subst (λ x. scan.IsLast x st.scanned.next.at) e st.last in
@@ -386,8 +382,8 @@ module _ (syntax : Syntax) (limits : Limits) (bytes : List ℕ) (told : List Eve
     end_begins : (levels : Levels) → begins_own (own_of_end levels) ≡ false
     end_begins levels = by_test (shown_under levels) (λ e. rw e refl) (λ e. rw e refl)
 
-    end_heeds : (g : Tag) → t ≡ token.End g → Shows mid.what mid.reading t → (new : Lines) (tells : Told) → HearsTag line g (Ok (heard.Tag tells)) new → scan.Stands (scan.inside_of (place_under new.levels).content tells.drops mid) st.scanned.next
-        → Heeds syntax limits bytes told piece n (heard.Tag tells) line (scan.inside_of (place_under new.levels).content tells.drops mid) new
+    end_heeds : (g : Tag) → t ≡ token.End g → Shows mid.what mid.reading t → (new : Lines) (tells : TagEffect) → TakesTag line g (Ok (tree_token.Tag tells)) new → scan.ScanStands (scan.inside_of (place_under new.levels).content tells.drops mid) st.scanned.next
+        → Heeds syntax limits bytes told piece n (tree_token.Tag tells) line (scan.inside_of (place_under new.levels).content tells.drops mid) new
     end_heeds g e shows new tells h stands =
         let are = subst (λ x. Are v.reading.setting.drops x s front items) e st.are in
         let last = subst (λ x. scan.IsLast x st.scanned.next.at) e st.last in
@@ -400,61 +396,61 @@ module _ (syntax : Syntax) (limits : Limits) (bytes : List ℕ) (told : List Eve
         (λ h. absurd (let w : true ≡ false = sym h ∙ (ap begins_own finishes.own ∙ end_begins (kept (ends_by true (tag_seen g).name) line.levels)) in cc)) (unskipped e refl) stands
 
     -- a tag that was heard
-    pub heard_heeds : (new : Lines) (tells : Told) → Hears line t (Ok (heard.Tag tells)) new → Shows mid.what mid.reading t → scan.Stands (scan.inside_of (place_under new.levels).content tells.drops mid) st.scanned.next
-        → Heeds syntax limits bytes told piece n (heard.Tag tells) line (scan.inside_of (place_under new.levels).content tells.drops mid) new
+    pub heard_heeds : (new : Lines) (tells : TagEffect) → TakesToken line t (Ok (tree_token.Tag tells)) new → Shows mid.what mid.reading t → scan.ScanStands (scan.inside_of (place_under new.levels).content tells.drops mid) st.scanned.next
+        → Heeds syntax limits bytes told piece n (tree_token.Tag tells) line (scan.inside_of (place_under new.levels).content tells.drops mid) new
     heard_heeds new tells h shows stands = by t refl h
       where
         Goal : Type 0
-        Goal = Heeds syntax limits bytes told piece n (heard.Tag tells) line (scan.inside_of (place_under new.levels).content tells.drops mid) new
+        Goal = Heeds syntax limits bytes told piece n (tree_token.Tag tells) line (scan.inside_of (place_under new.levels).content tells.drops mid) new
 
-        text_no : (says : Bool) → ◌≡◌ {A = Result Heard Stop} (Ok (heard.Tag tells)) (Ok (text_heard says)) → ⊥
+        text_no : (says : Bool) → ◌≡◌ {A = Result TreeToken Stop} (Ok (tree_token.Tag tells)) (Ok (text_heard says)) → ⊥
         text_no true e = cc
         text_no false e = cc
 
-        by : (x : Token) → t ≡ x → Hears line x (Ok (heard.Tag tells)) new → Goal
-        by token.More e k = absurd (let w : Ok (heard.Tag tells) ≡ Ok heard.More = k.0 in cc)
-        by token.Skipped e k = absurd (let w : Ok (heard.Tag tells) ≡ Ok heard.Skipped = k.0 in cc)
-        by token.Doctype e k = absurd (let w : Ok (heard.Tag tells) ≡ Ok heard.Skipped = k.0 in cc)
+        by : (x : Token) → t ≡ x → TakesToken line x (Ok (tree_token.Tag tells)) new → Goal
+        by token.More e k = absurd (let w : Ok (tree_token.Tag tells) ≡ Ok tree_token.More = k.0 in cc)
+        by token.Skipped e k = absurd (let w : Ok (tree_token.Tag tells) ≡ Ok tree_token.Skipped = k.0 in cc)
+        by token.Doctype e k = absurd (let w : Ok (tree_token.Tag tells) ≡ Ok tree_token.Skipped = k.0 in cc)
         by (token.Text text) e k = absurd (text_no (says_text line) k.0)
         by (token.Start g) e k = start_heeds g e shows new tells k stands
         by (token.End g) e k = end_heeds g e shows new tells k stands
 
     -- whatever else was heard
-    pub other_heeds : (h : Heard) (new : Lines) → Hears line t (Ok h) new → Shows mid.what mid.reading t → is_tag_heard h ≡ false → Heeds syntax limits bytes told piece n h line mid new
+    pub other_heeds : (h : TreeToken) (new : Lines) → TakesToken line t (Ok h) new → Shows mid.what mid.reading t → is_tag_heard h ≡ false → Heeds syntax limits bytes told piece n h line mid new
     other_heeds h new hears shows no_tag = by t refl hears
       where
-        turn : (a : Heard) → ◌≡◌ {A = Result Heard Stop} (Ok h) (Ok a) → new ≡ line → Heeds syntax limits bytes told piece n a line mid line → Heeds syntax limits bytes told piece n h line mid new
+        turn : (a : TreeToken) → ◌≡◌ {A = Result TreeToken Stop} (Ok h) (Ok a) → new ≡ line → Heeds syntax limits bytes told piece n a line mid line → Heeds syntax limits bytes told piece n h line mid new
         turn a e l x =
             let same : h ≡ a = cc in
             subst (λ y. Heeds syntax limits bytes told piece n h line mid y) (sym l) (subst (λ y. Heeds syntax limits bytes told piece n y line mid line) (sym same) x)
 
-        tag_no : (g : Tag) → HearsTag line g (Ok h) new → ⊥
+        tag_no : (g : Tag) → TakesTag line g (Ok h) new → ⊥
         tag_no g k = on k.taken k.is
           where
-            on : (taken : Result Told Refused) → Ok h ≡ heard_of g taken → ⊥
-            on (Ok tells) e = let w : h ≡ heard.Tag tells = cc in let z : is_tag_heard (heard.Tag tells) ≡ false = ap is_tag_heard (sym w) ∙ no_tag in cc
+            on : (taken : Result TagEffect Refused) → Ok h ≡ token_result g taken → ⊥
+            on (Ok tells) e = let w : h ≡ tree_token.Tag tells = cc in let z : is_tag_heard (tree_token.Tag tells) ≡ false = ap is_tag_heard (sym w) ∙ no_tag in cc
             on (Err (refused.Fault kind)) e = let w : Ok h ≡ Err (stop.Fault (record { kind = kind; token = g.token; at = g.at })) = e in cc
             on (Err refused.NoMemory) e = let w : Ok h ≡ Err stop.NoMemory = e in cc
 
-        by : (x : Token) → t ≡ x → Hears line x (Ok h) new → Heeds syntax limits bytes told piece n h line mid new
-        by token.More e k = turn heard.More k.0 k.1 (more_heeds e)
-        by token.Skipped e k = turn heard.Skipped k.0 k.1 (skip_heeds e)
-        by token.Doctype e k = turn heard.Skipped k.0 k.1 (doctype_heeds e)
+        by : (x : Token) → t ≡ x → TakesToken line x (Ok h) new → Heeds syntax limits bytes told piece n h line mid new
+        by token.More e k = turn tree_token.More k.0 k.1 (more_heeds e)
+        by token.Skipped e k = turn tree_token.Skipped k.0 k.1 (skip_heeds e)
+        by token.Doctype e k = turn tree_token.Skipped k.0 k.1 (doctype_heeds e)
         by (token.Text text) e k = turn (text_heard (says_text line)) k.0 k.1 (text_heeds text e shows)
         by (token.Start g) e k = absurd (tag_no g k)
         by (token.End g) e k = absurd (tag_no g k)
 
     -- a fault of the elements
-    pub heard_fails : (fault : Fault) (new : Lines) → Hears line t (Err (stop.Fault fault)) new → Stops syntax limits bytes told piece fault
+    pub heard_fails : (fault : Fault) (new : Lines) → TakesToken line t (Err (stop.Fault fault)) new → Stops syntax limits bytes told piece fault
     heard_fails fault new hears = by t refl hears
       where
         Goal : Type 0
         Goal = Stops syntax limits bytes told piece fault
 
-        by : (x : Token) → t ≡ x → Hears line x (Err (stop.Fault fault)) new → Goal
-        by token.More e k = absurd (let w : Err (stop.Fault fault) ≡ Ok heard.More = k.0 in cc)
-        by token.Skipped e k = absurd (let w : Err (stop.Fault fault) ≡ Ok heard.Skipped = k.0 in cc)
-        by token.Doctype e k = absurd (let w : Err (stop.Fault fault) ≡ Ok heard.Skipped = k.0 in cc)
+        by : (x : Token) → t ≡ x → TakesToken line x (Err (stop.Fault fault)) new → Goal
+        by token.More e k = absurd (let w : Err (stop.Fault fault) ≡ Ok tree_token.More = k.0 in cc)
+        by token.Skipped e k = absurd (let w : Err (stop.Fault fault) ≡ Ok tree_token.Skipped = k.0 in cc)
+        by token.Doctype e k = absurd (let w : Err (stop.Fault fault) ≡ Ok tree_token.Skipped = k.0 in cc)
         by (token.Text text) e k = absurd (let w : Err (stop.Fault fault) ≡ Ok (text_heard (says_text line)) = k.0 in cc)
         by (token.Start g) e k =
             let are = subst (λ x. Are v.reading.setting.drops x s front items) e st.are in
@@ -464,13 +460,13 @@ module _ (syntax : Syntax) (limits : Limits) (bytes : List ℕ) (told : List Eve
             hears_refused g are.0 (subst (λ x. scan.IsLast x st.scanned.next.at) e st.last) new fault k (unskipped e refl)
 
     -- the content after a tag is one of the syntax
-    pub content_is : (new : Lines) (tells : Told) → Hears line t (Ok (heard.Tag tells)) new → is_of_syntax mid.reading.setting.syntax (place_under new.levels).content ≡ true
+    pub content_is : (new : Lines) (tells : TagEffect) → TakesToken line t (Ok (tree_token.Tag tells)) new → is_of_syntax mid.reading.setting.syntax (place_under new.levels).content ≡ true
     content_is new tells hears = by t refl hears
       where
         Goal : Type 0
         Goal = is_of_syntax mid.reading.setting.syntax (place_under new.levels).content ≡ true
 
-        text_no : (says : Bool) → ◌≡◌ {A = Result Heard Stop} (Ok (heard.Tag tells)) (Ok (text_heard says)) → ⊥
+        text_no : (says : Bool) → ◌≡◌ {A = Result TreeToken Stop} (Ok (tree_token.Tag tells)) (Ok (text_heard says)) → ⊥
         text_no true e = cc
         text_no false e = cc
 
@@ -487,7 +483,7 @@ module _ (syntax : Syntax) (limits : Limits) (bytes : List ℕ) (told : List Eve
             ∙ (ap (λ x. is_of_syntax mid.reading.setting.syntax (inside_of x m.line).content) (e ∙ at.syntax_is)
             ∙ (ap (λ x. is_of_syntax x (inside_of syntax m.line).content) mid_syntax ∙ inside_is syntax m.line))
 
-        tagged : (g : Tag) (is : IsTag (tag_seen g) g.token g.at items) → (tag_seen g).closing ≡ true ⊎ (tag_seen g).closing ≡ false → HearsTag line g (Ok (heard.Tag tells)) new → Goal
+        tagged : (g : Tag) (is : IsTag (tag_seen g) g.token g.at items) → (tag_seen g).closing ≡ true ⊎ (tag_seen g).closing ≡ false → TakesTag line g (Ok (tree_token.Tag tells)) new → Goal
         tagged g is which k =
             let gives : TagGives line (tag_seen g) (Ok tells) new = gives_of g new tells k in
             let taken : Taken line nest is.item tells new = tag_steps line new nest is.item (tag_seen g) (Ok tells) at.follows is.is gives in
@@ -499,15 +495,15 @@ module _ (syntax : Syntax) (limits : Limits) (bytes : List ℕ) (told : List Eve
             begins_syntax : Begins line (tag_seen g) tells new → new.syntax ≡ line.syntax
             begins_syntax h = ap (λ (x : Lines). x.syntax) h.becomes
 
-        by : (x : Token) → t ≡ x → Hears line x (Ok (heard.Tag tells)) new → Goal
-        by token.More e k = absurd (let w : Ok (heard.Tag tells) ≡ Ok heard.More = k.0 in cc)
-        by token.Skipped e k = absurd (let w : Ok (heard.Tag tells) ≡ Ok heard.Skipped = k.0 in cc)
-        by token.Doctype e k = absurd (let w : Ok (heard.Tag tells) ≡ Ok heard.Skipped = k.0 in cc)
+        by : (x : Token) → t ≡ x → TakesToken line x (Ok (tree_token.Tag tells)) new → Goal
+        by token.More e k = absurd (let w : Ok (tree_token.Tag tells) ≡ Ok tree_token.More = k.0 in cc)
+        by token.Skipped e k = absurd (let w : Ok (tree_token.Tag tells) ≡ Ok tree_token.Skipped = k.0 in cc)
+        by token.Doctype e k = absurd (let w : Ok (tree_token.Tag tells) ≡ Ok tree_token.Skipped = k.0 in cc)
         by (token.Text text) e k = absurd (text_no (says_text line) k.0)
         by (token.Start g) e k = let are = subst (λ x. Are v.reading.setting.drops x s front items) e st.are in tagged g are.0 (inr are.1) k
         by (token.End g) e k = let are = subst (λ x. Are v.reading.setting.drops x s front items) e st.are in tagged g are.0 (inl are.1) k
 
-    pub heard_stops : (stop : Stop) (other : Scanner) (new : Lines) → Hears line t (Err stop) new → ReadGives syntax limits bytes told piece line (Err stop) other new
+    pub heard_stops : (stop : Stop) (other : Scanner) (new : Lines) → TakesToken line t (Err stop) new → ReadGives syntax limits bytes told piece line (Err stop) other new
     heard_stops (stop.Fault fault) other new h = heard_fails fault new h
     heard_stops stop.NoMemory other new h = tt
 
@@ -526,13 +522,13 @@ pub quiet_stop : (A B : Type 0) (why : Stop) → IsNoMemory {A = A} (Err why) �
 quiet_stop A B (stop.Fault fault) h = refl
 quiet_stop A B stop.NoMemory h = absurd (cc)
 
-pub quiet_heard : (B : Type 0) (old new : Lines) (t : Token) (why : Stop) → Hears old t (Err why) new → shows_tag t ≡ false → IsNoMemory {A = B} (Err why) ≡ false
+pub quiet_heard : (B : Type 0) (old new : Lines) (t : Token) (why : Stop) → TakesToken old t (Err why) new → shows_tag t ≡ false → IsNoMemory {A = B} (Err why) ≡ false
 quiet_heard B old new t why hears none = by t hears none
   where
-    by : (x : Token) → Hears old x (Err why) new → shows_tag x ≡ false → IsNoMemory {A = B} (Err why) ≡ false
-    by token.More k e = absurd (let w : ◌≡◌ {A = Result Heard Stop} (Err why) (Ok heard.More) = k.0 in cc)
-    by token.Skipped k e = absurd (let w : ◌≡◌ {A = Result Heard Stop} (Err why) (Ok heard.Skipped) = k.0 in cc)
-    by token.Doctype k e = absurd (let w : ◌≡◌ {A = Result Heard Stop} (Err why) (Ok heard.Skipped) = k.0 in cc)
-    by (token.Text text) k e = absurd (let w : ◌≡◌ {A = Result Heard Stop} (Err why) (Ok (if says_text old then heard.Text else heard.Skipped)) = k.0 in cc)
+    by : (x : Token) → TakesToken old x (Err why) new → shows_tag x ≡ false → IsNoMemory {A = B} (Err why) ≡ false
+    by token.More k e = absurd (let w : ◌≡◌ {A = Result TreeToken Stop} (Err why) (Ok tree_token.More) = k.0 in cc)
+    by token.Skipped k e = absurd (let w : ◌≡◌ {A = Result TreeToken Stop} (Err why) (Ok tree_token.Skipped) = k.0 in cc)
+    by token.Doctype k e = absurd (let w : ◌≡◌ {A = Result TreeToken Stop} (Err why) (Ok tree_token.Skipped) = k.0 in cc)
+    by (token.Text text) k e = absurd (let w : ◌≡◌ {A = Result TreeToken Stop} (Err why) (Ok (if says_text old then tree_token.Text else tree_token.Skipped)) = k.0 in cc)
     by (token.Start g) k e = absurd (cc)
     by (token.End g) k e = absurd (cc)

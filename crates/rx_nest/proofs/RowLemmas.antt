@@ -5,11 +5,11 @@ use Rattle.std.specs.Str.{chars, IsUtf8}
 use Rattle.rx_terms.proofs.CharLemmas.{same-ascii}
 use Rattle.rx_grammar.specs.Contents.{inside_html}
 use Rattle.rx_nest.specs.Rows.{row_seen}
-use Rattle.rx_nest.specs.declared.tables.Row.{Row}
-use Rattle.rx_nest.specs.declared.tables.Row.TheVariants.{Item, Definition, Paragraph, Choice, Part, TableRow, Cell}
+use Rattle.rx_nest.specs.declared.tables.OmittedEnd.{OmittedEnd}
+use Rattle.rx_nest.specs.declared.tables.OmittedEnd.TheVariants.{Item, Definition, Paragraph, Choice, Part, TableRow, Cell}
 use Rattle.rx_nest.proofs.NameLemmas.{are_ascii}
 
-pub row_ascii : (row : Row) → are_ascii (row_seen row) ≡ true
+pub row_ascii : (row : OmittedEnd) → are_ascii (row_seen row) ≡ true
 row_ascii Item = refl
 row_ascii Definition = refl
 row_ascii Paragraph = refl

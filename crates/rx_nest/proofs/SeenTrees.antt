@@ -3,7 +3,7 @@ use Rattle.std.proofs.Common.{◌≡◌, ◌∙◌, ℕ, zero, suc, Bool, true, 
 use Rattle.std.specs.Prelude.{map, if◌then◌else◌}
 use Rattle.std.proofs.lemmas.List.{map-append}
 use Rattle.rx_terms.specs.Text.{Chars}
-use Rattle.rx_reader.proofs.Bools.{by_test}
+use Rattle.rx_terms.proofs.Bools.{by_test}
 use Rattle.rx_grammar.specs.Trees.{StartTag, Tree, end, element, text, after_text}
 use Rattle.rx_grammar.specs.Pages.{shown}
 use Rattle.rx_pages.specs.Nesting.{Event, begins, says, finishes, told_trees, with_element, with_text}
@@ -113,10 +113,6 @@ trees_fit (says chars ∷ events) k h = by (told_trees events) (trees_fit events
     by (nodes ∷ more) e = e
 trees_fit (finishes ∷ events) zero h = elim h [ ]
 trees_fit (finishes ∷ events) (suc k) h = ap suc (trees_fit events k h)
-
-no_flags : (flags : Flags) → length flags ≡ 0 → flags ≡ []
-no_flags [] e = refl
-no_flags (flag ∷ flags) e = absurd (cc)
 
 begun_length : (t : StartTag) (hidden : Bool) (flags : Flags) (signs : List Sign) → suc (length flags) ≡ length (see (begins t hidden) flags signs).flags
 begun_length t hidden flags signs = by_test (is_hidden flags) (λ e. rw e refl) (λ e. rw e refl)

@@ -3,7 +3,7 @@ use Rattle.std.proofs.Common.{◌≡◌, ◌∙◌, ⊎_elim, ℕ, Bool, true, f
 use Rattle.std.specs.Prelude.{◌&&◌, ◌||◌, not, drop, if◌then◌else◌}
 use Rattle.rx_terms.specs.Text.{Chars}
 use Rattle.rx_chars.specs.declared.syntax.Syntax.{Syntax}
-use Rattle.rx_reader.proofs.Bools.{by_test}
+use Rattle.rx_terms.proofs.Bools.{by_test}
 use Rattle.rx_grammar.specs.declared.faults.Kind.{Kind}
 use Rattle.rx_grammar.specs.declared.faults.Kind.TheVariants.{TooDeep, NothingOpen, Mismatch}
 use Rattle.rx_grammar.specs.Tokens.{Tag, tag}
@@ -14,11 +14,11 @@ use Rattle.rx_grammar.specs.Omission.{is_held}
 use Rattle.rx_grammar.specs.Begun.{Line, inside_of, within}
 use Rattle.rx_grammar.specs.PageFaults.{Rows, first_row, start_rows, end_rows, under_start, after_end, has_ended, is_before}
 use Rattle.rx_pages.specs.Nesting.{Nesting, Event, begins, finishes, Step, nest_step, step_by, unless_refused, over, line_above, ended_under, ended_by_end, begun_under, tag_passes}
-use Rattle.rx_nest.specs.declared.lines.Told.{Told}
+use Rattle.rx_nest.specs.declared.lines.TagEffect.{TagEffect}
 use Rattle.rx_nest.specs.declared.lines.Refused.{Refused}
 use Rattle.rx_nest.specs.declared.lines.Refused.TheVariants.{Fault, NoMemory}
-use Rattle.rx_nest.specs.declared.lines.Own.{Own}
-use Rattle.rx_nest.specs.declared.lines.Own.TheVariants.{Alone, Begin, Nothing}
+use Rattle.rx_nest.specs.declared.lines.TagAction.{TagAction}
+use Rattle.rx_nest.specs.declared.lines.TagAction.TheVariants.{Alone, Begin, Nothing}
 use Rattle.rx_nest.specs.Levels.{Levels, row_at, place_under, hidden_under, ends_by, kept, ended}
 use Rattle.rx_nest.specs.Lines.{Lines, start_refusals, is_none_open, is_named, kept_at_start, ended_at_start, level_under, TagGives, GivesBy, is_room, Begins, own_of_end, Ends}
 use Rattle.rx_nest.specs.Signs.{Sign, begun, finished, Flags, Sight, sees, finishing, is_hidden}
@@ -89,7 +89,7 @@ module _ (l : Lines) (n : Nesting) (f : Follows l n) where
       ) refl
 
 -- what a tag leads to and shows
-pub record Taken (l : Lines) (n : Nesting) (item : Item) (told : Told) (new : Lines) : Type 0 where
+pub record Taken (l : Lines) (n : Nesting) (item : Item) (told : TagEffect) (new : Lines) : Type 0 where
   pub step : Step
   pub is_step : nest_step l.syntax l.depth n item ≡ Ok step
   pub follows : Follows new step.next
@@ -200,7 +200,7 @@ module _ (syntax : Syntax) (levels : Levels) (line : Line) (item : Item) (t : Ta
   next_drops false = ap (λ (p : Place). drops_line_feed p t) (sym (place_is syntax levels line are))
 
   -- and what is shown
-  abbrev own_of : Bool → Own
+  abbrev own_of : Bool → TagAction
   own_of alone = if hidden_under levels then Nothing else if alone then Alone else Begin
 
   next_seen : (alone : Bool) (signs : List Sign) → sees (record { flags = flags_of levels; signs = signs }) (events_of syntax line item t alone) ≡ record { flags = flags_of (levels_of syntax levels t alone); signs = signs ++ own_signs (own_of alone) (start_of item t) }
@@ -213,7 +213,7 @@ module _ (syntax : Syntax) (levels : Levels) (line : Line) (item : Item) (t : Ta
       ∙ ap (λ (p : Place). record { flags = (not (hidden_under levels), hidden_under levels || hides p t) ∷ flags_of levels; signs = signs ++ own_signs (if hidden_under levels then Nothing else Begin) (start_of item t) }) (sym (place_is syntax levels line are)))
 
 -- a start tag is taken
-pub start_taken : (l new : Lines) (n : Nesting) (item : Item) (t : Tag) (told : Told) → Follows l n → item.token ≡ tag t → t.closing ≡ false → Begins l t told new → Taken l n item told new
+pub start_taken : (l new : Lines) (n : Nesting) (item : Item) (t : Tag) (told : TagEffect) → Follows l n → item.token ≡ tag t → t.closing ≡ false → Begins l t told new → Taken l n item told new
 start_taken l new n item t told f is_tag is_start b =
     let ls : Levels = kept_at_start t.name l.levels in
     let line : Line = under_start l.syntax t.name n.line in
@@ -279,7 +279,7 @@ module _ (syntax : Syntax) (depth : ℕ) (n : Nesting) (item : Item) (t : Tag) (
       begun_step : Step
       begun_step = begun_under syntax item t (under_start syntax t.name n.line) (ended_under syntax t.name n.line)
 
-pub end_taken : (l new : Lines) (n : Nesting) (item : Item) (t : Tag) (told : Told) → Follows l n → item.token ≡ tag t → t.closing ≡ true → Ends l t told new → Taken l n item told new
+pub end_taken : (l new : Lines) (n : Nesting) (item : Item) (t : Tag) (told : TagEffect) → Follows l n → item.token ≡ tag t → t.closing ≡ true → Ends l t told new → Taken l n item told new
 end_taken l new n item t told f is_tag is_end b =
     let ls : Levels = kept (ends_by true t.name) l.levels in
     let line : Line = after_end l.syntax t.name n.line in
@@ -321,15 +321,15 @@ pub end_is_refused : (l : Lines) (n : Nesting) (item : Item) (t : Tag) (kind : K
 end_is_refused l n item t kind f is_tag is_end h = end_by_row l.syntax l.depth n item t is_tag is_end (Some kind) h
 
 -- what a tag's answer says of the tables of nesting
-abbrev pub TagSteps : Lines → Nesting → Item → Result Told Refused → Lines → Type 0
+abbrev pub TagSteps : Lines → Nesting → Item → Result TagEffect Refused → Lines → Type 0
 TagSteps l n item (Ok told) new = Taken l n item told new
 TagSteps l n item (Err (Fault kind)) new = nest_step l.syntax l.depth n item ≡ Err kind
 TagSteps l n item (Err NoMemory) new = Unit {0}
 
-pub tag_steps : (l new : Lines) (n : Nesting) (item : Item) (t : Tag) (result : Result Told Refused) → Follows l n → item.token ≡ tag t → TagGives l t result new → TagSteps l n item result new
+pub tag_steps : (l new : Lines) (n : Nesting) (item : Item) (t : Tag) (result : Result TagEffect Refused) → Follows l n → item.token ≡ tag t → TagGives l t result new → TagSteps l n item result new
 tag_steps l new n item t result f is_tag gives = go t.closing refl result gives
   where
-    go : (closing : Bool) → t.closing ≡ closing → (result : Result Told Refused) → GivesBy closing l t result new → TagSteps l n item result new
+    go : (closing : Bool) → t.closing ≡ closing → (result : Result TagEffect Refused) → GivesBy closing l t result new → TagSteps l n item result new
     go true e (Ok told) g = end_taken l new n item t told f is_tag e g
     go true e (Err (Fault kind)) g =
         ⊎_elim

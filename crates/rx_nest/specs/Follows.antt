@@ -7,8 +7,8 @@ use Rattle.rx_grammar.specs.Items.{Item, start_of}
 use Rattle.rx_grammar.specs.Omission.{is_held}
 use Rattle.rx_grammar.specs.Begun.{Line, inside_of, parent_of, Phase, before, within, after}
 use Rattle.rx_pages.specs.Nesting.{Nesting}
-use Rattle.rx_nest.specs.declared.lines.Own.{Own}
-use Rattle.rx_nest.specs.declared.lines.Own.TheVariants.{Alone, Begin, Finish, Nothing}
+use Rattle.rx_nest.specs.declared.lines.TagAction.{TagAction}
+use Rattle.rx_nest.specs.declared.lines.TagAction.TheVariants.{Alone, Begin, Finish, Nothing}
 use Rattle.rx_nest.specs.Levels.{Level, Levels, row_at}
 use Rattle.rx_nest.specs.Lines.{Lines}
 use Rattle.rx_nest.specs.Signs.{Sign, begun, finished, Flags}
@@ -39,7 +39,7 @@ abbrev pub flags_of : Levels → Flags
 flags_of levels = map (λ (level : Level). (level.shown, level.hides)) levels
 
 -- what a tag shows besides the elements that it ends by omission
-abbrev pub own_signs : Own → StartTag → List Sign
+abbrev pub own_signs : TagAction → StartTag → List Sign
 own_signs Nothing t = []
 own_signs Begin t = begun t ∷ []
 own_signs Alone t = begun t ∷ finished ∷ []

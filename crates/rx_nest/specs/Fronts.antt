@@ -4,7 +4,7 @@ use Rattle.rx_chars.specs.declared.syntax.Syntax.{Syntax}
 use Rattle.rx_grammar.specs.declared.limits.Limits.{Limits}
 use Rattle.rx_pages.specs.PageReader.{Progress, page_read}
 use Rattle.rx_nest.specs.Signs.{Sign, begun, said, finished, sees, nothing_seen}
-use Rattle.rx_nest.specs.Nests.{Nested, Stands}
+use Rattle.rx_nest.specs.Nests.{Nested, NestStands}
 
 -- the root hasn't begun; it is open, and so many elements are open inside it; or it has ended
 pub data Front : Type 0 where
@@ -45,7 +45,7 @@ pub record IsFront (depth : ℕ) (signs : List Sign) : Type 0 where
 -- law: that holds of what any nest has shown
 abbrev pub ShowsOneElement : Type 0
 ShowsOneElement = (syntax : Syntax) (limits : Limits) (nest : Nested) (bytes : List ℕ) (signs : List Sign)
-    → Stands syntax limits nest bytes signs → IsFront limits.depth signs
+    → NestStands syntax limits nest bytes signs → IsFront limits.depth signs
 
 -- the start tags that are shown end at bytes from this offset on, and before that one
 abbrev pub Lie : ℕ → ℕ → List Sign → Type 0

@@ -4,7 +4,7 @@ pub mod Ordinary
 pub mod Lines
 pub mod Rows
 pub mod Signs
-pub mod Heard
+pub mod TreeTokens
 pub mod Nests
 pub mod Fronts
 pub mod OpenElements

@@ -9,9 +9,9 @@ use Rattle.rx_grammar.specs.Contents.{place_in, is_alone, is_html, is_plaintext,
 use Rattle.rx_grammar.specs.Omission.{is_held}
 use Rattle.rx_grammar.specs.Pages.{root_name}
 use Rattle.rx_grammar.specs.PageFaults.{Rows, first_row}
-use Rattle.rx_nest.specs.declared.lines.Own.{Own}
-use Rattle.rx_nest.specs.declared.lines.Own.TheVariants.{Alone, Begin, Finish, Nothing}
-use Rattle.rx_nest.specs.declared.lines.Told.{Told}
+use Rattle.rx_nest.specs.declared.lines.TagAction.{TagAction}
+use Rattle.rx_nest.specs.declared.lines.TagAction.TheVariants.{Alone, Begin, Finish, Nothing}
+use Rattle.rx_nest.specs.declared.lines.TagEffect.{TagEffect}
 use Rattle.rx_nest.specs.declared.lines.Refused.{Refused}
 use Rattle.rx_nest.specs.declared.lines.Refused.TheVariants.{Fault, NoMemory}
 use Rattle.rx_nest.specs.Levels.{Level, Levels, place_under, name_under, hidden_under, row_at, ends_by, kept, ended}
@@ -56,7 +56,7 @@ abbrev pub begun_under : Syntax → Tag → Levels → Levels
 begun_under syntax t levels = if is_alone syntax (place_under levels) t then levels else level_under syntax t levels ∷ levels
 
 -- what the tag itself tells
-abbrev pub own_of_start : Syntax → Tag → Levels → Own
+abbrev pub own_of_start : Syntax → Tag → Levels → TagAction
 own_of_start syntax t levels = if hidden_under levels then Nothing else if is_alone syntax (place_under levels) t then Alone else Begin
 
 -- a line feed directly after the tag is dropped
@@ -67,7 +67,7 @@ abbrev pub is_room : Lines → Tag → Bool
 is_room l t = not (nat_le l.depth (length (kept_at_start t.name l.levels)))
 
 -- a start tag: it ends elements, and begins its own
-pub record Begins (old : Lines) (t : Tag) (told : Told) (new : Lines) : Type 0 where
+pub record Begins (old : Lines) (t : Tag) (told : TagEffect) (new : Lines) : Type 0 where
   pub allowed : first_row (start_refusals old t) ≡ None
   pub room : is_room old t ≡ true
   pub ends : told.ends ≡ ended_at_start t.name old.levels
@@ -75,14 +75,14 @@ pub record Begins (old : Lines) (t : Tag) (told : Told) (new : Lines) : Type 0 w
   pub drops : told.drops ≡ drops_under old.syntax t (kept_at_start t.name old.levels)
   pub becomes : new ≡ record { syntax = old.syntax; depth = old.depth; begun = true; levels = begun_under old.syntax t (kept_at_start t.name old.levels) }
 
-abbrev pub BeginGives : Lines → Tag → Result Told Refused → Lines → Type 0
+abbrev pub BeginGives : Lines → Tag → Result TagEffect Refused → Lines → Type 0
 BeginGives old t (Ok told) new = Begins old t told new
 BeginGives old t (Err (Fault kind)) new =
     (first_row (start_refusals old t) ≡ Some kind ⊎ (first_row (start_refusals old t) ≡ None × is_room old t ≡ false × kind ≡ TooDeep)) × (new ≡ old)
 BeginGives old t (Err NoMemory) new = Unit {0}
 
 -- the tag's own element begins, after so many others ended
-abbrev pub OwnGives : ℕ → Lines → Tag → Result Told Refused → Lines → Type 0
+abbrev pub OwnGives : ℕ → Lines → Tag → Result TagEffect Refused → Lines → Type 0
 OwnGives ends old t (Ok told) new =
     (told ≡ record { ends = ends; own = own_of_start old.syntax t old.levels; drops = drops_under old.syntax t old.levels })
     × (new ≡ record { syntax = old.syntax; depth = old.depth; begun = true; levels = begun_under old.syntax t old.levels })
@@ -98,10 +98,10 @@ abbrev pub shown_under : Levels → Bool
 shown_under [] = false
 shown_under (level ∷ above) = level.shown
 
-abbrev pub own_of_end : Levels → Own
+abbrev pub own_of_end : Levels → TagAction
 own_of_end levels = if shown_under levels then Finish else Nothing
 
-pub record Ends (old : Lines) (t : Tag) (told : Told) (new : Lines) : Type 0 where
+pub record Ends (old : Lines) (t : Tag) (told : TagEffect) (new : Lines) : Type 0 where
   pub there : is_none_open old.levels ≡ false
   pub named : is_named t.name (kept (ends_by true t.name) old.levels) ≡ true
   pub ends : told.ends ≡ ended (ends_by true t.name) old.levels
@@ -109,18 +109,18 @@ pub record Ends (old : Lines) (t : Tag) (told : Told) (new : Lines) : Type 0 whe
   pub drops : told.drops ≡ false
   pub becomes : new ≡ record { syntax = old.syntax; depth = old.depth; begun = old.begun; levels = drop 1 (kept (ends_by true t.name) old.levels) }
 
-abbrev pub EndGives : Lines → Tag → Result Told Refused → Lines → Type 0
+abbrev pub EndGives : Lines → Tag → Result TagEffect Refused → Lines → Type 0
 EndGives old t (Ok told) new = Ends old t told new
 EndGives old t (Err (Fault kind)) new =
     ((is_none_open old.levels ≡ true × kind ≡ NothingOpen) ⊎ (is_none_open old.levels ≡ false × is_named t.name (kept (ends_by true t.name) old.levels) ≡ false × kind ≡ Mismatch)) × (new ≡ old)
 EndGives old t (Err NoMemory) new = ⊥
 
 -- a tag, which is an end tag or a start tag
-abbrev pub GivesBy : Bool → Lines → Tag → Result Told Refused → Lines → Type 0
+abbrev pub GivesBy : Bool → Lines → Tag → Result TagEffect Refused → Lines → Type 0
 GivesBy true old t result new = EndGives old t result new
 GivesBy false old t result new = BeginGives old t result new
 
-abbrev pub TagGives : Lines → Tag → Result Told Refused → Lines → Type 0
+abbrev pub TagGives : Lines → Tag → Result TagEffect Refused → Lines → Type 0
 TagGives old t result new = GivesBy t.closing old t result new
 
 -- text is text of the tree

@@ -17,8 +17,8 @@ use Rattle.rx_pages.specs.Nesting as nesting
 use Rattle.rx_pages.specs.Nesting.{Nesting, content_at}
 use Rattle.rx_pages.specs.PageReader.{Scanning, Progress, Reading, scan_from, spot_of, page_read, end_of, may_lead}
 use Rattle.rx_pages.specs.Closings.{IsFront}
-use Rattle.rx_tags.specs.declared.stops.Stop.{Stop}
-use Rattle.rx_tags.specs.declared.stops.Stop.TheVariants as stop
+use Rattle.rx_grammar.specs.declared.stops.Stop.{Stop}
+use Rattle.rx_grammar.specs.declared.stops.Stop.TheVariants as stop
 use Rattle.rx_tags.specs.declared.tags.Tag.{Tag}
 use Rattle.rx_tags.specs.Seen.{tag_seen}
 use Rattle.rx_scan.specs.declared.answers.What.{What}
@@ -26,14 +26,15 @@ use Rattle.rx_scan.specs.declared.answers.What.TheVariants as what
 use Rattle.rx_scan.specs.declared.places.Setting.{Setting}
 use Rattle.rx_scan.specs.Scanner.{Scanner}
 use Rattle.rx_scan.specs.Steps as scan
-use Rattle.rx_scan.specs.Steps.{IsOne, MarkAlone, Skips, texts_of}
-use Rattle.rx_nest.specs.declared.lines.Own.{Own}
-use Rattle.rx_nest.specs.declared.lines.Own.TheVariants as own
-use Rattle.rx_nest.specs.declared.heard.Owed.{Owed}
-use Rattle.rx_nest.specs.declared.heard.Heard.{Heard}
-use Rattle.rx_nest.specs.declared.heard.Heard.TheVariants as heard
-use Rattle.rx_nest.specs.declared.heard.Did.{Did}
-use Rattle.rx_nest.specs.declared.heard.Did.TheVariants as did
+use Rattle.rx_scan.specs.Entries.{IsNoMemory}
+use Rattle.rx_scan.specs.Steps.{IsOne, MarkAlone, Skips, is_quiet, texts_of}
+use Rattle.rx_nest.specs.declared.lines.TagAction.{TagAction}
+use Rattle.rx_nest.specs.declared.lines.TagAction.TheVariants as own
+use Rattle.rx_nest.specs.declared.tree_tokens.PendingEvents.{PendingEvents}
+use Rattle.rx_nest.specs.declared.tree_tokens.TreeToken.{TreeToken}
+use Rattle.rx_nest.specs.declared.tree_tokens.TreeToken.TheVariants as tree_token
+use Rattle.rx_nest.specs.declared.tree_tokens.EventKind.{EventKind}
+use Rattle.rx_nest.specs.declared.tree_tokens.EventKind.TheVariants as did
 use Rattle.rx_nest.specs.declared.nests.Event.{Event}
 use Rattle.rx_nest.specs.declared.nests.Event.TheVariants as event
 use Rattle.rx_nest.specs.Lines.{Lines}
@@ -44,7 +45,7 @@ use Rattle.rx_nest.specs.Follows.{AreLevels, Follows, flags_of, own_signs}
 pub record Nested : Type 0 where
   pub scan : Scanner
   pub line : Lines
-  pub owed : Owed
+  pub owed : PendingEvents
   pub failed : Option Fault
   pub spent : Bool
 
@@ -78,7 +79,7 @@ setting_of syntax limits n = record { syntax = syntax; limits = limits; inside =
 pub record At (syntax : Syntax) (limits : Limits) (bytes : List ℕ) (told : List nesting.Event) (v : Scanner) (line : Lines) : Type 0 where
   pub now : Reading
   pub read : page_read syntax limits bytes ≡ Ok (record { now = now; told = told })
-  pub stands : scan.Stands v now.scan
+  pub stands : scan.ScanStands v now.scan
   pub setting : v.reading.setting ≡ setting_of syntax limits now.nest
   pub follows : Follows line now.nest
   pub syntax_is : line.syntax ≡ syntax
@@ -93,11 +94,11 @@ pub record Somewhere (v : Scanner) (line : Lines) : Type 0 where
   pub at : At syntax limits bytes told v line
 
 -- what was heard shows
-abbrev pub heard_signs : Heard → Scanner → List Sign
-heard_signs heard.More v = []
-heard_signs heard.Skipped v = []
-heard_signs heard.Text v = map said (last_text v)
-heard_signs (heard.Tag told) v = finishing told.ends ++ own_signs told.own (last_tag v)
+abbrev pub heard_signs : TreeToken → Scanner → List Sign
+heard_signs tree_token.More v = []
+heard_signs tree_token.Skipped v = []
+heard_signs tree_token.Text v = map said (last_text v)
+heard_signs (tree_token.Tag told) v = finishing told.ends ++ own_signs told.own (last_tag v)
 
 -- the tag that is lent begins an element
 pub record LendsStart (v : Scanner) : Type 0 where
@@ -105,28 +106,28 @@ pub record LendsStart (v : Scanner) : Type 0 where
   pub opening : (parts_of v.reading.pending.tag.state).closing ≡ false
 
 -- a tag's own begins an element
-abbrev pub begins_own : Own → Bool
+abbrev pub begins_own : TagAction → Bool
 begins_own own.Begin = true
 begins_own own.Alone = true
 begins_own _ = false
 
 -- what is lent with it
-abbrev pub Lends : Heard → Scanner → Type 0
-Lends heard.More v = Unit {0}
-Lends heard.Skipped v = Unit {0}
-Lends heard.Text v = (has_text v.what ≡ true) × (last_text v ≢ [])
-Lends (heard.Tag told) v = begins_own told.own ≡ true → LendsStart v
+abbrev pub Lends : TreeToken → Scanner → Type 0
+Lends tree_token.More v = Unit {0}
+Lends tree_token.Skipped v = Unit {0}
+Lends tree_token.Text v = (has_text v.what ≡ true) × (last_text v ≢ [])
+Lends (tree_token.Tag told) v = begins_own told.own ≡ true → LendsStart v
 
-abbrev pub is_tag_heard : Heard → Bool
-is_tag_heard (heard.Tag told) = true
+abbrev pub is_tag_heard : TreeToken → Bool
+is_tag_heard (tree_token.Tag told) = true
 is_tag_heard _ = false
 
-abbrev pub hears_more : Heard → Bool
-hears_more heard.More = true
+abbrev pub hears_more : TreeToken → Bool
+hears_more tree_token.More = true
 hears_more _ = false
 
-abbrev pub hears_skipped : Heard → Bool
-hears_skipped heard.Skipped = true
+abbrev pub hears_skipped : TreeToken → Bool
+hears_skipped tree_token.Skipped = true
 hears_skipped _ = false
 
 -- What is told of the tokens that more bytes of a page complete, behind what stood before: the byte order mark among these bytes is all that they
@@ -159,21 +160,22 @@ pub data MayBeTag (items : List Item) : Type 0 where
   read_now : IsATag items → MayBeTag items
 
 -- the tokens of which this was heard
-abbrev pub HeardOf : Heard → Scanner → Scanning → List ℕ → List Item → Type 0
-HeardOf heard.More v s bytes items = items ≡ []
-HeardOf heard.Skipped v s bytes items = Passes s bytes items
-HeardOf heard.Text v s bytes items = texts_of items ≡ Some (last_text v)
-HeardOf (heard.Tag told) v s bytes items = IsATag items
+abbrev pub TokenOf : TreeToken → Scanner → Scanning → List ℕ → List Item → Type 0
+TokenOf tree_token.More v s bytes items = items ≡ []
+TokenOf tree_token.Skipped v s bytes items = Passes s bytes items
+TokenOf tree_token.Text v s bytes items = texts_of items ≡ Some (last_text v)
+TokenOf (tree_token.Tag told) v s bytes items = IsATag items
 
 -- The first n bytes of the piece were read, and this was heard.
-pub record Heeds (syntax : Syntax) (limits : Limits) (bytes : List ℕ) (told : List nesting.Event) (piece : List ℕ) (n : ℕ) (h : Heard) (old : Lines) (v : Scanner) (new : Lines) : Type 0 where
+pub record Heeds (syntax : Syntax) (limits : Limits) (bytes : List ℕ) (told : List nesting.Event) (piece : List ℕ) (n : ℕ) (h : TreeToken) (old : Lines) (v : Scanner) (new : Lines) : Type 0 where
   pub fits : n ≤ length piece
   pub events : List nesting.Event
   pub at : At syntax limits (bytes ++ take n piece) (told ++ events) v new
-  pub shows : (signs : List Sign) → sees (record { flags = flags_of old.levels; signs = signs }) events ≡ record { flags = flags_of new.levels; signs = signs ++ heard_signs h v }
+  pub shows : (signs : List Sign)
+      → sees (record { flags = flags_of old.levels; signs = signs }) events ≡ record { flags = flags_of new.levels; signs = signs ++ heard_signs h v }
   pub lends : Lends h v
   pub all : hears_more h ≡ true → n ≡ length piece
-  pub tokens : Completes syntax limits bytes (take n piece) (hears_skipped h) (HeardOf h v)
+  pub tokens : Completes syntax limits bytes (take n piece) (hears_skipped h) (TokenOf h v)
 
 -- no token is complete yet, and there is no byte order mark
 abbrev pub NoneYet : Syntax → Limits → List ℕ → List ℕ → Type 0
@@ -190,7 +192,7 @@ pub record Stops (syntax : Syntax) (limits : Limits) (bytes : List ℕ) (told : 
   pub here : page_read syntax limits (bytes ++ (front ++ byte ∷ [])) ≡ Err fault
   pub before : NoneYet syntax limits bytes front
 
-abbrev pub ReadGives : Syntax → Limits → List ℕ → List nesting.Event → List ℕ → Lines → Result (ℕ × Heard) Stop → Scanner → Lines → Type 0
+abbrev pub ReadGives : Syntax → Limits → List ℕ → List nesting.Event → List ℕ → Lines → Result (ℕ × TreeToken) Stop → Scanner → Lines → Type 0
 ReadGives syntax limits bytes told piece old (Ok r) v new = Heeds syntax limits bytes told piece r.0 r.1 old v new
 ReadGives syntax limits bytes told piece old (Err (stop.Fault fault)) v new = Stops syntax limits bytes told piece fault
 ReadGives syntax limits bytes told piece old (Err stop.NoMemory) v new = Unit {0}
@@ -202,24 +204,24 @@ StaysAtFault (Err (stop.Fault fault)) old new = new ≡ old
 StaysAtFault (Err stop.NoMemory) old new = Unit {0}
 
 -- how much of the piece was taken
-abbrev pub ReadTakes : List ℕ → Result (ℕ × Heard) Stop → Type 0
+abbrev pub ReadTakes : List ℕ → Result (ℕ × TreeToken) Stop → Type 0
 ReadTakes piece (Ok r) = scan.TakesSome piece r.0 (hears_more r.1)
 ReadTakes piece (Err e) = Unit {0}
 
-abbrev pub owes_own : Option Own → StartTag → List Sign
+abbrev pub owes_own : Option TagAction → StartTag → List Sign
 owes_own None t = []
 owes_own (Some o) t = own_signs o t
 
-abbrev pub owed_signs : Owed → StartTag → List Sign
+abbrev pub owed_signs : PendingEvents → StartTag → List Sign
 owed_signs owed t = finishing owed.ends ++ owes_own owed.own t
 
 -- an element is still to begin
-abbrev pub owes_begin : Option Own → Bool
+abbrev pub owes_begin : Option TagAction → Bool
 owes_begin None = false
 owes_begin (Some o) = begins_own o
 
 -- The nest stands for these bytes, of which these signs were shown.
-pub record Stands (syntax : Syntax) (limits : Limits) (v : Nested) (bytes : List ℕ) (signs : List Sign) : Type 0 where
+pub record NestStands (syntax : Syntax) (limits : Limits) (v : Nested) (bytes : List ℕ) (signs : List Sign) : Type 0 where
   pub told : List nesting.Event
   pub at : At syntax limits bytes told v.scan v.line
   pub sight : sees nothing_seen told ≡ record { flags = flags_of v.line.levels; signs = signs ++ owed_signs v.owed (last_tag v.scan) }
@@ -228,52 +230,52 @@ pub record Stands (syntax : Syntax) (limits : Limits) (v : Nested) (bytes : List
   pub unspent : v.spent ≡ false
 
 -- what each nest keeps
-abbrev pub Ready : Scanner → Lines → Option Fault → Bool → Type 0
-Ready v line failed spent = failed ≡ None → spent ≡ false → Somewhere v line
+abbrev pub Ready : Scanner → Lines → PendingEvents → Option Fault → Bool → Type 0
+Ready v line owed failed spent = failed ≡ None → spent ≡ false → Somewhere v line × (owes_begin owed.own ≡ true → LendsStart v)
 
 -- what was done shows
-abbrev pub did_signs : Did → Scanner → List Sign
+abbrev pub did_signs : EventKind → Scanner → List Sign
 did_signs did.More v = []
 did_signs did.Skipped v = []
 did_signs did.Begin v = begun (last_tag v) ∷ []
 did_signs did.Text v = map said (last_text v)
 did_signs did.Finish v = finished ∷ []
 
-abbrev pub DidLends : Did → Scanner → Type 0
+abbrev pub DidLends : EventKind → Scanner → Type 0
 DidLends did.Begin v = LendsStart v
 DidLends did.Text v = (has_text v.what ≡ true) × (last_text v ≢ [])
 DidLends _ v = Unit {0}
 
 -- the tokens of which this was done
-abbrev pub DidOf : Did → Scanner → Scanning → List ℕ → List Item → Type 0
+abbrev pub DidOf : EventKind → Scanner → Scanning → List ℕ → List Item → Type 0
 DidOf did.More v s bytes items = items ≡ []
 DidOf did.Skipped v s bytes items = Passes s bytes items
 DidOf did.Begin v s bytes items = MayBeTag items
 DidOf did.Text v s bytes items = texts_of items ≡ Some (last_text v)
 DidOf did.Finish v s bytes items = MayBeTag items
 
-abbrev pub did_more : Did → Bool
+abbrev pub did_more : EventKind → Bool
 did_more did.More = true
 did_more _ = false
 
-abbrev pub did_skipped : Did → Bool
+abbrev pub did_skipped : EventKind → Bool
 did_skipped did.Skipped = true
 did_skipped _ = false
 
 -- how many events the last tag still tells
-abbrev pub own_left : Option Own → ℕ
+abbrev pub own_left : Option TagAction → ℕ
 own_left None = 0
 own_left (Some own.Nothing) = 0
 own_left (Some own.Begin) = 1
 own_left (Some own.Finish) = 1
 own_left (Some own.Alone) = 2
 
-abbrev pub left : Owed → ℕ
+abbrev pub left : PendingEvents → ℕ
 left owed = owed.ends + own_left owed.own
 
 -- How much of the piece was taken. What is due is told first: then no byte is, and one event fewer is due. Where nothing is due all of the piece is
 -- taken if there is nothing yet, behind which nothing is due either; and else a byte at least.
-pub record Takes (piece : List ℕ) (n : ℕ) (is_nothing : Bool) (old new : Owed) : Type 0 where
+pub record Takes (piece : List ℕ) (n : ℕ) (is_nothing : Bool) (old new : PendingEvents) : Type 0 where
   pub fits : n ≤ length piece
   pub all : is_nothing ≡ true → n ≡ length piece
   pub due : is_nothing ≡ true → (left old ≡ 0) × (left new ≡ 0)
@@ -282,9 +284,11 @@ pub record Takes (piece : List ℕ) (n : ℕ) (is_nothing : Bool) (old new : Owe
 
 -- Whatever it stands for: it answers only where neither a fault nor want of memory was answered; a fault comes again, and want of memory. A fault
 -- leaves the open elements as they were.
-abbrev pub KeepsOn : Nested → List ℕ → Result (ℕ × Did) Stop → Nested → Type 0
-KeepsOn old piece (Ok r) new = (old.failed ≡ None) × (old.spent ≡ false) × (new.failed ≡ None) × (new.spent ≡ false) × Takes piece r.0 (did_more r.1) old.owed new.owed
-KeepsOn old piece (Err (stop.Fault fault)) new = (old.spent ≡ false) × ((old.failed ≡ None) ⊎ (old.failed ≡ Some fault)) × (new.failed ≡ Some fault) × (new.spent ≡ false) × (new.line ≡ old.line)
+abbrev pub KeepsOn : Nested → List ℕ → Result (ℕ × EventKind) Stop → Nested → Type 0
+KeepsOn old piece (Ok r) new =
+    (old.failed ≡ None) × (old.spent ≡ false) × (new.failed ≡ None) × (new.spent ≡ false) × Takes piece r.0 (did_more r.1) old.owed new.owed
+KeepsOn old piece (Err (stop.Fault fault)) new =
+    (old.spent ≡ false) × ((old.failed ≡ None) ⊎ (old.failed ≡ Some fault)) × (new.failed ≡ Some fault) × (new.spent ≡ false) × (new.line ≡ old.line)
 KeepsOn old piece (Err stop.NoMemory) new = ((old.spent ≡ true) ⊎ (old.failed ≡ None)) × (new.spent ≡ true)
 
 -- this fault was answered, and is from then on
@@ -292,9 +296,9 @@ pub record Fallen (fault : Fault) (v : Nested) : Type 0 where
   pub failed : v.failed ≡ Some fault
   pub unspent : v.spent ≡ false
 
-pub record Done (syntax : Syntax) (limits : Limits) (bytes : List ℕ) (signs : List Sign) (piece : List ℕ) (n : ℕ) (d : Did) (new : Nested) : Type 0 where
+pub record Done (syntax : Syntax) (limits : Limits) (bytes : List ℕ) (signs : List Sign) (piece : List ℕ) (n : ℕ) (d : EventKind) (new : Nested) : Type 0 where
   pub fits : n ≤ length piece
-  pub stands : Stands syntax limits new (bytes ++ take n piece) (signs ++ did_signs d new.scan)
+  pub stands : NestStands syntax limits new (bytes ++ take n piece) (signs ++ did_signs d new.scan)
   pub lends : DidLends d new.scan
   pub all : did_more d ≡ true → n ≡ length piece
   pub passed : did_skipped d ≡ true → (0 < n) × (left new.owed ≡ 0)
@@ -312,7 +316,8 @@ pub record Faults (syntax : Syntax) (limits : Limits) (bytes piece : List ℕ) (
 
 -- Before the byte that decides the fault the page shows no more than these signs.
 abbrev pub Unshown : Syntax → Limits → List ℕ → List Sign → List ℕ → Type 0
-Unshown syntax limits bytes signs piece = (k : ℕ) (p : Progress) → page_read syntax limits (bytes ++ take k piece) ≡ Ok p → (sees nothing_seen p.told).signs ≡ signs
+Unshown syntax limits bytes signs piece =
+    (k : ℕ) (p : Progress) → page_read syntax limits (bytes ++ take k piece) ≡ Ok p → (sees nothing_seen p.told).signs ≡ signs
 
 -- The open elements are those of the page's front before this offset.
 pub record OpenBefore (syntax : Syntax) (limits : Limits) (bytes : List ℕ) (token : ℕ) (open_ones : Lines) : Type 0 where
@@ -328,7 +333,7 @@ FaultGives syntax limits bytes signs piece (stop.Fault fault) new =
     Faults syntax limits bytes piece fault × Fallen fault new × Unshown syntax limits bytes signs piece × OpenBefore syntax limits (bytes ++ piece) fault.token new.line
 FaultGives syntax limits bytes signs piece stop.NoMemory new = new.spent ≡ true
 
-abbrev pub AdvanceGives : Syntax → Limits → List ℕ → List Sign → List ℕ → Result (ℕ × Did) Stop → Nested → Type 0
+abbrev pub AdvanceGives : Syntax → Limits → List ℕ → List Sign → List ℕ → Result (ℕ × EventKind) Stop → Nested → Type 0
 AdvanceGives syntax limits bytes signs piece (Ok r) new = Done syntax limits bytes signs piece r.0 r.1 new
 AdvanceGives syntax limits bytes signs piece (Err stop) new = FaultGives syntax limits bytes signs piece stop new
 
@@ -374,7 +379,7 @@ pub record Begins (v : Scanner) (e : Event) : Type 0 where
   pub tells : (s : Scanning) (bytes : List ℕ) (items : List Item) → MayBeTag items → TellsOf e s bytes items
 
 -- the event of what was done
-abbrev pub Shown : Did → Scanner → Event → Type 0
+abbrev pub Shown : EventKind → Scanner → Event → Type 0
 Shown did.More v e = e ≡ event.More
 Shown did.Skipped v e = e ≡ event.Skipped
 Shown did.Finish v e = e ≡ event.Finish
@@ -385,7 +390,7 @@ Shown did.Text v e = (is_more e ≡ false) × (has_text v.what ≡ true → Says
 -- nothing is due.
 pub record Stepped (syntax : Syntax) (limits : Limits) (bytes : List ℕ) (signs : List Sign) (piece : List ℕ) (n : ℕ) (e : Event) (new : Nested) : Type 0 where
   pub fits : n ≤ length piece
-  pub stands : Stands syntax limits new (bytes ++ take n piece) (signs ++ event_signs e)
+  pub stands : NestStands syntax limits new (bytes ++ take n piece) (signs ++ event_signs e)
   pub speaks : Speaks e
   pub all : is_more e ≡ true → n ≡ length piece
   pub passed : is_skipped e ≡ true → (0 < n) × (left new.owed ≡ 0)
@@ -398,13 +403,16 @@ StepGives syntax limits bytes signs piece (Err stop) new = FaultGives syntax lim
 -- Whatever the nest stands for: it answers only where neither a fault nor want of memory was answered; a fault comes again, and want of memory. A
 -- fault leaves the open elements as they were.
 abbrev pub Keeps : Nested → List ℕ → Result (ℕ × Event) Stop → Nested → Type 0
-Keeps old piece (Ok r) new = (old.failed ≡ None) × (old.spent ≡ false) × (new.failed ≡ None) × (new.spent ≡ false) × Takes piece r.0 (is_more r.1) old.owed new.owed
-Keeps old piece (Err (stop.Fault fault)) new = (old.spent ≡ false) × ((old.failed ≡ None) ⊎ (old.failed ≡ Some fault)) × (new.failed ≡ Some fault) × (new.spent ≡ false) × (new.line ≡ old.line)
+Keeps old piece (Ok r) new =
+    (old.failed ≡ None) × (old.spent ≡ false) × (new.failed ≡ None) × (new.spent ≡ false) × Takes piece r.0 (is_more r.1) old.owed new.owed
+Keeps old piece (Err (stop.Fault fault)) new =
+    (old.spent ≡ false) × ((old.failed ≡ None) ⊎ (old.failed ≡ Some fault)) × (new.failed ≡ Some fault) × (new.spent ≡ false) × (new.line ≡ old.line)
 Keeps old piece (Err stop.NoMemory) new = ((old.spent ≡ true) ⊎ (old.failed ≡ None)) × (new.spent ≡ true)
 
 abbrev pub KeepsEnd : Nested → Result (Unit {0}) Stop → Nested → Type 0
 KeepsEnd old (Ok done) new = (old.failed ≡ None) × (old.spent ≡ false) × (new ≡ old)
-KeepsEnd old (Err (stop.Fault fault)) new = (old.spent ≡ false) × ((old.failed ≡ None) ⊎ (old.failed ≡ Some fault)) × (new.failed ≡ Some fault) × (new.spent ≡ false) × (new.line ≡ old.line)
+KeepsEnd old (Err (stop.Fault fault)) new =
+    (old.spent ≡ false) × ((old.failed ≡ None) ⊎ (old.failed ≡ Some fault)) × (new.failed ≡ Some fault) × (new.spent ≡ false) × (new.line ≡ old.line)
 KeepsEnd old (Err stop.NoMemory) new = (old.spent ≡ true) × (new ≡ old)
 
 -- the end of the page's reading, by its fault if it has one
@@ -432,3 +440,37 @@ abbrev pub EndGives : Syntax → Limits → List ℕ → List Sign → Nested �
 EndGives syntax limits bytes signs old (Ok done) new = Ended syntax limits bytes signs (owed_signs old.owed (last_tag old.scan))
 EndGives syntax limits bytes signs old (Err (stop.Fault fault)) new = FaultAt syntax limits bytes fault × (fault.kind ≡ Unended) × (fault.at ≡ length bytes)
 EndGives syntax limits bytes signs old (Err stop.NoMemory) new = ⊥
+
+-- What a call does to a nest, whatever bytes it stands for.
+abbrev pub Advances : Nested → List ℕ → Result (ℕ × EventKind) Stop → Nested → Type 0
+Advances old piece result new =
+    (syntax : Syntax) (limits : Limits) (bytes : List ℕ) (signs : List Sign) → NestStands syntax limits old bytes signs → AdvanceGives syntax limits bytes signs piece result new
+
+abbrev pub Steps : Nested → List ℕ → Result (ℕ × Event) Stop → Nested → Type 0
+Steps old piece result new =
+    (syntax : Syntax) (limits : Limits) (bytes : List ℕ) (signs : List Sign) → NestStands syntax limits old bytes signs → StepGives syntax limits bytes signs piece result new
+
+abbrev pub Ends : Nested → Result (Unit {0}) Stop → Nested → Type 0
+Ends old result new =
+    (syntax : Syntax) (limits : Limits) (bytes : List ℕ) (signs : List Sign) → NestStands syntax limits old bytes signs → EndGives syntax limits bytes signs old result new
+
+-- a piece of text behind bytes in which no token is unfinished never wants memory
+abbrev pub IsQuiet : {A : Type 0} → Nested → List ℕ → Result A Stop → Type 0
+IsQuiet old piece result =
+    (syntax : Syntax) (limits : Limits) (bytes : List ℕ) (signs : List Sign) → NestStands syntax limits old bytes signs
+    → IsBetween syntax limits bytes → is_quiet piece ≡ true → IsNoMemory result ≡ false
+
+-- the same of the scanner and the open elements by themselves
+abbrev pub Reads : Scanner → Lines → List ℕ → Result (ℕ × TreeToken) Stop → Scanner → Lines → Type 0
+Reads scan line piece result next new =
+    (syntax : Syntax) (limits : Limits) (bytes : List ℕ) (told : List nesting.Event) → At syntax limits bytes told scan line
+    → ReadGives syntax limits bytes told piece line result next new
+
+abbrev pub ReadsQuietly : Scanner → Lines → List ℕ → Result (ℕ × TreeToken) Stop → Type 0
+ReadsQuietly scan line piece result =
+    (syntax : Syntax) (limits : Limits) (bytes : List ℕ) (told : List nesting.Event) → At syntax limits bytes told scan line
+    → IsBetween syntax limits bytes → is_quiet piece ≡ true → IsNoMemory result ≡ false
+
+abbrev pub EndsAt : Scanner → Lines → Option Fault → Type 0
+EndsAt scan line result =
+    (syntax : Syntax) (limits : Limits) (bytes : List ℕ) (told : List nesting.Event) → At syntax limits bytes told scan line → EndsWith syntax limits bytes told result

@@ -8,7 +8,7 @@ use Rattle.rx_pages.specs.Fronts.{IsUnderway}
 use Rattle.rx_nest.specs.Lines.{Lines}
 use Rattle.rx_nest.specs.Follows.{AreLevels}
 use Rattle.rx_nest.specs.Signs.{Sign}
-use Rattle.rx_nest.specs.Nests.{Nested, Stands}
+use Rattle.rx_nest.specs.Nests.{Nested, NestStands}
 
 -- These elements are open, and no others.
 pub record HasOpen (syntax : Syntax) (open_ones : Lines) (line : Line) : Type 0 where
@@ -18,9 +18,10 @@ pub record HasOpen (syntax : Syntax) (open_ones : Lines) (line : Line) : Type 0 
 -- law: those of the front of the page that the bytes are, where nothing is unfinished
 abbrev pub HasOpenOfFronts : Type 0
 HasOpenOfFronts = (syntax : Syntax) (limits : Limits) (nest : Nested) (bytes : List ℕ) (signs : List Sign) (line : Line) (phase : Phase)
-    → Stands syntax limits nest bytes signs → Begun syntax limits bytes None line phase → HasOpen syntax nest.line line
+    → NestStands syntax limits nest bytes signs → Begun syntax limits bytes None line phase → HasOpen syntax nest.line line
 
 -- law: those of the front before what is unfinished, else
 abbrev pub HasOpenUnderway : Type 0
-HasOpenUnderway = (syntax : Syntax) (limits : Limits) (nest : Nested) (bytes : List ℕ) (signs : List Sign) (line : Line) (phase : Phase) (run : List Entry) (part : List ℕ)
-    → Stands syntax limits nest bytes signs → IsUnderway syntax limits bytes line phase run part → HasOpen syntax nest.line line
+HasOpenUnderway =
+    (syntax : Syntax) (limits : Limits) (nest : Nested) (bytes : List ℕ) (signs : List Sign) (line : Line) (phase : Phase) (run : List Entry) (part : List ℕ)
+    → NestStands syntax limits nest bytes signs → IsUnderway syntax limits bytes line phase run part → HasOpen syntax nest.line line

@@ -2,10 +2,10 @@
 use Rattle.std.specs.Prelude.{List, [], ◌∷◌, codes}
 use Rattle.rx_terms.specs.Text.{Chars}
 use Rattle.rx_grammar.specs.Names.{table_parts, paragraph_enders}
-use Rattle.rx_nest.specs.declared.tables.Row.{Row}
-use Rattle.rx_nest.specs.declared.tables.Row.TheVariants.{Item, Definition, Paragraph, Choice, Part, TableRow, Cell}
+use Rattle.rx_nest.specs.declared.tables.OmittedEnd.{OmittedEnd}
+use Rattle.rx_nest.specs.declared.tables.OmittedEnd.TheVariants.{Item, Definition, Paragraph, Choice, Part, TableRow, Cell}
 
-abbrev pub row_seen : Row → List Chars
+abbrev pub row_seen : OmittedEnd → List Chars
 row_seen Item = codes "li" ∷ []
 row_seen Definition = codes "dt" ∷ codes "dd" ∷ []
 row_seen Paragraph = paragraph_enders

@@ -3,9 +3,9 @@ ghost use Rattle.std.specs.Prelude.{◌≡◌, ◌∷◌, [], ◌<◌, ◌≤◌
 ghost use Rattle.std.specs.Str.{chars};
 ghost use Rattle.rx_nest.specs.Levels as levels;
 
-use crate::names;
+use crate::element_names;
 use crate::places::Place;
-use crate::tables::Row;
+use crate::tables::OmittedEnd;
 use rx_grammar::Content;
 use rx_terms::NoMemory;
 use std::alloc::Global;
@@ -17,7 +17,7 @@ pub(crate) struct Traits {
     /// What may stand inside.
     pub(crate) inside: Place,
     /// The start tags that end it, where its end tag may be omitted.
-    pub(crate) row: Option<Row>,
+    pub(crate) row: Option<OmittedEnd>,
     /// Whether it is a p that its parent's end doesn't end.
     pub(crate) held: bool,
     /// Whether it is in the page's tree.
@@ -34,9 +34,8 @@ pub(crate) struct Level {
 }
 
 impl Model for Level {
-    ghost use Rattle.std.specs.Prelude.{option_map, string_bytes};
+    ghost use Rattle.std.specs.Prelude.{string_bytes};
     ghost use Rattle.std.specs.Str.{chars};
-    ghost use Rattle.rx_nest.specs.Rows.{row_seen};
     ghost use Rattle.rx_nest.specs.Levels.{Level as TheLevel, level_of};
 
     ghost Value = { TheLevel };
@@ -73,7 +72,7 @@ impl Level {
     fn rename(&mut self, name: &str) -> Result<(), NoMemory>
         ensures { OnOk result (self.new.name ≡ chars name.now) }
     {
-        if names::is_same(&self.name, name) {
+        if element_names::is_same(&self.name, name) {
             return Ok(());
         }
         self.name.clear();
@@ -93,8 +92,8 @@ impl Level {
         ensures { result ≡ levels.ends_by closing (chars name.now) self.now }
     {
         match self.traits.row {
-            Some(_) if closing => !names::is_same(&self.name, name) && !self.traits.held,
-            Some(row) => names::has(row, name),
+            Some(_) if closing => !element_names::is_same(&self.name, name) && !self.traits.held,
+            Some(row) => element_names::has(row, name),
             None => false,
         }
     }

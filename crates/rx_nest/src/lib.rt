@@ -4,14 +4,14 @@
 ghost use Rattle.rx_nest.specs.Fronts.{ShowsOneElement, TagsLieInTheirBytes};
 ghost use Rattle.rx_nest.specs.OpenElements.{HasOpenOfFronts, HasOpenUnderway};
 
-mod heard;
+mod element_names;
 mod levels;
 mod lines;
-mod names;
 mod nests;
 mod places;
 mod reads;
 mod tables;
+mod tree_tokens;
 
 pub use nests::{Event, Nest};
 pub use rx_grammar::{Content, Fault, Kind, Limits, RawName};

@@ -7,8 +7,8 @@ ghost use Rattle.rx_nest.specs.Levels as levels;
 ghost use Rattle.rx_nest.specs.Lines as lines;
 ghost use Rattle.rx_nest.specs.Ordinary.{IsOrdinaryUnder};
 
+use crate::element_names;
 use crate::levels::{Levels, Traits};
-use crate::names;
 use crate::places::Place;
 use rx_chars::Syntax;
 use rx_grammar::{Content, Kind};
@@ -19,7 +19,7 @@ use std::marker::Model;
 
 /// What a tag tells besides the elements that it ends by omission.
 #[derive(Clone, Copy, Debug, PartialEq, Eq)]
-pub(crate) enum Own {
+pub(crate) enum TagAction {
     /// Nothing: it is hidden.
     Nothing,
     /// An element begins.
@@ -32,9 +32,9 @@ pub(crate) enum Own {
 
 /// What a tag tells: how many elements end by omission, and then its own.
 #[derive(Clone, Copy, Debug, PartialEq, Eq)]
-pub(crate) struct Told {
+pub(crate) struct TagEffect {
     pub(crate) ends: usize,
-    pub(crate) own: Own,
+    pub(crate) own: TagAction,
     /// Whether a line feed directly after the tag is dropped.
     pub(crate) drops: bool,
 }
@@ -44,6 +44,16 @@ pub(crate) struct Told {
 pub(crate) enum Refused {
     Fault(Kind),
     NoMemory,
+}
+
+impl From<NoMemory> for Refused {
+    ghost use Rattle.rx_nest.specs.declared.lines.Refused.TheVariants.{NoMemory};
+
+    ghost from_gives = { λ _ error. error ≡ NoMemory };
+
+    fn from(_error: NoMemory) -> Refused {
+        Refused::NoMemory
+    }
 }
 
 /// The open elements of a page.
@@ -126,7 +136,7 @@ impl Line {
         if self.begun && !self.is_open() {
             return Some(Kind::Outside);
         }
-        if !self.begun && !names::is_root(tag.name()) {
+        if !self.begun && !element_names::is_root(tag.name()) {
             return Some(Kind::RootNotHtml);
         }
         if self.levels.place().is_plaintext(self.syntax, tag) {
@@ -140,7 +150,7 @@ impl Line {
 
     /// A tag begins an element, or ends one, after those that it ends by omission. A tag that is refused leaves the elements
     /// as they were.
-    pub(crate) fn take(&mut self, tag: &Tag<'_>) -> Result<Told, Refused>
+    pub(crate) fn take(&mut self, tag: &Tag<'_>) -> Result<TagEffect, Refused>
         ensures { lines.TagGives self.old (tag_seen tag.now) result self.new }
     {
         if tag.closing() {
@@ -150,7 +160,7 @@ impl Line {
         }
     }
 
-    fn begin(&mut self, tag: &Tag<'_>) -> Result<Told, Refused>
+    fn begin(&mut self, tag: &Tag<'_>) -> Result<TagEffect, Refused>
         ensures { lines.BeginGives self.old (tag_seen tag.now) result self.new }
     {
         if let Some(kind) = self.refusal(tag) {
@@ -173,11 +183,11 @@ impl Line {
     {
         self.syntax == Syntax::Html
             && self.levels.place().is_html()
-            && names::is_ordinary(tag.name())
+            && element_names::is_ordinary(tag.name())
     }
 
     // What `begin_own` does, without a look at the tables. Most elements of a page are such.
-    fn begin_ordinary(&mut self, tag: &Tag<'_>, ends: usize) -> Result<Told, Refused>
+    fn begin_ordinary(&mut self, tag: &Tag<'_>, ends: usize) -> Result<TagEffect, Refused>
         requires room { nat_le self.old.depth (length self.old.levels) ≡ false }
         requires ordinary { IsOrdinaryUnder self.old.syntax self.old.levels (tag_seen tag.now).name }
         ensures { lines.OwnGives ends self.old (tag_seen tag.now) result self.new }
@@ -192,28 +202,24 @@ impl Line {
             hides: hidden,
         };
         self.begun = true;
-        match self.levels.push(tag.name(), traits) {
-            Ok(()) => Ok(Told {
-                ends,
-                own,
-                drops: false,
-            }),
-            Err(NoMemory) => Err(Refused::NoMemory),
-        }
+        self.levels.push(tag.name(), traits)?;
+        Ok(TagEffect {
+            ends,
+            own,
+            drops: false,
+        })
     }
 
     // The tag's own element begins.
-    fn begin_own(&mut self, tag: &Tag<'_>, ends: usize) -> Result<Told, Refused>
+    fn begin_own(&mut self, tag: &Tag<'_>, ends: usize) -> Result<TagEffect, Refused>
         requires room { nat_le self.old.depth (length self.old.levels) ≡ false }
         ensures { lines.OwnGives ends self.old (tag_seen tag.now) result self.new }
     {
         let alone = self.levels.place().is_alone(self.syntax, tag);
         let own = self.own_of_start(alone);
         let drops = self.drops_line_feed(tag, alone);
-        match self.enter(tag, alone) {
-            Ok(()) => Ok(Told { ends, own, drops }),
-            Err(NoMemory) => Err(Refused::NoMemory),
-        }
+        self.enter(tag, alone)?;
+        Ok(TagEffect { ends, own, drops })
     }
 
     // Ends the elements that the start tag ends.
@@ -235,15 +241,15 @@ impl Line {
         self.levels.depth() >= self.depth as usize
     }
 
-    fn own_of_start(&self, alone: bool) -> Own
-        ensures { result ≡ (if levels.hidden_under self.now.levels then Own.Nothing else if alone then Own.Alone else Own.Begin) }
+    fn own_of_start(&self, alone: bool) -> TagAction
+        ensures { result ≡ (if levels.hidden_under self.now.levels then TagAction.Nothing else if alone then TagAction.Alone else TagAction.Begin) }
     {
         if self.levels.hides() {
-            Own::Nothing
+            TagAction::Nothing
         } else if alone {
-            Own::Alone
+            TagAction::Alone
         } else {
-            Own::Begin
+            TagAction::Begin
         }
     }
 
@@ -276,13 +282,13 @@ impl Line {
         Traits {
             inside: place.inside(self.syntax, tag.name()),
             row: place.row_of(tag.name()),
-            held: names::is_held(self.levels.name(), tag.name()),
+            held: element_names::is_held(self.levels.name(), tag.name()),
             shown: !hidden,
             hides: hidden || place.hides(tag),
         }
     }
 
-    fn end(&mut self, tag: &Tag<'_>) -> Result<Told, Refused>
+    fn end(&mut self, tag: &Tag<'_>) -> Result<TagEffect, Refused>
         ensures { lines.EndGives self.old (tag_seen tag.now) result self.new }
     {
         if !self.is_open() {
@@ -296,7 +302,7 @@ impl Line {
         }
         let own = self.own_of_end();
         self.levels.pop();
-        Ok(Told {
+        Ok(TagEffect {
             ends,
             own,
             drops: false,
@@ -308,17 +314,17 @@ impl Line {
         ensures { result ≡ lines.is_named (tag_seen tag.now).name self.now.levels }
     {
         match self.levels.top() {
-            Some(level) => names::is_same(level.name(), tag.name()),
+            Some(level) => element_names::is_same(level.name(), tag.name()),
             None => false,
         }
     }
 
-    fn own_of_end(&self) -> Own
+    fn own_of_end(&self) -> TagAction
         ensures { result ≡ lines.own_of_end self.now.levels }
     {
         match self.levels.top() {
-            Some(level) if level.shown() => Own::Finish,
-            _ => Own::Nothing,
+            Some(level) if level.shown() => TagAction::Finish,
+            _ => TagAction::Nothing,
         }
     }
 }

@@ -1,16 +1,11 @@
 //! The elements of a page, told in pieces.
-ghost use Rattle.std.specs.Prelude.{◌≡◌, ℕ, List, [], true, false, IfOk, length};
-ghost use Rattle.rx_chars.specs.declared.syntax.Syntax as syntaxes;
-ghost use Rattle.rx_grammar.specs.declared.limits.Limits as limit;
-ghost use Rattle.rx_pages.specs.Nesting as nesting;
-ghost use Rattle.rx_scan.specs.Entries.{IsNoMemory};
-ghost use Rattle.rx_scan.specs.Steps.{is_quiet};
-ghost use Rattle.rx_nest.specs.Heard.{paid};
+ghost use Rattle.std.specs.Prelude.{◌≡◌, [], true, false, IfOk, length};
+ghost use Rattle.rx_nest.specs.TreeTokens.{paid};
 ghost use Rattle.rx_nest.specs.Nests as nests;
 
-use crate::heard::{Did, Owed, first_of, next_owed};
 use crate::lines::Line;
 use crate::reads::read;
+use crate::tree_tokens::{EventKind, PendingEvents, first_of, next_owed};
 use rx_grammar::{Fault, Kind, Limits};
 use rx_scan::{Scan, Syntax, Token};
 use rx_tags::{Stop, Tag};
@@ -40,7 +35,7 @@ pub enum Event<'a> {
 pub struct Nest {
     scan: Scan,
     line: Line,
-    owed: Owed,
+    owed: PendingEvents,
     failed: Option<Fault>,
     spent: bool,
 }
@@ -52,15 +47,13 @@ impl Model for Nest {
 
     ghost view = { λ n. record { scan = n.scan; line = n.line; owed = n.owed; failed = n.failed; spent = n.spent } };
 
-    ghost invariant = { λ n. Ready n.scan n.line n.failed n.spent };
+    ghost invariant = { λ n. Ready n.scan n.line n.owed n.failed n.spent };
 }
 
 impl Nest {
-    ghost use Rattle.rx_nest.specs.Signs.{Sign};
-
     /// Before the first byte of a page. It takes the memory of all levels.
     pub fn new(alloc: Global, syntax: Syntax, limits: Limits) -> Result<Nest, NoMemory>
-        ensures stands { IfOk result (λ n. nests.Stands syntax limits n [] []) }
+        ensures stands { IfOk result (λ n. nests.NestStands syntax limits n [] []) }
         ensures paid { IfOk result (λ n. n.owed ≡ paid) }
     {
         let scan = Scan::new(alloc, syntax, limits)?;
@@ -68,7 +61,7 @@ impl Nest {
         Ok(Nest {
             scan,
             line,
-            owed: Owed::PAID,
+            owed: PendingEvents::NONE,
             failed: None,
             spent: false,
         })
@@ -82,10 +75,11 @@ impl Nest {
     }
 
     // What is due first, then what the next bytes tell.
-    fn advance(&mut self, piece: &[u8]) -> Result<(usize, Did), Stop>
-        ensures steps { (syntax : syntaxes.Syntax) (limits : limit.Limits) (bytes : List ℕ) (signs : List Sign) → nests.Stands syntax limits self.old bytes signs → nests.AdvanceGives syntax limits bytes signs piece.now result self.new }
+    fn advance(&mut self, piece: &[u8]) -> Result<(usize, EventKind), Stop>
+        ensures steps { nests.Advances self.old piece.now result self.new }
         ensures keeps { nests.KeepsOn self.old piece.now result self.new }
-        ensures quiet { (syntax : syntaxes.Syntax) (limits : limit.Limits) (bytes : List ℕ) (signs : List Sign) → nests.Stands syntax limits self.old bytes signs → nests.IsBetween syntax limits bytes → is_quiet piece.now ≡ true → IsNoMemory result ≡ false }
+        ensures lends { IfOk result (λ done. nests.DidLends done.1 self.new.scan) }
+        ensures quiet { nests.IsQuiet self.old piece.now result }
     {
         if self.spent {
             return Err(Stop::NoMemory);
@@ -98,8 +92,8 @@ impl Nest {
             return Ok((0, did));
         }
         match read(&mut self.scan, &mut self.line, piece) {
-            Ok((taken, heard)) => {
-                let (did, owed) = first_of(heard);
+            Ok((taken, tree_token)) => {
+                let (did, owed) = first_of(tree_token);
                 self.owed = owed;
                 Ok((taken, did))
             }
@@ -115,20 +109,21 @@ impl Nest {
     }
 
     // The event of what was done.
-    fn shown(&self, did: Did) -> Event<'_>
+    fn shown(&self, did: EventKind) -> Event<'_>
+        requires { nests.DidLends did self.now.scan }
         ensures { nests.Shown did self.now.scan result }
     {
         match did {
-            Did::More => Event::More,
-            Did::Skipped => Event::Skipped,
-            Did::Finish => Event::Finish,
-            Did::Begin => match self.scan.last() {
+            EventKind::More => Event::More,
+            EventKind::Skipped => Event::Skipped,
+            EventKind::Finish => Event::Finish,
+            EventKind::Begin => match self.scan.last() {
                 Some(tag) => Event::Begin(tag),
-                None => Event::Skipped,
+                None => unreachable!(),
             },
-            Did::Text => match self.scan.token() {
+            EventKind::Text => match self.scan.token() {
                 Token::Text(text) => Event::Text(text),
-                _ => Event::Skipped,
+                _ => unreachable!(),
             },
         }
     }
@@ -138,7 +133,6 @@ impl Nest {
     ghost use Rattle.std.specs.Borrow.{sem};
     ghost use Rattle.std.specs.Io.BufRead.{Rests};
     ghost use Rattle.rx_nest.specs.contracts.nests.Nest.{the_row};
-    ghost use Rattle.rx_nest.specs.Signs.{Sign};
 
     /// Takes bytes of the piece, and tells how many, and what the page's tree has next: up to the end of a token, or all
     /// of them; or none where the last tag still tells something, as the end of an element whose end tag is omitted.
@@ -148,8 +142,8 @@ impl Nest {
     /// so far, and then at each later call; it is the page's fault, whatever follows. After want of memory nothing else is
     /// answered. Text takes none: a piece without `<` and `&` that comes where no token is unfinished never wants memory.
     pub fn step(&mut self, piece: &[u8]) -> Result<(usize, Event<'_>), Stop>
-        ensures* after { sem 𝓛 (Rests the_row self.entry (λ new. nests.Keeps self.old piece.now result new × ((syntax : syntaxes.Syntax) (limits : limit.Limits) (bytes : List ℕ) (signs : List Sign) → nests.Stands syntax limits self.old bytes signs → nests.StepGives syntax limits bytes signs piece.now result new))) }
-        ensures quiet { (syntax : syntaxes.Syntax) (limits : limit.Limits) (bytes : List ℕ) (signs : List Sign) → nests.Stands syntax limits self.old bytes signs → nests.IsBetween syntax limits bytes → is_quiet piece.now ≡ true → IsNoMemory result ≡ false }
+        ensures* after { sem 𝓛 (Rests the_row self.entry (λ new. nests.Keeps self.old piece.now result new × nests.Steps self.old piece.now result new)) }
+        ensures quiet { nests.IsQuiet self.old piece.now result }
     {
         let (taken, did) = match self.advance(piece) {
             Ok(done) => done,
@@ -161,7 +155,7 @@ impl Nest {
     /// The page's end. `Unended` comes exactly where the bytes so far are no page and no earlier fault stands in them,
     /// and then at each later call. After `Ok` what was told, with what the last tag still tells, is the page's tree.
     pub fn end(&mut self) -> Result<(), Stop>
-        ensures ends { (syntax : syntaxes.Syntax) (limits : limit.Limits) (bytes : List ℕ) (signs : List Sign) → nests.Stands syntax limits self.old bytes signs → nests.EndGives syntax limits bytes signs self.old result self.new }
+        ensures ends { nests.Ends self.old result self.new }
         ensures keeps { nests.KeepsEnd self.old result self.new }
     {
         if self.spent {
@@ -181,7 +175,7 @@ impl Nest {
 // The fault of the page's end, if it has one.
 fn ending(scan: &mut Scan, line: &Line) -> Option<Fault>
     requires { nests.Somewhere scan.old line.now }
-    ensures ends { (syntax : syntaxes.Syntax) (limits : limit.Limits) (bytes : List ℕ) (told : List nesting.Event) → nests.At syntax limits bytes told scan.old line.now → nests.EndsWith syntax limits bytes told result }
+    ensures ends { nests.EndsAt scan.old line.now result }
     ensures keeps { nests.IfNoFault result (scan.new ≡ scan.old) }
 {
     match scan.end() {

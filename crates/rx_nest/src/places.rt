@@ -6,8 +6,8 @@ ghost use Rattle.rx_tags.specs.Seen.{tag_seen};
 ghost use Rattle.rx_nest.specs.Levels.{row_at};
 ghost use Rattle.rx_nest.specs.Rows.{row_seen};
 
-use crate::names;
-use crate::tables::Row;
+use crate::element_names;
+use crate::tables::OmittedEnd;
 use rx_chars::Syntax;
 use rx_grammar::Content;
 use rx_tags::Tag;
@@ -74,14 +74,14 @@ impl Place {
         match syntax {
             Syntax::Xhtml => Place::of(Content::Strict),
             Syntax::Html if self.is_foreign() => self.inside_foreign(name),
-            Syntax::Html => names::inside_html(name),
+            Syntax::Html => element_names::inside_html(name),
         }
     }
 
     fn inside_foreign(self, name: &str) -> Place
         ensures { result ≡ contents.inside_foreign self.in_svg (chars name.now) }
     {
-        if self.in_svg && names::holds_html_in_svg(name) {
+        if self.in_svg && element_names::holds_html_in_svg(name) {
             Place::of(Content::Html)
         } else {
             Place::foreign(self.in_svg)
@@ -108,8 +108,8 @@ impl Place {
             Syntax::Html => {
                 !self.is_foreign()
                     && tag.slash()
-                    && !names::is_void(tag.name())
-                    && !names::is_foreign_root(tag.name())
+                    && !element_names::is_void(tag.name())
+                    && !element_names::is_foreign_root(tag.name())
             }
         }
     }
@@ -120,7 +120,7 @@ impl Place {
     {
         match syntax {
             Syntax::Xhtml => false,
-            Syntax::Html => self.is_html() && names::is_plaintext(tag.name()),
+            Syntax::Html => self.is_html() && element_names::is_plaintext(tag.name()),
         }
     }
 
@@ -128,22 +128,22 @@ impl Place {
     pub(crate) fn hides(self, tag: &Tag<'_>) -> bool
         ensures { result ≡ contents.hides self (tag_seen tag.now) }
     {
-        !self.is_foreign() && names::is_template(tag.name())
+        !self.is_foreign() && element_names::is_template(tag.name())
     }
 
     /// Whether a line feed directly after the start tag is dropped.
     pub(crate) fn drops_line_feed(self, tag: &Tag<'_>) -> bool
         ensures { result ≡ contents.drops_line_feed self (tag_seen tag.now) }
     {
-        self.is_html() && names::drops(tag.name())
+        self.is_html() && element_names::drops(tag.name())
     }
 
     /// The row of an element of this name whose start tag stands here, where its end tag may be omitted.
-    pub(crate) fn row_of(self, name: &str) -> Option<Row>
+    pub(crate) fn row_of(self, name: &str) -> Option<OmittedEnd>
         ensures { option_map row_seen result ≡ row_at self (chars name.now) }
     {
         if self.is_html() {
-            names::row_of(name)
+            element_names::row_of(name)
         } else {
             None
         }
@@ -153,5 +153,6 @@ impl Place {
 fn is_alone_in_html(tag: &Tag<'_>) -> bool
     ensures { result ≡ (contents.is_void (tag_seen tag.now).name || ((tag_seen tag.now).slash && contents.is_foreign_root (tag_seen tag.now).name)) }
 {
-    names::is_void(tag.name()) || (tag.slash() && names::is_foreign_root(tag.name()))
+    element_names::is_void(tag.name())
+        || (tag.slash() && element_names::is_foreign_root(tag.name()))
 }

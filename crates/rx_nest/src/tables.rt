@@ -11,7 +11,7 @@ use rx_grammar::{Content, RawName};
 
 /// The start tags that end an element whose end tag may be omitted.
 #[derive(Clone, Copy, Debug, PartialEq, Eq)]
-pub(crate) enum Row {
+pub(crate) enum OmittedEnd {
     Item,
     Definition,
     Paragraph,
@@ -21,17 +21,17 @@ pub(crate) enum Row {
     Cell,
 }
 
-pub(crate) fn row_of(name: &str) -> Option<Row>
+pub(crate) fn row_of(name: &str) -> Option<OmittedEnd>
     ensures { option_map row_seen result ≡ names.row_of name.now }
 {
     match name {
-        "li" => Some(Row::Item),
-        "dt" | "dd" => Some(Row::Definition),
-        "p" => Some(Row::Paragraph),
-        "option" => Some(Row::Choice),
-        "thead" | "tbody" | "tfoot" => Some(Row::Part),
-        "tr" => Some(Row::TableRow),
-        "td" | "th" => Some(Row::Cell),
+        "li" => Some(OmittedEnd::Item),
+        "dt" | "dd" => Some(OmittedEnd::Definition),
+        "p" => Some(OmittedEnd::Paragraph),
+        "option" => Some(OmittedEnd::Choice),
+        "thead" | "tbody" | "tfoot" => Some(OmittedEnd::Part),
+        "tr" => Some(OmittedEnd::TableRow),
+        "td" | "th" => Some(OmittedEnd::Cell),
         _ => None,
     }
 }
@@ -113,17 +113,17 @@ fn ends_paragraph_late(name: &str) -> bool
 }
 
 /// Whether the row has the name.
-pub(crate) fn has(row: Row, name: &str) -> bool
+pub(crate) fn has(row: OmittedEnd, name: &str) -> bool
     ensures { result ≡ is_among (row_seen row) name.now }
 {
     match row {
-        Row::Item => name == "li",
-        Row::Definition => matches!(name, "dt" | "dd"),
-        Row::Paragraph => ends_paragraph(name),
-        Row::Choice => matches!(name, "option" | "optgroup" | "hr"),
-        Row::Part => is_part(name),
-        Row::TableRow => name == "tr" || is_part(name),
-        Row::Cell => matches!(name, "td" | "th" | "tr") || is_part(name),
+        OmittedEnd::Item => name == "li",
+        OmittedEnd::Definition => matches!(name, "dt" | "dd"),
+        OmittedEnd::Paragraph => ends_paragraph(name),
+        OmittedEnd::Choice => matches!(name, "option" | "optgroup" | "hr"),
+        OmittedEnd::Part => is_part(name),
+        OmittedEnd::TableRow => name == "tr" || is_part(name),
+        OmittedEnd::Cell => matches!(name, "td" | "th" | "tr") || is_part(name),
     }
 }
 

@@ -189,8 +189,8 @@ module _ (context : Prefixes) (list : List (Triple ℕ)) (shapes : ℕ → Shape
 
   -- ---- what it means
 
-  abbrev Told : List ℕ → Triple ℕ → Type 0
-  Told ns t = Under context declared names covers apart list place ns t
+  abbrev IsTold : List ℕ → Triple ℕ → Type 0
+  IsTold ns t = Under context declared names covers apart list place ns t
 
   abbrev Spoken : Node ℕ → Triple ℕ → Type 0
   Spoken s t = SaidBy context declared names covers apart list place s (objects_of list s) (predicates_of list s) t
@@ -241,8 +241,8 @@ module _ (context : Prefixes) (list : List (Triple ℕ)) (shapes : ℕ → Shape
       → (means : MeansPredicates context declared names covers apart list place node_at nodes_in (objects_of list s) (said_of context object_at list s) (predicates_of list s))
       → In (names_of_subject (subject_of context s) ++ names_in (said_of context object_at list s)) → NamedSo place n (below_one s ++ below_all list shapes have more)
       → (NamedSo place (n + unlabelled (said_of context object_at list s)) (below_all list shapes have more)
-      → Among (all_triples declared (λ number. number) place (map state more) (n + unlabelled (said_of context object_at list s))) t ↔ (SaidTop more t ⊎ Told (below_all list shapes have more) t))
-      → Among (all_triples declared (λ number. number) place (map state (s ∷ more)) n) t ↔ (SaidTop (s ∷ more) t ⊎ Told (below_all list shapes have (s ∷ more)) t)
+      → Among (all_triples declared (λ number. number) place (map state more) (n + unlabelled (said_of context object_at list s))) t ↔ (SaidTop more t ⊎ IsTold (below_all list shapes have more) t))
+      → Among (all_triples declared (λ number. number) place (map state (s ∷ more)) n) t ↔ (SaidTop (s ∷ more) t ⊎ IsTold (below_all list shapes have (s ∷ more)) t)
   statement_and s more n t means mine_within h rest = (forth, back)
     where
       part : Part Predicates
@@ -260,26 +260,26 @@ module _ (context : Prefixes) (list : List (Triple ℕ)) (shapes : ℕ → Shape
       theirs : List (Triple ℕ)
       theirs = all_triples declared (λ number. number) place (map state more) (n + unlabelled part)
 
-      by : Among mine t ↔ (Spoken s t ⊎ Told ns t)
-      by = subst (λ (z : Node ℕ). Among (triples declared (λ number. number) place part z n) t ↔ (Spoken s t ⊎ Told ns t))
+      by : Among mine t ↔ (Spoken s t ⊎ IsTold ns t)
+      by = subst (λ (z : Node ℕ). Among (triples declared (λ number. number) place part z n) t ↔ (Spoken s t ⊎ IsTold ns t))
           (sym (node_means s (in_left context declared names covers (names_of_subject (subject_of context s)) (names_in part) mine_within)))
           (means.says s n (in_right context declared names covers (names_of_subject (subject_of context s)) (names_in part) mine_within) (named_front place n ns ms h) t)
 
-      on : Among theirs t ↔ (SaidTop more t ⊎ Told ms t)
+      on : Among theirs t ↔ (SaidTop more t ⊎ IsTold ms t)
       on = rest (subst (λ z. NamedSo place (n + z) ms) (sym means.size) (named_behind place n ns ms h))
 
-      told : Spoken s t ⊎ Told ns t → SaidTop (s ∷ more) t ⊎ Told (ns ++ ms) t
+      told : Spoken s t ⊎ IsTold ns t → SaidTop (s ∷ more) t ⊎ IsTold (ns ++ ms) t
       told (inl y) = inl (record { subject = s; among = inl refl; said = y })
       told (inr u) = inr (under_left context declared names covers apart list place ns ms t u)
 
-      told_behind : SaidTop more t ⊎ Told ms t → SaidTop (s ∷ more) t ⊎ Told (ns ++ ms) t
+      told_behind : SaidTop more t ⊎ IsTold ms t → SaidTop (s ∷ more) t ⊎ IsTold (ns ++ ms) t
       told_behind (inl y) = inl (record { subject = y.subject; among = inr y.among; said = y.said })
       told_behind (inr u) = inr (under_right context declared names covers apart list place ns ms t u)
 
-      forth : Among (mine ++ theirs) t → SaidTop (s ∷ more) t ⊎ Told (ns ++ ms) t
+      forth : Among (mine ++ theirs) t → SaidTop (s ∷ more) t ⊎ IsTold (ns ++ ms) t
       forth a = elim (Among_cases mine theirs t a) [ inl b ↦ told (by.0 b) | inr b ↦ told_behind (on.0 b) ]
 
-      back : SaidTop (s ∷ more) t ⊎ Told (ns ++ ms) t → Among (mine ++ theirs) t
+      back : SaidTop (s ∷ more) t ⊎ IsTold (ns ++ ms) t → Among (mine ++ theirs) t
       back (inl y) = elim y.among [
         | inl e ↦ Among_left mine theirs t (by.1 (inl (subst (λ (z : Node ℕ). Spoken z t) (sym e) y.said)))
         | inr a ↦ Among_right mine theirs t (on.1 (inl (record { subject = y.subject; among = a; said = y.said })))
@@ -287,7 +287,7 @@ module _ (context : Prefixes) (list : List (Triple ℕ)) (shapes : ℕ → Shape
       back (inr u) = elim (under_cases context declared names covers apart list place ns ms t u) [ inl v ↦ Among_left mine theirs t (by.1 (inr v)) | inr v ↦ Among_right mine theirs t (on.1 (inr v)) ]
 
   statements_mean : (nodes : List (Node ℕ)) → ((s : Node ℕ) → Among nodes s → Among (subjects list) s) → In (names_used (map state nodes)) → (n : ℕ) → NamedSo place n (below_all list shapes have nodes)
-      → (t : Triple ℕ) → Among (all_triples declared (λ number. number) place (map state nodes) n) t ↔ (SaidTop nodes t ⊎ Told (below_all list shapes have nodes) t)
+      → (t : Triple ℕ) → Among (all_triples declared (λ number. number) place (map state nodes) n) t ↔ (SaidTop nodes t ⊎ IsTold (below_all list shapes have nodes) t)
   statements_mean [] there within n h t = (λ a. absurd a, λ y. elim y [ inl z ↦ absurd z.among | inr u ↦ absurd u.among ])
   statements_mean (s ∷ more) there within n h t =
       statement_and s more n t (said_means s (there s (inl refl))) (in_left context declared names covers (names_of_subject (subject_of context s) ++ names_in (said_of context object_at list s)) (names_used (map state more)) within) h
@@ -297,17 +297,17 @@ module _ (context : Prefixes) (list : List (Triple ℕ)) (shapes : ℕ → Shape
   abbrev meant : List (Triple ℕ)
   meant = all_triples declared (λ number. number) place all_statements 0
 
-  all_means : (t : Triple ℕ) → Among meant t ↔ (SaidTop tops t ⊎ Told order t)
+  all_means : (t : Triple ℕ) → Among meant t ↔ (SaidTop tops t ⊎ IsTold order t)
   all_means t = statements_mean tops top_subject (λ n m. m) 0 (at_named order) t
 
   -- each triple is said of a subject that has a statement, or of a node that is written where it is used
-  in_or_below : (u : Triple ℕ) → Among list u → (t : Triple ℕ) → proper_triple u ≡ t → SaidTop tops t ⊎ Told order t
+  in_or_below : (u : Triple ℕ) → Among list u → (t : Triple ℕ) → proper_triple u ≡ t → SaidTop tops t ⊎ IsTold order t
   in_or_below u m t e = go u.subject refl
     where
-      top : Among tops u.subject → SaidTop tops t ⊎ Told order t
+      top : Among tops u.subject → SaidTop tops t ⊎ IsTold order t
       top k = inl (record { subject = u.subject; among = k; said = record { predicate = u.predicate; among = predicate_there list u m; said = record { object = u.object; among = object_there list u m; is = e } } })
 
-      below : (a : ℕ) → u.subject ≡ Blank a → Inner (set_of list) a → SaidTop tops t ⊎ Told order t
+      below : (a : ℕ) → u.subject ≡ Blank a → Inner (set_of list) a → SaidTop tops t ⊎ IsTold order t
       below a f i = inr (record { triple = u; there = m; read = e; node = a; among = inner_there list shapes have tops outer_there a i; said = f })
 
       cell_in : (a : ℕ) → Cell (set_of list) a → Inner (set_of list) a
@@ -317,16 +317,16 @@ module _ (context : Prefixes) (list : List (Triple ℕ)) (shapes : ℕ → Shape
       blanks_alike : (x y : ℕ) → Blank x ≡ Blank y → x ≡ y
       blanks_alike x y f = cc
 
-      by_shape : (a : ℕ) → u.subject ≡ Blank a → (s : Shape) → IsShape (set_of list) a s → SaidTop tops t ⊎ Told order t
+      by_shape : (a : ℕ) → u.subject ≡ Blank a → (s : Shape) → IsShape (set_of list) a s → SaidTop tops t ⊎ IsTold order t
       by_shape a f shape.Labelled h = top (outer_there u.subject u.predicate u.object m (λ x g i. h (subst (Inner (set_of list)) (blanks_alike x a (sym g ∙ f)) i)))
       by_shape a f shape.Inside h = below a f h.0
       by_shape a f shape.Cell h = below a f (cell_in a h)
 
-      go : (s : Node ℕ) → u.subject ≡ s → SaidTop tops t ⊎ Told order t
+      go : (s : Node ℕ) → u.subject ≡ s → SaidTop tops t ⊎ IsTold order t
       go (Iri iri) f = top (outer_there u.subject u.predicate u.object m (λ x g i. absurd (cc (sym f ∙ g))))
       go (Blank a) f = by_shape a f (shapes a) (have a)
 
-  of_list : (t : Triple ℕ) → SaidTop tops t ⊎ Told order t → Among (map proper_triple list) t
+  of_list : (t : Triple ℕ) → SaidTop tops t ⊎ IsTold order t → Among (map proper_triple list) t
   of_list t (inl y) =
       let s : Node ℕ = y.subject in let p : Chars = y.said.predicate in let o : Term ℕ = y.said.said.object in
       subst (Among (map proper_triple list)) y.said.said.is (Among_map proper_triple list (spo s p o) (object_says list s p o y.said.said.among))

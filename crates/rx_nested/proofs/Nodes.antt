@@ -94,8 +94,8 @@ module _ (context declared : Prefixes) (names : List Chars) (covers : (p : Prefi
   abbrev MeansTerm : Part Object → Term ℕ → List ℕ → Type 0
   MeansTerm part o ns = Means context declared names covers apart list place part o ns
 
-  abbrev Told : List ℕ → Triple ℕ → Type 0
-  Told ns t = Under context declared names covers apart list place ns t
+  abbrev IsTold : List ℕ → Triple ℕ → Type 0
+  IsTold ns t = Under context declared names covers apart list place ns t
 
   abbrev Inside_names : List Chars → Type 0
   Inside_names some = In context declared names covers apart list place some
@@ -105,7 +105,7 @@ module _ (context declared : Prefixes) (names : List Chars) (covers : (p : Prefi
     pub size : unlabelled part ≡ length ns
     pub head : (n : ℕ) → NamedSo place n ns → place n ≡ number
     pub says : (n : ℕ) → Inside_names (names_in part) → NamedSo place n ns → (t : Triple ℕ)
-        → Among (triples declared (λ number. number) place part tt n) t ↔ Told ns t
+        → Among (triples declared (λ number. number) place part tt n) t ↔ IsTold ns t
 
   -- ---- a node in brackets
 
@@ -119,10 +119,10 @@ module _ (context declared : Prefixes) (names : List Chars) (covers : (p : Prefi
   Speaks number ps = (t : Triple ℕ) → Among list t → t.subject ≡ Blank number → Among ps t.predicate
 
   -- what is said of a node, and of those below, is what is said of them all
-  own_said : (number : ℕ) (ps : List Chars) (ns : List ℕ) → Speaks number ps → (t : Triple ℕ) → (Spoken number ps t ⊎ Told ns t) ↔ Told (number ∷ ns) t
+  own_said : (number : ℕ) (ps : List Chars) (ns : List ℕ) → Speaks number ps → (t : Triple ℕ) → (Spoken number ps t ⊎ IsTold ns t) ↔ IsTold (number ∷ ns) t
   own_said number ps ns speaks t = (forth, back)
     where
-      forth : Spoken number ps t ⊎ Told ns t → Told (number ∷ ns) t
+      forth : Spoken number ps t ⊎ IsTold ns t → IsTold (number ∷ ns) t
       forth (inl y) = record {
         triple = spo (Blank number) y.predicate y.said.object;
         there = object_says list (Blank number) y.predicate y.said.object y.said.among;
@@ -144,7 +144,7 @@ module _ (context declared : Prefixes) (names : List Chars) (covers : (p : Prefi
         };
       }
 
-      back : Told (number ∷ ns) t → Spoken number ps t ⊎ Told ns t
+      back : IsTold (number ∷ ns) t → Spoken number ps t ⊎ IsTold ns t
       back u = elim u.among [
         | inl e ↦ inl (spoken u.triple u.there (u.said ∙ ap Blank (sym e)) u.read)
         | inr m ↦ inr (record { triple = u.triple; there = u.there; read = u.read; node = u.node; among = m; said = u.said })
@@ -179,11 +179,11 @@ module _ (context declared : Prefixes) (names : List Chars) (covers : (p : Prefi
       part : Part Predicates
       part = predicates_after context (object_by context node) objects first more
 
-      says : (n : ℕ) → Inside_names (names_in part) → NamedSo place n (number ∷ ns) → (t : Triple ℕ) → Among (triples declared (λ number. number) place part (Blank (place n)) (suc n)) t ↔ Told (number ∷ ns) t
+      says : (n : ℕ) → Inside_names (names_in part) → NamedSo place n (number ∷ ns) → (t : Triple ℕ) → Among (triples declared (λ number. number) place part (Blank (place n)) (suc n)) t ↔ IsTold (number ∷ ns) t
       says n w h t =
           let own = own_said number (first ∷ more) ns speaks t in
-          let by : Among (triples declared (λ number. number) place part (Blank (place n)) (suc n)) t ↔ (Spoken number (first ∷ more) t ⊎ Told ns t) =
-          subst (λ z. Among (triples declared (λ number. number) place part (Blank z) (suc n)) t ↔ (Spoken number (first ∷ more) t ⊎ Told ns t)) (sym h.0) (m.says (Blank number) (suc n) w h.1 t) in
+          let by : Among (triples declared (λ number. number) place part (Blank (place n)) (suc n)) t ↔ (Spoken number (first ∷ more) t ⊎ IsTold ns t) =
+          subst (λ z. Among (triples declared (λ number. number) place part (Blank z) (suc n)) t ↔ (Spoken number (first ∷ more) t ⊎ IsTold ns t)) (sym h.0) (m.says (Blank number) (suc n) w h.1 t) in
           (λ a. own.0 (by.0 a), λ u. by.1 (own.1 u))
 
   inside_means : (node : ℕ → Part Object) (nodes : ℕ → List ℕ) (number : ℕ) → AllMeanOf node nodes number
@@ -197,20 +197,20 @@ module _ (context declared : Prefixes) (names : List Chars) (covers : (p : Prefi
   -- the triples of a cell, with those of its item and of the cells behind
   cell_said : (number : ℕ) (c : CellOf list number) (mine tail : List (Triple ℕ)) (xs ys : List ℕ) (t first rest : Triple ℕ)
       → first ≡ proper_triple (spo (Blank number) rdf_first c.item) → rest ≡ proper_triple (spo (Blank number) rdf_rest c.after)
-      → Among mine t ↔ Told xs t → Among tail t ↔ Told ys t → Among (first ∷ (mine ++ rest ∷ tail)) t ↔ Told (number ∷ (xs ++ ys)) t
+      → Among mine t ↔ IsTold xs t → Among tail t ↔ IsTold ys t → Among (first ∷ (mine ++ rest ∷ tail)) t ↔ IsTold (number ∷ (xs ++ ys)) t
   cell_said number c mine tail xs ys t first rest is_first is_rest m l = (forth, back)
     where
-      own : (u : Triple ℕ) → Among list u → u.subject ≡ Blank number → proper_triple u ≡ t → Told (number ∷ (xs ++ ys)) t
+      own : (u : Triple ℕ) → Among list u → u.subject ≡ Blank number → proper_triple u ≡ t → IsTold (number ∷ (xs ++ ys)) t
       own u k e r = record { triple = u; there = k; read = r; node = number; among = inl refl; said = e }
 
-      inner : Told (xs ++ ys) t → Told (number ∷ (xs ++ ys)) t
+      inner : IsTold (xs ++ ys) t → IsTold (number ∷ (xs ++ ys)) t
       inner u = under_right context declared names covers apart list place (number ∷ []) (xs ++ ys) t u
 
-      forth_behind : Among (rest ∷ tail) t → Told (number ∷ (xs ++ ys)) t
+      forth_behind : Among (rest ∷ tail) t → IsTold (number ∷ (xs ++ ys)) t
       forth_behind (inl e) = own (spo (Blank number) rdf_rest c.after) c.pair.rest refl (sym is_rest ∙ e)
       forth_behind (inr a) = inner (under_right context declared names covers apart list place xs ys t (l.0 a))
 
-      forth : Among (first ∷ (mine ++ rest ∷ tail)) t → Told (number ∷ (xs ++ ys)) t
+      forth : Among (first ∷ (mine ++ rest ∷ tail)) t → IsTold (number ∷ (xs ++ ys)) t
       forth (inl e) = own (spo (Blank number) rdf_first c.item) c.pair.first refl (sym is_first ∙ e)
       forth (inr a) = elim (Among_cases mine (rest ∷ tail) t a) [
         | inl b ↦ inner (under_left context declared names covers apart list place xs ys t (m.0 b))
@@ -223,13 +223,13 @@ module _ (context declared : Prefixes) (names : List Chars) (covers : (p : Prefi
         | inr f ↦ inr (Among_right mine (rest ∷ tail) t (inl (is_rest ∙ ap proper_triple (sym f) ∙ r)))
       ]
 
-      back_below : Told (xs ++ ys) t → Among (first ∷ (mine ++ rest ∷ tail)) t
+      back_below : IsTold (xs ++ ys) t → Among (first ∷ (mine ++ rest ∷ tail)) t
       back_below u = elim (under_cases context declared names covers apart list place xs ys t u) [
         | inl v ↦ inr (Among_left mine (rest ∷ tail) t (m.1 v))
         | inr v ↦ inr (Among_right mine (rest ∷ tail) t (inr (l.1 v)))
       ]
 
-      back : Told (number ∷ (xs ++ ys)) t → Among (first ∷ (mine ++ rest ∷ tail)) t
+      back : IsTold (number ∷ (xs ++ ys)) t → Among (first ∷ (mine ++ rest ∷ tail)) t
       back u = elim u.among [
         | inl e ↦ mine_back u.triple u.there (u.said ∙ ap Blank (sym e)) u.read
         | inr k ↦ back_below (record { triple = u.triple; there = u.there; read = u.read; node = u.node; among = k; said = u.said })
@@ -251,7 +251,7 @@ module _ (context declared : Prefixes) (names : List Chars) (covers : (p : Prefi
         sized = let f = length-append ns [] in let g : unlabelled part ≡ length ns = item.size in omega (arith, f, g)
 
         says : (n : ℕ) → Inside_names (names_in part) → NamedSo place n (number ∷ (ns ++ [])) → (t : Triple ℕ)
-            → Among (triples declared (λ number. number) place (Last part) tt n) t ↔ Told (number ∷ (ns ++ [])) t
+            → Among (triples declared (λ number. number) place (Last part) tt n) t ↔ IsTold (number ∷ (ns ++ [])) t
         says n w h t =
             let k : NamedSo place (suc n) ns = named_front place (suc n) ns [] h.1 in
             cell_said number c (triples declared (λ number. number) place part tt (suc n)) [] ns [] t
@@ -272,7 +272,7 @@ module _ (context declared : Prefixes) (names : List Chars) (covers : (p : Prefi
         sized = let f = length-append ns (below d) in let g : unlabelled part ≡ length ns = item.size in let k : unlabelled (cell d) ≡ length (below d) = behind.size in omega (arith, f, g, k)
 
         says : (n : ℕ) → Inside_names (names_in part ++ names_in (cell d)) → NamedSo place n (number ∷ (ns ++ below d)) → (t : Triple ℕ)
-            → Among (triples declared (λ number. number) place (Item part (cell d)) tt n) t ↔ Told (number ∷ (ns ++ below d)) t
+            → Among (triples declared (λ number. number) place (Item part (cell d)) tt n) t ↔ IsTold (number ∷ (ns ++ below d)) t
         says n w h t =
             let k : NamedSo place (suc n) ns = named_front place (suc n) ns (below d) h.1 in
             let l : NamedSo place (suc n + unlabelled part) (below d) = subst (λ z. NamedSo place (suc n + z) (below d)) (sym item.size) (named_behind place (suc n) ns (below d) h.1) in

@@ -2,7 +2,7 @@
 ghost use Rattle.std.specs.Prelude.{◌≡◌, ◌≤◌, ◌++◌, Err, IfOk, IsErrOf, OnErr, OnOk, encode_utf8_all, option_map, false};
 ghost use Rattle.std.specs.Str.{chars};
 ghost use Rattle.rx_ports.specs.Counts.{Rose};
-ghost use Rattle.rx_ports.specs.Told.{Moves, GrowsBy, GrowsByPart};
+ghost use Rattle.rx_ports.specs.Shelves.{Moves, GrowsBy, GrowsByPart};
 ghost use Rattle.rx_model.specs.Seen.{triple_seen, triples_seen};
 ghost use Rattle.rx_nquads.specs.Graphs.{DenoteGraph, graph_bytes, lent_name, line_bytes};
 ghost use Rattle.rx_nquads.specs.Writing.{graph_text, line_text, nquads};

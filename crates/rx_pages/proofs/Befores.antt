@@ -14,7 +14,7 @@ use Rattle.rx_grammar.specs.Tokens.{Token, tag, kept}
 use Rattle.rx_grammar.specs.Shapes.{ends_name}
 use Rattle.rx_grammar.specs.Spelling.{Spells, has_less_than, keeps_runs, raw_name, begins_end, stops_end, a_tag, an_end_of_raw, a_character, a_less_than, a_raw_run, a_reference, a_kept_run, a_comment, a_bogus_comment, a_question, a_strict_comment, an_instruction, a_section, a_doctype}
 use Rattle.rx_grammar.specs.Items.{Item, last_from, Spelled, no_more, one, values, next_of}
-use Rattle.rx_reader.proofs.Bools.{both, not_both_ways}
+use Rattle.rx_terms.proofs.Bools.{both, not_both_ways}
 use Rattle.rx_reader.proofs.Classes.{unless}
 use Rattle.rx_pages.proofs.RawEnds.{IsRawName, is_raw_name}
 

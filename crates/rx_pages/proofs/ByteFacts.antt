@@ -13,7 +13,7 @@ use Rattle.rx_grammar.specs.declared.faults.Kind.TheVariants.{BadDoctype, NotUtf
 use Rattle.rx_grammar.specs.declared.limits.Limits.{Limits}
 use Rattle.rx_grammar.specs.Tokens.{Token}
 use Rattle.rx_grammar.specs.Items.{values, Item, is_literal, last_from}
-use Rattle.rx_reader.proofs.Bools.{split}
+use Rattle.rx_terms.proofs.Bools.{split}
 use Rattle.rx_pages.specs.Scanner.{Verdict, goes_on, whole, ended, refused, verdict}
 use Rattle.rx_pages.specs.PageReader.{Spot, Scanning, Scanned, first_of, starts_at, token_at, entering, item_of, is_doctype, is_too_long, completed, told_first, with_item, after_token, told, read_entry, read_char, read_answer, read_byte}
 

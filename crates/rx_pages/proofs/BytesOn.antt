@@ -26,7 +26,7 @@ use Rattle.rx_grammar.specs.Begun.{Line, inside_of, Phase, before, within, after
 use Rattle.rx_grammar.specs.PageFaults.{is_known_tag, token_of, IsShort, IsPart, GoesOn, begins_one, is_one, Before, Reached, FaultAt}
 use Rattle.rx_grammar.specs.PageFaults as faults
 use Rattle.rx_grammar.specs.Laws.{PageOrFault}
-use Rattle.rx_reader.proofs.Bools.{by_test, not_both_ways}
+use Rattle.rx_terms.proofs.Bools.{by_test, not_both_ways}
 use Rattle.rx_pages.proofs.CharSteps.{passes, entry_at}
 use Rattle.rx_pages.proofs.CharWalk.{is_started, ends_return}
 use Rattle.rx_pages.proofs.Snocs.{entered_one, page_snoc}
@@ -34,16 +34,16 @@ use Rattle.rx_pages.proofs.FrontOn.{Here, Next, Decided, pending, known_one, bef
 use Rattle.rx_pages.proofs.Judged.{unfinished_goes_on}
 use Rattle.rx_pages.specs.Scanner as scanner
 
-encodes_more : (cs : List ℕ) (c : ℕ) → encodes (cs ++ c ∷ []) ≡ encodes cs ++ encode c
+pub encodes_more : (cs : List ℕ) (c : ℕ) → encodes (cs ++ c ∷ []) ≡ encodes cs ++ encode c
 encodes_more [] c = append-nil (encode c)
 encodes_more (d ∷ cs) c = ap (λ x. encode d ++ x) (encodes_more cs c) ∙ sym (append_assoc (encode d) (encodes cs) (encode c))
 
-scalars_more : (cs : List ℕ) (c : ℕ) → all_scalars cs ≡ true → scalar c ≡ true → all_scalars (cs ++ c ∷ []) ≡ true
+pub scalars_more : (cs : List ℕ) (c : ℕ) → all_scalars cs ≡ true → scalar c ≡ true → all_scalars (cs ++ c ∷ []) ≡ true
 scalars_more [] c s h = and_from (scalar c) true h refl
 scalars_more (d ∷ cs) c s h = let p = and_parts (scalar d) (all_scalars cs) s in and_from (scalar d) (all_scalars (cs ++ c ∷ [])) p.0 (scalars_more cs c p.1 h)
 
 -- no character but U+0000 is entered as it
-some_entered : (c : ℕ) → (c == 0) ≡ false → not (as_line_end c == 0) ≡ true
+pub some_entered : (c : ℕ) → (c == 0) ≡ false → not (as_line_end c == 0) ≡ true
 some_entered c h = by_test {G = not (as_line_end c == 0) ≡ true} (as_line_end c == 0) (λ t. absurd (not_both_ways (c == 0) (zero_of c t) h)) (λ t. ap not t)
   where
     zero_of : (c : ℕ) → (as_line_end c == 0) ≡ true → (c == 0) ≡ true

@@ -14,7 +14,7 @@ use Rattle.rx_chars.specs.Characters.{Entry, byte_order_mark, line_feed, carriag
 use Rattle.rx_grammar.specs.declared.limits.Limits.{Limits}
 use Rattle.rx_grammar.specs.Items.{values}
 use Rattle.rx_grammar.specs.PageFaults.{is_known_tag}
-use Rattle.rx_reader.proofs.Bools.{by_test, untrue}
+use Rattle.rx_terms.proofs.Bools.{by_test, untrue}
 use Rattle.rx_pages.specs.Nesting.{content_at}
 use Rattle.rx_pages.specs.PageReader.{first_of, is_too_long, spot_of, Progress, page_on}
 use Rattle.rx_pages.proofs.EntrySteps.{Stood, entry_step}
@@ -113,9 +113,6 @@ module _ (syntax : Syntax) (limits : Limits) where
       (nonzero : (c == 0) ≡ false) (page : start + len_utf8 c ≤ limits.page) where
     abbrev Goal : Bool → Stood → Type 0
     Goal ar reached = page_on syntax limits (Ok (progress_at start [] started after_return st)) (encode c ++ rest) ≡ page_on syntax limits (Ok (progress_at (start + len_utf8 c) [] true ar reached)) rest
-
-    last_at : start + len_utf8 c - 1 ≡ start + length front
-    last_at = omega arith
 
     next_at : start + length front + 1 ≡ start + len_utf8 c
     next_at = omega arith

@@ -13,7 +13,7 @@ use Rattle.rx_grammar.specs.declared.contents.Content.{Content}
 use Rattle.rx_grammar.specs.PageFaults.{is_known_tag, is_known_raw}
 use Rattle.rx_grammar.specs.Shapes.{begins, ends_name}
 use Rattle.rx_grammar.specs.Spelling.{has_markup, raw_name}
-use Rattle.rx_reader.proofs.Bools.{split}
+use Rattle.rx_terms.proofs.Bools.{split}
 use Rattle.rx_terms.specs.Text.{Chars}
 use Rattle.std.proofs.lemmas.Bool.{and_parts}
 use Rattle.rx_pages.specs.Nesting.{Event, not_begun, content_at, Goes, IsAt}

@@ -43,7 +43,7 @@ use Rattle.rx_pages.proofs.Befores.{spelled_less, spelled_last}
 use Rattle.rx_pages.proofs.Foreparts.{Within, page_within}
 use Rattle.rx_pages.proofs.OpenNames.{is_fair, IsName, is_steady, ending, ending_text, spells_end, name_steady}
 use Rattle.rx_pages.proofs.OpenLines.{page_fair, AllNamed, arrives}
-use Rattle.rx_reader.proofs.Bools.{both, untrue}
+use Rattle.rx_terms.proofs.Bools.{both, untrue}
 
 -- the characters of a page that are entered
 abbrev pub page_entries : List ℕ → List Entry

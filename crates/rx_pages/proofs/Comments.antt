@@ -2,9 +2,8 @@
 use Rattle.std.proofs.Common.{◌≡◌, ◌∙◌, ℕ, Bool, true, false, [], ◌∷◌, ◌++◌, Option, refl, ap, sym, append_assoc, inl, inr, ◌+◌, arith}
 use Rattle.std.specs.Prelude.{◌&&◌, ◌||◌, ◌-◌, not, codes, length, take}
 use Rattle.std.proofs.lemmas.Bool.{cond-true, cond-false, and_from}
-use Rattle.std.proofs.lemmas.List.{length-append}
+use Rattle.std.proofs.lemmas.List.{length-append, map-append}
 use Rattle.std.proofs.Math.Seq.{take-append_seam}
-use Rattle.std.proofs.lemmas.List.{map-append}
 use Rattle.rx_terms.specs.Ascii.{lowered_char, greater_than_sign}
 use Rattle.rx_terms.specs.Text.{Chars, begins_with, lowered}
 use Rattle.rx_chars.specs.declared.syntax.Syntax.{Syntax}
@@ -14,7 +13,7 @@ use Rattle.rx_grammar.specs.Tokens.{Token, comment, section}
 use Rattle.rx_grammar.specs.Spelling.{ends_with, ends_comment, begins_declaration, IsFirst, has_markup, has_sections}
 use Rattle.rx_pages.specs.Scanner.{goes_on, whole, whole_if, after_mark, in_markup, in_section, verdict, GoesOn, ReadAs}
 use Rattle.rx_pages.proofs.Reading.{all_go, go_append, read_to, reads_first, sections_markup, markup_is}
-use Rattle.rx_reader.proofs.Bools.{both, neither, either, not_both_ways, by_test}
+use Rattle.rx_terms.proofs.Bools.{both, neither, either, not_both_ways, by_test}
 use Rattle.rx_reader.proofs.Fronts.{begins_more, or_right}
 
 pub none_if : (b : Bool) (t : Token) → b ≡ false → whole_if b t ≡ goes_on

@@ -13,7 +13,7 @@ use Rattle.rx_grammar.specs.Tokens.{Tag}
 use Rattle.rx_grammar.specs.Contents.{Place, inside_html, place_in, is_html, is_foreign, is_plaintext, is_self_closed, is_void, is_foreign_root}
 use Rattle.rx_grammar.specs.Omission.{has_row, is_omissible}
 use Rattle.rx_grammar.specs.Begun.{Line, inside_of}
-use Rattle.rx_reader.proofs.Bools.{both, not_both_ways, by_test}
+use Rattle.rx_terms.proofs.Bools.{both, not_both_ways, by_test}
 
 pub same_is : (a b : Chars) → same a b ≡ true → a ≡ b
 same_is a b h = (bytes_decides a b).0 h

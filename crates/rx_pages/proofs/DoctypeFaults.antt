@@ -17,7 +17,7 @@ use Rattle.rx_pages.proofs.Doctypes.{on_none, on_append, behind}
 use Rattle.rx_pages.proofs.Pending.{begun_goes}
 use Rattle.rx_pages.proofs.Reading.{markup_is}
 use Rattle.rx_pages.proofs.Refusals.{IsRefused}
-use Rattle.rx_reader.proofs.Bools.{split}
+use Rattle.rx_terms.proofs.Bools.{split}
 use Rattle.rx_reader.proofs.Classes.{of_white}
 
 -- what stands behind the name

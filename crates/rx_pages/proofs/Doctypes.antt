@@ -18,7 +18,7 @@ use Rattle.rx_pages.proofs.Reading.{Last, no_last, a_last, last_of, all_go, go_a
 use Rattle.std.proofs.Math.Seq.{drop-append_seam}
 use Rattle.rx_pages.proofs.Comments.{none_if, and_none, bogus_at}
 use Rattle.rx_pages.proofs.Texts.{or_none}
-use Rattle.rx_reader.proofs.Bools.{both, neither, not_both_ways, by_test, untrue}
+use Rattle.rx_terms.proofs.Bools.{both, neither, not_both_ways, by_test, untrue}
 use Rattle.rx_reader.proofs.Classes.{of_one, of_white}
 use Rattle.rx_reader.proofs.Fronts.{equal, begins_append, has_end}
 use Rattle.rx_reader.proofs.OneToken.{kept_case}

@@ -7,7 +7,7 @@ use Rattle.rx_grammar.specs.declared.faults.Kind.{Kind}
 use Rattle.rx_grammar.specs.declared.limits.Limits.{Limits}
 use Rattle.rx_grammar.specs.Items.{values, Item, is_literal}
 use Rattle.rx_terms.specs.Ascii.{greater_than_sign}
-use Rattle.rx_reader.proofs.Bools.{by_test}
+use Rattle.rx_terms.proofs.Bools.{by_test}
 use Rattle.rx_pages.specs.Nesting.{Event, Nesting, Step, content_at}
 use Rattle.rx_pages.specs.Scanner.{Verdict, goes_on, whole, ended, refused, verdict}
 use Rattle.rx_pages.specs.PageReader.{Spot, Scanning, Scanned, completed, told_first, with_item, after_token, told, is_doctype, item_of, spot_of, steps_on, no_step}
@@ -73,11 +73,3 @@ nested_by syntax depth st (Err kind) = Err kind
 module _ (syntax : Syntax) (limits : Limits) where
   abbrev pub entry_step : Stood → Entry → Result Stood Kind
   entry_step st e = nested_by syntax limits.depth st (told syntax limits (spot_of syntax st.nest) false e (scanning_of st) (verdict syntax (content_at syntax st.nest) (values st.run) e.value))
-
-  abbrev pub entry_on : Result Stood Kind → Entry → Result Stood Kind
-  entry_on (Ok st) e = entry_step st e
-  entry_on (Err kind) e = Err kind
-
-  abbrev pub entries_on : Result Stood Kind → List Entry → Result Stood Kind
-  entries_on reached [] = reached
-  entries_on reached (e ∷ es) = entries_on (entry_on reached e) es

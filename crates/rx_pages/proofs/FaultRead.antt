@@ -16,7 +16,7 @@ use Rattle.rx_grammar.specs.Items.{values, Item}
 use Rattle.rx_grammar.specs.Begun.{Line, inside_of, Phase, before, within, after}
 use Rattle.rx_grammar.specs.PageFaults.{is_known_tag, token_of, IsShort, IsPending, Unfinished, Reached, IsPart, Before}
 use Rattle.rx_grammar.specs.PageFaults as faults
-use Rattle.rx_reader.proofs.Bools.{by_test}
+use Rattle.rx_terms.proofs.Bools.{by_test}
 use Rattle.rx_pages.specs.Nesting.{IsAt}
 use Rattle.rx_pages.specs.Scanner.{GoesOn}
 use Rattle.rx_pages.specs.Laws.{Leads as FrontLeads}

@@ -13,7 +13,7 @@ use Rattle.rx_grammar.specs.declared.faults.Fault.{Fault}
 use Rattle.rx_grammar.specs.declared.faults.Kind.{Kind}
 use Rattle.rx_grammar.specs.declared.faults.Kind.TheVariants.{TagTooLong}
 use Rattle.rx_grammar.specs.declared.limits.Limits.{Limits}
-use Rattle.rx_reader.proofs.Bools.{by_test, untrue}
+use Rattle.rx_terms.proofs.Bools.{by_test, untrue}
 use Rattle.rx_pages.specs.PageReader.{first_of, is_too_long, spot_of, page_on}
 use Rattle.rx_pages.proofs.EntrySteps.{Stood, entry_step}
 use Rattle.rx_pages.proofs.ByteSteps.{progress_at, settle}

@@ -7,7 +7,7 @@ use Rattle.rx_grammar.specs.Spelling.{ends_with, IsFirst}
 use Rattle.rx_pages.proofs.Reading.{Last, no_last, a_last, last_of}
 use Rattle.rx_pages.proofs.Comments.{same_init}
 use Rattle.rx_pages.proofs.Contents.{same_is}
-use Rattle.rx_reader.proofs.Bools.{both, either, not_both_ways, by_test}
+use Rattle.rx_terms.proofs.Bools.{both, either, not_both_ways, by_test}
 use Rattle.rx_reader.proofs.Fronts.{equal}
 
 -- no front meets the test, nor does the whole

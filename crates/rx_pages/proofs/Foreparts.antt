@@ -9,7 +9,7 @@ use Rattle.std.proofs.lemmas.Str.{length-encode, encodes-append}
 use Rattle.std.proofs.lemmas.Bool.{and_parts, and_from, cond-true, cond-false}
 use Rattle.rx_chars.specs.Characters.{Entry, IsRead, byte_order_mark, line_feed, carriage_return, line_end_entry, placed, entered, without_mark}
 use Rattle.rx_grammar.specs.PageFaults.{token_of}
-use Rattle.rx_reader.proofs.Bools.{by_test}
+use Rattle.rx_terms.proofs.Bools.{by_test}
 use Rattle.rx_pages.proofs.CharWalk.{len_positive}
 
 -- the first characters of some, which enter the first entries

@@ -13,7 +13,7 @@ use Rattle.rx_grammar.specs.Begun.{Line, Phase, Stands, not_begun}
 use Rattle.rx_pages.specs.Nesting.{Event, Nesting, Goes, stands, goes, IsAt}
 use Rattle.rx_pages.specs.Laws.{FrontsStand}
 use Rattle.rx_pages.proofs.Standing.{may_stand, one_more}
-use Rattle.rx_reader.proofs.Bools.{not_both_ways}
+use Rattle.rx_terms.proofs.Bools.{not_both_ways}
 
 pub spelled_outside : (syntax : Syntax) (inside : Content) (text : Chars) (next : Option ℕ) (token : Token) → Spells syntax inside text next token → inside ≡ content.Outside → may_stand token ≡ true
 spelled_outside s i _ next _ (a_tag text t m sp) o = refl

@@ -22,7 +22,7 @@ use Rattle.rx_grammar.specs.Items.{values, next_of, Item, last_from, Spelled, no
 use Rattle.rx_grammar.specs.Pages.{has_no_nul}
 use Rattle.rx_grammar.specs.Begun.{Line, inside_of, Phase, Stands}
 use Rattle.rx_grammar.specs.PageFaults.{is_known_raw, is_known_after, is_known_tag, token_of, IsPending, IsShort, Reached, Faulty, ends_in_brackets}
-use Rattle.rx_reader.proofs.Bools.{by_test, not_both_ways}
+use Rattle.rx_terms.proofs.Bools.{by_test, not_both_ways}
 use Rattle.rx_pages.specs.Nesting.{Nesting, Step, text_step, step_by, nest_step}
 use Rattle.rx_pages.specs.Scanner.{GoesOn, Verdict, goes_on, whole, ended, refused, verdict, at_first, at_last, at_next}
 use Rattle.rx_pages.specs.Faults.{by_token, by_section_end}

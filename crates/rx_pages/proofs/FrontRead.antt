@@ -13,7 +13,7 @@ use Rattle.rx_grammar.specs.declared.limits.Limits.{Limits}
 use Rattle.rx_grammar.specs.Items.{values, next_of, Item, Spelled, AllFit, no_section_end}
 use Rattle.rx_grammar.specs.Pages.{has_no_nul}
 use Rattle.rx_grammar.specs.PageFaults.{is_known_tag}
-use Rattle.rx_reader.proofs.Bools.{by_test}
+use Rattle.rx_terms.proofs.Bools.{by_test}
 use Rattle.rx_pages.specs.Nesting.{Event, Nesting, not_begun, content_at, Goes}
 use Rattle.rx_pages.specs.Scanner.{GoesOn}
 use Rattle.rx_pages.specs.PageReader.{first_of, page_on, nothing_read}
@@ -29,10 +29,6 @@ use Rattle.rx_pages.proofs.TokensWalk.{RisesFrom, Rises, flags_behind, Appends, 
 abbrev pub AllBelow : ℕ → List Entry → Type 0
 AllBelow hi [] = Unit {0}
 AllBelow hi (e ∷ es) = (e.last < hi) × AllBelow hi es
-
-below_more : (low hi : ℕ) (es : List Entry) → low ≤ hi → AllBelow low es → AllBelow hi es
-below_more low hi [] h b = tt
-below_more low hi (e ∷ es) h b = ((let x = b.0 in omega arith), below_more low hi es h b.1)
 
 below_behind : (hi : ℕ) (a b : List Entry) → AllBelow hi (a ++ b) → AllBelow hi b
 below_behind hi [] b h = h

@@ -15,7 +15,7 @@ use Rattle.rx_grammar.specs.Begun.{Line, inside_of, parent_of, enders_of, Open, 
 use Rattle.rx_pages.proofs.Nested.{has_after_text}
 use Rattle.rx_pages.proofs.Documents.{no_end_outside}
 use Rattle.rx_pages.proofs.Front.{none_among}
-use Rattle.rx_reader.proofs.Bools.{both, not_both_ways}
+use Rattle.rx_terms.proofs.Bools.{both, not_both_ways}
 
 or_groups : (a b c : Bool) → (a || (b || c)) ≡ ((a || b) || c)
 or_groups true b c = refl

@@ -17,7 +17,7 @@ use Rattle.rx_grammar.specs.Spelling as spelling
 use Rattle.rx_grammar.specs.Spelling.{Spells, has_references, is_text}
 use Rattle.rx_grammar.specs.Items.{values, Item}
 use Rattle.rx_grammar.specs.PageFaults.{is_known_tag, Reached}
-use Rattle.rx_reader.proofs.Bools.{by_test, neither}
+use Rattle.rx_terms.proofs.Bools.{by_test, neither}
 use Rattle.rx_grammar.specs.Pages.{has_no_nul}
 use Rattle.rx_grammar.specs.Begun.{Line, inside_of, Phase}
 use Rattle.rx_pages.specs.Nesting.{Event, Nesting, not_begun, content_at, going_on, IsAt}

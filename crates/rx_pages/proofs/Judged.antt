@@ -31,7 +31,7 @@ use Rattle.rx_pages.proofs.DoctypeFaults.{refuses_doctype}
 use Rattle.rx_pages.proofs.TagRuns.{tag_goes_on, tag_refused}
 use Rattle.rx_pages.proofs.Pends.{occurs}
 use Rattle.rx_pages.proofs.PendsOn.{pends, unfinished, spells_read, faulty_read}
-use Rattle.rx_reader.proofs.Bools.{split}
+use Rattle.rx_terms.proofs.Bools.{split}
 use Rattle.rx_reader.proofs.TagFaultLaws.{reads_on}
 
 -- the contents inside of open elements

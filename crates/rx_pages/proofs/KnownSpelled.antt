@@ -14,7 +14,7 @@ use Rattle.rx_grammar.specs.Tags.{SpellsTag, cased}
 use Rattle.rx_grammar.specs.Spelling as spelling
 use Rattle.rx_grammar.specs.Spelling.{Spells, has_markup, raw_name}
 use Rattle.rx_grammar.specs.PageFaults.{is_known_tag, is_known_after, is_known_raw}
-use Rattle.rx_reader.proofs.Bools.{by_test, both}
+use Rattle.rx_terms.proofs.Bools.{by_test, both}
 use Rattle.rx_reader.proofs.OneToken.{tag_first}
 use Rattle.rx_pages.proofs.Reading.{markup_raw}
 use Rattle.rx_pages.proofs.TagRuns.{KnownEnd}

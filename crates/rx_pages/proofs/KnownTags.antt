@@ -17,7 +17,7 @@ use Rattle.rx_grammar.specs.Spelling.{has_markup, begins_markup, raw_name, begin
 use Rattle.rx_grammar.specs.PageFaults.{is_known_end, is_known_raw, is_known_after, is_known_tag}
 use Rattle.rx_reader.specs.Tables.{is_html, is_last}
 use Rattle.rx_reader.specs.TagReader.{TagState, tag_of}
-use Rattle.rx_reader.proofs.Bools.{by_test, untrue, not_both_ways}
+use Rattle.rx_terms.proofs.Bools.{by_test, untrue, not_both_ways}
 use Rattle.rx_pages.specs.Scanner.{Verdict, goes_on, whole, ended, refused, whole_if, told_of_tag, in_tag, in_raw, in_markup, is_mark, after_less_than, verdict}
 use Rattle.rx_reader.proofs.Classes.{unless, of_one}
 use Rattle.rx_pages.proofs.Reading.{markup_raw}

@@ -23,7 +23,6 @@ pub mod DoctypeFaults
 pub mod Prefix
 pub mod ReadOn
 pub mod Going
-pub mod Bare
 pub mod EntrySteps
 pub mod ByteSteps
 pub mod CharSteps

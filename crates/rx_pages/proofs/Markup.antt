@@ -18,7 +18,7 @@ use Rattle.rx_reader.specs.Tables.{is_html, is_last}
 use Rattle.rx_reader.specs.TagReader.{TagState, fresh, tag_on, checked}
 use Rattle.rx_pages.specs.Scanner.{goes_on, whole, told_of_tag, in_tag, in_markup, is_mark, ReadAs}
 use Rattle.rx_pages.proofs.Reading.{Last, no_last, a_last, last_of, all_go, read_to, markup_is}
-use Rattle.rx_reader.proofs.Bools.{not_both_ways, by_test}
+use Rattle.rx_terms.proofs.Bools.{not_both_ways, by_test}
 use Rattle.rx_reader.proofs.Classes.{of_one}
 use Rattle.rx_reader.proofs.TagLaws.{reads_each, on_err, stuck, tag_on-append}
 use Rattle.rx_reader.proofs.OneToken.{TagFirst, tag_first, no_bang, no_question, markup_begins}

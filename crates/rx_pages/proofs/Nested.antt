@@ -22,7 +22,7 @@ use Rattle.rx_grammar.specs.PageFaults.{under_start, after_end, is_innermost, ha
 use Rattle.rx_pages.specs.Nesting.{Event, begins, says, finishes, Nesting, Step, ended_under, ended_by_end, over, begun_under, line_above, step_by, nest_step, Goes, stands, goes, with_element, with_text, told_trees}
 use Rattle.rx_pages.proofs.Contents.{omissible_html}
 use Rattle.rx_pages.proofs.Steps.{inside_at, in_line, after_one, undropped, dropped, of_start, of_end, passing, ended}
-use Rattle.rx_reader.proofs.Bools.{both, neither, by_test}
+use Rattle.rx_terms.proofs.Bools.{both, neither, by_test}
 
 pub has_after_text : (names : List Chars) (chars : Chars) (nodes : Tree) → has_element names (after_text chars nodes) ≡ has_element names nodes
 has_after_text names [] nodes = refl

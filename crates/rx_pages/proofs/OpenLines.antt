@@ -23,7 +23,7 @@ use Rattle.rx_pages.specs.Nesting.{Event, Nesting, Step, over, begun_under, line
 use Rattle.rx_pages.proofs.Steps.{passes}
 use Rattle.rx_pages.proofs.Befores.{is_tag, IsLast, LastIs}
 use Rattle.rx_pages.proofs.OpenNames.{is_fair, IsName, start_name}
-use Rattle.rx_reader.proofs.Bools.{both, by_test, split}
+use Rattle.rx_terms.proofs.Bools.{both, by_test, split}
 
 -- the characters of a page are fair
 abbrev pub is_fair_entry : Entry → Bool

@@ -20,7 +20,7 @@ use Rattle.rx_grammar.specs.Spelling.{Spells, has_markup, raw_name, a_tag, an_en
 use Rattle.rx_grammar.specs.Contents.{Place, in_html, raw_place, raw_names, rcdata_names, inside_html, html_in_svg, inside_at, place_in}
 use Rattle.rx_grammar.specs.Trees.{StartTag}
 use Rattle.rx_grammar.specs.Begun.{Line, inside_of}
-use Rattle.rx_reader.proofs.Bools.{both, by_test, split, not_both_ways}
+use Rattle.rx_terms.proofs.Bools.{both, by_test, split, not_both_ways}
 use Rattle.rx_reader.proofs.Classes.{of_one, unless}
 use Rattle.rx_pages.proofs.Contents.{same_is}
 

@@ -17,7 +17,7 @@ use Rattle.rx_pages.proofs.Reading.{markup_is}
 use Rattle.rx_pages.proofs.Texts.{or_none}
 use Rattle.rx_pages.proofs.Pending.{goes_within}
 use Rattle.rx_pages.proofs.Refusals.{IsRefused}
-use Rattle.rx_reader.proofs.Bools.{both, neither, either, untrue, not_both_ways, by_test}
+use Rattle.rx_terms.proofs.Bools.{both, neither, either, untrue, not_both_ways, by_test}
 use Rattle.rx_reader.proofs.Classes.{of_one}
 use Rattle.rx_reader.proofs.Fronts.{equal}
 

@@ -1,12 +1,11 @@
 -- Characters that begin a token go on, and no token is read within them.
-use Rattle.std.proofs.Common.{◌≡◌, ◌∙◌, ℕ, [], ◌∷◌, ◌++◌, Option, Some, None, refl, ap, sym, subst, append-nil, append_assoc, inl, inr}
+use Rattle.std.proofs.Common.{◌≡◌, ◌∙◌, ℕ, [], ◌∷◌, ◌++◌, Option, refl, sym, subst, append-nil, append_assoc, inl, inr}
 use Rattle.rx_terms.specs.Text.{Chars}
 use Rattle.rx_chars.specs.declared.syntax.Syntax.{Syntax}
 use Rattle.rx_grammar.specs.declared.contents.Content.{Content}
 use Rattle.rx_grammar.specs.Tokens.{Token}
 use Rattle.rx_grammar.specs.Spelling.{Spells}
-use Rattle.rx_grammar.specs.Items.{next_of}
-use Rattle.rx_pages.specs.Scanner.{Verdict, goes_on, whole, ended, verdict, GoesOn, ReadAs, at_last, at_next}
+use Rattle.rx_pages.specs.Scanner.{Verdict, goes_on, whole, verdict, GoesOn, ReadAs, at_last, at_next}
 use Rattle.rx_pages.proofs.Spellings.{reads_each}
 use Rattle.rx_reader.proofs.Fronts.{two_fronts}
 
@@ -22,24 +21,6 @@ module _ (s : Syntax) (i : Content) where
 
   pub not_whole : (v : Verdict) (token : Token) → v ≡ goes_on → v ≡ whole token → ⊥
   not_whole v token h k = let e = sym h ∙ k in cc
-
-  not_ended : (v : Verdict) (token : Token) → v ≡ goes_on → v ≡ ended token → ⊥
-  not_ended v token h k = let e = sym h ∙ k in cc
-
-  -- a token isn't read within characters that go on
-  pub none_within : (text more : Chars) (next : Option ℕ) (token : Token) → GoesOn s i [] (text ++ more) → ReadAs s i text (next_of more next) token → (more ≡ [] → next ≡ None) → ⊥
-  none_within text more next token g r last = by (text) (next_of more next) token r refl refl
-    where
-      at_more : (text : Chars) (c : ℕ) (token : Token) (more : Chars) → GoesOn s i [] (text ++ more) → Some c ≡ next_of more next → (more ≡ [] → next ≡ None) → verdict s i text c ≡ ended token → ⊥
-      at_more text c token [] g n last k = absurd (let e : Some c ≡ None = n ∙ last refl in cc)
-      at_more text c token (d ∷ more) g n last k =
-          let q : c ≡ d = cc in
-          not_ended (verdict s i text d) token (goes_at [] text d more g) (ap (verdict s i text) (sym q) ∙ k)
-
-      by : (x : Chars) (n : Option ℕ) (token : Token) → ReadAs s i x n token → x ≡ text → n ≡ next_of more next → ⊥
-      by _ _ _ (at_last front c token go k) e n =
-          not_whole (verdict s i front c) token (goes_at [] front c more (subst (λ x. GoesOn s i [] x) (ap (λ x. x ++ more) (sym e) ∙ append_assoc front (c ∷ []) more) g)) k
-      by _ _ _ (at_next x c token go k) e n = at_more x c token more (subst (λ y. GoesOn s i [] (y ++ more)) (sym e) g) n last k
 
   -- what stands before the last character
   pub goes_within : (front : Chars) (c : ℕ) (run : Chars) (d : ℕ) (rest : Chars) → GoesOn s i [] front → front ++ c ∷ [] ≡ run ++ d ∷ rest → GoesOn s i [] run

@@ -31,7 +31,7 @@ use Rattle.rx_pages.proofs.Reading.{markup_is}
 use Rattle.rx_pages.proofs.FirstFronts.{NoFront, NoneBefore, same_self}
 use Rattle.rx_pages.proofs.TagRuns.{is_first, markup_tag, KnownEnd, known_at, Known, in_markup', in_raw', is_known}
 use Rattle.rx_pages.proofs.RawEnds.{is_raw_name, end_reads, ends_raw}
-use Rattle.rx_reader.proofs.Bools.{both, neither, either, not_both_ways, split}
+use Rattle.rx_terms.proofs.Bools.{both, neither, either, not_both_ways, split}
 use Rattle.rx_reader.proofs.Classes.{of_one}
 use Rattle.rx_reader.proofs.Fronts.{equal}
 use Rattle.rx_pages.proofs.Contents.{same_is}

@@ -21,7 +21,7 @@ use Rattle.rx_pages.proofs.Doctypes.{on_none, on_append, behind, behind_word}
 use Rattle.rx_pages.proofs.DoctypeFaults.{is_doctype, completion, Closable, Next, keyword_closes, closes_on}
 use Rattle.rx_pages.proofs.FirstFronts.{NoFront, NoneBefore, no_front_snoc, first_here, none_before_snoc, whole_first, ends_so}
 use Rattle.rx_pages.proofs.Pends.{is_closed, Pends, in_question, in_instruction, in_html_comment, in_strict, in_a_doctype, in_a_section, Out, other_than}
-use Rattle.rx_reader.proofs.Bools.{split}
+use Rattle.rx_terms.proofs.Bools.{split}
 use Rattle.rx_reader.proofs.Classes.{of_one}
 
 -- a run that ends at the first front that meets a test

@@ -23,7 +23,7 @@ use Rattle.rx_pages.proofs.Pends.{occurs, Pends, nothing, in_reference, at_less_
 use Rattle.rx_pages.proofs.PendsMarks.{as_verdict, from_question, from_instruction, from_html_comment, from_strict, from_section, same_word, begins_doctype, from_doctype}
 use Rattle.rx_pages.proofs.PendsOpenings.{from_less_than, from_bogus, from_opening}
 use Rattle.rx_pages.proofs.Texts.{or_none}
-use Rattle.rx_reader.proofs.Bools.{both, neither, not_both_ways, by_test}
+use Rattle.rx_terms.proofs.Bools.{both, neither, not_both_ways, by_test}
 use Rattle.rx_reader.proofs.TagLaws.{spells_each}
 use Rattle.rx_reader.proofs.TagFaultLaws.{begins_from}
 use Rattle.rx_reader.proofs.ValueFaults.{snoc_last}

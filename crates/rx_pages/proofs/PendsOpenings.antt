@@ -28,7 +28,7 @@ use Rattle.rx_pages.proofs.FirstFronts.{NoFront, no_front_nil, none_before_nil, 
 use Rattle.rx_pages.proofs.TagRuns.{is_first, in_markup'}
 use Rattle.rx_pages.proofs.Pends.{occurs, Pends, in_a_tag, in_question, in_instruction, in_bogus, in_html_comment, in_strict, in_a_doctype, in_a_section, in_an_opening, Out, tag_out}
 use Rattle.rx_pages.proofs.PendsMarks.{by_whole, as_verdict}
-use Rattle.rx_reader.proofs.Bools.{both, neither, either, not_both_ways, by_test, split, untrue}
+use Rattle.rx_terms.proofs.Bools.{both, neither, either, not_both_ways, by_test, split, untrue}
 use Rattle.rx_reader.proofs.Classes.{of_one}
 use Rattle.rx_reader.proofs.Fronts.{equal, has_end}
 

@@ -15,7 +15,7 @@ use Rattle.rx_grammar.specs.PageFaults.{after_start, after_end}
 use Rattle.rx_pages.proofs.Contents.{omissible_html}
 use Rattle.rx_pages.proofs.Steps.{same_turned}
 use Rattle.rx_pages.proofs.Growing.{pops}
-use Rattle.rx_reader.proofs.Bools.{both, untrue, not_both_ways, by_test, split}
+use Rattle.rx_terms.proofs.Bools.{both, untrue, not_both_ways, by_test, split}
 
 -- an element with a row is omissible
 ender_omits : (place : Place) (name other : Chars) → is_among (enders place name) other ≡ true → is_omissible place name ≡ true

@@ -20,7 +20,7 @@ use Rattle.rx_grammar.specs.Spelling.{raw_name}
 use Rattle.rx_reader.specs.Tables.{is_last}
 use Rattle.rx_reader.specs.Laws.{ReadsOn}
 use Rattle.rx_pages.proofs.TagRuns.{KnownEnd, after_last}
-use Rattle.rx_reader.proofs.Bools.{both, not_both_ways, by_test, untrue}
+use Rattle.rx_terms.proofs.Bools.{both, not_both_ways, by_test, untrue}
 use Rattle.rx_reader.proofs.Classes.{of_white, of_one, unless}
 use Rattle.rx_reader.proofs.TagLaws.{reads_each}
 use Rattle.rx_reader.proofs.TagFaultLaws.{parts}
@@ -77,10 +77,6 @@ names (c ∷ word) n h = let k = both (is_letter c) _ h in and_from (is_letter c
 
 solidus_of : (x : ℕ) → lowered_char x ≡ 47 → x ≡ 47
 solidus_of x h = grind (arith, nat_tests)
-
-nothing_low : (word : Chars) → lowered word ≡ [] → word ≡ []
-nothing_low [] e = refl
-nothing_low (c ∷ word) e = absurd (cc)
 
 -- the end tag with nothing behind its name
 abbrev pub end_tag : Chars → Tag

@@ -13,7 +13,7 @@ use Rattle.rx_grammar.specs.Spelling.{raw_name, begins_end, stops_end, IsBefore}
 use Rattle.rx_pages.specs.Scanner.{goes_on, whole, in_raw, ReadAs, at_next}
 use Rattle.rx_pages.proofs.Reading.{Last, no_last, a_last, last_of, all_go, read_to, raw_is}
 use Rattle.rx_pages.proofs.Markup.{tag_goes, tag_ends, more_left}
-use Rattle.rx_reader.proofs.Bools.{both, by_test, untrue}
+use Rattle.rx_terms.proofs.Bools.{both, by_test, untrue}
 use Rattle.rx_reader.proofs.Fronts.{begins_front}
 use Rattle.rx_reader.proofs.OneToken.{RawEnd, raw_end, not_front, run_not_end}
 

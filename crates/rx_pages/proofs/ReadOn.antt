@@ -6,7 +6,7 @@ use Rattle.std.specs.Str.{chars}
 use Rattle.std.proofs.lemmas.Str.{chars-append, chars-encodes}
 use Rattle.std.proofs.lemmas.Bool.{cond-true, cond-false}
 use Rattle.rx_chars.specs.Characters.{Entry, IsRead, line_feed, carriage_return, byte_order_mark, placed, without_mark, line_end_entry, entered}
-use Rattle.rx_reader.proofs.Bools.{by_test}
+use Rattle.rx_terms.proofs.Bools.{by_test}
 
 -- one list begins with another
 pub record Begins (all front : List Entry) : Type 0 where

@@ -7,7 +7,7 @@ use Rattle.rx_grammar.specs.declared.contents.Content.TheVariants as content
 use Rattle.rx_grammar.specs.Tokens.{Token}
 use Rattle.rx_grammar.specs.Spelling.{IsFirst, has_markup, has_sections, raw_name}
 use Rattle.rx_pages.specs.Scanner.{goes_on, whole, after_less_than, in_markup, verdict, GoesOn, ReadAs, at_last}
-use Rattle.rx_reader.proofs.Bools.{not_both_ways}
+use Rattle.rx_terms.proofs.Bools.{not_both_ways}
 
 -- a text by its last character
 pub data Last (text : Chars) : Type 0 where

@@ -16,7 +16,7 @@ use Rattle.rx_grammar.specs.Spelling.{ends_with, IsFirst, has_markup, has_refere
 use Rattle.rx_pages.specs.Scanner.{refused, told_of_reference, is_mark, in_markup, verdict, GoesOn}
 use Rattle.rx_pages.proofs.Reading.{all_go, go_append, markup_is}
 use Rattle.rx_pages.proofs.Texts.{run_goes, or_none, semicolon_stops}
-use Rattle.rx_reader.proofs.Bools.{both, neither, untrue, by_test}
+use Rattle.rx_terms.proofs.Bools.{both, neither, untrue, by_test}
 use Rattle.rx_reader.proofs.TextComplete.{body_begun}
 
 -- All characters but the last go on, and the last one is refused.

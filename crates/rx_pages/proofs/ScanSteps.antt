@@ -20,10 +20,6 @@ with_before items (Ok r) = Ok (record { next = r.next; items = items ++ r.items 
 with_before items (Err fault) = Err fault
 
 module _ (syntax : Syntax) (limits : Limits) (spot : Spot) where
-  with_both : (a b : List Item) (r : Result Scanned Fault) → with_before a (with_before b r) ≡ with_before (a ++ b) r
-  with_both a b (Ok r) = ap (λ x. Ok (record { next = r.next; items = x })) (sym (append_assoc a b r.items))
-  with_both a b (Err fault) = refl
-
   one_before : (items : List Item) (r : Scanned) (byte : ℕ) → scan_byte_on syntax limits spot (Ok (record { next = r.next; items = items ++ r.items })) byte ≡ with_before items (scan_byte_on syntax limits spot (Ok r) byte)
   one_before items r byte = by (read_byte syntax limits spot byte r.next)
     where

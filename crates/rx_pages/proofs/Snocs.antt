@@ -11,26 +11,17 @@ use Rattle.rx_chars.specs.declared.syntax.Syntax.{Syntax}
 use Rattle.rx_chars.specs.Characters.{Entry, byte_order_mark, line_feed, carriage_return, line_end_entry, placed, entered, without_mark}
 use Rattle.rx_grammar.specs.Spelling.{Spells}
 use Rattle.rx_grammar.specs.Items.{values, next_of, Item, last_from, Spelled, no_more, one, Fits, AllFit, is_literal, no_section_end}
-use Rattle.rx_reader.proofs.Bools.{by_test}
+use Rattle.rx_terms.proofs.Bools.{by_test}
 use Rattle.rx_pages.specs.Nesting.{Event, Nesting, Step, content_at, nest_step, Goes, stands, goes}
 use Rattle.rx_pages.proofs.CharSteps.{passes, entry_at}
 use Rattle.rx_pages.proofs.CharWalk.{ends_return, is_started, no_return, no_mark}
 use Rattle.rx_pages.proofs.TokensWalk.{flags_behind}
 
--- a character behind others
-placed_snoc : (at : ℕ) (cs : List ℕ) (c : ℕ) → placed at (cs ++ c ∷ []) ≡ placed at cs ++ placed (at + length (encodes cs)) (c ∷ [])
-placed_snoc at [] c = let z : at ≡ at + 0 = omega arith in ap (λ x. placed x (c ∷ [])) z
-placed_snoc at (d ∷ cs) c =
-    let n = length-append (encode d) (encodes cs) in
-    let l = length-encode d in
-    let same : at + len_utf8 d + length (encodes cs) ≡ at + length (encodes (d ∷ cs)) = omega arith in
-    ap (λ x. record { value = d; first = at; last = at + len_utf8 d - 1 } ∷ x) (placed_snoc (at + len_utf8 d) cs c ∙ ap (λ x. placed (at + len_utf8 d) cs ++ placed x (c ∷ [])) same)
-
 -- what it enters
 abbrev pub entered_one : Bool → ℕ → ℕ → List Entry
 entered_one skipped at c = if skipped then [] else entry_at c at (at + len_utf8 c - 1) ∷ []
 
-entered_snoc : (after_return : Bool) (at : ℕ) (cs : List ℕ) (c : ℕ)
+pub entered_snoc : (after_return : Bool) (at : ℕ) (cs : List ℕ) (c : ℕ)
     → entered after_return (placed at (cs ++ c ∷ [])) ≡ entered after_return (placed at cs) ++ entered_one (ends_return after_return cs && c == line_feed) (at + length (encodes cs)) c
 entered_snoc after_return at [] c = let z : at ≡ at + 0 = omega arith in ap (λ x. entered_one (after_return && c == line_feed) x c) z
 entered_snoc after_return at (d ∷ cs) c =

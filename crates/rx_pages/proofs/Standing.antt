@@ -23,7 +23,7 @@ use Rattle.rx_pages.proofs.Steps.{passes, of_start, of_end}
 use Rattle.rx_pages.proofs.Nested.{has_after_text}
 use Rattle.rx_pages.proofs.Growing.{suffix, extend, grow, closes_child, closes_root, no_open}
 use Rattle.rx_pages.proofs.Popping.{pop_start, start_stops, start_html, no_ender, pop_end, end_content}
-use Rattle.rx_reader.proofs.Bools.{not_both_ways, by_test, split}
+use Rattle.rx_terms.proofs.Bools.{not_both_ways, by_test, split}
 
 -- no row holds
 pub record NoRows (a b p s d : Bool) : Type 0 where

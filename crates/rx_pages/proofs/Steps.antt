@@ -17,7 +17,7 @@ use Rattle.rx_grammar.specs.Begun.{Line, inside_of, parent_of, Phase, within}
 use Rattle.rx_grammar.specs.PageFaults.{Rows, under_start, after_end, is_innermost, first_row, tag_rows, start_rows, end_rows}
 use Rattle.rx_pages.specs.Nesting.{Event, finishes, Nesting, Step, ended_under, ended_by_end, over, begun_under, line_above, tag_passes, unless_refused, step_by}
 use Rattle.rx_pages.proofs.Contents.{same_is, AllHtml, omissible_html, plaintext_by, self_closed_by}
-use Rattle.rx_reader.proofs.Bools.{both, not_both_ways, by_test, untrue}
+use Rattle.rx_terms.proofs.Bools.{both, not_both_ways, by_test, untrue}
 
 -- in open elements, where a line feed that comes next is dropped or isn't
 abbrev pub inside_at : Line → Bool → Nesting

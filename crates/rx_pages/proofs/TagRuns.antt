@@ -26,7 +26,7 @@ use Rattle.rx_pages.proofs.RawText.{begins_end_front}
 use Rattle.rx_pages.proofs.Contents.{same_is}
 use Rattle.rx_pages.proofs.FirstFronts.{same_self}
 use Rattle.rx_pages.proofs.Refusals.{IsRefused}
-use Rattle.rx_reader.proofs.Bools.{both, either, not_both_ways, by_test}
+use Rattle.rx_terms.proofs.Bools.{both, either, not_both_ways, by_test}
 use Rattle.rx_reader.proofs.Classes.{of_one}
 use Rattle.rx_reader.proofs.Fronts.{equal, two_fronts}
 use Rattle.rx_reader.proofs.TagLaws.{last_none, on_err, tag_on-append}

@@ -14,7 +14,7 @@ use Rattle.rx_grammar.specs.Tokens.{character, reference, kept}
 use Rattle.rx_grammar.specs.Spelling.{has_references, keeps_runs, has_less_than, has_markup, is_text, begins_markup, IsBefore}
 use Rattle.rx_pages.specs.Scanner.{whole, told_of_reference, is_mark, verdict, GoesOn, ReadAs, at_last, at_next}
 use Rattle.rx_pages.proofs.Reading.{all_go, read_to, markup_is}
-use Rattle.rx_reader.proofs.Bools.{both, neither, untrue, not_both_ways, by_test}
+use Rattle.rx_terms.proofs.Bools.{both, neither, untrue, not_both_ways, by_test}
 use Rattle.rx_reader.proofs.Classes.{of_one}
 use Rattle.rx_reader.proofs.Fronts.{begun_front, begun_no_mark}
 use Rattle.rx_reader.proofs.TextComplete.{body_begun}

@@ -15,7 +15,7 @@ use Rattle.rx_grammar.specs.Spelling.{Spells, has_references, is_text}
 use Rattle.rx_grammar.specs.Items.{values, Item, is_literal}
 use Rattle.rx_grammar.specs.Begun.{Phase, before, within, after}
 use Rattle.rx_grammar.specs.PageFaults.{is_known_tag}
-use Rattle.rx_reader.proofs.Bools.{by_test}
+use Rattle.rx_terms.proofs.Bools.{by_test}
 use Rattle.rx_pages.specs.Nesting.{Event, Nesting, Step, content_at, nest_step, step_by, going_on, doctype_step, text_step}
 use Rattle.rx_pages.specs.Scanner.{Verdict, goes_on, whole, ended, at_first, verdict, GoesOn, ReadAs, at_last, at_next}
 use Rattle.rx_pages.specs.PageReader.{Spot, Scanning, Scanned, first_of, is_too_long, item_of, is_doctype, entering, completed, told_first, with_item, told as told_by, spot_of, may_lead, with_events, steps_on, no_step}
@@ -29,11 +29,6 @@ use Rattle.rx_pages.proofs.CharWalk.{is_known, Fine}
 
 abbrev pub stood : Nesting → List Event → Bool → Bool → List Entry → Stood
 stood n events two last run = record { run = run; two = two; last = last; nest = n; told = events }
-
--- what steps are told does not depend on what was told before
-with_nothing : (r : Result Step Kind) → with_events [] r ≡ r
-with_nothing (Ok step) = refl
-with_nothing (Err kind) = refl
 
 with_both : (a b : List Event) (r : Result Step Kind) → with_events a (with_events b r) ≡ with_events (a ++ b) r
 with_both a b (Ok step) = ap (λ x. Ok (record { next = step.next; events = x })) (sym (append_assoc a b step.events))
@@ -186,10 +181,6 @@ module _ (syntax : Syntax) (limits : Limits) where
         by_test {G = told_by syntax limits spot false e sc (at_first spot.inside e.value) ≡ told_first syntax limits spot false e sc (at_first spot.inside e.value)} (e.value == less_than_sign || (e.value == ampersand && has_references spot.inside))
         (λ t. rw t refl)
         (λ t. rw t (by_test (is_text spot.inside e.value) (λ x. rw x refl) (λ x. rw x refl)))
-
-    and_false : (b : Bool) → (b && false) ≡ false
-    and_false true = refl
-    and_false false = refl
 
     with_item_steps : (item : Item) (step : Step) (x : Result Scanned Kind) → nest_step syntax limits.depth n item ≡ Ok step
         → nested_by syntax limits.depth (stood n events two last unit) (with_item syntax limits (spot_of syntax n) item x) ≡ nested_by syntax limits.depth (stood step.next (events ++ step.events) false false []) x

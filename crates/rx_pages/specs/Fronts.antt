@@ -36,9 +36,12 @@ ReadsWhatIsUnderway = (syntax : Syntax) (limits : Limits) (bytes : List ℕ) (li
 
 -- Nothing is unfinished exactly behind the front of a page.
 abbrev pub NothingUnfinished : Type 0
-NothingUnfinished = (syntax : Syntax) (limits : Limits) (bytes : List ℕ) (line : Line) (phase : Phase) → Begun syntax limits bytes None line phase ↔ ReadsTo syntax limits bytes line phase [] []
+NothingUnfinished =
+    (syntax : Syntax) (limits : Limits) (bytes : List ℕ) (line : Line) (phase : Phase)
+    → Begun syntax limits bytes None line phase ↔ ReadsTo syntax limits bytes line phase [] []
 
 -- What stands before the unfinished token is the front of a page, with the same open elements and phase, whatever follows.
 abbrev pub UnfinishedFollowsFront : Type 0
 UnfinishedFollowsFront = (syntax : Syntax) (limits : Limits) (bytes rest : List ℕ) (line : Line) (phase : Phase) (run : List Entry) (part : List ℕ)
-    → (r : ReadsTo syntax limits bytes line phase run part) → Begun syntax limits (take (token_at r.now.now.scan) (bytes ++ rest)) (next_of (values run) None) line phase
+    → (r : ReadsTo syntax limits bytes line phase run part)
+    → Begun syntax limits (take (token_at r.now.now.scan) (bytes ++ rest)) (next_of (values run) None) line phase

@@ -23,7 +23,9 @@ use Rattle.rx_pages.specs.Closings.{closed, IsPage, IsFront, ClosedTells}
 
 -- characters that spell a token are read as it
 abbrev pub ReadsEachToken : Type 0
-ReadsEachToken = (syntax : Syntax) (inside : Content) (text : Chars) (next : Option ℕ) (token : Token) → Spells syntax inside text next token → ReadAs syntax inside text next token
+ReadsEachToken =
+    (syntax : Syntax) (inside : Content) (text : Chars) (next : Option ℕ) (token : Token) → Spells syntax inside text next token
+    → ReadAs syntax inside text next token
 
 -- tokens that can stand at the front of a page lead to its open elements
 pub record Leads (syntax : Syntax) (depth : ℕ) (items : List Item) (line : Line) (phase : Phase) : Type 0 where
@@ -31,11 +33,14 @@ pub record Leads (syntax : Syntax) (depth : ℕ) (items : List Item) (line : Lin
   pub going : Goes syntax depth (IsAt line phase) not_begun items events
 
 abbrev pub FrontsLead : Type 0
-FrontsLead = (syntax : Syntax) (depth : ℕ) (items : List Item) (line : Line) (phase : Phase) → Stands syntax depth items line phase → Leads syntax depth items line phase
+FrontsLead =
+    (syntax : Syntax) (depth : ℕ) (items : List Item) (line : Line) (phase : Phase) → Stands syntax depth items line phase → Leads syntax depth items line phase
 
 -- and spelled tokens that lead to open elements can stand at the front of a page
 abbrev pub FrontsStand : Type 0
-FrontsStand = (syntax : Syntax) (depth : ℕ) (entries : List Entry) (next : Option ℕ) (items : List Item) (line : Line) (phase : Phase) → Spelled syntax entries next items → Leads syntax depth items line phase → Stands syntax depth items line phase
+FrontsStand =
+    (syntax : Syntax) (depth : ℕ) (entries : List Entry) (next : Option ℕ) (items : List Item) (line : Line) (phase : Phase) → Spelled syntax entries next items
+    → Leads syntax depth items line phase → Stands syntax depth items line phase
 
 -- What is left of a page behind the whole tokens of its front, and that it leads from the open elements there to the page's end.
 pub record IsLeft (syntax : Syntax) (depth : ℕ) (all some : List Item) (line : Line) (phase : Phase) (run : List Entry) : Type 0 where
@@ -49,7 +54,9 @@ pub record IsLeft (syntax : Syntax) (depth : ℕ) (all some : List Item) (line :
   pub going : Goes syntax depth (IsAt [] after) place items events
 
 abbrev pub PagesGoOn : Type 0
-PagesGoOn = (syntax : Syntax) (limits : Limits) (whole rest : List ℕ) (items : List Item) (line : Line) (phase : Phase) (run : List Entry) (tree : Tree) → Reached syntax limits whole items line phase run → (page : Page syntax limits (whole ++ rest) tree)
+PagesGoOn =
+    (syntax : Syntax) (limits : Limits) (whole rest : List ℕ) (items : List Item) (line : Line) (phase : Phase) (run : List Entry) (tree : Tree)
+    → Reached syntax limits whole items line phase run → (page : Page syntax limits (whole ++ rest) tree)
     → IsLeft syntax limits.depth page.items items line phase run
 
 -- A page is read to its end, and its tree is what is told.
@@ -63,15 +70,21 @@ ReadsEachPage = (syntax : Syntax) (limits : Limits) (bytes : List ℕ) (tree : T
 
 -- each fault of the grammar is found
 abbrev pub FindsEachFault : Type 0
-FindsEachFault = (syntax : Syntax) (limits : Limits) (bytes : List ℕ) (fault : Fault) → FaultAt syntax limits bytes fault → end_of (page_read syntax limits bytes) ≡ Err fault
+FindsEachFault =
+    (syntax : Syntax) (limits : Limits) (bytes : List ℕ) (fault : Fault) → FaultAt syntax limits bytes fault
+    → end_of (page_read syntax limits bytes) ≡ Err fault
 
 -- Inside of open elements exactly the characters that begin a token, and aren't yet one, go on.
 abbrev pub UnfinishedGoesOn : Type 0
-UnfinishedGoesOn = (syntax : Syntax) (line : Line) (c : ℕ) (run : Chars) → Unfinished syntax (inside_of syntax line).content (c ∷ run) ↔ GoesOn syntax (inside_of syntax line).content [] (c ∷ run)
+UnfinishedGoesOn =
+    (syntax : Syntax) (line : Line) (c : ℕ) (run : Chars)
+    → Unfinished syntax (inside_of syntax line).content (c ∷ run) ↔ GoesOn syntax (inside_of syntax line).content [] (c ∷ run)
 
 -- What is read there as a token spells it.
 abbrev pub SpellsEachToken : Type 0
-SpellsEachToken = (syntax : Syntax) (line : Line) (text : Chars) (next : Option ℕ) (token : Token) → ReadAs syntax (inside_of syntax line).content text next token → Spells syntax (inside_of syntax line).content text next token
+SpellsEachToken =
+    (syntax : Syntax) (line : Line) (text : Chars) (next : Option ℕ) (token : Token) → ReadAs syntax (inside_of syntax line).content text next token
+    → Spells syntax (inside_of syntax line).content text next token
 
 -- The last of the characters behind whole tokens has a fault exactly where it is decided so.
 abbrev pub FaultsAreDecided : Type 0
@@ -85,25 +98,35 @@ pub record IsPageRead (syntax : Syntax) (limits : Limits) (bytes : List ℕ) (fi
   pub trees : told_trees final.told ≡ tree ∷ []
 
 abbrev pub ReadsOnlyPages : Type 0
-ReadsOnlyPages = (syntax : Syntax) (limits : Limits) (bytes : List ℕ) (final : Progress) → end_of (page_read syntax limits bytes) ≡ Ok final → IsPageRead syntax limits bytes final
+ReadsOnlyPages =
+    (syntax : Syntax) (limits : Limits) (bytes : List ℕ) (final : Progress) → end_of (page_read syntax limits bytes) ≡ Ok final
+    → IsPageRead syntax limits bytes final
 
 -- and only faults of the grammar are found.
 abbrev pub FindsOnlyFaults : Type 0
-FindsOnlyFaults = (syntax : Syntax) (limits : Limits) (bytes : List ℕ) (fault : Fault) → end_of (page_read syntax limits bytes) ≡ Err fault → FaultAt syntax limits bytes fault
+FindsOnlyFaults =
+    (syntax : Syntax) (limits : Limits) (bytes : List ℕ) (fault : Fault) → end_of (page_read syntax limits bytes) ≡ Err fault
+    → FaultAt syntax limits bytes fault
 
 -- Whatever follows the byte at which a fault is known, the fault stays: no page begins with the bytes through it. The page's end alone
 -- decides otherwise.
 abbrev pub FaultsStay : Type 0
-FaultsStay = (syntax : Syntax) (limits : Limits) (bytes : List ℕ) (fault : Fault) → FaultAt syntax limits bytes fault → fault.kind ≢ Unended → (rest : List ℕ) → FaultAt syntax limits (take (fault.at + 1) bytes ++ rest) fault
+FaultsStay =
+    (syntax : Syntax) (limits : Limits) (bytes : List ℕ) (fault : Fault) → FaultAt syntax limits bytes fault → fault.kind ≢ Unended → (rest : List ℕ)
+    → FaultAt syntax limits (take (fault.at + 1) bytes ++ rest) fault
 
 -- The front of a page closes: what is open is closed from the innermost element on, and then the bytes are a page, but for the limits of
 -- tag and page. An empty root needs a level.
 abbrev pub FrontsClose : Type 0
-FrontsClose = (syntax : Syntax) (limits : Limits) (bytes : List ℕ) (next : Option ℕ) (line : Line) (phase : Phase) → 1 ≤ limits.depth → Begun syntax limits bytes next line phase → IsPage syntax limits (closed bytes line phase)
+FrontsClose =
+    (syntax : Syntax) (limits : Limits) (bytes : List ℕ) (next : Option ℕ) (line : Line) (phase : Phase) → 1 ≤ limits.depth
+    → Begun syntax limits bytes next line phase → IsPage syntax limits (closed bytes line phase)
 
 -- What a front tells, closed it tells first; and then no more than ends, and one element without attributes.
 abbrev pub FrontsTell : Type 0
-FrontsTell = (syntax : Syntax) (limits : Limits) (bytes : List ℕ) (next : Option ℕ) (line : Line) (phase : Phase) → 1 ≤ limits.depth → Begun syntax limits bytes next line phase → ClosedTells syntax limits bytes line phase
+FrontsTell =
+    (syntax : Syntax) (limits : Limits) (bytes : List ℕ) (next : Option ℕ) (line : Line) (phase : Phase) → 1 ≤ limits.depth
+    → Begun syntax limits bytes next line phase → ClosedTells syntax limits bytes line phase
 
 -- Its open elements and its phase are one, whatever comes next.
 pub record IsSamePlace (line others : Line) (phase other : Phase) : Type 0 where
@@ -116,4 +139,5 @@ OnePlace = (syntax : Syntax) (limits : Limits) (bytes : List ℕ) (next behind :
 
 -- What stands before the token of a fault is such a front.
 abbrev pub FaultsFollowFronts : Type 0
-FaultsFollowFronts = (syntax : Syntax) (limits : Limits) (bytes : List ℕ) (fault : Fault) → FaultAt syntax limits bytes fault → IsFront syntax limits (take fault.token bytes)
+FaultsFollowFronts =
+    (syntax : Syntax) (limits : Limits) (bytes : List ℕ) (fault : Fault) → FaultAt syntax limits bytes fault → IsFront syntax limits (take fault.token bytes)

@@ -61,7 +61,11 @@ over (t ∷ above) = record { line = t ∷ above; phase = within; drops = false 
 -- an element begins under these open ones, and ends where it is its start tag alone
 abbrev pub begun_under : Syntax → Item → Tag → Line → List Event → Step
 begun_under syntax item t line ended =
-    if is_alone syntax (inside_of syntax line) t then record { next = over line; events = ended ++ begins (start_of item t) (hides (inside_of syntax line) t) ∷ finishes ∷ [] }
+    if is_alone syntax (inside_of syntax line) t then record {
+      next =
+          over line;
+      events = ended ++ begins (start_of item t) (hides (inside_of syntax line) t) ∷ finishes ∷ [];
+    }
     else record { next = record { line = start_of item t ∷ line; phase = within; drops = drops_line_feed (inside_of syntax line) t }; events = ended ++ begins (start_of item t) (hides (inside_of syntax line) t) ∷ [] }
 
 abbrev pub line_above : Line → Line
@@ -110,7 +114,8 @@ nest_step syntax depth n item = step_by syntax depth n item item.token
 -- The tokens, each spelled in the content at its place, lead to a place that is meant, and tell these events.
 pub data Goes (syntax : Syntax) (depth : ℕ) (meant : Nesting → Type 0) : Nesting → List Item → List Event → Type 0 where
   stands : (n : Nesting) → meant n → Goes syntax depth meant n [] []
-  goes : {n : Nesting} {items : List Item} {events : List Event} (item : Item) (step : Step) → item.content ≡ content_at syntax n → nest_step syntax depth n item ≡ Ok step → Goes syntax depth meant step.next items events
+  goes : {n : Nesting} {items : List Item} {events : List Event} (item : Item) (step : Step) → item.content ≡ content_at syntax n
+      → nest_step syntax depth n item ≡ Ok step → Goes syntax depth meant step.next items events
       → Goes syntax depth meant n (item ∷ items) (step.events ++ events)
 
 -- Read from the last event to the first: the nodes that follow at each open level, the innermost first.

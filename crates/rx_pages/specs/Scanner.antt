@@ -145,5 +145,7 @@ GoesOn syntax inside before (c ∷ text) = (verdict syntax inside before c ≡ g
 
 -- The characters are read as this token: at their last one, or at the next one where that tells that they are text.
 pub data ReadAs (syntax : Syntax) (inside : Content) : Chars → Option ℕ → Token → Type 0 where
-  at_last : {next : Option ℕ} (text : Chars) (c : ℕ) (token : Token) → GoesOn syntax inside [] text → verdict syntax inside text c ≡ whole token → ReadAs syntax inside (text ++ c ∷ []) next token
-  at_next : (text : Chars) (c : ℕ) (token : Token) → GoesOn syntax inside [] text → verdict syntax inside text c ≡ ended token → ReadAs syntax inside text (Some c) token
+  at_last : {next : Option ℕ} (text : Chars) (c : ℕ) (token : Token) → GoesOn syntax inside [] text → verdict syntax inside text c ≡ whole token
+      → ReadAs syntax inside (text ++ c ∷ []) next token
+  at_next : (text : Chars) (c : ℕ) (token : Token) → GoesOn syntax inside [] text → verdict syntax inside text c ≡ ended token
+      → ReadAs syntax inside text (Some c) token

@@ -1,7 +1,7 @@
 -- A text on its way to a sink: what waits to be sent, and what the sink has told so far.
 use Rattle.std.specs.Prelude.{◌≡◌, ℕ, ◌≤◌, Bool, true, false, List, [], ◌++◌, Option}
 use Rattle.rx_ports.specs.Counts.{Rose}
-use Rattle.rx_ports.specs.Told.{Moves, GrowsByPart}
+use Rattle.rx_ports.specs.Shelves.{Moves, GrowsByPart}
 
 -- bytes that wait to be sent, and whether the sink failed, which is given nothing more then
 pub record Underway : Type 0 where
@@ -30,14 +30,14 @@ SentBut true waiting text old new = GrowsByPart text old new
 SentBut false waiting text old new = (sent : List ℕ) × (new ≡ old ++ sent) × (text ≡ sent ++ waiting)
 
 -- so much of a text was handed over, since the sink told to hold `start` and its count of faults was `before`
-pub record Stands (start : Option (List ℕ)) (before : ℕ) (text : List ℕ) (now : Delivery) : Type 0 where
+pub record IsUnderway (start : Option (List ℕ)) (before : ℕ) (text : List ℕ) (now : Delivery) : Type 0 where
   pub told : Moves (SentBut now.underway.failed now.underway.waiting text) start now.held
   pub later : before ≤ now.faults
   pub cause : now.underway.failed ≡ true → Rose before now.faults
 
 -- the bytes were handed over, whatever was before
 pub record AddsBytes (old new : Delivery) (bytes : List ℕ) : Type 0 where
-  pub stands : (start : Option (List ℕ)) (before : ℕ) (text : List ℕ) → Stands start before text old → Stands start before (text ++ bytes) new
+  pub stands : (start : Option (List ℕ)) (before : ℕ) (text : List ℕ) → IsUnderway start before text old → IsUnderway start before (text ++ bytes) new
 
 -- a call handed the bytes over: `out` and `sink` became the next ones, where a sink tells what it holds, and its count of faults
 abbrev pub PushesBytes : {S : Type 0} → (S → Option (List ℕ)) → (S → ℕ) → Underway → S → Underway → S → List ℕ → Type 0

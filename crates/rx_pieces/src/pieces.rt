@@ -2,13 +2,10 @@
 ghost use Rattle.std.specs.Prelude.{◌≡◌, ◌+◌, ◌≤◌, ℕ, [], IfOk, OnOk, is_err, length, false};
 ghost use Rattle.rx_pieces.specs.Underway.{nothing_waits, keeps, PushesBytes};
 
-use rx_ports::{Failed, Sink, put_all};
+use rx_ports::{Failed, PIECE, Sink, put_all};
 use rx_terms::NoMemory;
 use std::alloc::Global;
 use std::marker::Model;
-
-/// The bytes of a piece. Only the last one has fewer.
-const PIECE: usize = 65_536;
 
 /// Bytes that wait until they are a piece. Once the sink has failed it is given nothing more, and what is added is lost;
 /// `send` says so.

@@ -1,6 +1,6 @@
 -- Steps of what is told, one after another.
 use Rattle.std.proofs.Common.{◌≡◌, ◌∙◌, ap, subst, refl, true, Option, Some, None, is_some}
-use Rattle.rx_ports.specs.Told.{Moves}
+use Rattle.rx_ports.specs.Shelves.{Moves}
 
 -- a step that every value may take to itself
 pub moves_same : {A : Type 0} (step : A → A → Type 0) → ((x : A) → step x x) → (o : Option A) → Moves step o o

@@ -3,7 +3,7 @@ use Rattle.std.specs.Prelude.{◌≡◌, ◌<◌, ◌≤◌, ℕ, ◌+◌, ◌^�
 use Rattle.std.specs.List.{list_any}
 use Rattle.rx_ports.specs.Counts.{raised}
 use Rattle.rx_ports.specs.Files.{file_of, file_bytes}
-use Rattle.rx_ports.specs.Told.{Told}
+use Rattle.rx_ports.specs.Shelves.{ShelfContent}
 use Rattle.rx_ports.specs.declared.shelf.Failed.{Failed}
 
 pub record MemoryShelf : Type 0 where
@@ -20,7 +20,7 @@ abbrev pub left_of : List (List ℕ × List ℕ) → Option ℕ → ℕ → List
 left_of files None at = []
 left_of files (Some file) at = drop at (file_bytes files file)
 
-abbrev pub told_by : MemoryShelf → Told
+abbrev pub told_by : MemoryShelf → ShelfContent
 told_by shelf = record { files = shelf.files; left = shelf.left; taken = shelf.taken }
 
 abbrev pub new_shelf : List (List ℕ × List ℕ) → ℕ → List ℕ → MemoryShelf

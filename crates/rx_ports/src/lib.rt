@@ -14,6 +14,7 @@ mod mem_sink;
 mod puts;
 mod shelf;
 mod sink;
+mod sizes;
 mod std_sink;
 
 pub use file_list::FileList;
@@ -23,4 +24,5 @@ pub use mem_sink::MemSink;
 pub use puts::put_all;
 pub use shelf::{Failed, Shelf};
 pub use sink::Sink;
+pub use sizes::PIECE;
 pub use std_sink::StdSink;

@@ -1,7 +1,7 @@
 //! A shelf in memory.
 ghost use Rattle.std.specs.Prelude.{◌≡◌, ◌+◌, ◌^◌, ◌<◌, ◌≤◌, ◌⊎◌, IfOk, OnErr, MatchResult, Some, length, take};
 ghost use Rattle.rx_ports.specs.Counts.{Rose, raised};
-ghost use Rattle.rx_ports.specs.Told.{Moves, Starts, Reads, Lacks};
+ghost use Rattle.rx_ports.specs.Shelves.{Moves, Starts, Reads, Lacks};
 ghost use Rattle.rx_ports.specs.MemShelf.{MemoryShelf, new_shelf, told_by, after_start, start_gives, after_read, read_gives, left_of, IsPlace};
 
 use crate::counter::raise;

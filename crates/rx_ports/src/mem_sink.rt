@@ -1,7 +1,7 @@
 //! A sink in memory.
 ghost use Rattle.std.specs.Prelude.{◌≡◌, ◌<◌, ◌≤◌, IfOk, OnErr, Some};
 ghost use Rattle.rx_ports.specs.Counts.{Rose, raised};
-ghost use Rattle.rx_ports.specs.Told.{Moves, Takes, IsProgress};
+ghost use Rattle.rx_ports.specs.Shelves.{Moves, Takes, IsProgress};
 ghost use Rattle.rx_ports.specs.MemSink.{MemorySink, new_sink, after_write, write_gives};
 
 use crate::counter::raise;

@@ -1,7 +1,7 @@
 //! Writing a whole piece.
 ghost use Rattle.std.specs.Prelude.{◌≤◌, OnOk, OnErr};
 ghost use Rattle.rx_ports.specs.Counts.{Rose};
-ghost use Rattle.rx_ports.specs.Told.{Moves, GrowsBy, GrowsByPart};
+ghost use Rattle.rx_ports.specs.Shelves.{Moves, GrowsBy, GrowsByPart};
 
 use crate::shelf::Failed;
 use crate::sink::Sink;

@@ -1,7 +1,7 @@
 //! A shelf of files.
 ghost use Rattle.std.specs.Prelude.{◌≤◌, ◌⊎◌, ℕ, IfOk, OnErr, Option, length};
 ghost use Rattle.rx_ports.specs.Counts.{Rose};
-ghost use Rattle.rx_ports.specs.Told.{Told, Moves, Starts, Reads, Lacks};
+ghost use Rattle.rx_ports.specs.Shelves.{ShelfContent, Moves, Starts, Reads, Lacks};
 
 /// A call to a shelf or a sink failed.
 #[derive(Clone, Copy, Debug, PartialEq, Eq)]
@@ -13,7 +13,7 @@ pub struct Failed;
 /// many bytes all reads have given. A shelf tells all of these or none, always. It sees besides a count of faults,
 /// which never falls.
 pub trait Shelf {
-    ghost told: { Self → Option Told };
+    ghost told: { Self → Option ShelfContent };
 
     ghost faults: { Self → ℕ };
 

@@ -1,7 +1,7 @@
 //! A sink of bytes.
 ghost use Rattle.std.specs.Prelude.{◌≤◌, ℕ, List, IfOk, OnErr, Option};
 ghost use Rattle.rx_ports.specs.Counts.{Rose};
-ghost use Rattle.rx_ports.specs.Told.{Moves, Takes, IsProgress};
+ghost use Rattle.rx_ports.specs.Shelves.{Moves, Takes, IsProgress};
 
 use crate::shelf::Failed;
 

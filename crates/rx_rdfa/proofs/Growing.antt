@@ -1,19 +1,13 @@
 -- A renaming by steps is the steps one after another: what a numbering that grows comes to.
-use Rattle.std.proofs.Common.{◌≡◌, List, [], ◌∷◌, map, Option, Some, None, option_map, refl, ap, ap₂}
+use Rattle.std.proofs.Common.{◌≡◌, List, [], ◌∷◌, map, refl, ap, ap₂}
 use Rattle.rx_model.specs.Terms.{Node, Iri, Blank, Term, Resource, Literal, Triple}
 use Rattle.rx_model.specs.Numbered.{rename_node, rename_term, rename}
-use Rattle.rx_rdfa.specs.Resources.{Hanging, Forward, Reverse, InList, Inherited, Standing}
-use Rattle.rx_rdfa.specs.Lists.{Entry, entry}
-use Rattle.rx_rdfa.specs.Machine.{Slot, Full, Waiting, Machine}
-use Rattle.rx_rdfa.specs.Renaming.{rename_entry, rename_slot, rename_hanging, rename_inherited, rename_standing, rename_machine}
+use Rattle.rx_rdfa.specs.Resources.{Hanging, Forward, Reverse, InList, Inherited}
+use Rattle.rx_rdfa.specs.Renaming.{rename_hanging, rename_inherited}
 
 pub map_then : {A B C : Type 0} (k : A → C) (h : B → C) (f : A → B) → ((x : A) → k x ≡ h (f x)) → (list : List A) → map k list ≡ map h (map f list)
 map_then k h f e [] = refl
 map_then k h f e (x ∷ list) = ap₂ ◌∷◌ (e x) (map_then k h f e list)
-
-option_then : {A B C : Type 0} (k : A → C) (h : B → C) (f : A → B) → ((x : A) → k x ≡ h (f x)) → (o : Option A) → option_map k o ≡ option_map h (option_map f o)
-option_then k h f e None = refl
-option_then k h f e (Some x) = ap Some (e x)
 
 module _ {A B C : Type 0} (h : B → C) (f : A → B) where
   pub node_then : (x : Node A) → rename_node (λ a. h (f a)) x ≡ rename_node h (rename_node f x)
@@ -26,10 +20,6 @@ module _ {A B C : Type 0} (h : B → C) (f : A → B) where
 
   pub triple_then : (t : Triple A) → rename (λ a. h (f a)) t ≡ rename h (rename f t)
   triple_then t = λ i. record { subject = node_then t.subject i; predicate = t.predicate; object = term_then t.object i }
-
-  slot_then : (s : Slot A) → rename_slot (λ a. h (f a)) s ≡ rename_slot h (rename_slot f s)
-  slot_then (Full term) = ap Full (term_then term)
-  slot_then (Waiting path) = refl
 
 module _ {O P Q : Type 0} (h : P → Q) (f : O → P) where
   hanging_then : (x : Hanging O) → rename_hanging (λ o. h (f o)) x ≡ rename_hanging h (rename_hanging f x)
@@ -44,21 +34,4 @@ module _ {A B C O P Q : Type 0} (h : B → C) (f : A → B) (h' : P → Q) (f' :
     object = node_then h f x.object i;
     hanging = map_then (rename_hanging (λ o. h' (f' o))) (rename_hanging h') (rename_hanging f') (hanging_then h' f') x.hanging i;
     owner = h' (f' x.owner);
-  }
-
-  pub standing_then : (x : Standing A O) → rename_standing (λ a. h (f a)) (λ o. h' (f' o)) x ≡ rename_standing h h' (rename_standing f f' x)
-  standing_then x = λ i. record { facts = x.facts; path = x.path; around = inherited_then x.around i }
-
-  slot_entry_then : (e : Entry O (Slot A)) → rename_entry (λ o. h' (f' o)) (rename_slot (λ a. h (f a))) e ≡ rename_entry h' (rename_slot h) (rename_entry f' (rename_slot f) e)
-  slot_entry_then e = λ i. entry (h' (f' e.owner)) (option_then (rename_slot (λ a. h (f a))) (rename_slot h) (rename_slot f) (slot_then h f) e.item i) e.predicate
-
-  -- a machine under a numbering that grew is the machine under the old one, its numbers kept and its other names numbered
-  pub machine_then : (x : Machine A O) → rename_machine (λ a. h (f a)) (λ o. h' (f' o)) x ≡ rename_machine h h' (rename_machine f f' x)
-  machine_then x = λ i. record {
-    standings = map_then (rename_standing (λ a. h (f a)) (λ o. h' (f' o))) (rename_standing h h') (rename_standing f f') standing_then x.standings i;
-    path = x.path;
-    next = x.next;
-    texts = x.texts;
-    slots = map_then (rename_entry (λ o. h' (f' o)) (rename_slot (λ a. h (f a)))) (rename_entry h' (rename_slot h)) (rename_entry f' (rename_slot f)) slot_entry_then x.slots i;
-    out = map_then (rename (λ a. h (f a))) (rename h) (rename f) (triple_then h f) x.out i;
   }

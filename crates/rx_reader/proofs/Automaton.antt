@@ -17,7 +17,7 @@ use Rattle.rx_reader.specs.Tables.{Move, move_of, is_last}
 use Rattle.rx_reader.specs.Cuts.{with_first, cut_end, cut_by, cut_from}
 use Rattle.rx_reader.specs.Values.{Value, value_step, value_end}
 use Rattle.rx_reader.specs.TagReader.{TagState, with_value, with_attribute, moved, tag_move, moves_on}
-use Rattle.rx_reader.proofs.Bools.{both, either, split, not_both_ways}
+use Rattle.rx_terms.proofs.Bools.{both, either, split, not_both_ways}
 use Rattle.rx_reader.proofs.Classes.{of_white, of_one, tag_char_named}
 use Rattle.rx_reader.proofs.Moves.{is_among, Stays, stays}
 use Rattle.rx_reader.proofs.Sound.{Result as Ended, after_value', sound, added}

@@ -13,7 +13,7 @@ use Rattle.rx_reader.specs.declared.phases.TagPhase.TheVariants as phase
 use Rattle.rx_reader.specs.declared.phases.TagAction.TheVariants as action
 use Rattle.rx_reader.specs.Tables.{move_of}
 use Rattle.rx_reader.specs.Cuts.{with_first, cut_from}
-use Rattle.rx_reader.proofs.Bools.{both, either, by_test}
+use Rattle.rx_terms.proofs.Bools.{both, either, by_test}
 use Rattle.rx_reader.proofs.Classes.{of_white, of_one, begins_apart}
 use Rattle.rx_reader.proofs.Cutting.{one_move, key_run, key_equals, white_to_value, quoted_run, unquoted_value}
 
@@ -52,10 +52,6 @@ html_gap [] text b h = refl
 html_gap (c ∷ gap) text b h =
     let k = both (is_between c) _ h in
     one_move Html (gap_phase b) [] [] (gap ++ text) c (gap_moves b c k.0) ∙ html_gap gap text (c == solidus) k.1
-
--- directly after a value HTML reads as between attributes
-pub as_gap : (text : Chars) (c : ℕ) → cut_from Html (c ∷ text) phase.AfterValue [] [] ≡ cut_from Html (c ∷ text) phase.Gap [] []
-as_gap text c = refl
 
 html_front : (gap text : Chars) (c : ℕ) → cut_from Html (gap ++ c ∷ text) phase.AfterValue [] [] ≡ cut_from Html (gap ++ c ∷ text) (gap_phase false) [] []
 html_front [] text c = refl

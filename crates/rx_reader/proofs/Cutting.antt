@@ -13,7 +13,7 @@ use Rattle.rx_reader.specs.declared.phases.TagAction.{TagAction}
 use Rattle.rx_reader.specs.declared.phases.TagAction.TheVariants as action
 use Rattle.rx_reader.specs.Tables.{move_of}
 use Rattle.rx_reader.specs.Cuts.{with_first, cut_by, cut_from}
-use Rattle.rx_reader.proofs.Bools.{both, neither, either, untrue}
+use Rattle.rx_terms.proofs.Bools.{both, neither, either, untrue}
 use Rattle.rx_reader.proofs.Classes.{of_one, continues_apart}
 
 -- one step by what the table says

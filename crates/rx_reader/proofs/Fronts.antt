@@ -8,7 +8,7 @@ use Rattle.rx_terms.specs.Text.{Chars, begins_with, is_empty}
 use Rattle.rx_grammar.specs.Names.{same}
 use Rattle.rx_grammar.specs.References.{is_hexadecimal_digit, is_x, begins_number, is_begun}
 use Rattle.rx_grammar.specs.Spelling.{ends_with, IsFirst}
-use Rattle.rx_reader.proofs.Bools.{both, either, untrue, not_both_ways, by_test}
+use Rattle.rx_terms.proofs.Bools.{both, either, untrue, not_both_ways, by_test}
 use Rattle.rx_reader.proofs.Classes.{of_one, unless}
 
 pub equal : (n : ℕ) → (n == n) ≡ true

@@ -9,7 +9,7 @@ use Rattle.rx_chars.specs.declared.syntax.Syntax.{Syntax}
 use Rattle.rx_chars.specs.declared.syntax.Syntax.TheVariants.{Html, Xhtml}
 use Rattle.rx_grammar.specs.References.{one_or_more}
 use Rattle.rx_grammar.specs.Shapes.{first_then, is_gap, is_last_gap, is_strict_end, ends_in_solidus}
-use Rattle.rx_reader.proofs.Bools.{both}
+use Rattle.rx_terms.proofs.Bools.{both}
 use Rattle.rx_reader.proofs.Classes.{of_white}
 use Rattle.rx_reader.proofs.Complete.{is_between}
 

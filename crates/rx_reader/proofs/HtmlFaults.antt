@@ -10,7 +10,7 @@ use Rattle.rx_grammar.specs.References.{is_hexadecimal_digit, is_x, begins_numbe
 use Rattle.rx_grammar.specs.Shapes.{is_quote}
 use Rattle.rx_grammar.specs.TagFaults.{RunFault, unknown, bad, no_reference, ValueFault, in_run, less_than}
 use Rattle.rx_reader.specs.Tables.{is_html}
-use Rattle.rx_reader.proofs.Bools.{both, either, untrue, not_both_ways}
+use Rattle.rx_terms.proofs.Bools.{both, either, untrue, not_both_ways}
 use Rattle.rx_reader.proofs.Classes.{of_white, of_one, unless}
 use Rattle.rx_reader.proofs.TextComplete.{body_begun}
 use Rattle.rx_reader.proofs.ValueFaults.{of_quote, snoc_front, snoc_last}

@@ -11,7 +11,7 @@ use Rattle.rx_reader.specs.declared.phases.TagPhase.{TagPhase}
 use Rattle.rx_reader.specs.declared.phases.TagPhase.TheVariants as phase
 use Rattle.rx_reader.specs.declared.phases.TagAction.TheVariants as action
 use Rattle.rx_reader.specs.Tables.{Move, move_of, is_last, is_html}
-use Rattle.rx_reader.proofs.Bools.{both, untrue, not_both_ways}
+use Rattle.rx_terms.proofs.Bools.{both, untrue, not_both_ways}
 use Rattle.rx_reader.proofs.Moves.{is_among, is_value_phase}
 use Rattle.rx_reader.proofs.Sound.{html_is}
 use Rattle.rx_reader.proofs.ValueFaults.{of_quote, snoc_last}

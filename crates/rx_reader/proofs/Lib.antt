@@ -1,6 +1,5 @@
 mod Examples
 mod PageExamples
-pub mod Bools
 pub mod Classes
 pub mod Cutting
 pub mod Complete

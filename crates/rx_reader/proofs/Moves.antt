@@ -9,7 +9,7 @@ use Rattle.rx_reader.specs.declared.phases.TagPhase.TheVariants as phase
 use Rattle.rx_reader.specs.declared.phases.TagAction.{TagAction}
 use Rattle.rx_reader.specs.declared.phases.TagAction.TheVariants as action
 use Rattle.rx_reader.specs.Tables.{Move, move_of, is_html}
-use Rattle.rx_reader.proofs.Bools.{split}
+use Rattle.rx_terms.proofs.Bools.{split}
 
 -- a phase after a start tag's name
 abbrev pub is_among : TagPhase → Bool

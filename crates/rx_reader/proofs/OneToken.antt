@@ -18,7 +18,7 @@ use Rattle.rx_grammar.specs.Tags.{SpellsTag, cased, cased_char}
 use Rattle.rx_grammar.specs.Spelling.{ends_with, IsFirst, has_markup, has_references, keeps_runs, has_sections, has_less_than, is_text, begins_markup, IsBefore, raw_name, begins_end, stops_end, ends_comment, begins_declaration, doctype_word, IsDoctype, Spells, a_tag, an_end_of_raw, a_character, a_less_than, a_raw_run, a_reference, a_kept_run, a_comment, a_bogus_comment, a_question, a_strict_comment, an_instruction, a_section, a_doctype}
 use Rattle.rx_grammar.specs.Items.{next_of}
 use Rattle.rx_grammar.specs.Laws.{OneToken, IsSameToken}
-use Rattle.rx_reader.proofs.Bools.{both, neither, either, untrue, not_both_ways, by_test}
+use Rattle.rx_terms.proofs.Bools.{both, neither, either, untrue, not_both_ways, by_test}
 use Rattle.rx_reader.proofs.Classes.{of_one, of_white, unless}
 use Rattle.rx_reader.proofs.Fronts.{equal, all_front, or_right, Longer, two_fronts, one_first, only_end, one_end, ends_at, begins_append, begins_front, begins_more, begins_within, has_end, begun_no_mark, begun_front}
 use Rattle.rx_reader.proofs.TagLaws.{one, one_front}

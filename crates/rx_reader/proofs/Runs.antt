@@ -11,7 +11,7 @@ use Rattle.rx_reader.specs.declared.phases.RunPhase.TheVariants as run
 use Rattle.rx_reader.specs.declared.phases.RunMove.{RunMove}
 use Rattle.rx_reader.specs.declared.phases.RunMove.TheVariants.{Goes, Closes, Stops}
 use Rattle.rx_reader.specs.Tables.{run_move}
-use Rattle.rx_reader.proofs.Bools.{both, either, untrue, split, not_both_ways, by_test}
+use Rattle.rx_terms.proofs.Bools.{both, either, untrue, split, not_both_ways, by_test}
 use Rattle.rx_reader.proofs.Classes.{of_one, unless}
 use Rattle.rx_reader.proofs.Gaps.{all_snoc}
 
@@ -35,9 +35,6 @@ digit_no_x c h = unless is_digit c (is_x c) h (λ e. x_no_digit c e)
 
 letter_no_sign : (c : ℕ) → is_letter c ≡ true → (c == number_sign) ≡ false
 letter_no_sign c h = unless is_letter c (c == number_sign) h (λ e. of_one (λ x. is_letter x ≡ false) c number_sign e refl)
-
-not_semicolon : (test : ℕ → Bool) (c : ℕ) → test c ≡ true → test semicolon ≡ false → (c == semicolon) ≡ false
-not_semicolon test c h k = unless test c (c == semicolon) h (λ e. of_one (λ x. test x ≡ false) c semicolon e k)
 
 snoc_false : (test : ℕ → Bool) (text : Chars) (c : ℕ) → list_all test text ≡ true → test c ≡ false → list_all test (text ++ c ∷ []) ≡ false
 snoc_false test text c h k = rw (list_all-append test text (c ∷ []), h, k) refl
@@ -165,11 +162,6 @@ stops c (in_hexadecimal x d text a b k) h =
     split (λ m. m ≡ Stops → G) (is_hexadecimal_digit c) _ _ (λ e g. no_stop run.Hexadecimal G g)
     (λ e. split (λ m. m ≡ Stops → G) (c == semicolon) _ _ (λ f g. closes_no_stop G g)
     (λ f g. rw (f, x_no_digit x a, a, b, snoc_false is_hexadecimal_digit text c k e) refl)) h
-
--- each run is one of a phase
-pub record Begun (text : Chars) : Type 0 where
-  pub phase : RunPhase
-  pub is_run : RunIs phase text
 
 stops_case : (c : ℕ) {p : RunPhase} {text : Chars} → RunIs p text → stops_at text c ≡ true → (m : RunMove) → run_move p c ≡ m → m ≡ Stops
 stops_case c {text = text} i h (Goes q) e =

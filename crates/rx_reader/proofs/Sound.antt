@@ -13,7 +13,7 @@ use Rattle.rx_reader.specs.declared.phases.TagPhase.{TagPhase}
 use Rattle.rx_reader.specs.declared.phases.TagPhase.TheVariants as phase
 use Rattle.rx_reader.specs.Tables.{Move, move_of, in_gap, is_html}
 use Rattle.rx_reader.specs.Cuts.{Cut, with_first, cut_by, cut_from}
-use Rattle.rx_reader.proofs.Bools.{both, split, not_both_ways}
+use Rattle.rx_terms.proofs.Bools.{both, split, not_both_ways}
 use Rattle.rx_reader.proofs.Classes.{of_one}
 use Rattle.rx_reader.proofs.Gaps.{InGap, Ends, all_snoc, then_snoc, gap_is_gap, gap_ends, gap_white, gap_slash, first_white, first_slash, first_end, slash_white, slash_slash, slash_gap, no_gap, whites_gap, all_of_some, some_snoc}
 
@@ -64,10 +64,6 @@ html_is Xhtml h = absurd (cc)
 
 name_one : (s : Syntax) (c : ℕ) → begins_attribute s c ≡ true → is_attribute_name s (c ∷ []) ≡ true
 name_one s c h = rw h refl
-
-begins_white : (white text : Chars) (c : ℕ) → list_all is_white_space white ≡ true → ends_name c ≡ true → begins ends_name ((white ++ c ∷ []) ++ text) ≡ true
-begins_white [] text c h k = k
-begins_white (d ∷ white) text c h k = rw (both (is_white_space d) _ h).0 refl
 
 begins_some : (white text : Chars) (c : ℕ) → one_or_more is_white_space white ≡ true → begins ends_name ((white ++ c ∷ []) ++ text) ≡ true
 begins_some [] text c h = absurd (cc)

@@ -17,7 +17,7 @@ use Rattle.rx_reader.specs.Tables.{Move, move_of, is_last}
 use Rattle.rx_reader.specs.Cuts.{with_first, cut_end, cut_by, cut_from}
 use Rattle.rx_reader.specs.Values.{Value, no_value_yet, value_step, value_end, step_on, value_on, end_of}
 use Rattle.rx_reader.specs.TagReader.{TagState, fresh, with_value, with_attribute, moved, tag_move, moves_on, is_closing, is_emptied}
-use Rattle.rx_reader.proofs.Bools.{both, either}
+use Rattle.rx_terms.proofs.Bools.{both, either}
 use Rattle.rx_reader.proofs.Classes.{of_white, of_one, tag_char_named}
 use Rattle.rx_reader.proofs.Moves.{is_among, Stays, stays, is_value_phase, Valued, valued, InValue, in_value}
 use Rattle.rx_reader.proofs.Sound.{Result as Ended, added}

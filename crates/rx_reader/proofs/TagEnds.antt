@@ -9,7 +9,7 @@ use Rattle.rx_grammar.specs.TagFaults.{EndsValue, double, single, no_mark}
 use Rattle.rx_reader.specs.declared.phases.TagPhase.{TagPhase}
 use Rattle.rx_reader.specs.declared.phases.TagPhase.TheVariants as phase
 use Rattle.rx_reader.specs.Tables.{is_last, is_html}
-use Rattle.rx_reader.proofs.Bools.{not_both_ways}
+use Rattle.rx_terms.proofs.Bools.{not_both_ways}
 use Rattle.rx_reader.proofs.Moves.{is_among, is_value_phase}
 use Rattle.rx_reader.proofs.Written.{Written, at, written_on, as_written}
 use Rattle.rx_reader.proofs.InTables.{is_between_phase, is_unquoted_phase}

@@ -15,7 +15,7 @@ use Rattle.rx_reader.specs.declared.phases.TagPhase.TheVariants as phase
 use Rattle.rx_reader.specs.Tables.{is_last}
 use Rattle.rx_reader.specs.TagReader.{TagState, fresh, tag_move, tag_move_on, moves_on, checked, tag_step, tag_on}
 use Rattle.rx_reader.specs.Laws.{ReadsOn, ReadsEachFront, RefusesEachFault, OneTagFault}
-use Rattle.rx_reader.proofs.Bools.{both, split, by_test, not_both_ways}
+use Rattle.rx_terms.proofs.Bools.{both, split, by_test, not_both_ways}
 use Rattle.rx_reader.proofs.TagComplete.{each_read}
 use Rattle.rx_reader.proofs.TagSound.{no_way as no_reading}
 use Rattle.rx_reader.proofs.TagLaws.{last_none, stuck, on_err, tag_on-append, moves-append, table_is_exact}

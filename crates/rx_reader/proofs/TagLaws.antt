@@ -13,7 +13,7 @@ use Rattle.rx_reader.specs.declared.phases.TagPhase.TheVariants as phase
 use Rattle.rx_reader.specs.Tables.{move_of, is_last}
 use Rattle.rx_reader.specs.TagReader.{TagState, fresh, moved, tag_move, tag_move_on, moves_on, checked, tag_step, tag_step_on, tag_on, is_closing, is_emptied, parts_of, tag_of}
 use Rattle.rx_reader.specs.Laws.{TableIsExact, ReadsEachTag, SpellsEachTag, OneTag, OneTagFront, ReadsEachValue, DenotesEachValue}
-use Rattle.rx_reader.proofs.Bools.{by_test}
+use Rattle.rx_terms.proofs.Bools.{by_test}
 use Rattle.rx_reader.proofs.TextComplete.{complete as text_complete}
 use Rattle.rx_reader.proofs.TextSound.{sound as text_sound}
 use Rattle.rx_reader.proofs.TagComplete.{each_read}

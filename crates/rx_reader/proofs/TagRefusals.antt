@@ -18,7 +18,7 @@ use Rattle.rx_reader.specs.declared.phases.TagAction.TheVariants as action
 use Rattle.rx_reader.specs.Tables.{Move, move_of, is_last, is_html}
 use Rattle.rx_reader.specs.Values.{Value, no_value_yet, is_run, value_step, value_end, value_on}
 use Rattle.rx_reader.specs.TagReader.{TagState, fresh, with_value, with_attribute, moved, tag_move, tag_move_on, moves_on, checked, tag_step, tag_on, parts_of}
-use Rattle.rx_reader.proofs.Bools.{both, split, by_test, not_both_ways}
+use Rattle.rx_terms.proofs.Bools.{both, split, by_test, not_both_ways}
 use Rattle.rx_reader.proofs.Classes.{of_one}
 use Rattle.rx_reader.proofs.Moves.{is_value_phase, InValue, in_value as in_value_phase}
 use Rattle.rx_reader.proofs.TextSound.{err_on}

@@ -17,7 +17,7 @@ use Rattle.rx_reader.specs.Tables.{Move, move_of, is_last}
 use Rattle.rx_reader.specs.Cuts.{with_first, cut_by, cut_from}
 use Rattle.rx_reader.specs.Values.{Value, no_value_yet, value_step, value_end, step_on, value_on, end_of}
 use Rattle.rx_reader.specs.TagReader.{TagState, fresh, with_value, with_attribute, moved, moves_on, is_closing, is_emptied, parts_of}
-use Rattle.rx_reader.proofs.Bools.{split, not_both_ways}
+use Rattle.rx_terms.proofs.Bools.{split, not_both_ways}
 use Rattle.rx_reader.proofs.Classes.{of_white, of_one}
 use Rattle.rx_reader.proofs.Moves.{is_among, Stays, stays}
 use Rattle.rx_reader.proofs.Sound.{Result as Ended, after_value', sound}

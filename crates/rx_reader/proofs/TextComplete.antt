@@ -13,7 +13,7 @@ use Rattle.rx_reader.specs.declared.phases.RunMove.{RunMove}
 use Rattle.rx_reader.specs.declared.phases.RunMove.TheVariants.{Goes, Closes, Stops}
 use Rattle.rx_reader.specs.Tables.{run_move}
 use Rattle.rx_reader.specs.Values.{Value, known_as, is_run, plain_step, meant, stopped, run_step, value_end, value_on, end_of}
-use Rattle.rx_reader.proofs.Bools.{both, neither, either, untrue}
+use Rattle.rx_terms.proofs.Bools.{both, neither, either, untrue}
 use Rattle.rx_reader.proofs.Runs.{RunIs, at_ampersand, in_name, at_hash, in_decimal, at_mark, in_hexadecimal, stops_back, closes_back, x_no_digit}
 
 abbrev pub at_run : RunPhase → Chars → Chars → Value
@@ -74,9 +74,6 @@ module _ (s : Syntax) (means : Chars → Option ℕ) where
     pub phase : RunPhase
     pub is : RunIs phase text
     pub reads : value_on s means (Ok (at_run run.Ampersand known [])) (text ++ rest) ≡ value_on s means (Ok (at_run phase known text)) rest
-
-  hash_move : (known rest : Chars) (c : ℕ) → c ≡ number_sign → value_on s means (Ok (at_run run.Ampersand known [])) (c ∷ rest) ≡ value_on s means (Ok (at_run run.Hash known (c ∷ []))) rest
-  hash_move known rest c e = rw e refl
 
   mark_move : (known rest : Chars) (c : ℕ) → is_x c ≡ true → run_move run.Hash c ≡ Goes run.Mark
   mark_move known rest c h = rw (x_no_digit c h, h) refl

@@ -14,7 +14,7 @@ use Rattle.rx_reader.specs.declared.phases.RunMove.{RunMove}
 use Rattle.rx_reader.specs.declared.phases.RunMove.TheVariants.{Goes, Closes, Stops}
 use Rattle.rx_reader.specs.Tables.{run_move}
 use Rattle.rx_reader.specs.Values.{Value, known_as, no_meaning, plain_step, meant, stopped, run_step, value_step, run_end, value_end, value_on, end_of, value_read}
-use Rattle.rx_reader.proofs.Bools.{split}
+use Rattle.rx_terms.proofs.Bools.{split}
 use Rattle.rx_reader.proofs.Classes.{of_one}
 use Rattle.rx_reader.proofs.Runs.{RunIs, at_ampersand, run_begun, goes_on, closes, stops}
 use Rattle.rx_reader.proofs.TextComplete.{at_run, runs_is_run}

@@ -15,8 +15,8 @@ use Rattle.rx_reader.specs.declared.phases.RunPhase.TheVariants as run
 use Rattle.rx_reader.specs.declared.phases.RunMove.{RunMove}
 use Rattle.rx_reader.specs.declared.phases.RunMove.TheVariants.{Goes, Closes, Stops}
 use Rattle.rx_reader.specs.Tables.{run_move}
-use Rattle.rx_reader.specs.Values.{Value, known_as, no_meaning, plain_step, meant, stopped, is_run, run_step, value_step, run_end, value_end}
-use Rattle.rx_reader.proofs.Bools.{either, split, not_both_ways}
+use Rattle.rx_reader.specs.Values.{Value, no_meaning, plain_step, meant, stopped, is_run, run_step, value_step, run_end, value_end}
+use Rattle.rx_terms.proofs.Bools.{either, split, not_both_ways}
 use Rattle.rx_reader.proofs.Classes.{of_one}
 use Rattle.rx_reader.proofs.Runs.{RunIs, at_ampersand, in_name, at_hash, in_decimal, at_mark, in_hexadecimal, run_begun, goes_on, closes, stops}
 use Rattle.rx_reader.proofs.TextComplete.{at_run}
@@ -57,9 +57,6 @@ After s text (Err kind) = ValueFault s kind text
 abbrev pub AtEnd : Syntax → Chars → Result Chars Kind → Type 0
 AtEnd s text (Ok value) = Unit {0}
 AtEnd s text (Err kind) = ValueFault s kind text
-
-no_run : (known : Chars) (G : Type 0) → is_run (known_as known).phase ≡ true → G
-no_run known G h = absurd (cc)
 
 begins_run : (text known : Chars) (c : ℕ) → (c == ampersand) ≡ true → EndsInRun (text ++ c ∷ []) (at_run run.Ampersand known [])
 begins_run text known c e = record { before = text; are = ap (λ d. text ++ d ∷ []) (eqb-true c ampersand e); is = at_ampersand }

@@ -16,7 +16,7 @@ use Rattle.rx_reader.specs.Tables.{Move, move_of, is_last}
 use Rattle.rx_reader.specs.Cuts.{cut_end, cut_by, cut_from}
 use Rattle.rx_reader.specs.Values.{Value, no_value_yet, value_step, value_end, step_on, value_on}
 use Rattle.rx_reader.specs.TagReader.{TagState, with_value, with_attribute, moved, tag_move, moves_on}
-use Rattle.rx_reader.proofs.Bools.{both, either}
+use Rattle.rx_terms.proofs.Bools.{both, either}
 use Rattle.rx_reader.proofs.Classes.{of_white, of_one, tag_char_named}
 use Rattle.rx_reader.proofs.Sound.{Result as Ended, added}
 use Rattle.rx_reader.proofs.Complete.{complete}

@@ -46,7 +46,9 @@ pub record RefusesExactly (syntax : Syntax) (front : Chars) (phase : TagPhase) :
   pub refused : (c : ℕ) → (move_of syntax phase c ≡ None) ↔ BeginsNoShape syntax (front ++ c ∷ [])
 
 abbrev pub TableIsExact : Type 0
-TableIsExact = (syntax : Syntax) (means : Chars → Option ℕ) (front : Chars) (reached : TagState) → tag_on syntax means (Ok fresh) front ≡ Ok reached → is_last reached.phase ≡ false
+TableIsExact =
+    (syntax : Syntax) (means : Chars → Option ℕ) (front : Chars) (reached : TagState) → tag_on syntax means (Ok fresh) front ≡ Ok reached
+    → is_last reached.phase ≡ false
     → RefusesExactly syntax front reached.phase
 
 -- These characters after `<` are read, and don't end the tag.
@@ -61,7 +63,8 @@ ReadsEachFront = (syntax : Syntax) (chars : Chars) → BeginsTag syntax chars �
 
 -- After them a character is refused exactly where it decides the tag's fault, and with its kind.
 abbrev pub RefusesEachFault : Type 0
-RefusesEachFault = (syntax : Syntax) (front : Chars) (reached : TagState) → tag_on syntax (meaning syntax) (Ok fresh) front ≡ Ok reached → is_last reached.phase ≡ false
+RefusesEachFault =
+    (syntax : Syntax) (front : Chars) (reached : TagState) → tag_on syntax (meaning syntax) (Ok fresh) front ≡ Ok reached → is_last reached.phase ≡ false
     → (c : ℕ) (kind : Kind) → (tag_step syntax (meaning syntax) reached c ≡ Err kind) ↔ TagFault syntax kind (front ++ c ∷ [])
 
 -- a character decides one fault of a tag at most

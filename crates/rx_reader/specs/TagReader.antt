@@ -35,8 +35,10 @@ with_attribute p s key (Err kind) = Err kind
 
 abbrev pub done_by : Syntax → (Chars → Option ℕ) → TagState → ℕ → TagPhase → TagAction → Result TagState Kind
 done_by syntax means s c p action.Skip = Ok (record { phase = p; name = s.name; attributes = s.attributes; key = s.key; value = s.value })
-done_by syntax means s c p action.Name = Ok (record { phase = p; name = s.name ++ cased_char syntax c ∷ []; attributes = s.attributes; key = s.key; value = s.value })
-done_by syntax means s c p action.Key = Ok (record { phase = p; name = s.name; attributes = s.attributes; key = s.key ++ cased_char syntax c ∷ []; value = s.value })
+done_by syntax means s c p action.Name =
+    Ok (record { phase = p; name = s.name ++ cased_char syntax c ∷ []; attributes = s.attributes; key = s.key; value = s.value })
+done_by syntax means s c p action.Key =
+    Ok (record { phase = p; name = s.name; attributes = s.attributes; key = s.key ++ cased_char syntax c ∷ []; value = s.value })
 done_by syntax means s c p action.Value = with_value p s (value_step syntax means s.value c)
 done_by syntax means s c p action.Add = with_attribute p s [] (value_end syntax s.value)
 done_by syntax means s c p action.AddKey = with_attribute p s (cased_char syntax c ∷ []) (value_end syntax s.value)

@@ -18,7 +18,7 @@ use Rattle.rx_grammar.specs.Names.{same, is_among}
 use Rattle.rx_grammar.specs.Omission.{enders, is_omissible, is_held}
 use Rattle.rx_grammar.specs.PageFaults.{under_start, first_row, tag_rows}
 use Rattle.rx_grammar.specs.Tokens.{Tag, Token, tag, character, reference, kept, section, comment, doctype}
-use Rattle.rx_reader.proofs.Bools.{split}
+use Rattle.rx_terms.proofs.Bools.{split}
 use Rattle.rx_pages.specs.Nesting.{Event, begins, says, finishes, Nesting, Step, ended_by_start, ended_under, ended_by_end, begun_under, tag_passes, unless_refused, told, text_step, doctype_step, nest_step, step_by}
 use Rattle.rx_pages.specs.Scanner.{Verdict, goes_on, whole, ended, refused, verdict}
 use Rattle.rx_pages.specs.PageReader as reader

@@ -14,7 +14,7 @@ use Rattle.rx_chars.specs.Utf8.{answer_of}
 use Rattle.rx_chars.specs.Characters.{Entry, byte_order_mark, line_feed, carriage_return, as_line_end}
 use Rattle.rx_chars.proofs.Utf8Exact.{answers_from}
 use Rattle.rx_chars.proofs.Utf8Forms.{tables_agree}
-use Rattle.rx_reader.proofs.Bools.{by_test, split, both}
+use Rattle.rx_terms.proofs.Bools.{by_test, split, both}
 use Rattle.rx_grammar.specs.declared.contents.Content.{Content}
 use Rattle.rx_grammar.specs.declared.faults.Fault.{Fault}
 use Rattle.rx_grammar.specs.declared.faults.Kind.{Kind}
@@ -29,15 +29,15 @@ use Rattle.rx_pages.specs.Nesting.{Event, begins, says, finishes, Nesting, Step,
 use Rattle.rx_pages.specs.PageReader as reader
 use Rattle.rx_pages.specs.PageReader.{Spot, spot_of, Scanning, starts_at, Scanned, first_of, token_at, is_doctype, item_of, is_too_long, completed, read_char, read_answer, read_byte, Progress, with_events, step_on, steps_on, no_step, progress_of, nested_items, page_byte_on, telling, page_on, page_read, nothing_read}
 use Rattle.rx_pages.proofs.ScanSteps.{page_append}
-use Rattle.rx_tags.specs.declared.stops.Stop.{Stop}
-use Rattle.rx_tags.specs.declared.stops.Stop.TheVariants as stop
+use Rattle.rx_grammar.specs.declared.stops.Stop.{Stop}
+use Rattle.rx_grammar.specs.declared.stops.Stop.TheVariants as stop
 use Rattle.rx_scan.specs.Entries.{IsNoMemory}
 use Rattle.rx_scan.specs.Steps.{is_quiet}
 use Rattle.rx_nest.specs.declared.nests.Event.{Event as Shown}
 use Rattle.rx_nest.specs.declared.nests.Event.TheVariants as event
-use Rattle.rx_nest.specs.declared.heard.Owed.{Owed}
-use Rattle.rx_nest.specs.declared.lines.Own.{Own}
-use Rattle.rx_nest.specs.declared.lines.Own.TheVariants as own
+use Rattle.rx_nest.specs.declared.tree_tokens.PendingEvents.{PendingEvents}
+use Rattle.rx_nest.specs.declared.lines.TagAction.{TagAction}
+use Rattle.rx_nest.specs.declared.lines.TagAction.TheVariants as own
 use Rattle.rx_nest.specs.Nests as nests
 use Rattle.rx_nest.specs.Nests.{Nested, Stepped, event_signs, IsBetween}
 use Rattle.rx_nest.specs.Signs.{Sign, said, Sight, is_hidden, sees, nothing_seen, finishing}
@@ -258,10 +258,10 @@ said_rest chars [] ys e = record { rest = chars; is = sym e }
 said_rest [] (x ∷ xs) ys e = absurd (cc)
 said_rest (c ∷ chars) (x ∷ xs) ys e = let w : map said chars ≡ xs ++ ys = cc in let r = said_rest chars xs ys w in record { rest = r.rest; is = r.is }
 
-none_owed : (owed : Owed) (t : StartTag) (chars : Chars) → nests.owed_signs owed t ≡ map said chars → nests.owed_signs owed t ≡ []
+none_owed : (owed : PendingEvents) (t : StartTag) (chars : Chars) → nests.owed_signs owed t ≡ map said chars → nests.owed_signs owed t ≡ []
 none_owed owed t chars = by owed.ends owed.own chars
   where
-    by : (k : ℕ) (o : Option Own) (chars : Chars) → finishing k ++ nests.owes_own o t ≡ map said chars → finishing k ++ nests.owes_own o t ≡ []
+    by : (k : ℕ) (o : Option TagAction) (chars : Chars) → finishing k ++ nests.owes_own o t ≡ map said chars → finishing k ++ nests.owes_own o t ≡ []
     by (suc k) o [] e = absurd (cc)
     by (suc k) o (c ∷ chars) e = absurd (cc)
     by zero None chars e = refl
@@ -288,7 +288,7 @@ pub record StepsQuietly (syntax : Syntax) (limits : Limits) (bytes piece : List 
   pub paid : OwesNone new
   pub between : IsBetween syntax limits (bytes ++ take n piece)
 
-pub steps_quietly : (syntax : Syntax) (limits : Limits) (bytes piece : List ℕ) (signs : List Sign) (old new : Nested) (n : ℕ) (e : Shown) → nests.Stands syntax limits old bytes signs → OwesNone old → IsBetween syntax limits bytes → is_quiet piece ≡ true
+pub steps_quietly : (syntax : Syntax) (limits : Limits) (bytes piece : List ℕ) (signs : List Sign) (old new : Nested) (n : ℕ) (e : Shown) → nests.NestStands syntax limits old bytes signs → OwesNone old → IsBetween syntax limits bytes → is_quiet piece ≡ true
     → Stepped syntax limits bytes signs piece n e new → StepsQuietly syntax limits bytes piece n e new
 steps_quietly syntax limits bytes piece signs old new n e st paid b quiet s =
     let p : Progress = record { now = st.at.now; told = st.told } in
@@ -312,7 +312,3 @@ steps_quietly syntax limits bytes piece signs old new n e st paid b quiet s =
 pub no_want : (A : Type 0) (why : Stop) → IsNoMemory {A = A} (Err why) ≡ false → HasMemory why
 no_want A (stop.Fault fault) h = tt
 no_want A stop.NoMemory h = absurd (cc)
-
-pub wants_none : (A : Type 0) (why : Stop) → HasMemory why → IsNoMemory {A = A} (Err why) ≡ false
-wants_none A (stop.Fault fault) h = refl
-wants_none A stop.NoMemory h = absurd h

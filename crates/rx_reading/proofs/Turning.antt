@@ -1,13 +1,13 @@
 -- What becomes of a reading, turn by turn.
-use Rattle.std.proofs.Common.{◌≡◌, ◌∙◌, ℕ, zero, suc, ◌<◌, true, List, [], ◌++◌, length, take, drop, refl, sym, ap, subst, Option, Some, None, Result, Ok, Err, arith, length-append, length-take, append-nil, append_assoc, ◌≢◌}
+use Rattle.std.proofs.Common.{◌≡◌, ◌∙◌, ℕ, zero, suc, ◌<◌, true, List, [], ◌++◌, length, take, drop, refl, sym, ap, subst, Option, Some, None, Ok, Err, arith, length-append, length-take, append-nil, append_assoc, ◌≢◌}
 use Rattle.rx_grammar.specs.declared.faults.Fault.{Fault}
 use Rattle.rx_grammar.specs.Trees.{StartTag}
-use Rattle.rx_tags.specs.declared.stops.Stop.{Stop}
-use Rattle.rx_tags.specs.declared.stops.Stop.TheVariants as stop
+use Rattle.rx_grammar.specs.declared.stops.Stop.{Stop}
+use Rattle.rx_grammar.specs.declared.stops.Stop.TheVariants as stop
 use Rattle.rx_nest.specs.declared.nests.Event.{Event}
-use Rattle.rx_nest.specs.declared.heard.Owed.{Owed}
-use Rattle.rx_nest.specs.declared.lines.Own.{Own}
-use Rattle.rx_nest.specs.declared.lines.Own.TheVariants as own
+use Rattle.rx_nest.specs.declared.tree_tokens.PendingEvents.{PendingEvents}
+use Rattle.rx_nest.specs.declared.lines.TagAction.{TagAction}
+use Rattle.rx_nest.specs.declared.lines.TagAction.TheVariants as own
 use Rattle.rx_nest.specs.Nests as nests
 use Rattle.rx_nest.specs.Nests.{Nested, Stepped, StepGives, event_signs, is_more, left, own_left}
 use Rattle.rx_nest.specs.Signs.{Sign, Sight, signs_of}
@@ -20,16 +20,16 @@ use Rattle.rx_reading.proofs.Pieces.{front_back, every}
 use Rattle.rx_reading.proofs.Firsts.{meaning_first, meaning_within, no_meaning}
 
 -- where nothing is due, nothing more is shown
-pub paid_up : (owed : Owed) (t : StartTag) → left owed ≡ 0 → nests.owed_signs owed t ≡ []
+pub paid_up : (owed : PendingEvents) (t : StartTag) → left owed ≡ 0 → nests.owed_signs owed t ≡ []
 paid_up owed t h = by owed.ends owed.own refl refl
   where
-    no_own : (o : Own) → own_left (Some o) ≡ 0 → nests.owes_own (Some o) t ≡ []
+    no_own : (o : TagAction) → own_left (Some o) ≡ 0 → nests.owes_own (Some o) t ≡ []
     no_own own.Nothing e = refl
     no_own own.Begin e = absurd (cc)
     no_own own.Alone e = absurd (cc)
     no_own own.Finish e = absurd (cc)
 
-    by : (k : ℕ) (o : Option Own) → owed.ends ≡ k → owed.own ≡ o → nests.owed_signs owed t ≡ []
+    by : (k : ℕ) (o : Option TagAction) → owed.ends ≡ k → owed.own ≡ o → nests.owed_signs owed t ≡ []
     by zero None e p = rw (e, p) refl
     by zero (Some o) e p = rw (e, p) (no_own o (let w : own_left owed.own ≡ 0 = omega (arith, h) in ap own_left (sym p) ∙ w))
     by (suc k) o e p = absurd (omega (arith, h, e))
@@ -129,12 +129,6 @@ module _ {L : Type 0} (way : Way) (knows : L → List Sign → Type 0) where
 pub end_stops : (way : Way) (bytes : List ℕ) (signs : List Sign) (old new : Nested) (why : Stop) → nests.EndGives way.syntax way.limits bytes signs old (Err why) new → Unfinished way bytes why
 end_stops way bytes signs old new (stop.Fault fault) g = g
 end_stops way bytes signs old new stop.NoMemory g = g
-
--- the end takes no memory
-pub end_wants_none : (A : Type 0) (way : Way) (bytes : List ℕ) (signs : List Sign) (old new : Nested) (why : Stop)
-    → nests.EndGives way.syntax way.limits bytes signs old (Err why) new → ◌≡◌ {A = Result A Stop} (Err why) (Err stop.NoMemory) → ⊥
-end_wants_none A way bytes signs old new (stop.Fault fault) g is = cc
-end_wants_none A way bytes signs old new stop.NoMemory g is = g
 
 pub no_fault : (o : Option Fault) → ((x : Fault) → o ≢ Some x) → o ≡ None
 no_fault None n = refl

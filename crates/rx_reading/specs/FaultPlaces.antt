@@ -8,11 +8,12 @@ use Rattle.rx_grammar.specs.PageFaults.{FaultAt}
 use Rattle.rx_grammar.specs.Trees.{Tree}
 use Rattle.rx_grammar.specs.Begun.{Line, Phase, Begun}
 use Rattle.rx_pages.specs.Closings.{closed, IsWide, IsFront}
-use Rattle.rx_tags.specs.declared.stops.Stop.{Stop}
-use Rattle.rx_tags.specs.declared.stops.Stop.TheVariants as stop
-use Rattle.rx_nest.specs.Signs.{signs_of}
+use Rattle.rx_grammar.specs.declared.stops.Stop.{Stop}
+use Rattle.rx_grammar.specs.declared.stops.Stop.TheVariants as stop
+use Rattle.rx_nest.specs.Signs.{Sign, signs_of}
 use Rattle.rx_reading.specs.Ways.{Way}
 use Rattle.rx_reading.specs.Faults.{MeaningAt}
+use Rattle.rx_reading.specs.Readings.{Read, ReadingStands}
 
 -- no page begins with these bytes
 abbrev pub BeginsNone : Syntax → Limits → List ℕ → Type 0
@@ -41,8 +42,10 @@ pub record IsAcceptedFront (way : Way) (bytes : List ℕ) : Type 0 where
 -- A start tag that is refused: no page without such a tag begins with the bytes through its place, and those before its
 -- token are the front of one without such a tag.
 pub data PlaceLaw (way : Way) (bytes : List ℕ) (fault : Fault) : Type 0 where
-  of_form : FaultAt way.syntax way.limits bytes fault → BeginsNone way.syntax way.limits (take (fault.at + 1) bytes) → IsFront way.syntax way.limits (take fault.token bytes) → PlaceLaw way bytes fault
-  of_meaning : MeaningAt way bytes fault → BeginsRefused way (take (fault.at + 1) bytes) fault → IsAcceptedFront way (take fault.token bytes) → PlaceLaw way bytes fault
+  of_form : FaultAt way.syntax way.limits bytes fault → BeginsNone way.syntax way.limits (take (fault.at + 1) bytes)
+      → IsFront way.syntax way.limits (take fault.token bytes) → PlaceLaw way bytes fault
+  of_meaning : MeaningAt way bytes fault → BeginsRefused way (take (fault.at + 1) bytes) fault
+      → IsAcceptedFront way (take fault.token bytes) → PlaceLaw way bytes fault
 
 -- It lies in the piece that brought it.
 pub record Placed (way : Way) (bytes piece : List ℕ) (fault : Fault) : Type 0 where
@@ -53,3 +56,8 @@ abbrev pub PlaceGives : Way → List ℕ → List ℕ → Result (Unit {0}) Stop
 PlaceGives way bytes piece (Ok done) = Unit {0}
 PlaceGives way bytes piece (Err (stop.Fault fault)) = Placed way bytes piece fault
 PlaceGives way bytes piece (Err stop.NoMemory) = Unit {0}
+
+-- A fault that is answered has its place by that law, whatever bytes the reading stands for.
+abbrev pub FeedsInPlace : {S L : Type 0} → (S → Way) → (S → L → List Sign → Type 0) → Read L → List ℕ → Result (Unit {0}) Stop → Type 0
+FeedsInPlace {S} way knows old piece result =
+    (setting : S) (bytes : List ℕ) → ReadingStands (way setting) (knows setting) old bytes → PlaceGives (way setting) bytes piece result

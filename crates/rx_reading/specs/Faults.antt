@@ -3,8 +3,8 @@ use Rattle.std.specs.Prelude.{◌≡◌, ◌<◌, ℕ, List, ◌++◌, length, S
 use Rattle.rx_grammar.specs.declared.faults.Fault.{Fault}
 use Rattle.rx_grammar.specs.PageFaults.{FaultAt}
 use Rattle.rx_pages.specs.PageReader.{Progress, page_read}
-use Rattle.rx_tags.specs.declared.stops.Stop.{Stop}
-use Rattle.rx_tags.specs.declared.stops.Stop.TheVariants as stop
+use Rattle.rx_grammar.specs.declared.stops.Stop.{Stop}
+use Rattle.rx_grammar.specs.declared.stops.Stop.TheVariants as stop
 use Rattle.rx_nest.specs.Signs.{sees, nothing_seen}
 use Rattle.rx_reading.specs.Ways.{Way}
 

@@ -1,8 +1,8 @@
 -- What a listener makes of a page's signs.
 use Rattle.std.specs.Prelude.{◌≡◌, Bool, true, false, List, ◌++◌, Option, Some, Result, Ok, Err}
 use Rattle.rx_grammar.specs.declared.faults.Fault.{Fault}
-use Rattle.rx_tags.specs.declared.stops.Stop.{Stop}
-use Rattle.rx_tags.specs.declared.stops.Stop.TheVariants as stop
+use Rattle.rx_grammar.specs.declared.stops.Stop.{Stop}
+use Rattle.rx_grammar.specs.declared.stops.Stop.TheVariants as stop
 use Rattle.rx_nest.specs.declared.nests.Event.{Event}
 use Rattle.rx_nest.specs.declared.nests.Event.TheVariants as event
 use Rattle.rx_nest.specs.Signs.{Sign}
@@ -29,3 +29,9 @@ is_calm event.Skipped = true
 is_calm (event.Text text) = true
 is_calm (event.Begin t) = false
 is_calm event.Finish = false
+
+-- What a listener hears behind the signs for which it stands, whatever they are and whatever it was made with.
+abbrev pub HearsMore : {S L : Type 0} → (S → Way) → (S → L → List Sign → Type 0) → L → List Sign → Result (Unit {0}) Stop → L → Type 0
+HearsMore {S} way knows old more result new =
+    (setting : S) (signs : List Sign) → knows setting old signs → IsFront (way setting).limits.depth (signs ++ more)
+    → Hears (way setting).refused (knows setting) signs more result new

@@ -5,8 +5,8 @@ use Rattle.rx_grammar.specs.declared.faults.Kind.TheVariants.{Unended}
 use Rattle.rx_grammar.specs.Pages.{Page}
 use Rattle.rx_grammar.specs.PageFaults.{FaultAt}
 use Rattle.rx_grammar.specs.Trees.{Tree}
-use Rattle.rx_tags.specs.declared.stops.Stop.{Stop}
-use Rattle.rx_tags.specs.declared.stops.Stop.TheVariants as stop
+use Rattle.rx_grammar.specs.declared.stops.Stop.{Stop}
+use Rattle.rx_grammar.specs.declared.stops.Stop.TheVariants as stop
 use Rattle.rx_chars.specs.declared.syntax.Syntax.{Syntax}
 use Rattle.rx_grammar.specs.declared.limits.Limits.{Limits}
 use Rattle.rx_nest.specs.Nests as nests
@@ -28,7 +28,7 @@ pub record Read (L : Type 0) : Type 0 where
 -- the signs that were read of these bytes are those for which the listener stands
 pub record Goes {L : Type 0} (way : Way) (knows : L → List Sign → Type 0) (nest : Nested) (listener : L) (bytes : List ℕ) : Type 0 where
   pub signs : List Sign
-  pub shown : nests.Stands way.syntax way.limits nest bytes signs
+  pub shown : nests.NestStands way.syntax way.limits nest bytes signs
   pub known : knows listener signs
 
 -- it is so of some bytes
@@ -46,7 +46,7 @@ abbrev pub Ready : {S L : Type 0} → (S → Way) → (S → L → List Sign →
 Ready way knows nest listener failed spent = failed ≡ None → spent ≡ false → Somewhere way knows nest listener × OwesNone nest
 
 -- The reading stands for these bytes of a page: its listener was told of them, and nothing is due.
-pub record Stands {L : Type 0} (way : Way) (knows : L → List Sign → Type 0) (reading : Read L) (bytes : List ℕ) : Type 0 where
+pub record ReadingStands {L : Type 0} (way : Way) (knows : L → List Sign → Type 0) (reading : Read L) (bytes : List ℕ) : Type 0 where
   pub goes : Goes way knows reading.nest reading.listener bytes
   pub paid : OwesNone reading.nest
   pub unfailed : reading.failed ≡ None
@@ -70,7 +70,7 @@ PieceGives way knows bytes piece (Ok done) nest listener = Goes way knows nest l
 PieceGives way knows bytes piece (Err why) nest listener = StopGives way (bytes ++ piece) why
 
 abbrev pub FeedGives : {L : Type 0} → Way → (L → List Sign → Type 0) → List ℕ → List ℕ → Result (Unit {0}) Stop → Read L → Type 0
-FeedGives way knows bytes piece (Ok done) new = Stands way knows new (bytes ++ piece)
+FeedGives way knows bytes piece (Ok done) new = ReadingStands way knows new (bytes ++ piece)
 FeedGives way knows bytes piece (Err why) new = StopGives way (bytes ++ piece) why × FallsBy why new.failed new.spent
 
 -- The bytes are a page of which no start tag is refused, and the listener stands for its tree.
@@ -98,3 +98,26 @@ EndGives way knows bytes (Err why) = Unfinished way bytes why
 -- a fault or want of memory was answered
 abbrev pub has_fallen : {L : Type 0} → Read L → Bool
 has_fallen reading = is_some reading.failed || reading.spent
+
+-- What a call does, whatever bytes the nest and its listener stand for under whatever setting.
+module _ {S L : Type 0} (way : S → Way) (knows : S → L → List Sign → Type 0) where
+  abbrev pub TakesTurn : Nested → L → List ℕ → Result Turn Stop → Nested → L → Type 0
+  TakesTurn nest listener piece result nest' listener' =
+      (setting : S) (bytes : List ℕ) → Goes (way setting) (knows setting) nest listener bytes → TurnGives (way setting) (knows setting) bytes piece result nest' listener'
+
+  abbrev pub TakesPiece : Nested → L → List ℕ → Result (Unit {0}) Stop → Nested → L → Type 0
+  TakesPiece nest listener piece result nest' listener' =
+      (setting : S) (bytes : List ℕ) → Goes (way setting) (knows setting) nest listener bytes → PieceGives (way setting) (knows setting) bytes piece result nest' listener'
+
+  -- a reading that was made stands for no bytes
+  abbrev pub StandsFirst : Syntax → Limits → L → Read L → Type 0
+  StandsFirst syntax limits listener reading =
+      (setting : S) → (way setting).syntax ≡ syntax → (way setting).limits ≡ limits → knows setting listener [] → ReadingStands (way setting) (knows setting) reading []
+
+  abbrev pub Feeds : Read L → List ℕ → Result (Unit {0}) Stop → Read L → Type 0
+  Feeds old piece result new =
+      (setting : S) (bytes : List ℕ) → ReadingStands (way setting) (knows setting) old bytes → FeedGives (way setting) (knows setting) bytes piece result new
+
+  abbrev pub Finishes : Read L → Result L Stop → Type 0
+  Finishes reading result =
+      (setting : S) (bytes : List ℕ) → ReadingStands (way setting) (knows setting) reading bytes → EndGives (way setting) (knows setting) bytes result

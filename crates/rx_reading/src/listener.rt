@@ -1,10 +1,9 @@
 //! Who listens to a page's elements.
-ghost use Rattle.std.specs.Prelude.{◌≡◌, ◌++◌, List, true, None, IsOk};
+ghost use Rattle.std.specs.Prelude.{◌≡◌, List, true, None, IsOk};
 ghost use Rattle.rx_nest.specs.Nests.{event_signs};
 ghost use Rattle.rx_nest.specs.Signs.{Sign};
-ghost use Rattle.rx_nest.specs.Fronts.{IsFront};
 ghost use Rattle.rx_reading.specs.Ways.{Way, IsRefusal};
-ghost use Rattle.rx_reading.specs.Listening.{MayHear, Hears, is_calm};
+ghost use Rattle.rx_reading.specs.Listening.{MayHear, HearsMore, is_calm};
 
 use rx_nest::{Event, Stop};
 
@@ -28,7 +27,7 @@ pub trait Listener {
     /// Takes what comes next in the page's tree. A fault is that of a start tag that is refused for what it means.
     fn hear(&mut self, event: Event<'_>) -> Result<(), Stop>
         requires { MayHear way knows self.old (event_signs event) }
-        ensures hears { (setting : Setting) (signs : List Sign) → knows setting self.old signs → IsFront (way setting).limits.depth (signs ++ event_signs event.entry) → Hears (way setting).refused (knows setting) signs (event_signs event.entry) result self.new }
+        ensures hears { HearsMore way knows self.old (event_signs event.entry) result self.new }
         ensures quiet { is_calm event.entry ≡ true → idle self.old → IsOk result × idle self.new };
 
     /// None of the signs is refused for which it stands.

@@ -1,10 +1,7 @@
 //! A page that is read in pieces.
-ghost use Rattle.std.specs.Prelude.{◌≡◌, ℕ, List, [], true, false, Err, IfOk};
-ghost use Rattle.rx_scan.specs.Entries.{IsNoMemory};
-ghost use Rattle.rx_scan.specs.Steps.{is_quiet};
-ghost use Rattle.rx_nest.specs.Nests.{IsBetween};
+ghost use Rattle.std.specs.Prelude.{◌≡◌, [], true, false, Err, IfOk};
 ghost use Rattle.rx_reading.specs.Falling.{Answered, MayAnswer};
-ghost use Rattle.rx_reading.specs.FaultPlaces.{PlaceGives};
+ghost use Rattle.rx_reading.specs.FaultPlaces.{FeedsInPlace};
 ghost use Rattle.rx_reading.specs.Quiets as quiets;
 ghost use Rattle.rx_reading.specs.Readings as readings;
 ghost use Rattle.rx_reading.specs.Turns.{TurnTakes, TakesByte};
@@ -40,9 +37,9 @@ impl<L: Listener> Model for Reading<L> {
 /// Takes what comes next of the page's tree.
 fn step<L: Listener>(nest: &mut Nest, listener: &mut L, piece: &[u8]) -> Result<Turn, Stop>
     requires { readings.Somewhere L.way L.knows nest.old listener.old }
-    ensures gives { (setting : L.Setting) (bytes : List ℕ) → readings.Goes (L.way setting) (L.knows setting) nest.old listener.old bytes → readings.TurnGives (L.way setting) (L.knows setting) bytes piece.now result nest.new listener.new }
+    ensures gives { readings.TakesTurn L.way L.knows nest.old listener.old piece.now result nest.new listener.new }
     ensures takes { TurnTakes piece.now result nest.old.owed nest.new.owed }
-    ensures quiet { (setting : L.Setting) (bytes : List ℕ) → quiets.QuietAt (L.way setting) (L.knows setting) L.idle nest.old listener.old bytes → is_quiet piece.now ≡ true → quiets.QuietTurn (L.way setting) (L.knows setting) L.idle bytes piece.now result nest.new listener.new }
+    ensures quiet { quiets.TakesTurnQuietly L.way L.knows L.idle nest.old listener.old piece.now result nest.new listener.new }
 {
     let (taken, event) = match nest.step(piece) {
         Ok(step) => step,
@@ -59,9 +56,9 @@ fn step<L: Listener>(nest: &mut Nest, listener: &mut L, piece: &[u8]) -> Result<
 /// Goes on until bytes are taken: what is due before needs none.
 fn take_some<L: Listener>(nest: &mut Nest, listener: &mut L, piece: &[u8]) -> Result<Turn, Stop>
     requires { readings.Somewhere L.way L.knows nest.old listener.old }
-    ensures gives { (setting : L.Setting) (bytes : List ℕ) → readings.Goes (L.way setting) (L.knows setting) nest.old listener.old bytes → readings.TurnGives (L.way setting) (L.knows setting) bytes piece.now result nest.new listener.new }
+    ensures gives { readings.TakesTurn L.way L.knows nest.old listener.old piece.now result nest.new listener.new }
     ensures takes { TakesByte piece.now result }
-    ensures quiet { (setting : L.Setting) (bytes : List ℕ) → quiets.QuietAt (L.way setting) (L.knows setting) L.idle nest.old listener.old bytes → is_quiet piece.now ≡ true → quiets.QuietTurn (L.way setting) (L.knows setting) L.idle bytes piece.now result nest.new listener.new }
+    ensures quiet { quiets.TakesTurnQuietly L.way L.knows L.idle nest.old listener.old piece.now result nest.new listener.new }
 {
     'turns: loop {
         match step(nest, listener, piece) {
@@ -75,8 +72,8 @@ fn take_some<L: Listener>(nest: &mut Nest, listener: &mut L, piece: &[u8]) -> Re
 /// Takes the whole piece.
 fn take_all<L: Listener>(nest: &mut Nest, listener: &mut L, piece: &[u8]) -> Result<(), Stop>
     requires { readings.Somewhere L.way L.knows nest.old listener.old }
-    ensures gives { (setting : L.Setting) (bytes : List ℕ) → readings.Goes (L.way setting) (L.knows setting) nest.old listener.old bytes → readings.PieceGives (L.way setting) (L.knows setting) bytes piece.now result nest.new listener.new }
-    ensures quiet { (setting : L.Setting) (bytes : List ℕ) → quiets.QuietAt (L.way setting) (L.knows setting) L.idle nest.old listener.old bytes → is_quiet piece.now ≡ true → quiets.QuietEnd result }
+    ensures gives { readings.TakesPiece L.way L.knows nest.old listener.old piece.now result nest.new listener.new }
+    ensures quiet { quiets.TakesPieceQuietly L.way L.knows L.idle nest.old listener.old piece.now result }
 {
     let mut rest = piece;
     'turns: loop {
@@ -97,7 +94,7 @@ impl<L: Listener + Drop> Reading<L> {
         listener: L,
     ) -> Result<Reading<L>, NoMemory>
         requires { readings.IsNew L.way L.knows syntax limits listener }
-        ensures { IfOk result (λ reading. (setting : L.Setting) → (L.way setting).syntax ≡ syntax → (L.way setting).limits ≡ limits → L.knows setting listener [] → readings.Stands (L.way setting) (L.knows setting) reading []) }
+        ensures { IfOk result (λ reading. readings.StandsFirst L.way L.knows syntax limits listener reading) }
     {
         let Ok(nest) = Nest::new(alloc, syntax, limits) else {
             drop(listener);
@@ -114,9 +111,9 @@ impl<L: Listener + Drop> Reading<L> {
     /// Takes the whole piece. Text takes no memory where the listener needs none for it: a piece without `<` and `&` then
     /// never wants memory where no token is unfinished.
     pub fn feed(&mut self, piece: &[u8]) -> Result<(), Stop>
-        ensures gives { (setting : L.Setting) (bytes : List ℕ) → readings.Stands (L.way setting) (L.knows setting) self.old bytes → readings.FeedGives (L.way setting) (L.knows setting) bytes piece.now result self.new }
-        ensures place { (setting : L.Setting) (bytes : List ℕ) → readings.Stands (L.way setting) (L.knows setting) self.old bytes → PlaceGives (L.way setting) bytes piece.now result }
-        ensures quiet { (setting : L.Setting) (bytes : List ℕ) → readings.Stands (L.way setting) (L.knows setting) self.old bytes → IsBetween (L.way setting).syntax (L.way setting).limits bytes → is_quiet piece.now ≡ true → L.idle self.old.listener → IsNoMemory result ≡ false }
+        ensures gives { readings.Feeds L.way L.knows self.old piece.now result self.new }
+        ensures place { FeedsInPlace L.way L.knows self.old piece.now result }
+        ensures quiet { quiets.FeedsQuietly L.way L.knows L.idle self.old piece.now result }
         ensures asked { MayAnswer self.old.failed self.old.spent result }
         ensures keeps { Answered result self.new.failed self.new.spent }
     {
@@ -142,7 +139,7 @@ impl<L: Listener + Drop> Reading<L> {
     /// The page's end: the listener, which was told of the whole page. `Unended` comes exactly where the bytes are no page and
     /// no earlier fault stands in them. It takes no memory: want of memory is answered only where it was before.
     pub fn finish(self) -> Result<L, Stop>
-        ensures gives { (setting : L.Setting) (bytes : List ℕ) → readings.Stands (L.way setting) (L.knows setting) self bytes → readings.EndGives (L.way setting) (L.knows setting) bytes result }
+        ensures gives { readings.Finishes L.way L.knows self result }
         ensures whole { IfOk result (λ listener. readings.IsWhole L.way L.knows listener) }
         ensures asked { MayAnswer self.failed self.spent result }
         ensures memory { result ≡ Err Stop.NoMemory → self.spent ≡ true }

@@ -11,7 +11,7 @@ use Rattle.rx_terms.specs.Ascii.{is_ascii}
 use Rattle.rx_terms.proofs.CharLemmas.{ascii-same, ascii-chars}
 use Rattle.rx_refs.specs.Dots.{is}
 use Rattle.rx_refs.specs.Segments.{Grown, slashed, pushed, cut_back, after_segment, after_last}
-use Rattle.rx_refs.proofs.PartLemmas.{by_test}
+use Rattle.rx_terms.proofs.Bools.{by_test}
 
 abbrev pub shown : List ℕ → ℕ → Bool → Grown
 shown bs start slash = record { front = chars (take start bs); path = chars (drop start bs); slash = slash }

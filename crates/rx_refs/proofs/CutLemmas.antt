@@ -12,7 +12,9 @@ use Rattle.rx_terms.specs.Text.{Chars, begins_with, is_empty}
 use Rattle.rx_refs.specs.Parts.{before, from_first}
 use Rattle.rx_refs.specs.Dots.{holds, without_last_segment}
 use Rattle.rx_refs.specs.Resolve.{through_last_slash}
-use Rattle.rx_refs.proofs.PartLemmas.{by_test, same_char, cut-at, uncut}
+use Rattle.rx_terms.proofs.Bools.{by_test}
+use Rattle.rx_refs.proofs.PartLemmas.{cut-at, uncut}
+use Rattle.rx_words.proofs.EndLemmas.{begins-front}
 
 -- Texts with a `/`
 
@@ -100,17 +102,6 @@ last-slash bs (Some i) u f =
 
 -- A text of ASCII at the front
 
-pub begins-front : (front text : Chars) → begins_with front text ≡ true → (rest : Chars) × (text ≡ front ++ rest)
-begins-front [] text h = (text, refl)
-begins-front (c ∷ front) [] h = absurd (cc h)
-begins-front (c ∷ front) (d ∷ text) h =
-    let parts = and_parts _ _ h in
-    let r = begins-front front text parts.1 in
-    let e = same_char c d parts.0 in
-    (r.0, same_cons c d text (front ++ r.0) e r.1) where
-      same_cons : (c d : ℕ) (xs ys : Chars) → c ≡ d → xs ≡ ys → d ∷ xs ≡ c ∷ ys
-      same_cons c d xs ys e f = cc
-
 pub prefix-none : (front bs : List ℕ) → encode_utf8_all front ≡ front → IsUtf8 bs → ((rest : List ℕ) → bs ≢ front ++ rest) → begins_with front (chars bs) ≡ false
 prefix-none front bs ascii u h =
     by_test (begins_with front (chars bs)) (λ t.
@@ -122,10 +113,3 @@ pub past-slash : (bs rest : List ℕ) → IsUtf8 bs → bs ≡ 47 ∷ rest → (
 past-slash bs rest u e =
     let whole : bs ≡ encode_utf8 47 ++ rest = e ∙ sym (ap (λ (x : List ℕ). x ++ rest) (encode_ascii 47 (omega arith))) in
     (chars_past_char bs rest 47 u whole, IsUtf8-past_char bs rest 47 u whole)
-
-pub empty-chars : (bs : List ℕ) → IsUtf8 bs → (length bs == 0) ≡ is_empty (chars bs)
-empty-chars [] u = sym (ap is_empty chars-nil)
-empty-chars (b ∷ bs) u = go (chars (b ∷ bs)) (encodes-chars (b ∷ bs) u) where
-  go : (cs : List ℕ) → encode_utf8_all cs ≡ b ∷ bs → (length (b ∷ bs) == 0) ≡ is_empty cs
-  go [] e = absurd (cc e)
-  go (c ∷ cs) e = let l : (suc (length bs) == 0) ≡ false = grind (arith, nat_tests) in l

@@ -8,7 +8,8 @@ use Rattle.rx_terms.specs.Text.{Chars, begins_with}
 use Rattle.rx_refs.specs.Parts.{from_first}
 use Rattle.rx_refs.specs.Dots.{Buffers, is, holds, without_last_segment, step, after_steps, without_dots}
 use Rattle.rx_refs.specs.Segments.{Grown, slashed, buffers_at, reduced, pushed, cut_back, after_segment, after_last, Takes}
-use Rattle.rx_refs.proofs.PartLemmas.{by_test, cut-at, uncut}
+use Rattle.rx_terms.proofs.Bools.{by_test}
+use Rattle.rx_refs.proofs.PartLemmas.{cut-at, uncut}
 
 abbrev pub at : Chars → Chars → Buffers
 at input output = record { input = input; output = output }

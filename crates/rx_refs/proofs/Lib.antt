@@ -2,7 +2,6 @@ pub mod PartLemmas
 pub mod DotLemmas
 pub mod RuleLemmas
 pub mod CutLemmas
-pub mod TrimLemmas
 pub mod BufferLemmas
 pub mod SchemeLemmas
 pub mod WholeLemmas

@@ -1,16 +1,11 @@
 -- Where a text is cut at its first `mark`.
 use Rattle.std.proofs.Common.{◌≡◌, ◌∙◌, ℕ, Bool, true, false, ◌==◌, [], ◌∷◌, ◌++◌, ap, refl, arith, Option, Some, None}
 use Rattle.std.proofs.lemmas.Bool.Decides.{nat_tests}
+use Rattle.rx_terms.proofs.Bools.{by_test}
 use Rattle.rx_terms.specs.Text.{Chars, split_at, front_grows}
 use Rattle.rx_refs.specs.Parts.{before, from_first, behind}
 use Rattle.rx_refs.specs.Dots.{holds}
-
-pub by_test : {P : Type 0} (b : Bool) → (b ≡ true → P) → (b ≡ false → P) → P
-by_test true f g = f refl
-by_test false f g = g refl
-
-pub same_char : (c mark : ℕ) → (c == mark) ≡ true → c ≡ mark
-same_char c mark e = grind (arith, nat_tests)
+use Rattle.rx_words.proofs.EndLemmas.{same_char}
 
 pub behind-none : (mark : ℕ) (text : Chars) → behind mark text ≡ None → (before mark text ≡ text) × (from_first mark text ≡ []) × (holds mark text ≡ false)
 behind-none mark [] e = (refl, refl, refl)

@@ -7,8 +7,8 @@ use Rattle.rx_refs.specs.Dots.{is, first_segment, behind_first_segment, without_
 use Rattle.rx_refs.specs.Rules.{IsOther, EndsWith, DotsByRules}
 use Rattle.rx_refs.specs.Rules.EndsWith.{at_end, a_parent, a_here, b_inside, b_last, c_inside, c_last, d_here, d_parent, e_other}
 use Rattle.rx_refs.specs.Segments.{reduced}
-use Rattle.rx_refs.proofs.PartLemmas.{by_test}
-use Rattle.rx_refs.proofs.CutLemmas.{begins-front}
+use Rattle.rx_terms.proofs.Bools.{by_test}
+use Rattle.rx_words.proofs.EndLemmas.{begins-front}
 use Rattle.rx_refs.proofs.DotLemmas.{at, from_first-shorter, reduced-step}
 
 step-other : (input output : Chars) → IsOther input → step (at input output) ≡ at (behind_first_segment input) (output ++ first_segment input)

@@ -11,7 +11,8 @@ use Rattle.rx_terms.specs.Iri.{is_scheme_char, begins_with_letter, is_scheme, be
 use Rattle.rx_refs.specs.Resolve.{digit, escaped, cleaned_char, cleaned}
 use Rattle.rx_refs.specs.Parts.{before, behind, scheme_of, behind_scheme}
 use Rattle.rx_refs.specs.Dots.{holds}
-use Rattle.rx_refs.proofs.PartLemmas.{by_test, with_front, split_at-parts, behind-none, behind-some, before-lacks, cut-at, uncut}
+use Rattle.rx_terms.proofs.Bools.{by_test}
+use Rattle.rx_refs.proofs.PartLemmas.{with_front, split_at-parts, behind-none, behind-some, before-lacks, cut-at, uncut}
 
 pub has_scheme-cut : (front rest : Chars) → holds 58 front ≡ false → has_scheme (front ++ 58 ∷ rest) ≡ is_scheme front
 has_scheme-cut front rest h =

@@ -2,11 +2,10 @@
 use Rattle.std.proofs.Common.{◌≡◌, ℕ, true, false, ◌&&◌, List, ◌∷◌, ◌++◌, refl, Option, Some, None}
 use Rattle.std.specs.Prelude.{codes, is_some}
 use Rattle.std.specs.Option.{option_or}
-use Rattle.rx_terms.specs.Text.{Chars, begins_with, is_empty}
+use Rattle.rx_terms.specs.Text.{Chars, begins_with, is_empty, seen_slice}
 use Rattle.rx_refs.specs.Parts.{Components}
 use Rattle.rx_refs.specs.Dots.{without_dots}
 use Rattle.rx_refs.specs.Resolve.{through_last_slash, relative_path}
-use Rattle.rx_refs.specs.Views.{seen_slice}
 use denote.Ref.{Bor}
 
 pub seen-some : (slice : Option (Bor (List ℕ))) → is_some (seen_slice slice) ≡ is_some slice

@@ -9,8 +9,9 @@ use Rattle.rx_refs.specs.Parts.{Components, before, behind, scheme_of, behind_sc
 use Rattle.rx_refs.specs.Dots.{holds, without_dots}
 use Rattle.rx_refs.specs.Resolve.{relative_path, target, cleaned, resolved}
 use Rattle.rx_refs.specs.Laws.{AbsoluteStandsAlone, PartsAreWhole, ResolvedIsIri}
-use Rattle.rx_refs.proofs.PartLemmas.{by_test, behind-none, behind-some, before-from}
-use Rattle.rx_refs.proofs.CutLemmas.{begins-front}
+use Rattle.rx_terms.proofs.Bools.{by_test}
+use Rattle.rx_refs.proofs.PartLemmas.{behind-none, behind-some, before-from}
+use Rattle.rx_words.proofs.EndLemmas.{begins-front}
 use Rattle.rx_refs.proofs.SchemeLemmas.{cut-scheme, scheme-cut, scheme-none, cleaned-has-scheme, cleaned-clean}
 
 -- The parts of a text are the text

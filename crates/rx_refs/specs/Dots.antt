@@ -1,5 +1,5 @@
 -- The dot segments of a path: RFC 3986, section 5.2.4, on the pair of its input buffer and its output buffer.
-use Rattle.std.specs.Prelude.{ℕ, zero, suc, Bool, ◌||◌, ◌==◌, [], ◌∷◌, ◌++◌, drop, length, codes, bytes_eq, if◌then◌else◌}
+use Rattle.std.specs.Prelude.{◌≡◌, ℕ, zero, suc, Bool, false, ◌||◌, ◌==◌, [], ◌∷◌, ◌++◌, drop, length, codes, bytes_eq, if◌then◌else◌}
 use Rattle.std.specs.List.{list_any}
 use Rattle.rx_terms.specs.Ascii.{solidus}
 use Rattle.rx_terms.specs.Text.{Chars, begins_with}
@@ -14,6 +14,10 @@ is text input = bytes_eq text input
 
 abbrev pub holds : ℕ → Chars → Bool
 holds mark text = list_any (λ c. c == mark) text
+
+-- the text is cut at its first `mark`
+abbrev pub CutsAt : ℕ → Chars → Chars → Chars → Type 0
+CutsAt mark text front rest = (text ≡ front ++ mark ∷ rest) × (holds mark front ≡ false)
 
 -- the first segment of the input, with the `/` before it where there is one
 abbrev pub first_segment : Chars → Chars

@@ -70,6 +70,10 @@ abbrev pub delimited : (Chars → Chars) → Option Chars → Chars
 delimited form None = []
 delimited form (Some component) = form component
 
+-- a component behind its delimiter
+abbrev pub behind_delimiter : Chars → Option Chars → Chars
+behind_delimiter delimiter component = delimited (λ c. delimiter ++ c) component
+
 -- 5.3
 abbrev pub recomposed : Components → Chars
 recomposed parts =

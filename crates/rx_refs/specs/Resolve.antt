@@ -13,6 +13,10 @@ abbrev pub through_last_slash : Chars → Chars
 through_last_slash [] = []
 through_last_slash (c ∷ text) = if holds solidus (c ∷ text) then c ∷ through_last_slash text else []
 
+-- a path behind the base's up to its last `/`, without dot segments
+abbrev pub behind_base : Chars → Chars → Chars
+behind_base base path = without_dots (through_last_slash base ++ path)
+
 -- 5.2.3
 abbrev pub merged : Components → Chars → Chars
 merged base path = if is_some base.authority && is_empty base.path then solidus ∷ path else through_last_slash base.path ++ path

@@ -24,7 +24,8 @@ pub data EndsWith : Chars → Chars → Chars → Type 0 where
   c_last : (output result : Chars) → EndsWith (codes "/") (without_last_segment output) result → EndsWith (codes "/..") output result
   d_here : (output : Chars) → EndsWith (codes ".") output output
   d_parent : (output : Chars) → EndsWith (codes "..") output output
-  e_other : (input output result : Chars) → IsOther input → EndsWith (behind_first_segment input) (output ++ first_segment input) result → EndsWith input output result
+  e_other : (input output result : Chars) → IsOther input → EndsWith (behind_first_segment input) (output ++ first_segment input) result
+      → EndsWith input output result
 
 -- The function and the rules agree: a path has one end, and it is this one.
 pub record RulesEnd (path : Chars) : Type 0 where

@@ -1,8 +1,7 @@
 -- What the code's values stand for.
 use Rattle.std.specs.Prelude.{ℕ, List, Option, ◌++◌}
-use Rattle.std.specs.Option.{option_map}
 use Rattle.std.specs.Str.{chars}
-use Rattle.rx_terms.specs.Text.{Chars}
+use Rattle.rx_terms.specs.Text.{Chars, seen_slice}
 use Rattle.rx_refs.specs.Parts.{Components}
 use Rattle.rx_refs.specs.Dots.{without_dots}
 use Rattle.rx_refs.specs.Resolve.{through_last_slash}
@@ -10,10 +9,6 @@ use Rattle.rx_refs.specs.declared.parts.Parts.{Parts}
 use Rattle.rx_refs.specs.declared.targets.Target.{Target}
 use Rattle.rx_refs.specs.declared.targets.TargetPath.{TargetPath}
 use Rattle.rx_refs.specs.declared.targets.TargetPath.TheVariants.{Kept, Reduced, Merged}
-use denote.Ref.{Bor}
-
-abbrev pub seen_slice : Option (Bor (List ℕ)) → Option Chars
-seen_slice slice = option_map (λ s. chars s.now) slice
 
 abbrev pub seen : Parts → Components
 seen parts = record {

@@ -3,7 +3,7 @@ ghost use Rattle.std.specs.Prelude.{◌≡◌, [], ◌++◌, IfOk, OnOk, false, 
 ghost use Rattle.std.specs.Str.{chars};
 ghost use Rattle.rx_terms.specs.Ascii.{solidus};
 ghost use Rattle.rx_refs.specs.Dots.{holds, without_dots, without_last_segment};
-ghost use Rattle.rx_refs.specs.Resolve.{through_last_slash};
+ghost use Rattle.rx_refs.specs.Resolve.{behind_base, through_last_slash};
 ghost use Rattle.rx_refs.specs.Segments.{Takes, pushed, cut_back, after_segment, after_last};
 
 use crate::slices::{last_slash, split_once};
@@ -22,7 +22,7 @@ pub fn push_path(text: String, path: &str) -> Result<String, NoMemory>
 
 /// The same of the path that begins with the base's up to its last `/` (section 5.2.3).
 pub fn push_merged_path(text: String, base: &str, path: &str) -> Result<String, NoMemory>
-    ensures { IfOk result (λ whole. chars (string_bytes whole) ≡ chars (string_bytes text) ++ without_dots (through_last_slash (chars base.now) ++ chars path.now)) }
+    ensures { IfOk result (λ whole. chars (string_bytes whole) ≡ chars (string_bytes text) ++ behind_base (chars base.now) (chars path.now)) }
 {
     let mut grown = GrownPath::behind(text);
     let _left_out = grown.push_closed(base)?;

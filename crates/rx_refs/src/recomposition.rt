@@ -1,8 +1,9 @@
 //! The components of a target joined again (RFC 3986, section 5.3).
 ghost use Rattle.std.specs.Prelude.{◌≡◌, ◌++◌, IfOk, OnOk, codes, string_bytes};
 ghost use Rattle.std.specs.Str.{chars};
-ghost use Rattle.rx_refs.specs.Parts.{recomposed, delimited};
-ghost use Rattle.rx_refs.specs.Views.{seen_slice, seen_path, seen_target};
+ghost use Rattle.rx_refs.specs.Parts.{recomposed, delimited, behind_delimiter};
+ghost use Rattle.rx_terms.specs.Text.{seen_slice};
+ghost use Rattle.rx_refs.specs.Views.{seen_path, seen_target};
 
 use crate::dots::{push_merged_path, push_path};
 use crate::targets::{Target, TargetPath};
@@ -33,7 +34,7 @@ fn push_scheme(text: &mut String, scheme: Option<&str>) -> Result<(), NoMemory>
 }
 
 fn push_behind(text: &mut String, delimiter: &str, component: Option<&str>) -> Result<(), NoMemory>
-    ensures { OnOk result (chars (string_bytes text.new) ≡ chars (string_bytes text.old) ++ delimited (λ c. chars delimiter.now ++ c) (seen_slice component.entry)) }
+    ensures { OnOk result (chars (string_bytes text.new) ≡ chars (string_bytes text.old) ++ behind_delimiter (chars delimiter.now) (seen_slice component.entry)) }
 {
     let Some(component) = component else {
         return Ok(());

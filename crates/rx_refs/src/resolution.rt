@@ -7,9 +7,10 @@ ghost use Rattle.rx_terms.specs.Iri.{IsIri};
 use crate::escapes::clean_string;
 use crate::parts::split;
 use crate::recomposition::recompose;
-use crate::slices::{cut, trim};
+use crate::slices::cut;
 use crate::targets::target_of;
 use rx_terms::{Iri, NoMemory, Text};
+use rx_words::trim;
 use std::alloc::Global;
 
 /// What the reference means against the base, by RFC 3986, section 5.2.2, strict. The reference is trimmed first, and

@@ -1,16 +1,15 @@
 //! Slices of a text, cut at characters of ASCII.
-ghost use Rattle.std.specs.Prelude.{◌≡◌, ◌<◌, ◌++◌, ◌∷◌, false, MatchOption, take, codes};
+ghost use Rattle.std.specs.Prelude.{◌≡◌, ◌<◌, ◌++◌, false, MatchOption, take, codes};
 ghost use Rattle.std.specs.Str.{chars, IsCharBoundary};
 ghost use Rattle.rx_terms.specs.Ascii.{solidus};
-ghost use Rattle.rx_terms.specs.Text.{trimmed, begins_with, is_empty};
+ghost use Rattle.rx_terms.specs.Text.{begins_with, seen_slice};
 ghost use Rattle.rx_refs.specs.Parts.{before, behind, from_first};
-ghost use Rattle.rx_refs.specs.Dots.{holds, without_last_segment};
-ghost use Rattle.rx_refs.specs.Views.{seen_slice};
+ghost use Rattle.rx_refs.specs.Dots.{CutsAt, holds, without_last_segment};
 
 /// What stands before and behind the first `mark`.
 pub fn split_once(text: &str, mark: char) -> Option<(&str, &str)>
     requires { mark < 128 }
-    ensures { MatchOption result (holds mark (chars text.now) ≡ false) (λ cut. (chars text.now ≡ chars cut.0.now ++ mark ∷ chars cut.1.now) × (holds mark (chars cut.0.now) ≡ false)) }
+    ensures { MatchOption result (holds mark (chars text.now) ≡ false) (λ cut. CutsAt mark (chars text.now) (chars cut.0.now) (chars cut.1.now)) }
 {
     text.split_once(mark)
 }
@@ -44,13 +43,6 @@ pub fn last_slash(path: &str) -> usize
     path.rfind('/').unwrap_or(0)
 }
 
-/// Whether the text has no character.
-pub fn is_empty(text: &str) -> bool
-    ensures { result ≡ is_empty (chars text.now) }
-{
-    text.is_empty()
-}
-
 /// Whether the text begins with `/`.
 pub fn begins_with_slash(text: &str) -> bool
     ensures { result ≡ begins_with (codes "/") (chars text.now) }
@@ -63,11 +55,4 @@ pub fn behind_slashes(text: &str) -> Option<&str>
     ensures { MatchOption result (begins_with (codes "//") (chars text.now) ≡ false) (λ rest. chars text.now ≡ codes "//" ++ chars rest.now) }
 {
     text.strip_prefix("//")
-}
-
-/// The text without the white space at both ends.
-pub fn trim(text: &str) -> &str
-    ensures { chars result.now ≡ trimmed (chars text.now) }
-{
-    text.trim_ascii()
 }

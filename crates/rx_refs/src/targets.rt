@@ -6,7 +6,8 @@ ghost use Rattle.rx_refs.specs.Resolve.{target, relative_path};
 ghost use Rattle.rx_refs.specs.Views.{seen, seen_target, seen_path};
 
 use crate::parts::Parts;
-use crate::slices::{begins_with_slash, is_empty};
+use crate::slices::begins_with_slash;
+use rx_words::is_empty;
 
 /// The components of the target. Each is the base's or the reference's.
 #[derive(Clone, Copy)]

@@ -16,16 +16,16 @@ use Rattle.rx_grammar.specs.declared.limits.Limits.{Limits}
 use Rattle.rx_grammar.specs.Items.{values}
 use Rattle.rx_grammar.specs.PageFaults.{is_known_tag}
 use Rattle.rx_grammar.specs.declared.faults.Fault.{Fault}
-use Rattle.rx_reader.proofs.Bools.{by_test, both, either, untrue}
+use Rattle.rx_terms.proofs.Bools.{by_test, both, either, untrue}
 use Rattle.rx_pages.specs.PageReader as reader
-use Rattle.rx_tags.specs.declared.stops.Stop.{Stop}
-use Rattle.rx_tags.specs.declared.stops.Stop.TheVariants as stop
+use Rattle.rx_grammar.specs.declared.stops.Stop.{Stop}
+use Rattle.rx_grammar.specs.declared.stops.Stop.TheVariants as stop
 use Rattle.rx_tags.specs.TagBufs.{TagSoFar}
 use Rattle.rx_scan.specs.declared.answers.What.{What}
 use Rattle.rx_scan.specs.declared.answers.What.TheVariants as what
 use Rattle.rx_marks.specs.declared.marks.Mark.{Mark}
 use Rattle.rx_marks.specs.declared.marks.Mark.TheVariants as mark
-use Rattle.rx_scan.specs.declared.places.Place.{Place}
+use Rattle.rx_scan.specs.declared.places.Position.{Position}
 use Rattle.rx_scan.specs.Places.{entered, holding}
 use Rattle.rx_marks.specs.KnownTags as known_tags
 use Rattle.rx_marks.specs.Pending.{PendsAs}
@@ -96,7 +96,7 @@ module _ (v : Reading) (s : reader.Scanning) (h : ReadsAs v s) where
   spot = spot_of v
 
   -- the token that is pending stays where it is
-  token_stays : (starts : ℕ) (place : Place) → place.starts ≡ starts → place.token ≡ v.place.token → entries.token_from v.pending.mark place ≡ reader.first_of s.run starts
+  token_stays : (starts : ℕ) (place : Position) → place.starts ≡ starts → place.token ≡ v.place.token → entries.token_from v.pending.mark place ≡ reader.first_of s.run starts
   token_stays starts place e q = elim (nothing_or sy v.setting.inside v.pending.mark v.pending.run v.pending.tag (values s.run) h.pends) [
     | inl n ↦ ap (λ (m : Mark). entries.token_from m place) n.0 ∙ (e ∙ ap (λ (r : List Entry). reader.first_of r starts) (sym (no_values s.run n.1)))
     | inr f ↦ some_mark sy v.setting.inside v.pending.mark v.pending.run v.pending.tag (values s.run) f.first f.more place h.pends f.is

@@ -7,10 +7,9 @@ use Rattle.rx_chars.specs.declared.syntax.Syntax.{Syntax}
 use Rattle.rx_grammar.specs.declared.contents.Content.{Content}
 use Rattle.rx_grammar.specs.declared.faults.Kind.{Kind}
 use Rattle.rx_grammar.specs.Tokens.{Token, section, comment, doctype}
-use Rattle.rx_grammar.specs.Items.{values}
 use Rattle.rx_pages.specs.Scanner as verdicts
 use Rattle.rx_pages.specs.PageReader as reader
-use Rattle.rx_tags.specs.declared.stops.Stop.{Stop}
+use Rattle.rx_grammar.specs.declared.stops.Stop.{Stop}
 use Rattle.rx_scan.specs.declared.answers.What.{What}
 use Rattle.rx_scan.specs.declared.answers.What.TheVariants as what
 use Rattle.rx_marks.specs.declared.marks.Mark.TheVariants as mark
@@ -19,7 +18,7 @@ use Rattle.rx_scan.specs.declared.places.Setting.{Setting}
 use Rattle.rx_scan.specs.Scanner.{Reading}
 use Rattle.rx_scan.specs.Entries as entries
 use Rattle.rx_scan.specs.Steps.{ReadsAs, IsOne, a_comment, an_empty_section, setting_after}
-use Rattle.rx_scan.proofs.GivesLemmas.{Told, Gives, gives_at, verdict_at, read_at}
+use Rattle.rx_scan.proofs.GivesLemmas.{IsTold, Gives, gives_at, verdict_at, read_at}
 use Rattle.rx_scan.proofs.WholeLemmas.{item, is_item, behind, completes, ends_as, unliteral}
 use Rattle.rx_scan.proofs.Standing.{is_character, no_literal}
 
@@ -30,9 +29,6 @@ module _ (v : Reading) (s : reader.Scanning) (h : ReadsAs v s) (ar : Bool) (c : 
   abbrev inside : Content
   inside = v.setting.inside
 
-  abbrev text : Chars
-  text = values s.run
-
   abbrev verdict : verdicts.Verdict
   verdict = verdict_at v s c
 
@@ -41,7 +37,7 @@ module _ (v : Reading) (s : reader.Scanning) (h : ReadsAs v s) (ar : Bool) (c : 
 
   -- a token that is whole and of which no text is told
   gives_ended : (t : Token) (answer : What) (setting : Setting) (result : Result What Stop) (new : Reading) → read verdict ≡ Ok (record { next = behind v s h ar c t; items = item v s h ar c t ∷ [] }) → is_character t ≡ false
-      → result ≡ Ok answer → new ≡ entries.with_ended v ar setting → setting.syntax ≡ sy → Told v answer (item v s h ar c t ∷ []) (entries.with_ended v ar setting) → setting ≡ setting_after answer (entries.with_ended v ar setting) v.setting (item v s h ar c t ∷ [])
+      → result ≡ Ok answer → new ≡ entries.with_ended v ar setting → setting.syntax ≡ sy → IsTold v answer (item v s h ar c t ∷ []) (entries.with_ended v ar setting) → setting ≡ setting_after answer (entries.with_ended v ar setting) v.setting (item v s h ar c t ∷ [])
       → Gives (read verdict) s v result new
   gives_ended t answer setting result new g n q e y told k =
       subst (λ (z : Result What Stop). Gives (read verdict) s v z new) (sym q)

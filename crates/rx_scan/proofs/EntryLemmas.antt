@@ -12,7 +12,7 @@ use Rattle.rx_grammar.specs.Tokens.{doctype}
 use Rattle.rx_grammar.specs.Items.{values}
 use Rattle.rx_pages.specs.Scanner as verdicts
 use Rattle.rx_pages.specs.PageReader as reader
-use Rattle.rx_tags.specs.declared.stops.Stop.{Stop}
+use Rattle.rx_grammar.specs.declared.stops.Stop.{Stop}
 use Rattle.rx_scan.specs.declared.answers.What.{What}
 use Rattle.rx_marks.specs.declared.marks.Mark.TheVariants as mark
 use Rattle.rx_marks.specs.declared.marks.Brackets.TheVariants as brackets

@@ -20,7 +20,7 @@ use Rattle.rx_tags.specs.Fronts.{is_printed, GoesTo}
 use Rattle.rx_tags.specs.TagBufs.{TagSoFar, MayStep, TakesMore}
 use Rattle.rx_tags.proofs.TakeLemmas.{is_none, goes_unfinished}
 use Rattle.rx_scan.specs.declared.answers.What.TheVariants as what
-use Rattle.rx_scan.specs.declared.places.Place.{Place}
+use Rattle.rx_scan.specs.declared.places.Position.{Position}
 use Rattle.rx_scan.specs.Entries as entries
 use Rattle.rx_scan.specs.Fronts.{FeedsFront, with_state}
 use Rattle.rx_scan.specs.Places.{fed}
@@ -87,7 +87,7 @@ module _ (l new : Reading) (b : ℕ) (t : FeedsFront l (b ∷ []) new) where
 abbrev pub middle : Reading → TagState → Reading
 middle l state = entries.with_parts l l.setting (fed 1 l.place) (record { mark = l.pending.mark; run = l.pending.run; tag = with_state l.pending.tag state }) l.text
 
-fed_on : (m n : ℕ) (p : Place) → m ≡ n + 1 → fed m p ≡ fed n (fed 1 p)
+fed_on : (m n : ℕ) (p : Position) → m ≡ n + 1 → fed m p ≡ fed n (fed 1 p)
 fed_on m n p q =
     let e : p.at + m ≡ (p.at + 1) + n = omega (arith, q) in
     λ i. record { at = e i; starts = e i; token = p.token; started = true; after_return = false; two = p.two; last = p.last }
@@ -117,7 +117,7 @@ module _ (l new : Reading) (b d : ℕ) (front : List ℕ) (t : FeedsFront l (b �
         state = t.state;
         goes = t.goes.2;
         is = t.is
-            ∙ ap (λ (p : Place). entries.with_parts l l.setting p (record { mark = l.pending.mark; run = l.pending.run; tag = with_state l.pending.tag t.state }) l.text)
+            ∙ ap (λ (p : Position). entries.with_parts l l.setting p (record { mark = l.pending.mark; run = l.pending.run; tag = with_state l.pending.tag t.state }) l.text)
             (fed_on (length (b ∷ d ∷ front)) (length (d ∷ front)) l.place (omega arith));
       }
 

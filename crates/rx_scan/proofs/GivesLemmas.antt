@@ -7,8 +7,8 @@ use Rattle.rx_grammar.specs.declared.faults.Kind.{Kind}
 use Rattle.rx_grammar.specs.Items.{Item, values}
 use Rattle.rx_pages.specs.Scanner as verdicts
 use Rattle.rx_pages.specs.PageReader as reader
-use Rattle.rx_tags.specs.declared.stops.Stop.{Stop}
-use Rattle.rx_tags.specs.declared.stops.Stop.TheVariants as stop
+use Rattle.rx_grammar.specs.declared.stops.Stop.{Stop}
+use Rattle.rx_grammar.specs.declared.stops.Stop.TheVariants as stop
 use Rattle.rx_scan.specs.declared.answers.What.{What}
 use Rattle.rx_scan.specs.declared.answers.What.TheVariants as what
 use Rattle.rx_scan.specs.Scanner.{Reading, spot_of}
@@ -26,17 +26,17 @@ pub record Grows (old : Reading) (items : List Item) (new : Reading) : Type 0 wh
   pub still : old.place.started ≡ true → new.place.started ≡ true
 
 -- what the answer to one byte tells
-abbrev pub Told : Reading → What → List Item → Reading → Type 0
-Told old what.Nothing items new = Grows old items new
-Told old what.Text items new = ⊥
-Told old what.Skipped items new = ((s : reader.Scanning) (bytes : List ℕ) → Skips old.setting.drops s bytes items) × (new.text.text ≡ old.text.text)
-Told old answer items new = Tells old.setting.drops answer reader.no_bytes [] items new × (new.text.text ≡ old.text.text)
+abbrev pub IsTold : Reading → What → List Item → Reading → Type 0
+IsTold old what.Nothing items new = Grows old items new
+IsTold old what.Text items new = ⊥
+IsTold old what.Skipped items new = ((s : reader.Scanning) (bytes : List ℕ) → Skips old.setting.drops s bytes items) × (new.text.text ≡ old.text.text)
+IsTold old answer items new = Tells old.setting.drops answer reader.no_bytes [] items new × (new.text.text ≡ old.text.text)
 
 pub record GivesOk (r : Result reader.Scanned Kind) (old : Reading) (answer : What) (new : Reading) : Type 0 where
   pub scanned : reader.Scanned
   pub is : r ≡ Ok scanned
   pub reads_as : ReadsAs new scanned.next
-  pub told : Told old answer scanned.items new
+  pub told : IsTold old answer scanned.items new
   pub setting : new.setting ≡ setting_after answer new old.setting scanned.items
 
 pub record GivesErr (r : Result reader.Scanned Kind) (s : reader.Scanning) (fault : Fault) : Type 0 where

@@ -8,8 +8,8 @@ use Rattle.rx_grammar.specs.declared.faults.Kind.{Kind}
 use Rattle.rx_grammar.specs.Items.{values}
 use Rattle.rx_pages.specs.Scanner as verdicts
 use Rattle.rx_pages.specs.PageReader as reader
-use Rattle.rx_tags.specs.declared.stops.Stop.{Stop}
-use Rattle.rx_tags.specs.declared.stops.Stop.TheVariants as stop
+use Rattle.rx_grammar.specs.declared.stops.Stop.{Stop}
+use Rattle.rx_grammar.specs.declared.stops.Stop.TheVariants as stop
 use Rattle.rx_tags.specs.TagBufs.{no_tag}
 use Rattle.rx_scan.specs.declared.answers.What.{What}
 use Rattle.rx_scan.specs.declared.answers.What.TheVariants as what

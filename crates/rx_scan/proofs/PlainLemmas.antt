@@ -1,16 +1,15 @@
 -- Plain bytes, and the plain characters that they are.
-use Rattle.std.proofs.Common.{◌≡◌, ◌∙◌, inl, inr, ℕ, zero, suc, ◌≤◌, Bool, true, false, not, List, [], ◌∷◌, length, take, refl, ap, sym, arith, encode_utf8, encode_utf8_all, length-take}
+use Rattle.std.proofs.Common.{◌≡◌, ◌∙◌, inl, inr, ℕ, zero, suc, ◌≤◌, Bool, true, false, not, List, [], ◌∷◌, take, refl, ap, sym, arith, encode_utf8, encode_utf8_all}
 use Rattle.std.specs.Prelude.{◌||◌, ◌==◌, nat_le}
 use Rattle.std.specs.List.{list_all}
 use Rattle.std.specs.Str.{IsUtf8}
 use Rattle.std.proofs.lemmas.Bool.{and_parts, and_from, both_ways, cases_lt, leb-false, lt-ltb, eqb-true}
 use Rattle.std.proofs.lemmas.Bool.Decides.{nat_tests}
-use Rattle.std.proofs.lemmas.List.{take-take}
 use Rattle.std.proofs.lemmas.List.Folds.{list_all-append}
 use Rattle.std.proofs.lemmas.Str.{encode_ascii}
 use Rattle.rx_terms.specs.Ascii.{is_ascii}
 use Rattle.rx_terms.proofs.CharLemmas.{ascii-utf8}
-use Rattle.rx_reader.proofs.Bools.{by_test}
+use Rattle.rx_terms.proofs.Bools.{by_test}
 use Rattle.rx_scan.specs.Plain.{is_stop, is_plain, is_plain_ascii}
 
 -- a plain character is none that isn't
@@ -59,13 +58,6 @@ chars_plain [] h = refl
 chars_plain (c ∷ cs) h =
     let k = and_parts (list_all is_plain (encode_utf8 c)) _ (sym (list_all-append is_plain (encode_utf8 c) (encode_utf8_all cs)) ∙ h) in
     and_from (is_plain c) _ (char_plain c k.0) (chars_plain cs k.1)
-
--- a front of a front
-pub front_of_front : (bytes front text : List ℕ) (m : ℕ) → front ≡ take m bytes → text ≡ take (length text) front → text ≡ take (length text) bytes
-front_of_front bytes front text m e k =
-    let n = length text in
-    let short : n ≤ m = omega (arith, ap length k, ap length e, length-take n front, length-take m bytes) in
-    k ∙ (ap (take n) e ∙ take-take n m bytes short)
 
 -- of plain bytes each front is plain
 pub front_plain : (n : ℕ) (bytes : List ℕ) → list_all is_plain bytes ≡ true → list_all is_plain (take n bytes) ≡ true

@@ -15,9 +15,9 @@ use Rattle.rx_grammar.specs.declared.faults.Kind.TheVariants.{StrictText}
 use Rattle.rx_grammar.specs.Items.{is_strict_literal}
 use Rattle.rx_grammar.specs.Tokens.{character}
 use Rattle.rx_grammar.specs.Spelling.{has_references, is_text}
-use Rattle.rx_reader.proofs.Bools.{split, by_test, both, either, untrue}
-use Rattle.rx_tags.specs.declared.stops.Stop.{Stop}
-use Rattle.rx_tags.specs.declared.stops.Stop.TheVariants as stop
+use Rattle.rx_terms.proofs.Bools.{split, by_test, both, either, untrue}
+use Rattle.rx_grammar.specs.declared.stops.Stop.{Stop}
+use Rattle.rx_grammar.specs.declared.stops.Stop.TheVariants as stop
 use Rattle.rx_scan.specs.declared.answers.What.{What}
 use Rattle.rx_scan.specs.declared.answers.What.TheVariants as what
 use Rattle.rx_marks.specs.declared.marks.First.{First}
@@ -26,7 +26,7 @@ use Rattle.rx_marks.specs.declared.marks.Mark.TheVariants as mark
 use Rattle.rx_marks.specs.declared.marks.Move.TheVariants as move
 use Rattle.rx_marks.specs.KnownTags as known_tags
 use Rattle.rx_marks.specs.Marks as marks
-use Rattle.rx_scan.specs.declared.places.Place.{Place}
+use Rattle.rx_scan.specs.declared.places.Position.{Position}
 use Rattle.rx_scan.specs.Places.{ended}
 use Rattle.rx_scan.specs.Scanner.{Reading}
 use Rattle.rx_scan.specs.Entries as entries
@@ -64,7 +64,7 @@ module _ (l new : Reading) (byte : ℕ) (answer : What) (m : l.pending.mark ≡ 
   no_fault : (kind : Kind) → result ≡ Err (stop.Fault (entries.fault_at l kind)) → Does l byte answer new
   no_fault kind e = absurd (cc)
 
-  said : (answer : What) (d : ℕ) (place : Place) → entries.Says l d place (Ok answer) new → ((answer ≡ what.Nothing) ⊎ ((l.setting.drops ≡ true) × (answer ≡ what.Skipped))) × (new.pending.mark ≡ mark.Nothing)
+  said : (answer : What) (d : ℕ) (place : Position) → entries.Says l d place (Ok answer) new → ((answer ≡ what.Nothing) ⊎ ((l.setting.drops ≡ true) × (answer ≡ what.Skipped))) × (new.pending.mark ≡ mark.Nothing)
   said what.Nothing d place k = (inl refl, ap (λ (x : Reading). x.pending.mark) k.1.is)
   said what.Skipped d place k = (inr ((both l.setting.drops _ k.0).0, refl), ap (λ (x : Reading). x.pending.mark) k.1)
   said what.Text d place k = absurd k
@@ -72,7 +72,7 @@ module _ (l new : Reading) (byte : ℕ) (answer : What) (m : l.pending.mark ≡ 
   said what.Doctype d place k = absurd k
   said what.Tag d place k = absurd k
 
-  does_say : (d : ℕ) (place : Place) → entries.Says l d place result new → Does l byte answer new
+  does_say : (d : ℕ) (place : Position) → entries.Says l d place result new → Does l byte answer new
   does_say d place k = let q = said answer d place k in elim q.0 [ inl e ↦ says e q.1 | inr e ↦ drops e.0 e.1 q.1 ]
 
   -- the character is the byte

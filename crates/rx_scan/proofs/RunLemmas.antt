@@ -8,8 +8,8 @@ use Rattle.rx_grammar.specs.declared.faults.Fault.{Fault}
 use Rattle.rx_grammar.specs.declared.limits.Limits.{Limits}
 use Rattle.rx_grammar.specs.Items.{Item, text_of}
 use Rattle.rx_pages.specs.PageReader as reader
-use Rattle.rx_tags.specs.declared.stops.Stop.{Stop}
-use Rattle.rx_tags.specs.declared.stops.Stop.TheVariants as stop
+use Rattle.rx_grammar.specs.declared.stops.Stop.{Stop}
+use Rattle.rx_grammar.specs.declared.stops.Stop.TheVariants as stop
 use Rattle.rx_scan.specs.declared.answers.What.{What}
 use Rattle.rx_scan.specs.declared.answers.What.TheVariants as what
 use Rattle.rx_marks.specs.declared.marks.Mark.TheVariants as mark
@@ -17,7 +17,7 @@ use Rattle.rx_scan.specs.declared.places.Setting.{Setting}
 use Rattle.rx_scan.specs.Scanner.{Reading, spot_of}
 use Rattle.rx_scan.specs.Entries as entries
 use Rattle.rx_scan.specs.Steps.{ReadsAs, joined, texts_of, keeps_first, after_some, setting_after, is_nothing, is_skipped, is_token, HasMark, MarkAlone, a_mark, mark_bytes, Took, Faults, Tells}
-use Rattle.rx_scan.proofs.GivesLemmas.{GivesOk, Told}
+use Rattle.rx_scan.proofs.GivesLemmas.{GivesOk, IsTold}
 use Rattle.rx_scan.proofs.MarkLemmas.{Earlier, none_marked, mark_snoc, mark_none, all_held, before_mark}
 use Rattle.rx_scan.proofs.ByteLemmas.{PassesMark, reads, reads_nothing, reads_fault, mark_skips}
 
@@ -166,10 +166,6 @@ module _ (old l : Reading) (s : reader.Scanning) (bytes : List ℕ) (r : ReadsOn
       by [] e = absurd (n (let q : [] ≡ l.text.text = cc in sym q))
       by (x ∷ items) e = refl
 
--- the setting after text
-pub text_setting : (new old : Setting) (v : Reading) (items : List Item) → new ≡ after_some old items → new ≡ setting_after what.Text v old items
-text_setting new old v items e = e
-
 pub took_text : (old l : Reading) (s : reader.Scanning) (piece : List ℕ) (n : ℕ) → n ≤ length piece → 0 < n → ReadsOn old s (take n piece) l → (l.text.text ≡ [] → ⊥) → Took old s piece n what.Text l
 took_text old l s piece n k z r t =
     record { fits = k; scanned = r.scanned; read = r.read; reads_as = r.reads_as; tells = (r.texts, t, r.keeps); mark = λ rest m. absurd (r.unmarked rest m); setting = r.setting; all = λ e. absurd (cc); some = λ e. z }
@@ -210,7 +206,7 @@ module _ (old l new : Reading) (s : reader.Scanning) (piece : List ℕ) (i : ℕ
   not_nothing what.Doctype w z = cc
   not_nothing what.Tag w z = cc
 
-  told : (answer : What) → is_token answer ≡ true → (items : List Item) → Told l answer items new → Tells l.setting.drops answer s (take (i + 1) piece) items new
+  told : (answer : What) → is_token answer ≡ true → (items : List Item) → IsTold l answer items new → Tells l.setting.drops answer s (take (i + 1) piece) items new
   told what.Nothing w items h = absurd (cc)
   told what.Skipped w items h = h.0 s (take (i + 1) piece)
   told what.Text w items h = absurd (cc)

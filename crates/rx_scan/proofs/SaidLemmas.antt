@@ -28,7 +28,7 @@ use Rattle.rx_marks.specs.Pending.{Pending}
 use Rattle.rx_marks.proofs.Snoc.{and_false, either_way}
 use Rattle.rx_pages.specs.PageReader as reader
 use Rattle.rx_scan.specs.declared.answers.What.TheVariants as what
-use Rattle.rx_scan.specs.declared.places.Place.{Place}
+use Rattle.rx_scan.specs.declared.places.Position.{Position}
 use Rattle.rx_scan.specs.Entries as entries
 use Rattle.rx_scan.specs.Fronts.{has_text}
 use Rattle.rx_scan.specs.Places.{said, ended, holding}
@@ -60,7 +60,7 @@ no_literal_at d content.Strict c h = h
 no_literal_at d (content.Raw name) c h = refl
 no_literal_at d (content.Rcdata name) c h = refl
 
-said_one : (p : Place) (bracket : Bool) → bracket ≡ false → said 1 p ≡ ended false bracket p
+said_one : (p : Position) (bracket : Bool) → bracket ≡ false → said 1 p ≡ ended false bracket p
 said_one p bracket e =
     let last : false ≡ bracket = sym e in
     let two : false ≡ (p.last && bracket) = sym (ap (λ x. p.last && x) e ∙ and_false p.last) in
@@ -96,7 +96,7 @@ module _ (l new : Reading) (held : List ℕ) (b c : ℕ) (t : Leads l held (b �
       record {
         text = record { text = t.text; size = t.size; room = t.room };
         is = t.is
-            ∙ (ap (λ (p : Place). entries.with_parts l (entries.undropped l.setting) p l.pending new.text) (said_one l.place (entries.is_bracket l.setting c) no_bracket)
+            ∙ (ap (λ (p : Position). entries.with_parts l (entries.undropped l.setting) p l.pending new.text) (said_one l.place (entries.is_bracket l.setting c) no_bracket)
             ∙ ap (λ (p : Pending). entries.with_parts l (entries.undropped l.setting) (ended false (entries.is_bracket l.setting c) l.place) p new.text) (unmarked l.pending t.between));
       }
 
@@ -141,7 +141,7 @@ module _ (l new : Reading) (held : List ℕ) (b c : ℕ) (t : Leads l held (b �
       (subst (λ (x : List ℕ). entries.ReadsAnswer l (x ++ b ∷ []) (answer_of (x ++ b ∷ [])) (Ok what.Nothing) new) (sym t.held_is)
       (subst (λ (a : Utf8Step). entries.ReadsAnswer l (held ++ b ∷ []) a (Ok what.Nothing) new) answers as_char))
 
-holding_on : (m n : ℕ) (p : Place) → m ≡ n + 1 → said m p ≡ said n (holding p)
+holding_on : (m n : ℕ) (p : Position) → m ≡ n + 1 → said m p ≡ said n (holding p)
 holding_on m n p q =
     let e : p.at + m ≡ (p.at + 1) + n = omega (arith, q) in
     λ i. record { at = e i; starts = e i; token = p.token; started = true; after_return = false; two = false; last = false }
@@ -185,7 +185,7 @@ module _ (l new : Reading) (held : List ℕ) (b d : ℕ) (rest : List ℕ) (c : 
         text = t.text;
         size = t.size;
         room = t.room;
-        is = t.is ∙ ap (λ (p : Place). entries.with_parts l (entries.undropped l.setting) p l.pending new.text) (holding_on (length (b ∷ d ∷ rest)) (length (d ∷ rest)) l.place (omega arith));
+        is = t.is ∙ ap (λ (p : Position). entries.with_parts l (entries.undropped l.setting) p l.pending new.text) (holding_on (length (b ∷ d ∷ rest)) (length (d ∷ rest)) l.place (omega arith));
       }
 
 -- Plain characters are told, each of which is text between tokens.
@@ -209,7 +209,7 @@ abbrev middle : Reading → ℕ → ℕ → Reading
 middle l c room =
     entries.with_parts l (entries.undropped l.setting) (said (length (encode_utf8 c)) l.place) l.pending (record { text = l.text.text ++ c ∷ []; size = l.text.size + length (encode_utf8 c); room = room })
 
-said_on : (m n k : ℕ) (p : Place) → m ≡ k + n → said m p ≡ said n (said k p)
+said_on : (m n k : ℕ) (p : Position) → m ≡ k + n → said m p ≡ said n (said k p)
 said_on m n k p q =
     let e : p.at + m ≡ (p.at + k) + n = omega (arith, q) in
     λ i. record { at = e i; starts = e i; token = p.token; started = true; after_return = false; two = false; last = false }
@@ -276,7 +276,7 @@ module _ (l new : Reading) (c d : ℕ) (cs : List ℕ) (t : TellsChars l (c ∷ 
         size = omega (arith, t.size, sizes);
         room = omega arith;
         is = t.is
-            ∙ ap (λ (p : Place). entries.with_parts l (entries.undropped l.setting) p l.pending new.text)
+            ∙ ap (λ (p : Position). entries.with_parts l (entries.undropped l.setting) p l.pending new.text)
             (said_on (length (encode_utf8_all (c ∷ d ∷ cs))) (length (encode_utf8_all (d ∷ cs))) (length (encode_utf8 c)) l.place sizes);
       }
 

@@ -12,9 +12,9 @@ use Rattle.rx_grammar.specs.Tokens.{Token, character, reference}
 use Rattle.rx_grammar.specs.Items.{values, text_of, is_line_feed, is_strict_literal}
 use Rattle.rx_pages.specs.Scanner as verdicts
 use Rattle.rx_pages.specs.PageReader as reader
-use Rattle.rx_reader.proofs.Bools.{both}
-use Rattle.rx_tags.specs.declared.stops.Stop.{Stop}
-use Rattle.rx_tags.specs.declared.stops.Stop.TheVariants as stop
+use Rattle.rx_terms.proofs.Bools.{both}
+use Rattle.rx_grammar.specs.declared.stops.Stop.{Stop}
+use Rattle.rx_grammar.specs.declared.stops.Stop.TheVariants as stop
 use Rattle.rx_grammar.specs.References.{meaning}
 use Rattle.rx_reader.specs.Values.{no_meaning}
 use Rattle.rx_scan.specs.declared.answers.What.{What}

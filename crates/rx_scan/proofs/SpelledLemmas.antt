@@ -3,7 +3,7 @@ use Rattle.std.proofs.Common.{◌≡◌, ◌≢◌, ◌∙◌, inl, inr, ℕ, �
 use Rattle.std.specs.Prelude.{◌&&◌, ◌||◌, ◌==◌, not, take, if◌then◌else◌}
 use Rattle.std.specs.Char.{IsScalar, len_utf8}
 use Rattle.std.specs.Str.{all_scalars}
-use lib.Utf8.{encode, encodes, scalar}
+use lib.Utf8.{encode, encodes}
 use Rattle.std.proofs.lemmas.List.{length-append}
 use Rattle.std.proofs.lemmas.Str.{length-encode}
 use Rattle.std.proofs.lemmas.Bool.{and_parts, and_from, cond-true, cond-false}
@@ -14,7 +14,7 @@ use Rattle.rx_chars.specs.declared.syntax.Syntax.TheVariants.{Html, Xhtml}
 use Rattle.rx_chars.specs.declared.utf8.Utf8Step.{Utf8Step}
 use Rattle.rx_chars.specs.declared.utf8.Utf8Step.TheVariants.{More, Char, Bad}
 use Rattle.rx_chars.specs.Utf8.{answer_of, Answers, BeginsCharacter, IsCharacter}
-use Rattle.rx_chars.specs.Characters.{Entry, byte_order_mark, line_feed, carriage_return, as_line_end, line_end_entry, placed, entered}
+use Rattle.rx_chars.specs.Characters.{Entry, byte_order_mark, line_feed, carriage_return, as_line_end, placed, entered}
 use Rattle.rx_chars.proofs.Utf8Exact.{answers_from}
 use Rattle.rx_chars.proofs.Utf8Forms.{form_of}
 use Rattle.rx_grammar.specs.declared.contents.Content.{Content}
@@ -28,7 +28,7 @@ use Rattle.rx_grammar.specs.Spelling as spelling
 use Rattle.rx_grammar.specs.Items.{values, next_of, Item, Spelled, no_more, one, is_literal, is_strict_literal, no_section_end}
 use Rattle.rx_grammar.specs.Pages.{has_no_nul}
 use Rattle.rx_grammar.specs.PageFaults.{IsPending, IsPart, is_known_tag}
-use Rattle.rx_reader.proofs.Bools.{by_test, not_both_ways}
+use Rattle.rx_terms.proofs.Bools.{by_test}
 use Rattle.rx_pages.specs.Scanner.{GoesOn, Verdict, goes_on, whole, ended, refused, verdict, at_first, at_last, at_next}
 use Rattle.rx_pages.specs.PageReader.{Spot, Scanning, Scanned, first_of, starts_at, token_at, fault_in, holding, passed, entering, item_of, is_doctype, is_too_long, completed, told_first, with_item, after_token, told, read_entry, read_char, read_answer, read_byte, with_items, scan_byte_on, scan_on, scan_from}
 use Rattle.rx_pages.proofs.Tokens.{values_append}
@@ -39,18 +39,19 @@ use Rattle.rx_pages.proofs.FrontOn.{goes_more}
 use Rattle.rx_pages.proofs.FaultsRead.{item_token, item_content}
 use Rattle.rx_pages.proofs.CharSteps.{passes, entry_at}
 use Rattle.rx_pages.proofs.CharWalk.{is_started, ends_return, no_return, no_mark}
-use Rattle.rx_pages.proofs.Snocs.{entered_one, values_next, spelled_snoc, return_snoc, flags_snoc, sections_snoc}
+use Rattle.rx_pages.proofs.BytesOn.{encodes_more, scalars_more, some_entered}
+use Rattle.rx_pages.proofs.Snocs.{entered_one, values_next, spelled_snoc, return_snoc, flags_snoc, sections_snoc, entered_snoc}
 use Rattle.rx_pages.proofs.TokensWalk.{flags_behind}
 use Rattle.rx_pages.proofs.TokenWalk.{IsKept, is_kept}
 use Rattle.rx_pages.proofs.EndedRuns.{ended_kept}
 use Rattle.rx_pages.proofs.ScanSteps.{scan_fault}
 use Rattle.rx_scan.specs.Steps.{Steps, is_of_syntax}
-use Rattle.rx_scan.specs.Spelled.{brackets_behind, entries_at, AllInside, Spells, IsBetween, ScansWhatIsSpelled, Left, is_over, Refuses, page_too_long, not_utf8, nul, tag_too_long, known_too_long, decided, section_end, late_doctype, FirstFault, RefusesWhatIsFaulty, StepAnswers, StepsSpell}
+use Rattle.rx_scan.specs.Spelled.{brackets_behind, entries_at, AllInside, Spells, IsBetween, ScansWhatIsSpelled, is_over, Refuses, page_too_long, not_utf8, nul, tag_too_long, known_too_long, decided, section_end, late_doctype, FirstFault, RefusesWhatIsFaulty, StepAnswers, StepsSpell}
 use Rattle.rx_scan.specs.Spelled as spelled
 use Rattle.rx_scan.specs.Scanner.{spot_of}
 use Rattle.rx_scan.specs.declared.answers.Token as shown
-use Rattle.rx_tags.specs.declared.stops.Stop.{Stop}
-use Rattle.rx_tags.specs.declared.stops.Stop.TheVariants as stop
+use Rattle.rx_grammar.specs.declared.stops.Stop.{Stop}
+use Rattle.rx_grammar.specs.declared.stops.Stop.TheVariants as stop
 
 same_content : (s : Syntax) (i : Content) → is_of_syntax s i ≡ occurs s i
 same_content Html content.Strict = refl
@@ -88,34 +89,6 @@ at_least : (a b : ℕ) → nat_le a b ≡ true → a ≤ b
 at_least a b h = grind (arith, nat_tests)
 
 -- one character behind others
-placed_snoc : (at : ℕ) (cs : List ℕ) (c : ℕ) → placed at (cs ++ c ∷ []) ≡ placed at cs ++ placed (at + length (encodes cs)) (c ∷ [])
-placed_snoc at [] c = let z : at ≡ at + 0 = omega arith in ap (λ x. placed x (c ∷ [])) z
-placed_snoc at (d ∷ cs) c =
-    let n = length-append (encode d) (encodes cs) in
-    let l = length-encode d in
-    let same : at + len_utf8 d + length (encodes cs) ≡ at + length (encodes (d ∷ cs)) = omega arith in
-    ap (λ x. record { value = d; first = at; last = at + len_utf8 d - 1 } ∷ x) (placed_snoc (at + len_utf8 d) cs c ∙ ap (λ x. placed (at + len_utf8 d) cs ++ placed x (c ∷ [])) same)
-
-entered_snoc : (after_return : Bool) (at : ℕ) (cs : List ℕ) (c : ℕ)
-    → entered after_return (placed at (cs ++ c ∷ [])) ≡ entered after_return (placed at cs) ++ entered_one (ends_return after_return cs && c == line_feed) (at + length (encodes cs)) c
-entered_snoc after_return at [] c = let z : at ≡ at + 0 = omega arith in ap (λ x. entered_one (after_return && c == line_feed) x c) z
-entered_snoc after_return at (d ∷ cs) c =
-    let n = length-append (encode d) (encodes cs) in
-    let l = length-encode d in
-    let same : at + len_utf8 d + length (encodes cs) ≡ at + length (encodes (d ∷ cs)) = omega arith in
-    by_test {G = entered after_return (placed at ((d ∷ cs) ++ c ∷ [])) ≡ entered after_return (placed at (d ∷ cs)) ++ entered_one (ends_return after_return (d ∷ cs) && c == line_feed) (at + length (encodes (d ∷ cs))) c} (after_return && d == line_feed)
-    (λ t.
-    cond-true _ _ _ t
-    ∙ (entered_snoc false (at + len_utf8 d) cs c
-    ∙ (ap (λ x. entered false (placed (at + len_utf8 d) cs) ++ entered_one (ends_return false cs && c == line_feed) x c) same
-    ∙ (ap (λ b. entered false (placed (at + len_utf8 d) cs) ++ entered_one (ends_return b cs && c == line_feed) (at + length (encodes (d ∷ cs))) c) (sym (no_return d (and_parts after_return (d == line_feed) t).1))
-    ∙ ap (λ es. es ++ entered_one (ends_return (d == carriage_return) cs && c == line_feed) (at + length (encodes (d ∷ cs))) c) (sym (cond-true _ _ _ t))))))
-    (λ t.
-    cond-false _ _ _ t
-    ∙ (ap (λ es. line_end_entry (record { value = d; first = at; last = at + len_utf8 d - 1 }) ∷ es) (entered_snoc (d == carriage_return) (at + len_utf8 d) cs c)
-    ∙ (ap (λ x. line_end_entry (record { value = d; first = at; last = at + len_utf8 d - 1 }) ∷ (entered (d == carriage_return) (placed (at + len_utf8 d) cs) ++ entered_one (ends_return (d == carriage_return) cs && c == line_feed) x c)) same
-    ∙ ap (λ es. es ++ entered_one (ends_return (d == carriage_return) cs && c == line_feed) (at + length (encodes (d ∷ cs))) c) (sym (cond-false _ _ _ t)))))
-
 entries_snoc : (started after_return : Bool) (at : ℕ) (cs : List ℕ) (c : ℕ)
     → entries_at started after_return at (cs ++ c ∷ []) ≡ entries_at started after_return at cs ++ entered_one (passes (started || is_started cs) (ends_return after_return cs) c) (at + length (encodes cs)) c
 entries_snoc true after_return at cs c = entered_snoc after_return at cs c
@@ -139,20 +112,6 @@ entries_snoc false after_return at (d ∷ cs) c =
     cond-false _ _ _ t
     ∙ (entered_snoc after_return at (d ∷ cs) c
     ∙ ap (λ es. es ++ entered_one (ends_return (d == carriage_return) cs && c == line_feed) (at + length (encodes (d ∷ cs))) c) (sym (cond-false _ _ _ t))))
-
-encodes_more : (cs : List ℕ) (c : ℕ) → encodes (cs ++ c ∷ []) ≡ encodes cs ++ encode c
-encodes_more [] c = append-nil (encode c)
-encodes_more (d ∷ cs) c = ap (λ x. encode d ++ x) (encodes_more cs c) ∙ sym (append_assoc (encode d) (encodes cs) (encode c))
-
-scalars_more : (cs : List ℕ) (c : ℕ) → all_scalars cs ≡ true → scalar c ≡ true → all_scalars (cs ++ c ∷ []) ≡ true
-scalars_more [] c s h = and_from (scalar c) true h refl
-scalars_more (d ∷ cs) c s h = let p = and_parts (scalar d) (all_scalars cs) s in and_from (scalar d) (all_scalars (cs ++ c ∷ [])) p.0 (scalars_more cs c p.1 h)
-
-some_entered : (c : ℕ) → (c == 0) ≡ false → not (as_line_end c == 0) ≡ true
-some_entered c h = by_test {G = not (as_line_end c == 0) ≡ true} (as_line_end c == 0) (λ t. absurd (not_both_ways (c == 0) (zero_of c t) h)) (λ t. ap not t)
-  where
-    zero_of : (c : ℕ) → (as_line_end c == 0) ≡ true → (c == 0) ≡ true
-    zero_of c h = grind (arith, nat_tests)
 
 no_nul_more : (a b : List Entry) → has_no_nul a ≡ true → has_no_nul b ≡ true → has_no_nul (a ++ b) ≡ true
 no_nul_more [] b h k = k
@@ -180,7 +139,7 @@ module _ (syntax : Syntax) (limits : Limits) (spot : Spot) (o : occurs syntax sp
   inside = spot.inside
 
   -- what has been read behind the state
-  record Told (bytes : List ℕ) (next : Scanning) (items : List Item) : Type 0 where
+  record IsTold (bytes : List ℕ) (next : Scanning) (items : List Item) : Type 0 where
     characters : List ℕ
     part : List ℕ
     are : bytes ≡ encodes characters ++ part
@@ -266,12 +225,12 @@ module _ (syntax : Syntax) (limits : Limits) (spot : Spot) (o : occurs syntax sp
       by (content.Rcdata name) = refl
 
   -- one more byte
-  module _ (bytes : List ℕ) (next : Scanning) (items : List Item) (t : Told bytes next items) (byte : ℕ) where
+  module _ (bytes : List ℕ) (next : Scanning) (items : List Item) (t : IsTold bytes next items) (byte : ℕ) where
     abbrev more : List ℕ
     more = bytes ++ byte ∷ []
 
     abbrev After : Scanned → Type 0
-    After r = Told more r.next (items ++ r.items)
+    After r = IsTold more r.next (items ++ r.items)
 
     abbrev Reads : Result Scanned Kind → Type 0
     Reads x = (r : Scanned) → x ≡ Ok r → After r
@@ -287,7 +246,7 @@ module _ (syntax : Syntax) (limits : Limits) (spot : Spot) (o : occurs syntax sp
 
     held : BeginsCharacter (next.held ++ byte ∷ []) → After (record { next = holding (next.held ++ byte ∷ []) next; items = [] })
     held b =
-        subst (λ xs. Told more (holding (next.held ++ byte ∷ []) next) xs) (sym (append-nil items)) (record {
+        subst (λ xs. IsTold more (holding (next.held ++ byte ∷ []) next) xs) (sym (append-nil items)) (record {
           characters = t.characters;
           part = next.held ++ byte ∷ [];
           are = ap (λ x. x ++ byte ∷ []) t.are ∙ (append_assoc (encodes t.characters) t.part (byte ∷ []) ∙ ap (λ x. encodes t.characters ++ (x ++ byte ∷ [])) (sym t.part_is));
@@ -367,7 +326,7 @@ module _ (syntax : Syntax) (limits : Limits) (spot : Spot) (o : occurs syntax sp
       does_passed h =
           let same : entries_at s.started s.after_return s.at chars ≡ entries_at s.started s.after_return s.at t.characters =
           entries ∙ (ap (λ x. entries_at s.started s.after_return s.at t.characters ++ x) (cond-true _ _ _ h) ∙ append-nil (entries_at s.started s.after_return s.at t.characters)) in
-          subst (λ xs. Told more (passed next) xs) (sym (append-nil items)) (record {
+          subst (λ xs. IsTold more (passed next) xs) (sym (append-nil items)) (record {
             characters = chars;
             part = [];
             are = are;
@@ -407,7 +366,7 @@ module _ (syntax : Syntax) (limits : Limits) (spot : Spot) (o : occurs syntax sp
 
         -- these tokens, and this run is left
         with_run : (two last : Bool) (front run : List Entry) (others : List Item) → front ++ run ≡ t.front ++ (next.run ++ e ∷ []) → Spelled syntax front (next_of (values run) None) others → AllInside inside others → GoesOn syntax inside [] (values run)
-            → IsBehind others two last → Told more (entering (c == carriage_return) run two last next) others
+            → IsBehind others two last → IsTold more (entering (c == carriage_return) run two last next) others
         with_run two last front run others same sp i g f =
             record {
               characters = chars;
@@ -432,7 +391,7 @@ module _ (syntax : Syntax) (limits : Limits) (spot : Spot) (o : occurs syntax sp
 
         on_goes : verdict syntax inside (values next.run) e.value ≡ goes_on → After (record { next = entering (c == carriage_return) (next.run ++ e ∷ []) next.two next.last next; items = [] })
         on_goes v =
-            subst (λ xs. Told more (entering (c == carriage_return) (next.run ++ e ∷ []) next.two next.last next) xs) (sym (append-nil items))
+            subst (λ xs. IsTold more (entering (c == carriage_return) (next.run ++ e ∷ []) next.two next.last next) xs) (sym (append-nil items))
             (with_run next.two next.last t.front (next.run ++ e ∷ []) items refl (subst (λ n. Spelled syntax t.front n items) (sym (values_next next.run e [] None)) (lifted e.value next.run t.spelled)) t.inside_is
             (subst (λ x. GoesOn syntax inside [] x) (sym (values_append next.run (e ∷ []))) (goes_more syntax inside [] (values next.run) e.value t.goes v))
             (record { two = t.two; last = t.last; sections = t.sections }))
@@ -491,7 +450,7 @@ module _ (syntax : Syntax) (limits : Limits) (spot : Spot) (o : occurs syntax sp
               by false true = no_after BadDoctype
               by false false =
                   if_ok (record { next = entering (c == carriage_return) [] (false && is_literal right_bracket (item_of inside other (e ∷ []))) (is_literal right_bracket (item_of inside other (e ∷ []))) cut; items = text_item ∷ (item_of inside other (e ∷ [])) ∷ [] })
-                  (subst (λ xs. Told more (entering (c == carriage_return) [] (false && is_literal right_bracket (item_of inside other (e ∷ []))) (is_literal right_bracket (item_of inside other (e ∷ []))) cut) xs) (append_assoc items (text_item ∷ []) ((item_of inside other (e ∷ [])) ∷ []))
+                  (subst (λ xs. IsTold more (entering (c == carriage_return) [] (false && is_literal right_bracket (item_of inside other (e ∷ []))) (is_literal right_bracket (item_of inside other (e ∷ []))) cut) xs) (append_assoc items (text_item ∷ []) ((item_of inside other (e ∷ [])) ∷ []))
                   (with_run (false && is_literal right_bracket (item_of inside other (e ∷ []))) (is_literal right_bracket (item_of inside other (e ∷ []))) ((t.front ++ next.run) ++ e ∷ []) [] ((items ++ text_item ∷ []) ++ (item_of inside other (e ∷ [])) ∷ []) (append-nil ((t.front ++ next.run) ++ e ∷ []) ∙ append_assoc t.front next.run (e ∷ [])) sp_both (inside_more inside (items ++ text_item ∷ []) (item_of inside other (e ∷ [])) in_text refl) tt (behind_more (items ++ text_item ∷ []) (item_of inside other (e ∷ [])) false false behind_text refl)))
           reads_then (ended other) k = absurd (never_ended inside e.value other k)
           reads_then (refused kind) k = no_after kind
@@ -538,16 +497,16 @@ module _ (syntax : Syntax) (limits : Limits) (spot : Spot) (o : occurs syntax sp
         by false = reads_answer (answer_of (next.held ++ byte ∷ [])) (answers_from (next.held ++ byte ∷ []) (answer_of (next.held ++ byte ∷ [])) refl)
 
   -- and then the others
-  on_bytes : (rest bytes : List ℕ) (mid scanned : Scanned) → Told bytes mid.next mid.items → scan_on syntax limits spot (Ok mid) rest ≡ Ok scanned → Told (bytes ++ rest) scanned.next scanned.items
-  on_bytes [] bytes mid scanned t h = let same : mid ≡ scanned = cc in subst (λ b. Told b scanned.next scanned.items) (sym (append-nil bytes)) (subst (λ (x : Scanned). Told bytes x.next x.items) same t)
-  on_bytes (byte ∷ rest) bytes mid scanned t h = subst (λ b. Told b scanned.next scanned.items) (append_assoc bytes (byte ∷ []) rest) (by (λ m k g. on_bytes rest (bytes ++ byte ∷ []) m scanned k g) (read_byte syntax limits spot byte mid.next) refl h)
+  on_bytes : (rest bytes : List ℕ) (mid scanned : Scanned) → IsTold bytes mid.next mid.items → scan_on syntax limits spot (Ok mid) rest ≡ Ok scanned → IsTold (bytes ++ rest) scanned.next scanned.items
+  on_bytes [] bytes mid scanned t h = let same : mid ≡ scanned = cc in subst (λ b. IsTold b scanned.next scanned.items) (sym (append-nil bytes)) (subst (λ (x : Scanned). IsTold bytes x.next x.items) same t)
+  on_bytes (byte ∷ rest) bytes mid scanned t h = subst (λ b. IsTold b scanned.next scanned.items) (append_assoc bytes (byte ∷ []) rest) (by (λ m k g. on_bytes rest (bytes ++ byte ∷ []) m scanned k g) (read_byte syntax limits spot byte mid.next) refl h)
     where
-      by : ((m : Scanned) → Told (bytes ++ byte ∷ []) m.next m.items → scan_on syntax limits spot (Ok m) rest ≡ Ok scanned → Told ((bytes ++ byte ∷ []) ++ rest) scanned.next scanned.items) → (x : Result Scanned Kind) → read_byte syntax limits spot byte mid.next ≡ x
-          → scan_on syntax limits spot (with_items mid.next mid.items x) rest ≡ Ok scanned → Told ((bytes ++ byte ∷ []) ++ rest) scanned.next scanned.items
+      by : ((m : Scanned) → IsTold (bytes ++ byte ∷ []) m.next m.items → scan_on syntax limits spot (Ok m) rest ≡ Ok scanned → IsTold ((bytes ++ byte ∷ []) ++ rest) scanned.next scanned.items) → (x : Result Scanned Kind) → read_byte syntax limits spot byte mid.next ≡ x
+          → scan_on syntax limits spot (with_items mid.next mid.items x) rest ≡ Ok scanned → IsTold ((bytes ++ byte ∷ []) ++ rest) scanned.next scanned.items
       by ih (Ok r) e k = ih (record { next = r.next; items = mid.items ++ r.items }) (reads_byte bytes mid.next mid.items t byte r e) k
       by ih (Err kind) e k = absurd (let w : Err (fault_in mid.next kind) ≡ Ok scanned = sym (scan_fault syntax limits spot (fault_in mid.next kind) rest) ∙ k in cc)
 
-  at_start : IsBetween s → Told [] s []
+  at_start : IsBetween s → IsTold [] s []
   at_start b =
       record {
         characters = [];
@@ -582,9 +541,9 @@ module _ (syntax : Syntax) (limits : Limits) (spot : Spot) (o : occurs syntax sp
   pending_of [] g = inl refl
   pending_of (e ∷ run) g = inr (unfinished syntax inside o (pends syntax inside o (values (e ∷ run)) g) (λ k. cc))
 
-  pub scanned_so : (bytes : List ℕ) (scanned : Scanned) → IsBetween s → scan_from syntax limits spot s bytes ≡ Ok scanned → Spells syntax inside s bytes scanned
-  scanned_so bytes scanned b h =
-      let t = on_bytes bytes [] (record { next = s; items = [] }) scanned (at_start b) h in
+  -- what was told so is spelled
+  told_spells : (bytes : List ℕ) (scanned : Scanned) → IsTold bytes scanned.next scanned.items → Spells syntax inside s bytes scanned
+  told_spells bytes scanned t =
       record {
         characters = t.characters;
         part = t.part;
@@ -601,6 +560,9 @@ module _ (syntax : Syntax) (limits : Limits) (spot : Spot) (o : occurs syntax sp
         part_is = t.part_is;
         is_part = t.is_part;
       }
+
+  pub scanned_so : (bytes : List ℕ) (scanned : Scanned) → IsBetween s → scan_from syntax limits spot s bytes ≡ Ok scanned → Spells syntax inside s bytes scanned
+  scanned_so bytes scanned b h = told_spells bytes scanned (on_bytes bytes [] (record { next = s; items = [] }) scanned (at_start b) h)
 
   -- why a byte is refused
   module _ (next : Scanning) (byte : ℕ) (g : GoesOn syntax inside [] (values next.run)) where
@@ -714,30 +676,11 @@ module _ (syntax : Syntax) (limits : Limits) (spot : Spot) (o : occurs syntax sp
         by true k = if_fault PageTooLong (page_too_long (at_least limits.page next.at k))
         by false k = fails_answer (answer_of (next.held ++ byte ∷ [])) (answers_from (next.held ++ byte ∷ []) (answer_of (next.held ++ byte ∷ [])) refl)
 
-  told_spells : (bytes : List ℕ) (scanned : Scanned) → Told bytes scanned.next scanned.items → Spells syntax inside s bytes scanned
-  told_spells bytes scanned t =
-      record {
-        characters = t.characters;
-        part = t.part;
-        are = t.are;
-        scalars = t.scalars;
-        front = t.front;
-        read = t.read;
-        no_nul = t.no_nul;
-        spelled = t.spelled;
-        inside_is = t.inside_is;
-        sections = t.sections;
-        two_is = t.two ∙ ap (λ (p : Bool × Bool). p.0) (same_flags scanned.items s.two s.last);
-        pending = pending_of scanned.next.run t.goes;
-        part_is = t.part_is;
-        is_part = t.is_part;
-      }
-
-  faulty_at : (rest bytes : List ℕ) (mid : Scanned) (fault : Fault) → Told bytes mid.next mid.items → scan_on syntax limits spot (Ok mid) rest ≡ Err fault → FirstFault syntax limits spot s (bytes ++ rest) fault
+  faulty_at : (rest bytes : List ℕ) (mid : Scanned) (fault : Fault) → IsTold bytes mid.next mid.items → scan_on syntax limits spot (Ok mid) rest ≡ Err fault → FirstFault syntax limits spot s (bytes ++ rest) fault
   faulty_at [] bytes mid fault t h = absurd (cc)
   faulty_at (byte ∷ rest) bytes mid fault t h = by (λ m k g. faulty_at rest (bytes ++ byte ∷ []) m fault k g) (read_byte syntax limits spot byte mid.next) refl h
     where
-      by : ((m : Scanned) → Told (bytes ++ byte ∷ []) m.next m.items → scan_on syntax limits spot (Ok m) rest ≡ Err fault → FirstFault syntax limits spot s ((bytes ++ byte ∷ []) ++ rest) fault) → (x : Result Scanned Kind) → read_byte syntax limits spot byte mid.next ≡ x
+      by : ((m : Scanned) → IsTold (bytes ++ byte ∷ []) m.next m.items → scan_on syntax limits spot (Ok m) rest ≡ Err fault → FirstFault syntax limits spot s ((bytes ++ byte ∷ []) ++ rest) fault) → (x : Result Scanned Kind) → read_byte syntax limits spot byte mid.next ≡ x
           → scan_on syntax limits spot (with_items mid.next mid.items x) rest ≡ Err fault → FirstFault syntax limits spot s (bytes ++ byte ∷ rest) fault
       by ih (Ok r) e k = subst (λ b. FirstFault syntax limits spot s b fault) (append_assoc bytes (byte ∷ []) rest) (ih (record { next = r.next; items = mid.items ++ r.items }) (reads_byte bytes mid.next mid.items t byte r e) k)
       by ih (Err kind) e k =

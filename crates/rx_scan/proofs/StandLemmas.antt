@@ -1,40 +1,26 @@
 -- What a scanner stands for, where only its setting changes.
-use Rattle.std.proofs.Common.{◌≡◌, ◌∙◌, Bool, true, false, refl, ap, sym, subst, inl, inr, Err}
-use Rattle.std.specs.Prelude.{ℕ, List, [], take, not, if◌then◌else◌}
+use Rattle.std.proofs.Common.{◌≡◌, ◌∙◌, Bool, true, false, refl, ap, sym, subst, Err}
+use Rattle.std.specs.Prelude.{ℕ, List, take, if◌then◌else◌}
 use Rattle.rx_terms.specs.Text.{Chars}
 use Rattle.rx_chars.specs.declared.syntax.Syntax.{Syntax}
 use Rattle.rx_grammar.specs.declared.faults.Fault.{Fault}
-use Rattle.rx_tags.specs.declared.stops.Stop.{Stop}
-use Rattle.rx_tags.specs.declared.stops.Stop.TheVariants as stops
+use Rattle.rx_grammar.specs.declared.stops.Stop.{Stop}
+use Rattle.rx_grammar.specs.declared.stops.Stop.TheVariants as stops
 use Rattle.rx_tags.specs.TagBufs.{TagSoFar, no_tag}
 use Rattle.rx_grammar.specs.declared.contents.Content.{Content}
 use Rattle.rx_grammar.specs.Items.{values}
 use Rattle.rx_pages.specs.PageReader.{Scanning, scan_from, read_byte}
-use Rattle.rx_reader.proofs.Bools.{either, untrue}
 use Rattle.rx_scan.specs.declared.answers.What.{What}
-use Rattle.rx_scan.specs.declared.answers.What.TheVariants as what
 use Rattle.rx_marks.specs.declared.marks.Mark.{Mark}
 use Rattle.rx_marks.specs.declared.marks.Mark.TheVariants as mark
 use Rattle.rx_marks.specs.Pending.{PendsAs}
-use Rattle.rx_scan.specs.declared.places.Place.{Place}
+use Rattle.rx_scan.specs.declared.places.Position.{Position}
 use Rattle.rx_scan.specs.declared.places.Setting.{Setting}
 use Rattle.rx_scan.specs.Scanner.{Reading, Scanner, spot_of}
 use Rattle.rx_scan.specs.Entries.{token_from}
-use Rattle.rx_scan.specs.Steps.{ReadsAs, Stands, MayShow, MayLend, Prepared, Took, Faults, Runs, Advances, Tells, setting_after, is_tag, may_enter, inside_of}
-use Rattle.rx_scan.proofs.ByteLemmas.{nothing_or}
+use Rattle.rx_scan.specs.Steps.{ReadsAs, ScanStands, Prepared, Took, Faults, Runs, Advances, Tells, setting_after, is_tag, inside_of}
 
-nothing_lent : (w : What) (v : Reading) → is_tag w ≡ true → MayLend w v → v.pending.mark ≡ mark.Nothing
-nothing_lent what.Nothing v h m = absurd (cc)
-nothing_lent what.Skipped v h m = absurd (cc)
-nothing_lent what.Text v h m = absurd (cc)
-nothing_lent what.Section v h m = absurd (cc)
-nothing_lent what.Doctype v h m = absurd (cc)
-nothing_lent what.Tag v h m = m.1
-
-pub between : (v : Scanner) → may_enter v ≡ true → MayShow v.what v.stepped v.failed v.reading → v.reading.pending.mark ≡ mark.Nothing
-between v h m = elim (either (is_tag v.what) (not v.stepped) h) [ inl a ↦ nothing_lent v.what v.reading a m.lends | inr a ↦ m.first (untrue v.stepped a) ]
-
-pub stands_inside : (inside : Content) (drops : Bool) (v : Scanner) (s : Scanning) → v.reading.pending.mark ≡ mark.Nothing → Stands v s → Stands (inside_of inside drops v) s
+pub stands_inside : (inside : Content) (drops : Bool) (v : Scanner) (s : Scanning) → v.reading.pending.mark ≡ mark.Nothing → ScanStands v s → ScanStands (inside_of inside drops v) s
 stands_inside inside drops v s n h =
     let r = h.reads_as in
     let none = subst (λ (m : Mark). PendsAs v.reading.setting.syntax v.reading.setting.inside m v.reading.pending.run v.reading.pending.tag (values s.run)) n r.pends in
@@ -56,19 +42,19 @@ stands_inside inside drops v s n h =
     }
 
 -- what is forgotten before a step changes nothing of it
-pub prepared_reads : (old new : Scanner) (s : Scanning) → Prepared old new → Stands old s → ReadsAs new.reading s
+pub prepared_reads : (old new : Scanner) (s : Scanning) → Prepared old new → ScanStands old s → ReadsAs new.reading s
 prepared_reads old new s p h =
     let r = h.reads_as in
     let sy = ap (λ (x : Setting). x.syntax) p.setting in
     let ins = ap (λ (x : Setting). x.inside) p.setting in
     record {
-      at = ap (λ (x : Place). x.at) p.place ∙ r.at;
-      starts = ap (λ (x : Place). x.starts) p.place ∙ r.starts;
+      at = ap (λ (x : Position). x.at) p.place ∙ r.at;
+      starts = ap (λ (x : Position). x.starts) p.place ∙ r.starts;
       held = p.held ∙ r.held;
-      started = ap (λ (x : Place). x.started) p.place ∙ r.started;
-      after_return = ap (λ (x : Place). x.after_return) p.place ∙ r.after_return;
-      two = ap (λ (x : Place). x.two) p.place ∙ r.two;
-      last = ap (λ (x : Place). x.last) p.place ∙ r.last;
+      started = ap (λ (x : Position). x.started) p.place ∙ r.started;
+      after_return = ap (λ (x : Position). x.after_return) p.place ∙ r.after_return;
+      two = ap (λ (x : Position). x.two) p.place ∙ r.two;
+      last = ap (λ (x : Position). x.last) p.place ∙ r.last;
       token = (λ i. token_from (p.mark_is i) (p.place i)) ∙ r.token;
       syntax = by_syntax (is_tag old.what) refl;
       pends = subst (λ (x : Syntax). PendsAs x new.reading.setting.inside new.reading.pending.mark new.reading.pending.run new.reading.pending.tag (values s.run)) (sym sy)
@@ -120,10 +106,6 @@ faults_same a b s piece fault e t =
       decides = (λ i. read_byte (f i).syntax (f i).limits (spot_same b a f i) t.byte t.next) ∙ t.decides;
       first = (λ i. scan_from (f i).syntax (f i).limits (spot_same b a f i) s piece) ∙ t.first;
     }
-
--- with no characters since the last token nothing is marked
-pub nothing_marked : (sy : Syntax) (inside : Content) (m : Mark) (run : Chars) (t : TagSoFar) (text : Chars) → PendsAs sy inside m run t text → text ≡ [] → m ≡ mark.Nothing
-nothing_marked sy inside m run t text h e = elim (nothing_or sy inside m run t text h) [ inl n ↦ n.0 | inr f ↦ absurd (let z = sym f.is ∙ e in cc) ]
 
 pub stop_same : (a : Reading) (old new : Scanner) (s : Scanning) (piece : List ℕ) (stop : Stop) (after : Reading) → a.setting ≡ old.reading.setting → Runs a s piece (Err stop) after → Advances old s piece (Err stop) new
 stop_same a old new s piece (stops.Fault fault) after e r = faults_same a old.reading s piece fault e r

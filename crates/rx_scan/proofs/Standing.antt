@@ -12,7 +12,7 @@ use Rattle.rx_pages.specs.PageReader.{Scanning, first_of, starts_at, entering, i
 use Rattle.rx_tags.specs.TagBufs.{TagSoFar}
 use Rattle.rx_marks.specs.declared.marks.Mark.{Mark}
 use Rattle.rx_marks.specs.declared.marks.Mark.TheVariants as mark
-use Rattle.rx_scan.specs.declared.places.Place.{Place}
+use Rattle.rx_scan.specs.declared.places.Position.{Position}
 use Rattle.rx_scan.specs.declared.places.Setting.{Setting}
 use Rattle.rx_scan.specs.Buffers.{Buffered}
 use Rattle.rx_scan.specs.Places.{entered}
@@ -22,7 +22,7 @@ use Rattle.rx_scan.specs.Entries.{token_from, with_parts}
 use Rattle.rx_scan.specs.Steps.{ReadsAs}
 
 -- characters are pending, so the mark isn't `Nothing`
-pub some_mark : (s : Syntax) (i : Content) (m : Mark) (run : Chars) (t : TagSoFar) (text : Chars) (x : ℕ) (more : Chars) (place : Place) → PendsAs s i m run t text → text ≡ x ∷ more → token_from m place ≡ place.token
+pub some_mark : (s : Syntax) (i : Content) (m : Mark) (run : Chars) (t : TagSoFar) (text : Chars) (x : ℕ) (more : Chars) (place : Position) → PendsAs s i m run t text → text ≡ x ∷ more → token_from m place ≡ place.token
 some_mark s i mark.Nothing run t text x more place h e = absurd (let k = sym h ∙ e in cc)
 some_mark s i mark.LessThan run t text x more place h e = refl
 some_mark s i (mark.RawEnd n) run t text x more place h e = refl
@@ -75,38 +75,38 @@ module _ (v : Reading) (s : Scanning) (h : ReadsAs v s) (after_return : Bool) wh
       }
 
   -- a token begins
-  pub begins : (entry : Entry) (p : Pending) (setting : Setting) (text : Buffered) (place : Place) (two last : Bool) → entry.first ≡ starts_at s → setting.syntax ≡ v.setting.syntax → setting.inside ≡ v.setting.inside
+  pub begins : (entry : Entry) (p : Pending) (setting : Setting) (text : Buffered) (place : Position) (two last : Bool) → entry.first ≡ starts_at s → setting.syntax ≡ v.setting.syntax → setting.inside ≡ v.setting.inside
       → place ≡ record { at = v.place.at + 1; starts = v.place.at + 1; token = v.place.starts; started = true; after_return = after_return; two = two; last = last }
       → p.tag.syntax ≡ v.setting.syntax → PendsAs v.setting.syntax v.setting.inside p.mark p.run p.tag (entry.value ∷ [])
       → ReadsAs (with_parts v setting place p text) (entering after_return (entry ∷ []) two last s)
   begins entry p setting text place two last f sy ins pl y k =
       record {
-        at = ap (λ (q : Place). q.at) pl ∙ ap (λ a. a + 1) h.at;
-        starts = ap (λ (q : Place). q.starts) pl ∙ (ap (λ a. a + 1) h.at ∙ sym (starts_next s.at));
+        at = ap (λ (q : Position). q.at) pl ∙ ap (λ a. a + 1) h.at;
+        starts = ap (λ (q : Position). q.starts) pl ∙ (ap (λ a. a + 1) h.at ∙ sym (starts_next s.at));
         held = refl;
-        started = ap (λ (q : Place). q.started) pl;
-        after_return = ap (λ (q : Place). q.after_return) pl;
-        two = ap (λ (q : Place). q.two) pl;
-        last = ap (λ (q : Place). q.last) pl;
-        token = some_mark v.setting.syntax v.setting.inside p.mark p.run p.tag (entry.value ∷ []) entry.value [] place k refl ∙ (ap (λ (q : Place). q.token) pl ∙ (h.starts ∙ sym f));
+        started = ap (λ (q : Position). q.started) pl;
+        after_return = ap (λ (q : Position). q.after_return) pl;
+        two = ap (λ (q : Position). q.two) pl;
+        last = ap (λ (q : Position). q.last) pl;
+        token = some_mark v.setting.syntax v.setting.inside p.mark p.run p.tag (entry.value ∷ []) entry.value [] place k refl ∙ (ap (λ (q : Position). q.token) pl ∙ (h.starts ∙ sym f));
         syntax = y ∙ sym sy;
         pends = subst (λ (z : Syntax). PendsAs z setting.inside p.mark p.run p.tag (entry.value ∷ [])) (sym sy) (subst (λ (z : Content). PendsAs v.setting.syntax z p.mark p.run p.tag (entry.value ∷ [])) (sym ins) k);
       }
 
   -- a token is whole
-  pub whole : (p : Pending) (setting : Setting) (text : Buffered) (place : Place) (end : ℕ) (two last : Bool) → setting.syntax ≡ v.setting.syntax → p.mark ≡ mark.Nothing → p.tag.syntax ≡ v.setting.syntax
+  pub whole : (p : Pending) (setting : Setting) (text : Buffered) (place : Position) (end : ℕ) (two last : Bool) → setting.syntax ≡ v.setting.syntax → p.mark ≡ mark.Nothing → p.tag.syntax ≡ v.setting.syntax
       → place ≡ record { at = v.place.at + 1; starts = v.place.at + 1; token = v.place.token; started = true; after_return = after_return; two = two; last = last }
       → ReadsAs (record { setting = setting; place = place; held = []; pending = p; text = text; end = end }) (entering after_return [] two last s)
   whole p setting text place end two last sy m y pl =
       record {
-        at = ap (λ (q : Place). q.at) pl ∙ ap (λ a. a + 1) h.at;
-        starts = ap (λ (q : Place). q.starts) pl ∙ (ap (λ a. a + 1) h.at ∙ sym (starts_next s.at));
+        at = ap (λ (q : Position). q.at) pl ∙ ap (λ a. a + 1) h.at;
+        starts = ap (λ (q : Position). q.starts) pl ∙ (ap (λ a. a + 1) h.at ∙ sym (starts_next s.at));
         held = refl;
-        started = ap (λ (q : Place). q.started) pl;
-        after_return = ap (λ (q : Place). q.after_return) pl;
-        two = ap (λ (q : Place). q.two) pl;
-        last = ap (λ (q : Place). q.last) pl;
-        token = ap (λ (z : Mark). token_from z place) m ∙ (ap (λ (q : Place). q.starts) pl ∙ (ap (λ a. a + 1) h.at ∙ sym (starts_next s.at)));
+        started = ap (λ (q : Position). q.started) pl;
+        after_return = ap (λ (q : Position). q.after_return) pl;
+        two = ap (λ (q : Position). q.two) pl;
+        last = ap (λ (q : Position). q.last) pl;
+        token = ap (λ (z : Mark). token_from z place) m ∙ (ap (λ (q : Position). q.starts) pl ∙ (ap (λ a. a + 1) h.at ∙ sym (starts_next s.at)));
         syntax = y ∙ sym sy;
         pends = subst (λ (z : Mark). PendsAs setting.syntax setting.inside z p.run p.tag []) (sym m) refl;
       }

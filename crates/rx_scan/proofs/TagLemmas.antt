@@ -12,9 +12,9 @@ use Rattle.rx_grammar.specs.Tokens.{tag}
 use Rattle.rx_grammar.specs.Items.{values}
 use Rattle.rx_pages.specs.Scanner as verdicts
 use Rattle.rx_pages.specs.PageReader as reader
-use Rattle.rx_reader.proofs.Bools.{not_both_ways}
-use Rattle.rx_tags.specs.declared.stops.Stop.{Stop}
-use Rattle.rx_tags.specs.declared.stops.Stop.TheVariants as stop
+use Rattle.rx_terms.proofs.Bools.{not_both_ways}
+use Rattle.rx_grammar.specs.declared.stops.Stop.{Stop}
+use Rattle.rx_grammar.specs.declared.stops.Stop.TheVariants as stop
 use Rattle.rx_tags.specs.declared.tag_text.TagStep.TheVariants.{More as tag_step_more}
 use Rattle.rx_tags.specs.TagBufs.{TagSoFar, MayStep, StepGives}
 use Rattle.rx_grammar.specs.References.{meaning}

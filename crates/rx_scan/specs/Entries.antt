@@ -15,8 +15,8 @@ use Rattle.rx_grammar.specs.Items.{is_strict_literal}
 use Rattle.rx_reader.specs.Values.{no_meaning}
 use Rattle.rx_reader.specs.Tables.{is_last}
 use Rattle.rx_reader.specs.TagReader.{is_closing}
-use Rattle.rx_tags.specs.declared.stops.Stop.{Stop}
-use Rattle.rx_tags.specs.declared.stops.Stop.TheVariants as stop
+use Rattle.rx_grammar.specs.declared.stops.Stop.{Stop}
+use Rattle.rx_grammar.specs.declared.stops.Stop.TheVariants as stop
 use Rattle.rx_tags.specs.declared.tag_text.TagStep.TheVariants as tag_step
 use Rattle.rx_tags.specs.declared.pairs.TagError.TheVariants as tag_error
 use Rattle.rx_tags.specs.TagBufs.{TagSoFar, no_tag, MayStep, StepGives}
@@ -31,7 +31,7 @@ use Rattle.rx_marks.specs.declared.marks.First.{First}
 use Rattle.rx_marks.specs.declared.marks.First.TheVariants as first
 use Rattle.rx_marks.specs.declared.marks.Move.{Move}
 use Rattle.rx_marks.specs.declared.marks.Move.TheVariants as move
-use Rattle.rx_scan.specs.declared.places.Place.{Place}
+use Rattle.rx_scan.specs.declared.places.Position.{Position}
 use Rattle.rx_scan.specs.declared.places.Setting.{Setting}
 use Rattle.rx_scan.specs.Buffers.{Buffered}
 use Rattle.rx_marks.specs.KnownTags.{is_tag, is_tag_with}
@@ -41,7 +41,7 @@ use Rattle.rx_scan.specs.Places.{holding, entered, begun, ended, cut}
 use Rattle.rx_scan.specs.Scanner.{Reading}
 
 -- where the token begins that the next character belongs to
-abbrev pub token_from : Mark → Place → ℕ
+abbrev pub token_from : Mark → Position → ℕ
 token_from mark.Nothing p = p.starts
 token_from _ p = p.token
 
@@ -71,7 +71,7 @@ abbrev pub after_tag : Setting → Bool → Setting
 after_tag setting closing = record { syntax = setting.syntax; limits = setting.limits; inside = setting.inside; leads = setting.leads && closing; drops = false }
 
 -- the value with other parts
-abbrev pub with_parts : Reading → Setting → Place → Pending → Buffered → Reading
+abbrev pub with_parts : Reading → Setting → Position → Pending → Buffered → Reading
 with_parts v setting place pending text =
     record { setting = setting; place = place; held = []; pending = pending; text = text; end = v.end }
 
@@ -114,11 +114,11 @@ pub record TextGains (old new : Buffered) (c : ℕ) : Type 0 where
   pub room : old.room ≤ new.room
 
 -- text is told, and what is left pending is `pending`
-pub record Tells (old : Reading) (place : Place) (pending : Pending) (new : Reading) (more : Chars) : Type 0 where
+pub record Tells (old : Reading) (place : Position) (pending : Pending) (new : Reading) (more : Chars) : Type 0 where
   pub text : TextGrows old.text new.text more
   pub is : new ≡ with_parts old (undropped old.setting) place pending new.text
 
-pub record TellsOne (old : Reading) (place : Place) (new : Reading) (c : ℕ) : Type 0 where
+pub record TellsOne (old : Reading) (place : Position) (new : Reading) (c : ℕ) : Type 0 where
   pub text : TextGains old.text new.text c
   pub is : new ≡ with_parts old (undropped old.setting) place (marked mark.Nothing old.pending) new.text
 
@@ -128,9 +128,10 @@ OrSpent (Err (stop.Fault f)) P = ⊥
 OrSpent (Err stop.NoMemory) P = Unit {0}
 
 -- one character of text, by itself or by a reference
-abbrev pub Says : Reading → ℕ → Place → Result What Stop → Reading → Type 0
+abbrev pub Says : Reading → ℕ → Position → Result What Stop → Reading → Type 0
 Says old c place (Ok what.Nothing) new = (is_dropped old.setting c ≡ false) × TellsOne old place new c
-Says old c place (Ok what.Skipped) new = (is_dropped old.setting c ≡ true) × (new ≡ with_parts old (undropped old.setting) place (marked mark.Nothing old.pending) old.text)
+Says old c place (Ok what.Skipped) new =
+    (is_dropped old.setting c ≡ true) × (new ≡ with_parts old (undropped old.setting) place (marked mark.Nothing old.pending) old.text)
 Says old c place (Ok _) new = ⊥
 Says old c place (Err (stop.Fault f)) new = ⊥
 Says old c place (Err stop.NoMemory) new = Unit {0}
@@ -142,14 +143,20 @@ Tags old c after_return pending (Ok what.Tag) new =
     (tag : TagSoFar) × StepGives old.pending.tag c (Ok tag_step.Done) tag
     × (new ≡ record { setting = after_tag old.setting (is_closing tag.state.phase); place = ended after_return false old.place; held = []; pending = record { mark = mark.Nothing; run = pending.run; tag = tag }; text = old.text; end = old.place.at })
 Tags old c after_return pending (Ok _) new = ⊥
-Tags old c after_return pending (Err (stop.Fault f)) new = (kind : Kind) × (tag : TagSoFar) × StepGives old.pending.tag c (Err (tag_error.Bad kind)) tag × (f ≡ fault_at old kind)
+Tags old c after_return pending (Err (stop.Fault f)) new =
+    (kind : Kind) × (tag : TagSoFar) × StepGives old.pending.tag c (Err (tag_error.Bad kind)) tag × (f ≡ fault_at old kind)
 Tags old c after_return pending (Err stop.NoMemory) new = Unit {0}
 
 -- the run was text, and the character is read afresh
 abbrev pub Stops : Reading → ℕ → Bool → First → Result What Stop → Reading → Type 0
 Stops old c after_return (first.Begins m) result new =
     OrSpent result (λ answer. (answer ≡ what.Nothing)
-    × Tells old (begun after_return (cut old.place)) (record { mark = m; run = []; tag = no_tag old.pending.tag.syntax }) new (first_char old.pending.mark ∷ old.pending.run))
+    × Tells old (begun after_return (cut old.place)) (record {
+      mark =
+          m;
+      run = [];
+      tag = no_tag old.pending.tag.syntax;
+    }) new (first_char old.pending.mark ∷ old.pending.run))
 Stops old c after_return first.Says result new =
     OrSpent result (λ answer. (answer ≡ what.Nothing)
     × Tells old (ended after_return (is_bracket old.setting c) (cut old.place)) (marked mark.Nothing old.pending) new ((first_char old.pending.mark ∷ old.pending.run) ++ c ∷ []))
@@ -167,7 +174,8 @@ Closes old after_return None result new = result ≡ Err (stop.Fault (fault_at o
 abbrev pub Ends : Reading → Bool → Whole → Result What Stop → Reading → Type 0
 Ends old after_return whole.Comment result new = (result ≡ Ok what.Skipped) × (new ≡ with_ended old after_return (undropped old.setting))
 Ends old after_return whole.Doctype result new = (result ≡ Ok what.Doctype) × (new ≡ with_ended old after_return (after_doctype old.setting))
-Ends old after_return whole.Section result new = (result ≡ Ok (if is_empty old.pending.run then what.Skipped else what.Section)) × (new ≡ with_ended old after_return (undropped old.setting))
+Ends old after_return whole.Section result new =
+    (result ≡ Ok (if is_empty old.pending.run then what.Skipped else what.Section)) × (new ≡ with_ended old after_return (undropped old.setting))
 
 abbrev pub Went : Reading → Reading → Result What Stop → Reading → Type 0
 Went old next result new = OrSpent result (λ answer. (answer ≡ what.Nothing) × (new ≡ next))
@@ -209,7 +217,12 @@ Enters old c after_return (move.Begins m) result new = (result ≡ Ok what.Nothi
 Enters old c after_return (move.Goes m) result new = (result ≡ Ok what.Nothing) × (new ≡ gone old after_return (marked m old.pending))
 Enters old c after_return (move.Keeps m) result new = Went old (gone old after_return (kept_by m c old.pending)) result new
 Enters old c after_return (move.KeepsAfter b) result new =
-    Went old (gone old after_return (record { mark = mark.Section brackets.None; run = (old.pending.run ++ bracket_text b) ++ c ∷ []; tag = old.pending.tag })) result new
+    Went old (gone old after_return (record {
+      mark =
+          mark.Section brackets.None;
+      run = (old.pending.run ++ bracket_text b) ++ c ∷ [];
+      tag = old.pending.tag;
+    })) result new
 Enters old c after_return move.Tags result new = Tags old c after_return (marked mark.Tag old.pending) result new
 Enters old c after_return (move.KeepsTag n) result new = Tags old c after_return (kept_by (mark.RawEnd n) c old.pending) result new
 Enters old c after_return move.Says result new = Says old c (ended after_return (is_bracket old.setting c) old.place) result new
@@ -219,7 +232,7 @@ Enters old c after_return move.Stops result new = Stops old c after_return (at_f
 Enters old c after_return (move.Refuses kind) result new = result ≡ Err (stop.Fault (fault_at old kind))
 
 -- a byte order mark that stands first, and a line feed directly after a CR, aren't entered
-abbrev pub is_passed : Place → ℕ → Bool
+abbrev pub is_passed : Position → ℕ → Bool
 is_passed p c = not p.started && c == byte_order_mark || p.after_return && c == line_feed
 
 -- with the byte at `at` the tag has too many

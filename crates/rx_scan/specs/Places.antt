@@ -1,29 +1,29 @@
 -- Where the scanner stands, after each kind of byte.
 use Rattle.std.specs.Prelude.{◌+◌, ℕ, Bool, true, false, ◌&&◌}
-use Rattle.rx_scan.specs.declared.places.Place.{Place}
+use Rattle.rx_scan.specs.declared.places.Position.{Position}
 
-abbrev pub at_first : Place
+abbrev pub at_first : Position
 at_first = record { at = 0; starts = 0; token = 0; started = false; after_return = false; two = false; last = false }
 
-abbrev pub holding : Place → Place
+abbrev pub holding : Position → Position
 holding p = record { at = p.at + 1; starts = p.starts; token = p.token; started = p.started; after_return = p.after_return; two = p.two; last = p.last }
 
-abbrev pub entered : Bool → Place → Place
+abbrev pub entered : Bool → Position → Position
 entered after_return p = record { at = p.at + 1; starts = p.at + 1; token = p.token; started = true; after_return = after_return; two = p.two; last = p.last }
 
-abbrev pub begun : Bool → Place → Place
+abbrev pub begun : Bool → Position → Position
 begun after_return p = record { at = p.at + 1; starts = p.at + 1; token = p.starts; started = true; after_return = after_return; two = p.two; last = p.last }
 
-abbrev pub ended : Bool → Bool → Place → Place
+abbrev pub ended : Bool → Bool → Position → Position
 ended after_return bracket p = record { at = p.at + 1; starts = p.at + 1; token = p.token; started = true; after_return = after_return; two = p.last && bracket; last = bracket }
 
-abbrev pub cut : Place → Place
+abbrev pub cut : Position → Position
 cut p = record { at = p.at; starts = p.starts; token = p.token; started = p.started; after_return = p.after_return; two = false; last = false }
 
 -- behind so many characters of a tag
-abbrev pub fed : ℕ → Place → Place
+abbrev pub fed : ℕ → Position → Position
 fed n p = record { at = p.at + n; starts = p.at + n; token = p.token; started = true; after_return = false; two = p.two; last = p.last }
 
 -- behind so many bytes of text of which none is a `]`
-abbrev pub said : ℕ → Place → Place
+abbrev pub said : ℕ → Position → Position
 said n p = record { at = p.at + n; starts = p.at + n; token = p.token; started = true; after_return = false; two = false; last = false }

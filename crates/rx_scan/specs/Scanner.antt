@@ -2,7 +2,7 @@
 use Rattle.std.specs.Prelude.{ℕ, Bool, List, Option}
 use Rattle.rx_grammar.specs.declared.faults.Fault.{Fault}
 use Rattle.rx_pages.specs.PageReader.{Spot}
-use Rattle.rx_scan.specs.declared.places.Place.{Place}
+use Rattle.rx_scan.specs.declared.places.Position.{Position}
 use Rattle.rx_scan.specs.declared.places.Setting.{Setting}
 use Rattle.rx_scan.specs.declared.answers.What.{What}
 use Rattle.rx_scan.specs.Buffers.{Buffered}
@@ -12,7 +12,7 @@ use Rattle.rx_marks.specs.Pending.{Pending}
 -- the text that was read since the step began; and where the last tag ended.
 pub record Reading : Type 0 where
   pub setting : Setting
-  pub place : Place
+  pub place : Position
   pub held : List ℕ
   pub pending : Pending
   pub text : Buffered

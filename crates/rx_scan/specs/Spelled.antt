@@ -20,10 +20,10 @@ use Rattle.rx_grammar.specs.Pages.{has_no_nul}
 use Rattle.rx_grammar.specs.PageFaults.{IsPending, IsPart, Faulty, is_known_tag}
 use Rattle.rx_pages.specs.PageReader.{Spot, Scanning, Scanned, token_at, scan_from}
 use Rattle.rx_scan.specs.Scanner.{Scanner, spot_of}
-use Rattle.rx_scan.specs.Steps.{Stands, Steps, Are, is_of_syntax}
+use Rattle.rx_scan.specs.Steps.{ScanStands, Steps, Are, is_of_syntax}
 use Rattle.rx_scan.specs.declared.answers.Token as shown
-use Rattle.rx_tags.specs.declared.stops.Stop.{Stop}
-use Rattle.rx_tags.specs.declared.stops.Stop.TheVariants as stop
+use Rattle.rx_grammar.specs.declared.stops.Stop.{Stop}
+use Rattle.rx_grammar.specs.declared.stops.Stop.TheVariants as stop
 
 -- The characters that are entered of these, where the next byte is at this offset: behind others, or as the page's first ones.
 abbrev pub entries_at : Bool → Bool → ℕ → List ℕ → List Entry
@@ -76,13 +76,19 @@ pub data Refuses (syntax : Syntax) (limits : Limits) (spot : Spot) (next : Scann
   page_too_long : limits.page ≤ next.at → Refuses syntax limits spot next byte kind.PageTooLong
   not_utf8 : BeginNone (next.held ++ byte ∷ []) → Refuses syntax limits spot next byte kind.NotUtf8
   nul : IsCharacter (next.held ++ byte ∷ []) 0 → Refuses syntax limits spot next byte kind.Nul
-  tag_too_long : is_known_tag syntax spot.inside (values next.run) ≡ true → token_at next + limits.tag ≤ next.at → Refuses syntax limits spot next byte kind.TagTooLong
-  known_too_long : (c : ℕ) → IsCharacter (next.held ++ byte ∷ []) c → is_known_tag syntax spot.inside (values next.run ++ as_line_end c ∷ []) ≡ true → token_at next + limits.tag ≤ next.at → Refuses syntax limits spot next byte kind.TagTooLong
+  tag_too_long : is_known_tag syntax spot.inside (values next.run) ≡ true → token_at next + limits.tag ≤ next.at
+      → Refuses syntax limits spot next byte kind.TagTooLong
+  known_too_long : (c : ℕ) → IsCharacter (next.held ++ byte ∷ []) c → is_known_tag syntax spot.inside (values next.run ++ as_line_end c ∷ []) ≡ true
+      → token_at next + limits.tag ≤ next.at → Refuses syntax limits spot next byte kind.TagTooLong
   decided : {found : Kind} (c : ℕ) (run : Chars) → IsCharacter (next.held ++ byte ∷ []) c → Left syntax spot.inside (values next.run) (as_line_end c) run
-      → ((depth : ℕ) (items : List Item) (line : Line) (phase : Phase) → Faulty syntax depth items line phase spot.inside found (run ++ as_line_end c ∷ [])) → Refuses syntax limits spot next byte found
-  section_end : (c : ℕ) (token : Token) → IsCharacter (next.held ++ byte ∷ []) c → grammar.Spells syntax spot.inside (values next.run ++ as_line_end c ∷ []) None token → is_strict_literal greater_than_sign spot.inside token ≡ true → next.two ≡ true
+      → ((depth : ℕ) (items : List Item) (line : Line) (phase : Phase) → Faulty syntax depth items line phase spot.inside found (run ++ as_line_end c ∷ []))
+      → Refuses syntax limits spot next byte found
+  section_end : (c : ℕ) (token : Token) → IsCharacter (next.held ++ byte ∷ []) c
+      → grammar.Spells syntax spot.inside (values next.run ++ as_line_end c ∷ []) None token → is_strict_literal greater_than_sign spot.inside token ≡ true
+      → next.two ≡ true
       → Refuses syntax limits spot next byte kind.StrictText
-  late_doctype : (c : ℕ) → IsCharacter (next.held ++ byte ∷ []) c → grammar.Spells syntax spot.inside (values next.run ++ as_line_end c ∷ []) None doctype → spot.leads ≡ false → Refuses syntax limits spot next byte kind.BadDoctype
+  late_doctype : (c : ℕ) → IsCharacter (next.held ++ byte ∷ []) c → grammar.Spells syntax spot.inside (values next.run ++ as_line_end c ∷ []) None doctype
+      → spot.leads ≡ false → Refuses syntax limits spot next byte kind.BadDoctype
 
 -- The first of the bytes that decides a fault, with what the bytes before it spell.
 pub record FirstFault (syntax : Syntax) (limits : Limits) (spot : Spot) (s : Scanning) (bytes : List ℕ) (fault : Fault) : Type 0 where
@@ -106,17 +112,21 @@ pub record StepSpells (v : Scanner) (first s : Scanning) (before piece : List �
   pub scanned : Scanned
   pub spells : Spells v.reading.setting.syntax v.reading.setting.inside first (before ++ take n piece) scanned
   pub are : Are v.reading.setting.drops t s (take n piece) scanned.items
-  pub stands : Stands new scanned.next
+  pub stands : ScanStands new scanned.next
 
 abbrev pub StepAnswers : Scanner → Scanning → Scanning → List ℕ → List ℕ → Result (ℕ × shown.Token) Stop → Scanner → Type 0
 StepAnswers v first s before piece (Ok r) new = StepSpells v first s before piece r.0 r.1 new
-StepAnswers v first s before piece (Err (stop.Fault fault)) new = FirstFault v.reading.setting.syntax v.reading.setting.limits (spot_of v.reading) first (before ++ piece) fault
+StepAnswers v first s before piece (Err (stop.Fault fault)) new =
+    FirstFault v.reading.setting.syntax v.reading.setting.limits (spot_of v.reading) first (before ++ piece) fault
 StepAnswers v first s before piece (Err stop.NoMemory) new = Unit {0}
 
 -- law: that holds of each step
 abbrev pub StepsSpell : Type 0
-StepsSpell = (v new : Scanner) (first s : Scanning) (before piece : List ℕ) (result : Result (ℕ × shown.Token) Stop) → is_of_syntax v.reading.setting.syntax v.reading.setting.inside ≡ true → IsBetween first
-    → scan_from v.reading.setting.syntax v.reading.setting.limits (spot_of v.reading) first before ≡ Ok (record { next = s; items = [] }) → Steps v s piece result new → StepAnswers v first s before piece result new
+StepsSpell =
+    (v new : Scanner) (first s : Scanning) (before piece : List ℕ) (result : Result (ℕ × shown.Token) Stop)
+    → is_of_syntax v.reading.setting.syntax v.reading.setting.inside ≡ true → IsBetween first
+    → scan_from v.reading.setting.syntax v.reading.setting.limits (spot_of v.reading) first before ≡ Ok (record { next = s; items = [] })
+    → Steps v s piece result new → StepAnswers v first s before piece result new
 
 -- law: what is scanned from where nothing is unfinished
 abbrev pub ScansWhatIsSpelled : Type 0

@@ -16,8 +16,8 @@ use Rattle.rx_grammar.specs.Items.{values, Item, text_of, is_line_feed}
 use Rattle.rx_reader.specs.Tables.{is_last}
 use Rattle.rx_reader.specs.TagReader.{parts_of, is_closing}
 use Rattle.rx_pages.specs.PageReader.{Scanning, token_at, starts_at, fault_in, Scanned, read_byte, scan_from, is_none_left}
-use Rattle.rx_tags.specs.declared.stops.Stop.{Stop}
-use Rattle.rx_tags.specs.declared.stops.Stop.TheVariants as stop
+use Rattle.rx_grammar.specs.declared.stops.Stop.{Stop}
+use Rattle.rx_grammar.specs.declared.stops.Stop.TheVariants as stop
 use Rattle.rx_tags.specs.declared.tags.Tag as the
 use Rattle.rx_tags.specs.Seen.{tag_seen}
 use Rattle.rx_tags.specs.TagBufs.{no_tag, MayStep}
@@ -29,7 +29,7 @@ use Rattle.rx_marks.specs.declared.marks.Mark.TheVariants as mark
 use Rattle.rx_scan.specs.declared.places.Setting.{Setting}
 use Rattle.rx_marks.specs.Pending.{Pends}
 use Rattle.rx_scan.specs.Scanner.{Reading, Scanner, spot_of}
-use Rattle.rx_scan.specs.Entries.{token_from, undropped}
+use Rattle.rx_scan.specs.Entries.{IsNoMemory, token_from, undropped}
 
 -- The reading stands for the state: the same place and bytes, and the mark says what the characters since the last token are.
 pub record ReadsAs (v : Reading) (s : Scanning) : Type 0 where
@@ -45,7 +45,7 @@ pub record ReadsAs (v : Reading) (s : Scanning) : Type 0 where
   pub pends : Pends v.setting.syntax v.setting.inside v.pending (values s.run)
 
 -- A scanner that has answered neither a fault nor want of memory stands for the state after the bytes that it took.
-pub record Stands (v : Scanner) (s : Scanning) : Type 0 where
+pub record ScanStands (v : Scanner) (s : Scanning) : Type 0 where
   pub reads_as : ReadsAs v.reading s
   pub unfailed : v.failed ≡ None
   pub unspent : v.spent ≡ false
@@ -105,7 +105,9 @@ Tells drops what.Text s bytes items new = (texts_of items ≡ Some new.text.text
 Tells drops what.Section s bytes items new = IsOne (section new.pending.run) items × (new.pending.run ≢ [])
 Tells drops what.Skipped s bytes items new = Skips drops s bytes items
 Tells drops what.Doctype s bytes items new = IsOne doctype items
-Tells drops what.Tag s bytes items new = IsTag (parts_of new.pending.tag.state) new.place.token new.end items × (is_last new.pending.tag.state.phase ≡ true) × (new.place.at ≡ new.end + 1) × (new.pending.mark ≡ mark.Nothing)
+Tells drops what.Tag s bytes items new =
+    IsTag (parts_of new.pending.tag.state) new.place.token new.end items × (is_last new.pending.tag.state.phase ≡ true) × (new.place.at ≡ new.end + 1)
+    × (new.pending.mark ≡ mark.Nothing)
 
 -- The setting after some tokens: what was to be dropped has come.
 abbrev pub after_some : Setting → List Item → Setting
@@ -238,7 +240,8 @@ LiesThere stop.NoMemory at = Unit {0}
 
 -- after this nothing else is answered
 abbrev pub FailsBy : Stop → Scanner → Scanner → Type 0
-FailsBy (stop.Fault fault) old new = (new.failed ≡ Some fault) × (new.spent ≡ old.spent) × (new.what ≡ old.what) × (new.stepped ≡ old.stepped) × (new.reading ≡ old.reading)
+FailsBy (stop.Fault fault) old new =
+    (new.failed ≡ Some fault) × (new.spent ≡ old.spent) × (new.what ≡ old.what) × (new.stepped ≡ old.stepped) × (new.reading ≡ old.reading)
 FailsBy stop.NoMemory old new = (new.failed ≡ old.failed) × (new.spent ≡ true) × (new.what ≡ old.what) × (new.stepped ≡ old.stepped)
 
 -- the first setting: nothing stands before the root
@@ -302,7 +305,7 @@ pub record Stepped (old : Scanner) (s : Scanning) (piece : List ℕ) (n : ℕ) (
   pub fits : n ≤ length piece
   pub scanned : Scanned
   pub read : scan_from old.reading.setting.syntax old.reading.setting.limits (spot_of old.reading) s (take n piece) ≡ Ok scanned
-  pub stands : Stands new scanned.next
+  pub stands : ScanStands new scanned.next
   pub are : Are old.reading.setting.drops t s (take n piece) scanned.items
   pub mark : MarkAlone (shows_skipped t) s (take n piece) scanned.items
   pub last : IsLast t scanned.next.at
@@ -331,7 +334,8 @@ Keeps old piece (Err stop.NoMemory) new = ((old.spent ≡ true) ⊎ (old.failed 
 
 -- the same of the step within
 abbrev pub KeepsOn : Scanner → List ℕ → Result ℕ Stop → Scanner → Type 0
-KeepsOn old piece (Ok n) new = (old.failed ≡ None) × (old.spent ≡ false) × (new.failed ≡ None) × (new.spent ≡ false) × (new.stepped ≡ true) × TakesSome piece n (is_nothing new.what)
+KeepsOn old piece (Ok n) new =
+    (old.failed ≡ None) × (old.spent ≡ false) × (new.failed ≡ None) × (new.spent ≡ false) × (new.stepped ≡ true) × TakesSome piece n (is_nothing new.what)
 KeepsOn old piece (Err (stop.Fault fault)) new =
     (old.spent ≡ false) × ((old.failed ≡ None) ⊎ (old.failed ≡ Some fault)) × (new.failed ≡ Some fault) × (new.spent ≡ false) × (new.what ≡ what.Nothing) × (new.stepped ≡ true) × (fault.at ≡ new.reading.place.at)
 KeepsOn old piece (Err stop.NoMemory) new = ((old.spent ≡ true) ⊎ (old.failed ≡ None)) × (new.spent ≡ true) × (new.what ≡ what.Nothing) × (new.stepped ≡ true)
@@ -377,13 +381,25 @@ pub record IsWhole (s : Scanning) : Type 0 where
 
 -- The end of the page: it is whole, or the fault, which comes again.
 abbrev pub Finishes : Scanner → Result (Unit {0}) Stop → Scanner → Type 0
-Finishes old (Ok done) new = (old.failed ≡ None) × (old.spent ≡ false) × (new ≡ old) × ((s : Scanning) → Stands old s → IsWhole s)
+Finishes old (Ok done) new = (old.failed ≡ None) × (old.spent ≡ false) × (new ≡ old) × ((s : Scanning) → ScanStands old s → IsWhole s)
 Finishes old (Err (stop.Fault fault)) new =
     (old.spent ≡ false) × (new.failed ≡ Some fault) × (new.spent ≡ false) × (new.reading ≡ old.reading) × (new.what ≡ old.what) × (new.stepped ≡ old.stepped)
-    × ((old.failed ≡ Some fault) ⊎ ((old.failed ≡ None) × ((s : Scanning) → Stands old s → (fault ≡ fault_in s Unended) × (IsWhole s → ⊥))))
+    × ((old.failed ≡ Some fault) ⊎ ((old.failed ≡ None) × ((s : Scanning) → ScanStands old s → (fault ≡ fault_in s Unended) × (IsWhole s → ⊥))))
 Finishes old (Err stop.NoMemory) new = (old.spent ≡ true) × (new ≡ old)
 
 -- the tag that the last step answered
 abbrev pub IsLastTag : Scanner → Option the.Tag → Type 0
 IsLastTag v None = is_tag v.what ≡ false
 IsLastTag v (Some t) = (is_tag v.what ≡ true) × ShowsTag v.reading (parts_of v.reading.pending.tag.state).closing t
+
+-- What a step does to a scanner, whatever it stands for.
+abbrev pub StepsOn : Scanner → List ℕ → Result (ℕ × shown.Token) Stop → Scanner → Type 0
+StepsOn old piece result new = (s : Scanning) → ScanStands old s → Steps old s piece result new
+
+-- text by itself takes no memory where no token is unfinished
+abbrev pub IsQuiet : {A : Type 0} → Scanner → List ℕ → Result A Stop → Type 0
+IsQuiet old piece result = (s : Scanning) → ScanStands old s → s.run ≡ [] → is_quiet piece ≡ true → IsNoMemory result ≡ false
+
+-- and what is answered then is no tag
+abbrev pub NoTagOfText : Scanner → List ℕ → Type 0 → Type 0
+NoTagOfText old piece is_no_tag = (s : Scanning) → ScanStands old s → s.run ≡ [] → is_quiet piece ≡ true → is_no_tag

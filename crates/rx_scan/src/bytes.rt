@@ -8,14 +8,14 @@ ghost use Rattle.rx_scan.specs.declared.places.Setting.{Setting};
 ghost use Rattle.rx_tags.specs.TagBufs.{MayStep};
 
 use crate::answers::What;
-use crate::places::{Place, reaches};
+use crate::places::{Position, reaches};
 use crate::readers::Reader;
 use rx_chars::{Utf8, Utf8Step};
 use rx_grammar::Kind;
 use rx_marks::{Mark, is_tag, is_tag_with};
 use rx_tags::{Stop, is_letter};
 
-fn is_passed(place: Place, c: char) -> bool
+fn is_passed(place: Position, c: char) -> bool
     ensures { result ≡ entries.is_passed place c }
 {
     !place.started && c == '\u{FEFF}' || place.after_return && c == '\n'

@@ -1,5 +1,5 @@
 //! The last character of a token of which no text is told, or of a CDATA section.
-ghost use Rattle.std.specs.Prelude.{◌≡◌, ◌+◌, ◌<◌, ◌^◌};
+ghost use Rattle.std.specs.Prelude.{◌+◌, ◌<◌, ◌^◌};
 ghost use Rattle.rx_scan.specs.Entries as entries;
 ghost use Rattle.rx_tags.specs.TagBufs.{MayStep};
 

@@ -8,18 +8,18 @@
 
 ghost use Rattle.rx_scan.specs.Spelled.{RefusesWhatIsFaulty, ScansWhatIsSpelled, StepsSpell};
 
+mod advances;
 mod answers;
 mod buffers;
 mod bytes;
 mod endings;
 mod entries;
 mod fronts;
-mod goings;
-mod judgements;
 mod pending;
 mod places;
 mod plain;
 mod readers;
+mod refusals;
 mod runs;
 mod scans;
 mod settings;

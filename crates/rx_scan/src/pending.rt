@@ -1,12 +1,10 @@
 //! The characters since the last token.
 ghost use Rattle.std.specs.Prelude.{◌≡◌, true, [], ◌∷◌, ◌++◌, IfOk, Ok, OnOk};
-ghost use Rattle.std.specs.Str.{chars};
-ghost use Rattle.rx_terms.specs.Text.{is_empty};
 ghost use Rattle.rx_reader.specs.Tables.{is_last};
 ghost use Rattle.rx_reader.specs.TagReader.{parts_of, is_closing};
 ghost use Rattle.rx_tags.specs.Seen.{tag_seen};
 ghost use Rattle.rx_tags.specs.TagBufs.{no_tag, MayStep, StepGives, TakesMore};
-ghost use Rattle.rx_marks.specs.Pending.{bracket_text};
+ghost use Rattle.rx_marks.specs.Pending.{bracket_text, in_section};
 
 use crate::buffers::Buffer;
 use rx_chars::Syntax;
@@ -95,7 +93,7 @@ impl Unfinished {
 
     /// The CDATA section goes on with a character behind brackets that are text.
     pub(crate) fn keep_after(&mut self, brackets: Brackets, c: char) -> Result<(), NoMemory>
-        ensures { OnOk result (self.new ≡ record { mark = Mark.Section Brackets.None; run = (self.old.run ++ bracket_text brackets) ++ c ∷ []; tag = self.old.tag }) }
+        ensures { OnOk result (self.new ≡ in_section self.old ((self.old.run ++ bracket_text brackets) ++ c ∷ [])) }
     {
         self.keep_brackets(brackets)?;
         self.keep(Mark::Section(Brackets::None), c)

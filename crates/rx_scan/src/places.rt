@@ -7,7 +7,7 @@ use rx_grammar::{Content, Limits};
 
 /// How many bytes were taken, and what is known of them.
 #[derive(Clone, Copy, Debug, PartialEq, Eq)]
-pub(crate) struct Place {
+pub(crate) struct Position {
     /// The bytes taken.
     pub(crate) at: u64,
     /// The first byte of the character that comes next, or that is begun.
@@ -37,12 +37,12 @@ pub(crate) struct Setting {
     pub(crate) drops: bool,
 }
 
-impl Place {
+impl Position {
     /// Before the first byte.
-    pub(crate) fn first() -> Place
+    pub(crate) fn first() -> Position
         ensures { result ≡ places.at_first }
     {
-        Place {
+        Position {
             at: 0,
             starts: 0,
             token: 0,
@@ -54,18 +54,18 @@ impl Place {
     }
 
     /// Behind a byte of a character that isn't whole.
-    pub(crate) fn holding(self) -> Place
+    pub(crate) fn holding(self) -> Position
         requires { self.at + 1 < 2 ^ 64 }
         ensures { result ≡ places.holding self }
     {
-        Place {
+        Position {
             at: self.at + 1,
             ..self
         }
     }
 
     /// Behind a character that isn't entered.
-    pub(crate) fn passed(self) -> Place
+    pub(crate) fn passed(self) -> Position
         requires { self.at + 1 < 2 ^ 64 }
         ensures { result ≡ places.entered false self }
     {
@@ -73,11 +73,11 @@ impl Place {
     }
 
     /// Behind a character.
-    pub(crate) fn entered(self, after_return: bool) -> Place
+    pub(crate) fn entered(self, after_return: bool) -> Position
         requires { self.at + 1 < 2 ^ 64 }
         ensures { result ≡ places.entered after_return self }
     {
-        Place {
+        Position {
             at: self.at + 1,
             starts: self.at + 1,
             started: true,
@@ -87,22 +87,22 @@ impl Place {
     }
 
     /// Behind the first character of a token.
-    pub(crate) fn begun(self, after_return: bool) -> Place
+    pub(crate) fn begun(self, after_return: bool) -> Position
         requires { self.at + 1 < 2 ^ 64 }
         ensures { result ≡ places.begun after_return self }
     {
-        Place {
+        Position {
             token: self.starts,
             ..self.entered(after_return)
         }
     }
 
     /// Behind a token's last character; whether it is a literal `]` of XHTML.
-    pub(crate) fn ended(self, after_return: bool, bracket: bool) -> Place
+    pub(crate) fn ended(self, after_return: bool, bracket: bool) -> Position
         requires { self.at + 1 < 2 ^ 64 }
         ensures { result ≡ places.ended after_return bracket self }
     {
-        Place {
+        Position {
             two: self.last && bracket,
             last: bracket,
             ..self.entered(after_return)
@@ -110,11 +110,11 @@ impl Place {
     }
 
     /// Behind so many characters of a tag of which each has one byte, and none is a CR.
-    pub(crate) fn fed(self, count: u64) -> Place
+    pub(crate) fn fed(self, count: u64) -> Position
         requires { self.at + count < 2 ^ 64 }
         ensures { result ≡ places.fed count self }
     {
-        Place {
+        Position {
             at: self.at + count,
             starts: self.at + count,
             started: true,
@@ -124,11 +124,11 @@ impl Place {
     }
 
     /// Behind so many bytes of whole characters of text of which none is a CR or a `]`.
-    pub(crate) fn said(self, count: u64) -> Place
+    pub(crate) fn said(self, count: u64) -> Position
         requires { self.at + count < 2 ^ 64 }
         ensures { result ≡ places.said count self }
     {
-        Place {
+        Position {
             at: self.at + count,
             starts: self.at + count,
             started: true,
@@ -140,10 +140,10 @@ impl Place {
     }
 
     /// Behind a token that the next character ends.
-    pub(crate) fn cut(self) -> Place
+    pub(crate) fn cut(self) -> Position
         ensures { result ≡ places.cut self }
     {
-        Place {
+        Position {
             two: false,
             last: false,
             ..self

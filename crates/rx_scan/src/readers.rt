@@ -1,7 +1,7 @@
 //! What is read of a page.
 use crate::buffers::Buffer;
 use crate::pending::Unfinished;
-use crate::places::{Place, Setting};
+use crate::places::{Position, Setting};
 use rx_chars::Utf8;
 use std::marker::Model;
 
@@ -9,7 +9,7 @@ use std::marker::Model;
 #[derive(Drop)]
 pub(crate) struct Reader {
     pub(crate) setting: Setting,
-    pub(crate) place: Place,
+    pub(crate) place: Position,
     pub(crate) utf8: Utf8,
     pub(crate) pending: Unfinished,
     pub(crate) text: Buffer,

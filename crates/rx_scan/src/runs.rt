@@ -1,5 +1,5 @@
 //! The bytes of a piece, up to the end of a token.
-ghost use Rattle.std.specs.Prelude.{◌≡◌, ◌≢◌, ◌+◌, ◌≤◌, ◌⊎◌, ℕ, [], true, false, IfOk};
+ghost use Rattle.std.specs.Prelude.{◌≡◌, ◌≢◌, ◌+◌, ◌≤◌, ◌⊎◌, [], true, false, IfOk};
 ghost use Rattle.rx_pages.specs.PageReader.{Scanning};
 ghost use Rattle.rx_tags.specs.TagBufs.{MayStep};
 ghost use Rattle.rx_scan.specs.Entries.{IsNoMemory, LiesAt};

@@ -1,10 +1,10 @@
 //! The scanner.
-ghost use Rattle.std.specs.Prelude.{◌≡◌, ℕ, true, false, IfOk};
+ghost use Rattle.std.specs.Prelude.{◌≡◌, true, false, IfOk};
 
 use crate::answers::{Token, What};
 use crate::buffers::Buffer;
 use crate::pending::Unfinished;
-use crate::places::{Place, Setting};
+use crate::places::{Position, Setting};
 use crate::readers::Reader;
 use crate::runs::ROOM;
 use rx_chars::{Syntax, Utf8};
@@ -40,13 +40,13 @@ impl Model for Scan {
 
 impl Scan {
     ghost use Rattle.rx_pages.specs.PageReader.{Scanning, no_bytes};
-    ghost use Rattle.rx_scan.specs.Steps.{Stands, first_setting, is_of_syntax, may_enter, inside_of, Finishes};
+    ghost use Rattle.rx_scan.specs.Steps.{ScanStands, first_setting, is_of_syntax, may_enter, inside_of, Finishes};
 
     /// Before the first byte of a page, in content Outside. It takes the memory of the buffer through which text is
     /// handed out, so text by itself asks for no memory later.
     pub fn new(alloc: Global, syntax: Syntax, limits: Limits) -> Result<Scan, NoMemory>
         ensures setting { IfOk result (λ v. v.reading.setting ≡ first_setting syntax limits) }
-        ensures stands { IfOk result (λ v. Stands v no_bytes) }
+        ensures stands { IfOk result (λ v. ScanStands v no_bytes) }
         ensures enter { IfOk result (λ v. v.stepped ≡ false) }
         ensures nothing { IfOk result (λ v. v.what ≡ What.Nothing) }
     {
@@ -62,7 +62,7 @@ impl Scan {
         Ok(Scan {
             reader: Reader {
                 setting,
-                place: Place::first(),
+                place: Position::first(),
                 utf8: Utf8::new(),
                 pending,
                 text,
@@ -81,7 +81,7 @@ impl Scan {
         requires between { may_enter self.old ≡ true }
         requires content { is_of_syntax self.old.reading.setting.syntax content ≡ true }
         ensures new { self.new ≡ inside_of content drop_newline self.old }
-        ensures stands { (s : Scanning) → Stands self.old s → Stands self.new s }
+        ensures stands { (s : Scanning) → ScanStands self.old s → ScanStands self.new s }
     {
         self.set(content, drop_newline);
     }
@@ -115,7 +115,7 @@ impl Scan {
     /// The number of bytes taken.
     pub fn place(&self) -> u64
         ensures place { result ≡ self.now.reading.place.at }
-        ensures taken { (s : Scanning) → Stands self.now s → result ≡ s.at }
+        ensures taken { (s : Scanning) → ScanStands self.now s → result ≡ s.at }
     {
         self.reader.place.at
     }
@@ -128,8 +128,7 @@ impl Scan {
     ghost use Rattle.rx_scan.specs.contracts.scans.Scan.{the_row};
     ghost use Rattle.std.specs.Prelude.{[], None, Some, OnOk};
     ghost use Rattle.rx_reader.specs.TagReader.{parts_of};
-    ghost use Rattle.rx_scan.specs.Entries.{IsNoMemory};
-    ghost use Rattle.rx_scan.specs.Steps.{Stands, Steps, Keeps, KeepsOn, Advances, Prepared, FailsBy, LiesThere, Shows, ShowsTag, IsLastTag, is_quiet, is_tag, shows_tag};
+    ghost use Rattle.rx_scan.specs.Steps.{ScanStands, StepsOn, IsQuiet, NoTagOfText, Keeps, KeepsOn, Advances, Prepared, FailsBy, LiesThere, Shows, ShowsTag, IsLastTag, is_tag, shows_tag};
 
     // What the last step told is forgotten.
     fn prepare(&mut self)
@@ -156,10 +155,10 @@ impl Scan {
     }
 
     fn advance(&mut self, piece: &[u8]) -> Result<usize, Stop>
-        ensures steps { (s : Scanning) → Stands self.old s → Advances self.old s piece.now result self.new }
+        ensures steps { (s : Scanning) → ScanStands self.old s → Advances self.old s piece.now result self.new }
         ensures keeps { KeepsOn self.old piece.now result self.new }
-        ensures quiet { (s : Scanning) → Stands self.old s → s.run ≡ [] → is_quiet piece.now ≡ true → IsNoMemory result ≡ false }
-        ensures quiet_tells { (s : Scanning) → Stands self.old s → s.run ≡ [] → is_quiet piece.now ≡ true → OnOk result (is_tag self.new.what ≡ false) }
+        ensures quiet { IsQuiet self.old piece.now result }
+        ensures quiet_tells { NoTagOfText self.old piece.now (OnOk result (is_tag self.new.what ≡ false)) }
     {
         if self.spent {
             self.prepare();
@@ -189,9 +188,9 @@ impl Scan {
     /// scanner's reading has one in the bytes so far, before a token is complete, and then at each later call. After
     /// want of memory nothing else is answered. Text by itself takes no memory, and answers no tag.
     pub fn step(&mut self, piece: &[u8]) -> Result<(usize, Token<'_>), Stop>
-        ensures* after { sem 𝓛 (Rests the_row self.entry (λ new. Keeps self.old piece.now result new × ((s : Scanning) → Stands self.old s → Steps self.old s piece.now result new))) }
-        ensures quiet { (s : Scanning) → Stands self.old s → s.run ≡ [] → is_quiet piece.now ≡ true → IsNoMemory result ≡ false }
-        ensures quiet_tells { (s : Scanning) → Stands self.old s → s.run ≡ [] → is_quiet piece.now ≡ true → IfOk result (λ r. shows_tag r.1 ≡ false) }
+        ensures* after { sem 𝓛 (Rests the_row self.entry (λ new. Keeps self.old piece.now result new × StepsOn self.old piece.now result new)) }
+        ensures quiet { IsQuiet self.old piece.now result }
+        ensures quiet_tells { NoTagOfText self.old piece.now (IfOk result (λ r. shows_tag r.1 ≡ false)) }
     {
         let taken = self.advance(piece)?;
         Ok((taken, self.token()))

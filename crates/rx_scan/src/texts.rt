@@ -1,10 +1,10 @@
 //! Characters of text, by themselves, by a reference, and those that turn out to be text.
-ghost use Rattle.std.specs.Prelude.{◌≡◌, ◌+◌, ◌<◌, ◌≤◌, ◌^◌, IsOk, OnOk};
+ghost use Rattle.std.specs.Prelude.{◌+◌, ◌<◌, ◌≤◌, ◌^◌, IsOk, OnOk};
 ghost use Rattle.rx_scan.specs.Entries as entries;
 ghost use Rattle.rx_tags.specs.TagBufs.{MayStep};
 
 use crate::answers::What;
-use crate::places::Place;
+use crate::places::Position;
 use crate::readers::Reader;
 use crate::settings::{is_bracket, is_dropped};
 use rx_chars::Utf8;
@@ -14,7 +14,7 @@ use rx_terms::NoMemory;
 
 impl Reader {
     // One character of text, by itself or by a reference.
-    pub(crate) fn say(&mut self, c: char, place: Place) -> Result<What, Stop>
+    pub(crate) fn say(&mut self, c: char, place: Position) -> Result<What, Stop>
         requires may_step { MayStep self.old.pending.tag }
         ensures says { entries.Says self.old c place result self.new }
         ensures room { self.old.text.size + 4 ≤ self.old.text.room → IsOk result }

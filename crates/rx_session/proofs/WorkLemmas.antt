@@ -12,8 +12,8 @@ use Rattle.rx_model.specs.Copied.{copied}
 use Rattle.rx_model.specs.Numbered.{numbered}
 use Rattle.rx_model.specs.Seen.{triples_seen}
 use Rattle.rx_rdfa.specs.Names.{Context}
-use Rattle.rx_tags.specs.declared.stops.Stop.{Stop}
-use Rattle.rx_tags.specs.declared.stops.Stop.TheVariants as stop
+use Rattle.rx_grammar.specs.declared.stops.Stop.{Stop}
+use Rattle.rx_grammar.specs.declared.stops.Stop.TheVariants as stop
 use Rattle.rx_grammar.specs.PageFaults.{FaultAt}
 use Rattle.rx_nest.specs.Nests as nests
 use Rattle.rx_nest.specs.Nests.{Nested}
@@ -46,7 +46,7 @@ use Rattle.rx_session.specs.declared.works.Work.TheVariants as work
 -- ---- a piece
 
 pub feeds_walk : (task : Task) (context : Context) (old new : walks.Walked) (form : Form) (bytes piece : List ℕ) (r : Result (Unit {0}) Stop)
-    → ((setting : Setting) (address : Chars) (bytes : List ℕ) → walks.Stands setting address old bytes → walks.FeedGives setting address bytes piece r new)
+    → ((setting : Setting) (address : Chars) (bytes : List ℕ) → walks.WalkStands setting address old bytes → walks.FeedGives setting address bytes piece r new)
     → IsAt task context (work.Extracts old form) bytes → PieceGives task context bytes piece r (work.Extracts new form)
 feeds_walk (extracts e) context old new form bytes piece (Ok done) gives at = (gives (setting_for e.syntax context) e.address bytes at.0, at.1)
 feeds_walk (extracts e) context old new form bytes piece (Err (stop.Fault fault)) gives at =
@@ -56,7 +56,7 @@ feeds_walk (itemizes i) context old new form bytes piece r gives at = absurd at
 feeds_walk (checks syntax) context old new form bytes piece r gives at = absurd at
 
 pub feeds_items : (task : Task) (context : Context) (old new : items.Walked) (bytes piece : List ℕ) (r : Result (Unit {0}) Stop)
-    → ((setting : ItemSetting) (bytes : List ℕ) → items.Stands setting old bytes → items.FeedGives setting bytes piece r new)
+    → ((setting : ItemSetting) (bytes : List ℕ) → items.ItemWalkStands setting old bytes → items.FeedGives setting bytes piece r new)
     → IsAt task context (work.Itemizes old) bytes → PieceGives task context bytes piece r (work.Itemizes new)
 feeds_items (extracts e) context old new bytes piece r gives at = absurd at
 feeds_items (itemizes i) context old new bytes piece (Ok done) gives at = gives (item_setting_for i.syntax i.address) bytes at
@@ -66,7 +66,7 @@ feeds_items (itemizes i) context old new bytes piece (Err stop.NoMemory) gives a
 feeds_items (checks syntax) context old new bytes piece r gives at = absurd at
 
 pub feeds_check : (task : Task) (context : Context) (old new : check.Checked) (bytes piece : List ℕ) (r : Result (Unit {0}) Stop)
-    → ((setting : Setting) (bytes : List ℕ) → check.Stands setting old bytes → check.FeedGives setting bytes piece r new)
+    → ((setting : Setting) (bytes : List ℕ) → check.CheckStands setting old bytes → check.FeedGives setting bytes piece r new)
     → IsAt task context (work.Checks old) bytes → PieceGives task context bytes piece r (work.Checks new)
 feeds_check (extracts e) context old new bytes piece r gives at = absurd at
 feeds_check (itemizes i) context old new bytes piece r gives at = absurd at
@@ -78,7 +78,7 @@ feeds_check (checks syntax) context old new bytes piece (Err stop.NoMemory) give
 -- ---- the page's end
 
 -- bytes that were read without a fault
-shown_read : (way : Way) (bytes : List ℕ) (nest : Nested) (signs : List Sign) → nests.Stands way.syntax way.limits nest bytes signs → OwesNone nest → way.refused signs ≡ None → IsRead way bytes
+shown_read : (way : Way) (bytes : List ℕ) (nest : Nested) (signs : List Sign) → nests.NestStands way.syntax way.limits nest bytes signs → OwesNone nest → way.refused signs ≡ None → IsRead way bytes
 shown_read way bytes nest signs shown paid accepted =
     let signs_are : (sees nothing_seen shown.told).signs ≡ signs = ap (λ (x : Sight). x.signs) shown.sight ∙ (ap (λ x. signs ++ x) paid ∙ append-nil signs) in
     record { now = record { now = shown.at.now; told = shown.told }; read = shown.at.read; accepted = ap way.refused signs_are ∙ accepted }
@@ -87,7 +87,7 @@ shown_read way bytes nest signs shown paid accepted =
 end_first : (syntax : Syntax) (aim : Aim) (bytes : List ℕ) (fault : Fault) → IsRead (way_for syntax aim) bytes → FaultAt syntax standard bytes fault → HasFirst (way_for syntax aim) bytes fault
 end_first syntax aim bytes fault i f = for_form f (λ other m. no_meaning_in (way_for syntax aim) (refuses_so aim) bytes i.now i.read i.accepted other m)
 
-pub walk_stops : (e : Extraction) (context : Context) (walk : walks.Walked) (bytes : List ℕ) (why : Stop) → walks.Stands (setting_for e.syntax context) e.address walk bytes
+pub walk_stops : (e : Extraction) (context : Context) (walk : walks.Walked) (bytes : List ℕ) (why : Stop) → walks.WalkStands (setting_for e.syntax context) e.address walk bytes
     → Unfinished (way_of (setting_for e.syntax context)) bytes why → EndGives (extracts e) context bytes (Err why)
 walk_stops e context walk bytes (stop.Fault fault) at ends =
     the_fault (extracts e) context bytes fault (end_first e.syntax (for_triples context e.address) bytes fault
@@ -101,7 +101,7 @@ walk_ends e context form outcome list bytes text f spelled denotes given denoted
     let made = text_made e context form outcome list bytes f spelled denotes given in
     subst (λ t. IsTheText (extracts e) context bytes t) (sym is) (the_text (extracts e) context bytes (text_of outcome) made.0 (made.1 denoted))
 
-pub items_stop : (i : Itemization) (context : Context) (walk : items.Walked) (bytes : List ℕ) (why : Stop) → items.Stands (item_setting_for i.syntax i.address) walk bytes
+pub items_stop : (i : Itemization) (context : Context) (walk : items.Walked) (bytes : List ℕ) (why : Stop) → items.ItemWalkStands (item_setting_for i.syntax i.address) walk bytes
     → items.EndGives (item_setting_for i.syntax i.address) bytes (Err why) → EndGives (itemizes i) context bytes (Err why)
 items_stop i context walk bytes (stop.Fault fault) at ends =
     the_fault (itemizes i) context bytes fault (inl (end_first i.syntax (for_items i.address) bytes fault
@@ -117,7 +117,7 @@ items_end i context bytes kept (Err (stop.Fault fault)) ended gives =
     the_fault (itemizes i) context bytes fault (inr (record { tree = ended.tree; page = ended.page; refused = gives i.address ended.tree ended.holds }))
 items_end i context bytes kept (Err stop.NoMemory) ended gives = tt
 
-pub check_stops : (syntax : Syntax) (context : Context) (v : check.Checked) (bytes : List ℕ) (why : Stop) → check.Stands (setting_for syntax context) v bytes
+pub check_stops : (syntax : Syntax) (context : Context) (v : check.Checked) (bytes : List ℕ) (why : Stop) → check.CheckStands (setting_for syntax context) v bytes
     → Unfinished (way_of (setting_for syntax context)) bytes why → EndGives (checks syntax) context bytes (Err why)
 check_stops syntax context v bytes (stop.Fault fault) at ends =
     the_fault (checks syntax) context bytes fault (end_first syntax (for_faults context) bytes fault
@@ -132,21 +132,21 @@ check_ends syntax context bytes text a is =
 -- ---- by its kind
 
 pub finishes_walk : (task : Task) (context : Context) (walk : walks.Walked) (form : Form) (bytes : List ℕ) (r : Result (Vec ℕ Global) Stop)
-    → ((e : Extraction) (context : Context) (bytes : List ℕ) → walks.Stands (setting_for e.syntax context) e.address walk bytes → form ≡ form_in e.format e.graph context → EndGives (extracts e) context bytes r)
+    → ((e : Extraction) (context : Context) (bytes : List ℕ) → walks.WalkStands (setting_for e.syntax context) e.address walk bytes → form ≡ form_in e.format e.graph context → EndGives (extracts e) context bytes r)
     → IsAt task context (work.Extracts walk form) bytes → EndGives task context bytes r
 finishes_walk (extracts e) context walk form bytes r ends at = ends e context bytes at.0 at.1
 finishes_walk (itemizes i) context walk form bytes r ends at = absurd at
 finishes_walk (checks syntax) context walk form bytes r ends at = absurd at
 
 pub finishes_items : (task : Task) (context : Context) (walk : items.Walked) (bytes : List ℕ) (r : Result (Vec ℕ Global) Stop)
-    → ((i : Itemization) (context : Context) (bytes : List ℕ) → items.Stands (item_setting_for i.syntax i.address) walk bytes → EndGives (itemizes i) context bytes r)
+    → ((i : Itemization) (context : Context) (bytes : List ℕ) → items.ItemWalkStands (item_setting_for i.syntax i.address) walk bytes → EndGives (itemizes i) context bytes r)
     → IsAt task context (work.Itemizes walk) bytes → EndGives task context bytes r
 finishes_items (extracts e) context walk bytes r ends at = absurd at
 finishes_items (itemizes i) context walk bytes r ends at = ends i context bytes at
 finishes_items (checks syntax) context walk bytes r ends at = absurd at
 
 pub finishes_check : (task : Task) (context : Context) (v : check.Checked) (bytes : List ℕ) (r : Result (Vec ℕ Global) Stop)
-    → ((syntax : Syntax) (context : Context) (bytes : List ℕ) → check.Stands (setting_for syntax context) v bytes → EndGives (checks syntax) context bytes r)
+    → ((syntax : Syntax) (context : Context) (bytes : List ℕ) → check.CheckStands (setting_for syntax context) v bytes → EndGives (checks syntax) context bytes r)
     → IsAt task context (work.Checks v) bytes → EndGives task context bytes r
 finishes_check (extracts e) context v bytes r ends at = absurd at
 finishes_check (itemizes i) context v bytes r ends at = absurd at

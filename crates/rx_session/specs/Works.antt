@@ -3,8 +3,8 @@ use Rattle.std.specs.Prelude.{◌≡◌, ℕ, List, ◌++◌, Result, Ok, Err, V
 use Rattle.std.specs.declared.alloc.Global.{Global}
 use Rattle.rx_grammar.specs.declared.faults.Fault.{Fault}
 use Rattle.rx_rdfa.specs.Names.{Context}
-use Rattle.rx_tags.specs.declared.stops.Stop.{Stop}
-use Rattle.rx_tags.specs.declared.stops.Stop.TheVariants as stop
+use Rattle.rx_grammar.specs.declared.stops.Stop.{Stop}
+use Rattle.rx_grammar.specs.declared.stops.Stop.TheVariants as stop
 use Rattle.rx_walk.specs.Walks as walks
 use Rattle.rx_walk.specs.Checks as check
 use Rattle.rx_items.specs.Walks as items
@@ -17,15 +17,15 @@ use Rattle.rx_session.specs.declared.works.Work.TheVariants as work
 
 -- the page is read for this task under this context, and these bytes of it were taken without a fault
 abbrev pub IsAt : Task → Context → Work → List ℕ → Type 0
-IsAt (extracts e) context (work.Extracts walk form) bytes = walks.Stands (setting_for e.syntax context) e.address walk bytes × (form ≡ form_in e.format e.graph context)
+IsAt (extracts e) context (work.Extracts walk form) bytes = walks.WalkStands (setting_for e.syntax context) e.address walk bytes × (form ≡ form_in e.format e.graph context)
 IsAt (extracts e) context (work.Itemizes walk) bytes = ⊥
 IsAt (extracts e) context (work.Checks check) bytes = ⊥
 IsAt (itemizes i) context (work.Extracts walk form) bytes = ⊥
-IsAt (itemizes i) context (work.Itemizes walk) bytes = items.Stands (item_setting_for i.syntax i.address) walk bytes
+IsAt (itemizes i) context (work.Itemizes walk) bytes = items.ItemWalkStands (item_setting_for i.syntax i.address) walk bytes
 IsAt (itemizes i) context (work.Checks check) bytes = ⊥
 IsAt (checks syntax) context (work.Extracts walk form) bytes = ⊥
 IsAt (checks syntax) context (work.Itemizes walk) bytes = ⊥
-IsAt (checks syntax) context (work.Checks v) bytes = check.Stands (setting_for syntax context) v bytes
+IsAt (checks syntax) context (work.Checks v) bytes = check.CheckStands (setting_for syntax context) v bytes
 
 -- each page that begins with these bytes has this fault and no other, whatever follows
 abbrev pub HasFaultOn : Task → Context → List ℕ → Fault → Type 0

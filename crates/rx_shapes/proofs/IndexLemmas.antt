@@ -15,7 +15,8 @@ use Rattle.rx_model.proofs.Exact.{exact_numbers, exact_nodes}
 use Rattle.rx_model.proofs.Seen.{node_tells}
 use Rattle.rx_model.proofs.Sets.{false_unless, or_left, or_right, Among_cases}
 use Rattle.rx_graph.specs.Resources.{node_added, number_in}
-use Rattle.rx_graph.proofs.SetLemmas.{same_truth, insert_seen, seen_more}
+use Rattle.rx_terms.proofs.Bools.{same_truth}
+use Rattle.rx_graph.proofs.SetLemmas.{insert_seen, seen_more}
 use Rattle.rx_graph.proofs.PatternLemmas.{contains_added}
 use Rattle.rx_shapes.specs.Rows.{is_number}
 use Rattle.rx_shapes.specs.Links.{object_number, object_added, triple_added, HasNodes}

@@ -12,7 +12,7 @@ use Rattle.rx_terms.specs.Text.{Chars, begins_with}
 use Rattle.rx_terms.proofs.CharLemmas.{ascii-same}
 use Rattle.rx_model.proofs.Sets.{Among_of_filter, false_unless}
 use Rattle.rx_model.proofs.Exact.{exact_texts}
-use Rattle.rx_graph.proofs.SetLemmas.{same_truth}
+use Rattle.rx_terms.proofs.Bools.{same_truth}
 use Rattle.rx_notation.specs.Short.{Prefix, Prefixes, is_before, is_name_char, is_prefix_name, is_local_name, local_name, shortens, preferred, best, prefix_of, names_rise}
 use Rattle.rx_notation.proofs.Chosen.{best_among, front_and_rest}
 use Rattle.rx_notation.proofs.Ordered.{before_all, not_after, passes}

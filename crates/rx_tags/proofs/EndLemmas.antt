@@ -1,5 +1,5 @@
 -- What is done at a tag's `>` is what the reader does.
-use Rattle.std.proofs.Common.{◌≡◌, ◌∙◌, ◌≤◌, sym, ap, subst, refl, arith, length, ℕ, [], ◌∷◌, ◌++◌, List, Bool, true, false, not, Result, Ok, Err}
+use Rattle.std.proofs.Common.{◌≡◌, ◌∙◌, sym, ap, subst, refl, ℕ, [], ◌∷◌, ◌++◌, List, Bool, true, false, not, Result, Ok, Err}
 use Rattle.std.specs.Prelude.{◌&&◌}
 use Rattle.rx_terms.specs.Ascii.{greater_than_sign}
 use Rattle.rx_terms.specs.Text.{Chars}
@@ -7,7 +7,7 @@ use Rattle.rx_chars.specs.declared.syntax.Syntax.{Syntax}
 use Rattle.rx_chars.specs.declared.syntax.Syntax.TheVariants.{Html, Xhtml}
 use Rattle.rx_grammar.specs.Tokens.{Attribute}
 use Rattle.rx_grammar.specs.References.{meaning}
-use Rattle.rx_grammar.specs.Tags.{firsts, has_repeat, is_repeated}
+use Rattle.rx_grammar.specs.Tags.{has_repeat, is_repeated}
 use Rattle.rx_reader.specs.declared.phases.TagPhase.{TagPhase}
 use Rattle.rx_reader.specs.declared.phases.TagAction.{TagAction}
 use Rattle.rx_reader.specs.declared.phases.TagAction.TheVariants as action
@@ -18,6 +18,7 @@ use Rattle.rx_tags.specs.declared.pairs.TagError.{TagError}
 use Rattle.rx_tags.specs.declared.pairs.TagError.TheVariants.{Bad, NoMemory}
 use Rattle.rx_tags.specs.Fronts.{Closes}
 use Rattle.rx_tags.specs.Pairs.{Pairs, AddLastGives}
+use Rattle.rx_tags.proofs.RepeatLemmas.{unrepeated}
 use Rattle.rx_tags.specs.TagReads.{state_of, Ends, EndGives, FinishGives}
 
 -- the last attribute ends
@@ -52,22 +53,15 @@ finishes s a p q name old new repeated g u l = (
   ap (state_of q name) g.4,
 )
 
-few_firsts : (attributes : List Attribute) → length attributes ≤ 1 → firsts attributes ≡ attributes
-few_firsts [] h = refl
-few_firsts (a ∷ []) h = refl
-few_firsts (a ∷ b ∷ more) h = absurd (omega arith)
+apart : (s : Syntax) (attributes : List Attribute) → has_repeat attributes ≡ false → is_repeated s attributes ≡ false
+apart Html attributes h = refl
+apart Xhtml attributes h = h
 
-few_apart : (s : Syntax) (attributes : List Attribute) → length attributes ≤ 1 → is_repeated s attributes ≡ false
-few_apart Html attributes h = refl
-few_apart Xhtml [] h = refl
-few_apart Xhtml (a ∷ []) h = refl
-few_apart Xhtml (a ∷ b ∷ more) h = absurd (omega arith)
-
--- a `>` by which nothing but the phase changes, behind one attribute at most
-pub closes : (s : Syntax) (p q : TagPhase) (c : ℕ) (name : Chars) (pairs : Pairs) → c ≡ greater_than_sign → Closes p q → length pairs.whole ≤ 1 → Ends (record { syntax = s; state = state_of p name pairs }) c (state_of q name pairs)
+-- a `>` by which nothing but the phase changes, behind attributes of which no name stands twice
+pub closes : (s : Syntax) (p q : TagPhase) (c : ℕ) (name : Chars) (pairs : Pairs) → c ≡ greater_than_sign → Closes p q → has_repeat pairs.whole ≡ false → Ends (record { syntax = s; state = state_of p name pairs }) c (state_of q name pairs)
 closes s p q c name pairs e h few = record {
   last = state_of q name pairs;
-  step = rw e (ap (λ (m : Move). checked s (moved s (meaning s) (state_of p name pairs) greater_than_sign m)) (h.move s)) ∙ passes s (state_of q name pairs) h.whole (few_apart s pairs.whole few);
+  step = rw e (ap (λ (m : Move). checked s (moved s (meaning s) (state_of p name pairs) greater_than_sign m)) (h.move s)) ∙ passes s (state_of q name pairs) h.whole (apart s pairs.whole few);
   whole = h.whole;
-  kept = ap (λ whole. state_of q name (record { whole = whole; key = pairs.key; value = pairs.value })) (sym (few_firsts pairs.whole few));
+  kept = ap (λ whole. state_of q name (record { whole = whole; key = pairs.key; value = pairs.value })) (sym (unrepeated pairs.whole few));
 }

@@ -1,11 +1,8 @@
 -- Numbers past the last code point may be cut down to the first one past it.
-use Rattle.std.proofs.Common.{◌≡◌, ◌∙◌, sym, refl, ℕ, ◌+◌, ◌*◌, ◌≤◌, ◌<◌, List, [], ◌∷◌, arith, inl, inr, ◌⊎◌, true, zero, suc, length, drop, get_or}
-use Rattle.rx_chars.specs.declared.syntax.Syntax.{Syntax}
-use Rattle.rx_chars.specs.Numeric.{numeric, is_refused}
+use Rattle.std.proofs.Common.{◌≡◌, ◌∙◌, sym, refl, ℕ, ◌+◌, ◌*◌, ◌≤◌, ◌<◌, List, [], ◌∷◌, arith, inl, inr, ◌⊎◌, zero, suc, length, drop, get_or}
 use Rattle.rx_grammar.specs.References.{number_from, digit_value}
 use Rattle.rx_tags.specs.Numbers.{capped}
 use Rattle.std.proofs.Math.Nat.{min-eq_left, min-eq_right, min-le_right}
-use Rattle.std.proofs.lemmas.Bool.Decides.{nat_tests}
 
 times_more : (m base : ℕ) → 1 ≤ base → m ≤ m * base
 times_more m (suc base) h = omega arith
@@ -31,15 +28,6 @@ capped_on base m digits h =
     elim (le_cases m 0x110000) [
       | inl k ↦ rw (capped_small m k) refl
       | inr k ↦ rw (capped_large m k) (capped_large _ (stays_large base 0x110000 digits h (omega arith)) ∙ sym (capped_large _ (stays_large base m digits h k)))
-    ]
-
-pub numeric_capped : (syntax : Syntax) (n : ℕ) → numeric syntax (capped n) ≡ numeric syntax n
-numeric_capped syntax n =
-    elim (le_cases n 0x110000) [
-      | inl k ↦ rw (capped_small n k) refl
-      | inr k ↦
-          let past : is_refused n ≡ true = grind (arith, nat_tests) in
-          rw (capped_large n k, past) refl
     ]
 
 drop_next : (digits : List ℕ) (i d : ℕ) → i < length digits → drop i digits ≡ get_or digits i d ∷ drop (i + 1) digits

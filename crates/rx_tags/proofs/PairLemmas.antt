@@ -21,7 +21,7 @@ use Rattle.rx_reader.specs.declared.phases.RunMove.{RunMove}
 use Rattle.rx_reader.specs.declared.phases.RunMove.TheVariants as reader
 use Rattle.rx_reader.specs.Tables.{run_move}
 use Rattle.rx_reader.specs.Values.{Value, no_meaning, known_as, plain_step, meant, run_step, value_step, value_end, is_run}
-use Rattle.rx_reader.proofs.Bools.{by_test, split}
+use Rattle.rx_terms.proofs.Bools.{by_test, split}
 use Rattle.rx_tags.specs.declared.values.ValueMove.{ValueMove}
 use Rattle.rx_tags.specs.declared.values.ValueMove.TheVariants.{Begins, Is, Goes, Closes, Bad}
 use Rattle.rx_tags.specs.ValueMoves.{plain_move, of_run, value_move}
@@ -61,26 +61,6 @@ step_law s means run.Hash known pending c h = of_run_law s means (record { phase
 step_law s means run.Decimal known pending c h = of_run_law s means (record { phase = run.Decimal; known = known; run = after_first pending }) (known ++ pending) c (run_move run.Decimal c) (in_run known pending h.0)
 step_law s means run.Mark known pending c h = of_run_law s means (record { phase = run.Mark; known = known; run = after_first pending }) (known ++ pending) c (run_move run.Mark c) (in_run known pending h.0)
 step_law s means run.Hexadecimal known pending c h = of_run_law s means (record { phase = run.Hexadecimal; known = known; run = after_first pending }) (known ++ pending) c (run_move run.Hexadecimal c) (in_run known pending h.0)
-
-abbrev IsBegin : ℕ → ValueMove → Type 0
-IsBegin c Begins = c ≡ ampersand
-IsBegin c _ = Unit {0}
-
-plain_begin : (s : Syntax) (c : ℕ) → IsBegin c (plain_move s c)
-plain_begin s c =
-    split (IsBegin c) (c == ampersand) _ _ (λ e. grind (arith, nat_tests)) (λ e. split (IsBegin c) (is_plain s c) _ _ (λ f. tt) (λ f. tt))
-
-of_run_begin : (s : Syntax) (c : ℕ) (m : RunMove) → IsBegin c (of_run s c m)
-of_run_begin s c (reader.Goes q) = tt
-of_run_begin s c reader.Closes = tt
-of_run_begin Html c reader.Stops = plain_begin Html c
-of_run_begin Xhtml c reader.Stops = tt
-
-pub begin_is : (s : Syntax) (p : RunPhase) (c : ℕ) → IsBegin c (value_move s p c)
-begin_is s p c = split (IsBegin c) (is_run p) _ _ (λ e. of_run_begin s c (run_move p c)) (λ e. plain_begin s c)
-
-pub begun_pending : (s : Syntax) (p : RunPhase) (c : ℕ) → value_move s p c ≡ Begins → IsPending run.Ampersand (c ∷ [])
-begun_pending s p c h = let e : c ≡ ampersand = subst (IsBegin c) h (begin_is s p c) in (ap (λ d. d ∷ []) e, refl)
 
 pub record Grows (p q : RunPhase) (c : ℕ) : Type 0 where
   pub ascii : is_ascii c ≡ true
@@ -196,22 +176,6 @@ ends_as Html run.Mark known pending h k = ap Ok (in_run known pending h.0)
 ends_as Xhtml run.Mark known pending h k = absurd (cc)
 ends_as Html run.Hexadecimal known pending h k = ap Ok (in_run known pending h.0)
 ends_as Xhtml run.Hexadecimal known pending h k = absurd (cc)
-
-pub ends_badly : (s : Syntax) (p : RunPhase) (value : Value) → value.phase ≡ p → may_end s p ≡ false → value_end s value ≡ Err StrictText
-ends_badly Html run.Plain value e k = absurd (cc)
-ends_badly Xhtml run.Plain value e k = absurd (cc)
-ends_badly Html run.Ampersand value e k = absurd (cc)
-ends_badly Xhtml run.Ampersand value e k = rw e refl
-ends_badly Html run.Named value e k = absurd (cc)
-ends_badly Xhtml run.Named value e k = rw e refl
-ends_badly Html run.Hash value e k = absurd (cc)
-ends_badly Xhtml run.Hash value e k = rw e refl
-ends_badly Html run.Decimal value e k = absurd (cc)
-ends_badly Xhtml run.Decimal value e k = rw e refl
-ends_badly Html run.Mark value e k = absurd (cc)
-ends_badly Xhtml run.Mark value e k = rw e refl
-ends_badly Html run.Hexadecimal value e k = absurd (cc)
-ends_badly Xhtml run.Hexadecimal value e k = rw e refl
 
 -- a reference that stands for nothing, and for a character
 pub closes_none : (s : Syntax) (means : Chars → Option ℕ) (p : RunPhase) (known pending body : Chars) (c : ℕ) → IsPending p pending → value_move s p c ≡ Closes → body ≡ after_first pending → means body ≡ None

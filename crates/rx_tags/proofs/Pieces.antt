@@ -10,7 +10,7 @@ use Rattle.std.proofs.lemmas.Str.{chars-append, chars_past_char, chars-nil, enco
 use Rattle.rx_terms.proofs.CharLemmas.{ascii-utf8, ascii-chars}
 use Rattle.rx_terms.specs.Ascii.{is_ascii}
 use Rattle.rx_terms.specs.Text.{Chars}
-use Rattle.rx_tags.specs.declared.attributes.Row.{Row}
+use Rattle.rx_tags.specs.declared.attributes.AttributeSpan.{AttributeSpan}
 use Rattle.rx_tags.specs.Reading.{Reading, piece, row_read, rows_read, read_as, RowFits, RowsFit, Fits, nothing_read}
 
 take_all : (n : ℕ) (text : List ℕ) → n ≡ length text → take n text ≡ text
@@ -35,15 +35,15 @@ piece_then text from to h =
     let e : from + (to - from) ≡ to = omega arith in
     sym (take-append-drop (to - from) (drop from text)) ∙ ap (λ rest. piece text from to ++ rest) (drop_two from (to - from) text ∙ ap (λ n. drop n text) e)
 
-pub row_on : (text more : List ℕ) (limit : ℕ) (row : Row) → limit ≤ length text → RowFits text limit row → row_read (text ++ more) row ≡ row_read text row
+pub row_on : (text more : List ℕ) (limit : ℕ) (row : AttributeSpan) → limit ≤ length text → RowFits text limit row → row_read (text ++ more) row ≡ row_read text row
 row_on text more limit row l f =
     rw (piece_on text more row.start row.middle f.rises (omega (arith, f.on, f.within)), piece_on text more row.middle row.end f.on (omega (arith, f.within))) refl
 
-pub rows_on : (text more : List ℕ) (limit : ℕ) (rows : List Row) → limit ≤ length text → RowsFit text limit rows → rows_read (text ++ more) rows ≡ rows_read text rows
+pub rows_on : (text more : List ℕ) (limit : ℕ) (rows : List AttributeSpan) → limit ≤ length text → RowsFit text limit rows → rows_read (text ++ more) rows ≡ rows_read text rows
 rows_on text more limit [] l f = refl
 rows_on text more limit (row ∷ rows) l f = rw (row_on text more limit row l f.0, rows_on text more limit rows l f.1) refl
 
-pub row_fit_on : (text more : List ℕ) (limit past : ℕ) (row : Row) → limit ≤ length text → limit ≤ past → RowFits text limit row → RowFits (text ++ more) past row
+pub row_fit_on : (text more : List ℕ) (limit past : ℕ) (row : AttributeSpan) → limit ≤ length text → limit ≤ past → RowFits text limit row → RowFits (text ++ more) past row
 row_fit_on text more limit past row l p f = record {
   rises = f.rises;
   on = f.on;
@@ -52,12 +52,12 @@ row_fit_on text more limit past row l p f = record {
   value = rw (piece_on text more row.middle row.end f.on (omega (arith, f.within))) f.value;
 }
 
-pub rows_fit_on : (text more : List ℕ) (limit past : ℕ) (rows : List Row) → limit ≤ length text → limit ≤ past → RowsFit text limit rows → RowsFit (text ++ more) past rows
+pub rows_fit_on : (text more : List ℕ) (limit past : ℕ) (rows : List AttributeSpan) → limit ≤ length text → limit ≤ past → RowsFit text limit rows → RowsFit (text ++ more) past rows
 rows_fit_on text more limit past [] l p f = tt
 rows_fit_on text more limit past (row ∷ rows) l p f = (row_fit_on text more limit past row l p f.0, rows_fit_on text more limit past rows l p f.1)
 
 -- the same the other way: rows that lie in a front of the text
-row_fit_off : (text more : List ℕ) (limit : ℕ) (row : Row) → limit ≤ length text → RowFits (text ++ more) limit row → RowFits text limit row
+row_fit_off : (text more : List ℕ) (limit : ℕ) (row : AttributeSpan) → limit ≤ length text → RowFits (text ++ more) limit row → RowFits text limit row
 row_fit_off text more limit row l f = record {
   rises = f.rises;
   on = f.on;
@@ -66,7 +66,7 @@ row_fit_off text more limit row l f = record {
   value = rw (piece_on text more row.middle row.end f.on (omega (arith, f.within))) at f.value;
 }
 
-rows_fit_off : (text more : List ℕ) (limit : ℕ) (rows : List Row) → limit ≤ length text → RowsFit (text ++ more) limit rows → RowsFit text limit rows
+rows_fit_off : (text more : List ℕ) (limit : ℕ) (rows : List AttributeSpan) → limit ≤ length text → RowsFit (text ++ more) limit rows → RowsFit text limit rows
 rows_fit_off text more limit [] l f = tt
 rows_fit_off text more limit (row ∷ rows) l f = (row_fit_off text more limit row l f.0, rows_fit_off text more limit rows l f.1)
 
@@ -74,7 +74,7 @@ nothing_past : (text : List ℕ) (n : ℕ) → n ≡ length text → IsUtf8 (dro
 nothing_past text n h = let e = drop_all n text h in (rw e IsUtf8-nil, rw e chars-nil)
 
 -- the value's front alone: the text is cut where the run begins
-pub cut_back : (text : List ℕ) (rows : List Row) (start middle end : ℕ) → Fits text rows start middle end
+pub cut_back : (text : List ℕ) (rows : List AttributeSpan) (start middle end : ℕ) → Fits text rows start middle end
     → Fits (take end text) rows start middle end
     × (read_as (take end text) rows start middle end ≡ record { whole = rows_read text rows; key = chars (piece text start middle); known = chars (piece text middle end); pending = [] })
 cut_back text rows start middle end f =
@@ -118,13 +118,13 @@ with_char bs c u s =
     (IsUtf8-append bs (encode_utf8 c) u (IsUtf8-encode c s), chars-append bs (encode_utf8 c) u ∙ ap (λ rest. chars bs ++ rest) (one_char c s))
 
 -- what stands from the value's begin on: what is known, and then the run
-pub from_middle : (text : List ℕ) (rows : List Row) (start middle end : ℕ) → Fits text rows start middle end
+pub from_middle : (text : List ℕ) (rows : List AttributeSpan) (start middle end : ℕ) → Fits text rows start middle end
     → IsUtf8 (drop middle text) × (chars (drop middle text) ≡ chars (piece text middle end) ++ chars (drop end text))
 from_middle text rows start middle end f =
     let e = piece_then text middle end f.on in
     (rw e (IsUtf8-append _ _ f.known f.pending), ap chars e ∙ chars-append _ _ f.known)
 
-pub pushed_all : (text grown : List ℕ) (rows : List Row) (start middle end n : ℕ) (more : List ℕ) → Fits text rows start middle end → IsUtf8 more
+pub pushed_all : (text grown : List ℕ) (rows : List AttributeSpan) (start middle end n : ℕ) (more : List ℕ) → Fits text rows start middle end → IsUtf8 more
     → grown ≡ text ++ more → n ≡ length grown
     → Fits grown rows start middle n
     × (read_as grown rows start middle n ≡ record { whole = rows_read text rows; key = chars (piece text start middle); known = chars (piece text middle end) ++ (chars (drop end text) ++ chars more); pending = [] })
@@ -154,7 +154,7 @@ pushed_all text grown rows start middle end n more f u g h =
       },
     )
 
-pub pushed : (text grown : List ℕ) (rows : List Row) (start middle end n c : ℕ) → Fits text rows start middle end → IsScalar c
+pub pushed : (text grown : List ℕ) (rows : List AttributeSpan) (start middle end n c : ℕ) → Fits text rows start middle end → IsScalar c
     → grown ≡ text ++ encode_utf8 c → n ≡ length grown
     → Fits grown rows start middle n
     × (read_as grown rows start middle n ≡ record { whole = rows_read text rows; key = chars (piece text start middle); known = chars (piece text middle end) ++ (chars (drop end text) ++ c ∷ []); pending = [] })
@@ -163,7 +163,7 @@ pushed text grown rows start middle end n c f s g h =
     (all.0, all.1 ∙ ap (λ (more : List ℕ). read_on (read_as text rows start middle end) more) (one_char c s))
 
 -- characters of ASCII are their bytes
-pub pushed_ascii : (text grown : List ℕ) (rows : List Row) (start middle end n : ℕ) (more : List ℕ) → Fits text rows start middle end → list_all is_ascii more ≡ true
+pub pushed_ascii : (text grown : List ℕ) (rows : List AttributeSpan) (start middle end n : ℕ) (more : List ℕ) → Fits text rows start middle end → list_all is_ascii more ≡ true
     → grown ≡ text ++ more → n ≡ length grown
     → Fits grown rows start middle n
     × (read_as grown rows start middle n ≡ record { whole = rows_read text rows; key = chars (piece text start middle); known = chars (piece text middle end) ++ (chars (drop end text) ++ more); pending = [] })
@@ -172,7 +172,7 @@ pushed_ascii text grown rows start middle end n more f a g h =
     (all.0, all.1 ∙ ap (λ (x : List ℕ). read_on (read_as text rows start middle end) x) (ascii-chars more a))
 
 -- a run begins
-pub begun : (text grown : List ℕ) (rows : List Row) (start middle end n c : ℕ) → Fits text rows start middle end → IsScalar c
+pub begun : (text grown : List ℕ) (rows : List AttributeSpan) (start middle end n c : ℕ) → Fits text rows start middle end → IsScalar c
     → grown ≡ text ++ encode_utf8 c → n ≡ length text
     → Fits grown rows start middle n
     × (read_as grown rows start middle n ≡ record { whole = rows_read text rows; key = chars (piece text start middle); known = chars (piece text middle end) ++ chars (drop end text); pending = c ∷ [] })
@@ -204,7 +204,7 @@ begun text grown rows start middle end n c f s g h =
     )
 
 -- a run goes on
-pub gone_on : (text grown : List ℕ) (rows : List Row) (start middle end c : ℕ) → Fits text rows start middle end → IsScalar c
+pub gone_on : (text grown : List ℕ) (rows : List AttributeSpan) (start middle end c : ℕ) → Fits text rows start middle end → IsScalar c
     → grown ≡ text ++ encode_utf8 c
     → Fits grown rows start middle end
     × (read_as grown rows start middle end ≡ record { whole = rows_read text rows; key = chars (piece text start middle); known = chars (piece text middle end); pending = chars (drop end text) ++ c ∷ [] })
@@ -237,7 +237,7 @@ none_of : (bs : List ℕ) → IsUtf8 bs → chars bs ≡ [] → bs ≡ []
 none_of bs u e = sym (encodes-chars bs u) ∙ ap encode_utf8_all e
 
 -- a name goes on, where no value was begun
-key_pushed_all : (text grown : List ℕ) (rows : List Row) (start middle end n : ℕ) (more : List ℕ) → Fits text rows start middle end → IsUtf8 more
+key_pushed_all : (text grown : List ℕ) (rows : List AttributeSpan) (start middle end n : ℕ) (more : List ℕ) → Fits text rows start middle end → IsUtf8 more
     → grown ≡ text ++ more → n ≡ length grown → chars (piece text middle end) ≡ [] → chars (drop end text) ≡ []
     → Fits grown rows start n n
     × (read_as grown rows start n n ≡ record { whole = rows_read text rows; key = chars (piece text start middle) ++ chars more; known = chars (piece text middle end); pending = chars (drop end text) })
@@ -271,7 +271,7 @@ key_pushed_all text grown rows start middle end n more f u g h k p =
       },
     )
 
-pub key_pushed : (text grown : List ℕ) (rows : List Row) (start middle end n c : ℕ) → Fits text rows start middle end → IsScalar c
+pub key_pushed : (text grown : List ℕ) (rows : List AttributeSpan) (start middle end n c : ℕ) → Fits text rows start middle end → IsScalar c
     → grown ≡ text ++ encode_utf8 c → n ≡ length grown → chars (piece text middle end) ≡ [] → chars (drop end text) ≡ []
     → Fits grown rows start n n
     × (read_as grown rows start n n ≡ record { whole = rows_read text rows; key = chars (piece text start middle) ++ c ∷ []; known = chars (piece text middle end); pending = chars (drop end text) })
@@ -279,7 +279,7 @@ key_pushed text grown rows start middle end n c f s g h k p =
     let all = key_pushed_all text grown rows start middle end n (encode_utf8 c) f (IsUtf8-encode c s) g h k p in
     (all.0, all.1 ∙ ap (λ (more : List ℕ). key_on (read_as text rows start middle end) more) (one_char c s))
 
-pub key_pushed_ascii : (text grown : List ℕ) (rows : List Row) (start middle end n : ℕ) (more : List ℕ) → Fits text rows start middle end → list_all is_ascii more ≡ true
+pub key_pushed_ascii : (text grown : List ℕ) (rows : List AttributeSpan) (start middle end n : ℕ) (more : List ℕ) → Fits text rows start middle end → list_all is_ascii more ≡ true
     → grown ≡ text ++ more → n ≡ length grown → chars (piece text middle end) ≡ [] → chars (drop end text) ≡ []
     → Fits grown rows start n n
     × (read_as grown rows start n n ≡ record { whole = rows_read text rows; key = chars (piece text start middle) ++ more; known = chars (piece text middle end); pending = chars (drop end text) })
@@ -287,17 +287,17 @@ key_pushed_ascii text grown rows start middle end n more f a g h k p =
     let all = key_pushed_all text grown rows start middle end n more f (ascii-utf8 more a) g h k p in
     (all.0, all.1 ∙ ap (λ (x : List ℕ). key_on (read_as text rows start middle end) x) (ascii-chars more a))
 
-rows_fit_append : (text : List ℕ) (limit : ℕ) (rows : List Row) (row : Row) → RowsFit text limit rows → RowFits text limit row → RowsFit text limit (rows ++ row ∷ [])
+rows_fit_append : (text : List ℕ) (limit : ℕ) (rows : List AttributeSpan) (row : AttributeSpan) → RowsFit text limit rows → RowFits text limit row → RowsFit text limit (rows ++ row ∷ [])
 rows_fit_append text limit [] row f r = (r, tt)
 rows_fit_append text limit (first ∷ rows) row f r = (f.0, rows_fit_append text limit rows row f.1 r)
 
-rows_fit_past : (text : List ℕ) (limit past : ℕ) (rows : List Row) → limit ≤ past → RowsFit text limit rows → RowsFit text past rows
+rows_fit_past : (text : List ℕ) (limit past : ℕ) (rows : List AttributeSpan) → limit ≤ past → RowsFit text limit rows → RowsFit text past rows
 rows_fit_past text limit past [] p f = tt
 rows_fit_past text limit past (row ∷ rows) p f =
     (record { rises = f.0.rises; on = f.0.on; within = omega (arith, f.0.within, p); name = f.0.name; value = f.0.value }, rows_fit_past text limit past rows p f.1)
 
 -- an attribute is whole
-pub added : (text : List ℕ) (rows grown : List Row) (start middle end n : ℕ) → Fits text rows start middle end
+pub added : (text : List ℕ) (rows grown : List AttributeSpan) (start middle end n : ℕ) → Fits text rows start middle end
     → grown ≡ rows ++ record { start = start; middle = middle; end = n } ∷ [] → n ≡ length text
     → Fits text grown n n n
     × (read_as text grown n n n ≡ record { whole = rows_read text rows ++ (chars (piece text start middle), chars (piece text middle end) ++ chars (drop end text)) ∷ []; key = []; known = []; pending = [] })
@@ -307,7 +307,7 @@ added text rows grown start middle end n f g h =
     let past = nothing_past text n h in
     let z : n - n ≡ 0 = omega arith in
     let none : piece text n n ≡ [] = rw z refl in
-    let row : Row = record { start = start; middle = middle; end = n } in
+    let row : AttributeSpan = record { start = start; middle = middle; end = n } in
     rw g (
       record {
         rows_fit = rows_fit_append text n rows row (rows_fit_past text start n rows (omega (arith, f.rises, f.on, f.within, h)) f.rows_fit) (record { rises = f.rises; on = omega (arith, f.on, f.within, h); within = omega arith; name = f.key; value = rw value m.0 });
@@ -330,7 +330,7 @@ pub fresh : Fits [] [] 0 0 0 × (read_as [] [] 0 0 0 ≡ nothing_read)
 fresh = (record { rows_fit = tt; rises = omega arith; on = omega arith; within = omega arith; key = IsUtf8-nil; known = IsUtf8-nil; pending = IsUtf8-nil }, λ i. record { whole = []; key = chars-nil i; known = chars-nil i; pending = chars-nil i })
 
 -- what the run stands for takes its place
-pub replaced : (text grown : List ℕ) (rows : List Row) (start middle end n c : ℕ) → Fits text rows start middle end → IsScalar c
+pub replaced : (text grown : List ℕ) (rows : List AttributeSpan) (start middle end n c : ℕ) → Fits text rows start middle end → IsScalar c
     → grown ≡ take end text ++ encode_utf8 c → n ≡ length grown
     → Fits grown rows start middle n
     × (read_as grown rows start middle n ≡ record { whole = rows_read text rows; key = chars (piece text start middle); known = chars (piece text middle end) ++ c ∷ []; pending = [] })
@@ -339,23 +339,23 @@ replaced text grown rows start middle end n c f s g h =
     let p = pushed (take end text) grown rows start middle end n c b.0 s g h in
     (p.0, p.1 ∙ ap (λ (r : Reading). record { whole = r.whole; key = r.key; known = r.known ++ (r.pending ++ c ∷ []); pending = [] }) b.1)
 
-pub rows_count : (text : List ℕ) (rows : List Row) → length (rows_read text rows) ≡ length rows
+pub rows_count : (text : List ℕ) (rows : List AttributeSpan) → length (rows_read text rows) ≡ length rows
 rows_count text [] = refl
 rows_count text (row ∷ rows) = ap suc (rows_count text rows)
 
-row_of : (text : List ℕ) (limit : ℕ) (rows : List Row) (i : ℕ) (other : Row) → RowsFit text limit rows → i < length rows
+row_of : (text : List ℕ) (limit : ℕ) (rows : List AttributeSpan) (i : ℕ) (other : AttributeSpan) → RowsFit text limit rows → i < length rows
     → RowFits text limit (get_or rows i other) × (slice_get (rows_read text rows) i ≡ Some (row_read text (get_or rows i other)))
 row_of text limit [] i other f h = absurd (omega arith)
 row_of text limit (first ∷ rows) zero other f h = (f.0, refl)
 row_of text limit (first ∷ rows) (suc i) other f h = row_of text limit rows i other f.1 (omega arith)
 
 -- a row among those that fit
-pub row_at : (text : List ℕ) (limit : ℕ) (rows : List Row) (i : ℕ) (row other : Row) → RowsFit text limit rows → i < length (rows_read text rows) → row ≡ get_or rows i other
+pub row_at : (text : List ℕ) (limit : ℕ) (rows : List AttributeSpan) (i : ℕ) (row other : AttributeSpan) → RowsFit text limit rows → i < length (rows_read text rows) → row ≡ get_or rows i other
     → RowFits text limit row × (slice_get (rows_read text rows) i ≡ Some (row_read text row))
 row_at text limit rows i row other f h e = rw e (row_of text limit rows i other f (omega (arith, h, rows_count text rows)))
 
 -- an attribute is whole, and the next one's name begins
-pub key_added : (text grown : List ℕ) (rows more : List Row) (start middle end n m c : ℕ) → Fits text rows start middle end → IsScalar c
+pub key_added : (text grown : List ℕ) (rows more : List AttributeSpan) (start middle end n m c : ℕ) → Fits text rows start middle end → IsScalar c
     → grown ≡ text ++ encode_utf8 c → more ≡ rows ++ record { start = start; middle = middle; end = n } ∷ [] → n ≡ length text → m ≡ length grown
     → Fits grown more n m m
     × (read_as grown more n m m ≡ record { whole = rows_read text rows ++ (chars (piece text start middle), chars (piece text middle end) ++ chars (drop end text)) ∷ []; key = c ∷ []; known = []; pending = [] })
@@ -365,9 +365,6 @@ key_added text grown rows more start middle end n m c f s g h k l =
     let pending : chars (drop n text) ≡ [] = ap (λ (r : Reading). r.pending) a.1 in
     let b = key_pushed text grown more n n n m c a.0 s g l known pending in
     (b.0, b.1 ∙ ap (λ (r : Reading). record { whole = r.whole; key = r.key ++ c ∷ []; known = r.known; pending = r.pending }) a.1)
-
-pub taken_back : (text more grown : List ℕ) (n : ℕ) → n ≡ length text → grown ≡ text ++ more → take n grown ≡ text
-taken_back text more grown n h g = rw g (take-append-le n text more (omega (arith, h)) ∙ take_all n text h)
 
 take_past : (old bytes : List ℕ) (n k : ℕ) → n ≡ length old + k → take n (old ++ bytes) ≡ old ++ take k bytes
 take_past [] bytes n k e = ap (λ m. take m bytes) (omega arith)

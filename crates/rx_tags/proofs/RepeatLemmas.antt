@@ -15,8 +15,8 @@ use Rattle.rx_terms.proofs.CharLemmas.{same-chars}
 use Rattle.rx_grammar.specs.Names.{same}
 use Rattle.rx_grammar.specs.Tokens.{Attribute, has_name}
 use Rattle.rx_grammar.specs.Tags.{without, firsts, has_repeat}
-use Rattle.rx_reader.proofs.Bools.{by_test, neither}
-use Rattle.rx_tags.specs.declared.attributes.Row.{Row}
+use Rattle.rx_terms.proofs.Bools.{by_test, neither}
+use Rattle.rx_tags.specs.declared.attributes.AttributeSpan.{AttributeSpan}
 use Rattle.rx_tags.specs.Reading.{Reading, piece, row_read, rows_read, read_as, RowFits, RowsFit, Fits}
 use Rattle.rx_tags.specs.Repeats.{is_named, KeepsFirsts}
 
@@ -135,50 +135,50 @@ not_true b true e h = refl
 not_true b false e h = absurd (cc)
 
 -- the row at a place
-abbrev pub at : List Row → ℕ → Row
+abbrev pub at : List AttributeSpan → ℕ → AttributeSpan
 at rows i = slice_index_or rows i (record { start = 0; middle = 0; end = 0 })
 
-take_more : (rows : List Row) (i : ℕ) → i < length rows → take (i + 1) rows ≡ take i rows ++ at rows i ∷ []
+take_more : (rows : List AttributeSpan) (i : ℕ) → i < length rows → take (i + 1) rows ≡ take i rows ++ at rows i ∷ []
 take_more rows i h = let e : i + 1 ≡ suc i = omega arith in ap (λ n. take n rows) e ∙ take-suc rows i (record { start = 0; middle = 0; end = 0 }) h
 
-pub fit_at : (text : List ℕ) (limit : ℕ) (rows : List Row) (i : ℕ) → RowsFit text limit rows → i < length rows → RowFits text limit (at rows i)
+pub fit_at : (text : List ℕ) (limit : ℕ) (rows : List AttributeSpan) (i : ℕ) → RowsFit text limit rows → i < length rows → RowFits text limit (at rows i)
 fit_at text limit [] i f h = absurd (omega (arith, h))
 fit_at text limit (row ∷ rows) zero f h = f.0
 fit_at text limit (row ∷ rows) (suc i) f h = fit_at text limit rows i f.1 (omega (arith, h))
 
-fit_take : (text : List ℕ) (limit : ℕ) (rows : List Row) (i : ℕ) → RowsFit text limit rows → RowsFit text limit (take i rows)
+fit_take : (text : List ℕ) (limit : ℕ) (rows : List AttributeSpan) (i : ℕ) → RowsFit text limit rows → RowsFit text limit (take i rows)
 fit_take text limit rows zero f = tt
 fit_take text limit [] (suc i) f = tt
 fit_take text limit (row ∷ rows) (suc i) f = (f.0, fit_take text limit rows i f.1)
 
-fit_more : (text : List ℕ) (limit : ℕ) (rows : List Row) (row : Row) → RowsFit text limit rows → RowFits text limit row → RowsFit text limit (rows ++ row ∷ [])
+fit_more : (text : List ℕ) (limit : ℕ) (rows : List AttributeSpan) (row : AttributeSpan) → RowsFit text limit rows → RowFits text limit row → RowsFit text limit (rows ++ row ∷ [])
 fit_more text limit [] row f g = (g, tt)
 fit_more text limit (other ∷ rows) row f g = (f.0, fit_more text limit rows row f.1 g)
 
-pub kept_fit : (text : List ℕ) (limit : ℕ) (rows kept : List Row) (i : ℕ) → i < length rows → RowsFit text limit rows → RowsFit text limit kept → RowsFit text limit (kept ++ at rows i ∷ [])
+pub kept_fit : (text : List ℕ) (limit : ℕ) (rows kept : List AttributeSpan) (i : ℕ) → i < length rows → RowsFit text limit rows → RowsFit text limit kept → RowsFit text limit (kept ++ at rows i ∷ [])
 kept_fit text limit rows kept i h f g = fit_more text limit kept (at rows i) g (fit_at text limit rows i f h)
 
-row_within : (text : List ℕ) (limit past : ℕ) (row : Row) → limit ≤ past → RowFits text limit row → RowFits text past row
+row_within : (text : List ℕ) (limit past : ℕ) (row : AttributeSpan) → limit ≤ past → RowFits text limit row → RowFits text past row
 row_within text limit past row h f = record { rises = f.rises; on = f.on; within = omega (arith, h, f.within); name = f.name; value = f.value }
 
-pub rows_within : (text : List ℕ) (limit past : ℕ) (rows : List Row) → limit ≤ past → RowsFit text limit rows → RowsFit text past rows
+pub rows_within : (text : List ℕ) (limit past : ℕ) (rows : List AttributeSpan) → limit ≤ past → RowsFit text limit rows → RowsFit text past rows
 rows_within text limit past [] h f = tt
 rows_within text limit past (row ∷ rows) h f = (row_within text limit past row h f.0, rows_within text limit past rows h f.1)
 
-name_seen : (text : List ℕ) (limit : ℕ) (rows : List Row) (name : List ℕ) → RowsFit text limit rows → IsUtf8 name → has_name (rows_read text rows) (chars name) ≡ is_named text rows name
+name_seen : (text : List ℕ) (limit : ℕ) (rows : List AttributeSpan) (name : List ℕ) → RowsFit text limit rows → IsUtf8 name → has_name (rows_read text rows) (chars name) ≡ is_named text rows name
 name_seen text limit [] name f u = refl
 name_seen text limit (row ∷ rows) name f u =
     rw (sym (same-chars (piece text row.start row.middle) name f.0.name u), name_seen text limit rows name f.1 u) refl
 
-pub names_turn : (text : List ℕ) (rows : List Row) (i : ℕ) (name : List ℕ) (before after : Bool) → i < length rows
+pub names_turn : (text : List ℕ) (rows : List AttributeSpan) (i : ℕ) (name : List ℕ) (before after : Bool) → i < length rows
     → before ≡ is_named text (take i rows) name → after ≡ (same (piece text (at rows i).start (at rows i).middle) name || before) → after ≡ is_named text (take (i + 1) rows) name
 names_turn text rows i name before after h b a =
     a ∙ ap (λ d. same (piece text (at rows i).start (at rows i).middle) name || d) b ∙ or_swap (same (piece text (at rows i).start (at rows i).middle) name) (is_named text (take i rows) name)
     ∙ ap (λ d. is_named text (take i rows) name || d) (sym (or_false (same (piece text (at rows i).start (at rows i).middle) name)))
-    ∙ sym (list_any-append (λ (row : Row). same (piece text row.start row.middle) name) (take i rows) (at rows i ∷ []))
+    ∙ sym (list_any-append (λ (row : AttributeSpan). same (piece text row.start row.middle) name) (take i rows) (at rows i ∷ []))
     ∙ ap (λ some. is_named text some name) (sym (take_more rows i h))
 
-module _ (text : List ℕ) (limit : ℕ) (rows kept : List Row) (i : ℕ) (fit : RowsFit text limit rows) (h : i < length rows)
+module _ (text : List ℕ) (limit : ℕ) (rows kept : List AttributeSpan) (i : ℕ) (fit : RowsFit text limit rows) (h : i < length rows)
     (read : rows_read text kept ≡ firsts (rows_read text (take i rows))) (is_new before : Bool)
     (b : before ≡ is_named text (take i rows) (piece text (at rows i).start (at rows i).middle)) (n : is_new ≡ not before) where
   named : has_name (rows_read text (take i rows)) (chars (piece text (at rows i).start (at rows i).middle)) ≡ before
@@ -195,45 +195,40 @@ module _ (text : List ℕ) (limit : ℕ) (rows kept : List Row) (i : ℕ) (fit :
   pub old_turn : is_new ≡ false → rows_read text kept ≡ firsts (rows_read text (take (i + 1) rows))
   old_turn e = read ∙ sym (firsts_same (rows_read text (take i rows)) (row_read text (at rows i)) (named ∙ not_true is_new before n e)) ∙ ap firsts (sym read_more)
 
-counts : (text : List ℕ) (rows kept : List Row) → rows_read text kept ≡ firsts (rows_read text rows) → length (firsts (rows_read text rows)) ≡ length kept
+counts : (text : List ℕ) (rows kept : List AttributeSpan) → rows_read text kept ≡ firsts (rows_read text rows) → length (firsts (rows_read text rows)) ≡ length kept
 counts text rows kept read = sym (ap length read) ∙ length-map kept (row_read text)
 
-pub kept_all : (text : List ℕ) (rows kept : List Row) (n m : ℕ) → rows_read text kept ≡ firsts (rows_read text rows) → n ≡ length kept → m ≡ length rows → n ≡ m → has_repeat (rows_read text rows) ≡ false
+pub kept_all : (text : List ℕ) (rows kept : List AttributeSpan) (n m : ℕ) → rows_read text kept ≡ firsts (rows_read text rows) → n ≡ length kept → m ≡ length rows → n ≡ m → has_repeat (rows_read text rows) ≡ false
 kept_all text rows kept n m read k r e = all_kept (rows_read text rows) (omega (arith, counts text rows kept read, length-map rows (row_read text), k, r, e))
 
-pub kept_some : (text : List ℕ) (rows kept : List Row) (n m : ℕ) → rows_read text kept ≡ firsts (rows_read text rows) → n ≡ length kept → m ≡ length rows → (n ≡ m → ⊥) → has_repeat (rows_read text rows) ≡ true
+pub kept_some : (text : List ℕ) (rows kept : List AttributeSpan) (n m : ℕ) → rows_read text kept ≡ firsts (rows_read text rows) → n ≡ length kept → m ≡ length rows → (n ≡ m → ⊥) → has_repeat (rows_read text rows) ≡ true
 kept_some text rows kept n m read k r e = not_all_kept (rows_read text rows) (λ all. e (omega (arith, counts text rows kept read, length-map rows (row_read text), k, r, all)))
 
 pub nothing_left : (r : Reading) → has_repeat r.whole ≡ false → r ≡ record { whole = firsts r.whole; key = r.key; known = r.known; pending = r.pending }
 nothing_left r h = λ i. record { whole = sym (unrepeated r.whole h) i; key = r.key; known = r.known; pending = r.pending }
 
-pub too_few : (text : List ℕ) (rows : List Row) (n : ℕ) → n ≡ length rows → n < 2 → has_repeat (rows_read text rows) ≡ false
-too_few text [] n e h = refl
-too_few text (row ∷ []) n e h = refl
-too_few text (row ∷ other ∷ rows) n e h = absurd (omega (arith, e, h))
-
-pub keeps_fit : (text : List ℕ) (rows kept : List Row) (start middle end : ℕ) → Fits text rows start middle end → KeepsFirsts text rows kept → Fits text kept start middle end
+pub keeps_fit : (text : List ℕ) (rows kept : List AttributeSpan) (start middle end : ℕ) → Fits text rows start middle end → KeepsFirsts text rows kept → Fits text kept start middle end
 keeps_fit text rows kept start middle end f k =
     record { rows_fit = k.fit start f.rows_fit; rises = f.rises; on = f.on; within = f.within; key = f.key; known = f.known; pending = f.pending }
 
-pub first_of : (text : List ℕ) (rows kept : List Row) (start middle end : ℕ) (r : Reading) → read_as text rows start middle end ≡ r → KeepsFirsts text rows kept
+pub first_of : (text : List ℕ) (rows kept : List AttributeSpan) (start middle end : ℕ) (r : Reading) → read_as text rows start middle end ≡ r → KeepsFirsts text rows kept
     → read_as text kept start middle end ≡ record { whole = firsts r.whole; key = r.key; known = r.known; pending = r.pending }
 first_of text rows kept start middle end r e k =
     (λ i. record { whole = k.read i; key = chars (piece text start middle); known = chars (piece text middle end); pending = chars (drop end text) })
     ∙ ap (λ (x : Reading). record { whole = firsts x.whole; key = x.key; known = x.known; pending = x.pending }) e
 
-drop_more : (rows : List Row) (i : ℕ) → i < length rows → drop i rows ≡ at rows i ∷ drop (suc i) rows
+drop_more : (rows : List AttributeSpan) (i : ℕ) → i < length rows → drop i rows ≡ at rows i ∷ drop (suc i) rows
 drop_more [] i h = absurd (omega (arith, h))
 drop_more (row ∷ rows) zero h = refl
 drop_more (row ∷ rows) (suc i) h = drop_more rows i (omega (arith, h))
 
-pub fit_drop : (text : List ℕ) (limit : ℕ) (rows : List Row) (i : ℕ) → RowsFit text limit rows → RowsFit text limit (drop i rows)
+pub fit_drop : (text : List ℕ) (limit : ℕ) (rows : List AttributeSpan) (i : ℕ) → RowsFit text limit rows → RowsFit text limit (drop i rows)
 fit_drop text limit rows zero f = f
 fit_drop text limit [] (suc i) f = tt
 fit_drop text limit (row ∷ rows) (suc i) f = fit_drop text limit rows i f.1
 
 -- a row against those behind it
-pub pair_turn : (text : List ℕ) (limit : ℕ) (rows : List Row) (i : ℕ) → RowsFit text limit rows → i < length rows
+pub pair_turn : (text : List ℕ) (limit : ℕ) (rows : List AttributeSpan) (i : ℕ) → RowsFit text limit rows → i < length rows
     → has_repeat (rows_read text (drop i rows)) ≡ (is_named text (drop (i + 1) rows) (piece text (at rows i).start (at rows i).middle) || has_repeat (rows_read text (drop (i + 1) rows)))
 pair_turn text limit rows i f h =
     let n : suc i ≡ i + 1 = omega arith in
@@ -242,19 +237,27 @@ pair_turn text limit rows i f h =
     ∙ (ap (λ b. b || has_repeat (rows_read text (drop (suc i) rows))) (name_seen text limit (drop (suc i) rows) (piece text (at rows i).start (at rows i).middle) (fit_drop text limit rows (suc i) f) r.name)
     ∙ ap (λ m. is_named text (drop m rows) (piece text (at rows i).start (at rows i).middle) || has_repeat (rows_read text (drop m rows))) n)
 
-pub pair_found : (text : List ℕ) (limit : ℕ) (rows : List Row) (i : ℕ) → RowsFit text limit rows → i < length rows
+pub pair_found : (text : List ℕ) (limit : ℕ) (rows : List AttributeSpan) (i : ℕ) → RowsFit text limit rows → i < length rows
     → is_named text (drop (i + 1) rows) (piece text (at rows i).start (at rows i).middle) ≡ true → has_repeat (rows_read text (drop i rows)) ≡ true
 pair_found text limit rows i f h e = pair_turn text limit rows i f h ∙ ap (λ b. b || has_repeat (rows_read text (drop (i + 1) rows))) e
 
-pub pair_passed : (text : List ℕ) (limit : ℕ) (rows : List Row) (i : ℕ) → RowsFit text limit rows → i < length rows
+pub pair_passed : (text : List ℕ) (limit : ℕ) (rows : List AttributeSpan) (i : ℕ) → RowsFit text limit rows → i < length rows
     → is_named text (drop (i + 1) rows) (piece text (at rows i).start (at rows i).middle) ≡ false → has_repeat (rows_read text (drop i rows)) ≡ has_repeat (rows_read text (drop (i + 1) rows))
 pair_passed text limit rows i f h e = pair_turn text limit rows i f h ∙ ap (λ b. b || has_repeat (rows_read text (drop (i + 1) rows))) e
 
-pub all_behind : (rows : List Row) (n : ℕ) → take (length rows - n) (drop n rows) ≡ drop n rows
+pub all_behind : (rows : List AttributeSpan) (n : ℕ) → take (length rows - n) (drop n rows) ≡ drop n rows
 all_behind rows n = let l = length-drop n rows in grind (arith, common_steps)
 
 -- A row alone repeats no name.
-pub alone : (text : List ℕ) (rows : List Row) → length rows < 2 → has_repeat (rows_read text rows) ≡ false
+pub alone : (text : List ℕ) (rows : List AttributeSpan) → length rows < 2 → has_repeat (rows_read text rows) ≡ false
 alone text [] h = refl
 alone text (x ∷ []) h = refl
 alone text (x ∷ y ∷ rows) h = absurd (omega arith)
+
+-- Two rows whose names aren't the same repeat none.
+pub two_apart : (text : List ℕ) (limit : ℕ) (rows : List AttributeSpan) → RowsFit text limit rows → 2 ≤ length rows → length rows ≤ 2
+    → same (piece text (at rows 1).start (at rows 1).middle) (piece text (at rows 0).start (at rows 0).middle) ≡ false → has_repeat (rows_read text rows) ≡ false
+two_apart text limit [] f n m h = absurd (omega (arith, n))
+two_apart text limit (a ∷ []) f n m h = absurd (omega (arith, n))
+two_apart text limit (a ∷ b ∷ []) f n m h = pair_turn text limit (a ∷ b ∷ []) 0 f (omega arith) ∙ rw h refl
+two_apart text limit (a ∷ b ∷ c ∷ rows) f n m h = absurd (omega (arith, m))

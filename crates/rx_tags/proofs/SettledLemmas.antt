@@ -12,7 +12,7 @@ use Rattle.rx_reader.specs.declared.phases.TagAction.TheVariants as action
 use Rattle.rx_reader.specs.Tables.{move_of, is_html, is_last}
 use Rattle.rx_reader.specs.Values.{Value, no_value_yet, value_end}
 use Rattle.rx_reader.specs.TagReader.{TagState, with_attribute}
-use Rattle.rx_reader.proofs.Bools.{split, not_both_ways}
+use Rattle.rx_terms.proofs.Bools.{split, not_both_ways}
 use Rattle.rx_tags.specs.Pairs.{Pairs}
 use Rattle.rx_tags.specs.TagReads.{is_value_phase, IsSettled, ActGives, CanEnd, state_of}
 

@@ -21,12 +21,12 @@ use Rattle.rx_reader.specs.declared.phases.TagAction.TheVariants as action
 use Rattle.rx_reader.specs.Tables.{Move, go, move_of, is_last}
 use Rattle.rx_reader.specs.Values.{Value, known_as, plain_step, value_step, is_run}
 use Rattle.rx_reader.specs.TagReader.{TagState, with_value, moved, checked, tag_on}
-use Rattle.rx_reader.proofs.Bools.{by_test}
+use Rattle.rx_terms.proofs.Bools.{by_test}
 use Rattle.rx_tags.specs.Fronts.{is_printed, is_plain, is_small, is_quoted, is_naming, named, opens_key, GoesTo, GoesBy, TakesFront, GainsValue, GainsKey, GainsName}
 use Rattle.rx_tags.specs.Pairs.{Pairs, pairs_read, IsPending}
 use Rattle.rx_tags.specs.Reading.{Reading}
 use Rattle.rx_tags.specs.TagBufs.{TagSoFar, MayStep, TakesMore}
-use Rattle.rx_tags.specs.TagReads.{state_of, IsSettled}
+use Rattle.rx_tags.specs.TagReads.{state_of}
 
 -- a character of a class is none outside it
 pub is_none : (p : ℕ → Bool) (c d : ℕ) → p c ≡ true → p d ≡ false → (c == d) ≡ false
@@ -126,9 +126,6 @@ on_key P phase.EndGap q x y = absurd (cc)
 on_key P phase.Opened q x y = absurd (cc)
 on_key P phase.Emptied q x y = absurd (cc)
 on_key P phase.Closed q x y = absurd (cc)
-
-pub quoted_settled : (p : TagPhase) (value : Value) → is_quoted p ≡ true → IsSettled p value
-quoted_settled p value q = on_quoted (λ x. IsSettled x value) p q (λ n. absurd (cc)) (λ n. absurd (cc))
 
 -- the state itself, where the tag isn't whole
 pub checked_open : (s : Syntax) (st : TagState) → is_last st.phase ≡ false → checked s (Ok st) ≡ Ok st
@@ -327,14 +324,6 @@ name_front s p name new pairs bytes n q some f m =
     match_by (n == 0) _ _ m
     (λ z e. absurd (some (eqb-true n 0 z)))
     (λ z g. record { fits = f; printed = small_printed (take n bytes) g.small; goes = some_name s pairs p name new (take n bytes) q (some_taken n bytes f z) g })
-
-pub no_name : (s : Syntax) (p : TagPhase) (name new : Chars) (pairs : Pairs) (bytes : List ℕ) (n : ℕ) → n ≡ 0 → MatchBool (n == 0) (new ≡ name) (GainsName name (take n bytes) new) → TakesFront s (state_of p name pairs) bytes 0 (state_of p new pairs)
-no_name s p name new pairs bytes n z m =
-    none_taken s (state_of p name pairs) (state_of p new pairs) bytes 0 refl (ap (λ (x : Chars). state_of p x pairs) (subst (λ (b : Bool). MatchBool b (new ≡ name) (GainsName name (take n bytes) new)) (ap (λ (x : ℕ). x == 0) z) m))
-
--- no front is taken
-pub nothing_taken : (s : Syntax) (old : TagState) (bytes : List ℕ) → TakesFront s old bytes 0 old
-nothing_taken s old bytes = record { fits = omega arith; printed = refl; goes = refl }
 
 -- one front after another
 goes_then : (s : Syntax) (a b c : TagState) (xs ys : Chars) → GoesBy s a xs b → GoesBy s b ys c → GoesBy s a (xs ++ ys) c

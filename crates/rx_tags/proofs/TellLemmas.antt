@@ -9,7 +9,7 @@ use Rattle.rx_grammar.specs.Tags.{SpellsTag}
 use Rattle.rx_grammar.specs.TagFaults.{BeginsTag, TagFault}
 use Rattle.rx_reader.specs.Tables.{is_last}
 use Rattle.rx_reader.specs.TagReader.{TagState, fresh, tag_step, tag_step_on, tag_on, parts_of}
-use Rattle.rx_reader.proofs.Bools.{not_both_ways}
+use Rattle.rx_terms.proofs.Bools.{not_both_ways}
 use Rattle.rx_reader.proofs.TagLaws.{spells_each, reads_each, tag_on-append}
 use Rattle.rx_reader.proofs.TagFaultLaws.{begins_from, reads_on, refuses_each_fault, is_refused}
 use Rattle.rx_tags.specs.declared.tag_text.TagStep.{TagStep}
@@ -17,7 +17,7 @@ use Rattle.rx_tags.specs.declared.tag_text.TagStep.TheVariants.{More, Done}
 use Rattle.rx_tags.specs.declared.pairs.TagError.{TagError}
 use Rattle.rx_tags.specs.declared.pairs.TagError.TheVariants.{Bad, NoMemory}
 use Rattle.rx_tags.specs.TagReads.{Ends}
-use Rattle.rx_tags.specs.TagBufs.{TagSoFar, Stands, GoesOn, StepGives, TakesMore, StepTells, AnswersAll}
+use Rattle.rx_tags.specs.TagBufs.{TagSoFar, TagStands, GoesOn, StepGives, TakesMore, StepTells, AnswersAll}
 use Rattle.rx_tags.proofs.TakeLemmas.{goes_read, may_step}
 
 on : (s : Syntax) (st : TagState) (chars : Chars) (c : ℕ) (r : Result TagState Kind) → tag_on s (meaning s) (Ok fresh) chars ≡ Ok st → tag_step s (meaning s) st c ≡ r
@@ -31,7 +31,7 @@ no_tag_yet s st chars run open_yet spelled sp =
     let same_end : st ≡ r.last = let both_ways : Ok st ≡ Ok r.last = sym run ∙ r.run in cc in
     not_both_ways (is_last st.phase) (ap (λ (x : TagState). is_last x.phase) same_end ∙ r.whole) open_yet
 
-pub tells : (old new : TagSoFar) (c : ℕ) (r : Result TagStep TagError) → StepGives old c r new → (chars : Chars) → Stands old chars → StepTells (chars ++ c ∷ []) r new
+pub tells : (old new : TagSoFar) (c : ℕ) (r : Result TagStep TagError) → StepGives old c r new → (chars : Chars) → TagStands old chars → StepTells (chars ++ c ∷ []) r new
 tells old new c (Ok More) g chars h =
     let run : tag_on old.syntax (meaning old.syntax) (Ok fresh) (chars ++ c ∷ []) ≡ Ok new.state = on old.syntax old.state chars c (Ok new.state) h.run g.0.0 in
     subst (StepTells (chars ++ c ∷ []) (Ok More)) (sym g.1) (record {
@@ -49,7 +49,7 @@ tells old new c (Err (Bad kind)) g chars h =
 tells old new c (Err NoMemory) g chars h = tt
 
 -- the same of many characters at once, of which each goes on
-pub front_tells : (old new : TagSoFar) (bytes : List ℕ) (n : ℕ) → TakesMore old bytes n new → (chars : Chars) → Stands old chars → GoesOn new (chars ++ take n bytes)
+pub front_tells : (old new : TagSoFar) (bytes : List ℕ) (n : ℕ) → TakesMore old bytes n new → (chars : Chars) → TagStands old chars → GoesOn new (chars ++ take n bytes)
 front_tells old new bytes n t chars h =
     let s = old.syntax in
     let all = chars ++ take n bytes in
@@ -105,7 +105,7 @@ module _ (s : Syntax) (chars : Chars) where
     bad = λ other f. inl (ap (λ k. Err (Bad k)) (same_fault kind other (tag_on s (meaning s) (Ok fresh) chars) run (fault_run other f)));
   }
 
-pub answers : (old new : TagSoFar) (c : ℕ) (r : Result TagStep TagError) → StepGives old c r new → (chars : Chars) → Stands old chars → AnswersAll old.syntax (chars ++ c ∷ []) r
+pub answers : (old new : TagSoFar) (c : ℕ) (r : Result TagStep TagError) → StepGives old c r new → (chars : Chars) → TagStands old chars → AnswersAll old.syntax (chars ++ c ∷ []) r
 answers old new c (Ok More) g chars h = goes_on old.syntax (chars ++ c ∷ []) new.state (on old.syntax old.state chars c (Ok new.state) h.run g.0.0) g.0.1
 answers old new c (Ok Done) g chars h =
     let e : Ends (record { syntax = old.syntax; state = old.state }) c new.state = g.0 in

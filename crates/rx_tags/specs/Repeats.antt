@@ -7,7 +7,7 @@ use Rattle.std.specs.Ordering.{nat_cmp}
 use Rattle.rx_grammar.specs.Names.{same}
 use Rattle.rx_grammar.specs.Tags.{firsts, has_repeat}
 use Rattle.rx_tags.specs.Reading.{piece, rows_read, RowsFit}
-use Rattle.rx_tags.specs.declared.attributes.Row.{Row}
+use Rattle.rx_tags.specs.declared.attributes.AttributeSpan.{AttributeSpan}
 use denote.Ref.{Bor}
 
 -- whether the set has a text of these bytes
@@ -15,11 +15,11 @@ abbrev pub has_text : BTreeSet (Bor (List ℕ)) → List ℕ → Bool
 has_text names text = contains_by (λ name. slice_cmp nat_cmp text name.now) names
 
 -- whether a row has a name of these bytes
-abbrev pub is_named : List ℕ → List Row → List ℕ → Bool
+abbrev pub is_named : List ℕ → List AttributeSpan → List ℕ → Bool
 is_named text rows name = list_any (λ row. same (piece text row.start row.middle) name) rows
 
 -- a name stands twice in the rows, and these are the first ones of each name
-pub record KeepsFirsts (text : List ℕ) (rows kept : List Row) : Type 0 where
+pub record KeepsFirsts (text : List ℕ) (rows kept : List AttributeSpan) : Type 0 where
   pub repeated : has_repeat (rows_read text rows) ≡ true
   pub read : rows_read text kept ≡ firsts (rows_read text rows)
   pub fit : (limit : ℕ) → RowsFit text limit rows → RowsFit text limit kept

@@ -1,7 +1,15 @@
 -- The tag that is lent.
-use Rattle.rx_grammar.specs.Tokens.{Tag as TheTag}
+use Rattle.std.specs.Prelude.{◌≡◌, ℕ, List, Option, Some, None, MatchOption}
+use Rattle.std.specs.Str.{chars}
+use Rattle.rx_terms.specs.Text.{Chars}
+use Rattle.rx_grammar.specs.Tokens.{Attribute, Tag as TheTag, value_of}
 use Rattle.rx_reader.specs.TagReader.{parts_of}
 use Rattle.rx_tags.specs.declared.tags.Tag.{Tag}
+use denote.Ref.{Bor}
 
 abbrev pub tag_seen : Tag → TheTag
 tag_seen tag = parts_of tag.text.now.state
+
+-- the value of the first attribute of that name, or none where no attribute has it
+abbrev pub IsValueOf : List Attribute → Chars → Option (Bor (List ℕ)) → Type 0
+IsValueOf attributes name result = MatchOption result (value_of attributes name ≡ None) (λ value. value_of attributes name ≡ Some (chars value.now))

@@ -47,13 +47,13 @@ pub record TakesMore (old : TagSoFar) (bytes : List ℕ) (n : ℕ) (new : TagSoF
   pub is : new ≡ record { syntax = old.syntax; state = new.state; refused = old.refused }
 
 -- These are the characters since the buffer was made or cleared, and no fault was answered.
-pub record Stands (tag : TagSoFar) (chars : Chars) : Type 0 where
+pub record TagStands (tag : TagSoFar) (chars : Chars) : Type 0 where
   pub run : tag_on tag.syntax (meaning tag.syntax) (Ok fresh) chars ≡ Ok tag.state
   pub may_step : MayStep tag
 
 -- They stand on: they begin a tag in which no fault stands, and spell none yet.
 pub record GoesOn (tag : TagSoFar) (chars : Chars) : Type 0 where
-  pub stands : Stands tag chars
+  pub stands : TagStands tag chars
   pub begins : BeginsTag tag.syntax chars
   pub unspelled : (spelled : Tag) → SpellsTag tag.syntax chars spelled → ⊥
 

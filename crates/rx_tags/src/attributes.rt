@@ -1,11 +1,12 @@
 //! The attributes of one tag in one buffer.
-ghost use Rattle.std.specs.Prelude.{◌≡◌, ℕ, ◌<◌, ◌≤◌, true, List, [], ◌∷◌, ◌++◌, length, take, IfOk, OnErr, OnOk, encode_utf8_all, Some, slice_get};
+ghost use Rattle.std.specs.Prelude.{◌≡◌, ◌<◌, ◌≤◌, true, false, [], ◌∷◌, ◌++◌, length, take, IfOk, OnErr, OnOk, encode_utf8_all, Some, slice_get};
 ghost use Rattle.std.specs.List.{list_all};
 ghost use Rattle.std.specs.Str.{chars};
 ghost use Rattle.rx_terms.specs.Ascii.{is_ascii};
 ghost use Rattle.rx_grammar.specs.Tags.{firsts, has_repeat};
+ghost use Rattle.rx_tags.specs.Reading.{all_read, begun_behind};
 
-use crate::repeats::unrepeated;
+use crate::repeats::{are_apart, unrepeated};
 use crate::texts::{push_char, push_front, text_between};
 use rx_terms::NoMemory;
 use std::alloc::Global;
@@ -13,7 +14,7 @@ use std::marker::Model;
 
 /// Where an attribute stands in the buffer: its name from `start` to `middle`, its value from there to `end`.
 #[derive(Clone, Copy, Drop)]
-pub(crate) struct Row {
+pub(crate) struct AttributeSpan {
     // The fields stand so that `start` and `middle`, which were written apart shortly before a row is made of them, aren't
     // copied as one word of twice the size, for which the processor would wait.
     pub(crate) start: usize,
@@ -25,7 +26,7 @@ pub(crate) struct Row {
 #[derive(Drop)]
 pub(crate) struct Attributes {
     text: Vec<u8>,
-    rows: Vec<Row>,
+    rows: Vec<AttributeSpan>,
     // the attribute that is read: its name from `start` to `middle`, what is known of its value from there to `end`, and
     // after that nothing or a run that may become a reference
     start: usize,
@@ -155,11 +156,11 @@ impl Attributes {
 
     /// The attribute is whole. A run at its end is text.
     pub(crate) fn add(&mut self) -> Result<(), NoMemory>
-        ensures ok { OnOk result (self.new ≡ record { whole = self.old.whole ++ (self.old.key, self.old.known ++ self.old.pending) ∷ []; key = []; known = []; pending = [] }) }
+        ensures ok { OnOk result (self.new ≡ begun_behind (all_read self.old) []) }
         ensures err { OnErr result (self.new ≡ self.old) }
     {
         let end = self.text.len();
-        let row = Row {
+        let row = AttributeSpan {
             start: self.start,
             middle: self.middle,
             end,
@@ -175,12 +176,12 @@ impl Attributes {
 
     /// The attribute is whole, and the character begins the name of the next one.
     pub(crate) fn add_key(&mut self, c: char) -> Result<(), NoMemory>
-        ensures ok { OnOk result (self.new ≡ record { whole = self.old.whole ++ (self.old.key, self.old.known ++ self.old.pending) ∷ []; key = c ∷ []; known = []; pending = [] }) }
+        ensures ok { OnOk result (self.new ≡ begun_behind (all_read self.old) (c ∷ [])) }
         ensures err { OnErr result (self.new ≡ self.old) }
     {
         let end = self.text.len();
         push_char(&mut self.text, c)?;
-        let row = Row {
+        let row = AttributeSpan {
             start: self.start,
             middle: self.middle,
             end,
@@ -223,6 +224,14 @@ impl Attributes {
 }
 
 impl Attributes {
+    /// Whether surely no name stands twice among the attributes that are whole.
+    #[inline(always)]
+    pub(crate) fn are_apart(&self) -> bool
+        ensures { result ≡ true → has_repeat self.now.whole ≡ false }
+    {
+        are_apart(&self.text, &self.rows)
+    }
+
     /// Forgets each attribute whose name stands before it, and tells whether there was one.
     pub(crate) fn keep_firsts(&mut self, alloc: Global) -> Result<bool, NoMemory>
         ensures kept { OnOk result (self.new ≡ record self.old { whole = firsts self.old.whole }) }
@@ -239,13 +248,13 @@ impl Attributes {
     /// The attribute is whole, and it is the last one. Forgets each whose name stands before it, and tells whether there was
     /// one.
     pub(crate) fn add_last(&mut self, alloc: Global) -> Result<bool, NoMemory>
-        ensures kept { OnOk result (self.new ≡ record { whole = firsts (self.old.whole ++ (self.old.key, self.old.known ++ self.old.pending) ∷ []); key = []; known = []; pending = [] }) }
-        ensures repeated { IfOk result (λ repeated. repeated ≡ has_repeat (self.old.whole ++ (self.old.key, self.old.known ++ self.old.pending) ∷ [])) }
+        ensures kept { OnOk result (self.new ≡ begun_behind (firsts (all_read self.old)) []) }
+        ensures repeated { IfOk result (λ repeated. repeated ≡ has_repeat (all_read self.old)) }
         ensures err { OnErr result (self.new ≡ self.old) }
     {
         let count = self.rows.len();
         let end = self.text.len();
-        let row = Row {
+        let row = AttributeSpan {
             start: self.start,
             middle: self.middle,
             end,

@@ -25,6 +25,16 @@ pub enum TagError {
     NoMemory,
 }
 
+impl From<NoMemory> for TagError {
+    ghost use Rattle.rx_tags.specs.declared.pairs.TagError.TheVariants.{NoMemory};
+
+    ghost from_gives = { λ _ error. error ≡ NoMemory };
+
+    fn from(_error: NoMemory) -> TagError {
+        TagError::NoMemory
+    }
+}
+
 /// The attributes that are whole, and the one that is read with the phase of its value.
 #[derive(Drop)]
 pub(crate) struct Pairs {
@@ -71,10 +81,8 @@ impl Pairs {
         ensures err { OnErr result (self.new ≡ self.old) }
         ensures memory { IfErr result (λ error. error ≡ TagError.NoMemory) }
     {
-        match self.attributes.push_key(c) {
-            Ok(()) => Ok(()),
-            Err(NoMemory) => Err(TagError::NoMemory),
-        }
+        self.attributes.push_key(c)?;
+        Ok(())
     }
 
     /// One more character of the value, in which references are decoded.
@@ -84,23 +92,17 @@ impl Pairs {
     {
         match value_move(syntax, self.run, c) {
             ValueMove::Begins => {
-                if self.attributes.begin_run(c).is_err() {
-                    return Err(TagError::NoMemory);
-                }
+                self.attributes.begin_run(c)?;
                 self.run = RunPhase::Ampersand;
                 Ok(())
             }
             ValueMove::Is(given) => {
-                if self.attributes.push(given).is_err() {
-                    return Err(TagError::NoMemory);
-                }
+                self.attributes.push(given)?;
                 self.run = RunPhase::Plain;
                 Ok(())
             }
             ValueMove::Goes(next) => {
-                if self.attributes.push_run(c).is_err() {
-                    return Err(TagError::NoMemory);
-                }
+                self.attributes.push_run(c)?;
                 self.run = next;
                 Ok(())
             }
@@ -109,9 +111,7 @@ impl Pairs {
                 let Some(given) = meaning(syntax, body) else {
                     return Err(TagError::Bad(no_meaning(self.run)));
                 };
-                if self.attributes.replace_run(given).is_err() {
-                    return Err(TagError::NoMemory);
-                }
+                self.attributes.replace_run(given)?;
                 self.run = RunPhase::Plain;
                 Ok(())
             }
@@ -162,13 +162,9 @@ impl Pairs {
         if !may_end(syntax, self.run) {
             return Err(TagError::Bad(Kind::StrictText));
         }
-        match self.attributes.add() {
-            Ok(()) => {
-                self.run = RunPhase::Plain;
-                Ok(())
-            }
-            Err(NoMemory) => Err(TagError::NoMemory),
-        }
+        self.attributes.add()?;
+        self.run = RunPhase::Plain;
+        Ok(())
     }
 }
 
@@ -183,20 +179,24 @@ impl Pairs {
         if !may_end(syntax, self.run) {
             return Err(TagError::Bad(Kind::StrictText));
         }
-        match self.attributes.add_key(c) {
-            Ok(()) => {
-                self.run = RunPhase::Plain;
-                Ok(())
-            }
-            Err(NoMemory) => Err(TagError::NoMemory),
-        }
+        self.attributes.add_key(c)?;
+        self.run = RunPhase::Plain;
+        Ok(())
     }
 }
 
 impl Pairs {
-    ghost use Rattle.std.specs.Prelude.{IfOk};
+    ghost use Rattle.std.specs.Prelude.{IfOk, true, false};
     ghost use Rattle.rx_grammar.specs.Tags.{firsts, has_repeat};
     ghost use Rattle.rx_tags.specs.Pairs.{AddLastGives};
+
+    /// Whether surely no name stands twice among the attributes that are whole.
+    #[inline(always)]
+    pub(crate) fn are_apart(&self) -> bool
+        ensures { result ≡ true → has_repeat self.now.whole ≡ false }
+    {
+        self.attributes.are_apart()
+    }
 
     /// Forgets each attribute whose name stands before it, and tells whether there was one.
     pub(crate) fn keep_firsts(&mut self, alloc: Global) -> Result<bool, NoMemory>
@@ -216,13 +216,9 @@ impl Pairs {
         if !may_end(syntax, self.run) {
             return Err(TagError::Bad(Kind::StrictText));
         }
-        match self.attributes.add_last(alloc) {
-            Ok(repeated) => {
-                self.run = RunPhase::Plain;
-                Ok(repeated)
-            }
-            Err(NoMemory) => Err(TagError::NoMemory),
-        }
+        let repeated = self.attributes.add_last(alloc)?;
+        self.run = RunPhase::Plain;
+        Ok(repeated)
     }
 }
 

@@ -1,5 +1,5 @@
 //! What references stand for (HTML, 13.2.5.72 to 13.2.5.80; XML 1.0, 4.1 and 4.6).
-ghost use Rattle.std.specs.Prelude.{◌≡◌, ℕ, ◌≤◌, nat_le, min};
+ghost use Rattle.std.specs.Prelude.{◌≡◌, ◌≤◌, min};
 ghost use Rattle.std.specs.List.{list_all};
 ghost use Rattle.rx_terms.specs.Ascii as ascii;
 ghost use Rattle.rx_grammar.specs.References as texts;

@@ -5,7 +5,7 @@ ghost use Rattle.rx_grammar.specs.Tags.{firsts, has_repeat};
 ghost use Rattle.rx_tags.specs.Reading.{rows_read, RowsFit};
 ghost use Rattle.rx_tags.specs.Repeats.{has_text, is_named, KeepsFirsts};
 
-use crate::attributes::Row;
+use crate::attributes::AttributeSpan;
 use crate::texts::text_between;
 use rx_terms::NoMemory;
 use std::alloc::Global;
@@ -16,8 +16,8 @@ use std::collections::BTreeSet;
 pub(crate) fn unrepeated(
     alloc: Global,
     text: &[u8],
-    rows: &[Row],
-) -> Result<Option<Vec<Row>>, NoMemory>
+    rows: &[AttributeSpan],
+) -> Result<Option<Vec<AttributeSpan>>, NoMemory>
     requires { RowsFit text.now (length text.now) rows.now }
     ensures { IfOk result (λ kept. MatchOption kept (has_repeat (rows_read text.now rows.now) ≡ false) (λ some. KeepsFirsts text.now rows.now some.items)) }
 {
@@ -35,8 +35,8 @@ pub(crate) fn unrepeated(
 fn unrepeated_of_many(
     alloc: Global,
     text: &[u8],
-    rows: &[Row],
-) -> Result<Option<Vec<Row>>, NoMemory>
+    rows: &[AttributeSpan],
+) -> Result<Option<Vec<AttributeSpan>>, NoMemory>
     requires { RowsFit text.now (length text.now) rows.now }
     ensures { IfOk result (λ kept. MatchOption kept (has_repeat (rows_read text.now rows.now) ≡ false) (λ some. KeepsFirsts text.now rows.now some.items)) }
 {
@@ -47,10 +47,27 @@ fn unrepeated_of_many(
     Ok(Some(kept))
 }
 
+/// Whether surely no name stands twice, which is told of two rows at most.
+#[inline(always)]
+pub(crate) fn are_apart(text: &[u8], rows: &[AttributeSpan]) -> bool
+    requires { RowsFit text.now (length text.now) rows.now }
+    ensures { result ≡ true → has_repeat (rows_read text.now rows.now) ≡ false }
+{
+    if rows.len() < 2 {
+        return true;
+    }
+    if rows.len() > 2 {
+        return false;
+    }
+    let name = text_between(text, rows[0].start, rows[0].middle);
+    let other = text_between(text, rows[1].start, rows[1].middle);
+    !is_same(other, name)
+}
+
 // As many rows as are compared each with each, which takes no memory. Tags have rarely more.
 const FEW: usize = 8;
 
-fn are_few_and_apart(text: &[u8], rows: &[Row]) -> bool
+fn are_few_and_apart(text: &[u8], rows: &[AttributeSpan]) -> bool
     requires { RowsFit text.now (length text.now) rows.now }
     ensures { result ≡ true → has_repeat (rows_read text.now rows.now) ≡ false }
 {
@@ -61,7 +78,7 @@ fn are_few_and_apart(text: &[u8], rows: &[Row]) -> bool
 }
 
 // Whether a name stands in two rows.
-fn has_pair(text: &[u8], rows: &[Row]) -> bool
+fn has_pair(text: &[u8], rows: &[AttributeSpan]) -> bool
     requires { RowsFit text.now (length text.now) rows.now }
     ensures { result ≡ has_repeat (rows_read text.now rows.now) }
 {
@@ -75,7 +92,7 @@ fn has_pair(text: &[u8], rows: &[Row]) -> bool
 }
 
 // Whether one of the rows has the name.
-fn is_name_of(text: &[u8], rows: &[Row], name: &str) -> bool
+fn is_name_of(text: &[u8], rows: &[AttributeSpan], name: &str) -> bool
     requires { RowsFit text.now (length text.now) rows.now }
     ensures { result ≡ is_named text.now rows.now name.now }
 {
@@ -94,7 +111,11 @@ fn is_same(a: &str, b: &str) -> bool
 }
 
 // The rows whose names stand in no row before them.
-fn first_rows(alloc: Global, text: &[u8], rows: &[Row]) -> Result<Vec<Row>, NoMemory>
+fn first_rows(
+    alloc: Global,
+    text: &[u8],
+    rows: &[AttributeSpan],
+) -> Result<Vec<AttributeSpan>, NoMemory>
     requires { RowsFit text.now (length text.now) rows.now }
     ensures read { IfOk result (λ kept. rows_read text.now kept.items ≡ firsts (rows_read text.now rows.now)) }
     ensures fit { IfOk result (λ kept. (limit : ℕ) → RowsFit text.now limit rows.now → RowsFit text.now limit kept.items) }

@@ -4,7 +4,7 @@ ghost use Rattle.rx_terms.specs.Text.{Chars};
 ghost use Rattle.rx_reader.specs.Tables.{is_last};
 ghost use Rattle.rx_reader.specs.TagReader.{parts_of};
 ghost use Rattle.rx_tags.specs.Seen.{tag_seen};
-ghost use Rattle.rx_tags.specs.TagBufs.{no_tag, MayStep, StepGives, TakesMore, Stands, GoesOn, StepTells, AnswersAll};
+ghost use Rattle.rx_tags.specs.TagBufs.{no_tag, MayStep, StepGives, TakesMore, TagStands, GoesOn, StepTells, AnswersAll};
 
 use crate::pairs::TagError;
 use crate::tag_text::{TagStep, TagText};
@@ -51,8 +51,8 @@ impl TagBuf {
     pub fn step(&mut self, c: char) -> Result<TagStep, TagError>
         requires { MayStep self.old }
         ensures gives { StepGives self.old c result self.new }
-        ensures tells { (chars : Chars) → Stands self.old chars → StepTells (chars ++ c ∷ []) result self.new }
-        ensures answers { (chars : Chars) → Stands self.old chars → AnswersAll self.old.syntax (chars ++ c ∷ []) result }
+        ensures tells { (chars : Chars) → TagStands self.old chars → StepTells (chars ++ c ∷ []) result self.new }
+        ensures answers { (chars : Chars) → TagStands self.old chars → AnswersAll self.old.syntax (chars ++ c ∷ []) result }
     {
         self.read(c)
     }
@@ -96,7 +96,7 @@ impl TagBuf {
         ensures takes { TakesMore self.old bytes.now result self.new }
         ensures none { result ≡ 0 → self.new ≡ self.old }
         ensures may_step { MayStep self.new }
-        ensures tells { (chars : Chars) → Stands self.old chars → GoesOn self.new (chars ++ take result bytes.now) }
+        ensures tells { (chars : Chars) → TagStands self.old chars → GoesOn self.new (chars ++ take result bytes.now) }
     {
         self.read_front(bytes)
     }

@@ -96,7 +96,7 @@ impl TagText {
         }
     }
 
-    /// Whether this is the tag's `>`, with at most one attribute and none underway, as in most tags. Then the tag is whole.
+    /// Whether this is the tag's `>`, with at most two attributes and none underway, as in most tags. Then the tag is whole.
     #[inline(always)]
     pub(crate) fn closes(&mut self, c: char) -> bool
         ensures ends { result ≡ true → Ends self.old c self.new.state }
@@ -106,7 +106,7 @@ impl TagText {
         if c != '>' {
             return false;
         }
-        if self.pairs.count() > 1 {
+        if !self.pairs.are_apart() {
             return false;
         }
         let Some(last) = closed(self.phase) else {
@@ -410,10 +410,7 @@ fn end_pairs(
     if action == TagAction::Add {
         return pairs.add_last(syntax, alloc);
     }
-    match pairs.keep_firsts(alloc) {
-        Ok(repeated) => Ok(repeated),
-        Err(NoMemory) => Err(TagError::NoMemory),
-    }
+    Ok(pairs.keep_firsts(alloc)?)
 }
 
 fn push_name(name: &mut TagName, c: char) -> Result<(), TagError>
@@ -421,8 +418,6 @@ fn push_name(name: &mut TagName, c: char) -> Result<(), TagError>
     ensures err { OnErr result (name.new ≡ name.old) }
     ensures memory { IfErr result (λ error. error ≡ TagError.NoMemory) }
 {
-    if name.push(c).is_err() {
-        return Err(TagError::NoMemory);
-    }
+    name.push(c)?;
     Ok(())
 }

@@ -1,10 +1,9 @@
 //! A tag as borrowed slices.
-ghost use Rattle.std.specs.Prelude.{◌≡◌, ◌<◌, length, slice_get, MatchOption, None, Some};
+ghost use Rattle.std.specs.Prelude.{◌≡◌, ◌<◌, length, slice_get, None, Some};
 ghost use Rattle.rx_grammar.specs.Names.{same};
-ghost use Rattle.rx_grammar.specs.Tokens.{value_of};
 ghost use Rattle.std.specs.Str.{chars};
 ghost use Rattle.rx_reader.specs.TagReader.{parts_of};
-ghost use Rattle.rx_tags.specs.Seen.{tag_seen};
+ghost use Rattle.rx_tags.specs.Seen.{IsValueOf, tag_seen};
 
 use crate::tag_text::TagText;
 use rx_reader::TagPhase;
@@ -73,7 +72,7 @@ impl<'a> Tag<'a> {
 
     /// The value of the first attribute of that name, or `None` exactly where the tag has none.
     pub fn attr(&self, name: &str) -> Option<&'a str>
-        ensures { MatchOption result (value_of (tag_seen self.now).attributes (chars name.now) ≡ None) (λ value. value_of (tag_seen self.now).attributes (chars name.now) ≡ Some (chars value.now)) }
+        ensures { IsValueOf (tag_seen self.now).attributes (chars name.now) result }
     {
         for i in 0..self.count() {
             let (key, value) = self.attr_at(i);

@@ -1,3 +1,4 @@
+pub mod Bools
 pub mod CharLemmas
 pub mod SplitLemmas
 pub mod LangLemmas

@@ -1,9 +1,16 @@
 -- Texts as lists of characters, and what the attributes of HTML do with them.
 use Rattle.std.specs.Prelude.{ℕ, Bool, true, false, ◌==◌, ◌&&◌, List, [], ◌∷◌, map, reverse, Option, Some, None, if◌then◌else◌}
+use Rattle.std.specs.Option.{option_map}
+use Rattle.std.specs.Str.{chars}
 use Rattle.rx_terms.specs.Ascii.{is_white_space, lowered_char}
+use denote.Ref.{Bor}
 
 abbrev pub Chars : Type 0
 Chars = List ℕ
+
+-- the characters of a slice, where there is one
+abbrev pub seen_slice : Option (Bor (List ℕ)) → Option Chars
+seen_slice slice = option_map (λ s. chars s.now) slice
 
 abbrev pub without_leading_space : Chars → Chars
 without_leading_space [] = []

@@ -11,7 +11,8 @@ use Rattle.rx_model.specs.Copied.{rdf_type, spo}
 use Rattle.rx_model.specs.Seen.{triple_seen, triples_seen}
 use Rattle.rx_model.proofs.Sets.{Among_cases, Among_map, Among_of_map, Among_of_filter_map, Among-contains, Among_by_contains}
 use Rattle.rx_model.proofs.Exact.{exact_texts}
-use Rattle.rx_graph.proofs.SetLemmas.{same_truth, one_more, seen_more}
+use Rattle.rx_terms.proofs.Bools.{same_truth}
+use Rattle.rx_graph.proofs.SetLemmas.{one_more, seen_more}
 use Rattle.rx_pieces.specs.Writable.{WritableText, WritableTriple}
 use Rattle.rx_pieces.specs.Writing.{string_text}
 use Rattle.rx_pieces.proofs.Scalars.{joined, literally}

@@ -1,7 +1,7 @@
 //! The text of a graph.
 ghost use Rattle.std.specs.Prelude.{◌≡◌, ◌≤◌, IfOk, IsErrOf, OnOk};
 ghost use Rattle.rx_ports.specs.Counts.{Rose};
-ghost use Rattle.rx_ports.specs.Told.{Moves, GrowsBy, GrowsByPart};
+ghost use Rattle.rx_ports.specs.Shelves.{Moves, GrowsBy, GrowsByPart};
 ghost use Rattle.rx_turtle.specs.Graphs.{DenoteTurtle, turtle_bytes};
 
 use crate::lines::push_plan;

@@ -1,6 +1,5 @@
 -- Where numbers stand in a list that grows and shrinks at its end.
-use Rattle.std.proofs.Common.{◌≡◌, ◌∙◌, ℕ, zero, suc, ◌<◌, ap, sym, refl, arith, Bool, true, false, ◌==◌, Option, Some, None, List, [], ◌∷◌, ◌++◌, take, length, get_or, slice_get, if◌then◌else◌, append_assoc, append-nil}
-use Rattle.std.proofs.Common.{map, cond, nat_cmp, Result, OnOk, OnErr, Ok, Err}
+use Rattle.std.proofs.Common.{◌≡◌, ◌∙◌, ℕ, zero, suc, ◌<◌, ap, sym, refl, arith, Bool, true, false, ◌==◌, Option, Some, None, List, [], ◌∷◌, ◌++◌, take, length, get_or, slice_get, if◌then◌else◌, append_assoc, append-nil, map, cond, nat_cmp, Result, OnOk, OnErr, Ok, Err}
 use Rattle.std.specs.Option.{option_map, option_or}
 use Rattle.std.specs.Ordering.{is_eq}
 use Rattle.std.specs.Cmp.{unsigned_tied}

@@ -20,7 +20,7 @@ use Rattle.rx_walk.proofs.Signed.{refused_append, said_refused}
 use Rattle.rx_base.proofs.Lines.{line_append, said_line}
 use Rattle.rx_walk.proofs.Coursing.{or_none}
 
-pub accepts_none : (context : Context) (kept : Kept) → kept ≡ no_tags context → names.Stands kept [] → Accepts context kept []
+pub accepts_none : (context : Context) (kept : Kept) → kept ≡ no_tags context → names.NamesStand kept [] → Accepts context kept []
 accepts_none context kept e s = record { names_are = s; context_is = ap (λ (k : Kept). k.context) e; absolute = tt; accepted = refl }
 
 module _ (context : Context) (old : Kept) (signs : List Sign) (r : Accepts context old signs) where
@@ -30,12 +30,12 @@ module _ (context : Context) (old : Kept) (signs : List Sign) (r : Accepts conte
       ∙ or_none (refused_at context (line_of [] signs) sign))
 
   -- one more sign
-  pub accepts_more : (new : Kept) (sign : Sign) → names.Stands new (line_on (line_of [] signs) sign) → new.context ≡ old.context → AllAbsolute (line_on (line_of [] signs) sign)
+  pub accepts_more : (new : Kept) (sign : Sign) → names.NamesStand new (line_on (line_of [] signs) sign) → new.context ≡ old.context → AllAbsolute (line_on (line_of [] signs) sign)
       → refused_at context (line_of [] signs) sign ≡ None → Accepts context new (signs ++ sign ∷ [])
   accepts_more new sign n c a e =
       let line : line_of [] (signs ++ sign ∷ []) ≡ line_on (line_of [] signs) sign = line_append [] signs (sign ∷ []) in
       record {
-        names_are = subst (λ l. names.Stands new l) (sym line) n;
+        names_are = subst (λ l. names.NamesStand new l) (sym line) n;
         context_is = c ∙ r.context_is;
         absolute = subst AllAbsolute (sym line) a;
         accepted = refused_one sign ∙ e;
@@ -46,7 +46,7 @@ module _ (context : Context) (old : Kept) (signs : List Sign) (r : Accepts conte
   accepts_said chars =
       let line : line_of [] (signs ++ map said chars) ≡ line_of [] signs = line_append [] signs (map said chars) ∙ said_line (line_of [] signs) chars in
       record {
-        names_are = subst (λ l. names.Stands old l) (sym line) r.names_are;
+        names_are = subst (λ l. names.NamesStand old l) (sym line) r.names_are;
         context_is = r.context_is;
         absolute = subst AllAbsolute (sym line) r.absolute;
         accepted =

@@ -21,7 +21,7 @@ use Rattle.rx_eval.specs.Ending.{Ending, ending, end_owner, TextAt, Closes}
 use Rattle.rx_eval.specs.Opened.{handed_on, Opens, begun_state, read_text}
 use Rattle.rx_eval.specs.Opening.{drawn_after}
 use Rattle.rx_eval.specs.Numbering.{Numbering}
-use Rattle.rx_eval.specs.Standing.{Layer, frames_in, KeptAt, LayersStand, Phase, Stands, no_numbers}
+use Rattle.rx_eval.specs.Standing.{Layer, frames_in, KeptAt, LayersStand, Phase, EvaluatorStands, no_numbers}
 use Rattle.rx_eval.specs.States.{Text, Frame, State}
 use Rattle.rx_eval.proofs.FillLemmas.{snoc_front, snoc_last}
 use Rattle.rx_eval.proofs.StandLemmas.{begun_stands}
@@ -206,7 +206,7 @@ module _ (to : Numbering) (list : List Call) (a new : State) (c : Closes a new) 
   by_phase true p = absurd (not_empty new.frames c.frame (sym c.popped ∙ p.frames))
   by_phase false p = by_layers p.layers p.by.frames p.by.each
 
-  cut_of : Stands to list a → Cut c.frame.text a.kept
+  cut_of : EvaluatorStands to list a → Cut c.frame.text a.kept
   cut_of s = by_phase a.ended s.phase
 
 -- states that are seen alike stay so
@@ -232,12 +232,12 @@ module _ (a b : State) (e : seen a ≡ seen b) where
         (subst₂ (λ (f : SeenFrame) (k : Chars). CutSeen f.text k cut.front cut.chars) frame (ap (λ (u : SeenState). u.kept) e) (cut_seen c.frame.text a.kept cut.front cut.chars cut.is)) in
         closes_is a x c cut.front cut.chars cut.is ∙ ((λ i. closed_by (e i) (fronts i) (frame i) cut.chars) ∙ sym (closes_is b y d cut.front cut.chars there))
 
-  one_alike : (call : Call) (to : Numbering) (list : List Call) (x y : State) → Stands to list a → Steps call a x → Steps call b y → seen x ≡ seen y
+  one_alike : (call : Call) (to : Numbering) (list : List Call) (x y : State) → EvaluatorStands to list a → Steps call a x → Steps call b y → seen x ≡ seen y
   one_alike (Enter facts) to list x y s o p = opens_alike facts x y o.1 p.1
   one_alike (Read chars) to list x y s o p = reads_alike chars x y o p
   one_alike Leave to list x y s o p = closes_alike x y o p (cut_of to list a x o s)
 
-all_alike : (list before : List Call) (to : Numbering) (a b x y : State) → seen a ≡ seen b → Stands to before a → Leads list a x → Leads list b y → seen x ≡ seen y
+all_alike : (list before : List Call) (to : Numbering) (a b x y : State) → seen a ≡ seen b → EvaluatorStands to before a → Leads list a x → Leads list b y → seen x ≡ seen y
 all_alike [] before to a b x y e s l m = ap seen l ∙ (e ∙ sym (ap seen m))
 all_alike (call ∷ list) before to a b x y e s l m =
     let on = one_on call to before a l.0 l.1 s in

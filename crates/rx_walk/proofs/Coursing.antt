@@ -6,7 +6,7 @@ use Rattle.rx_terms.specs.Text.{Chars}
 use Rattle.rx_grammar.specs.declared.faults.Fault.{Fault}
 use Rattle.rx_grammar.specs.Trees.{StartTag}
 use Rattle.rx_rdfa.specs.Names.{Context, vocab}
-use Rattle.rx_rdfa.specs.Refusals.{is_relative}
+use Rattle.rx_rdfa.specs.Refusals.{is_relative, Refusal}
 use Rattle.rx_rdfa.specs.Tree.{Tag}
 use Rattle.rx_names.specs.Lines as names
 use Rattle.rx_names.specs.Lines.{Kept, kept_of, vocabulary_of}
@@ -14,7 +14,6 @@ use Rattle.rx_names.proofs.LineLemmas.{vocabulary-line}
 use Rattle.rx_curie.specs.Given.{vocabulary_from, RefusesFor}
 use Rattle.rx_curie.specs.declared.facts.FactsError.TheVariants as error
 use Rattle.rx_grammar.specs.declared.faults.Kind.{Kind}
-use Rattle.rx_rdfa.specs.Refusals.{Refusal}
 use Rattle.rx_nest.specs.Signs.{Sign, begun, said}
 use Rattle.rx_nest.specs.Fronts.{IsFront}
 use Rattle.rx_walk.specs.declared.courses.Course.{Course}
@@ -27,8 +26,8 @@ use Rattle.rx_walk.specs.Stages.{Staged, MayTake, MayBe, Tells}
 use Rattle.rx_rdfa.specs.Facts.{facts}
 use Rattle.rx_curie.specs.declared.facts.Facts.{Facts as CodeFacts}
 use Rattle.rx_curie.specs.Seen.{facts_seen}
-use Rattle.rx_tags.specs.declared.stops.Stop.{Stop}
-use Rattle.rx_tags.specs.declared.stops.Stop.TheVariants as stop
+use Rattle.rx_grammar.specs.declared.stops.Stop.{Stop}
+use Rattle.rx_grammar.specs.declared.stops.Stop.TheVariants as stop
 use Rattle.rx_walk.specs.Courses.{AllAbsolute, Runs, FactsGive, Hears}
 use Rattle.rx_walk.proofs.Signed.{calls_append, refused_append, said_calls, said_refused}
 use Rattle.rx_base.proofs.Lines.{line_append, seeks_append, said_line, said_seeks}
@@ -47,7 +46,7 @@ from_absolute tag line a = by (is_some _) line a
     by false [] a = refl
     by false (t ∷ line) a = a.0
 
-pub absolute_more : (kept : Kept) (line : List Tag) (tag : Tag) → AllAbsolute line → names.Stands kept (tag ∷ line) → is_relative (vocabulary_of kept) ≡ false → AllAbsolute (tag ∷ line)
+pub absolute_more : (kept : Kept) (line : List Tag) (tag : Tag) → AllAbsolute line → names.NamesStand kept (tag ∷ line) → is_relative (vocabulary_of kept) ≡ false → AllAbsolute (tag ∷ line)
 absolute_more kept line tag a s r = (ap is_relative (sym (vocabulary-line kept (tag ∷ line) s)) ∙ r, a)
 
 pub absolute_around : (line : List Tag) → AllAbsolute line → AllAbsolute (around line)
@@ -70,7 +69,7 @@ takes_one course context address levels signs sign r f =
 
 module _ (context : Context) (address : Chars) (levels : ℕ) (old new : Course) (signs : List Sign) (r : Runs context address levels old signs) where
   -- one more sign
-  pub runs_more : (sign : Sign) → IsFront levels (signs ++ sign ∷ []) → names.Stands new.names (line_on (line_of [] signs) sign) → new.names.context ≡ old.names.context → new.origin ≡ old.origin
+  pub runs_more : (sign : Sign) → IsFront levels (signs ++ sign ∷ []) → names.NamesStand new.names (line_on (line_of [] signs) sign) → new.names.context ≡ old.names.context → new.origin ≡ old.origin
       → new.count ≡ length (line_on (line_of [] signs) sign) → AllAbsolute (line_on (line_of [] signs) sign) → refused_at context (line_of [] signs) sign ≡ None
       → Tells old.origin (λ s. seek old.count s sign) (call_of context (line_of [] signs) sign ∷ []) old.stage new.stage → Runs context address levels new (signs ++ sign ∷ [])
   runs_more sign f n c o k a e t =
@@ -82,7 +81,7 @@ module _ (context : Context) (address : Chars) (levels : ℕ) (old new : Course)
       let turned : seek old.count (sought signs) sign ≡ sought (signs ++ sign ∷ []) = ap (λ x. seek x (sought signs) sign) r.count_is ∙ sym (seeks_append [] (sought []) signs (sign ∷ [])) in
       let told : calls_of context [] signs ++ call_of context (line_of [] signs) sign ∷ [] ≡ calls_of context [] (signs ++ sign ∷ []) = sym (calls_append context [] signs (sign ∷ [])) in
       record {
-        names_are = subst (λ l. names.Stands new.names l) (sym line) n;
+        names_are = subst (λ l. names.NamesStand new.names l) (sym line) n;
         context_is = c ∙ r.context_is;
         address_is = ap (λ (x : Origin). x.address) o ∙ r.address_is;
         levels_are = ap (λ (x : Origin). x.levels) o ∙ r.levels_are;
@@ -110,7 +109,7 @@ module _ (context : Context) (address : Chars) (levels : ℕ) (old new : Course)
       let told : calls_of context [] signs ++ singles chars ≡ calls_of context [] (signs ++ map said chars) =
       sym (calls_append context [] signs (map said chars) ∙ ap (λ l. calls_of context [] signs ++ l) (said_calls context (line_of [] signs) chars)) in
       record {
-        names_are = subst (λ l. names.Stands new.names l) (sym line) (subst (λ x. names.Stands x (line_of [] signs)) (sym n) r.names_are);
+        names_are = subst (λ l. names.NamesStand new.names l) (sym line) (subst (λ x. names.NamesStand x (line_of [] signs)) (sym n) r.names_are);
         context_is = ap (λ (x : Kept). x.context) n ∙ r.context_is;
         address_is = ap (λ (x : Origin). x.address) o ∙ r.address_is;
         levels_are = ap (λ (x : Origin). x.levels) o ∙ r.levels_are;
@@ -150,7 +149,7 @@ module _ (context : Context) (address : Chars) (levels : ℕ) (old new : Course)
       let size : length (line_of [] (signs ++ begun t ∷ [])) ≡ suc (length (line_of [] signs)) = ap length (line_append [] signs (begun t ∷ [])) in
       omega (arith, size, front_counts levels (signs ++ begun t ∷ []) f, r.count_is, r.levels_are)
 
-pub popped_around : (old new : Kept) → ((tag : Tag) (line : List Tag) → names.Stands old (tag ∷ line) → names.Stands new line) → (line : List Tag) → 0 < length line → names.Stands old line → names.Stands new (around line)
+pub popped_around : (old new : Kept) → ((tag : Tag) (line : List Tag) → names.NamesStand old (tag ∷ line) → names.NamesStand new line) → (line : List Tag) → 0 < length line → names.NamesStand old line → names.NamesStand new (around line)
 popped_around old new p [] l s = absurd (omega arith)
 popped_around old new p (tag ∷ line) l s = p tag line s
 
@@ -162,7 +161,7 @@ marks_are : (context : Context) (line : List Tag) → length (kept_of context li
 marks_are context [] = refl
 marks_are context (tag ∷ line) = omega (arith, marks_are context line, length-append (kept_of context line).marks (length (kept_of context line).rows ∷ []))
 
-pub marks_of : (kept : Kept) (line : List Tag) → names.Stands kept line → length kept.marks ≡ length line
+pub marks_of : (kept : Kept) (line : List Tag) → names.NamesStand kept line → length kept.marks ≡ length line
 marks_of kept line s = ap (λ (k : Kept). length k.marks) s.is ∙ marks_are kept.context line
 
 -- why a tag is refused

@@ -26,7 +26,7 @@ use Rattle.rx_walk.specs.Numberings.{NumbersBy, NumbersGrow, ListIsNumbered}
 use Rattle.rx_base.specs.Seekings.{first_child, known, seeks, sought}
 use Rattle.rx_walk.specs.Settings.{Setting}
 use Rattle.rx_walk.specs.Stages.{Known}
-use Rattle.rx_walk.specs.Walks.{Walked, Stands, state_of}
+use Rattle.rx_walk.specs.Walks.{Walked, WalkStands, state_of}
 use Rattle.rx_walk.proofs.AlikeStates.{led_alike}
 use Rattle.rx_reading.proofs.FaultPlacing.{page_shows}
 use Rattle.rx_walk.proofs.Alike.{pieces_alike}
@@ -50,7 +50,7 @@ parted (x ∷ xs) ys old new h = let p = parted xs ys h.0 new h.2 in record { mi
 
 -- of calls that go on, a state that stands for the first ones, and the one that all lead to
 led_on : (base : Chars) (levels : ℕ) (xs ys : List Call) (old new : State) (to : Numbering) → Leads xs (begun_state base levels) old → Leads (xs ++ ys) (begun_state base levels) new
-    → eval.Stands to xs old → eval.StandsOn to (xs ++ ys) new
+    → eval.EvaluatorStands to xs old → eval.StandsOn to (xs ++ ys) new
 led_on base levels xs ys old new to first all stands =
     let p = parted xs ys (begun_state base levels) new all in
     all_on ys xs to p.middle new p.rest (stands_alike to xs old p.middle (led_alike base levels xs old p.middle first p.first) stands)
@@ -60,14 +60,14 @@ module _ (setting : Setting) (address : Chars) where
   abbrev IsMore : List Sign → List Sign → Type 0
   IsMore some all = (more : List Sign) × (all ≡ some ++ more)
 
-  shown_all : (walk : Walked) (bytes : List ℕ) (s : Stands setting address walk bytes) → (sees nothing_seen s.goes.shown.told).signs ≡ s.goes.signs
+  shown_all : (walk : Walked) (bytes : List ℕ) (s : WalkStands setting address walk bytes) → (sees nothing_seen s.goes.shown.told).signs ≡ s.goes.signs
   shown_all walk bytes s = ap (λ (x : Sight). x.signs) s.goes.shown.sight ∙ (ap (λ x. s.goes.signs ++ x) s.paid ∙ append-nil s.goes.signs)
 
-  abbrev progress : (walk : Walked) (bytes : List ℕ) → Stands setting address walk bytes → Progress
+  abbrev progress : (walk : Walked) (bytes : List ℕ) → WalkStands setting address walk bytes → Progress
   progress walk bytes s = record { now = s.goes.shown.at.now; told = s.goes.shown.told }
 
   -- what the evaluator was led by is led on
-  module _ (walk : Walked) (bytes : List ℕ) (s : Stands setting address walk bytes) (old : State) (is : state_of walk.listener.stage ≡ Some old) (to : Numbering)
+  module _ (walk : Walked) (bytes : List ℕ) (s : WalkStands setting address walk bytes) (old : State) (is : state_of walk.listener.stage ≡ Some old) (to : Numbering)
       (by : NumbersBy to setting.context s.goes.signs old) (all : List Sign) (m : IsMore s.goes.signs all) where
     abbrev first_calls : List Call
     first_calls = calls_of setting.context [] s.goes.signs
@@ -92,13 +92,13 @@ module _ (setting : Setting) (address : Chars) where
         (subst₂ (λ cs h. Leads cs (begun_state (base_by h address) setting.limits.depth) new) parts one l) by.stands)
 
   -- what a walk shows for more bytes
-  walk_more : (before after : Walked) (bytes piece : List ℕ) (s : Stands setting address before bytes) (t : Stands setting address after (bytes ++ piece)) → IsMore s.goes.signs t.goes.signs
+  walk_more : (before after : Walked) (bytes piece : List ℕ) (s : WalkStands setting address before bytes) (t : WalkStands setting address after (bytes ++ piece)) → IsMore s.goes.signs t.goes.signs
   walk_more before after bytes piece s t =
       let m = shows_more setting.syntax setting.limits bytes piece (progress before bytes s) (progress after (bytes ++ piece) t) s.goes.shown.at.read t.goes.shown.at.read in
       (m.signs, sym (shown_all after (bytes ++ piece) t) ∙ (m.are ∙ ap (λ x. x ++ m.signs) (shown_all before bytes s)))
 
   -- what the tree of a page shows
-  tree_more : (walk : Walked) (bytes piece : List ℕ) (s : Stands setting address walk bytes) (tree : Tree) → Page setting.syntax setting.limits (bytes ++ piece) tree → IsMore s.goes.signs (signs_of tree)
+  tree_more : (walk : Walked) (bytes piece : List ℕ) (s : WalkStands setting address walk bytes) (tree : Tree) → Page setting.syntax setting.limits (bytes ++ piece) tree → IsMore s.goes.signs (signs_of tree)
   tree_more walk bytes piece s tree page =
       let p = page_shows setting.syntax setting.limits (bytes ++ piece) tree page in
       let m = shows_more setting.syntax setting.limits bytes piece (progress walk bytes s) p.final s.goes.shown.at.read p.read in
@@ -131,8 +131,8 @@ list_is_numbered setting address walk bytes piece s old is to by list e =
     let state = e.lists.state in
     let x = on setting address walk bytes s old is to by (signs_of tree) (tree_more setting address walk bytes piece s tree e.page) (root_href (tags_of tree)) state
     (tree_base setting.syntax setting.limits (bytes ++ piece) tree e.page) e.lists.led.leads in
-    let stands = subst (λ cs. eval.Stands x.now cs state) (calls_tree setting.context [] tree) x.stands in
-    let whole : eval.Stands x.now (calls nodes) state = record { page = stands.page; phase = subst (λ m. eval.Phase state.ended x.now m state) (pieces_alike state.base (calls nodes) begun) stands.phase } in
+    let stands = subst (λ cs. eval.EvaluatorStands x.now cs state) (calls_tree setting.context [] tree) x.stands in
+    let whole : eval.EvaluatorStands x.now (calls nodes) state = record { page = stands.page; phase = subst (λ m. eval.Phase state.ended x.now m state) (pieces_alike state.base (calls nodes) begun) stands.phase } in
     record {
       to = x.now;
       grown = x.grown;

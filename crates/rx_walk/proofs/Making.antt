@@ -10,7 +10,7 @@ use Rattle.rx_rdfa.specs.Names.{Context}
 use Rattle.rx_rdfa.specs.Tree.{Nodes}
 use Rattle.rx_eval.specs.Numbering.{Numbering}
 use Rattle.rx_eval.specs.Opened.{begun_state}
-use Rattle.rx_eval.specs.Standing.{Stands, StandsOn, Makes, no_numbers}
+use Rattle.rx_eval.specs.Standing.{EvaluatorStands, StandsOn, Makes, no_numbers}
 use Rattle.rx_eval.specs.States.{State}
 use Rattle.rx_eval.proofs.EndLemmas.{left_stands}
 use Rattle.rx_eval.proofs.NameLemmas.{grown_same, grown_then}
@@ -24,17 +24,17 @@ use Rattle.rx_walk.proofs.Signed.{calls_tree}
 
 -- the state stands for the calls under a numbering that has grown
 
-pub one_on : (call : Call) (to : Numbering) (list : List Call) (old new : State) → Steps call old new → Stands to list old → StandsOn to (list ++ call ∷ []) new
+pub one_on : (call : Call) (to : Numbering) (list : List Call) (old new : State) → Steps call old new → EvaluatorStands to list old → StandsOn to (list ++ call ∷ []) new
 one_on (Enter facts) to list old new s st = enter_stands to list old facts new s.1 s.0.root s.0.drawn st
-one_on (Read chars) to list old new s st = record { now = to; grown = grown_same to; stands = subst (λ z. Stands to (list ++ Read chars ∷ []) z) (sym s) (text_stands to list old chars st) }
+one_on (Read chars) to list old new s st = record { now = to; grown = grown_same to; stands = subst (λ z. EvaluatorStands to (list ++ Read chars ∷ []) z) (sym s) (text_stands to list old chars st) }
 one_on Leave to list old new s st = left_stands to list old new s st
 
-pub all_on : (list before : List Call) (to : Numbering) (old new : State) → Leads list old new → Stands to before old → StandsOn to (before ++ list) new
-all_on [] before to old new h st = record { now = to; grown = grown_same to; stands = subst (λ l. Stands to l new) (sym (append-nil before)) (subst (λ z. Stands to before z) (sym h) st) }
+pub all_on : (list before : List Call) (to : Numbering) (old new : State) → Leads list old new → EvaluatorStands to before old → StandsOn to (before ++ list) new
+all_on [] before to old new h st = record { now = to; grown = grown_same to; stands = subst (λ l. EvaluatorStands to l new) (sym (append-nil before)) (subst (λ z. EvaluatorStands to before z) (sym h) st) }
 all_on (call ∷ list) before to old new h st =
     let one = one_on call to before old h.0 h.1 st in
     let all = all_on list (before ++ call ∷ []) one.now h.0 new h.2 one.stands in
-    record { now = all.now; grown = grown_then to one.now all.now one.grown all.grown; stands = subst (λ l. Stands all.now l new) (append_assoc before (call ∷ []) list) all.stands }
+    record { now = all.now; grown = grown_then to one.now all.now one.grown all.grown; stands = subst (λ l. EvaluatorStands all.now l new) (append_assoc before (call ∷ []) list) all.stands }
 
 -- the base stays
 one_base : (call : Call) (old new : State) → Steps call old new → new.base ≡ old.base

@@ -18,7 +18,7 @@ use Rattle.rx_lists.specs.declared.lists.SlotId.{SlotId}
 use Rattle.rx_eval.specs.Ending.{said_triples}
 use Rattle.rx_eval.specs.Numbering.{Numbering, Number, named}
 use Rattle.rx_eval.specs.Slots.{Open, owner_place, FillUp, WithinOption}
-use Rattle.rx_eval.specs.Standing.{Layer, frames_in, path_in, paths_in, begun_by, open_in, places_of, waiter_of, gathers_text, said_of, KeptAt, LayerStands, LayersStand, Coming, Pending, AllWaitFor, Phase, Stands}
+use Rattle.rx_eval.specs.Standing.{Layer, frames_in, path_in, paths_in, begun_by, open_in, places_of, waiter_of, gathers_text, said_of, KeptAt, LayerStands, LayersStand, Coming, Pending, AllWaitFor, Phase, EvaluatorStands}
 use Rattle.rx_eval.specs.States.{Text, Frame, State}
 use Rattle.rx_walk.proofs.SeenStates.{SeenText, SeenFrame, SeenState, text_of, frame_of, seen, some_is, some_seen, some_back, unsnoc}
 
@@ -179,9 +179,9 @@ module _ (to : Numbering) (list : List Call) (a b : State) (frames : List Frame)
         };
       }
 
-pub stands_alike : (to : Numbering) (list : List Call) (a b : State) → seen a ≡ seen b → Stands to list a → Stands to list b
+pub stands_alike : (to : Numbering) (list : List Call) (a b : State) → seen a ≡ seen b → EvaluatorStands to list a → EvaluatorStands to list b
 stands_alike to list a b e s =
-    subst (Stands to list) same (record { page = s.page; phase = phase_as to list a b b.frames (ap (λ (u : SeenState). u.frames) e) a.ended s.phase })
+    subst (EvaluatorStands to list) same (record { page = s.page; phase = phase_as to list a b b.frames (ap (λ (u : SeenState). u.frames) e) a.ended s.phase })
   where
     same : reframed a b.frames b ≡ b
     same = λ i. record {

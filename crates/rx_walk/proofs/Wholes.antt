@@ -27,7 +27,7 @@ use Rattle.rx_base.specs.Sought.{sought_seen}
 use Rattle.rx_walk.specs.Courses.{Runs, runs_at, way_at}
 use Rattle.rx_walk.specs.Settings.{Setting, way_of}
 use Rattle.rx_walk.proofs.Making.{list_made}
-use Rattle.rx_walk.specs.Walks.{Walked, Stands, open_line, state_of, FramesFit, Lists, IsWhole, Ended}
+use Rattle.rx_walk.specs.Walks.{Walked, WalkStands, open_line, state_of, FramesFit, Lists, IsWhole, Ended}
 use Rattle.rx_base.proofs.Lines.{tree_line}
 use Rattle.rx_base.proofs.Found.{base_found}
 use Rattle.rx_walk.proofs.Idling.{all_unspent}
@@ -45,7 +45,7 @@ runs_fit context address levels course signs r state e =
     let at = led_at (base_by k.href address) levels (calls_of context [] signs) state r.may.front k.led r.may.leads in
     at.frames ∙ may_counts context levels signs r.may
 
-pub depth_line : (setting : Setting) (address : Chars) (walk : Walked) (bytes : List ℕ) (s : Stands setting address walk bytes) → (walk.listener.count ≡ length (open_line s)) × FramesFit walk (open_line s)
+pub depth_line : (setting : Setting) (address : Chars) (walk : Walked) (bytes : List ℕ) (s : WalkStands setting address walk bytes) → (walk.listener.count ≡ length (open_line s)) × FramesFit walk (open_line s)
 depth_line setting address walk bytes s = (s.goes.known.count_is, λ state e. runs_fit setting.context address setting.limits.depth walk.listener s.goes.signs s.goes.known state e)
 
 -- a whole page

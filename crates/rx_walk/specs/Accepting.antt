@@ -12,7 +12,7 @@ use Rattle.rx_walk.specs.Courses.{AllAbsolute}
 
 -- Nothing is refused in these signs, and the names in force are those of the elements that they leave open.
 pub record Accepts (context : Context) (kept : Kept) (signs : List Sign) : Type 0 where
-  pub names_are : names.Stands kept (line_of [] signs)
+  pub names_are : names.NamesStand kept (line_of [] signs)
   pub context_is : kept.context ≡ context
   pub absolute : AllAbsolute (line_of [] signs)
   pub accepted : refused_in context [] signs ≡ None

@@ -2,7 +2,7 @@
 use Rattle.std.specs.Prelude.{◌≡◌, ℕ, List, [], None, Result, Ok, Err}
 use Rattle.rx_grammar.specs.Pages.{Page}
 use Rattle.rx_grammar.specs.Trees.{Tree}
-use Rattle.rx_tags.specs.declared.stops.Stop.{Stop}
+use Rattle.rx_grammar.specs.declared.stops.Stop.{Stop}
 use Rattle.rx_nest.specs.Signs.{signs_of}
 use Rattle.rx_reading.specs.Readings as readings
 use Rattle.rx_reading.specs.Readings.{Read, Unfinished}
@@ -16,8 +16,8 @@ abbrev pub Checked : Type 0
 Checked = Read Scope
 
 -- The check stands for these bytes of a page: none of its start tags is refused, and nothing is due.
-abbrev pub Stands : Setting → Checked → List ℕ → Type 0
-Stands setting check bytes = readings.Stands (way_of setting) (accepts_at setting) check bytes
+abbrev pub CheckStands : Setting → Checked → List ℕ → Type 0
+CheckStands setting check bytes = readings.ReadingStands (way_of setting) (accepts_at setting) check bytes
 
 abbrev pub FeedGives : Setting → List ℕ → List ℕ → Result (Unit {0}) Stop → Checked → Type 0
 FeedGives setting bytes piece result new = readings.FeedGives (way_of setting) (accepts_at setting) bytes piece result new

@@ -9,8 +9,8 @@ use Rattle.rx_rdfa.specs.Tree.{Tag}
 use Rattle.rx_names.specs.Lines as names
 use Rattle.rx_curie.specs.declared.facts.Facts.{Facts as CodeFacts}
 use Rattle.rx_curie.specs.Seen.{facts_seen}
-use Rattle.rx_tags.specs.declared.stops.Stop.{Stop}
-use Rattle.rx_tags.specs.declared.stops.Stop.TheVariants as stop
+use Rattle.rx_grammar.specs.declared.stops.Stop.{Stop}
+use Rattle.rx_grammar.specs.declared.stops.Stop.TheVariants as stop
 use Rattle.rx_nest.specs.Signs.{Sign, begun}
 use Rattle.rx_nest.specs.Fronts.{IsFront}
 use Rattle.rx_reading.specs.Ways.{Way}
@@ -31,7 +31,7 @@ AllAbsolute (tag ∷ line) = (is_relative (vocab (tag ∷ line)) ≡ false) × A
 -- The course stands for these signs, in which nothing is refused: the names in force are those of the open elements, which
 -- are counted; and the calls for the signs were told, or are kept while the base is sought.
 pub record Runs (context : Context) (address : Chars) (levels : ℕ) (course : Course) (signs : List Sign) : Type 0 where
-  pub names_are : names.Stands course.names (line_of [] signs)
+  pub names_are : names.NamesStand course.names (line_of [] signs)
   pub context_is : course.names.context ≡ context
   pub address_is : course.origin.address ≡ address
   pub levels_are : course.origin.levels ≡ levels

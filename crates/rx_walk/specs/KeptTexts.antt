@@ -4,7 +4,7 @@ use Rattle.rx_terms.specs.Text.{Chars}
 use Rattle.rx_nest.specs.Signs.{Sign, begun, said, finished}
 use Rattle.rx_eval.specs.States.{State, Frame}
 use Rattle.rx_walk.specs.Settings.{Setting}
-use Rattle.rx_walk.specs.Walks.{Walked, Stands, state_of}
+use Rattle.rx_walk.specs.Walks.{Walked, WalkStands, state_of}
 
 -- the text so far of each open element, the outermost first
 abbrev pub texts_on : List Chars → Sign → List Chars
@@ -25,5 +25,5 @@ gathered_text (frame ∷ frames) (text ∷ texts) = if is_some frame.text then t
 -- law: once the base is known, the text that is kept is the text so far of the outermost open element that gathers it;
 -- where none gathers, no text is kept
 abbrev pub KeepsOneText : Type 0
-KeepsOneText = (setting : Setting) (address : Chars) (walk : Walked) (bytes : List ℕ) (s : Stands setting address walk bytes) (state : State)
+KeepsOneText = (setting : Setting) (address : Chars) (walk : Walked) (bytes : List ℕ) (s : WalkStands setting address walk bytes) (state : State)
     → state_of walk.listener.stage ≡ Some state → state.kept ≡ gathered_text state.frames (texts_of [] s.goes.signs)

@@ -20,7 +20,7 @@ use Rattle.rx_eval.specs.Waits.{Shows}
 use Rattle.rx_base.specs.Lines.{line_of, tags_of}
 use Rattle.rx_walk.specs.CallsOf.{calls_of}
 use Rattle.rx_walk.specs.Settings.{Setting}
-use Rattle.rx_walk.specs.Walks.{Walked, Stands, Ended, state_of}
+use Rattle.rx_walk.specs.Walks.{Walked, WalkStands, Ended, state_of}
 
 -- the facts of the elements of a line, the innermost first
 abbrev pub facts_along : Context → List Tag → List Facts
@@ -31,7 +31,7 @@ facts_along context (tag ∷ line) = facts context line tag ∷ facts_along cont
 -- own; its line of facts is that of the open elements; and what is shown of its frames is what a child of the innermost
 -- one inherits by the rules.
 pub record NumbersBy (to : Numbering) (context : Context) (signs : List Sign) (state : State) : Type 0 where
-  pub stands : eval.Stands to (calls_of context [] signs) state
+  pub stands : eval.EvaluatorStands to (calls_of context [] signs) state
   pub line : (line_after (calls_of context [] signs) no_line).facts ≡ facts_along context (line_of [] signs)
   pub shows : (shown : Inherited) → Shows shown (handed_on state.page state.frames) → ShowsAfter to state.base (calls_of context [] signs) shown
 
@@ -53,19 +53,19 @@ pub record MadeOn (old : Numbering) (context : Context) (address : Chars) (tree 
 
 -- law: once the base is known, a walk has such a numbering
 abbrev pub IsNumbered : Type 0
-IsNumbered = (setting : Setting) (address : Chars) (walk : Walked) (bytes : List ℕ) (s : Stands setting address walk bytes) (state : State)
+IsNumbered = (setting : Setting) (address : Chars) (walk : Walked) (bytes : List ℕ) (s : WalkStands setting address walk bytes) (state : State)
     → state_of walk.listener.stage ≡ Some state → Numbered setting.context s.goes.signs state
 
 -- law: with the bytes of a page its numbering only grows: each that a walk has for some of them becomes, by more numbers
 -- alone, one that a walk has for these and more
 abbrev pub NumbersGrow : Type 0
 NumbersGrow = (setting : Setting) (address : Chars) (before after : Walked) (bytes piece : List ℕ)
-    (s : Stands setting address before bytes) (t : Stands setting address after (bytes ++ piece)) (old new : State)
+    (s : WalkStands setting address before bytes) (t : WalkStands setting address after (bytes ++ piece)) (old new : State)
     → state_of before.listener.stage ≡ Some old → state_of after.listener.stage ≡ Some new
     → (to : Numbering) → NumbersBy to setting.context s.goes.signs old → NumberedOn to setting.context t.goes.signs new
 
 -- law: and one under which the list of the whole page is told
 abbrev pub ListIsNumbered : Type 0
-ListIsNumbered = (setting : Setting) (address : Chars) (walk : Walked) (bytes piece : List ℕ) (s : Stands setting address walk bytes) (state : State)
+ListIsNumbered = (setting : Setting) (address : Chars) (walk : Walked) (bytes piece : List ℕ) (s : WalkStands setting address walk bytes) (state : State)
     → state_of walk.listener.stage ≡ Some state → (to : Numbering) → NumbersBy to setting.context s.goes.signs state
     → (list : List CodeTriple) (e : Ended setting address (bytes ++ piece) list) → MadeOn to setting.context address e.tree list

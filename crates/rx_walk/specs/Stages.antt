@@ -1,9 +1,8 @@
 -- How far the seeking of the base has come, and what was told until then.
 use Rattle.std.specs.Prelude.{◌≡◌, ℕ, List, [], ◌∷◌, ◌++◌, Option, Some, None}
-use Rattle.rx_terms.specs.Text.{Chars}
+use Rattle.rx_terms.specs.Text.{Chars, seen_slice}
 use Rattle.rx_rdfa.specs.Base.{base_by}
 use Rattle.rx_rdfa.specs.Calls.{Call, Enter, Leave}
-use Rattle.rx_refs.specs.Views.{seen_slice}
 use Rattle.rx_curie.specs.Seen.{facts_seen}
 use Rattle.rx_nest.specs.Fronts.{Front, unbegun}
 use Rattle.rx_eval.specs.States.{State}

@@ -9,7 +9,7 @@ use Rattle.rx_rdfa.specs.Base.{base_of}
 use Rattle.rx_rdfa.specs.Facts.{with_facts}
 use Rattle.rx_rdfa.specs.Names.{Context}
 use Rattle.rx_rdfa.specs.Tree.{Tag}
-use Rattle.rx_tags.specs.declared.stops.Stop.{Stop}
+use Rattle.rx_grammar.specs.declared.stops.Stop.{Stop}
 use Rattle.rx_nest.specs.Signs.{Sign, signs_of}
 use Rattle.rx_reading.specs.Ways.{Way}
 use Rattle.rx_reading.specs.Readings as readings
@@ -39,11 +39,11 @@ state_of (stage.Seeking head) = None
 state_of (stage.Found state) = Some state
 
 -- The walk stands for these bytes of the page at an address: its elements were told, and nothing is due.
-abbrev pub Stands : Setting → Chars → Walked → List ℕ → Type 0
-Stands setting address walk bytes = readings.Stands (way_of setting) (runs_at (setting, address)) walk bytes
+abbrev pub WalkStands : Setting → Chars → Walked → List ℕ → Type 0
+WalkStands setting address walk bytes = readings.ReadingStands (way_of setting) (runs_at (setting, address)) walk bytes
 
 -- the start tags of the open elements, the innermost first
-abbrev pub open_line : {way : Way} {knows : Course → List Sign → Type 0} {walk : Walked} {bytes : List ℕ} → readings.Stands way knows walk bytes → List Tag
+abbrev pub open_line : {way : Way} {knows : Course → List Sign → Type 0} {walk : Walked} {bytes : List ℕ} → readings.ReadingStands way knows walk bytes → List Tag
 open_line s = line_of [] s.goes.signs
 
 -- so many frames are open as there are such elements, once the evaluator is at work

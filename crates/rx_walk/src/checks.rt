@@ -41,7 +41,7 @@ impl Check {
         context: Context,
         limits: Limits,
     ) -> Result<Check, NoMemory>
-        ensures { IfOk result (λ check. checks.Stands (record { syntax = syntax; limits = limits; context = context }) check []) }
+        ensures { IfOk result (λ check. checks.CheckStands (record { syntax = syntax; limits = limits; context = context }) check []) }
     {
         let names = Names::new(alloc, context, limits.depth)?;
         let reading = Reading::new(alloc, syntax, limits, Scope { names })?;
@@ -51,9 +51,9 @@ impl Check {
     /// Takes the whole piece. Text takes no memory: a piece without `<` and `&` never wants memory where no token is
     /// unfinished, whatever elements are open.
     pub fn feed(&mut self, piece: &[u8]) -> Result<(), Stop>
-        ensures gives { (setting : Setting) (bytes : List ℕ) → checks.Stands setting self.old bytes → checks.FeedGives setting bytes piece.now result self.new }
-        ensures place { (setting : Setting) (bytes : List ℕ) → checks.Stands setting self.old bytes → PlaceGives (way_of setting) bytes piece.now result }
-        ensures quiet { (setting : Setting) (bytes : List ℕ) → checks.Stands setting self.old bytes
+        ensures gives { (setting : Setting) (bytes : List ℕ) → checks.CheckStands setting self.old bytes → checks.FeedGives setting bytes piece.now result self.new }
+        ensures place { (setting : Setting) (bytes : List ℕ) → checks.CheckStands setting self.old bytes → PlaceGives (way_of setting) bytes piece.now result }
+        ensures quiet { (setting : Setting) (bytes : List ℕ) → checks.CheckStands setting self.old bytes
             → IsBetween setting.syntax setting.limits bytes → is_quiet piece.now ≡ true → IsNoMemory result ≡ false }
         ensures asked { MayAnswer self.old.failed self.old.spent result }
         ensures keeps { Answered result self.new.failed self.new.spent }
@@ -64,7 +64,7 @@ impl Check {
     /// The page's end: whether the bytes are a page of which no start tag is refused. `Unended` comes exactly where they are no
     /// page and no earlier fault stands in them.
     pub fn finish(self) -> Result<(), Stop>
-        ensures gives { (setting : Setting) (bytes : List ℕ) → checks.Stands setting self bytes → checks.EndGives setting bytes result }
+        ensures gives { (setting : Setting) (bytes : List ℕ) → checks.CheckStands setting self bytes → checks.EndGives setting bytes result }
         ensures asked { MayAnswer self.failed self.spent result }
         ensures memory { result ≡ Err Stop.NoMemory → self.spent ≡ true }
     {

@@ -44,7 +44,7 @@ fn read_facts(
     tag: &Tag<'_>,
     names: &Names,
 ) -> Result<(), Stop>
-    ensures line { (above : List StartTag) → lines.Stands names.now (tag_of tag.now ∷ above)
+    ensures line { (above : List StartTag) → lines.NamesStand names.now (tag_of tag.now ∷ above)
         → is_relative (vocabulary_from above (tag_of tag.now)) ≡ false
         → FactsGive names.now.context above (tag_shown tag.now) facts.new result }
     ensures absolute { OnOk result (is_relative (lines.vocabulary_of names.now) ≡ false) }

@@ -27,7 +27,7 @@ pub(crate) struct Scope {
 
 /// The fault for which the start tag is refused.
 fn fault_of(tag: &Tag<'_>, names: &Names) -> Option<Fault>
-    ensures line { (above : List StartTag) → lines.Stands names.now (tag_of tag.now ∷ above)
+    ensures line { (above : List StartTag) → lines.NamesStand names.now (tag_of tag.now ∷ above)
         → is_relative (vocabulary_from above (tag_of tag.now)) ≡ false
         → result ≡ refused_at names.now.context above (begun (tag_shown tag.now)) }
     ensures absolute { result ≡ None → is_relative (lines.vocabulary_of names.now) ≡ false }

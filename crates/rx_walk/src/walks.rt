@@ -79,7 +79,7 @@ impl Walk {
         address: Iri,
         limits: Limits,
     ) -> Result<Walk, NoMemory>
-        ensures { IfOk result (λ walk. walks.Stands (record { syntax = syntax; limits = limits; context = context }) address walk []) }
+        ensures { IfOk result (λ walk. walks.WalkStands (record { syntax = syntax; limits = limits; context = context }) address walk []) }
     {
         let course = Course::new(alloc, context, address, limits.depth)?;
         let reading = Reading::new(alloc, syntax, limits, course)?;
@@ -89,11 +89,11 @@ impl Walk {
     /// Takes the whole piece. Text takes no memory where the base is known and no open element gathers its text: a piece
     /// without `<` and `&` then never wants memory where no token is unfinished.
     pub fn feed(&mut self, piece: &[u8]) -> Result<(), Stop>
-        ensures gives { (setting : Setting) (address : Chars) (bytes : List ℕ) → walks.Stands setting address self.old bytes
+        ensures gives { (setting : Setting) (address : Chars) (bytes : List ℕ) → walks.WalkStands setting address self.old bytes
             → walks.FeedGives setting address bytes piece.now result self.new }
-        ensures place { (setting : Setting) (address : Chars) (bytes : List ℕ) → walks.Stands setting address self.old bytes
+        ensures place { (setting : Setting) (address : Chars) (bytes : List ℕ) → walks.WalkStands setting address self.old bytes
             → PlaceGives (way_of setting) bytes piece.now result }
-        ensures quiet { (setting : Setting) (address : Chars) (bytes : List ℕ) → walks.Stands setting address self.old bytes
+        ensures quiet { (setting : Setting) (address : Chars) (bytes : List ℕ) → walks.WalkStands setting address self.old bytes
             → IsBetween setting.syntax setting.limits bytes → is_quiet piece.now ≡ true
             → (state : State) → walks.state_of self.old.listener.stage ≡ Some state → gathers_some state.frames ≡ false
             → IsNoMemory result ≡ false }
@@ -106,7 +106,7 @@ impl Walk {
     /// The page's end: the list of its triples. `Unended` comes exactly where the bytes are no page and no earlier fault stands
     /// in them. It takes no memory: want of memory is answered only where it was before.
     pub fn finish(self) -> Result<TripleList, Stop>
-        ensures gives { (setting : Setting) (address : Chars) (bytes : List ℕ) → walks.Stands setting address self bytes
+        ensures gives { (setting : Setting) (address : Chars) (bytes : List ℕ) → walks.WalkStands setting address self bytes
             → walks.EndGives setting address bytes result }
         ensures asked { MayAnswer self.failed self.spent result }
         ensures memory { result ≡ Err Stop.NoMemory → self.spent ≡ true }
@@ -120,7 +120,7 @@ impl Walk {
     /// How many elements are open, none after a fault or want of memory.
     pub fn depth(&self) -> u32
         ensures count { result ≡ (if has_fallen self.now then 0 else self.now.listener.count) }
-        ensures line { (setting : Setting) (address : Chars) (bytes : List ℕ) (s : walks.Stands setting address self.now bytes)
+        ensures line { (setting : Setting) (address : Chars) (bytes : List ℕ) (s : walks.WalkStands setting address self.now bytes)
             → (result ≡ length (walks.open_line s)) × walks.FramesFit self.now (walks.open_line s) }
     {
         if self.reading.has_fallen() {
@@ -132,7 +132,7 @@ impl Walk {
     /// How many declarations of prefixes, vocabularies and languages are kept, none after a fault or want of memory.
     pub fn rows(&self) -> usize
         ensures count { result ≡ (if has_fallen self.now then 0 else length self.now.listener.names.rows) }
-        ensures bound { (setting : Setting) (address : Chars) (bytes : List ℕ) (s : walks.Stands setting address self.now bytes)
+        ensures bound { (setting : Setting) (address : Chars) (bytes : List ℕ) (s : walks.WalkStands setting address self.now bytes)
             → result ≤ declared_along (walks.open_line s) }
     {
         if self.reading.has_fallen() {

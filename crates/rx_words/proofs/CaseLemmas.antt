@@ -11,7 +11,7 @@ use Rattle.std.proofs.lemmas.Str.Ascii.{lowercase_is}
 use lib.Utf8.{encode, next}
 use Rattle.rx_terms.specs.Ascii.{lowered_char}
 use Rattle.rx_terms.specs.Text.{Chars, lowered}
-use Rattle.rx_refs.proofs.PartLemmas.{by_test}
+use Rattle.rx_terms.proofs.Bools.{by_test}
 
 same-lower : (c : ℕ) → c < 128 → to_ascii_lowercase c ≡ lowered_char c
 same-lower c l = grind (arith, nat_tests)

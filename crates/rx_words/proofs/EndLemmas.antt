@@ -1,14 +1,38 @@
 -- Cuts at the ends of a text, in bytes and in characters.
-use Rattle.std.proofs.Common.{◌≡◌, ◌≢◌, ◌∙◌, ℕ, ◌+◌, ◌-◌, ◌<◌, false, List, [], ◌∷◌, ◌++◌, length, take, drop, get_or, sym, ap, subst, arith, Option, Some, None, MatchOption, Bor, length-append}
+use Rattle.std.proofs.Common.{◌≡◌, ◌≢◌, ◌∙◌, ℕ, suc, refl, ◌==◌, Bool, true, ◌+◌, ◌-◌, ◌<◌, false, List, [], ◌∷◌, ◌++◌, length, take, drop, get_or, sym, ap, subst, arith, Option, Some, None, MatchOption, Bor, length-append}
 use Rattle.std.specs.Str.{chars, IsUtf8, encode_utf8_all}
 use Rattle.std.specs.Str.Pattern.{FindsTextPrefix, FindsCharSuffix}
-use Rattle.std.proofs.lemmas.Str.{encodes-chars, encodes-append, chars-append, encode_ascii, IsUtf8-take, IsCharBoundary-before_ascii}
+use Rattle.std.proofs.lemmas.Bool.{and_parts}
+use Rattle.std.proofs.lemmas.Bool.Decides.{nat_tests}
+use Rattle.std.proofs.lemmas.Str.{chars-nil, encodes-chars, encodes-append, chars-append, encode_ascii, IsUtf8-take, IsCharBoundary-before_ascii}
 use Rattle.std.proofs.lemmas.Str.Pattern.{strip_suffix_char}
 use Rattle.std.proofs.Math.Seq.{get_or-append_seam, take-append_seam}
-use Rattle.rx_terms.specs.Text.{Chars, begins_with}
+use Rattle.rx_terms.specs.Text.{Chars, begins_with, is_empty}
 use Rattle.rx_terms.proofs.CharLemmas.{ascii-chars}
-use Rattle.rx_refs.proofs.PartLemmas.{by_test}
-use Rattle.rx_refs.proofs.CutLemmas.{begins-front}
+use Rattle.rx_terms.proofs.Bools.{by_test}
+
+pub same_char : (c mark : ℕ) → (c == mark) ≡ true → c ≡ mark
+same_char c mark e = grind (arith, nat_tests)
+
+-- what stands behind the front
+pub begins-front : (front text : Chars) → begins_with front text ≡ true → (rest : Chars) × (text ≡ front ++ rest)
+begins-front [] text h = (text, refl)
+begins-front (c ∷ front) [] h = absurd (cc h)
+begins-front (c ∷ front) (d ∷ text) h =
+    let parts = and_parts _ _ h in
+    let r = begins-front front text parts.1 in
+    let e = same_char c d parts.0 in
+    (r.0, same_cons c d text (front ++ r.0) e r.1) where
+      same_cons : (c d : ℕ) (xs ys : Chars) → c ≡ d → xs ≡ ys → d ∷ xs ≡ c ∷ ys
+      same_cons c d xs ys e f = cc
+
+-- a text with no byte has no character
+pub empty-chars : (bs : List ℕ) → IsUtf8 bs → (length bs == 0) ≡ is_empty (chars bs)
+empty-chars [] u = sym (ap is_empty chars-nil)
+empty-chars (b ∷ bs) u = go (chars (b ∷ bs)) (encodes-chars (b ∷ bs) u) where
+  go : (cs : List ℕ) → encode_utf8_all cs ≡ b ∷ bs → (length (b ∷ bs) == 0) ≡ is_empty cs
+  go [] e = absurd (cc e)
+  go (c ∷ cs) e = let l : (suc (length bs) == 0) ≡ false = grind (arith, nat_tests) in l
 
 begins-not : (front bs : List ℕ) → IsUtf8 front → IsUtf8 bs → ((rest : List ℕ) → bs ≢ front ++ rest) → begins_with (chars front) (chars bs) ≡ false
 begins-not front bs v u h =

@@ -1,3 +1,4 @@
 pub mod TokenLemmas
 pub mod CaseLemmas
 pub mod EndLemmas
+pub mod TrimLemmas

@@ -13,8 +13,8 @@ use Rattle.std.proofs.lemmas.Str.{encodes-chars, chars-append, encode_ascii, cha
 use Rattle.rx_terms.specs.Ascii.{is_white_space}
 use Rattle.rx_terms.specs.Text.{Chars, tokens, ends_token, onto_first}
 use Rattle.rx_terms.proofs.CharLemmas.{ascii-chars, ascii-utf8, chars-end}
-use Rattle.rx_refs.proofs.PartLemmas.{by_test}
-use Rattle.rx_refs.proofs.TrimLemmas.{same-white, each-white, white-ascii, nonempty-bytes}
+use Rattle.rx_terms.proofs.Bools.{by_test}
+use Rattle.rx_words.proofs.TrimLemmas.{same-white, each-white, white-ascii, nonempty-bytes}
 use Rattle.rx_words.specs.Tokens.{is_filled, IsFirstToken}
 
 -- Lists

@@ -20,7 +20,7 @@ pub fn is_empty(text: &str) -> bool
 /// What stands before and behind the first `mark`, which is ASCII, or `None` exactly where the text has none.
 pub fn split_once(text: &str, mark: char) -> Option<(&str, &str)>
     requires { mark < 128 }
-    ensures { MatchOption result (split_at mark (chars text.now) ≡ None) (λ parts. split_at mark (chars text.now) ≡ Some (chars parts.0.now, chars parts.1.now)) }
+    ensures { MatchOption result (split_at mark (chars text.now) ≡ None) (λ p. split_at mark (chars text.now) ≡ Some (chars p.0.now, chars p.1.now)) }
 {
     text.split_once(mark)
 }

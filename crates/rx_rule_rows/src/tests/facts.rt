@@ -1,4 +1,4 @@
-use rx_curie::{Datatype, ElementKind, Facts, FactsError, IriMaker, Nodes2, Ref};
+use rx_curie::{Datatype, ElementKind, Facts, FactsError, IriMaker, Ref, TypeList};
 use rx_names::{Context, Names};
 use rx_tags::{Syntax, Tag, TagBuf, TagStep};
 use rx_terms::{Iri, Iris, NoMemory};
@@ -144,7 +144,7 @@ fn push_iris(text: &mut String, name: &str, iris: &Option<Iris>) -> Result<(), A
     text.push(' ')
 }
 
-fn push_types(text: &mut String, types: &Option<Nodes2>) -> Result<(), AllocError> {
+fn push_types(text: &mut String, types: &Option<TypeList>) -> Result<(), AllocError> {
     let Some(types) = types else {
         return Ok(());
     };

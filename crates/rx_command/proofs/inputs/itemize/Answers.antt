@@ -1,6 +1,6 @@
 use Rattle.std.proofs.Common.{◌≡◌, refl, subst, encode_utf8_all}
 use Rattle.rx_grammar.specs.declared.faults.Fault.{Fault}
-use Rattle.rx_ports.specs.Told.{Moves}
+use Rattle.rx_ports.specs.Shelves.{Moves}
 use Rattle.rx_ports.proofs.MoveLemmas.{moves_weaker}
 use Rattle.rx_command.specs.declared.errors.InputError.TheVariants as error
 use Rattle.rx_command.specs.declared.outcomes.Outcome.TheVariants.{Json}

@@ -1,6 +1,6 @@
 use Rattle.std.proofs.Common.{arith, ◌⊎◌, ◌∙◌, ℕ, List, refl, sym, ap, subst, encode_utf8_all, None, Some, IfOk}
 use Rattle.rx_ports.specs.Counts.{Rose}
-use Rattle.rx_ports.specs.Told.{Moves, Lacks}
+use Rattle.rx_ports.specs.Shelves.{Moves, Lacks}
 use Rattle.rx_ports.proofs.MoveLemmas.{moves_then}
 use Rattle.rx_chars.specs.declared.syntax.Syntax.{Syntax}
 use Rattle.rx_terms.specs.Text.{Chars}

@@ -1,21 +1,21 @@
 use Rattle.std.proofs.Common.{subst}
-use Rattle.rx_command.specs.declared.readers.Reader.{Reader}
+use Rattle.rx_command.specs.declared.passes.Pass.{Pass}
 use Rattle.rx_command.specs.Reading.{setting_for, for_triples, Reached}
 use Rattle.rx_command.proofs.ReadLemmas.{end_refused}
 use Rattle.rx_command.proofs.pages.list_of.Goals as goal
 
 pub unreachable-requires : goal.unreachable-requires
-unreachable-requires c = subst (λ (v : Reader). Reached c.requires.syntax (for_triples c.requires.context c.requires.address) v c.requires.bytes) c.in-Itemizes.is c.requires.reached
+unreachable-requires c = subst (λ (v : Pass). Reached c.requires.syntax (for_triples c.requires.context c.requires.address) v c.requires.bytes) c.in-Itemizes.is c.requires.reached
 
 pub unreachable-requires-in-Checks : goal.unreachable-requires-in-Checks
-unreachable-requires-in-Checks c = subst (λ (v : Reader). Reached c.requires.syntax (for_triples c.requires.context c.requires.address) v c.requires.bytes) c.in-Checks.is c.requires.reached
+unreachable-requires-in-Checks c = subst (λ (v : Pass). Reached c.requires.syntax (for_triples c.requires.context c.requires.address) v c.requires.bytes) c.in-Checks.is c.requires.reached
 
 pub returns-in-Ok-clause-gives : goal.returns-in-Ok-clause-gives
 returns-in-Ok-clause-gives c syntax context address bytes r =
-    c.in-Ok.ensures.gives (setting_for syntax context) address bytes (subst (λ (v : Reader). Reached syntax (for_triples context address) v bytes) c.in-Walks.is r)
+    c.in-Ok.ensures.gives (setting_for syntax context) address bytes (subst (λ (v : Pass). Reached syntax (for_triples context address) v bytes) c.in-Walks.is r)
 
 pub returns-in-Err-Fault-clause-gives : goal.returns-in-Err-Fault-clause-gives
 returns-in-Err-Fault-clause-gives c syntax context address bytes r =
     let ends = rw c.in-Err-Fault.field-0-is at c.in-Err-Fault.ensures.gives in
-    let e = ends (setting_for syntax context) address bytes (subst (λ (v : Reader). Reached syntax (for_triples context address) v bytes) c.in-Walks.is r) in
+    let e = ends (setting_for syntax context) address bytes (subst (λ (v : Pass). Reached syntax (for_triples context address) v bytes) c.in-Walks.is r) in
     (end_refused syntax (for_triples context address) c.args.reader bytes c.in-Err-Fault.fault r e.0, e.2)

@@ -1,5 +1,5 @@
 use Rattle.std.proofs.Common.{◌≡◌, ◌∙◌, inl, subst, ap, Some, Err}
-use Rattle.rx_ports.specs.Told.{Moves}
+use Rattle.rx_ports.specs.Shelves.{Moves}
 use Rattle.rx_command.specs.Outcome.{HasPageFault}
 use Rattle.rx_job.specs.Jobs.{page_by}
 use Rattle.rx_command.specs.Runs.{TakesToFault}

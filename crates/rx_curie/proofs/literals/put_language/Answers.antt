@@ -1,12 +1,12 @@
 use Rattle.std.proofs.Common.{List, ℕ, Ok}
 use Rattle.std.specs.Str.{chars}
 use Rattle.rx_rdfa.specs.Tree.{Tag}
-use Rattle.rx_names.specs.Lines.{Stands}
+use Rattle.rx_names.specs.Lines.{NamesStand}
 use Rattle.rx_names.specs.Views.{names_seen}
 use Rattle.rx_curie.proofs.LangForms.{made-language}
 use Rattle.rx_curie.proofs.literals.put_language.Goals as goal
 
 pub returns : goal.returns
 returns c =
-    let P : List Tag → Type 0 = λ line. Stands (names_seen c.args.names.now) line in
+    let P : List Tag → Type 0 = λ line. NamesStand (names_seen c.args.names.now) line in
     made-language {E = ℕ} (Ok c.in_ok-field.field-0) (chars c.in-Some.language.now) P c.in_ok-field.ensures c.in-Some.ensures.line

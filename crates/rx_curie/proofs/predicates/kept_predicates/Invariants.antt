@@ -3,7 +3,7 @@ use Rattle.std.specs.Str.{chars}
 use Rattle.rx_terms.specs.Text.{tokens}
 use Rattle.rx_rdfa.specs.Tree.{Tag}
 use Rattle.rx_rdfa.specs.Facts.{link}
-use Rattle.rx_names.specs.Lines.{Stands}
+use Rattle.rx_names.specs.Lines.{NamesStand}
 use Rattle.rx_names.specs.Views.{names_seen}
 use Rattle.rx_curie.proofs.TokenSteps.{so_far}
 use Rattle.rx_curie.proofs.predicates.kept_predicates.Given as goal
@@ -14,7 +14,7 @@ abbrev pub invariant-loop-token : goal.invariant-loop-token
 invariant-loop-token l = record {
   utf8 : shadow (Utf8 l.rest);
   none : l.is_present ≡ false → l.iris ≡ [];
-  read : (line : List Tag) → Stands (names_seen l.names) line
+  read : (line : List Tag) → NamesStand (names_seen l.names) line
       → so_far (names_seen l.names).context line l.is_present l.iris (tokens (chars l.rest)) ≡ link (names_seen l.names).context line true (chars l.value);
 }
 

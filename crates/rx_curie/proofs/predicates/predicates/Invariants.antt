@@ -4,7 +4,7 @@ use Rattle.std.specs.Str.{chars}
 use Rattle.rx_terms.specs.Text.{tokens}
 use Rattle.rx_rdfa.specs.Tree.{Tag}
 use Rattle.rx_rdfa.specs.Facts.{predicate, predicates}
-use Rattle.rx_names.specs.Lines.{Stands}
+use Rattle.rx_names.specs.Lines.{NamesStand}
 use Rattle.rx_names.specs.Views.{names_seen}
 use Rattle.rx_curie.proofs.predicates.predicates.Given as goal
 use denote.Text.{Utf8}
@@ -13,7 +13,7 @@ use denote.Shadow.{shadow}
 abbrev pub invariant-loop-token : goal.invariant-loop-token
 invariant-loop-token l = record {
   utf8 : shadow (Utf8 l.rest);
-  read : (line : List Tag) → Stands (names_seen l.names) line
+  read : (line : List Tag) → NamesStand (names_seen l.names) line
       → l.iris ++ filter_map (predicate (names_seen l.names).context line) (tokens (chars l.rest)) ≡ predicates (names_seen l.names).context line (chars l.value);
 }
 

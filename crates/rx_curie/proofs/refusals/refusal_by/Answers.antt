@@ -1,6 +1,6 @@
 use Rattle.std.proofs.Common.{◌≡◌, ◌∙◌, ◌∷◌, List, ℕ, Option, Bor, ap, sym, true, false, option_map}
 use Rattle.std.specs.Prelude.{is_some}
-use Rattle.rx_refs.specs.Views.{seen_slice}
+use Rattle.rx_terms.specs.Text.{seen_slice}
 use Rattle.rx_rdfa.specs.Refusals.{is_relative}
 use Rattle.rx_names.specs.Views.{names_seen}
 use Rattle.rx_curie.specs.Given.{kind_of}

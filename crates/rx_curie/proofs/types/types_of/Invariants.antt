@@ -5,7 +5,7 @@ use Rattle.rx_terms.specs.Text.{tokens}
 use Rattle.rx_rdfa.specs.Tree.{Tag}
 use Rattle.rx_rdfa.specs.Readings.{read_term}
 use Rattle.rx_rdfa.specs.Facts.{ref_of, types_of}
-use Rattle.rx_names.specs.Lines.{Stands}
+use Rattle.rx_names.specs.Lines.{NamesStand}
 use Rattle.rx_names.specs.Views.{names_seen}
 use Rattle.rx_curie.specs.Seen.{refs_seen}
 use Rattle.rx_curie.proofs.types.types_of.Given as goal
@@ -15,7 +15,7 @@ use denote.Shadow.{shadow}
 abbrev pub invariant-loop-token : goal.invariant-loop-token
 invariant-loop-token l = record {
   utf8 : shadow (Utf8 l.rest);
-  read : (line : List Tag) → Stands (names_seen l.names) line
+  read : (line : List Tag) → NamesStand (names_seen l.names) line
       → refs_seen l.types ++ filter_map (λ token. option_map ref_of (read_term (names_seen l.names).context line token)) (tokens (chars l.rest)) ≡ types_of (names_seen l.names).context line (chars l.value);
 }
 

@@ -1,7 +1,6 @@
 use Rattle.std.proofs.Common.{◌++◌, filter_map, drop}
 use Rattle.rx_model.specs.Seen.{node_seen, triples_seen}
-use Rattle.rx_element.specs.Triples.{completed_by}
-use Rattle.rx_element.specs.Triples.{ToCome}
+use Rattle.rx_element.specs.Triples.{completed_by, ToCome}
 use Rattle.rx_element.proofs.triples.push_completed.Given as goal
 
 abbrev pub invariant-loop-one : goal.invariant-loop-one

@@ -3,7 +3,7 @@ use Rattle.rx_microdata.specs.Elements.{names_of}
 use Rattle.serde_json.specs.Data.{no_members}
 use Rattle.serde_json.specs.View.{view, members_view}
 use Rattle.serde_json.specs.declared.value.Value.{Value}
-use Rattle.rx_tags.specs.declared.stops.Stop.{Stop}
+use Rattle.rx_grammar.specs.declared.stops.Stop.{Stop}
 use Rattle.rx_microdata.specs.Facts.{said}
 use Rattle.rx_microdata.specs.Visits.{visits_from}
 use Rattle.rx_microdata.specs.Json.{string_of, json_of_item}

@@ -1,7 +1,6 @@
 use Rattle.rx_json_text.proofs.MemberLemmas.{put_first}
-use Rattle.std.proofs.Common.{◌∙◌}
+use Rattle.std.proofs.Common.{◌∙◌, ap}
 use Rattle.serde_json.specs.View.{view, members_view}
-use Rattle.std.proofs.Common.{ap}
 use Rattle.rx_json_text.proofs.members.start_values.Goals as goal
 
 pub returns-in-Ok : goal.returns-in-Ok

@@ -1,7 +1,6 @@
 use Rattle.std.proofs.Common.{◌≡◌, ◌++◌, length}
 use Rattle.std.specs.Str.{chars}
-use Rattle.rx_terms.specs.Text.{tokens}
-use Rattle.rx_refs.specs.Views.{seen_slice}
+use Rattle.rx_terms.specs.Text.{tokens, seen_slice}
 use Rattle.rx_rdfa.specs.Names.{pairs, pairs_after}
 use Rattle.rx_names.specs.Rows.{mapping_rows}
 use Rattle.rx_names.proofs.declarations.push_pairs.Given as goal

@@ -2,10 +2,9 @@ use Rattle.std.proofs.Common.{◌≡◌, ◌∙◌, ◌++◌, ◌∷◌, [], ℕ
 use Rattle.std.specs.Prelude.{string_bytes, codes, OnOk, Ok, Err, Result}
 use Rattle.std.specs.Str.{chars}
 use Rattle.std.proofs.lemmas.List.{append_assoc}
-use Rattle.rx_terms.specs.Text.{Chars}
+use Rattle.rx_terms.specs.Text.{Chars, seen_slice}
 use Rattle.rx_terms.proofs.CharLemmas.{ascii-chars}
 use Rattle.rx_refs.specs.Parts.{delimited}
-use Rattle.rx_refs.specs.Views.{seen_slice}
 use denote.Ref.{Bor}
 use Rattle.rx_refs.proofs.recomposition.push_scheme.Goals as goal
 

@@ -2,10 +2,10 @@ use Rattle.std.proofs.Common.{◌≡◌, ◌∙◌, ◌++◌, [], ap, refl, Opti
 use Rattle.std.specs.Prelude.{string_bytes, codes}
 use Rattle.std.specs.Str.{chars}
 use Rattle.std.proofs.lemmas.Str.{chars-nil}
-use Rattle.rx_terms.specs.Text.{Chars}
+use Rattle.rx_terms.specs.Text.{Chars, seen_slice}
 use Rattle.rx_terms.proofs.CharLemmas.{ascii-chars}
 use Rattle.rx_refs.specs.Parts.{delimited, recomposed}
-use Rattle.rx_refs.specs.Views.{seen_slice, seen_path}
+use Rattle.rx_refs.specs.Views.{seen_path}
 use Rattle.rx_refs.proofs.WholeLemmas.{components}
 use Rattle.rx_refs.proofs.recomposition.recompose.Goals as goal
 

@@ -1,6 +1,6 @@
 use Rattle.std.proofs.Common.{◌∙◌, sym, ap, Option}
-use Rattle.rx_terms.specs.Text.{Chars}
-use Rattle.rx_refs.specs.Views.{seen, seen_slice}
+use Rattle.rx_terms.specs.Text.{Chars, seen_slice}
+use Rattle.rx_refs.specs.Views.{seen}
 use Rattle.rx_refs.proofs.TargetLemmas.{seen-some, seen-or}
 use Rattle.rx_refs.proofs.WholeLemmas.{components, target-absolute, target-network, target-same, target-relative}
 use Rattle.rx_refs.proofs.targets.target_of.Goals as goal

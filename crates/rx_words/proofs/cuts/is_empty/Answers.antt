@@ -1,5 +1,5 @@
 use Rattle.std.proofs.Common.{◌∙◌}
-use Rattle.rx_refs.proofs.CutLemmas.{empty-chars}
+use Rattle.rx_words.proofs.EndLemmas.{empty-chars}
 use Rattle.rx_words.proofs.cuts.is_empty.Goals as goal
 
 pub returns : goal.returns

@@ -1,4 +1,4 @@
-use Rattle.rx_refs.proofs.TrimLemmas.{trim-chars}
+use Rattle.rx_words.proofs.TrimLemmas.{trim-chars}
 use Rattle.rx_words.proofs.cuts.trim.Goals as goal
 
 pub returns : goal.returns

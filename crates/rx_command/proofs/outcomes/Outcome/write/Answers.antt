@@ -1,5 +1,5 @@
 use Rattle.std.proofs.Common.{OnOk, IsErrOf, ℕ, List, subst, sym}
-use Rattle.rx_ports.specs.Told.{Moves, GrowsBy, GrowsByPart}
+use Rattle.rx_ports.specs.Shelves.{Moves, GrowsBy, GrowsByPart}
 use Rattle.rx_pieces.specs.declared.errors.WriteError.TheVariants as error
 use Rattle.rx_command.specs.Written.{text_of, Denoted}
 use Rattle.rx_command.specs.declared.outcomes.Outcome.{Outcome}

@@ -1,8 +1,8 @@
 use Rattle.std.proofs.Common.{sym, subst}
 use Rattle.rx_item_table.specs.Growing.{IsIdle}
-use Rattle.rx_items.specs.Walks.{Walked, Stands}
+use Rattle.rx_items.specs.Walks.{Walked, ItemWalkStands}
 use Rattle.rx_items.proofs.walks.ItemWalk.feed.Goals as goal
 
 pub returns-clause-quiet : goal.returns-clause-quiet
 returns-clause-quiet c setting bytes s between q idle =
-    c.feed.ensures.quiet setting bytes (subst (λ v. Stands setting v bytes) (sym c.self.view_is) s) between q (subst (λ (w : Walked). IsIdle w.listener.table) (sym c.self.view_is) idle)
+    c.feed.ensures.quiet setting bytes (subst (λ v. ItemWalkStands setting v bytes) (sym c.self.view_is) s) between q (subst (λ (w : Walked). IsIdle w.listener.table) (sym c.self.view_is) idle)

@@ -2,7 +2,7 @@ use Rattle.std.proofs.Common.{List, ◌++◌, map, take, subst, arith, take_all}
 use Rattle.rx_terms.specs.declared.triples.Triple.{Triple as CodeTriple}
 use Rattle.rx_model.specs.Seen.{triples_seen}
 use Rattle.rx_many.specs.Lines.{Line, PageBlank, statement_at}
-use Rattle.rx_many.specs.Standing.{Stands}
+use Rattle.rx_many.specs.Standing.{DocumentStands}
 use Rattle.rx_many.proofs.LineLemmas.{stands_none, triples_more}
 use Rattle.rx_many.proofs.documents.Document.put_triples.Goals as goal
 
@@ -11,10 +11,10 @@ loop-i-init c lines s = stands_none s
 
 pub loop-i-preserved : goal.loop-i-preserved
 loop-i-preserved c lines s =
-    subst (λ (z : List (Line PageBlank)). Stands c.put_triple.new.self z) (triples_more lines c.args.place c.args.name.now c.args.graph.now c.loop-i.i _ c.at.ensures)
+    subst (λ (z : List (Line PageBlank)). DocumentStands c.put_triple.new.self z) (triples_more lines c.args.place c.args.name.now c.args.graph.now c.loop-i.i _ c.at.ensures)
     (c.in_ok-put_triple.ensures (lines ++ map (statement_at c.args.place c.args.name.now) (triples_seen (take c.loop-i.i c.args.graph.now))) (c.loop-i.invariant lines s))
 
 pub returns : goal.returns
 returns c lines s =
-    subst (λ (z : List CodeTriple). Stands c.loop-i.self (lines ++ map (statement_at c.args.place c.args.name.now) (triples_seen z)))
+    subst (λ (z : List CodeTriple). DocumentStands c.loop-i.self (lines ++ map (statement_at c.args.place c.args.name.now) (triples_seen z)))
     (take_all c.loop-i.i c.args.graph.now (omega (arith, c.loop-i-test.false, c.len-i-end.ensures.len))) (c.loop-i.invariant lines s)

@@ -1,6 +1,6 @@
 use Rattle.std.proofs.Common.{◌∙◌, ap, sym, rules, List}
-use Rattle.rx_refs.specs.Views.{seen_slice}
-use Rattle.rx_names.specs.declared.rows.Row.{Row}
+use Rattle.rx_terms.specs.Text.{seen_slice}
+use Rattle.rx_names.specs.declared.rows.Declaration.{Declaration}
 use Rattle.rx_names.specs.Rows.{last_of, language_in, flattened}
 use Rattle.std.proofs.lemmas.Option.{slice_get_within}
 use Rattle.rx_names.proofs.RowLemmas.{told-at-first, told-there, told-before, row-within, nearer, other-language}
@@ -18,7 +18,7 @@ pub returns-in-Some-language : goal.returns-in-Some-language
 returns-in-Some-language c = record {
   last = sym (ap flattened (told-there (language_in) (1) (other-language) c.self.inside.rows.items c.self.inside.places c.loop-next.next c.in-Some.place c.index.result.now (seen_slice c.in-Some-language.language)
       c.self.invariant c.loop-next.invariant c.in-Some.is c.index.ensures (sym c.in-Some-language.ensures.value)))
-      ∙ ap (λ (rows : List Row). flattened (last_of language_in rows)) c.self.view_is;
+      ∙ ap (λ (rows : List Declaration). flattened (last_of language_in rows)) c.self.view_is;
 }
 
 pub earlier-next-requires : goal.earlier-next-requires

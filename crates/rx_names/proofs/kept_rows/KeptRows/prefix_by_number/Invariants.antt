@@ -2,11 +2,11 @@ use Rattle.std.specs.Str.{chars}
 use Rattle.rx_terms.specs.Text.{lowered}
 use Rattle.rx_names.specs.Numbers.{number_of}
 use Rattle.rx_names.specs.Rows.{prefix_in}
-use Rattle.rx_names.proofs.RowLemmas.{Told, reach}
+use Rattle.rx_names.proofs.RowLemmas.{RowsTold, reach}
 use Rattle.rx_names.proofs.kept_rows.KeptRows.prefix_by_number.Given as goal
 
 abbrev pub invariant-loop-next : goal.invariant-loop-next
-invariant-loop-next l = Told (prefix_in (lowered (chars l.name))) (number_of (lowered (chars l.name))) l.self-inside.rows.items l.self-inside.places l.next
+invariant-loop-next l = RowsTold (prefix_in (lowered (chars l.name))) (number_of (lowered (chars l.name))) l.self-inside.rows.items l.self-inside.places l.next
 
 abbrev pub decreases-loop-next : goal.decreases-loop-next
 decreases-loop-next l = reach l.next

@@ -1,5 +1,5 @@
 use Rattle.std.proofs.Common.{sym, subst}
-use Rattle.rx_reading.specs.Readings.{Stands}
+use Rattle.rx_reading.specs.Readings.{ReadingStands}
 use Rattle.rx_reading.proofs.Turning.{ends_whole, end_stops, no_fault}
 use Rattle.rx_reading.proofs.readings.Reading.finish.Goals as goal
 
@@ -7,7 +7,7 @@ pub returns-in-Ok-clause-gives : goal.returns-in-Ok-clause-gives
 returns-in-Ok-clause-gives g c setting bytes s =
     let way = g.L.Listener.way setting in
     let knows = g.L.Listener.knows setting in
-    let was = subst (λ v. Stands way knows v bytes) (sym c.self.view_is) s in
+    let was = subst (λ v. ReadingStands way knows v bytes) (sym c.self.view_is) s in
     ends_whole way knows c.self.inside.nest c.self.inside.listener bytes was.goes (g.met.L.Listener.accepts setting c.self.inside.listener was.goes.signs was.goes.known) was.paid
     (c.in-Ok.ensures.ends way.syntax way.limits bytes was.goes.signs was.goes.shown)
 
@@ -27,5 +27,5 @@ returns-in-Ok-clause-whole g c =
 pub returns-in-Err-clause-gives : goal.returns-in-Err-clause-gives
 returns-in-Err-clause-gives g c setting bytes s =
     let way = g.L.Listener.way setting in
-    let was = subst (λ v. Stands way (g.L.Listener.knows setting) v bytes) (sym c.self.view_is) s in
+    let was = subst (λ v. ReadingStands way (g.L.Listener.knows setting) v bytes) (sym c.self.view_is) s in
     end_stops way bytes was.goes.signs c.self.inside.nest c.end.new.self c.in-Err.stop (c.in-Err.ensures.ends way.syntax way.limits bytes was.goes.signs was.goes.shown)

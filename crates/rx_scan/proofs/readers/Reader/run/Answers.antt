@@ -1,6 +1,6 @@
 use Rattle.std.proofs.Common.{◌≡◌, length, take, drop, ◌-◌, ◌<◌, ◌∙◌, ℕ, ◌+◌, sym, subst, inl, arith, refl, Result, get_or, false}
 use Rattle.std.specs.Prelude.{IfOk}
-use Rattle.rx_tags.specs.declared.stops.Stop.{Stop}
+use Rattle.rx_grammar.specs.declared.stops.Stop.{Stop}
 use Rattle.rx_scan.specs.declared.answers.What.{What}
 use Rattle.rx_scan.specs.Steps.{Runs, is_tag}
 use Rattle.rx_scan.proofs.RunLemmas.{took_text}

@@ -1,9 +1,9 @@
 use Rattle.std.proofs.Common.{subst, sym}
 use Rattle.rx_scan.specs.Scanner.{Scanner}
-use Rattle.rx_scan.specs.Steps.{Stands}
+use Rattle.rx_scan.specs.Steps.{ScanStands}
 use Rattle.rx_scan.proofs.StandLemmas.{stands_inside}
 use Rattle.rx_scan.proofs.scans.Scan.enter.Goals as goal
 
 pub returns-clause-stands : goal.returns-clause-stands
 returns-clause-stands c =
-    λ s h. subst (λ (v : Scanner). Stands v s) (sym c.set.ensures.new) (stands_inside c.args.content c.args.drop_newline c.args.self.now s (c.set.ensures.between c.requires.between) h)
+    λ s h. subst (λ (v : Scanner). ScanStands v s) (sym c.set.ensures.new) (stands_inside c.args.content c.args.drop_newline c.args.self.now s (c.set.ensures.between c.requires.between) h)

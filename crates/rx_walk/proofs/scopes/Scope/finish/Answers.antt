@@ -3,9 +3,8 @@ use Rattle.rx_names.specs.Lines.{Kept}
 use Rattle.rx_nest.specs.Signs.{finished}
 use Rattle.rx_base.specs.Lines.{line_of}
 use Rattle.rx_walk.proofs.Fronting.{front_left}
-use Rattle.rx_walk.proofs.Coursing.{popped_around, marks_of}
+use Rattle.rx_walk.proofs.Coursing.{popped_around, marks_of, absolute_around}
 use Rattle.rx_walk.proofs.Accepted.{accepts_more}
-use Rattle.rx_walk.proofs.Coursing.{absolute_around}
 use Rattle.rx_walk.proofs.scopes.Scope.finish.Goals as goal
 
 pub pop-requires : goal.pop-requires

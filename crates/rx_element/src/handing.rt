@@ -1,0 +1,48 @@
+//! What an element hands on to its children (RDFa Core 1.1, section 7.5, steps 10 and 13).
+ghost use Rattle.std.specs.Prelude.{◌≡◌, IfOk, option_map};
+ghost use Rattle.rx_model.specs.Seen.{node_seen};
+ghost use Rattle.rx_rdfa.specs.Inherited.{hangs, holds_some, listed, object_below};
+ghost use Rattle.rx_curie.specs.Seen.{facts_seen};
+ghost use Rattle.rx_element.specs.Found.{found_seen};
+ghost use Rattle.rx_element.specs.Places.{naming, standing};
+
+use crate::places::Surroundings;
+use crate::resources::{Found, clone_option};
+use rx_curie::Facts;
+use rx_terms::{Iris, NoMemory, Node};
+
+fn has_some(predicates: &Option<Iris>) -> bool
+    ensures { result ≡ holds_some (listed predicates.now) }
+{
+    match predicates {
+        Some(predicates) => !predicates.is_empty(),
+        None => false,
+    }
+}
+
+/// Whether the predicates of `rel` and `rev` wait for subjects further down (RDFa Core 1.1, section 7.5, step 10).
+#[inline]
+pub fn hangs(facts: &Facts, found: &Found) -> bool
+    ensures { result ≡ hangs (facts_seen facts.now) (found_seen found.now) }
+{
+    if found.object.is_some() {
+        return false;
+    }
+    has_some(&facts.rel) || has_some(&facts.rev)
+}
+
+/// The object that the children inherit, where it isn't the subject (RDFa Core 1.1, section 7.5, step 13).
+#[inline]
+pub fn object_below(
+    place: &Surroundings<'_>,
+    facts: &Facts,
+    found: &Found,
+) -> Result<Option<Node>, NoMemory>
+    ensures { IfOk result (λ object. option_map node_seen object
+        ≡ object_below (naming place.now) (standing place.now (facts_seen facts.now)) (found_seen found.now)) }
+{
+    if hangs(facts, found) {
+        return Ok(Some(place.fresh()));
+    }
+    clone_option(&found.object)
+}

@@ -1,0 +1,7 @@
+use Rattle.std.proofs.Common.{◌∙◌, refl}
+use Rattle.std.specs.Prelude.{codes}
+use Rattle.rx_terms.proofs.CharLemmas.{same-ascii}
+use Rattle.rx_nest.proofs.element_names.is_plaintext.Goals as goal
+
+pub returns : goal.returns
+returns c = c.is_word.ensures ∙ same-ascii c.args.name.now (codes "plaintext") c.utf8.name refl

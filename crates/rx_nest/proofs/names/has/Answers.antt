@@ -1,8 +1,0 @@
-use Rattle.std.proofs.Common.{◌∙◌}
-use Rattle.rx_nest.proofs.NameLemmas.{among-chars}
-use Rattle.rx_nest.specs.Rows.{row_seen}
-use Rattle.rx_nest.proofs.RowLemmas.{row_ascii}
-use Rattle.rx_nest.proofs.names.has.Goals as goal
-
-pub returns : goal.returns
-returns c = c.has.ensures ∙ among-chars (row_seen c.args.row) (row_ascii c.args.row) c.args.name.now c.utf8.name

@@ -1,9 +1,0 @@
-use Rattle.std.proofs.Common.{◌∙◌, sym, refl}
-use Rattle.rx_nest.proofs.NameLemmas.{among-chars}
-use Rattle.rx_nest.proofs.OrdinaryLemmas.{ordinary}
-use Rattle.rx_nest.specs.Ordinary.{ordinary_names}
-use Rattle.std.specs.Str.{chars}
-use Rattle.rx_nest.proofs.names.is_ordinary.Goals as goal
-
-pub returns : goal.returns
-returns c = λ e. ordinary (chars c.args.name.now) (sym (c.is_ordinary.ensures ∙ among-chars ordinary_names refl c.args.name.now c.utf8.name) ∙ e)

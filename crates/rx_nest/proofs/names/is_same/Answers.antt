@@ -1,6 +1,0 @@
-use Rattle.std.proofs.Common.{◌∙◌}
-use Rattle.rx_terms.proofs.CharLemmas.{same-chars}
-use Rattle.rx_nest.proofs.names.is_same.Goals as goal
-
-pub returns : goal.returns
-returns c = c.eq.ensures ∙ same-chars c.args.a.now c.args.b.now c.utf8.a c.utf8.b

@@ -1,6 +1,0 @@
-use Rattle.std.proofs.Common.{◌∙◌}
-use Rattle.rx_refs.proofs.CutLemmas.{empty-chars}
-use Rattle.rx_refs.proofs.slices.is_empty.Goals as goal
-
-pub returns : goal.returns
-returns c = c.is_empty.ensures ∙ empty-chars c.args.text.now c.utf8.text

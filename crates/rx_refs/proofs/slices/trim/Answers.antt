@@ -1,5 +1,0 @@
-use Rattle.rx_refs.proofs.TrimLemmas.{trim-chars}
-use Rattle.rx_refs.proofs.slices.trim.Goals as goal
-
-pub returns : goal.returns
-returns c = trim-chars _ _ c.utf8.text c.trim_ascii.utf8 c.trim_ascii.ensures.value
