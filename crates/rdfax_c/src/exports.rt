@@ -21,7 +21,8 @@ pub extern "C" fn rdfax_extract(
     context: &[u8],
     page: &mut Page,
 ) -> u32
-    ensures { OpensPage (extraction_in options.now.syntax options.now.format address.now (given options.now.has_graph graph.now)) (given options.now.has_context context.now) result page.new.handle.session }
+    ensures { OpensPage (extraction_in options.now.syntax options.now.format address.now (given options.now.has_graph graph.now))
+        (given options.now.has_context context.now) result page.new.handle.session }
 {
     let opened = open_extraction(
         alloc,

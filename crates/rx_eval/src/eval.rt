@@ -171,7 +171,8 @@ impl Eval {
     /// Text inside the innermost element. It is kept only while some open element gathers it; else it takes no memory.
     pub fn text(&mut self, text: &str) -> Result<(), NoMemory>
         ensures ok { OnOk result (self.new ≡ read_text (chars text.now) self.old) }
-        ensures stands { OnOk result ((to : Numbering) (list : List Call) → EvaluatorStands to list self.old → EvaluatorStands to (list ++ Read (chars text.now) ∷ []) self.new) }
+        ensures stands { OnOk result ((to : Numbering) (list : List Call) → EvaluatorStands to list self.old
+            → EvaluatorStands to (list ++ Read (chars text.now) ∷ []) self.new) }
         ensures unspent { OnOk result (self.old.spent ≡ false) }
         ensures spent { OnErr result (self.new.spent ≡ true) }
         ensures quiet { self.old.spent ≡ false → gathers_some self.old.frames ≡ false → IsOk result }

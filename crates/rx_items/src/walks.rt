@@ -76,8 +76,10 @@ impl ItemWalk {
     /// Takes the whole piece. Text takes no memory where no value gathers it: a piece without `<` and `&` then never wants
     /// memory where no token is unfinished.
     pub fn feed(&mut self, piece: &[u8]) -> Result<(), Stop>
-        ensures gives { (setting : Setting) (bytes : List ℕ) → walks.ItemWalkStands setting self.old bytes → walks.FeedGives setting bytes piece.now result self.new }
-        ensures place { (setting : Setting) (bytes : List ℕ) → walks.ItemWalkStands setting self.old bytes → PlaceGives (way_of setting) bytes piece.now result }
+        ensures gives { (setting : Setting) (bytes : List ℕ) → walks.ItemWalkStands setting self.old bytes
+            → walks.FeedGives setting bytes piece.now result self.new }
+        ensures place { (setting : Setting) (bytes : List ℕ) → walks.ItemWalkStands setting self.old bytes
+            → PlaceGives (way_of setting) bytes piece.now result }
         ensures quiet { (setting : Setting) (bytes : List ℕ) → walks.ItemWalkStands setting self.old bytes → IsBetween setting.syntax setting.limits bytes
             → is_quiet piece.now ≡ true → IsIdle self.old.listener.table → IsNoMemory result ≡ false }
         ensures asked { MayAnswer self.old.failed self.old.spent result }

@@ -62,7 +62,8 @@ impl Session {
         extraction: Extraction,
         context: Context,
     ) -> Result<Session, NoMemory>
-        ensures { IfOk result (λ session. IsFed (extracts (record { syntax = extraction.syntax; format = extraction.format; graph = extraction.graph; address = extraction.address })) context [] session) }
+        ensures { IfOk result (λ session. IsFed (extracts (record { syntax = extraction.syntax; format = extraction.format; graph = extraction.graph; address = extraction.address }))
+            context [] session) }
     {
         let Extraction {
             syntax,
@@ -108,7 +109,8 @@ impl Session {
 
     /// Takes the whole piece.
     pub fn feed(&mut self, piece: &[u8]) -> Result<(), SessionError>
-        ensures gives { (task : Task) (context : RulesContext) (bytes : List ℕ) → IsFed task context bytes self.old → FeedGives task context bytes piece.now result self.new }
+        ensures gives { (task : Task) (context : RulesContext) (bytes : List ℕ) → IsFed task context bytes self.old
+            → FeedGives task context bytes piece.now result self.new }
         ensures again { FeedAgain self.old result self.new }
     {
         match &mut self.state {
@@ -124,7 +126,8 @@ impl Session {
 
     /// The page's end: its text is there then.
     pub fn finish(&mut self, alloc: Global) -> Result<(), SessionError>
-        ensures gives { (task : Task) (context : RulesContext) (bytes : List ℕ) → IsFed task context bytes self.old → FinishGives task context bytes result self.new }
+        ensures gives { (task : Task) (context : RulesContext) (bytes : List ℕ) → IsFed task context bytes self.old
+            → FinishGives task context bytes result self.new }
         ensures again { FinishAgain self.old result self.new }
     {
         match mem::replace(&mut self.state, State::Spent) {

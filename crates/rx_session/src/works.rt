@@ -30,7 +30,8 @@ pub(crate) enum Work {
 impl Work {
     /// Takes the whole piece.
     pub(crate) fn feed(&mut self, piece: &[u8]) -> Result<(), Stop>
-        ensures { (task : Task) (context : RulesContext) (bytes : List ℕ) → IsAt task context self.old bytes → PieceGives task context bytes piece.now result self.new }
+        ensures { (task : Task) (context : RulesContext) (bytes : List ℕ) → IsAt task context self.old bytes
+            → PieceGives task context bytes piece.now result self.new }
     {
         match self {
             Work::Extracts { walk, .. } => walk.feed(piece),
@@ -53,7 +54,8 @@ impl Work {
 
 /// The text of the page's triples.
 fn extracted(alloc: Global, walk: Walk, form: Form) -> Result<Vec<u8>, Stop>
-    ensures { (e : Extraction) (context : RulesContext) (bytes : List ℕ) → walks.WalkStands (setting_for e.syntax context) e.address walk bytes → form ≡ form_in e.format e.graph context → EndGives (extracts e) context bytes result }
+    ensures { (e : Extraction) (context : RulesContext) (bytes : List ℕ) → walks.WalkStands (setting_for e.syntax context) e.address walk bytes → form ≡ form_in e.format e.graph context
+        → EndGives (extracts e) context bytes result }
 {
     let list = match walk.finish() {
         Ok(list) => list,
@@ -79,7 +81,8 @@ fn extracted(alloc: Global, walk: Walk, form: Form) -> Result<Vec<u8>, Stop>
 
 /// The text of the page's items.
 fn itemized(alloc: Global, walk: ItemWalk) -> Result<Vec<u8>, Stop>
-    ensures { (i : Itemization) (context : RulesContext) (bytes : List ℕ) → items.ItemWalkStands (item_setting_for i.syntax i.address) walk bytes → EndGives (itemizes i) context bytes result }
+    ensures { (i : Itemization) (context : RulesContext) (bytes : List ℕ) → items.ItemWalkStands (item_setting_for i.syntax i.address) walk bytes
+        → EndGives (itemizes i) context bytes result }
 {
     let found = match walk.finish() {
         Ok(found) => found,
@@ -99,7 +102,8 @@ fn itemized(alloc: Global, walk: ItemWalk) -> Result<Vec<u8>, Stop>
 
 /// That the page is one.
 fn checked(alloc: Global, check: Check) -> Result<Vec<u8>, Stop>
-    ensures { (syntax : syntaxes.Syntax) (context : RulesContext) (bytes : List ℕ) → checks.CheckStands (setting_for syntax context) check bytes → EndGives (checks syntax) context bytes result }
+    ensures { (syntax : syntaxes.Syntax) (context : RulesContext) (bytes : List ℕ) → checks.CheckStands (setting_for syntax context) check bytes
+        → EndGives (checks syntax) context bytes result }
 {
     match check.finish() {
         Ok(()) => {}

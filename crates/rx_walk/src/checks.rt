@@ -51,7 +51,8 @@ impl Check {
     /// Takes the whole piece. Text takes no memory: a piece without `<` and `&` never wants memory where no token is
     /// unfinished, whatever elements are open.
     pub fn feed(&mut self, piece: &[u8]) -> Result<(), Stop>
-        ensures gives { (setting : Setting) (bytes : List ℕ) → checks.CheckStands setting self.old bytes → checks.FeedGives setting bytes piece.now result self.new }
+        ensures gives { (setting : Setting) (bytes : List ℕ) → checks.CheckStands setting self.old bytes
+            → checks.FeedGives setting bytes piece.now result self.new }
         ensures place { (setting : Setting) (bytes : List ℕ) → checks.CheckStands setting self.old bytes → PlaceGives (way_of setting) bytes piece.now result }
         ensures quiet { (setting : Setting) (bytes : List ℕ) → checks.CheckStands setting self.old bytes
             → IsBetween setting.syntax setting.limits bytes → is_quiet piece.now ≡ true → IsNoMemory result ≡ false }
