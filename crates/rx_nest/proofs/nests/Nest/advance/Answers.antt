@@ -1,4 +1,4 @@
-use Rattle.std.proofs.Common.{◌≡◌, ◌≢◌, ◌∙◌, ℕ, ◌++◌, refl, sym, ap, subst, Option, Some, None, Err}
+use Rattle.std.proofs.Common.{◌≡◌, ◌≢◌, ◌∙◌, ℕ, ◌++◌, true, refl, sym, ap, subst, Option, Some, None, Err}
 use Rattle.rx_nest.specs.declared.tree_tokens.PendingEvents.{PendingEvents}
 use Rattle.rx_nest.specs.declared.tree_tokens.EventKind.{EventKind}
 use Rattle.rx_nest.specs.declared.tree_tokens.TreeToken.{TreeToken}
@@ -9,7 +9,7 @@ use Rattle.rx_nest.proofs.Sizes.{faults_so}
 use Rattle.rx_nest.proofs.OpenElements.{open_before}
 use Rattle.rx_nest.proofs.nests.Nest.advance.Goals as goal
 
-none_of : (o : Option (EventKind × PendingEvents)) → ((x : EventKind × PendingEvents) → o ≢ Some x) → o ≡ None
+none_of : {A : Type 0} (o : Option A) → ((x : A) → o ≢ Some x) → o ≡ None
 none_of None n = refl
 none_of (Some x) n = absurd (n x refl)
 
@@ -30,19 +30,19 @@ invariant_of-self-in-Ok c unfailed unspent =
     )
 
 -- what is due lends what was lent
-pub invariant_of-self-in-Some-next_owed : goal.invariant_of-self-in-Some-next_owed
-invariant_of-self-in-Some-next_owed c unfailed unspent =
+pub invariant_of-self : goal.invariant_of-self
+invariant_of-self c unfailed unspent =
     let was = c.self.invariant unfailed unspent in
     (was.0, (due c.self.inside.owed c.in-Some-next_owed.did c.in-Some-next_owed.owed c.self.inside.scan (sym c.next_owed.ensures ∙ c.in-Some-next_owed.is) was.1).begin_left)
 
 pub returns-in-Some-next_owed-clause-lends : goal.returns-in-Some-next_owed-clause-lends
 returns-in-Some-next_owed-clause-lends c =
-    let was = c.self.invariant ? ? in
+    let was = c.self.invariant (none_of c.self.inside.failed c.in_default.not-Some) c.if-self.false in
     (due c.self.inside.owed c.in-Some-next_owed.did c.in-Some-next_owed.owed c.self.inside.scan (sym c.next_owed.ensures ∙ c.in-Some-next_owed.is) was.1).lends
 
 pub returns-in-Ok-clause-lends : goal.returns-in-Ok-clause-lends
 returns-in-Ok-clause-lends c =
-    let s = (c.self.invariant ? ?).0 in
+    let s = (c.self.invariant (none_of c.self.inside.failed c.in_default.not-Some) c.if-self.false).0 in
     let heeds = c.in-Ok.ensures.reads s.syntax s.limits s.bytes s.told s.at in
     subst (λ (p : EventKind × PendingEvents). DidLends p.0 c.read.new.scan) (sym c.first_of-did.ensures) (first_turn c.in-Ok.tree_token c.read.new.scan heeds.lends).lends
 
