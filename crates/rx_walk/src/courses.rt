@@ -11,6 +11,7 @@ ghost use Rattle.rx_nest.specs.Signs.{begun, said, finished};
 ghost use Rattle.rx_walk.specs.Quiets.{IsIdle};
 ghost use Rattle.rx_walk.specs.Courses.{Runs, runs_at, way_at, MayHear, FactsGive, HearsOn};
 ghost use Rattle.rx_walk.specs.RefusalLaws.{refusal_laws};
+ghost use Rattle.rx_terms.specs.Text.{Chars};
 ghost use Rattle.rx_walk.specs.Settings.{Setting};
 
 use crate::origins::Origin;
