@@ -1,9 +1,14 @@
-use Rattle.std.proofs.Common.{OnOk, IsErrOf, ℕ, List, subst, sym}
+use Rattle.std.proofs.Common.{OnOk, IsErrOf, ℕ, List, subst, sym, rules}
 use Rattle.rx_ports.specs.Shelves.{Moves, GrowsBy, GrowsByPart}
 use Rattle.rx_pieces.specs.declared.errors.WriteError.TheVariants as error
 use Rattle.rx_command.specs.Written.{text_of, Denoted}
 use Rattle.rx_command.specs.declared.outcomes.Outcome.{Outcome}
 use Rattle.rx_command.proofs.outcomes.Outcome.write.Goals as goal
+
+pub returns-in-Quads-clause-partly : goal.returns-in-Quads-clause-partly
+returns-in-Quads-clause-partly g c =
+    subst (λ (bytes : List ℕ). IsErrOf c.write-in-Quads.result error.Failed → Moves {A = List ℕ} (GrowsByPart bytes) (g.O.Sink.held c.args.out.now) (g.O.Sink.held c.write-in-Quads.new.sink))
+    (search rules) c.write-in-Quads.ensures.partly
 
 pub returns-in-Turtle-clause-ok : goal.returns-in-Turtle-clause-ok
 returns-in-Turtle-clause-ok g c =
