@@ -7,8 +7,8 @@ use Rattle.rx_command.proofs.outcomes.Outcome.write.Goals as goal
 
 pub returns-in-Quads-clause-partly : goal.returns-in-Quads-clause-partly
 returns-in-Quads-clause-partly g c =
-    subst (λ (bytes : List ℕ). IsErrOf c.write-in-Quads.result error.Failed → Moves {A = List ℕ} (GrowsByPart bytes) (g.O.Sink.held c.args.out.now) (g.O.Sink.held c.write-in-Quads.new.sink))
-    (search rules) c.write-in-Quads.ensures.partly
+    subst (λ (bytes : List ℕ). IsErrOf c.write.result error.Failed → Moves {A = List ℕ} (GrowsByPart bytes) (g.O.Sink.held c.args.out.now) (g.O.Sink.held c.write.new.sink))
+    (search rules) c.write.ensures.partly
 
 pub returns-in-Turtle-clause-ok : goal.returns-in-Turtle-clause-ok
 returns-in-Turtle-clause-ok g c =
