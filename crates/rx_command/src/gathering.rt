@@ -44,10 +44,7 @@ pub(crate) fn gather<F: Shelf>(
         context,
         pages,
     } = several;
-    let context = match read_context(alloc, shelf, context) {
-        Ok(context) => context,
-        Err(error) => return Err(error),
-    };
+    let context = read_context(alloc, shelf, context)?;
     let Ok(mut many) = Many::new(alloc) else {
         drop(context);
         return Err(InputError::NoMemory);
@@ -105,10 +102,7 @@ fn gather_by<F: Shelf>(
 {
     for i in 0..pages.len() {
         let (address, page) = pages.at(i);
-        match gather_page(alloc, shelf, syntax, context, address, page, piece, many) {
-            Ok(()) => {}
-            Err(error) => return Err(error),
-        }
+        gather_page(alloc, shelf, syntax, context, address, page, piece, many)?;
     }
     Ok(())
 }
@@ -186,8 +180,6 @@ fn refuse(address: &Iri, fault: Fault, many: &mut Many) -> Result<(), InputError
     ensures ok { OnOk result (many.new ≡ many.old ++ refused_page address.now fault ∷ []) }
     ensures memory { (error : errors.InputError) → result ≡ Err error → error ≡ InputError.NoMemory }
 {
-    match many.refuse(address, fault) {
-        Ok(()) => Ok(()),
-        Err(NoMemory) => Err(InputError::NoMemory),
-    }
+    many.refuse(address, fault)?;
+    Ok(())
 }

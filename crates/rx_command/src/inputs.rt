@@ -78,10 +78,7 @@ fn outcome_under_context<F: Shelf>(
     ensures cleanly { IsErrOf result InputError.Failed → Moves (StopsCleanly (Some (page_by job.now))) (F.told shelf.old) (F.told shelf.new) }
     ensures later { F.faults shelf.old ≤ F.faults shelf.new }
 {
-    let context = match read_context(alloc, shelf, job.context()) {
-        Ok(context) => context,
-        Err(error) => return Err(error),
-    };
+    let context = read_context(alloc, shelf, job.context())?;
     match job {
         Job::Extract {
             syntax,
@@ -138,10 +135,7 @@ fn extract<F: Shelf>(
             return Err(error);
         }
     };
-    match Outcome::of(alloc, list, form) {
-        Ok(outcome) => Ok(outcome),
-        Err(NoMemory) => Err(InputError::NoMemory),
-    }
+    Ok(Outcome::of(alloc, list, form)?)
 }
 
 /// The text of a page's items.
@@ -162,10 +156,7 @@ fn itemize<F: Shelf>(
     ensures cleanly { StopsBy result (way_for syntax (for_items address)) (encode_utf8_all page.now) (F.told shelf.old) (F.told shelf.new) }
     ensures later { F.faults shelf.old ≤ F.faults shelf.new }
 {
-    let found = match read_items(alloc, shelf, page.as_str(), syntax, address) {
-        Ok(found) => found,
-        Err(error) => return Err(error),
-    };
+    let found = read_items(alloc, shelf, page.as_str(), syntax, address)?;
     match text_of_items(alloc, &found) {
         Ok(text) => {
             drop(found);

@@ -17,14 +17,8 @@ use std::alloc::Global;
 pub fn text_of_items(alloc: Global, items: &Items) -> Result<Vec<u8>, Stop>
     ensures { (address : Chars) (tree : Tree) → AreItems address tree items.now → JsonTextGives (λ text. text.items) address tree result }
 {
-    let text = match items.text(alloc) {
-        Ok(text) => text,
-        Err(stop) => return Err(stop),
-    };
-    match ended(text) {
-        Ok(line) => Ok(line),
-        Err(NoMemory) => Err(Stop::NoMemory),
-    }
+    let text = items.text(alloc)?;
+    Ok(ended(text)?)
 }
 
 /// The compact JSON of the graph as JSON-LD, and a line feed.
@@ -35,8 +29,7 @@ pub(crate) fn text_of_graph(alloc: Global, graph: &Graph) -> Result<Vec<u8>, NoM
     let shapes = Shapes::of(alloc, graph)?;
     let found = rx_jsonld::text(alloc, graph, &shapes);
     drop(shapes);
-    let text = ended(found?)?;
-    Ok(text)
+    Ok(ended(found?)?)
 }
 
 /// The text, and a line feed.

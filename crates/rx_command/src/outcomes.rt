@@ -101,10 +101,8 @@ fn json_of(alloc: Global, graph: Graph) -> Result<Outcome, NoMemory>
 {
     let text = text_of_graph(alloc, &graph);
     drop(graph);
-    match text {
-        Ok(text) => Ok(Outcome::Json(text)),
-        Err(NoMemory) => Err(NoMemory),
-    }
+    let text = text?;
+    Ok(Outcome::Json(text))
 }
 
 /// Writes a text that is whole.

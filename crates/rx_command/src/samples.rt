@@ -88,9 +88,7 @@ impl Feeding {
         for number in 0..count {
             self.item(alloc, number)?;
         }
-        let Ok(()) = self.piece.extend_from_slice(TAIL) else {
-            return Err(NoMemory);
-        };
+        self.piece.extend_from_slice(TAIL)?;
         self.take()
     }
 
@@ -101,13 +99,9 @@ impl Feeding {
         ensures { OnOk result (FedTo (suc number) self.new) }
     {
         let before = item_before(alloc, number)?;
-        let Ok(()) = self.piece.extend_from_slice(before.as_bytes()) else {
-            return Err(NoMemory);
-        };
+        self.piece.extend_from_slice(before.as_bytes())?;
         self.take()?;
-        let Ok(()) = self.piece.extend_from_slice(ITEM_BEHIND) else {
-            return Err(NoMemory);
-        };
+        self.piece.extend_from_slice(ITEM_BEHIND)?;
         Ok(())
     }
 
@@ -168,10 +162,8 @@ fn line_of(
 {
     let graph = graph_of(alloc, list)?;
     let text = text(alloc, &graph, None)?;
-    match line_with(alloc, count, size, graph.len(), text.len(), depth) {
-        Ok(line) => Ok(line.into_bytes()),
-        Err(_no_memory) => Err(NoMemory),
-    }
+    let line = line_with(alloc, count, size, graph.len(), text.len(), depth)?;
+    Ok(line.into_bytes())
 }
 
 fn line_with(

@@ -164,10 +164,8 @@ impl Facts {
         if let Some(kind) = refusal_by(&attributes, names) {
             return Err(FactsError::Meaning(kind));
         }
-        match self.read(maker, tag.name(), &attributes, names) {
-            Ok(()) => Ok(()),
-            Err(NoMemory) => Err(FactsError::NoMemory),
-        }
+        self.read(maker, tag.name(), &attributes, names)?;
+        Ok(())
     }
 
     /// Reads what a tag of this name says, which has these attributes.

@@ -41,10 +41,8 @@ impl TypeList {
         ensures ok { OnOk result (self.new ≡ self.old ++ node ∷ []) }
         ensures err { OnErr result (self.new ≡ self.old) }
     {
-        match self.nodes.push(node) {
-            Ok(()) => Ok(()),
-            Err(_refused) => Err(NoMemory),
-        }
+        self.nodes.push(node)?;
+        Ok(())
     }
 
     /// How many nodes there are.

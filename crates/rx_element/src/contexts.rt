@@ -51,10 +51,8 @@ impl Hangings {
         if list.is_empty() {
             return Ok(Hangings { list: None });
         }
-        match Rc::new(alloc, list) {
-            Ok(list) => Ok(Hangings { list: Some(list) }),
-            Err(_refused) => Err(NoMemory),
-        }
+        let list = Rc::new(alloc, list)?;
+        Ok(Hangings { list: Some(list) })
     }
 
     /// The same list for one more.

@@ -105,11 +105,7 @@ fn add_row(
     ensures same_numbers { OnErr result (numbers.new.items ≡ numbers.old.items) }
 {
     numbers.reserve(1)?;
-    let Ok(_is_new) = keys.insert(key) else {
-        return Err(NoMemory);
-    };
-    match numbers.push(number) {
-        Ok(()) => Ok(()),
-        Err(_refused) => Err(NoMemory),
-    }
+    let _is_new = keys.insert(key)?;
+    numbers.push(number)?;
+    Ok(())
 }

@@ -70,9 +70,7 @@ pub(crate) fn slot_each(
     let mut slots = Vec::new(alloc);
     for i in 0..predicates.len() {
         let slot = lists.slot(owner, predicates.at(i))?;
-        let Ok(()) = slots.push(slot) else {
-            return Err(NoMemory);
-        };
+        slots.push(slot)?;
     }
     Ok(slots)
 }

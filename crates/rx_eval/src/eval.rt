@@ -287,9 +287,7 @@ impl Eval {
         )?;
         let drawn = next_number(&frame.context, fresh);
         let gathers = frame.gathered.is_some();
-        let Ok(()) = self.frames.push(frame) else {
-            return Err(NoMemory);
-        };
+        self.frames.push(frame)?;
         self.drawn = drawn;
         self.outermost = first_of(self.outermost, gathers, depth);
         Ok(())

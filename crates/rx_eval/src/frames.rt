@@ -70,9 +70,7 @@ fn push_forward(
 {
     for i in 0..predicates.len() {
         let one = forward(predicates.at(i), inlist, owner)?;
-        let Ok(()) = waiting.push(one) else {
-            return Err(NoMemory);
-        };
+        waiting.push(one)?;
     }
     Ok(())
 }
@@ -82,9 +80,7 @@ fn push_reverse(waiting: &mut Vec<Waiting>, predicates: &Iris) -> Result<(), NoM
 {
     for i in 0..predicates.len() {
         let one = Waiting::Reverse(predicates.at(i).try_clone()?);
-        let Ok(()) = waiting.push(one) else {
-            return Err(NoMemory);
-        };
+        waiting.push(one)?;
     }
     Ok(())
 }

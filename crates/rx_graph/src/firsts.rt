@@ -47,9 +47,7 @@ impl<'a> Firsts<'a> {
         ensures added { OnOk result (self.new ≡ added self.old (triple_seen triple.now)) }
         ensures new { IfOk result (λ is_new. is_new ≡ not (contains (same_triple nat_eq) self.old (triple_seen triple.now))) }
     {
-        let Ok((_place, is_new)) = self.triples.insert_full(Lent(triple)) else {
-            return Err(NoMemory);
-        };
+        let (_place, is_new) = self.triples.insert_full(Lent(triple))?;
         Ok(is_new)
     }
 
@@ -100,9 +98,7 @@ fn marks_by(
     for i in 0..triples.len() {
         let is_new = firsts.add_if(repeated.has(keys[i]), triples.at(i))?;
         all_new = all_new & is_new;
-        let Ok(()) = marks.push(is_new) else {
-            return Err(NoMemory);
-        };
+        marks.push(is_new)?;
     }
     if all_new {
         return Ok(None);

@@ -119,9 +119,7 @@ impl Graph {
     {
         let mut triples = Vec::with_capacity(alloc, self.len())?;
         for i in 0..self.len() {
-            let Ok(()) = triples.push(self.at(i).try_clone()?) else {
-                return Err(NoMemory);
-            };
+            triples.push(self.at(i).try_clone()?)?;
         }
         Ok(Graph::of_distinct(triples))
     }
@@ -166,8 +164,6 @@ fn push_first(marked: &mut Vec<Triple>, triple: Triple, is_first: bool) -> Resul
     if !is_first {
         return Ok(());
     }
-    let Ok(()) = marked.push(triple) else {
-        return Err(NoMemory);
-    };
+    marked.push(triple)?;
     Ok(())
 }

@@ -115,9 +115,7 @@ fn spread_to(
         return Ok(());
     }
     marks.set(number, mark);
-    let Ok(()) = found.push(number) else {
-        return Err(NoMemory);
-    };
+    found.push(number)?;
     Ok(())
 }
 

@@ -14,9 +14,7 @@ pub(crate) fn keys_of(alloc: Global, triples: &TripleList) -> Result<Vec<u64>, N
 {
     let mut keys = Vec::with_capacity(alloc, triples.len())?;
     for i in 0..triples.len() {
-        let Ok(()) = keys.push(key_of(triples.at(i))) else {
-            return Err(NoMemory);
-        };
+        keys.push(key_of(triples.at(i)))?;
     }
     Ok(keys)
 }

@@ -36,9 +36,7 @@ impl Marks {
     {
         let mut marks = Vec::with_capacity(alloc, size)?;
         for number in 0..size {
-            let Ok(()) = marks.push(number) else {
-                return Err(NoMemory);
-            };
+            marks.push(number)?;
         }
         Ok(Marks { marks })
     }

@@ -132,9 +132,7 @@ impl Numbers {
         ensures known { OnOk result (self.new ≡ known_one self.old blank.0) }
         ensures place { IfOk result (λ number. number.0 ≡ place_in nat_eq self.new blank.0) }
     {
-        let Ok((place, _is_new)) = self.blanks.insert_full(blank) else {
-            return Err(NoMemory);
-        };
+        let (place, _is_new) = self.blanks.insert_full(blank)?;
         Ok(Blank(place as u64))
     }
 

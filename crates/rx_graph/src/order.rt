@@ -32,9 +32,7 @@ fn begin(number: usize, begun: &mut Marks, open: &mut Vec<Open>) -> Result<(), N
         return Ok(());
     }
     begun.set(number, 0);
-    let Ok(()) = open.push(Open { number, gone: 0 }) else {
-        return Err(NoMemory);
-    };
+    open.push(Open { number, gone: 0 })?;
     Ok(())
 }
 
@@ -63,18 +61,14 @@ fn go_on(
 ) -> Result<(), NoMemory> {
     let row = links.numbers(last.number);
     if last.gone >= row.len() {
-        let Ok(()) = left.push(last.number) else {
-            return Err(NoMemory);
-        };
+        left.push(last.number)?;
         return Ok(());
     }
     let further = Open {
         number: last.number,
         gone: last.gone + 1,
     };
-    let Ok(()) = open.push(further) else {
-        return Err(NoMemory);
-    };
+    open.push(further)?;
     begin(row[last.gone], begun, open)
 }
 
@@ -84,9 +78,7 @@ pub(crate) fn tops(alloc: Global, order: &[usize], marks: &Marks) -> Result<Vec<
     for i in 0..order.len() {
         let number = order[order.len() - 1 - i];
         if marks.at(number) == number {
-            let Ok(()) = tops.push(number) else {
-                return Err(NoMemory);
-            };
+            tops.push(number)?;
         }
     }
     Ok(tops)

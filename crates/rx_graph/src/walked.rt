@@ -37,9 +37,7 @@ pub(crate) fn walk(alloc: Global, triples: &TripleList) -> Result<Option<Walked>
             return Ok(None);
         }
         next = next_behind(triple, next);
-        let Ok(()) = keys.push(key_of(triple)) else {
-            return Err(NoMemory);
-        };
+        keys.push(key_of(triple))?;
     }
     let is_numbered = next.is_some();
     Ok(Some(Walked { keys, is_numbered }))

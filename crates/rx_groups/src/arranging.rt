@@ -25,8 +25,7 @@ pub fn arranged<'a>(alloc: Global, graph: &'a Graph) -> Result<Vec<&'a Triple>, 
 {
     let triples = borrowed(alloc, graph)?;
     let subjects = Groups::of(alloc, &triples, By::Subject)?;
-    let list = arrange(alloc, &subjects, triples.len())?;
-    Ok(list)
+    Ok(arrange(alloc, &subjects, triples.len())?)
 }
 
 /// The triples, with those of one predicate side by side. Predicates come in order of first occurrence, and so do the
@@ -136,9 +135,7 @@ fn push_if<'a>(
     if !has_key(triple, By::Predicate, key) {
         return Ok(());
     }
-    let Ok(()) = list.push(triple) else {
-        return Err(NoMemory);
-    };
+    list.push(triple)?;
     Ok(())
 }
 
@@ -157,9 +154,7 @@ fn push_all<'a>(list: &mut Vec<&'a Triple>, triples: &[&'a Triple]) -> Result<()
     ensures { OnOk result (Gains list.old.items list.new.items (lent_triples triples.now)) }
 {
     for i in 0..triples.len() {
-        let Ok(()) = list.push(triples[i]) else {
-            return Err(NoMemory);
-        };
+        list.push(triples[i])?;
     }
     Ok(())
 }

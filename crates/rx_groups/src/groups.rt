@@ -136,10 +136,8 @@ impl<'a> Groups<'a> {
             key,
             triples: Vec::new(alloc),
         };
-        match self.groups.push(group) {
-            Ok(()) => Ok(()),
-            Err(_refused) => Err(NoMemory),
-        }
+        self.groups.push(group)?;
+        Ok(())
     }
 
     fn put_within(&mut self, place: usize, triple: &'a Triple) -> Result<(), NoMemory>

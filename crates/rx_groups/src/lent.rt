@@ -13,9 +13,7 @@ pub fn borrowed<'a>(alloc: Global, graph: &'a Graph) -> Result<Vec<&'a Triple>, 
 {
     let mut triples = Vec::with_capacity(alloc, graph.len())?;
     for i in 0..graph.len() {
-        let Ok(()) = triples.push(graph.at(i)) else {
-            return Err(NoMemory);
-        };
+        triples.push(graph.at(i))?;
     }
     Ok(triples)
 }

@@ -37,8 +37,6 @@ fn add_rest(list: &mut Vec<Run>, run: Run, end: usize) -> Result<usize, NoMemory
     if run.to <= from {
         return Ok(end);
     }
-    let Ok(()) = list.push(Run { from, to: run.to }) else {
-        return Err(NoMemory);
-    };
+    list.push(Run { from, to: run.to })?;
     Ok(run.to)
 }

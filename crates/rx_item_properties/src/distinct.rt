@@ -72,10 +72,7 @@ fn see<'a>(seen: &mut BTreeSet<&'a str>, token: &'a str) -> Result<bool, NoMemor
     ensures is_new { IfOk result (λ is_new. is_new ≡ not (has_text seen.old token.now)) }
     ensures added { OnOk result ((text : List ℕ) → has_text seen.new text ≡ (same token.now text || has_text seen.old text)) }
 {
-    match seen.insert(token) {
-        Ok(is_new) => Ok(is_new),
-        Err(_) => Err(NoMemory),
-    }
+    Ok(seen.insert(token)?)
 }
 
 /// A text more at the end.
@@ -83,8 +80,6 @@ fn push_text(alloc: Global, list: &mut Vec<Text>, text: &str) -> Result<(), NoMe
     ensures { OnOk result (list.new.items ≡ list.old.items ++ chars text.now ∷ []) }
 {
     let text = Text::of(alloc, text)?;
-    let Ok(()) = list.push(text) else {
-        return Err(NoMemory);
-    };
+    list.push(text)?;
     Ok(())
 }

@@ -114,9 +114,7 @@ fn add_others(list: &mut Vec<usize>, members: &[usize], place: usize) -> Result<
         if *member == place {
             continue;
         }
-        let Ok(()) = list.push(*member) else {
-            return Err(NoMemory);
-        };
+        list.push(*member)?;
     }
     Ok(())
 }

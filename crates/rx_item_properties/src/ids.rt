@@ -50,10 +50,8 @@ fn note_id<'a>(
 fn put_id<'a>(ids: &mut BTreeMap<&'a str, usize>, id: &'a str, place: usize) -> Result<(), NoMemory>
     ensures { OnOk result ((text : List ℕ) → place_of ids.new text ≡ (if same id.now text then Some place else place_of ids.old text)) }
 {
-    match ids.insert(id, place) {
-        Ok(_) => Ok(()),
-        Err(_) => Err(NoMemory),
-    }
+    let _ = ids.insert(id, place)?;
+    Ok(())
 }
 
 /// The place under a token.

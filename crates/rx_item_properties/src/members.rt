@@ -55,9 +55,7 @@ fn add_key(keys: &mut Vec<u128>, row: &Row, place: usize) -> Result<(), NoMemory
     if !row.head.named {
         return Ok(());
     }
-    let Ok(()) = keys.push(key_of(row.scope, place)) else {
-        return Err(NoMemory);
-    };
+    keys.push(key_of(row.scope, place))?;
     Ok(())
 }
 
@@ -87,9 +85,7 @@ pub(crate) fn places_of(alloc: Global, keys: &[u128]) -> Result<Vec<usize>, NoMe
 {
     let mut places = Vec::with_capacity(alloc, keys.len())?;
     for key in keys {
-        let Ok(()) = places.push((*key % PLACES) as usize) else {
-            return Err(NoMemory);
-        };
+        places.push((*key % PLACES) as usize)?;
     }
     Ok(places)
 }

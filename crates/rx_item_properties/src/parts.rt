@@ -33,9 +33,7 @@ pub fn kept_of(alloc: Global, page: PageRows, base: Iri) -> Result<Kept, NoMemor
         text,
         times,
     } = page;
-    let Ok(parts) = parts_of(alloc, &words, rows.as_slice()) else {
-        return Err(NoMemory);
-    };
+    let parts = parts_of(alloc, &words, rows.as_slice())?;
     let Parts { extras, members } = parts;
     Ok(Kept {
         rows,

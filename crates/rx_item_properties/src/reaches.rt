@@ -67,8 +67,7 @@ fn runs_apart(
 {
     let mut runs = runs_of(alloc, rows, keys, starts, place)?;
     sort_by_begin(&mut runs);
-    let list = disjoint(alloc, runs.as_slice())?;
-    Ok(list)
+    Ok(disjoint(alloc, runs.as_slice())?)
 }
 
 /// The run of what the item has below it, and that of each start. Starts may lie in each other, and so may their runs.
@@ -98,8 +97,6 @@ fn add_run(runs: &mut Vec<Run>, run: Run) -> Result<(), NoMemory>
     if run.to <= run.from {
         return Ok(());
     }
-    let Ok(()) = runs.push(run) else {
-        return Err(NoMemory);
-    };
+    runs.push(run)?;
     Ok(())
 }

@@ -58,8 +58,6 @@ fn add_found(list: &mut Vec<usize>, place: Option<usize>) -> Result<(), NoMemory
     let Some(place) = place else {
         return Ok(());
     };
-    let Ok(()) = list.push(place) else {
-        return Err(NoMemory);
-    };
+    list.push(place)?;
     Ok(())
 }

@@ -83,15 +83,12 @@ impl Table {
         ensures { OnOk result (self.new ≡ passed self.old) }
     {
         let around = self.innermost();
-        let Ok(()) = self.line.push(Open {
+        self.line.push(Open {
             row: None,
             scope: around.scope,
             gathers: around.gathers,
             own: None,
-        })
-        else {
-            return Err(NoMemory);
-        };
+        })?;
         Ok(())
     }
 
@@ -115,12 +112,8 @@ impl Table {
             own: own_of(taken, times),
         };
         self.add_own(alloc, taken)?;
-        let Ok(()) = self.rows.push(row) else {
-            return Err(NoMemory);
-        };
-        let Ok(()) = self.line.push(newest) else {
-            return Err(NoMemory);
-        };
+        self.rows.push(row)?;
+        self.line.push(newest)?;
         Ok(())
     }
 }

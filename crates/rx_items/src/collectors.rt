@@ -53,18 +53,14 @@ impl Collector {
         ensures { (setting : Setting) (signs : List Sign) → Collects setting self.old signs
             → Hears (way_of setting).refused (Collects setting) signs (begun (tag_shown tag.now) ∷ []) result self.new }
     {
-        let Ok(()) = begin_base(
+        begin_base(
             self.alloc,
             &self.address,
             &mut self.base,
             self.table.depth(),
             tag,
-        ) else {
-            return Err(Stop::NoMemory);
-        };
-        let Ok(()) = self.table.begin(self.alloc, tag) else {
-            return Err(Stop::NoMemory);
-        };
+        )?;
+        self.table.begin(self.alloc, tag)?;
         Ok(())
     }
 
@@ -73,9 +69,7 @@ impl Collector {
             → Hears (way_of setting).refused (Collects setting) signs (map said (chars text.now)) result self.new }
         ensures quiet { IsIdle self.old.table → IsOk result × IsIdle self.new.table }
     {
-        let Ok(()) = self.table.text(text) else {
-            return Err(Stop::NoMemory);
-        };
+        self.table.text(text)?;
         Ok(())
     }
 
@@ -83,14 +77,12 @@ impl Collector {
         ensures { (setting : Setting) (signs : List Sign) → Collects setting self.old signs
             → Hears (way_of setting).refused (Collects setting) signs (finished ∷ []) result self.new }
     {
-        let Ok(()) = end_base(
+        end_base(
             self.alloc,
             &self.address,
             &mut self.base,
             self.table.depth(),
-        ) else {
-            return Err(Stop::NoMemory);
-        };
+        )?;
         self.table.finish();
         Ok(())
     }

@@ -98,15 +98,13 @@ fn pass_sorted(
         → slice_get rows place ≡ Some root → IsElement kept.now rows place element.now root → is_item root ≡ true
         → Finds trail.old.visits (visits_in rows base above left (steps_in (properties_in rows root))) trail.new.visits (λ done. ⊤) result }
 {
-    let Ok(list) = properties(
+    let list = properties(
         alloc,
         kept.members.as_slice(),
         element.own,
         element.others,
         place,
-    ) else {
-        return Err(Stop::NoMemory);
-    };
+    )?;
     pass_each(alloc, kept, trail, list.as_slice())
 }
 

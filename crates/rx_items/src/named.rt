@@ -119,8 +119,6 @@ fn add_each<'a>(list: &mut Vec<Named<'a>>, names: &'a [Text], place: usize) -> R
 fn add_name<'a>(list: &mut Vec<Named<'a>>, name: &'a str, place: usize) -> Result<(), NoMemory>
     ensures { OnOk result (keys_seen list.new.items ≡ keys_seen list.old.items ++ keyed name.now place ∷ []) }
 {
-    let Ok(()) = list.push(Named { name, place }) else {
-        return Err(NoMemory);
-    };
+    list.push(Named { name, place })?;
     Ok(())
 }

@@ -24,14 +24,8 @@ use std::alloc::Global;
 pub(crate) fn page_of(alloc: Global, kept: &Kept) -> Result<Value, Stop>
     ensures { (rows : List Placed) (base : Chars) → HoldsRows kept.now rows base → JsonGives (outcome_in standard_bounds base rows) result }
 {
-    let items = match top_items(alloc, kept) {
-        Ok(items) => items,
-        Err(stop) => return Err(stop),
-    };
-    match page_object(alloc, items) {
-        Ok(value) => Ok(value),
-        Err(NoMemory) => Err(Stop::NoMemory),
-    }
+    let items = top_items(alloc, kept)?;
+    Ok(page_object(alloc, items)?)
 }
 
 /// The JSON of each top-level item.
@@ -69,9 +63,7 @@ fn add_top(
         return Ok(());
     };
     let value = visit(alloc, kept, trail, &element, place)?;
-    let Ok(()) = push_to(items, value) else {
-        return Err(Stop::NoMemory);
-    };
+    push_to(items, value)?;
     Ok(())
 }
 
@@ -80,12 +72,6 @@ fn add_top(
 pub(crate) fn text_of(alloc: Global, kept: &Kept) -> Result<Vec<u8>, Stop>
     ensures { (rows : List Placed) (base : Chars) → HoldsRows kept.now rows base → TextGives (outcome_in standard_bounds base rows) result }
 {
-    match visit_all(alloc, kept) {
-        Ok(()) => {}
-        Err(stop) => return Err(stop),
-    }
-    match written(alloc, kept) {
-        Ok(text) => Ok(text),
-        Err(NoMemory) => Err(Stop::NoMemory),
-    }
+    visit_all(alloc, kept)?;
+    Ok(written(alloc, kept)?)
 }

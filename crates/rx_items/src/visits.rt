@@ -81,9 +81,7 @@ pub(crate) fn enter(trail: &mut Trail, element: &Element<'_>, place: usize) -> R
             at: element.at,
         }));
     }
-    let Ok(()) = trail.path.push(place) else {
-        return Err(Stop::NoMemory);
-    };
+    trail.path.push(place)?;
     trail.visits += 1;
     Ok(())
 }
@@ -114,10 +112,7 @@ pub(crate) fn visit(
     enter(trail, element, place)?;
     let group = group_of(alloc, kept, trail, element, place)?;
     leave(trail);
-    match finish(alloc, kept, element, group) {
-        Ok(value) => Ok(value),
-        Err(NoMemory) => Err(Stop::NoMemory),
-    }
+    Ok(finish(alloc, kept, element, group)?)
 }
 
 /// The values of an item's properties, under their names.
@@ -180,15 +175,13 @@ fn fill_sorted(
         → Finds trail.old.visits (visits_in rows base above left (steps_in (properties_in rows root))) trail.new.visits
         (λ done. members_view group.new.entries ≡ grouped_in rows base above left (steps_in (properties_in rows root))) result }
 {
-    let Ok(list) = properties(
+    let list = properties(
         alloc,
         kept.members.as_slice(),
         element.own,
         element.others,
         place,
-    ) else {
-        return Err(Stop::NoMemory);
-    };
+    )?;
     fill(alloc, kept, trail, group, list.as_slice())
 }
 
@@ -304,9 +297,7 @@ fn add_named(
         → TakesSteps rows base above left start (done ++ with_name e token ∷ []) trail.new.visits (members_view group.new.entries) result }
 {
     let value = value_of(alloc, kept, trail, element, place)?;
-    let Ok(()) = add_value(alloc, group, name, value) else {
-        return Err(Stop::NoMemory);
-    };
+    add_value(alloc, group, name, value)?;
     Ok(())
 }
 
@@ -328,10 +319,7 @@ fn value_of(
     if element.is_item {
         return visit(alloc, kept, trail, element, place);
     }
-    match plain_value(alloc, kept, element.value) {
-        Ok(value) => Ok(value),
-        Err(NoMemory) => Err(Stop::NoMemory),
-    }
+    Ok(plain_value(alloc, kept, element.value)?)
 }
 
 /// The JSON of an item with these properties.

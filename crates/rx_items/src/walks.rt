@@ -93,13 +93,7 @@ impl ItemWalk {
         ensures gives { (setting : Setting) (bytes : List ℕ) → walks.ItemWalkStands setting self bytes → walks.EndGives setting bytes result }
         ensures asked { MayAnswer self.failed self.spent result }
     {
-        let collector = match self.reading.finish() {
-            Ok(collector) => collector,
-            Err(stop) => return Err(stop),
-        };
-        match items_of(collector) {
-            Ok(items) => Ok(items),
-            Err(NoMemory) => Err(Stop::NoMemory),
-        }
+        let collector = self.reading.finish()?;
+        Ok(items_of(collector)?)
     }
 }

@@ -95,14 +95,8 @@ impl Job {
         let Some(address) = options.base else {
             return Err(JobError::Usage);
         };
-        let graph = match graph_of(alloc, format, options.graph) {
-            Ok(graph) => graph,
-            Err(error) => return Err(error),
-        };
-        let address = match iri_of(alloc, address) {
-            Ok(address) => address,
-            Err(error) => return Err(error),
-        };
+        let graph = graph_of(alloc, format, options.graph)?;
+        let address = iri_of(alloc, address)?;
         if !are_names(options.context, given.last) {
             return Err(JobError::Usage);
         }
@@ -137,10 +131,7 @@ impl Job {
         let Some(address) = options.base else {
             return Err(JobError::Usage);
         };
-        let address = match iri_of(alloc, address) {
-            Ok(address) => address,
-            Err(error) => return Err(error),
-        };
+        let address = iri_of(alloc, address)?;
         if !is_page_name(given.last.as_str()) {
             return Err(JobError::Usage);
         }
@@ -202,10 +193,7 @@ impl Job {
         if !is_file_if_any(given.context) {
             return Err(JobError::Usage);
         }
-        let pages = match pages_of(alloc, front.behind) {
-            Ok(pages) => pages,
-            Err(error) => return Err(error),
-        };
+        let pages = pages_of(alloc, front.behind)?;
         if !are_few(&pages) {
             drop(pages);
             return Err(JobError::Usage);

@@ -53,10 +53,7 @@ fn add(alloc: Global, pages: &mut Pages, address: &Text, page: &Text) -> Result<
     if !is_page_name(page.as_str()) {
         return Err(JobError::Usage);
     }
-    let address = match iri_of(alloc, address) {
-        Ok(address) => address,
-        Err(error) => return Err(error),
-    };
+    let address = iri_of(alloc, address)?;
     let Ok(page) = page.try_clone() else {
         drop(address);
         return Err(JobError::NoMemory);

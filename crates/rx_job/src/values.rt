@@ -50,10 +50,8 @@ pub(crate) fn graph_of(
     if !names_graphs(format) {
         return Err(JobError::Usage);
     }
-    match iri_of(alloc, name) {
-        Ok(graph) => Ok(Some(graph)),
-        Err(error) => Err(error),
-    }
+    let graph = iri_of(alloc, name)?;
+    Ok(Some(graph))
 }
 
 /// The IRI that the text is. Usage comes exactly where it is none.

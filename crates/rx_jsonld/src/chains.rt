@@ -93,9 +93,7 @@ pub(crate) fn chain(
         let Some(cell) = next else {
             return Ok(cells);
         };
-        let Ok(()) = cells.push(cell) else {
-            return Err(NoMemory);
-        };
+        cells.push(cell)?;
         next = cell_after(graph, shapes, cell);
     }
     Ok(cells)

@@ -117,8 +117,6 @@ fn start_group<'a>(
 fn push_place(places: &mut Vec<usize>, place: usize) -> Result<(), NoMemory>
     ensures { OnOk result (places.new.items ≡ places.old.items ++ place ∷ []) }
 {
-    match places.push(place) {
-        Ok(()) => Ok(()),
-        Err(_refused) => Err(NoMemory),
-    }
+    places.push(place)?;
+    Ok(())
 }

@@ -66,9 +66,7 @@ impl Lists {
     {
         let number = self.owners.len();
         let owner = OwnerLists::new(self.alloc, subject);
-        let Ok(()) = self.owners.push(Some(owner)) else {
-            return Err(NoMemory);
-        };
+        self.owners.push(Some(owner))?;
         Ok(Owner(number))
     }
 

@@ -44,9 +44,7 @@ impl SlotRows {
         ensures err { OnErr result (self.new ≡ self.old) }
     {
         let row = first_slots(self.alloc, with_slot)?;
-        let Ok(()) = self.rows.push(row) else {
-            return Err(NoMemory);
-        };
+        self.rows.push(row)?;
         Ok(())
     }
 
@@ -113,8 +111,6 @@ fn first_slots(alloc: Global, with_slot: bool) -> Result<Vec<Option<Term>>, NoMe
     if !with_slot {
         return Ok(row);
     }
-    let Ok(()) = row.push(None) else {
-        return Err(NoMemory);
-    };
+    row.push(None)?;
     Ok(row)
 }

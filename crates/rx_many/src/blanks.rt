@@ -87,9 +87,7 @@ impl Blanks {
         ensures known { OnOk result (self.new ≡ known_one same_blank self.old (at_place page blank.0)) }
         ensures place { IfOk result (λ number. number.0 ≡ number_in self.new (at_place page blank.0)) }
     {
-        let Ok((place, _is_new)) = self.blanks.insert_full(PageBlank { page, blank }) else {
-            return Err(NoMemory);
-        };
+        let (place, _is_new) = self.blanks.insert_full(PageBlank { page, blank })?;
         Ok(Blank(place as u64))
     }
 }

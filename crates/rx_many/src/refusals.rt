@@ -21,10 +21,7 @@ pub(crate) fn comment_on(alloc: Global, address: &Iri, fault: Fault) -> Result<S
         fault.token,
         address.as_str(),
     );
-    match line {
-        Ok(line) => Ok(line),
-        Err(_error) => Err(NoMemory),
-    }
+    Ok(line?)
 }
 
 fn comment_with(

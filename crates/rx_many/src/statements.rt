@@ -48,9 +48,7 @@ impl Statements {
         ensures list { OnOk result (self.new ≡ known_one same_line self.old (statement_seen statement)) }
         ensures place { IfOk result (AddsWhereNew self.old (statement_seen statement) self.new) }
     {
-        let Ok((place, is_new)) = self.statements.insert_full(statement) else {
-            return Err(NoMemory);
-        };
+        let (place, is_new) = self.statements.insert_full(statement)?;
         if is_new {
             return Ok(Some(place));
         }

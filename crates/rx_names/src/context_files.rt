@@ -61,18 +61,9 @@ impl Context {
         if !are_known(members) {
             return Err(ContextError::BadContext);
         }
-        let prefixes = match table_of(alloc, MappingKind::Prefix, value.get("prefixes")) {
-            Ok(prefixes) => prefixes,
-            Err(error) => return Err(error),
-        };
-        let terms = match table_of(alloc, MappingKind::Term, value.get("terms")) {
-            Ok(terms) => terms,
-            Err(error) => return Err(error),
-        };
-        match Context::of(alloc, prefixes, terms) {
-            Ok(context) => Ok(context),
-            Err(NoMemory) => Err(ContextError::NoMemory),
-        }
+        let prefixes = table_of(alloc, MappingKind::Prefix, value.get("prefixes"))?;
+        let terms = table_of(alloc, MappingKind::Term, value.get("terms"))?;
+        Ok(Context::of(alloc, prefixes, terms)?)
     }
 }
 

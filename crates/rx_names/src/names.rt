@@ -61,10 +61,8 @@ impl Names {
         self.marks.reserve(1)?;
         let mark = self.rows.len();
         self.rows.append(added)?;
-        match self.marks.push(mark) {
-            Ok(()) => Ok(()),
-            Err(_refused) => Err(NoMemory),
-        }
+        self.marks.push(mark)?;
+        Ok(())
     }
 
     /// Drops the declarations of the innermost element.

@@ -53,10 +53,8 @@ impl Rows {
         ensures ok { OnOk result (self.new ≡ self.old ++ row ∷ []) }
         ensures err { OnErr result (self.new ≡ self.old) }
     {
-        match self.rows.push(row) {
-            Ok(()) => Ok(()),
-            Err(_refused) => Err(NoMemory),
-        }
+        self.rows.push(row)?;
+        Ok(())
     }
 
     /// The rows as a list.

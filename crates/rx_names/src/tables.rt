@@ -151,9 +151,7 @@ fn copied(alloc: Global, rows: &[Mapping]) -> Result<Vec<Mapping>, NoMemory>
     for row in rows {
         let name = row.name.try_clone()?;
         let iri = row.iri.try_clone()?;
-        let Ok(()) = copy.push(Mapping { name, iri }) else {
-            return Err(NoMemory);
-        };
+        copy.push(Mapping { name, iri })?;
     }
     Ok(copy)
 }

@@ -205,9 +205,7 @@ impl Levels {
         ensures levels { OnOk result (self.new.levels ≡ self.old.levels) }
         ensures room { self.new.room ≡ self.old.room }
     {
-        let Ok(()) = self.levels.push(Level::new(self.alloc)) else {
-            return Err(NoMemory);
-        };
+        self.levels.push(Level::new(self.alloc))?;
         Ok(())
     }
 

@@ -24,8 +24,7 @@ pub fn tokens_of<'a>(source: &Source<'a>) -> Result<Vec<Token<'a>>, NoMemory>
 {
     let triples = borrowed(source.alloc, source.graph)?;
     let subjects = Groups::of(source.alloc, &triples, By::Subject)?;
-    let tokens = tokens_about(source, &subjects)?;
-    Ok(tokens)
+    Ok(tokens_about(source, &subjects)?)
 }
 
 /// The tokens of the statements about the subjects, which are those of the graph with their triples.
@@ -97,9 +96,7 @@ fn run<'a>(
 {
     while let Some(task) = stack.pop() {
         let token = start(source, stack, task)?;
-        let Ok(()) = tokens.push(token) else {
-            return Err(NoMemory);
-        };
+        tokens.push(token)?;
     }
     Ok(())
 }

@@ -31,8 +31,7 @@ pub(crate) fn said_of<'a>(
     ensures { IfOk result (λ said. runs by.Predicate (lent_triples said.items) ≡ said_of (triples_seen graph.now) (node_seen node.now)) }
 {
     let triples = picked(alloc, graph, shapes.places(node))?;
-    let said = by_predicate(alloc, &triples)?;
-    Ok(said)
+    Ok(by_predicate(alloc, &triples)?)
 }
 
 /// The triples at the places.
@@ -56,9 +55,7 @@ fn pick<'a>(triples: &mut Vec<&'a Triple>, graph: &'a Graph, place: usize) -> Re
     let Some(triple) = triple_at(graph, place) else {
         return Ok(());
     };
-    let Ok(()) = triples.push(triple) else {
-        return Err(NoMemory);
-    };
+    triples.push(triple)?;
     Ok(())
 }
 

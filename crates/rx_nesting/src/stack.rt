@@ -45,9 +45,7 @@ impl<'a> Stack<'a> {
     pub(crate) fn push(&mut self, task: Task<'a>) -> Result<(), NoMemory>
         ensures { OnOk result (self.new ≡ task_seen task.entry ∷ self.old) }
     {
-        let Ok(()) = self.tasks.push(task) else {
-            return Err(NoMemory);
-        };
+        self.tasks.push(task)?;
         Ok(())
     }
 

@@ -71,9 +71,7 @@ pub fn put_quad(
     ensures writable { OnOk result (WritableTriple (lent_name name.entry) (triple_seen triple.now)) }
 {
     let line = line_of(alloc, triple, name)?;
-    let Ok(()) = text.extend_from_slice(line.as_slice()) else {
-        return Err(NoMemory);
-    };
+    text.extend_from_slice(line.as_slice())?;
     Ok(())
 }
 

@@ -45,10 +45,8 @@ impl FileList {
     {
         let name = String::from_str(self.alloc, name)?;
         let bytes = Vec::from_slice(self.alloc, bytes)?;
-        match self.files.push(NamedFile { name, bytes }) {
-            Ok(()) => Ok(()),
-            Err(_refused) => Err(NoMemory),
-        }
+        self.files.push(NamedFile { name, bytes })?;
+        Ok(())
     }
 
     /// The place of the first file of this name.

@@ -27,10 +27,7 @@ pub fn open_extraction(
     let Some(format) = format_of(format) else {
         return Err(OpenError::Usage);
     };
-    let address = match iri_of(alloc, address) {
-        Ok(address) => address,
-        Err(error) => return Err(error),
-    };
+    let address = iri_of(alloc, address)?;
     let graph = match graph_of(alloc, format, graph) {
         Ok(graph) => graph,
         Err(error) => {
@@ -51,10 +48,7 @@ pub fn open_extraction(
             return Err(error);
         }
     };
-    match Session::extract(alloc, extraction, context) {
-        Ok(session) => Ok(session),
-        Err(NoMemory) => Err(OpenError::NoMemory),
-    }
+    Ok(Session::extract(alloc, extraction, context)?)
 }
 
 /// A session for the items of a page of this address, by the number of its syntax.
@@ -64,14 +58,8 @@ pub fn open_items(alloc: Global, syntax: u32, address: &[u8]) -> Result<Session,
     let Some(syntax) = syntax_of(syntax) else {
         return Err(OpenError::Usage);
     };
-    let address = match iri_of(alloc, address) {
-        Ok(address) => address,
-        Err(error) => return Err(error),
-    };
-    match Session::items(alloc, syntax, address) {
-        Ok(session) => Ok(session),
-        Err(NoMemory) => Err(OpenError::NoMemory),
-    }
+    let address = iri_of(alloc, address)?;
+    Ok(Session::items(alloc, syntax, address)?)
 }
 
 /// A session for the faults of a page, by the number of its syntax, under the context of a file of these bytes or the
@@ -82,12 +70,6 @@ pub fn open_check(alloc: Global, syntax: u32, context: Option<&[u8]>) -> Result<
     let Some(syntax) = syntax_of(syntax) else {
         return Err(OpenError::Usage);
     };
-    let context = match context_of(alloc, context) {
-        Ok(context) => context,
-        Err(error) => return Err(error),
-    };
-    match Session::check(alloc, syntax, context) {
-        Ok(session) => Ok(session),
-        Err(NoMemory) => Err(OpenError::NoMemory),
-    }
+    let context = context_of(alloc, context)?;
+    Ok(Session::check(alloc, syntax, context)?)
 }

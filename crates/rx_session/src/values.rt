@@ -63,10 +63,8 @@ pub(crate) fn graph_of(
     if !names_graphs(format) {
         return Err(OpenError::Usage);
     }
-    match iri_of(alloc, name) {
-        Ok(graph) => Ok(Some(graph)),
-        Err(error) => Err(error),
-    }
+    let graph = iri_of(alloc, name)?;
+    Ok(Some(graph))
 }
 
 fn names_graphs(format: Format) -> bool

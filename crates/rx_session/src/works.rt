@@ -64,9 +64,7 @@ fn extracted(alloc: Global, walk: Walk, form: Form) -> Result<Vec<u8>, Stop>
             return Err(stop);
         }
     };
-    let Ok(outcome) = Outcome::of(alloc, list, form) else {
-        return Err(Stop::NoMemory);
-    };
+    let outcome = Outcome::of(alloc, list, form)?;
     match text_of(alloc, &outcome) {
         Ok(text) => {
             drop(outcome);
@@ -84,10 +82,7 @@ fn itemized(alloc: Global, walk: ItemWalk) -> Result<Vec<u8>, Stop>
     ensures { (i : Itemization) (context : RulesContext) (bytes : List ℕ) → items.ItemWalkStands (item_setting_for i.syntax i.address) walk bytes
         → EndGives (itemizes i) context bytes result }
 {
-    let found = match walk.finish() {
-        Ok(found) => found,
-        Err(stop) => return Err(stop),
-    };
+    let found = walk.finish()?;
     match text_of_items(alloc, &found) {
         Ok(text) => {
             drop(found);
@@ -105,12 +100,6 @@ fn checked(alloc: Global, check: Check) -> Result<Vec<u8>, Stop>
     ensures { (syntax : syntaxes.Syntax) (context : RulesContext) (bytes : List ℕ) → checks.CheckStands (setting_for syntax context) check bytes
         → EndGives (checks syntax) context bytes result }
 {
-    match check.finish() {
-        Ok(()) => {}
-        Err(stop) => return Err(stop),
-    }
-    match text_of(alloc, &Outcome::Right) {
-        Ok(text) => Ok(text),
-        Err(NoMemory) => Err(Stop::NoMemory),
-    }
+    check.finish()?;
+    Ok(text_of(alloc, &Outcome::Right)?)
 }

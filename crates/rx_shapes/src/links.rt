@@ -47,8 +47,7 @@ pub(crate) fn inner_nodes(
     let uses = object_rows(alloc, graph, index)?;
     let links = parent_links(alloc, graph, index, &uses)?;
     let ends = settle(alloc, &links)?;
-    let marks = inner_marks(alloc, index.len(), &ends, &uses)?;
-    Ok(marks)
+    Ok(inner_marks(alloc, index.len(), &ends, &uses)?)
 }
 
 /// Of each node whether it is a cell, by those that are inner and the places of each.
@@ -65,8 +64,7 @@ pub(crate) fn cell_nodes(
     ensures { IfOk result (λ marks. AreCells (triples_seen graph.now) index.now marks.items) }
 {
     let links = cell_links(alloc, graph, index, inner, places)?;
-    let cells = settle(alloc, &links)?;
-    Ok(cells)
+    Ok(settle(alloc, &links)?)
 }
 
 fn parent_links(
@@ -79,9 +77,7 @@ fn parent_links(
 {
     let mut links = Vec::with_capacity(alloc, index.len())?;
     for i in 0..index.len() {
-        let Ok(()) = links.push(parent_link(graph, index, uses.row(i))) else {
-            return Err(NoMemory);
-        };
+        links.push(parent_link(graph, index, uses.row(i)))?;
     }
     Ok(links)
 }
@@ -96,9 +92,7 @@ fn inner_marks(
 {
     let mut marks = Vec::with_capacity(alloc, size)?;
     for i in 0..size {
-        let Ok(()) = marks.push(is_inner_by(mark(ends, i), uses.row(i))) else {
-            return Err(NoMemory);
-        };
+        marks.push(is_inner_by(mark(ends, i), uses.row(i)))?;
     }
     Ok(marks)
 }
@@ -114,9 +108,7 @@ fn cell_links(
 {
     let mut links = Vec::with_capacity(alloc, index.len())?;
     for i in 0..index.len() {
-        let Ok(()) = links.push(inner_link(graph, index, mark(inner, i), places.row(i))) else {
-            return Err(NoMemory);
-        };
+        links.push(inner_link(graph, index, mark(inner, i), places.row(i)))?;
     }
     Ok(links)
 }

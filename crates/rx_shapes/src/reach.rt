@@ -64,9 +64,7 @@ impl Reached {
         requires { number < length self.old.marks }
         ensures { OnOk result (self.new ≡ marked self.old number) }
     {
-        let Ok(()) = self.list.push(number) else {
-            return Err(NoMemory);
-        };
+        self.list.push(number)?;
         self.marks[number] = true;
         Ok(())
     }

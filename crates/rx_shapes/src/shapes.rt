@@ -111,8 +111,7 @@ fn shapes_of(
 {
     let inner = inner_nodes(alloc, graph, nodes)?;
     let cells = cell_nodes(alloc, graph, nodes, &inner, places)?;
-    let shapes = shapes_by(alloc, nodes.len(), &inner, &cells)?;
-    Ok(shapes)
+    Ok(shapes_by(alloc, nodes.len(), &inner, &cells)?)
 }
 
 fn shapes_by(
@@ -125,9 +124,7 @@ fn shapes_by(
 {
     let mut shapes = Vec::with_capacity(alloc, size)?;
     for i in 0..size {
-        let Ok(()) = shapes.push(shape_by(mark(inner, i), mark(cells, i))) else {
-            return Err(NoMemory);
-        };
+        shapes.push(shape_by(mark(inner, i), mark(cells, i)))?;
     }
     Ok(shapes)
 }

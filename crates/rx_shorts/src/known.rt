@@ -102,9 +102,7 @@ impl<'a> Known<'a> {
     fn grow(&mut self) -> Result<(), NoMemory>
         ensures { (found : Chars → Option ℕ) → AreEntries found self.old → AreEntries found self.new }
     {
-        let Ok(larger) = self.larger() else {
-            return Err(NoMemory);
-        };
+        let larger = self.larger()?;
         drop(mem::replace(self, larger));
         Ok(())
     }

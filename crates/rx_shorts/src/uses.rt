@@ -36,9 +36,7 @@ pub fn unmarked(alloc: Global, shorts: &Shorts) -> Result<Vec<bool>, NoMemory>
 {
     let mut marks = Vec::with_capacity(alloc, shorts.len())?;
     for _ in 0..shorts.len() {
-        let Ok(()) = marks.push(false) else {
-            return Err(NoMemory);
-        };
+        marks.push(false)?;
     }
     Ok(marks)
 }

@@ -138,8 +138,5 @@ fn add_name<'a>(names: &mut BTreeSet<&'a str>, name: &'a str) -> Result<bool, No
     ensures is_new { IfOk result (λ is_new. is_new ≡ not (has_text names.old name.now)) }
     ensures added { OnOk result ((text : List ℕ) → has_text names.new text ≡ (same name.now text || has_text names.old text)) }
 {
-    match names.insert(name) {
-        Ok(is_new) => Ok(is_new),
-        Err(_) => Err(NoMemory),
-    }
+    Ok(names.insert(name)?)
 }

@@ -45,10 +45,8 @@ impl Iris {
             self.first = Some(iri);
             return Ok(());
         }
-        match self.others.push(iri) {
-            Ok(()) => Ok(()),
-            Err(_refused) => Err(NoMemory),
-        }
+        self.others.push(iri)?;
+        Ok(())
     }
 
     /// How many IRIs there are.

@@ -58,6 +58,16 @@ pub enum IriError {
     NoMemory,
 }
 
+impl From<NoMemory> for IriError {
+    ghost use Rattle.rx_terms.specs.declared.iris.IriError.{IriError};
+
+    ghost from_gives = { λ _ error. error ≡ IriError.NoMemory };
+
+    fn from(_error: NoMemory) -> IriError {
+        IriError::NoMemory
+    }
+}
+
 impl Iri {
     /// The IRI that the text is.
     pub fn of(alloc: Global, text: &str) -> Result<Iri, IriError>
@@ -71,10 +81,7 @@ impl Iri {
         if has_forbidden(text) {
             return Err(IriError::Forbidden);
         }
-        match copied(alloc, text) {
-            Ok(iri) => Ok(iri),
-            Err(NoMemory) => Err(IriError::NoMemory),
-        }
+        Ok(copied(alloc, text)?)
     }
 
     /// The IRI that a text is of which this is known, so that its form isn't looked at and its characters aren't copied.
@@ -83,10 +90,8 @@ impl Iri {
         ensures { IfOk result (λ iri. iri ≡ text) }
     {
         let number = number_of(text.as_str());
-        match Rc::new(alloc, Kept { text, number }) {
-            Ok(kept) => Ok(Iri { kept }),
-            Err(_refused) => Err(NoMemory),
-        }
+        let kept = Rc::new(alloc, Kept { text, number })?;
+        Ok(Iri { kept })
     }
 
     /// The IRI's characters as UTF-8.

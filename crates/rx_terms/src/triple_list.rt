@@ -36,10 +36,8 @@ impl TripleList {
         ensures ok { OnOk result (self.new ≡ self.old ++ triple ∷ []) }
         ensures err { OnErr result (self.new ≡ self.old) }
     {
-        match self.triples.push(triple) {
-            Ok(()) => Ok(()),
-            Err(_refused) => Err(NoMemory),
-        }
+        self.triples.push(triple)?;
+        Ok(())
     }
 
     /// How many triples there are.

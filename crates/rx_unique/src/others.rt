@@ -35,9 +35,7 @@ impl Others {
     {
         self.places.reserve(1)?;
         self.numbers.push(number)?;
-        let Ok(()) = self.places.push(place) else {
-            return Err(NoMemory);
-        };
+        self.places.push(place)?;
         Ok(())
     }
 }

@@ -53,12 +53,8 @@ impl Places {
     {
         self.entries.reserve(1)?;
         let place = self.entries.len();
-        let Ok(earlier) = self.last.insert(number, place) else {
-            return Err(NoMemory);
-        };
-        let Ok(()) = self.entries.push(Entry { number, earlier }) else {
-            return Err(NoMemory);
-        };
+        let earlier = self.last.insert(number, place)?;
+        self.entries.push(Entry { number, earlier })?;
         Ok(())
     }
 

@@ -157,12 +157,8 @@ impl<K: Eq + Hash + Drop> Unique<K> {
         self.slots.make_room(&self.hashes)?;
         let place = self.keys.len();
         file(&mut self.slots, &mut self.others, hash, place, &key)?;
-        let Ok(()) = self.hashes.push(hash) else {
-            return Err(NoMemory);
-        };
-        let Ok(()) = self.keys.push(key) else {
-            return Err(NoMemory);
-        };
+        self.hashes.push(hash)?;
+        self.keys.push(key)?;
         Ok(())
     }
 

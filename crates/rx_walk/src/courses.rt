@@ -102,18 +102,13 @@ impl Course {
         requires { MayHear self.old (begun (tag_shown tag.now) ∷ []) }
         ensures { HearsOn self.old (begun (tag_shown tag.now) ∷ []) result self.new }
     {
-        let Ok(()) = self.names.push(tag) else {
-            return Err(Stop::NoMemory);
-        };
+        self.names.push(tag)?;
         if let Err(stop) = read_facts(&mut self.facts, &mut self.maker, tag, &self.names) {
             return Err(stop);
         }
-        let Ok(()) = self
+        self
             .stage
-            .begin(&self.origin, self.count, tag, &mut self.facts)
-        else {
-            return Err(Stop::NoMemory);
-        };
+            .begin(&self.origin, self.count, tag, &mut self.facts)?;
         self.count = one_more(self.count, self.origin.levels);
         Ok(())
     }
@@ -123,9 +118,7 @@ impl Course {
         ensures hears { HearsOn self.old (map said (chars text.now)) result self.new }
         ensures quiet { IsIdle self.old.stage → IsOk result × IsIdle self.new.stage }
     {
-        let Ok(()) = self.stage.text(&self.origin, text) else {
-            return Err(Stop::NoMemory);
-        };
+        self.stage.text(&self.origin, text)?;
         Ok(())
     }
 
@@ -133,9 +126,7 @@ impl Course {
         requires { MayHear self.old (finished ∷ []) }
         ensures { HearsOn self.old (finished ∷ []) result self.new }
     {
-        let Ok(()) = self.stage.finish(&self.origin, self.count) else {
-            return Err(Stop::NoMemory);
-        };
+        self.stage.finish(&self.origin, self.count)?;
         self.names.pop();
         self.count -= 1;
         Ok(())

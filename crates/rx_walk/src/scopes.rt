@@ -47,9 +47,7 @@ impl Scope {
         ensures { (setting : Setting) (signs : List Sign) → accepts_at setting self.old signs
             → Hears (way_of setting).refused (accepts_at setting) signs (begun (tag_shown tag.now) ∷ []) result self.new }
     {
-        let Ok(()) = self.names.push(tag) else {
-            return Err(Stop::NoMemory);
-        };
+        self.names.push(tag)?;
         match fault_of(tag, &self.names) {
             Some(fault) => Err(Stop::Fault(fault)),
             None => Ok(()),

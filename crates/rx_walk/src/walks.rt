@@ -111,10 +111,8 @@ impl Walk {
         ensures asked { MayAnswer self.failed self.spent result }
         ensures memory { result ≡ Err Stop.NoMemory → self.spent ≡ true }
     {
-        match self.reading.finish() {
-            Ok(course) => Ok(list_of(course)),
-            Err(stop) => Err(stop),
-        }
+        let course = self.reading.finish()?;
+        Ok(list_of(course))
     }
 
     /// How many elements are open, none after a fault or want of memory.

@@ -14,5 +14,5 @@ invariant_of-self-2 g c =
     kept-more g.K.PartialEq.eq g.met.K.Eq.laws (λ k. quick_hash_of (g.K.Hash.hash_input k)) (λ k. hash_of (g.K.Hash.hash_input k)) c.self.inside.keys.items _ c.self.inside.hashes.items _
     c.self.inside.slots c.file.new.slots others c.self.inside.others.numbers _ _ c.args.key c.args.hash c.len-place.result
     c.self.invariant (ap (position (g.K.PartialEq.eq c.args.key)) c.self.view_is ∙ c.requires.fresh) c.requires.hash place
-    (c.in-Ok-push.ensures.items ∙ ap (λ l. l ++ c.args.key ∷ []) c.reserve.ensures.items) (c.in-Ok.ensures.items ∙ ap (λ l. l ++ c.args.hash ∷ []) c.reserve-2.ensures.items)
+    (c.in_ok-push-2.ensures.items ∙ ap (λ l. l ++ c.args.key ∷ []) c.reserve.ensures.items) (c.in_ok-push.ensures.items ∙ ap (λ l. l ++ c.args.hash ∷ []) c.reserve-2.ensures.items)
     (c.file.ensures.held c.self.inside.hashes.items room) c.in_ok-file.ensures.own c.in_ok-file.ensures.added
