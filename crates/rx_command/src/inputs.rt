@@ -22,12 +22,12 @@ use crate::pages::{Approach, check_page, read_items, read_page};
 use rx_job::{Format, Job};
 use rx_names::{Context, ContextError};
 use rx_ports::Shelf;
-use rx_terms::{Iri, NoMemory, Text};
+use rx_terms::{Iri, Text};
 use rx_walk::{Fault, Stop, Syntax};
 use std::alloc::Global;
 
 /// The most bytes that a context file has.
-const LARGEST_CONTEXT: usize = 65_536;
+pub const LARGEST_CONTEXT: usize = 65_536;
 
 /// What the job's page gives, which is read after the context file, where one is named.
 pub(crate) fn outcome_of_job<F: Shelf>(
@@ -52,9 +52,7 @@ pub(crate) fn outcome_of_job<F: Shelf>(
             address,
             page,
         } => {
-            let Ok(address) = address.try_clone() else {
-                return Err(InputError::NoMemory);
-            };
+            let address = address.try_clone()?;
             itemize(alloc, shelf, page, *syntax, address)
         }
         _ => outcome_under_context(alloc, shelf, job),
@@ -78,7 +76,10 @@ fn outcome_under_context<F: Shelf>(
     ensures cleanly { IsErrOf result InputError.Failed → Moves (StopsCleanly (Some (page_by job.now))) (F.told shelf.old) (F.told shelf.new) }
     ensures later { F.faults shelf.old ≤ F.faults shelf.new }
 {
-    let context = read_context(alloc, shelf, job.context())?;
+    let context = match read_context(alloc, shelf, job.context()) {
+        Ok(context) => context,
+        Err(error) => return Err(error),
+    };
     match job {
         Job::Extract {
             syntax,
@@ -89,6 +90,7 @@ fn outcome_under_context<F: Shelf>(
             ..
         } => {
             let Ok(address) = address.try_clone() else {
+                drop(context);
                 return Err(InputError::NoMemory);
             };
             let approach = Approach {
@@ -156,7 +158,10 @@ fn itemize<F: Shelf>(
     ensures cleanly { StopsBy result (way_for syntax (for_items address)) (encode_utf8_all page.now) (F.told shelf.old) (F.told shelf.new) }
     ensures later { F.faults shelf.old ≤ F.faults shelf.new }
 {
-    let found = read_items(alloc, shelf, page.as_str(), syntax, address)?;
+    let found = match read_items(alloc, shelf, page.as_str(), syntax, address) {
+        Ok(found) => found,
+        Err(error) => return Err(error),
+    };
     match text_of_items(alloc, &found) {
         Ok(text) => {
             drop(found);
@@ -210,10 +215,7 @@ pub(crate) fn read_context<F: Shelf>(
     ensures later { F.faults shelf.old ≤ F.faults shelf.new }
 {
     match file {
-        None => match Context::standard(alloc) {
-            Ok(context) => Ok(context),
-            Err(NoMemory) => Err(InputError::NoMemory),
-        },
+        None => Ok(Context::standard(alloc)?),
         Some(file) => read_named_context(alloc, shelf, file),
     }
 }

@@ -5,6 +5,7 @@ ghost use Rattle.rx_job.specs.Words.{names_graphs};
 
 use crate::errors::OpenError;
 use rx_chars::Syntax;
+use rx_command::LARGEST_CONTEXT;
 use rx_job::Format;
 use rx_names::{Context, ContextError};
 use rx_terms::{Iri, IriError, NoMemory};
@@ -77,9 +78,6 @@ fn names_graphs(format: Format) -> bool
         Format::Jsonld => false,
     }
 }
-
-/// The most bytes that a context file has.
-const LARGEST_CONTEXT: usize = 65_536;
 
 /// The context that holds: that of the file, where its bytes are given, else the standard one.
 pub(crate) fn context_of(alloc: Global, file: Option<&[u8]>) -> Result<Context, OpenError>
