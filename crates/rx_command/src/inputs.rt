@@ -9,9 +9,9 @@ ghost use Rattle.rx_command.specs.Reading.{for_items, for_faults, way_for};
 ghost use Rattle.rx_command.specs.Ways.{way_of, extracts_by, itemizes_by};
 ghost use Rattle.rx_command.specs.Contexts.{IsContextFile, IsFileOf, ReadsContext, TakesContext, LacksContext, HasOther};
 ghost use Rattle.rx_command.specs.Outcome.{IsLacking};
-ghost use Rattle.rx_command.specs.Inputs.{PageText, PageRefused, JobText, JobRefused, WhereTold};
+ghost use Rattle.rx_command.specs.Inputs.{JobText, JobRefused, WhereTold};
 ghost use Rattle.rx_command.specs.Runs.{TakesFiles, StopsCleanly};
-ghost use Rattle.rx_command.specs.Calls.{GivesBy, RefusesBy, StopsBy, FailedOr, FailedOrLacks};
+ghost use Rattle.rx_command.specs.Calls.{GivesBy, GivesText, RefusesBy, RefusesPage, StopsBy, FailedOr, FailedOrLacks};
 
 use crate::errors::InputError;
 use crate::files::{ReadError, read_file};
@@ -116,10 +116,8 @@ fn extract<F: Shelf>(
     format: Format,
     graph: Option<&Iri>,
 ) -> Result<Outcome, InputError>
-    ensures ok { GivesBy result
-        (PageText (extracts_by approach format graph.entry) approach.context (encode_utf8_all page.now)) (F.told shelf.old) (F.told shelf.new) }
-    ensures refused { RefusesBy result
-        (PageRefused (extracts_by approach format graph.entry) approach.context (encode_utf8_all page.now)) (F.told shelf.old) (F.told shelf.new) }
+    ensures ok { GivesText result (extracts_by approach format graph.entry) approach.context page.now (F.told shelf.old) (F.told shelf.new) }
+    ensures refused { RefusesPage result (extracts_by approach format graph.entry) approach.context page.now (F.told shelf.old) (F.told shelf.new) }
     ensures takes { Moves (TakesOf (encode_utf8_all page.now) 1073807359) (F.told shelf.old) (F.told shelf.new) }
     ensures context { IsErrOf result InputError.BadContext → ⊥ }
     ensures failed { IsErrOf result InputError.Failed → FailedOrLacks F.told F.faults shelf.old shelf.new (encode_utf8_all page.now) }
@@ -148,10 +146,8 @@ fn itemize<F: Shelf>(
     syntax: Syntax,
     address: Iri,
 ) -> Result<Outcome, InputError>
-    ensures ok { (context : RulesContext) → GivesBy result
-        (PageText (itemizes_by syntax address) context (encode_utf8_all page.now)) (F.told shelf.old) (F.told shelf.new) }
-    ensures refused { (context : RulesContext) → RefusesBy result
-        (PageRefused (itemizes_by syntax address) context (encode_utf8_all page.now)) (F.told shelf.old) (F.told shelf.new) }
+    ensures ok { (context : RulesContext) → GivesText result (itemizes_by syntax address) context page.now (F.told shelf.old) (F.told shelf.new) }
+    ensures refused { (context : RulesContext) → RefusesPage result (itemizes_by syntax address) context page.now (F.told shelf.old) (F.told shelf.new) }
     ensures takes { Moves (TakesOf (encode_utf8_all page.now) 1073807359) (F.told shelf.old) (F.told shelf.new) }
     ensures no_context { IsErrOf result InputError.BadContext → ⊥ }
     ensures failed { IsErrOf result InputError.Failed → FailedOrLacks F.told F.faults shelf.old shelf.new (encode_utf8_all page.now) }
@@ -186,8 +182,8 @@ fn check<F: Shelf>(
     syntax: Syntax,
     context: Context,
 ) -> Result<Outcome, InputError>
-    ensures ok { GivesBy result (PageText (checks syntax) context (encode_utf8_all page.now)) (F.told shelf.old) (F.told shelf.new) }
-    ensures refused { RefusesBy result (PageRefused (checks syntax) context (encode_utf8_all page.now)) (F.told shelf.old) (F.told shelf.new) }
+    ensures ok { GivesText result (checks syntax) context page.now (F.told shelf.old) (F.told shelf.new) }
+    ensures refused { RefusesPage result (checks syntax) context page.now (F.told shelf.old) (F.told shelf.new) }
     ensures takes { Moves (TakesOf (encode_utf8_all page.now) 1073807359) (F.told shelf.old) (F.told shelf.new) }
     ensures no_context { IsErrOf result InputError.BadContext → ⊥ }
     ensures failed { IsErrOf result InputError.Failed → FailedOrLacks F.told F.faults shelf.old shelf.new (encode_utf8_all page.now) }

@@ -2,7 +2,7 @@
 ghost use Rattle.std.specs.Prelude.{◌≡◌, ◌<◌, ◌≤◌, IfOk, IsErrOf, length, vec_len};
 ghost use Rattle.rx_ports.specs.Counts.{Rose};
 ghost use Rattle.rx_ports.specs.Shelves.{Moves};
-ghost use Rattle.rx_command.specs.Reading.{for_items, for_faults, way_for, Starts, MakesTriples, FindsItems, FindsFaults, NextGives, GivesItems, GivesRight, FileGives, PageGives, TakesToFirst, FromStart, FromWhere, EndsWithList, EndsWithItems, EndsRight};
+ghost use Rattle.rx_command.specs.Reading.{for_items, for_faults, way_for, Starts, MakesTriples, FindsItems, FindsFaults, ReadsNext, GivesItems, GivesRight, FileGives, PageGives, TakesToFirst, FromStart, EndsWithList, EndsWithItems, EndsRight};
 ghost use Rattle.rx_command.specs.Files.{TakesSome, TakesOf};
 ghost use Rattle.rx_command.specs.Ways.{way_of, GivesListOf};
 ghost use Rattle.rx_command.specs.Calls.{FailedOrLacks};
@@ -190,8 +190,7 @@ fn feed_next<F: Shelf>(
 ) -> Result<usize, InputError>
     requires { 0 < length piece.old }
     ensures bound { IfOk result (λ n. n ≤ length piece.new) }
-    ensures gives { FromWhere reader.old (λ syntax aim bytes.
-        length piece.old ≤ 65536 → NextGives syntax aim bytes result reader.new (F.told shelf.old) (F.told shelf.new)) }
+    ensures gives { ReadsNext reader.old (length piece.old) result reader.new (F.told shelf.old) (F.told shelf.new) }
     ensures takes { Moves (TakesSome (length piece.old)) (F.told shelf.old) (F.told shelf.new) }
     ensures later { F.faults shelf.old ≤ F.faults shelf.new }
     ensures failed { IsErrOf result InputError.Failed → Rose (F.faults shelf.old) (F.faults shelf.new) }

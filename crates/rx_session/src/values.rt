@@ -8,7 +8,7 @@ use rx_chars::Syntax;
 use rx_command::LARGEST_CONTEXT;
 use rx_job::Format;
 use rx_names::{Context, ContextError};
-use rx_terms::{Iri, IriError, NoMemory};
+use rx_terms::{Iri, IriError};
 use std::alloc::Global;
 
 /// The syntax of this number.
@@ -64,8 +64,10 @@ pub(crate) fn graph_of(
     if !names_graphs(format) {
         return Err(OpenError::Usage);
     }
-    let graph = iri_of(alloc, name)?;
-    Ok(Some(graph))
+    match iri_of(alloc, name) {
+        Ok(graph) => Ok(Some(graph)),
+        Err(error) => Err(error),
+    }
 }
 
 fn names_graphs(format: Format) -> bool
@@ -84,10 +86,7 @@ pub(crate) fn context_of(alloc: Global, file: Option<&[u8]>) -> Result<Context, 
     ensures { ContextGives (bytes_in file.entry) result }
 {
     let Some(file) = file else {
-        return match Context::standard(alloc) {
-            Ok(context) => Ok(context),
-            Err(NoMemory) => Err(OpenError::NoMemory),
-        };
+        return Ok(Context::standard(alloc)?);
     };
     if file.len() > LARGEST_CONTEXT {
         return Err(OpenError::BadContext);
