@@ -1,5 +1,5 @@
 -- A document that grows by one line.
-use Rattle.std.proofs.Common.{◌≡◌, ℕ, suc, zero, ◌+◌, Bool, true, false, ◌||◌, List, [], ◌∷◌, ◌++◌, map, flat_map, take, slice_get, Result, Ok, Err, OnOk, Option, Some, refl, sym, ap, ap₂, ◌∙◌, inl, inr, subst, if◌then◌else◌, append_assoc, append-nil, arith}
+use Rattle.std.proofs.Common.{◌≡◌, ℕ, suc, zero, ◌+◌, Bool, true, false, ◌||◌, List, [], ◌∷◌, ◌++◌, map, flat_map, take, slice_get, Result, Ok, Err, OnOk, Some, refl, sym, ap, ap₂, ◌∙◌, inl, inr, subst, if◌then◌else◌, append_assoc, append-nil, arith}
 use Rattle.std.specs.Str.{encode_utf8_all}
 use Rattle.std.proofs.lemmas.Str.{encodes-append}
 use Rattle.std.proofs.lemmas.List.{map-append}
@@ -19,7 +19,7 @@ use Rattle.rx_many.specs.Numbering.{known}
 use Rattle.rx_refs.specs.Resolve.{without_fragment}
 use Rattle.rx_many.specs.Pages.{accepted_page}
 use Rattle.rx_many.specs.Seen.{page_seen}
-use Rattle.rx_many.specs.Standing.{WritableComment, WritableLine, Keeps, DocumentStands, Writes}
+use Rattle.rx_many.specs.Standing.{WritableComment, WritableLine, Keeps, DocumentStands}
 use Rattle.rx_many.specs.Writing.{line_text, text_of}
 use Rattle.rx_many.specs.declared.documents.Document.{Document}
 use Rattle.rx_many.specs.declared.pages.Page.{Page as CodePage}

@@ -20,8 +20,8 @@ pub(crate) fn comment_on(alloc: Global, address: &Iri, fault: Fault) -> Result<S
         fault.at,
         fault.token,
         address.as_str(),
-    );
-    Ok(line?)
+    )?;
+    Ok(line)
 }
 
 fn comment_with(

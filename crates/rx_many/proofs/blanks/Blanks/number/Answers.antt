@@ -4,7 +4,7 @@ use Rattle.rx_many.proofs.KeyLemmas.{known_seen, place_by}
 use Rattle.rx_many.proofs.blanks.Blanks.number.Goals as goal
 
 pub returns-clause-known : goal.returns-clause-known
-returns-clause-known c = ap (map blank_seen) c.in-Ok.ensures.keys ∙ rw (← c.self.view_is) (known_seen c.self.inside.blanks.keys _)
+returns-clause-known c = ap (map blank_seen) c.in_ok-place.ensures.keys ∙ rw (← c.self.view_is) (known_seen c.self.inside.blanks.keys _)
 
 pub returns-clause-place : goal.returns-clause-place
-returns-clause-place c = place_by c.self.inside.blanks.keys _ _ _ c.in-Ok.ensures.keys (c.in-Ok.place-is ∙ c.in-Ok.ensures.index)
+returns-clause-place c = place_by c.self.inside.blanks.keys _ _ _ c.in_ok-place.ensures.keys c.in_ok-place.ensures.index

@@ -1,19 +1,19 @@
-use Rattle.std.proofs.Common.{◌∙◌, ap, sym, map, slice_get}
+use Rattle.std.proofs.Common.{◌∙◌, ap, sym, map}
 use Rattle.rx_many.specs.Seen.{statement_seen}
 use Rattle.rx_many.proofs.KeyLemmas.{statement_added, statement_new, statement_old}
 use Rattle.rx_many.proofs.statements.Statements.add.Goals as goal
 
 pub returns-then-is_new-clause-list : goal.returns-then-is_new-clause-list
-returns-then-is_new-clause-list c = ap (map statement_seen) c.in-Ok.ensures.keys ∙ rw (← c.self.view_is) (statement_added c.self.inside.statements c.args.statement)
+returns-then-is_new-clause-list c = ap (map statement_seen) c.in_ok-place.ensures.keys ∙ rw (← c.self.view_is) (statement_added c.self.inside.statements c.args.statement)
 
 pub returns-then-is_new-clause-place : goal.returns-then-is_new-clause-place
 returns-then-is_new-clause-place c =
     rw (← c.self.view_is)
-    (statement_new c.self.inside.statements c.insert_full.new.self c.args.statement c.in-Ok.place c.in-Ok.ensures.stored.0 (sym c.in-Ok.ensures.added ∙ sym c.in-Ok.is_new-is ∙ c.if-is_new.true)
-    (ap (λ z. slice_get c.insert_full.new.self z) c.in-Ok.place-is ∙ c.in-Ok.ensures.stored.1) c.in-Ok.ensures.stored.2)
+    (statement_new c.self.inside.statements c.insert_full.new.self c.args.statement c.in_ok-place.place c.in_ok-place.ensures.stored.0 (sym c.in_ok-place.ensures.added ∙ c.if-is_new.true)
+    c.in_ok-place.ensures.stored.1 c.in_ok-place.ensures.stored.2)
 
 pub returns-clause-list : goal.returns-clause-list
-returns-clause-list c = ap (map statement_seen) c.in-Ok.ensures.keys ∙ rw (← c.self.view_is) (statement_added c.self.inside.statements c.args.statement)
+returns-clause-list c = ap (map statement_seen) c.in_ok-place.ensures.keys ∙ rw (← c.self.view_is) (statement_added c.self.inside.statements c.args.statement)
 
 pub returns-clause-place : goal.returns-clause-place
-returns-clause-place c = rw (← c.self.view_is) (statement_old c.self.inside.statements c.args.statement (sym c.in-Ok.ensures.added ∙ sym c.in-Ok.is_new-is ∙ c.if-is_new.false))
+returns-clause-place c = rw (← c.self.view_is) (statement_old c.self.inside.statements c.args.statement (sym c.in_ok-place.ensures.added ∙ c.if-is_new.false))
