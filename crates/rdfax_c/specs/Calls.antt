@@ -6,18 +6,23 @@ use Rattle.rx_rdfa.specs.Names.{Context}
 use Rattle.rx_job.specs.Words.{Task}
 use Rattle.rx_many.specs.Writing.{kind_name}
 use Rattle.rx_session.specs.Kinds.{kind_number}
-use Rattle.rx_session.specs.Requests.{Opens}
+use Rattle.rx_session.specs.Requests.{Opens, extraction_in}
 use Rattle.rx_session.specs.Sessions.{IsFed, FeedGives, FinishGives, FeedAgain, FinishAgain, text_in, fault_in}
 use Rattle.rx_session.specs.declared.errors.OpenError.{OpenError}
 use Rattle.rx_session.specs.declared.errors.SessionError.{SessionError}
 use Rattle.rx_session.specs.declared.sessions.State.{State}
 use Rattle.rdfax_c.specs.Statuses.{answer_code, open_code, state_code}
+use Rattle.rdfax_c.specs.declared.options.Options.{Options}
 use Rattle.rdfax_c.specs.declared.options.PageFault.{PageFault}
 
 -- bytes, where they are given
 abbrev pub given : Bool → List ℕ → Option (List ℕ)
 given true bytes = Some bytes
 given false bytes = None
+
+-- what the options ask for of a page of this address
+abbrev pub extraction_by : Options → List ℕ → List ℕ → Option Task
+extraction_by options address graph = extraction_in options.syntax options.format address (given options.has_graph graph)
 
 abbrev pub fault_seen : Fault → PageFault
 fault_seen fault = record { kind = kind_number fault.kind; token = fault.token; at = fault.at }

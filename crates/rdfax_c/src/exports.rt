@@ -1,7 +1,7 @@
 //! The calls.
 ghost use Rattle.std.specs.Prelude.{◌≡◌, ◌++◌, None, length, min, take, drop};
-ghost use Rattle.rx_session.specs.Requests.{extraction_in, items_in, check_in};
-ghost use Rattle.rdfax_c.specs.Calls.{given, KeepsPage, OpensPage, FeedsPage, FinishesPage, page_code, page_text, page_fault, fault_name, TellsFault};
+ghost use Rattle.rx_session.specs.Requests.{items_in, check_in};
+ghost use Rattle.rdfax_c.specs.Calls.{given, extraction_by, KeepsPage, OpensPage, FeedsPage, FinishesPage, page_code, page_text, page_fault, fault_name, TellsFault};
 
 use crate::options::{Options, PageFault, fault_seen, given};
 use crate::pages::Page;
@@ -21,8 +21,7 @@ pub extern "C" fn rdfax_extract(
     context: &[u8],
     page: &mut Page,
 ) -> u32
-    ensures { OpensPage (extraction_in options.now.syntax options.now.format address.now (given options.now.has_graph graph.now))
-        (given options.now.has_context context.now) result page.new.handle.session }
+    ensures { OpensPage (extraction_by options.now address.now graph.now) (given options.now.has_context context.now) result page.new.handle.session }
 {
     let opened = open_extraction(
         alloc,

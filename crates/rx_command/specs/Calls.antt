@@ -1,21 +1,35 @@
 -- What a call says of a shelf that may tell its files.
-use Rattle.std.specs.Prelude.{◌≡◌, ◌⊎◌, ℕ, List, Option, Result, Err, IfOk, IsErrOf}
+use Rattle.std.specs.Prelude.{◌≡◌, ◌⊎◌, ℕ, List, Option, Result, Err, IfOk, IsErrOf, encode_utf8_all}
+use Rattle.rx_terms.specs.Text.{Chars}
 use Rattle.rx_ports.specs.Counts.{Rose}
 use Rattle.rx_ports.specs.Shelves.{ShelfContent, Moves, Lacks}
 use Rattle.rx_grammar.specs.declared.faults.Fault.{Fault}
 use Rattle.rx_command.specs.declared.errors.InputError.{InputError}
 use Rattle.rx_command.specs.declared.errors.InputError.TheVariants as error
+use Rattle.rx_rdfa.specs.Names.{Context}
+use Rattle.rx_job.specs.Words.{Task}
 use Rattle.rx_reading.specs.Ways.{Way}
 use Rattle.rx_command.specs.Reading.{ReadsClean}
-use Rattle.rx_command.specs.Inputs.{TellsThat}
+use Rattle.rx_command.specs.Inputs.{PageText, PageRefused, TellsThat}
+use Rattle.rx_command.specs.declared.outcomes.Outcome.{Outcome}
 
 -- where the call gives something, the shelf moved so
-abbrev pub GivesBy : {A : Type 0} → Result A InputError → (A → ShelfContent → ShelfContent → Type 0) → Option ShelfContent → Option ShelfContent → Type 0
+abbrev pub GivesBy :
+    {A : Type 0} → Result A InputError → (A → ShelfContent → ShelfContent → Type 0) → Option ShelfContent → Option ShelfContent → Type 0
 GivesBy result step old new = IfOk result (λ given. Moves (step given) old new)
 
 -- where it refuses the page with a fault, the shelf moved so
-abbrev pub RefusesBy : {A : Type 0} → Result A InputError → (Fault → ShelfContent → ShelfContent → Type 0) → Option ShelfContent → Option ShelfContent → Type 0
+abbrev pub RefusesBy :
+    {A : Type 0} → Result A InputError → (Fault → ShelfContent → ShelfContent → Type 0) → Option ShelfContent → Option ShelfContent → Type 0
 RefusesBy result step old new = (fault : Fault) → result ≡ Err (error.Refused fault) → Moves (step fault) old new
+
+-- where the call gives an outcome, the page of this name is there, and its text is what the task makes of it
+abbrev pub GivesText : Result Outcome InputError → Task → Context → Chars → Option ShelfContent → Option ShelfContent → Type 0
+GivesText result task context page old new = GivesBy result (PageText task context (encode_utf8_all page)) old new
+
+-- where it refuses the page, that is there, and has the fault
+abbrev pub RefusesPage : Result Outcome InputError → Task → Context → Chars → Option ShelfContent → Option ShelfContent → Type 0
+RefusesPage result task context page old new = RefusesBy result (PageRefused task context (encode_utf8_all page)) old new
 
 -- where the call failed, what was read of the file holds no fault but that it ends
 abbrev pub StopsBy : {A : Type 0} → Result A InputError → Way → List ℕ → Option ShelfContent → Option ShelfContent → Type 0

@@ -144,6 +144,10 @@ FromStart v holds = (syntax : Syntax) (aim : Aim) → Reached syntax aim v [] �
 abbrev pub FromWhere : Pass → (Syntax → Aim → List ℕ → Type 0) → Type 0
 FromWhere v holds = (syntax : Syntax) (aim : Aim) (bytes : List ℕ) → Reached syntax aim v bytes → holds syntax aim bytes
 
+-- a read gave some bytes, no more than a piece, which whatever the reader stood for went on with
+abbrev pub ReadsNext : Pass → ℕ → Result ℕ InputError → Pass → Option ShelfContent → Option ShelfContent → Type 0
+ReadsNext old room result new before now = FromWhere old (λ syntax aim bytes. room ≤ 65536 → NextGives syntax aim bytes result new before now)
+
 -- the page's end, where triples are wanted, items, or faults alone
 abbrev pub EndsWithList : Pass → Result (List CodeTriple) InputError → Type 0
 EndsWithList v result =

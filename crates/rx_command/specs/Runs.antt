@@ -28,6 +28,18 @@ code_of status.WriteFault = 4
 code_of status.Memory = 5
 code_of status.BadContext = 6
 
+-- the run ends so, or there was no memory
+abbrev pub EndsSo : Status → Status → Type 0
+EndsSo result s = (result ≡ s) ⊎ (result ≡ status.Memory)
+
+-- this holds where the shelf tells its files
+abbrev pub IfTold : Option ShelfContent → Type 0 → Type 0
+IfTold told holds = (content : ShelfContent) → told ≡ Some content → holds
+
+-- there is a text then of which this holds, and what a sink holds became another with it
+abbrev pub Writes : Option ShelfContent → (List ℕ → Type 0) → (List ℕ → List ℕ → List ℕ → Type 0) → Option (List ℕ) → Option (List ℕ) → Type 0
+Writes told is grows old new = (content : ShelfContent) → told ≡ Some content → (text : List ℕ) × is text × Moves (grows text) old new
+
 -- what is asked for reads files
 abbrev pub reads_files : Option Job → Bool
 reads_files None = false

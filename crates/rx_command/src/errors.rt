@@ -1,4 +1,5 @@
 //! Why a job has no text.
+use rx_terms::NoMemory;
 use rx_walk::Fault;
 
 /// Why there is no text.
@@ -11,4 +12,15 @@ pub(crate) enum InputError {
     /// The page has this fault.
     Refused(Fault),
     NoMemory,
+}
+
+impl From<NoMemory> for InputError {
+    ghost use Rattle.std.specs.Prelude.{◌≡◌};
+    ghost use Rattle.rx_command.specs.declared.errors.InputError.{InputError};
+
+    ghost from_gives = { λ _ error. error ≡ InputError.NoMemory };
+
+    fn from(_error: NoMemory) -> InputError {
+        InputError::NoMemory
+    }
 }

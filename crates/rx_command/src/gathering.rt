@@ -1,9 +1,8 @@
 //! Several pages in one dataset: the context file is read, and then each page in order.
 ghost use Rattle.std.specs.Prelude.{◌≡◌, ◌≤◌, ◌++◌, [], ◌∷◌, length, IfOk, OnOk, IsErrOf, Err, is_some, true, encode_utf8_all};
-ghost use Rattle.rx_many.specs.Pages.{accepted_page, refused_page};
+ghost use Rattle.rx_many.specs.Pages.{accepted_page};
 ghost use Rattle.rx_ports.specs.Shelves.{Moves};
 ghost use Rattle.rx_job.specs.Jobs.{several_seen, page_at};
-ghost use Rattle.rx_command.specs.declared.errors.InputError as errors;
 ghost use Rattle.rx_command.specs.Contexts.{HasOther, TakesContext};
 ghost use Rattle.rx_command.specs.Gathering.{AddsPage, AddsPages, GathersPages, TakesGathering, TakesPart, TakesParts};
 ghost use Rattle.rx_command.specs.Inputs.{WhereTold};
@@ -44,7 +43,10 @@ pub(crate) fn gather<F: Shelf>(
         context,
         pages,
     } = several;
-    let context = read_context(alloc, shelf, context)?;
+    let context = match read_context(alloc, shelf, context) {
+        Ok(context) => context,
+        Err(error) => return Err(error),
+    };
     let Ok(mut many) = Many::new(alloc) else {
         drop(context);
         return Err(InputError::NoMemory);
@@ -77,9 +79,7 @@ fn gather_pages<F: Shelf>(
     ensures no_context { IsErrOf result InputError.BadContext → ⊥ }
     ensures failed { IsErrOf result InputError.Failed → FailedOr F.told F.faults shelf.old shelf.new (λ told. LacksPage told.files pages.now) }
 {
-    let Ok(mut piece) = new_piece(alloc) else {
-        return Err(InputError::NoMemory);
-    };
+    let mut piece = new_piece(alloc)?;
     gather_by(alloc, shelf, syntax, context, pages, &mut piece[..], many)
 }
 
@@ -102,7 +102,10 @@ fn gather_by<F: Shelf>(
 {
     for i in 0..pages.len() {
         let (address, page) = pages.at(i);
-        gather_page(alloc, shelf, syntax, context, address, page, piece, many)?;
+        match gather_page(alloc, shelf, syntax, context, address, page, piece, many) {
+            Ok(()) => {}
+            Err(error) => return Err(error),
+        }
     }
     Ok(())
 }
@@ -126,18 +129,10 @@ fn gather_page<F: Shelf>(
     ensures failed { IsErrOf result InputError.Failed → FailedOrLacks F.told F.faults shelf.old shelf.new (encode_utf8_all page.now) }
     ensures later { F.faults shelf.old ≤ F.faults shelf.new }
 {
-    let Ok(approach) = approach_of(alloc, syntax, context, address) else {
-        return Err(InputError::NoMemory);
-    };
+    let approach = approach_of(alloc, syntax, context, address)?;
     match read_page_by(alloc, shelf, page.as_str(), approach, piece) {
-        Ok(list) => match accept(alloc, address, list, many) {
-            Ok(()) => Ok(()),
-            Err(NoMemory) => Err(InputError::NoMemory),
-        },
-        Err(InputError::Refused(fault)) => match refuse(address, fault, many) {
-            Ok(()) => Ok(()),
-            Err(error) => Err(error),
-        },
+        Ok(list) => Ok(accept(alloc, address, list, many)?),
+        Err(InputError::Refused(fault)) => Ok(many.refuse(address, fault)?),
         Err(InputError::Failed) => Err(InputError::Failed),
         Err(InputError::BadContext) => unreachable!(),
         Err(InputError::NoMemory) => Err(InputError::NoMemory),
@@ -173,13 +168,4 @@ fn accept(alloc: Global, address: &Iri, list: TripleList, many: &mut Many) -> Re
 {
     let graph = graph_of(alloc, list)?;
     many.add_owned(address, graph)
-}
-
-/// Adds the page of this address, which has this fault.
-fn refuse(address: &Iri, fault: Fault, many: &mut Many) -> Result<(), InputError>
-    ensures ok { OnOk result (many.new ≡ many.old ++ refused_page address.now fault ∷ []) }
-    ensures memory { (error : errors.InputError) → result ≡ Err error → error ≡ InputError.NoMemory }
-{
-    many.refuse(address, fault)?;
-    Ok(())
 }

@@ -9,9 +9,9 @@ ghost use Rattle.rx_command.specs.Reading.{for_items, for_faults, way_for};
 ghost use Rattle.rx_command.specs.Ways.{way_of, extracts_by, itemizes_by};
 ghost use Rattle.rx_command.specs.Contexts.{IsContextFile, IsFileOf, ReadsContext, TakesContext, LacksContext, HasOther};
 ghost use Rattle.rx_command.specs.Outcome.{IsLacking};
-ghost use Rattle.rx_command.specs.Inputs.{PageText, PageRefused, JobText, JobRefused, WhereTold};
+ghost use Rattle.rx_command.specs.Inputs.{JobText, JobRefused, WhereTold};
 ghost use Rattle.rx_command.specs.Runs.{TakesFiles, StopsCleanly};
-ghost use Rattle.rx_command.specs.Calls.{GivesBy, RefusesBy, StopsBy, FailedOr, FailedOrLacks};
+ghost use Rattle.rx_command.specs.Calls.{GivesBy, GivesText, RefusesBy, RefusesPage, StopsBy, FailedOr, FailedOrLacks};
 
 use crate::errors::InputError;
 use crate::files::{ReadError, read_file};
@@ -22,12 +22,12 @@ use crate::pages::{Approach, check_page, read_items, read_page};
 use rx_job::{Format, Job};
 use rx_names::{Context, ContextError};
 use rx_ports::Shelf;
-use rx_terms::{Iri, NoMemory, Text};
+use rx_terms::{Iri, Text};
 use rx_walk::{Fault, Stop, Syntax};
 use std::alloc::Global;
 
 /// The most bytes that a context file has.
-const LARGEST_CONTEXT: usize = 65_536;
+pub const LARGEST_CONTEXT: usize = 65_536;
 
 /// What the job's page gives, which is read after the context file, where one is named.
 pub(crate) fn outcome_of_job<F: Shelf>(
@@ -52,9 +52,7 @@ pub(crate) fn outcome_of_job<F: Shelf>(
             address,
             page,
         } => {
-            let Ok(address) = address.try_clone() else {
-                return Err(InputError::NoMemory);
-            };
+            let address = address.try_clone()?;
             itemize(alloc, shelf, page, *syntax, address)
         }
         _ => outcome_under_context(alloc, shelf, job),
@@ -78,7 +76,10 @@ fn outcome_under_context<F: Shelf>(
     ensures cleanly { IsErrOf result InputError.Failed → Moves (StopsCleanly (Some (page_by job.now))) (F.told shelf.old) (F.told shelf.new) }
     ensures later { F.faults shelf.old ≤ F.faults shelf.new }
 {
-    let context = read_context(alloc, shelf, job.context())?;
+    let context = match read_context(alloc, shelf, job.context()) {
+        Ok(context) => context,
+        Err(error) => return Err(error),
+    };
     match job {
         Job::Extract {
             syntax,
@@ -89,6 +90,7 @@ fn outcome_under_context<F: Shelf>(
             ..
         } => {
             let Ok(address) = address.try_clone() else {
+                drop(context);
                 return Err(InputError::NoMemory);
             };
             let approach = Approach {
@@ -114,10 +116,8 @@ fn extract<F: Shelf>(
     format: Format,
     graph: Option<&Iri>,
 ) -> Result<Outcome, InputError>
-    ensures ok { GivesBy result
-        (PageText (extracts_by approach format graph.entry) approach.context (encode_utf8_all page.now)) (F.told shelf.old) (F.told shelf.new) }
-    ensures refused { RefusesBy result
-        (PageRefused (extracts_by approach format graph.entry) approach.context (encode_utf8_all page.now)) (F.told shelf.old) (F.told shelf.new) }
+    ensures ok { GivesText result (extracts_by approach format graph.entry) approach.context page.now (F.told shelf.old) (F.told shelf.new) }
+    ensures refused { RefusesPage result (extracts_by approach format graph.entry) approach.context page.now (F.told shelf.old) (F.told shelf.new) }
     ensures takes { Moves (TakesOf (encode_utf8_all page.now) 1073807359) (F.told shelf.old) (F.told shelf.new) }
     ensures context { IsErrOf result InputError.BadContext → ⊥ }
     ensures failed { IsErrOf result InputError.Failed → FailedOrLacks F.told F.faults shelf.old shelf.new (encode_utf8_all page.now) }
@@ -146,17 +146,18 @@ fn itemize<F: Shelf>(
     syntax: Syntax,
     address: Iri,
 ) -> Result<Outcome, InputError>
-    ensures ok { (context : RulesContext) → GivesBy result
-        (PageText (itemizes_by syntax address) context (encode_utf8_all page.now)) (F.told shelf.old) (F.told shelf.new) }
-    ensures refused { (context : RulesContext) → RefusesBy result
-        (PageRefused (itemizes_by syntax address) context (encode_utf8_all page.now)) (F.told shelf.old) (F.told shelf.new) }
+    ensures ok { (context : RulesContext) → GivesText result (itemizes_by syntax address) context page.now (F.told shelf.old) (F.told shelf.new) }
+    ensures refused { (context : RulesContext) → RefusesPage result (itemizes_by syntax address) context page.now (F.told shelf.old) (F.told shelf.new) }
     ensures takes { Moves (TakesOf (encode_utf8_all page.now) 1073807359) (F.told shelf.old) (F.told shelf.new) }
     ensures no_context { IsErrOf result InputError.BadContext → ⊥ }
     ensures failed { IsErrOf result InputError.Failed → FailedOrLacks F.told F.faults shelf.old shelf.new (encode_utf8_all page.now) }
     ensures cleanly { StopsBy result (way_for syntax (for_items address)) (encode_utf8_all page.now) (F.told shelf.old) (F.told shelf.new) }
     ensures later { F.faults shelf.old ≤ F.faults shelf.new }
 {
-    let found = read_items(alloc, shelf, page.as_str(), syntax, address)?;
+    let found = match read_items(alloc, shelf, page.as_str(), syntax, address) {
+        Ok(found) => found,
+        Err(error) => return Err(error),
+    };
     match text_of_items(alloc, &found) {
         Ok(text) => {
             drop(found);
@@ -181,8 +182,8 @@ fn check<F: Shelf>(
     syntax: Syntax,
     context: Context,
 ) -> Result<Outcome, InputError>
-    ensures ok { GivesBy result (PageText (checks syntax) context (encode_utf8_all page.now)) (F.told shelf.old) (F.told shelf.new) }
-    ensures refused { RefusesBy result (PageRefused (checks syntax) context (encode_utf8_all page.now)) (F.told shelf.old) (F.told shelf.new) }
+    ensures ok { GivesText result (checks syntax) context page.now (F.told shelf.old) (F.told shelf.new) }
+    ensures refused { RefusesPage result (checks syntax) context page.now (F.told shelf.old) (F.told shelf.new) }
     ensures takes { Moves (TakesOf (encode_utf8_all page.now) 1073807359) (F.told shelf.old) (F.told shelf.new) }
     ensures no_context { IsErrOf result InputError.BadContext → ⊥ }
     ensures failed { IsErrOf result InputError.Failed → FailedOrLacks F.told F.faults shelf.old shelf.new (encode_utf8_all page.now) }
@@ -210,10 +211,7 @@ pub(crate) fn read_context<F: Shelf>(
     ensures later { F.faults shelf.old ≤ F.faults shelf.new }
 {
     match file {
-        None => match Context::standard(alloc) {
-            Ok(context) => Ok(context),
-            Err(NoMemory) => Err(InputError::NoMemory),
-        },
+        None => Ok(Context::standard(alloc)?),
         Some(file) => read_named_context(alloc, shelf, file),
     }
 }

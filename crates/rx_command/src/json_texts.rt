@@ -17,7 +17,10 @@ use std::alloc::Global;
 pub fn text_of_items(alloc: Global, items: &Items) -> Result<Vec<u8>, Stop>
     ensures { (address : Chars) (tree : Tree) → AreItems address tree items.now → JsonTextGives (λ text. text.items) address tree result }
 {
-    let text = items.text(alloc)?;
+    let text = match items.text(alloc) {
+        Ok(text) => text,
+        Err(stop) => return Err(stop),
+    };
     Ok(ended(text)?)
 }
 
@@ -37,8 +40,6 @@ fn ended(text: Vec<u8>) -> Result<Vec<u8>, NoMemory>
     ensures { IfOk result (λ line. line.items ≡ text.items ++ codes "\n") }
 {
     let mut text = text;
-    match text.push(b'\n') {
-        Ok(()) => Ok(text),
-        Err(_refused) => Err(NoMemory),
-    }
+    text.push(b'\n')?;
+    Ok(text)
 }

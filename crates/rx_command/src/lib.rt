@@ -26,6 +26,7 @@ mod statuses;
 mod top;
 
 pub use forms::Form;
+pub use inputs::LARGEST_CONTEXT;
 pub use json_texts::text_of_items;
 pub use outcomes::Outcome;
 pub use rx_job::{Format, Job, JobError};

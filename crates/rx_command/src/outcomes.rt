@@ -101,8 +101,7 @@ fn json_of(alloc: Global, graph: Graph) -> Result<Outcome, NoMemory>
 {
     let text = text_of_graph(alloc, &graph);
     drop(graph);
-    let text = text?;
-    Ok(Outcome::Json(text))
+    Ok(Outcome::Json(text?))
 }
 
 /// Writes a text that is whole.

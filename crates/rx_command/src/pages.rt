@@ -1,8 +1,8 @@
 //! Reading a page as its bytes come.
-ghost use Rattle.std.specs.Prelude.{◌≡◌, ◌<◌, ◌≤◌, [], IfOk, IsErrOf, length, vec_len};
+ghost use Rattle.std.specs.Prelude.{◌≡◌, ◌<◌, ◌≤◌, IfOk, IsErrOf, length, vec_len};
 ghost use Rattle.rx_ports.specs.Counts.{Rose};
 ghost use Rattle.rx_ports.specs.Shelves.{Moves};
-ghost use Rattle.rx_command.specs.Reading.{for_items, for_faults, way_for, Starts, MakesTriples, FindsItems, FindsFaults, NextGives, GivesItems, GivesRight, FileGives, PageGives, TakesToFirst, FromStart, FromWhere, EndsWithList, EndsWithItems, EndsRight};
+ghost use Rattle.rx_command.specs.Reading.{for_items, for_faults, way_for, Starts, MakesTriples, FindsItems, FindsFaults, ReadsNext, GivesItems, GivesRight, FileGives, PageGives, TakesToFirst, FromStart, EndsWithList, EndsWithItems, EndsRight};
 ghost use Rattle.rx_command.specs.Files.{TakesSome, TakesOf};
 ghost use Rattle.rx_command.specs.Ways.{way_of, GivesListOf};
 ghost use Rattle.rx_command.specs.Calls.{FailedOrLacks};
@@ -68,9 +68,7 @@ pub(crate) fn read_page_by<F: Shelf>(
         context,
         address,
     } = approach;
-    let Ok(walk) = Walk::new(alloc, syntax, context, address, Limits::standard()) else {
-        return Err(InputError::NoMemory);
-    };
+    let walk = Walk::new(alloc, syntax, context, address, Limits::standard())?;
     let mut reader = Pass::Walks(walk);
     match feed_file_by(shelf, name, &mut reader, piece) {
         Ok(()) => list_of(reader),
@@ -94,9 +92,7 @@ pub(crate) fn read_items<F: Shelf>(
     ensures later { F.faults shelf.old ≤ F.faults shelf.new }
     ensures failed { IsErrOf result InputError.Failed → FailedOrLacks F.told F.faults shelf.old shelf.new name.now }
 {
-    let Ok(walk) = ItemWalk::new(alloc, syntax, address, Limits::standard()) else {
-        return Err(InputError::NoMemory);
-    };
+    let walk = ItemWalk::new(alloc, syntax, address, Limits::standard())?;
     let mut reader = Pass::Itemizes(walk);
     match feed_file(alloc, shelf, name, &mut reader) {
         Ok(()) => items_of(reader),
@@ -120,9 +116,7 @@ pub(crate) fn check_page<F: Shelf>(
     ensures later { F.faults shelf.old ≤ F.faults shelf.new }
     ensures failed { IsErrOf result InputError.Failed → FailedOrLacks F.told F.faults shelf.old shelf.new name.now }
 {
-    let Ok(check) = Check::new(alloc, syntax, context, Limits::standard()) else {
-        return Err(InputError::NoMemory);
-    };
+    let check = Check::new(alloc, syntax, context, Limits::standard())?;
     let mut reader = Pass::Checks(check);
     match feed_file(alloc, shelf, name, &mut reader) {
         Ok(()) => checked(reader),
@@ -155,9 +149,7 @@ fn feed_file<F: Shelf>(
     ensures later { F.faults shelf.old ≤ F.faults shelf.new }
     ensures failed { IsErrOf result InputError.Failed → FailedOrLacks F.told F.faults shelf.old shelf.new name.now }
 {
-    let Ok(mut piece) = new_piece(alloc) else {
-        return Err(InputError::NoMemory);
-    };
+    let mut piece = new_piece(alloc)?;
     feed_file_by(shelf, name, reader, &mut piece[..])
 }
 
@@ -198,8 +190,7 @@ fn feed_next<F: Shelf>(
 ) -> Result<usize, InputError>
     requires { 0 < length piece.old }
     ensures bound { IfOk result (λ n. n ≤ length piece.new) }
-    ensures gives { FromWhere reader.old (λ syntax aim bytes.
-        length piece.old ≤ 65536 → NextGives syntax aim bytes result reader.new (F.told shelf.old) (F.told shelf.new)) }
+    ensures gives { ReadsNext reader.old (length piece.old) result reader.new (F.told shelf.old) (F.told shelf.new) }
     ensures takes { Moves (TakesSome (length piece.old)) (F.told shelf.old) (F.told shelf.new) }
     ensures later { F.faults shelf.old ≤ F.faults shelf.new }
     ensures failed { IsErrOf result InputError.Failed → Rose (F.faults shelf.old) (F.faults shelf.new) }

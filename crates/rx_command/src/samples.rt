@@ -63,8 +63,8 @@ impl Feeding {
     fn new(alloc: Global) -> Result<Feeding, NoMemory>
         ensures { IfOk result (λ feeding. FedTo 0 feeding) }
     {
-        let context = Context::standard(alloc)?;
         let address = localhost(alloc)?;
+        let context = Context::standard(alloc)?;
         let walk = Walk::new(alloc, Syntax::Html, context, address, Limits::standard())?;
         let mut piece = Vec::new(alloc);
         let Ok(()) = piece.extend_from_slice(HEAD) else {

@@ -1,7 +1,7 @@
 //! The top call.
-ghost use Rattle.std.specs.Prelude.{◌≡◌, ◌≢◌, ◌≤◌, ◌⊎◌, ℕ, List, None, Some, IfOk, is_some, true, string_bytes};
+ghost use Rattle.std.specs.Prelude.{◌≡◌, ◌≢◌, ◌≤◌, ℕ, List, None, Some, IfOk, is_some, true, string_bytes};
 ghost use Rattle.rx_ports.specs.Counts.{Rose};
-ghost use Rattle.rx_ports.specs.Shelves.{ShelfContent, Moves, GrowsBy, GrowsByPart, Stays};
+ghost use Rattle.rx_ports.specs.Shelves.{Moves, GrowsBy, GrowsByPart, Stays};
 ghost use Rattle.rx_job.specs.Jobs.{several_seen};
 ghost use Rattle.rx_job.specs.Words.{gathering_asked, job, most_items, page_asked, samples};
 ghost use Rattle.rx_command.specs.Contexts.{TakesContext, context_asked};
@@ -9,7 +9,7 @@ ghost use Rattle.rx_command.specs.Gathering.{HasAll};
 ghost use Rattle.rx_command.specs.Headline.{AnswersPage};
 ghost use Rattle.rx_command.specs.Outcome.{HasBadContext, HasPageFault, LacksFile};
 ghost use Rattle.rx_command.specs.Samples.{Yields, YieldsGraph};
-ghost use Rattle.rx_command.specs.Runs.{ReadCause, TakesJob, TakesToFault, StopsCleanly, IsAtEnd, GatheringEnds, SampleEnds, Says, SaysNothing, usage_line, refused_line, context_line, refused_with};
+ghost use Rattle.rx_command.specs.Runs.{EndsSo, IfTold, Writes, ReadCause, TakesJob, TakesToFault, StopsCleanly, IsAtEnd, GatheringEnds, SampleEnds, Says, SaysNothing, usage_line, refused_line, context_line, refused_with};
 
 use crate::errors::InputError;
 use crate::gathering::gather;
@@ -68,23 +68,20 @@ pub fn run<F: Shelf, O: Sink, E: Sink>(
     // Usage comes only where the words ask for nothing, and then the shelf is as it was. Where they ask for nothing there is no
     // other answer but want of memory.
     ensures usage { result ≡ Status.Usage → job words.now ≡ None }
-    ensures only_usage { job words.now ≡ None → (result ≡ Status.Usage) ⊎ (result ≡ Status.Memory) }
+    ensures only_usage { job words.now ≡ None → EndsSo result Status.Usage }
     ensures untouched { result ≡ Status.Usage → shelf.new ≡ shelf.old }
 
     // Done comes only where there is a text, that of the page, of several pages or of a sample: out has then grown by
     // exactly that, and a page that alone is asked for was read to its end.
-    ensures done { result ≡ Status.Done → (told : ShelfContent) → F.told shelf.old ≡ Some told →
-        (text : List ℕ) × Yields words.now (F.told shelf.old) text × Moves (GrowsBy text) (O.held out.old) (O.held out.new) }
+    ensures done { result ≡ Status.Done → Writes (F.told shelf.old) (Yields words.now (F.told shelf.old)) GrowsBy (O.held out.old) (O.held out.new) }
     // The text of an extraction denotes exactly the graph that RDFa's rules give the page's tree, its blank nodes renamed
     // one to one; that of several pages denotes the graphs of those that are accepted, each under its address, and no two
     // share a blank node.
-    ensures denotes { result ≡ Status.Done → (told : ShelfContent) → F.told shelf.old ≡ Some told →
-        (text : List ℕ) × YieldsGraph words.now (F.told shelf.old) text × Moves (GrowsBy text) (O.held out.old) (O.held out.new) }
+    ensures denotes { result ≡ Status.Done → Writes (F.told shelf.old) (YieldsGraph words.now (F.told shelf.old)) GrowsBy (O.held out.old) (O.held out.new) }
     ensures to_end { result ≡ Status.Done → IsAtEnd (page_asked words.now) (F.told shelf.new) }
 
     // Refused comes only where the page has this fault, and never where several pages are asked for.
-    ensures refused { (fault : Fault) → result ≡ Status.Refused fault → (told : ShelfContent) → F.told shelf.old ≡ Some told →
-        HasPageFault words.now (F.told shelf.old) fault }
+    ensures refused { (fault : Fault) → result ≡ Status.Refused fault → IfTold (F.told shelf.old) (HasPageFault words.now (F.told shelf.old) fault) }
     ensures refuses_one { (fault : Fault) → result ≡ Status.Refused fault → gathering_asked words.now ≡ None }
     // The page is then read no further than 65,536 bytes past the byte that decides the fault, unless that is an item's,
     // which is found once the page has ended.
@@ -96,12 +93,11 @@ pub fn run<F: Shelf, O: Sink, E: Sink>(
     ensures read_fault { result ≡ Status.ReadFault → ReadCause words.now (F.told shelf.old) (F.faults shelf.old) (F.faults shelf.new) }
     // What was read of a page that alone is asked for, where it is there, holds no fault then but that it ends.
     ensures cleanly { result ≡ Status.ReadFault → Moves (StopsCleanly (page_asked words.now)) (F.told shelf.old) (F.told shelf.new) }
-    ensures lacking { LacksFile words.now (F.told shelf.old) → (result ≡ Status.ReadFault) ⊎ (result ≡ Status.Memory) }
+    ensures lacking { LacksFile words.now (F.told shelf.old) → EndsSo result Status.ReadFault }
 
     // WriteFault comes only where out failed, which then holds a proper front of the text more than before.
     ensures write_fault { result ≡ Status.WriteFault → Rose (O.faults out.old) (O.faults out.new) }
-    ensures partly { result ≡ Status.WriteFault → (told : ShelfContent) → F.told shelf.old ≡ Some told →
-        (text : List ℕ) × Yields words.now (F.told shelf.old) text × Moves (GrowsByPart text) (O.held out.old) (O.held out.new) }
+    ensures partly { result ≡ Status.WriteFault → Writes (F.told shelf.old) (Yields words.now (F.told shelf.old)) GrowsByPart (O.held out.old) (O.held out.new) }
 
     // On any other status nothing is written.
     ensures nothing_written { result ≢ Status.Done → result ≢ Status.WriteFault → Moves Stays (O.held out.old) (O.held out.new) }
@@ -109,9 +105,9 @@ pub fn run<F: Shelf, O: Sink, E: Sink>(
     // BadContext comes only where the words name a context file, which is there and has another shape or is too long; and
     // then, where nothing failed, there is no other answer but want of memory. No more is read than that file has.
     ensures names_context { result ≡ Status.BadContext → is_some (context_asked words.now) ≡ true }
-    ensures bad_context { result ≡ Status.BadContext → (told : ShelfContent) → F.told shelf.old ≡ Some told → HasBadContext words.now (F.told shelf.old) }
+    ensures bad_context { result ≡ Status.BadContext → IfTold (F.told shelf.old) (HasBadContext words.now (F.told shelf.old)) }
     ensures refuses_context { HasBadContext words.now (F.told shelf.old) → ¬ Rose (F.faults shelf.old) (F.faults shelf.new)
-        → (result ≡ Status.BadContext) ⊎ (result ≡ Status.Memory) }
+        → EndsSo result Status.BadContext }
     ensures takes_context { result ≡ Status.BadContext → Moves (TakesContext (context_asked words.now)) (F.told shelf.old) (F.told shelf.new) }
 
     // What err is told: one line on Usage, on Refused and on BadContext, or a front of it where err failed. On other
@@ -137,11 +133,11 @@ pub fn run<F: Shelf, O: Sink, E: Sink>(
     // Where nothing failed, a page that has a text, or a sample, is done, and so are several pages that are all there, where
     // the context file is a context; and a page that has a fault is refused; unless memory runs out.
     ensures completes { (text : List ℕ) → Yields words.now (F.told shelf.old) text → ¬ Rose (F.faults shelf.old) (F.faults shelf.new)
-        → ¬ Rose (O.faults out.old) (O.faults out.new) → (result ≡ Status.Done) ⊎ (result ≡ Status.Memory) }
+        → ¬ Rose (O.faults out.old) (O.faults out.new) → EndsSo result Status.Done }
     ensures completes_all { HasAll words.now (F.told shelf.old) → ¬ Rose (F.faults shelf.old) (F.faults shelf.new)
-        → ¬ Rose (O.faults out.old) (O.faults out.new) → (result ≡ Status.Done) ⊎ (result ≡ Status.Memory) }
+        → ¬ Rose (O.faults out.old) (O.faults out.new) → EndsSo result Status.Done }
     ensures refuses { (fault : Fault) → HasPageFault words.now (F.told shelf.old) fault → ¬ Rose (F.faults shelf.old) (F.faults shelf.new)
-        → (result ≡ Status.Refused fault) ⊎ (result ≡ Status.Memory) }
+        → EndsSo result (Status.Refused fault) }
 {
     let job = match Job::of(alloc, words) {
         Ok(job) => job,

@@ -129,7 +129,7 @@ pub(crate) struct Levels {
     alloc: Global,
     // the levels that were open so far, the outermost first
     levels: Vec<Level>,
-    open: usize,
+    depth: usize,
     // how many may be open
     room: usize,
 }
@@ -140,9 +140,9 @@ impl Model for Levels {
 
     ghost Value = { Opened };
 
-    ghost view = { λ l. record { levels = innermost_first l.open l.levels.items; room = l.room; memory = l.levels.items } };
+    ghost view = { λ l. record { levels = innermost_first l.depth l.levels.items; room = l.room; memory = l.levels.items } };
 
-    ghost invariant = { λ l. (l.open ≤ length l.levels.items) × (length l.levels.items ≤ l.room) };
+    ghost invariant = { λ l. (l.depth ≤ length l.levels.items) × (length l.levels.items ≤ l.room) };
 }
 
 impl Levels {
@@ -155,7 +155,7 @@ impl Levels {
         Ok(Levels {
             alloc,
             levels,
-            open: 0,
+            depth: 0,
             room: depth as usize,
         })
     }
@@ -167,7 +167,7 @@ impl Levels {
         ensures stored { result ≤ length self.now.memory }
         ensures are { self.now.levels ≡ levels.innermost_first result self.now.memory }
     {
-        self.open
+        self.depth
     }
 
     /// An element begins inside the innermost one.
@@ -177,9 +177,9 @@ impl Levels {
         ensures room { self.new.room ≡ self.old.room }
     {
         self.make_next()?;
-        let open = self.open;
-        self.levels[open].set(name, traits)?;
-        self.open = open + 1;
+        let depth = self.depth;
+        self.levels[depth].set(name, traits)?;
+        self.depth = depth + 1;
         Ok(())
     }
 
@@ -191,7 +191,7 @@ impl Levels {
         ensures levels { OnOk result (self.new.levels ≡ self.old.levels) }
         ensures room { self.new.room ≡ self.old.room }
     {
-        if self.open < self.levels.len() {
+        if self.depth < self.levels.len() {
             return Ok(());
         }
         self.make_level()
@@ -215,7 +215,7 @@ impl Levels {
         ensures room { self.new.room ≡ self.old.room }
         ensures memory { self.new.memory ≡ self.old.memory }
     {
-        self.open = self.open.saturating_sub(1);
+        self.depth = self.depth.saturating_sub(1);
     }
 
     /// So many elements are open again, as they were before the last ones ended.
@@ -224,14 +224,14 @@ impl Levels {
         ensures levels { self.new.levels ≡ levels.innermost_first count self.old.memory }
         ensures room { self.new.room ≡ self.old.room }
     {
-        self.open = count;
+        self.depth = count;
     }
 
     /// The innermost element.
     pub(crate) fn top(&self) -> Option<&Level>
         ensures { MatchOption result (self.now.levels ≡ []) (λ level. levels.IsTop level.now self.now.levels) }
     {
-        match self.open.checked_sub(1) {
+        match self.depth.checked_sub(1) {
             Some(last) => Some(&self.levels[last]),
             None => None,
         }
@@ -278,7 +278,7 @@ impl Levels {
         ensures fits { length self.old.levels ≤ self.old.room }
     {
         // No more are open than there is room for.
-        let _most = self.open;
+        let _most = self.depth;
         let Some(level) = self.top() else {
             return 0;
         };

@@ -24,7 +24,10 @@ pub(crate) fn read(
         Ok(step) => step,
         Err(stop) => return Err(stop),
     };
-    let tree_token = line.take_token(token)?;
+    let tree_token = match line.take_token(token) {
+        Ok(tree_token) => tree_token,
+        Err(stop) => return Err(stop),
+    };
     if let TreeToken::Tag(told) = tree_token {
         scan.enter(line.content(), told.drops);
     }

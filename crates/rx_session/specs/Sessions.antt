@@ -4,11 +4,12 @@ use Rattle.rx_grammar.specs.declared.faults.Fault.{Fault}
 use Rattle.rx_rdfa.specs.Names.{Context}
 use Rattle.rx_grammar.specs.declared.stops.Stop.{Stop}
 use Rattle.rx_grammar.specs.declared.stops.Stop.TheVariants as stop
-use Rattle.rx_job.specs.Words.{Task}
+use Rattle.rx_job.specs.Words.{Extraction, Task}
 use Rattle.rx_command.specs.Headline.{IsTheText, IsTheFault}
 use Rattle.rx_session.specs.Works.{IsAt, HasFaultOn}
 use Rattle.rx_session.specs.declared.errors.SessionError.{SessionError}
 use Rattle.rx_session.specs.declared.errors.SessionError.TheVariants as error
+use Rattle.rx_session.specs.declared.sessions.Extraction.{Extraction as CodeExtraction}
 use Rattle.rx_session.specs.declared.sessions.State.{State}
 use Rattle.rx_session.specs.declared.sessions.State.TheVariants as state
 
@@ -18,6 +19,14 @@ IsFed task context bytes (state.Reads work) = IsAt task context work bytes
 IsFed task context bytes (state.Gave text) = ⊥
 IsFed task context bytes (state.Refused fault) = ⊥
 IsFed task context bytes state.Spent = ⊥
+
+-- what holds of a session wherever it took some bytes of a page
+abbrev pub WhereFed : State → (Task → Context → List ℕ → Type 0) → Type 0
+WhereFed session holds = (task : Task) (context : Context) (bytes : List ℕ) → IsFed task context bytes session → holds task context bytes
+
+-- what is asked of an extraction
+abbrev pub extraction_seen : CodeExtraction → Extraction
+extraction_seen e = record { syntax = e.syntax; format = e.format; graph = e.graph; address = e.address }
 
 -- the page's text once it was finished
 abbrev pub text_in : State → List ℕ

@@ -1,4 +1,5 @@
 //! Why there is no session, and why one takes no more.
+use rx_terms::NoMemory;
 use rx_walk::Fault;
 
 /// Why no session was opened.
@@ -10,6 +11,17 @@ pub enum OpenError {
     /// The context file has another shape, or it is too long.
     BadContext,
     NoMemory,
+}
+
+impl From<NoMemory> for OpenError {
+    ghost use Rattle.std.specs.Prelude.{◌≡◌};
+    ghost use Rattle.rx_session.specs.declared.errors.OpenError.{OpenError};
+
+    ghost from_gives = { λ _ error. error ≡ OpenError.NoMemory };
+
+    fn from(_error: NoMemory) -> OpenError {
+        OpenError::NoMemory
+    }
 }
 
 /// Why a session doesn't go on.

@@ -5,7 +5,6 @@ ghost use Rattle.rx_session.specs.Requests.{Opens, bytes_in, extraction_in, item
 use crate::errors::OpenError;
 use crate::sessions::{Extraction, Session};
 use crate::values::{context_of, format_of, graph_of, iri_of, syntax_of};
-use rx_terms::NoMemory;
 use std::alloc::Global;
 
 /// A session for the triples of a page of this address: syntax 0 is HTML and 1 XHTML; format 0 N-Quads, 1 Turtle, 2 Turtle
@@ -27,7 +26,10 @@ pub fn open_extraction(
     let Some(format) = format_of(format) else {
         return Err(OpenError::Usage);
     };
-    let address = iri_of(alloc, address)?;
+    let address = match iri_of(alloc, address) {
+        Ok(address) => address,
+        Err(error) => return Err(error),
+    };
     let graph = match graph_of(alloc, format, graph) {
         Ok(graph) => graph,
         Err(error) => {
@@ -58,7 +60,10 @@ pub fn open_items(alloc: Global, syntax: u32, address: &[u8]) -> Result<Session,
     let Some(syntax) = syntax_of(syntax) else {
         return Err(OpenError::Usage);
     };
-    let address = iri_of(alloc, address)?;
+    let address = match iri_of(alloc, address) {
+        Ok(address) => address,
+        Err(error) => return Err(error),
+    };
     Ok(Session::items(alloc, syntax, address)?)
 }
 
@@ -70,6 +75,9 @@ pub fn open_check(alloc: Global, syntax: u32, context: Option<&[u8]>) -> Result<
     let Some(syntax) = syntax_of(syntax) else {
         return Err(OpenError::Usage);
     };
-    let context = context_of(alloc, context)?;
+    let context = match context_of(alloc, context) {
+        Ok(context) => context,
+        Err(error) => return Err(error),
+    };
     Ok(Session::check(alloc, syntax, context)?)
 }

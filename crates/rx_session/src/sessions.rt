@@ -1,9 +1,8 @@
 //! A page that is handed over in pieces, then its text.
-ghost use Rattle.std.specs.Prelude.{◌≡◌, ◌++◌, ℕ, List, [], IfOk, length, min, take, drop};
-ghost use Rattle.rx_chars.specs.declared.syntax.Syntax as syntaxes;
+ghost use Rattle.std.specs.Prelude.{◌≡◌, ◌++◌, [], IfOk, length, min, take, drop};
 ghost use Rattle.rx_rdfa.specs.Names.{Context as RulesContext};
-ghost use Rattle.rx_job.specs.Words.{Task, extracts, itemizes, checks};
-ghost use Rattle.rx_session.specs.Sessions.{StoppedBy, IsFed, FeedGives, FinishGives, FeedAgain, FinishAgain, text_in, fault_in, is_read, is_spent};
+ghost use Rattle.rx_job.specs.Words.{extracts, itemizes, checks};
+ghost use Rattle.rx_session.specs.Sessions.{StoppedBy, IsFed, WhereFed, extraction_seen, FeedGives, FinishGives, FeedAgain, FinishAgain, text_in, fault_in, is_read, is_spent};
 
 use crate::copies::copy_front;
 use crate::errors::SessionError;
@@ -62,8 +61,7 @@ impl Session {
         extraction: Extraction,
         context: Context,
     ) -> Result<Session, NoMemory>
-        ensures { IfOk result (λ session. IsFed (extracts (record { syntax = extraction.syntax; format = extraction.format; graph = extraction.graph; address = extraction.address }))
-            context [] session) }
+        ensures { IfOk result (λ session. IsFed (extracts (extraction_seen extraction)) context [] session) }
     {
         let Extraction {
             syntax,
@@ -109,8 +107,7 @@ impl Session {
 
     /// Takes the whole piece.
     pub fn feed(&mut self, piece: &[u8]) -> Result<(), SessionError>
-        ensures gives { (task : Task) (context : RulesContext) (bytes : List ℕ) → IsFed task context bytes self.old
-            → FeedGives task context bytes piece.now result self.new }
+        ensures gives { WhereFed self.old (λ task context bytes. FeedGives task context bytes piece.now result self.new) }
         ensures again { FeedAgain self.old result self.new }
     {
         match &mut self.state {
@@ -126,8 +123,7 @@ impl Session {
 
     /// The page's end: its text is there then.
     pub fn finish(&mut self, alloc: Global) -> Result<(), SessionError>
-        ensures gives { (task : Task) (context : RulesContext) (bytes : List ℕ) → IsFed task context bytes self.old
-            → FinishGives task context bytes result self.new }
+        ensures gives { WhereFed self.old (λ task context bytes. FinishGives task context bytes result self.new) }
         ensures again { FinishAgain self.old result self.new }
     {
         match mem::replace(&mut self.state, State::Spent) {

@@ -5,9 +5,10 @@ ghost use Rattle.rx_job.specs.Words.{names_graphs};
 
 use crate::errors::OpenError;
 use rx_chars::Syntax;
+use rx_command::LARGEST_CONTEXT;
 use rx_job::Format;
 use rx_names::{Context, ContextError};
-use rx_terms::{Iri, IriError, NoMemory};
+use rx_terms::{Iri, IriError};
 use std::alloc::Global;
 
 /// The syntax of this number.
@@ -63,8 +64,10 @@ pub(crate) fn graph_of(
     if !names_graphs(format) {
         return Err(OpenError::Usage);
     }
-    let graph = iri_of(alloc, name)?;
-    Ok(Some(graph))
+    match iri_of(alloc, name) {
+        Ok(graph) => Ok(Some(graph)),
+        Err(error) => Err(error),
+    }
 }
 
 fn names_graphs(format: Format) -> bool
@@ -78,18 +81,12 @@ fn names_graphs(format: Format) -> bool
     }
 }
 
-/// The most bytes that a context file has.
-const LARGEST_CONTEXT: usize = 65_536;
-
 /// The context that holds: that of the file, where its bytes are given, else the standard one.
 pub(crate) fn context_of(alloc: Global, file: Option<&[u8]>) -> Result<Context, OpenError>
     ensures { ContextGives (bytes_in file.entry) result }
 {
     let Some(file) = file else {
-        return match Context::standard(alloc) {
-            Ok(context) => Ok(context),
-            Err(NoMemory) => Err(OpenError::NoMemory),
-        };
+        return Ok(Context::standard(alloc)?);
     };
     if file.len() > LARGEST_CONTEXT {
         return Err(OpenError::BadContext);

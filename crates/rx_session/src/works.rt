@@ -1,15 +1,8 @@
 //! A page that is being read, for its triples, for its items or for its faults.
-ghost use Rattle.std.specs.Prelude.{◌≡◌, ℕ, List, [], IfOk};
-ghost use Rattle.rx_chars.specs.declared.syntax.Syntax as syntaxes;
+ghost use Rattle.std.specs.Prelude.{ℕ, List};
 ghost use Rattle.rx_rdfa.specs.Names.{Context as RulesContext};
-ghost use Rattle.rx_terms.specs.Text.{Chars};
-ghost use Rattle.rx_walk.specs.Checks as checks;
-ghost use Rattle.rx_walk.specs.Walks as walks;
-ghost use Rattle.rx_items.specs.Walks as items;
-ghost use Rattle.rx_command.specs.Reading.{setting_for, item_setting_for};
-ghost use Rattle.rx_command.specs.Written.{form_in};
-ghost use Rattle.rx_job.specs.Words.{Extraction, Itemization, Task, extracts, itemizes, checks};
-ghost use Rattle.rx_session.specs.Works.{IsAt, PieceGives, EndGives};
+ghost use Rattle.rx_job.specs.Words.{Task};
+ghost use Rattle.rx_session.specs.Works.{IsAt, PieceGives, EndGives, CheckEnds, ExtractionEnds, ItemizationEnds};
 
 use crate::texts::text_of;
 use rx_command::{Form, Outcome, text_of_items};
@@ -54,8 +47,7 @@ impl Work {
 
 /// The text of the page's triples.
 fn extracted(alloc: Global, walk: Walk, form: Form) -> Result<Vec<u8>, Stop>
-    ensures { (e : Extraction) (context : RulesContext) (bytes : List ℕ) → walks.WalkStands (setting_for e.syntax context) e.address walk bytes → form ≡ form_in e.format e.graph context
-        → EndGives (extracts e) context bytes result }
+    ensures { ExtractionEnds walk form result }
 {
     let list = match walk.finish() {
         Ok(list) => list,
@@ -79,10 +71,12 @@ fn extracted(alloc: Global, walk: Walk, form: Form) -> Result<Vec<u8>, Stop>
 
 /// The text of the page's items.
 fn itemized(alloc: Global, walk: ItemWalk) -> Result<Vec<u8>, Stop>
-    ensures { (i : Itemization) (context : RulesContext) (bytes : List ℕ) → items.ItemWalkStands (item_setting_for i.syntax i.address) walk bytes
-        → EndGives (itemizes i) context bytes result }
+    ensures { ItemizationEnds walk result }
 {
-    let found = walk.finish()?;
+    let found = match walk.finish() {
+        Ok(found) => found,
+        Err(stop) => return Err(stop),
+    };
     match text_of_items(alloc, &found) {
         Ok(text) => {
             drop(found);
@@ -97,9 +91,11 @@ fn itemized(alloc: Global, walk: ItemWalk) -> Result<Vec<u8>, Stop>
 
 /// That the page is one.
 fn checked(alloc: Global, check: Check) -> Result<Vec<u8>, Stop>
-    ensures { (syntax : syntaxes.Syntax) (context : RulesContext) (bytes : List ℕ) → checks.CheckStands (setting_for syntax context) check bytes
-        → EndGives (checks syntax) context bytes result }
+    ensures { CheckEnds check result }
 {
-    check.finish()?;
+    match check.finish() {
+        Ok(()) => {}
+        Err(stop) => return Err(stop),
+    }
     Ok(text_of(alloc, &Outcome::Right)?)
 }

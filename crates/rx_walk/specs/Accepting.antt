@@ -1,13 +1,16 @@
 -- Signs of a page in which no start tag is refused, and the names in force behind them.
-use Rattle.std.specs.Prelude.{◌≡◌, List, [], None}
+use Rattle.std.specs.Prelude.{◌≡◌, List, [], ◌++◌, None, Result}
 use Rattle.rx_rdfa.specs.Names.{Context}
 use Rattle.rx_names.specs.Lines as names
 use Rattle.rx_names.specs.Lines.{Kept}
+use Rattle.rx_grammar.specs.declared.stops.Stop.{Stop}
+use Rattle.rx_nest.specs.Fronts.{IsFront}
 use Rattle.rx_nest.specs.Signs.{Sign}
+use Rattle.rx_reading.specs.Listening.{Hears}
 use Rattle.rx_walk.specs.declared.scopes.Scope.{Scope}
 use Rattle.rx_base.specs.Lines.{line_of}
 use Rattle.rx_walk.specs.Refused.{refused_in}
-use Rattle.rx_walk.specs.Settings.{Setting}
+use Rattle.rx_walk.specs.Settings.{Setting, way_of}
 use Rattle.rx_walk.specs.Courses.{AllAbsolute}
 
 -- Nothing is refused in these signs, and the names in force are those of the elements that they leave open.
@@ -20,3 +23,15 @@ pub record Accepts (context : Context) (kept : Kept) (signs : List Sign) : Type 
 -- a check's names, as it was made with a setting
 abbrev pub accepts_at : Setting → Scope → List Sign → Type 0
 accepts_at setting scope signs = Accepts setting.context scope.names signs
+
+-- what becomes of a check's names with these signs, or which of them is refused
+abbrev pub HearsOn : Scope → List Sign → Result (Unit {0}) Stop → Scope → Type 0
+HearsOn old more result new =
+    (setting : Setting) (signs : List Sign) → accepts_at setting old signs
+    → Hears (way_of setting).refused (accepts_at setting) signs more result new
+
+-- the same of signs of which none can be refused
+abbrev pub AcceptsOn : Scope → List Sign → Scope → Type 0
+AcceptsOn old more new =
+    (setting : Setting) (signs : List Sign) → accepts_at setting old signs
+    → IsFront setting.limits.depth (signs ++ more) → accepts_at setting new (signs ++ more)

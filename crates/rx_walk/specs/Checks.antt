@@ -1,8 +1,11 @@
 -- What a check stands for, and what its calls answer of a page's bytes.
-use Rattle.std.specs.Prelude.{◌≡◌, ℕ, List, [], None, Result, Ok, Err}
+use Rattle.std.specs.Prelude.{◌≡◌, ℕ, true, false, List, [], None, Result, Ok, Err}
 use Rattle.rx_grammar.specs.Pages.{Page}
 use Rattle.rx_grammar.specs.Trees.{Tree}
 use Rattle.rx_grammar.specs.declared.stops.Stop.{Stop}
+use Rattle.rx_scan.specs.Entries.{IsNoMemory}
+use Rattle.rx_scan.specs.Steps.{is_quiet}
+use Rattle.rx_nest.specs.Nests.{IsBetween}
 use Rattle.rx_nest.specs.Signs.{signs_of}
 use Rattle.rx_reading.specs.Readings as readings
 use Rattle.rx_reading.specs.Readings.{Read, Unfinished}
@@ -18,6 +21,12 @@ Checked = Read Scope
 -- The check stands for these bytes of a page: none of its start tags is refused, and nothing is due.
 abbrev pub CheckStands : Setting → Checked → List ℕ → Type 0
 CheckStands setting check bytes = readings.ReadingStands (way_of setting) (accepts_at setting) check bytes
+
+-- Between two tokens a piece without `<` and `&` wants no memory.
+abbrev pub TakesQuietly : Checked → List ℕ → Result (Unit {0}) Stop → Type 0
+TakesQuietly check piece result =
+    (setting : Setting) (bytes : List ℕ) → CheckStands setting check bytes
+    → IsBetween setting.syntax setting.limits bytes → is_quiet piece ≡ true → IsNoMemory result ≡ false
 
 abbrev pub FeedGives : Setting → List ℕ → List ℕ → Result (Unit {0}) Stop → Checked → Type 0
 FeedGives setting bytes piece result new = readings.FeedGives (way_of setting) (accepts_at setting) bytes piece result new

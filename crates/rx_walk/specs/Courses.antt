@@ -8,6 +8,7 @@ use Rattle.rx_rdfa.specs.Refusals.{is_relative}
 use Rattle.rx_rdfa.specs.Tree.{Tag}
 use Rattle.rx_names.specs.Lines as names
 use Rattle.rx_curie.specs.declared.facts.Facts.{Facts as CodeFacts}
+use Rattle.rx_curie.specs.Given.{vocabulary_from}
 use Rattle.rx_curie.specs.Seen.{facts_seen}
 use Rattle.rx_grammar.specs.declared.stops.Stop.{Stop}
 use Rattle.rx_grammar.specs.declared.stops.Stop.TheVariants as stop
@@ -58,6 +59,11 @@ abbrev pub FactsGive : Context → List Tag → StartTag → CodeFacts → Resul
 FactsGive context above t made (Ok done) = (facts_seen made ≡ facts context above (read_tag t)) × (refused_at context above (begun t) ≡ None)
 FactsGive context above t made (Err (stop.Fault fault)) = refused_at context above (begun t) ≡ Some fault
 FactsGive context above t made (Err stop.NoMemory) = Unit {0}
+
+-- what holds of a start tag wherever the names are those of it and of a line above it, under which its vocabulary has a scheme
+abbrev pub BelowLine : names.Kept → Tag → (List Tag → Type 0) → Type 0
+BelowLine kept tag holds =
+    (above : List Tag) → names.NamesStand kept (tag ∷ above) → is_relative (vocabulary_from above tag) ≡ false → holds above
 
 -- what becomes of the course with these signs, or which of them is refused
 abbrev pub Hears : Context → Chars → ℕ → List Sign → List Sign → Result (Unit {0}) Stop → Course → Type 0

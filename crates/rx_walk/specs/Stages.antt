@@ -1,6 +1,7 @@
 -- How far the seeking of the base has come, and what was told until then.
-use Rattle.std.specs.Prelude.{◌≡◌, ℕ, List, [], ◌∷◌, ◌++◌, Option, Some, None}
+use Rattle.std.specs.Prelude.{◌≡◌, ℕ, List, [], ◌∷◌, ◌++◌, Option, Some, None, Result, IfOk}
 use Rattle.rx_terms.specs.Text.{Chars, seen_slice}
+use Rattle.rx_terms.specs.declared.texts.NoMemory.{NoMemory}
 use Rattle.rx_rdfa.specs.Base.{base_by}
 use Rattle.rx_rdfa.specs.Calls.{Call, Enter, Leave}
 use Rattle.rx_curie.specs.Seen.{facts_seen}
@@ -66,6 +67,11 @@ pub record Tells (origin : Origin) (turn : Seeking → Seeking) (more : List Cal
 abbrev pub HeadGives : Origin → Seeking → List Call → Option State → Head → Type 0
 HeadGives origin seeking list None head = Seeks seeking list head
 HeadGives origin seeking list (Some state) head = Known origin.address origin.levels seeking list state
+
+-- the same of what was sought and kept before, with these calls more
+abbrev pub HeadTells : Origin → (Seeking → Seeking) → List Call → Head → Result (Option State) NoMemory → Head → Type 0
+HeadTells origin turn more old result new =
+    IfOk result (λ found. HeadGives origin (turn (sought_seen old.sought)) (queue_seen old.queue.items ++ more) found new)
 
 -- calls that are still to be told may come
 pub record MayFollow (list : List Call) (state : State) : Type 0 where

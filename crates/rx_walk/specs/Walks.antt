@@ -1,5 +1,5 @@
 -- What a walk stands for, and what its calls answer of a page's bytes.
-use Rattle.std.specs.Prelude.{◌≡◌, ◌||◌, ◌==◌, ℕ, true, List, [], length, Option, Some, None, Result, Ok, Err, if◌then◌else◌}
+use Rattle.std.specs.Prelude.{◌≡◌, ◌≤◌, ◌||◌, ◌==◌, ℕ, true, false, List, [], length, Option, Some, None, Result, Ok, Err, if◌then◌else◌}
 use Rattle.rx_terms.specs.Text.{Chars}
 use Rattle.rx_terms.specs.declared.triples.Triple.{Triple as CodeTriple}
 use Rattle.rx_model.specs.Seen.{triples_seen}
@@ -10,12 +10,16 @@ use Rattle.rx_rdfa.specs.Facts.{with_facts}
 use Rattle.rx_rdfa.specs.Names.{Context}
 use Rattle.rx_rdfa.specs.Tree.{Tag}
 use Rattle.rx_grammar.specs.declared.stops.Stop.{Stop}
+use Rattle.rx_scan.specs.Entries.{IsNoMemory}
+use Rattle.rx_scan.specs.Steps.{is_quiet}
+use Rattle.rx_nest.specs.Nests.{IsBetween}
 use Rattle.rx_nest.specs.Signs.{Sign, signs_of}
 use Rattle.rx_reading.specs.Ways.{Way}
 use Rattle.rx_reading.specs.Readings as readings
 use Rattle.rx_reading.specs.Readings.{Read, Unfinished, has_fallen}
 use Rattle.rx_eval.specs.Numbering.{Numbering}
 use Rattle.rx_eval.specs.Standing.{Makes}
+use Rattle.rx_eval.specs.Keeping.{gathers_some}
 use Rattle.rx_eval.specs.Opened.{handed_on}
 use Rattle.rx_eval.specs.States.{State}
 use Rattle.rx_eval.specs.Waits.{Shows}
@@ -42,6 +46,10 @@ state_of (stage.Found state) = Some state
 abbrev pub WalkStands : Setting → Chars → Walked → List ℕ → Type 0
 WalkStands setting address walk bytes = readings.ReadingStands (way_of setting) (runs_at (setting, address)) walk bytes
 
+-- what holds of a walk wherever it stands for some bytes of a page
+abbrev pub WhereStands : Walked → (Setting → Chars → List ℕ → Type 0) → Type 0
+WhereStands walk holds = (setting : Setting) (address : Chars) (bytes : List ℕ) → WalkStands setting address walk bytes → holds setting address bytes
+
 -- the start tags of the open elements, the innermost first
 abbrev pub open_line : {way : Way} {knows : Course → List Sign → Type 0} {walk : Walked} {bytes : List ℕ} → readings.ReadingStands way knows walk bytes → List Tag
 open_line s = line_of [] s.goes.signs
@@ -49,6 +57,26 @@ open_line s = line_of [] s.goes.signs
 -- so many frames are open as there are such elements, once the evaluator is at work
 abbrev pub FramesFit : Walked → List Tag → Type 0
 FramesFit walk line = (state : State) → state_of walk.listener.stage ≡ Some state → length state.frames ≡ length line
+
+-- that many elements are open, by the grammar and in the evaluator
+abbrev pub DepthGives : Walked → ℕ → Type 0
+DepthGives walk depth =
+    (setting : Setting) (address : Chars) (bytes : List ℕ) (s : WalkStands setting address walk bytes)
+    → (depth ≡ length (open_line s)) × FramesFit walk (open_line s)
+
+-- a bound that the line of open elements gives
+abbrev pub IsBoundedBy : Walked → (List Tag → ℕ) → ℕ → Type 0
+IsBoundedBy walk most count =
+    (setting : Setting) (address : Chars) (bytes : List ℕ) (s : WalkStands setting address walk bytes) → count ≤ most (open_line s)
+
+-- Between two tokens a piece without `<` and `&` wants no memory, where the base is known and no open element gathers its
+-- text.
+abbrev pub TakesQuietly : Walked → List ℕ → Result (Unit {0}) Stop → Type 0
+TakesQuietly walk piece result =
+    (setting : Setting) (address : Chars) (bytes : List ℕ) → WalkStands setting address walk bytes
+    → IsBetween setting.syntax setting.limits bytes → is_quiet piece ≡ true
+    → (state : State) → state_of walk.listener.stage ≡ Some state → gathers_some state.frames ≡ false
+    → IsNoMemory result ≡ false
 
 abbrev pub FeedGives : Setting → Chars → List ℕ → List ℕ → Result (Unit {0}) Stop → Walked → Type 0
 FeedGives setting address bytes piece result new = readings.FeedGives (way_of setting) (runs_at (setting, address)) bytes piece result new
@@ -59,6 +87,13 @@ pub record Lists (context : Context) (address : Chars) (levels : ℕ) (tree : Tr
   pub led : Led (base_of (tags_of tree) address) levels (calls_of context [] (signs_of tree)) state
   pub ended : state.ended ≡ true
   pub list_is : triples_seen list ≡ state.out
+
+-- the list of whatever page the course stands for
+abbrev pub ListsPage : Course → List CodeTriple → Type 0
+ListsPage course list =
+    (context : Context) (address : Chars) (levels : ℕ) (root : StartTag) (inside : Tree)
+    → Runs context address levels course (signs_of (element root inside end))
+    → Lists context address levels (element root inside end) list
 
 -- the course stands for a whole page
 pub record IsWhole (course : Course) : Type 0 where

@@ -1,8 +1,5 @@
 //! A page that is checked in pieces.
-ghost use Rattle.std.specs.Prelude.{◌≡◌, ℕ, List, [], true, false, Err, IfOk};
-ghost use Rattle.rx_scan.specs.Entries.{IsNoMemory};
-ghost use Rattle.rx_scan.specs.Steps.{is_quiet};
-ghost use Rattle.rx_nest.specs.Nests.{IsBetween};
+ghost use Rattle.std.specs.Prelude.{◌≡◌, ℕ, List, [], true, Err, IfOk};
 ghost use Rattle.rx_reading.specs.Falling.{Answered, MayAnswer};
 ghost use Rattle.rx_reading.specs.FaultPlaces.{PlaceGives};
 ghost use Rattle.rx_walk.specs.Settings.{Setting, way_of};
@@ -54,8 +51,7 @@ impl Check {
         ensures gives { (setting : Setting) (bytes : List ℕ) → checks.CheckStands setting self.old bytes
             → checks.FeedGives setting bytes piece.now result self.new }
         ensures place { (setting : Setting) (bytes : List ℕ) → checks.CheckStands setting self.old bytes → PlaceGives (way_of setting) bytes piece.now result }
-        ensures quiet { (setting : Setting) (bytes : List ℕ) → checks.CheckStands setting self.old bytes
-            → IsBetween setting.syntax setting.limits bytes → is_quiet piece.now ≡ true → IsNoMemory result ≡ false }
+        ensures quiet { checks.TakesQuietly self.old piece.now result }
         ensures asked { MayAnswer self.old.failed self.old.spent result }
         ensures keeps { Answered result self.new.failed self.new.spent }
     {

@@ -1,15 +1,13 @@
 //! The elements of a page as they are told: the names in force, and what the evaluator is told of them.
-ghost use Rattle.std.specs.Prelude.{◌≡◌, ◌<◌, ◌+◌, ◌∷◌, [], List, false, map, OnOk, IfOk, IsOk};
+ghost use Rattle.std.specs.Prelude.{◌≡◌, ◌<◌, ◌+◌, ◌∷◌, [], false, map, OnOk, IfOk, IsOk};
 ghost use Rattle.std.specs.Str.{chars};
 ghost use Rattle.rx_rdfa.specs.Refusals.{is_relative};
-ghost use Rattle.rx_rdfa.specs.Tree.{Tag as StartTag};
 ghost use Rattle.rx_names.specs.Lines as lines;
 ghost use Rattle.rx_names.specs.Tags.{tag_of};
-ghost use Rattle.rx_curie.specs.Given.{vocabulary_from};
 ghost use Rattle.rx_nest.specs.Nests.{tag_shown};
 ghost use Rattle.rx_nest.specs.Signs.{begun, said, finished};
 ghost use Rattle.rx_walk.specs.Quiets.{IsIdle};
-ghost use Rattle.rx_walk.specs.Courses.{Runs, runs_at, way_at, MayHear, FactsGive, HearsOn};
+ghost use Rattle.rx_walk.specs.Courses.{Runs, runs_at, way_at, BelowLine, MayHear, FactsGive, HearsOn};
 ghost use Rattle.rx_walk.specs.RefusalLaws.{refusal_laws};
 ghost use Rattle.rx_terms.specs.Text.{Chars};
 ghost use Rattle.rx_walk.specs.Settings.{Setting};
@@ -45,9 +43,7 @@ fn read_facts(
     tag: &Tag<'_>,
     names: &Names,
 ) -> Result<(), Stop>
-    ensures line { (above : List StartTag) → lines.NamesStand names.now (tag_of tag.now ∷ above)
-        → is_relative (vocabulary_from above (tag_of tag.now)) ≡ false
-        → FactsGive names.now.context above (tag_shown tag.now) facts.new result }
+    ensures line { BelowLine names.now (tag_of tag.now) (λ above. FactsGive names.now.context above (tag_shown tag.now) facts.new result) }
     ensures absolute { OnOk result (is_relative (lines.vocabulary_of names.now) ≡ false) }
 {
     match facts.renew(maker, tag, &names.view()) {
@@ -106,8 +102,7 @@ impl Course {
         if let Err(stop) = read_facts(&mut self.facts, &mut self.maker, tag, &self.names) {
             return Err(stop);
         }
-        self
-            .stage
+        self.stage
             .begin(&self.origin, self.count, tag, &mut self.facts)?;
         self.count = one_more(self.count, self.origin.levels);
         Ok(())

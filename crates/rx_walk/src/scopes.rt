@@ -1,15 +1,13 @@
 //! The names in force at the open elements of a page that is checked.
-ghost use Rattle.std.specs.Prelude.{◌≡◌, ◌∷◌, ◌++◌, List, [], false, None};
+ghost use Rattle.std.specs.Prelude.{◌≡◌, ◌∷◌, [], false, None};
 ghost use Rattle.rx_rdfa.specs.Refusals.{is_relative};
-ghost use Rattle.rx_rdfa.specs.Tree.{Tag as StartTag};
 ghost use Rattle.rx_names.specs.Lines as lines;
 ghost use Rattle.rx_names.specs.Tags.{tag_of};
-ghost use Rattle.rx_curie.specs.Given.{vocabulary_from};
 ghost use Rattle.rx_nest.specs.Nests.{tag_shown};
-ghost use Rattle.rx_nest.specs.Signs.{Sign, begun, finished};
-ghost use Rattle.rx_nest.specs.Fronts.{IsFront};
-ghost use Rattle.rx_reading.specs.Listening.{MayHear, Hears};
-ghost use Rattle.rx_walk.specs.Accepting.{accepts_at};
+ghost use Rattle.rx_nest.specs.Signs.{begun, finished};
+ghost use Rattle.rx_reading.specs.Listening.{MayHear};
+ghost use Rattle.rx_walk.specs.Accepting.{AcceptsOn, HearsOn, accepts_at};
+ghost use Rattle.rx_walk.specs.Courses.{BelowLine};
 ghost use Rattle.rx_walk.specs.Refused.{refused_at};
 ghost use Rattle.rx_walk.specs.RefusalLaws.{refusal_laws};
 ghost use Rattle.rx_walk.specs.Settings.{Setting, way_of};
@@ -27,9 +25,7 @@ pub(crate) struct Scope {
 
 /// The fault for which the start tag is refused.
 fn fault_of(tag: &Tag<'_>, names: &Names) -> Option<Fault>
-    ensures line { (above : List StartTag) → lines.NamesStand names.now (tag_of tag.now ∷ above)
-        → is_relative (vocabulary_from above (tag_of tag.now)) ≡ false
-        → result ≡ refused_at names.now.context above (begun (tag_shown tag.now)) }
+    ensures line { BelowLine names.now (tag_of tag.now) (λ above. result ≡ refused_at names.now.context above (begun (tag_shown tag.now))) }
     ensures absolute { result ≡ None → is_relative (lines.vocabulary_of names.now) ≡ false }
 {
     match refusal_of(tag, &names.view()) {
@@ -44,8 +40,7 @@ fn fault_of(tag: &Tag<'_>, names: &Names) -> Option<Fault>
 
 impl Scope {
     fn begin(&mut self, tag: &Tag<'_>) -> Result<(), Stop>
-        ensures { (setting : Setting) (signs : List Sign) → accepts_at setting self.old signs
-            → Hears (way_of setting).refused (accepts_at setting) signs (begun (tag_shown tag.now) ∷ []) result self.new }
+        ensures { HearsOn self.old (begun (tag_shown tag.now) ∷ []) result self.new }
     {
         self.names.push(tag)?;
         match fault_of(tag, &self.names) {
@@ -56,8 +51,7 @@ impl Scope {
 
     fn finish(&mut self)
         requires { MayHear way_of accepts_at self.old (finished ∷ []) }
-        ensures { (setting : Setting) (signs : List Sign) → accepts_at setting self.old signs
-            → IsFront setting.limits.depth (signs ++ finished ∷ []) → accepts_at setting self.new (signs ++ finished ∷ []) }
+        ensures { AcceptsOn self.old (finished ∷ []) self.new }
     {
         self.names.pop();
     }

@@ -1,5 +1,5 @@
 //! How far the seeking of the base has come.
-ghost use Rattle.std.specs.Prelude.{◌≡◌, [], ◌∷◌, ◌++◌, IfOk, IsOk, OnOk};
+ghost use Rattle.std.specs.Prelude.{◌≡◌, [], ◌∷◌, ◌++◌, IsOk, OnOk};
 ghost use Rattle.std.specs.Str.{chars};
 ghost use Rattle.rx_rdfa.specs.Calls.{Enter, Leave};
 ghost use Rattle.rx_curie.specs.Seen.{facts_seen};
@@ -7,8 +7,7 @@ ghost use Rattle.rx_names.specs.Tags.{tag_of};
 ghost use Rattle.rx_walk.specs.CallsOf.{singles};
 ghost use Rattle.rx_base.specs.Seekings.{seek_begun, seek_finished};
 ghost use Rattle.rx_walk.specs.Quiets.{IsIdle};
-ghost use Rattle.rx_walk.specs.Stages.{queue_seen, MayBe, MayTake, Tells, HeadGives};
-ghost use Rattle.rx_base.specs.Sought.{sought_seen};
+ghost use Rattle.rx_walk.specs.Stages.{queue_seen, HeadTells, MayBe, MayTake, Tells};
 
 use crate::calls::Call;
 use crate::evaluation::{enter, evaluated};
@@ -56,8 +55,7 @@ impl Head {
         facts: &mut Facts,
     ) -> Result<Option<Eval>, NoMemory>
         requires { MayBe origin.now.levels (queue_seen self.old.queue.items ++ Enter (facts_seen facts.old) ∷ []) }
-        ensures { IfOk result (λ eval. HeadGives origin.now (seek_begun count (sought_seen self.old.sought) (tag_of tag.now))
-            (queue_seen self.old.queue.items ++ Enter (facts_seen facts.old) ∷ []) eval self.new) }
+        ensures { HeadTells origin.now (λ seeking. seek_begun count seeking (tag_of tag.now)) (Enter (facts_seen facts.old) ∷ []) self.old result self.new }
     {
         // The queue keeps them, and the next tag is read into others.
         let kept = mem::replace(facts, Facts::none());
@@ -76,8 +74,7 @@ impl Head {
 
     fn finish(&mut self, origin: &Origin, count: u32) -> Result<Option<Eval>, NoMemory>
         requires { MayBe origin.now.levels (queue_seen self.old.queue.items ++ Leave ∷ []) }
-        ensures { IfOk result (λ eval. HeadGives origin.now (seek_finished count (sought_seen self.old.sought))
-            (queue_seen self.old.queue.items ++ Leave ∷ []) eval self.new) }
+        ensures { HeadTells origin.now (seek_finished count) (Leave ∷ []) self.old result self.new }
     {
         self.push(Call::Leave)?;
         if !self.sought.ends(count as usize) {

@@ -1,20 +1,10 @@
 //! A page that is walked through in pieces.
-ghost use Rattle.std.specs.Prelude.{◌≡◌, ◌≤◌, ℕ, List, [], length, true, false, Err, IfOk, Some, None, MatchOption, if◌then◌else◌};
-ghost use Rattle.rx_terms.specs.Text.{Chars};
-ghost use Rattle.rx_grammar.specs.Trees.{StartTag, Tree, end, element};
-ghost use Rattle.rx_rdfa.specs.Names.{Context as RulesContext};
+ghost use Rattle.std.specs.Prelude.{◌≡◌, [], length, true, Err, IfOk, Some, None, MatchOption, if◌then◌else◌};
 ghost use Rattle.rx_names.specs.Lines.{declared_along};
-ghost use Rattle.rx_scan.specs.Entries.{IsNoMemory};
-ghost use Rattle.rx_scan.specs.Steps.{is_quiet};
-ghost use Rattle.rx_nest.specs.Nests.{IsBetween};
-ghost use Rattle.rx_nest.specs.Signs.{signs_of};
 ghost use Rattle.rx_reading.specs.Falling.{Answered, MayAnswer};
 ghost use Rattle.rx_reading.specs.FaultPlaces.{PlaceGives};
 ghost use Rattle.rx_reading.specs.Readings.{has_fallen};
-ghost use Rattle.rx_eval.specs.Keeping.{gathers_some};
-ghost use Rattle.rx_eval.specs.States.{State};
-ghost use Rattle.rx_walk.specs.Courses.{Runs};
-ghost use Rattle.rx_walk.specs.Settings.{Setting, way_of};
+ghost use Rattle.rx_walk.specs.Settings.{way_of};
 ghost use Rattle.rx_walk.specs.Walks as walks;
 
 use crate::courses::Course;
@@ -46,9 +36,7 @@ impl Model for Walk {
 /// The list of a whole page. It takes no memory: the evaluator of a walk has always had what it asked for.
 fn list_of(course: Course) -> TripleList
     requires { walks.IsWhole course }
-    ensures { (context : RulesContext) (address : Chars) (levels : ℕ) (root : StartTag) (inside : Tree)
-        → Runs context address levels course (signs_of (element root inside end))
-        → walks.Lists context address levels (element root inside end) result }
+    ensures { walks.ListsPage course result }
 {
     let Course {
         names,
@@ -89,14 +77,9 @@ impl Walk {
     /// Takes the whole piece. Text takes no memory where the base is known and no open element gathers its text: a piece
     /// without `<` and `&` then never wants memory where no token is unfinished.
     pub fn feed(&mut self, piece: &[u8]) -> Result<(), Stop>
-        ensures gives { (setting : Setting) (address : Chars) (bytes : List ℕ) → walks.WalkStands setting address self.old bytes
-            → walks.FeedGives setting address bytes piece.now result self.new }
-        ensures place { (setting : Setting) (address : Chars) (bytes : List ℕ) → walks.WalkStands setting address self.old bytes
-            → PlaceGives (way_of setting) bytes piece.now result }
-        ensures quiet { (setting : Setting) (address : Chars) (bytes : List ℕ) → walks.WalkStands setting address self.old bytes
-            → IsBetween setting.syntax setting.limits bytes → is_quiet piece.now ≡ true
-            → (state : State) → walks.state_of self.old.listener.stage ≡ Some state → gathers_some state.frames ≡ false
-            → IsNoMemory result ≡ false }
+        ensures gives { walks.WhereStands self.old (λ setting address bytes. walks.FeedGives setting address bytes piece.now result self.new) }
+        ensures place { walks.WhereStands self.old (λ setting address bytes. PlaceGives (way_of setting) bytes piece.now result) }
+        ensures quiet { walks.TakesQuietly self.old piece.now result }
         ensures asked { MayAnswer self.old.failed self.old.spent result }
         ensures keeps { Answered result self.new.failed self.new.spent }
     {
@@ -106,20 +89,20 @@ impl Walk {
     /// The page's end: the list of its triples. `Unended` comes exactly where the bytes are no page and no earlier fault stands
     /// in them. It takes no memory: want of memory is answered only where it was before.
     pub fn finish(self) -> Result<TripleList, Stop>
-        ensures gives { (setting : Setting) (address : Chars) (bytes : List ℕ) → walks.WalkStands setting address self bytes
-            → walks.EndGives setting address bytes result }
+        ensures gives { walks.WhereStands self (λ setting address bytes. walks.EndGives setting address bytes result) }
         ensures asked { MayAnswer self.failed self.spent result }
         ensures memory { result ≡ Err Stop.NoMemory → self.spent ≡ true }
     {
-        let course = self.reading.finish()?;
-        Ok(list_of(course))
+        match self.reading.finish() {
+            Ok(course) => Ok(list_of(course)),
+            Err(stop) => Err(stop),
+        }
     }
 
     /// How many elements are open, none after a fault or want of memory.
     pub fn depth(&self) -> u32
         ensures count { result ≡ (if has_fallen self.now then 0 else self.now.listener.count) }
-        ensures line { (setting : Setting) (address : Chars) (bytes : List ℕ) (s : walks.WalkStands setting address self.now bytes)
-            → (result ≡ length (walks.open_line s)) × walks.FramesFit self.now (walks.open_line s) }
+        ensures line { walks.DepthGives self.now result }
     {
         if self.reading.has_fallen() {
             return 0;
@@ -130,8 +113,7 @@ impl Walk {
     /// How many declarations of prefixes, vocabularies and languages are kept, none after a fault or want of memory.
     pub fn rows(&self) -> usize
         ensures count { result ≡ (if has_fallen self.now then 0 else length self.now.listener.names.rows) }
-        ensures bound { (setting : Setting) (address : Chars) (bytes : List ℕ) (s : walks.WalkStands setting address self.now bytes)
-            → result ≤ declared_along (walks.open_line s) }
+        ensures bound { walks.IsBoundedBy self.now declared_along result }
     {
         if self.reading.has_fallen() {
             return 0;

@@ -26,4 +26,4 @@ returns c context address levels signs r f =
     let size = around_length (line_of [] signs) some in
     runs_more context address levels c.args.self.now (record { origin = c.args.self.now.origin; names = c.pop.new.self; maker = c.args.self.now.maker; facts = c.args.self.now.facts; count = c.args.self.now.count - 1; stage = c.finish.new.self }) signs r finished f
     (popped_around c.args.self.now.names c.pop.new.self c.pop.ensures.line (line_of [] signs) some r.names_are) (ap (λ (k : Kept). k.context) c.pop.ensures.popped) refl
-    (omega (arith, size, r.count_is)) (absolute_left context address levels c.args.self.now c.args.self.now signs r) refl c.in-Ok.ensures
+    (omega (arith, size, r.count_is)) (absolute_left context address levels c.args.self.now c.args.self.now signs r) refl c.in_ok-finish.ensures
