@@ -2,5 +2,5 @@ use Rattle.std.proofs.Common.{◌∙◌}
 use Rattle.rx_tags.proofs.RepeatLemmas.{text_added}
 use Rattle.rx_tags.proofs.repeats.add_name.Goals as goal
 
-pub returns-in-Ok-clause-added : goal.returns-in-Ok-clause-added
-returns-in-Ok-clause-added c = λ text. c.in-Ok.ensures.updates.0 (record { ref_ptr = (0, 0); now = text }) ∙ text_added c.args.name.now text _
+pub returns-clause-added : goal.returns-clause-added
+returns-clause-added c = λ text. c.in_ok-insert.ensures.updates.0 (record { ref_ptr = (0, 0); now = text }) ∙ text_added c.args.name.now text _
