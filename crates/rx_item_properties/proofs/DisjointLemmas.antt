@@ -1,5 +1,5 @@
 -- Runs in order of their begins, of each what is behind those before it: the same members, each in one run.
-use Rattle.std.proofs.Common.{◌≡◌, ◌+◌, ◌<◌, ◌≤◌, ℕ, Bool, true, false, cond, List, [], ◌∷◌, ◌++◌, length, get_or, max, nat_le, Contains, ◌↔◌, Some, refl, sym, subst, arith}
+use Rattle.std.proofs.Common.{◌≡◌, ◌<◌, ◌≤◌, ℕ, Bool, true, false, cond, List, [], ◌∷◌, ◌++◌, length, get_or, max, nat_le, Contains, ◌↔◌, Some, refl, sym, subst, arith}
 use Rattle.std.specs.Prelude.{slice_get}
 use mathlib.Core.Logic.{◌⊎◌, inl, inr}
 use Rattle.std.specs.List.Sorted.{IsNonDecreasingBy, IsPermutation}
@@ -10,7 +10,7 @@ use Rattle.rx_microdata.proofs.Lists.{first, later, first_or_later, none}
 use Rattle.rx_item_properties.specs.Properties.{in_runs, part}
 use Rattle.rx_item_properties.specs.Disjoint.{Apart, rest_of, end_of, unshared}
 use Rattle.rx_item_properties.specs.declared.kept.Run.{Run}
-use Rattle.rx_item_properties.proofs.MemberLemmas.{InPart, in_part, of_part}
+use Rattle.rx_item_properties.proofs.MemberLemmas.{in_part, of_part}
 
 -- ---- places of runs
 

@@ -1,5 +1,5 @@
 -- What is kept of a page, row by row.
-use Rattle.std.proofs.Common.{get_or, ◌≡◌, ◌∙◌, ◌+◌, ◌<◌, ◌≤◌, ℕ, zero, suc, Bool, true, false, cond, List, [], ◌∷◌, ◌++◌, map, filter, length, take, drop, Contains, ◌↔◌, Option, Some, None, refl, sym, ap, subst, arith, nat_cmp, Ordering, Less, Equal, Greater}
+use Rattle.std.proofs.Common.{get_or, ◌≡◌, ◌∙◌, ◌+◌, ◌<◌, ◌≤◌, ℕ, zero, suc, Bool, true, false, cond, List, [], ◌∷◌, filter, length, Contains, ◌↔◌, Some, None, refl, sym, ap, subst, arith, nat_cmp, Less}
 use Rattle.std.specs.Prelude.{slice_get}
 use Rattle.std.proofs.lemmas.Option.{slice_get-get_or}
 use Rattle.std.specs.List.{AllByRecursion}
@@ -51,14 +51,13 @@ pub behind_rows : (kept : Kept) (rows : List Placed) (base : Chars) (i : ℕ) �
 behind_rows kept rows base i h le =
     let size = as_long kept.words kept.text kept.times.items kept.rows.items rows h.shown in none_at rows i (omega (arith, size, le))
 
-pub none_there : (kept : Kept) (rows : List Placed) (base : Chars) (i : ℕ) (p : Placed) → HoldsRows kept rows base → slice_get rows i ≡ Some p → length kept.rows.items ≤ i → ⊥
-none_there kept rows base i p h there le = let none : Some p ≡ None = sym there ∙ behind_rows kept rows base i h le in cc (none)
-
 -- the row at a place shows what stands there
-pub row_there : (kept : Kept) (rows : List Placed) (base : Chars) (i : ℕ) (row : Row) (p : Placed) → HoldsRows kept rows base → slice_get rows i ≡ Some p → i < length kept.rows.items → row ≡ get_or kept.rows.items i row
-    → ShowsRow kept.words kept.text kept.times.items row p
-row_there kept rows base i row p h there lt is =
-    shows_at kept.words kept.text kept.times.items kept.rows.items rows i row p h.shown (slice_get-get_or kept.rows.items i row lt ∙ ap Some (sym is)) there
+pub row_there : (kept : Kept) (rows : List Placed) (base : Chars) (i : ℕ) (row : Row) → HoldsRows kept rows base → i < length kept.rows.items → row ≡ get_or kept.rows.items i row
+    → (p : Placed) × (slice_get rows i ≡ Some p) × ShowsRow kept.words kept.text kept.times.items row p
+row_there kept rows base i row h lt is =
+    let size = as_long kept.words kept.text kept.times.items kept.rows.items rows h.shown in
+    let p = placed_at rows i (omega (arith, lt, size)) in
+    (p.0, p.1, shows_at kept.words kept.text kept.times.items kept.rows.items rows i row p.0 h.shown (slice_get-get_or kept.rows.items i row lt ∙ ap Some (sym is)) p.1)
 
 -- what stands at a place
 pub element_there : (kept : Kept) (rows : List Placed) (base : Chars) (i : ℕ) (row : Row) (x : Extra) (e : Element) → HoldsRows kept rows base → i < length kept.rows.items

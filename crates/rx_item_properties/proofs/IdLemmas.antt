@@ -1,6 +1,6 @@
 -- The first row of each id, from the back.
-use Rattle.std.proofs.Common.{◌≡◌, ◌∙◌, ◌+◌, ◌-◌, ◌<◌, ◌≤◌, ℕ, zero, suc, Bool, true, false, cond, List, [], ◌∷◌, ◌++◌, length, drop, get_or, Option, Some, None, option_map, is_eq, refl, sym, ap, subst, arith, nat_cmp}
-use Rattle.std.specs.Prelude.{slice_get, OnOk, Result, Ok, Err, find}
+use Rattle.std.proofs.Common.{◌≡◌, ◌∙◌, ◌+◌, ◌<◌, ◌≤◌, ℕ, zero, suc, Bool, true, false, cond, List, [], ◌∷◌, length, drop, get_or, Option, Some, None, option_map, is_eq, refl, sym, ap, arith, nat_cmp}
+use Rattle.std.specs.Prelude.{slice_get, OnOk, Result, Ok, Err}
 use Rattle.std.specs.Cmp.Lexicographic.{slice_cmp, nat_list_eq_equiv}
 use Rattle.std.proofs.lemmas.Map.Text.{is_eq-slice_cmp}
 use Rattle.std.specs.Str.{chars, IsUtf8}
@@ -8,10 +8,10 @@ use Rattle.rx_terms.specs.Text.{Chars}
 use Rattle.rx_terms.proofs.CharLemmas.{same-chars}
 use Rattle.rx_grammar.specs.Names.{same}
 use Rattle.rx_microdata.specs.Elements.{Placed}
-use Rattle.rx_microdata.specs.Properties.{first_with_id, has_id, is_same_id}
+use Rattle.rx_microdata.specs.Properties.{first_with_id, is_same_id}
 use Rattle.rx_item_properties.specs.Held.{Numbered}
 use Rattle.rx_item_table.specs.Spans.{IsRun}
-use Rattle.rx_item_table.specs.Showing.{ShowsRow, ShowsRows, ShowsWord, ShowsPart}
+use Rattle.rx_item_table.specs.Showing.{ShowsRow, ShowsRows, ShowsWord}
 use Rattle.rx_item_table.specs.declared.spans.Span.{Span}
 use Rattle.rx_item_table.specs.declared.rows.Row.{Row}
 use Rattle.std.specs.BTreeMap.{BTreeMap, is_at}

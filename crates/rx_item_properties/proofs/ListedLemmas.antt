@@ -1,5 +1,5 @@
 -- Places that rise, and among which an item's own isn't.
-use Rattle.std.proofs.Common.{◌≡◌, ◌∙◌, ◌<◌, ◌≤◌, ℕ, suc, Bool, true, false, not, ◌==◌, cond, List, [], ◌∷◌, ◌++◌, length, filter, Contains, ◌↔◌, refl, sym, ap, subst, arith, nat_lt, nat_cmp, Less, ltb-true}
+use Rattle.std.proofs.Common.{◌≡◌, ◌∙◌, ◌<◌, ◌≤◌, ℕ, suc, Bool, true, false, not, ◌==◌, cond, List, [], ◌∷◌, length, filter, Contains, ◌↔◌, refl, sym, ap, subst, arith, nat_lt, nat_cmp, Less, ltb-true}
 use Rattle.std.specs.List.{AllByRecursion}
 use Rattle.std.specs.List.Sorted.{IsStrictlySortedBy}
 use Rattle.std.proofs.lemmas.Bool.Decides.{nat_tests}

@@ -1,8 +1,6 @@
 -- Which rows stand in a run of members.
-use Rattle.std.proofs.Common.{◌≡◌, ◌∙◌, ◌+◌, ◌-◌, ◌*◌, ◌%◌, ◌<◌, ◌≤◌, ℕ, zero, suc, Bool, true, false, cond, List, [], ◌∷◌, ◌++◌, map, length, take, drop, get_or, Contains, ◌↔◌, Option, Some, None, refl, sym, ap, subst, arith, nat_lt}
+use Rattle.std.proofs.Common.{◌≡◌, ◌∙◌, ◌+◌, ◌-◌, ◌*◌, ◌%◌, ◌<◌, ◌≤◌, ℕ, zero, suc, Bool, true, false, cond, List, [], ◌∷◌, ◌++◌, map, length, take, drop, get_or, Contains, Option, Some, None, refl, sym, ap, subst, arith}
 use Rattle.std.specs.Prelude.{slice_get}
-use Rattle.std.specs.List.{AllWithin}
-use Rattle.std.specs.List.Sorted.{IsPartitionPoint, IsPermutation}
 use Rattle.std.proofs.lemmas.List.Sorted.{Contains-permutation, IsPermutation-sym}
 use Rattle.std.proofs.lemmas.Option.{slice_get-get_or}
 use Rattle.std.proofs.lemmas.Bool.{cases_lt, ltb-true, ltb-false}
@@ -13,7 +11,7 @@ use Rattle.rx_microdata.proofs.Lists.{first, later, first_or_later}
 use mathlib.Core.Logic.{◌⊎◌, inl, inr}
 use Rattle.rx_item_properties.specs.Properties.{part}
 use Rattle.rx_item_properties.specs.Members.{key_of, keys_from, scope_number, RunOf, Sorted}
-use Rattle.rx_item_table.specs.Showing.{ShowsRow, ShowsRows}
+use Rattle.rx_item_table.specs.Showing.{ShowsRows}
 use Rattle.rx_item_properties.specs.declared.kept.Run.{Run}
 use Rattle.rx_item_table.specs.declared.rows.Row.{Row}
 

@@ -1,11 +1,11 @@
 -- How the rows of a tree lie in each other.
-use Rattle.std.specs.Prelude.{◌≡◌, ℕ, zero, suc, ◌+◌, ◌<◌, ◌≤◌, ⊤, Bool, true, false, ◌||◌, cond, List, [], ◌∷◌, ◌++◌, length, Option, Some, None, is_some, nat_lt}
-use Rattle.std.proofs.Common.{refl, sym, ap, ◌∙◌, subst}
+use Rattle.std.specs.Prelude.{◌≡◌, ℕ, suc, ◌+◌, ◌<◌, ◌≤◌, Bool, true, false, ◌||◌, cond, List, [], ◌∷◌, ◌++◌, length, Option, Some, None, is_some}
+use Rattle.std.proofs.Common.{refl, sym, subst}
 use mathlib.Core.Logic.{◌⊎◌, inl, inr}
 use native.Mathlib.Omega.{arith}
 use borrow.Author.Tests.{ltb-true, lt-ltb}
 use Rattle.rx_grammar.specs.Trees.{StartTag, Tree, end, element, text}
-use Rattle.rx_microdata.specs.Facts.{Facts, begins_item, facts_of}
+use Rattle.rx_microdata.specs.Facts.{begins_item, facts_of}
 use Rattle.rx_microdata.specs.Elements.{Placed, is_item, scope_in}
 use Rattle.rx_microdata.specs.Laws.{is_before}
 use Rattle.rx_item_table.specs.Rows.{matters, behind, row_count, rows_from, with_row, needed}

@@ -1,6 +1,6 @@
 -- The runs of an item give its properties, and no others.
-use Rattle.std.proofs.Common.{◌≡◌, ◌∙◌, ◌<◌, ◌+◌, ℕ, zero, suc, Bool, true, false, not, true≢false, ◌==◌, ◌&&◌, ◌||◌, cond, List, [], ◌∷◌, ◌++◌, map, filter, length, Contains, ◌↔◌, Option, Some, None, option_map, refl, sym, ap, subst, arith}
-use Rattle.std.specs.Prelude.{slice_get, filter_map, option_to_list, find}
+use Rattle.std.proofs.Common.{◌≡◌, ◌∙◌, ◌+◌, ℕ, zero, suc, Bool, true, false, not, true≢false, ◌==◌, ◌&&◌, ◌||◌, cond, List, [], ◌∷◌, ◌++◌, filter, Contains, ◌↔◌, Option, Some, None, option_map, refl, sym, ap, subst, arith}
+use Rattle.std.specs.Prelude.{slice_get, filter_map, option_to_list}
 use Rattle.std.specs.List.{list_any}
 use mathlib.Core.Logic.{◌⊎◌, inl, inr}
 use Rattle.std.proofs.lemmas.Bool.{eqb-true, eq-eqb}
@@ -12,7 +12,7 @@ use Rattle.rx_microdata.proofs.Lists.{first, later, first_or_later, and_parts, a
 use Rattle.rx_item_table.specs.Rows.{properties_in}
 use Rattle.rx_item_properties.specs.Held.{Numbered, places}
 use Rattle.rx_item_properties.specs.Properties.{gathered, in_runs, is_other}
-use Rattle.rx_item_properties.specs.Starts.{Reached, Own, FromStart, RunsReach}
+use Rattle.rx_item_properties.specs.Starts.{RunsReach}
 use Rattle.rx_item_properties.specs.declared.kept.Run.{Run}
 use Rattle.rx_item_properties.proofs.HoldLemmas.{place_is}
 use Rattle.rx_item_properties.proofs.ReferenceLemmas.{one_more}

@@ -9,16 +9,16 @@ use Rattle.std.proofs.lemmas.Bool.{cases_lt}
 use Rattle.std.proofs.lemmas.Bool.Decides.{nat_tests}
 use Rattle.rx_terms.specs.Text.{Chars}
 use Rattle.rx_grammar.specs.Trees.{Tree}
-use Rattle.rx_microdata.specs.Elements.{Placed, is_item, names_of}
+use Rattle.rx_microdata.specs.Elements.{Placed, is_item}
 use Rattle.rx_item_table.specs.Rows.{rows_of, row_count}
 use Rattle.rx_item_table.specs.Showing.{ShowsRow, ShowsRows}
 use Rattle.rx_item_properties.specs.Members.{Sorted, RunOf}
 use Rattle.rx_item_properties.specs.Properties.{in_runs, part}
-use Rattle.rx_item_properties.specs.Starts.{reach_end, Reached, Own, FromStart, RunsReach}
+use Rattle.rx_item_properties.specs.Starts.{reach_end, Reached, FromChildren, FromStart, RunsReach}
 use Rattle.rx_item_properties.specs.declared.kept.Run.{Run}
 use Rattle.rx_item_table.specs.declared.rows.Row.{Row}
 use Rattle.rx_item_properties.proofs.IdLemmas.{row_shown}
-use Rattle.rx_item_properties.proofs.MemberLemmas.{InRange, in_range, of_range, row_short}
+use Rattle.rx_item_properties.proofs.MemberLemmas.{in_range, of_range, row_short}
 use Rattle.rx_item_properties.proofs.NestLemmas.{laid, numbered}
 use Rattle.rx_item_properties.proofs.StartLemmas.{end_by, run_reaches, reached_in_run}
 use Rattle.rx_item_properties.proofs.TakeLemmas.{one_more}
@@ -44,7 +44,7 @@ pub record StartAt (ps : List Placed) (place x : ℕ) : Type 0 where
   pub reached : Reached ps start x
 
 module _ (words gathered : Chars) (times : List Chars) (rows : List Row) (tree : Tree) (keys members : List ℕ) (s : Sorted words gathered times rows (rows_of tree) keys members) where
-  pub own_members : (place : ℕ) (run : Run) → RunOf keys (Some place) 0 (length rows) run → (x : ℕ) → Contains (part members run) x ↔ Own (rows_of tree) place x
+  pub own_members : (place : ℕ) (run : Run) → RunOf keys (Some place) 0 (length rows) run → (x : ℕ) → Contains (part members run) x ↔ FromChildren (rows_of tree) place x
   own_members place run r x = (
     (λ c. let i = in_range words gathered times rows (rows_of tree) keys members s (Some place) 0 (length rows) run r x c in record { row = i.row; is = i.is; named = i.named; scope_is = i.scope_is }),
     (λ o. of_range words gathered times rows (rows_of tree) keys members s (Some place) 0 (length rows) run r x (record {
@@ -107,7 +107,7 @@ module _ (words gathered : Chars) (times : List Chars) (rows : List Row) (tree :
         (λ h. back is own.1 h),
       )
     where
-      back : in_runs members new ≡ part members run → (Own (rows_of tree) place x → Contains (part members run) x) → RunsReach (rows_of tree) place [] x → Contains (in_runs members new) x
+      back : in_runs members new ≡ part members run → (FromChildren (rows_of tree) place x → Contains (part members run) x) → RunsReach (rows_of tree) place [] x → Contains (in_runs members new) x
       back is f (inl o) = subst (λ (l : List ℕ). Contains l x) (sym is) (f o)
       back is f (inr a) = absurd (no_place a.place a.among)
 

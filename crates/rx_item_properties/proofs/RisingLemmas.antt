@@ -1,6 +1,6 @@
 -- Places that rise: two lists of the same ones are one list.
-use Rattle.std.proofs.Common.{◌≡◌, ◌∙◌, ◌<◌, ◌≤◌, ◌+◌, ℕ, zero, suc, Bool, true, false, true≢false, cond, List, [], ◌∷◌, ◌++◌, length, filter, Contains, ◌↔◌, ◌==◌, refl, sym, ap, subst, arith, Ordering, Less, Equal, Greater, nat_cmp}
-use Rattle.std.specs.List.{AllByRecursion, All, dedup}
+use Rattle.std.proofs.Common.{◌≡◌, ◌<◌, ℕ, List, [], ◌∷◌, Contains, ◌↔◌, ◌==◌, refl, sym, subst, arith, Ordering, Less, Equal, Greater, nat_cmp}
+use Rattle.std.specs.List.{AllByRecursion}
 use Rattle.std.specs.List.Sorted.{IsStrictlySortedBy, IsSorted, IsPermutation}
 use Rattle.std.specs.List.Retain.{IsFiltered, DiffersFromLast}
 use Rattle.std.proofs.lemmas.Cmp.{ranked, nat_cmp_total}

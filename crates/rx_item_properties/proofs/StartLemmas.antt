@@ -1,11 +1,10 @@
 -- What a start reaches is a run of members.
-use Rattle.std.proofs.Common.{◌≡◌, ◌∙◌, ◌+◌, ◌<◌, ◌≤◌, ℕ, zero, suc, Bool, true, false, true≢false, ◌==◌, ◌&&◌, ◌||◌, cond, List, [], ◌∷◌, ◌++◌, length, Contains, ◌↔◌, Option, Some, None, refl, sym, ap, subst, arith, nat_lt}
+use Rattle.std.proofs.Common.{◌≡◌, ◌∙◌, ◌+◌, ◌<◌, ◌≤◌, ℕ, zero, suc, Bool, true, false, ◌==◌, ◌&&◌, cond, List, [], ◌∷◌, Option, Some, None, refl, sym, ap, subst, arith, nat_lt}
 use Rattle.std.specs.Prelude.{slice_get}
 use mathlib.Core.Logic.{◌⊎◌, inl, inr}
-use Rattle.std.proofs.lemmas.Bool.{cases_lt, ltb-true, ltb-false, lt-ltb, eqb-true, eq-eqb}
-use Rattle.rx_microdata.specs.Elements.{Placed, is_item, names_of, is_below}
-use Rattle.rx_microdata.specs.Properties.{is_any}
-use Rattle.rx_microdata.specs.Laws.{is_before, reaches_by_scope, is_scope}
+use Rattle.std.proofs.lemmas.Bool.{cases_lt, ltb-true, lt-ltb, eqb-true, eq-eqb}
+use Rattle.rx_microdata.specs.Elements.{Placed, is_item, is_below}
+use Rattle.rx_microdata.specs.Laws.{is_before, reaches_by_scope}
 use Rattle.rx_microdata.proofs.Lists.{or_parts, or_left, or_right, and_parts, and_of}
 use Rattle.rx_item_properties.specs.Held.{Numbered}
 use Rattle.rx_item_properties.specs.Starts.{Reached}

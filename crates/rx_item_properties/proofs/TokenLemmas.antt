@@ -1,12 +1,12 @@
 -- A text without white space is a token.
-use Rattle.std.proofs.Common.{◌≡◌, ◌∙◌, ℕ, ◌<◌, Bool, true, false, not, ◌==◌, List, [], ◌∷◌, length, take, drop, get_or, refl, sym, ap, arith, Option, None}
+use Rattle.std.proofs.Common.{◌≡◌, ◌∙◌, ℕ, ◌<◌, Bool, true, false, not, ◌==◌, List, [], ◌∷◌, length, take, drop, get_or, refl, ap, arith, None}
 use Rattle.std.specs.Char.{is_ascii_whitespace}
 use Rattle.std.specs.List.{position}
 use Rattle.std.specs.Str.{chars, IsUtf8, IsTrimAsciiStart}
 use Rattle.std.proofs.lemmas.Bool.Decides.{nat_tests}
 use Rattle.std.proofs.lemmas.List.{take_all, length-drop}
 use Rattle.std.proofs.lemmas.List.Sums.{fails_before_first}
-use Rattle.rx_terms.specs.Text.{Chars, tokens}
+use Rattle.rx_terms.specs.Text.{tokens}
 use Rattle.rx_terms.proofs.CharLemmas.{chars-end}
 use Rattle.rx_words.proofs.TokenLemmas.{found-end, first-token, tokens-first}
 

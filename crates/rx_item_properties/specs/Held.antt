@@ -1,12 +1,16 @@
 -- What is kept of a page, and the rows that it stands for.
 use denote.Ref.{Bor}
-use Rattle.std.specs.Prelude.{◌≡◌, ⊤, ℕ, suc, true, List, [], ◌∷◌, map, length, slice_get, Contains, ◌↔◌, Option, Some, None, option_map, Vec}
+use Rattle.std.specs.Prelude.{◌≡◌, ⊤, ℕ, suc, Bool, true, false, List, [], ◌∷◌, map, length, slice_get, Contains, ◌↔◌, Option, Some, None, option_map, unwrap_or, Vec, Result, IfOk}
 use Rattle.std.specs.declared.alloc.Global.{Global}
 use Rattle.rx_terms.specs.Text.{Chars}
+use Rattle.rx_terms.specs.declared.texts.NoMemory.{NoMemory}
+use Rattle.rx_grammar.specs.Trees.{Tree}
+use Rattle.rx_microdata.specs.Facts.{distinct_tokens}
 use Rattle.rx_microdata.specs.Elements.{Placed, is_item, names_of, is_top_level}
-use Rattle.rx_item_table.specs.Rows.{properties_in}
-use Rattle.rx_item_table.specs.Showing.{ShowsPart, ShowsWord, ShowsValue, ShowsRows}
+use Rattle.rx_item_table.specs.Rows.{properties_in, rows_of}
+use Rattle.rx_item_table.specs.Showing.{ShowsPart, ShowsWord, ShowsValue, ShowsRow, ShowsRows}
 use Rattle.rx_item_table.specs.Words.{names_in, types_in}
+use Rattle.rx_item_table.specs.declared.rows.PageRows.{PageRows}
 use Rattle.rx_item_table.specs.declared.rows.Row.{Row}
 use Rattle.rx_item_table.specs.declared.spans.Span.{Span}
 use Rattle.rx_item_properties.specs.Properties.{gathered}
@@ -50,6 +54,15 @@ AreTokens words span (Some list) texts = list ≡ texts
 AreTokens words None None texts = [] ≡ texts
 AreTokens words (Some span) None texts = (token : Chars) × (texts ≡ token ∷ []) × ShowsPart words span token
 
+-- what is so of the value of an attribute that stands there, or that is absent
+abbrev pub OfWord : Chars → Option Span → (Option Chars → Type 0) → Type 0
+OfWord words span Holds = (word : Option Chars) → ShowsWord words span word → Holds word
+
+-- what was made shows the tokens, each once, of an attribute that stands there
+abbrev pub MakesTokens : {X : Type 0} → Chars → Option Span → (X → Option (List Chars)) → Result X NoMemory → Type 0
+MakesTokens words span list_in result =
+    OfWord words span (λ word. IfOk result (λ made. AreTokens words span (list_in made) (distinct_tokens (unwrap_or word []))))
+
 -- the tokens of an attribute, by what is kept of tags
 abbrev pub ShowsTokens : Chars → Tokens → List Chars → Type 0
 ShowsTokens words (tokens.One span) texts = (token : Chars) × (texts ≡ token ∷ []) × ShowsPart words span token
@@ -65,6 +78,14 @@ pub record ShowsElement (words gathered : Chars) (times : List Chars) (e : Eleme
   pub types : ShowsTokens words e.types p.facts.types
   pub item_id : ShowsWord words e.item_id p.facts.item_id
   pub value : ShowsValue words gathered times e.value p.facts.value
+
+-- the element shows what a row shows that has this beside it
+abbrev pub ShowsTheSame : Row → Extra → Element → Type 0
+ShowsTheSame row x e =
+    (words gathered : Chars) (times : List Chars) (p : Placed) → ShowsRow words gathered times row p
+    → AreTokens words (names_in row.head.words) (names_beside x) (names_of p)
+    → AreTokens words (types_in row.head.words) (types_beside x) p.facts.types
+    → ShowsElement words gathered times e p
 
 -- each row stands at its place
 abbrev pub Numbered : ℕ → List Placed → Type 0
@@ -89,22 +110,41 @@ pub record Fits (words : Chars) (ps : List Placed) (members : List ℕ) (place :
   pub types : AreTokens words (types_in row.head.words) (types_beside x) p.facts.types
   pub reach : is_item p ≡ true → Reaches ps members place (runs_beside x) p
 
--- so does what stands beside each of the first so many rows
+-- so are those of the first so many rows
 pub record AllFit (words : Chars) (ps : List Placed) (members : List ℕ) (rows : List Row) (count : ℕ) (extras : List Extra) : Type 0 where
   pub size : length extras ≡ count
   pub fit : (i : ℕ) (row : Row) (p : Placed) (x : Extra) → slice_get rows i ≡ Some row → slice_get ps i ≡ Some p → slice_get extras i ≡ Some x
       → Fits words ps members i row p x
 
+-- so are those of all rows
+abbrev pub EachFits : Chars → List Placed → List ℕ → List Row → List Extra → Type 0
+EachFits words ps members rows extras = AllFit words ps members rows (length rows) extras
+
 pub record HoldsRows (kept : Kept) (rows : List Placed) (base : Chars) : Type 0 where
   pub shown : ShowsRows kept.words kept.text kept.times.items kept.rows.items rows
   pub base_is : kept.base ≡ base
   pub numbered : Numbered 0 rows
-  pub extras : AllFit kept.words rows kept.members.items kept.rows.items (length kept.rows.items) kept.extras.items
+  pub extras : EachFits kept.words rows kept.members.items kept.rows.items kept.extras.items
+
+-- what is so of the rows that are held, and of their base
+abbrev pub OfRows : Kept → (List Placed → Chars → Type 0) → Type 0
+OfRows kept Holds = (rows : List Placed) (base : Chars) → HoldsRows kept rows base → Holds rows base
+
+-- what is kept of a page holds the rows of its tree
+abbrev pub KeepsPage : PageRows → Chars → Result Kept NoMemory → Type 0
+KeepsPage page base result =
+    (tree : Tree) → ShowsRows page.words page.text page.times.items page.rows.items (rows_of tree)
+    → IfOk result (λ kept. HoldsRows kept (rows_of tree) base)
 
 -- an element is that of the row at a place, and its runs give its properties
 pub record IsElement (kept : Kept) (rows : List Placed) (place : ℕ) (e : Element) (p : Placed) : Type 0 where
   pub shown : ShowsElement kept.words kept.text kept.times.items e p
   pub reached : is_item p ≡ true → Reaches rows kept.members.items place (e.own ∷ e.others.now) p
+
+-- whether there is one of which the test holds
+abbrev pub is_there : (Placed → Bool) → Option Placed → Bool
+is_there test None = false
+is_there test (Some p) = test p
 
 -- the element at a place, where there is one
 abbrev pub AtPlace : Kept → List Placed → ℕ → Option Element → Type 0

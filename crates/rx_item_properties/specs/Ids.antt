@@ -1,12 +1,12 @@
 -- The first row of each id, as a sorted map of texts has them.
-use Rattle.std.specs.Prelude.{◌≡◌, ℕ, List, Option, option_map}
+use Rattle.std.specs.Prelude.{◌≡◌, ℕ, List, Option, Some, option_map, filter_map, Contains, ◌↔◌, if◌then◌else◌}
 use Rattle.std.specs.Str.{chars, IsUtf8}
-use Rattle.rx_terms.specs.Text.{Chars}
+use Rattle.rx_terms.specs.Text.{Chars, tokens}
 use Rattle.std.specs.BTreeMap.{BTreeMap, get_by}
 use Rattle.std.specs.Cmp.Lexicographic.{slice_cmp}
 use Rattle.std.specs.Ordering.{nat_cmp}
 use Rattle.rx_microdata.specs.Elements.{Placed}
-use Rattle.rx_microdata.specs.Properties.{first_with_id}
+use Rattle.rx_microdata.specs.Properties.{first_with_id, is_same_id}
 use denote.Ref.{Bor}
 
 -- the place under a text of these bytes
@@ -17,6 +17,19 @@ place_of ids text = get_by (λ id. slice_cmp nat_cmp text id.now) ids
 abbrev pub Looks : BTreeMap (Bor (List ℕ)) ℕ → (Chars → Option ℕ) → Type 0
 Looks ids look = (text : List ℕ) → IsUtf8 text → place_of ids text ≡ look (chars text)
 
+-- what is so of each look-up that the map answers for
+abbrev pub OfIds : BTreeMap (Bor (List ℕ)) ℕ → ((Chars → Option ℕ) → Type 0) → Type 0
+OfIds ids Holds = (look : Chars → Option ℕ) → Looks ids look → Holds look
+
 -- the place of the first row with an id
 abbrev pub look_in : List Placed → Chars → Option ℕ
 look_in ps token = option_map (λ (p : Placed). p.place) (first_with_id ps token)
+
+-- a row's id, where it has one, tells this place from now on
+abbrev pub IsNoted : BTreeMap (Bor (List ℕ)) ℕ → Option Chars → ℕ → BTreeMap (Bor (List ℕ)) ℕ → Type 0
+IsNoted old word place new =
+    (text : List ℕ) → IsUtf8 text → place_of new text ≡ (if is_same_id (chars text) word then Some place else place_of old text)
+
+-- these places are those of the ids among a text's tokens
+abbrev pub AreReferred : (Chars → Option ℕ) → Chars → List ℕ → Type 0
+AreReferred look text list = (n : ℕ) → Contains list n ↔ Contains (filter_map look (tokens text)) n

@@ -1,5 +1,5 @@
 -- The rows with a name, sorted by the item around and then by place.
-use Rattle.std.specs.Prelude.{◌≡◌, ◌≤◌, true, false, nat_lt, length, ℕ, suc, ◌+◌, ◌*◌, ◌%◌, List, [], ◌∷◌, ◌++◌, map, filter, Option, Some, None, if◌then◌else◌}
+use Rattle.std.specs.Prelude.{◌≡◌, ◌≤◌, true, false, nat_lt, length, ℕ, suc, ◌+◌, ◌*◌, ◌%◌, List, [], ◌∷◌, ◌++◌, map, Option, Some, None, if◌then◌else◌}
 use Rattle.std.specs.List.Sorted.{IsPartitionPoint, IsPermutation}
 use Rattle.rx_terms.specs.Text.{Chars}
 use Rattle.rx_microdata.specs.Elements.{Placed}
@@ -23,10 +23,14 @@ abbrev pub keys_from : ℕ → List Row → List ℕ
 keys_from place [] = []
 keys_from place (row ∷ rows) = (if row.head.named then key_of row.scope place ∷ [] else []) ++ keys_from (suc place) rows
 
+-- so many keys are below a bound, and stand first
+abbrev pub AreBelow : List ℕ → ℕ → ℕ → Type 0
+AreBelow keys bound count = IsPartitionPoint (λ key. nat_lt key bound ≡ true) (λ key. nat_lt key bound ≡ false) keys count
+
 -- a run from one place to another
 pub record RunOf (keys : List ℕ) (scope : Option ℕ) (from to : ℕ) (run : Run) : Type 0 where
-  pub begins : IsPartitionPoint (λ key. nat_lt key (key_of scope from) ≡ true) (λ key. nat_lt key (key_of scope from) ≡ false) keys run.from
-  pub ends : IsPartitionPoint (λ key. nat_lt key (key_of scope to) ≡ true) (λ key. nat_lt key (key_of scope to) ≡ false) keys run.to
+  pub begins : AreBelow keys (key_of scope from) run.from
+  pub ends : AreBelow keys (key_of scope to) run.to
   pub from_small : from ≤ 18446744073709551615
   pub to_small : to ≤ 18446744073709551615
 

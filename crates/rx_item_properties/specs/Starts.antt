@@ -1,9 +1,16 @@
 -- Where the search for an item's properties begins.
-use Rattle.std.specs.Prelude.{◌≡◌, ℕ, ◌+◌, true, List, Some, slice_get, Contains, ◌⊎◌, if◌then◌else◌}
+use Rattle.std.specs.Prelude.{◌≡◌, ℕ, ◌+◌, true, List, Some, slice_get, Contains, ◌↔◌, ◌⊎◌, if◌then◌else◌}
+use Rattle.std.specs.List.Sorted.{IsNonDecreasing}
+use Rattle.rx_terms.specs.Text.{Chars}
+use Rattle.rx_grammar.specs.Trees.{Tree}
 use Rattle.rx_microdata.specs.Elements.{Placed, names_of}
 use Rattle.rx_microdata.specs.Properties.{is_any}
 use Rattle.rx_microdata.specs.Laws.{reaches_by_scope}
+use Rattle.rx_item_table.specs.Rows.{rows_of}
 use Rattle.rx_item_table.specs.declared.rows.Row.{Row}
+use Rattle.rx_item_properties.specs.Members.{Sorted}
+use Rattle.rx_item_properties.specs.Properties.{in_runs}
+use Rattle.rx_item_properties.specs.declared.kept.Run.{Run}
 
 -- the place behind what a start reaches
 abbrev pub reach_end : Row → ℕ → ℕ
@@ -17,7 +24,7 @@ pub record Reached (ps : List Placed) (start : Placed) (x : ℕ) : Type 0 where
   pub reaches : reaches_by_scope row start ≡ true
 
 -- a row with a name of which the item at a place is the nearest one around
-pub record Own (ps : List Placed) (place x : ℕ) : Type 0 where
+pub record FromChildren (ps : List Placed) (place x : ℕ) : Type 0 where
   pub row : Placed
   pub is : slice_get ps x ≡ Some row
   pub named : is_any (names_of row) ≡ true
@@ -32,4 +39,14 @@ pub record FromStart (ps : List Placed) (starts : List ℕ) (x : ℕ) : Type 0 w
   pub reached : Reached ps start x
 
 abbrev pub RunsReach : List Placed → ℕ → List ℕ → ℕ → Type 0
-RunsReach ps place starts x = Own ps place x ⊎ FromStart ps starts x
+RunsReach ps place starts x = FromChildren ps place x ⊎ FromStart ps starts x
+
+-- these runs of the members of a page are what the item at a place reaches, with these starts
+abbrev pub HaveReached : Tree → List ℕ → ℕ → List ℕ → List Run → Type 0
+HaveReached tree members place starts runs = (x : ℕ) → Contains (in_runs members runs) x ↔ RunsReach (rows_of tree) place starts x
+
+-- what is so of each page that these rows show, and of its members, of which these are the keys
+abbrev pub OfSorted : List Row → List ℕ → (Tree → List ℕ → Type 0) → Type 0
+OfSorted rows keys Holds =
+    (words gathered : Chars) (times : List Chars) (tree : Tree) (members : List ℕ)
+    → Sorted words gathered times rows (rows_of tree) keys members → IsNonDecreasing keys → Holds tree members

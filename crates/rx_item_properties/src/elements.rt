@@ -1,10 +1,9 @@
 //! The elements of a page, each by its row and what it has beside it.
-ghost use Rattle.std.specs.Prelude.{◌≡◌, [], List, None, Some, slice_get};
+ghost use Rattle.std.specs.Prelude.{◌≡◌, [], List, None, slice_get};
 ghost use Rattle.rx_terms.specs.Text.{Chars};
-ghost use Rattle.rx_microdata.specs.Elements.{Placed, is_item, is_top_level, names_of};
+ghost use Rattle.rx_microdata.specs.Elements.{Placed, is_item, is_top_level};
 ghost use Rattle.rx_item_table.specs.Showing.{ShowsRow};
-ghost use Rattle.rx_item_table.specs.Words.{names_in, types_in};
-ghost use Rattle.rx_item_properties.specs.Held.{AreTokens, AtPlace, HoldsRows, ShowsElement, ShowsTokens, names_beside, others_beside, own_beside, texts_in, texts_seen, types_beside};
+ghost use Rattle.rx_item_properties.specs.Held.{AreTokens, AtPlace, OfRows, ShowsTheSame, ShowsTokens, is_there, names_beside, others_beside, own_beside, texts_in, texts_seen, types_beside};
 
 use crate::kept::{Element, Extra, Kept, Run, Tokens};
 use rx_item_table::{Row, Span};
@@ -13,7 +12,7 @@ use rx_terms::Text;
 /// The element at a place.
 #[inline(always)]
 pub fn element_at(kept: &Kept, place: usize) -> Option<Element<'_>>
-    ensures { (rows : List Placed) (base : Chars) → HoldsRows kept.now rows base → AtPlace kept.now rows place result }
+    ensures { OfRows kept.now (λ rows base. AtPlace kept.now rows place result) }
 {
     let Some(row) = kept.rows.get(place) else {
         return None;
@@ -24,9 +23,10 @@ pub fn element_at(kept: &Kept, place: usize) -> Option<Element<'_>>
     Some(element_of(row, extra))
 }
 
-/// Whether the row at a place is that of a top-level item. It is asked of each row, and is cheaper than an element.
+/// Whether there is a row at a place that is that of a top-level item. It is asked of each row, and is cheaper than an
+/// element.
 pub fn is_top_at(kept: &Kept, place: usize) -> bool
-    ensures { (rows : List Placed) (base : Chars) (p : Placed) → HoldsRows kept.now rows base → slice_get rows place ≡ Some p → result ≡ is_top_level p }
+    ensures { OfRows kept.now (λ rows base. result ≡ is_there is_top_level (slice_get rows place)) }
 {
     match kept.rows.get(place) {
         Some(row) => is_top(row),
@@ -40,9 +40,9 @@ fn is_top(row: &Row) -> bool
     row.head.is_item && row.head.words.names().is_none()
 }
 
-/// Whether the row at a place is that of an item.
+/// Whether there is a row at a place that is that of an item.
 pub fn is_item_at(kept: &Kept, place: usize) -> bool
-    ensures { (rows : List Placed) (base : Chars) (p : Placed) → HoldsRows kept.now rows base → slice_get rows place ≡ Some p → result ≡ is_item p }
+    ensures { OfRows kept.now (λ rows base. result ≡ is_there is_item (slice_get rows place)) }
 {
     match kept.rows.get(place) {
         Some(row) => row.head.is_item,
@@ -52,10 +52,7 @@ pub fn is_item_at(kept: &Kept, place: usize) -> bool
 
 /// The element of a row that has this beside it.
 fn element_of<'a>(row: &Row, extra: &'a Extra) -> Element<'a>
-    ensures shown { (words gathered : Chars) (times : List Chars) (p : Placed) → ShowsRow words gathered times row.now p
-        → AreTokens words (names_in row.now.head.words) (names_beside extra.now) (names_of p)
-        → AreTokens words (types_in row.now.head.words) (types_beside extra.now) p.facts.types
-        → ShowsElement words gathered times result p }
+    ensures shown { ShowsTheSame row.now extra.now result }
     ensures own { result.own ≡ own_beside extra.now }
     ensures others { result.others.now ≡ others_beside extra.now }
 {

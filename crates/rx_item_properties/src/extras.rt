@@ -1,16 +1,8 @@
 //! What elements have beside their rows.
-ghost use Rattle.std.specs.Prelude.{◌≡◌, ◌<◌, ◌++◌, ◌∷◌, [], ℕ, None, true, length, IfOk, OnOk, List, Option, unwrap_or};
-ghost use Rattle.std.specs.List.Sorted.{IsNonDecreasing};
-ghost use Rattle.rx_grammar.specs.Trees.{Tree};
-ghost use Rattle.rx_item_table.specs.Rows.{rows_of};
-ghost use Rattle.rx_item_table.specs.Showing.{ShowsWord};
+ghost use Rattle.std.specs.Prelude.{◌≡◌, ◌<◌, ◌++◌, ◌∷◌, [], None, true, length, IfOk, OnOk};
 ghost use Rattle.rx_item_table.specs.Words.{names_in, types_in};
-ghost use Rattle.rx_item_properties.specs.Members.{Sorted};
-ghost use Rattle.rx_item_properties.specs.Ids.{Looks, look_in};
-ghost use Rattle.rx_item_properties.specs.Built.{Builds};
-ghost use Rattle.rx_item_properties.specs.Held.{AllFit, AreTokens, names_beside, runs_beside, texts_in, types_beside};
-ghost use Rattle.rx_terms.specs.Text.{Chars};
-ghost use Rattle.rx_microdata.specs.Facts.{distinct_tokens};
+ghost use Rattle.rx_item_properties.specs.Built.{Builds, OfPage};
+ghost use Rattle.rx_item_properties.specs.Held.{EachFits, MakesTokens, names_beside, runs_beside, texts_in, types_beside};
 
 use crate::distinct::several_at;
 use crate::kept::{Extra, Rare, Reach};
@@ -30,9 +22,7 @@ pub(crate) fn extras_of(
     keys: &[u128],
     ids: &BTreeMap<&str, usize>,
 ) -> Result<Vec<Extra>, NoMemory>
-    ensures { (text : Chars) (times : List Chars) (tree : Tree) (members : List ℕ) → Sorted words.now text times rows.now (rows_of tree) keys.now members
-        → IsNonDecreasing keys.now
-        → Looks ids.now (look_in (rows_of tree)) → IfOk result (λ extras. AllFit words.now (rows_of tree) members rows.now (length rows.now) extras.items) }
+    ensures { OfPage words.now rows.now keys.now ids.now (λ ps members. IfOk result (λ extras. EachFits words.now ps members rows.now extras.items)) }
 {
     let mut extras = Vec::with_capacity(alloc, rows.len())?;
     for place in 0..rows.len() {
@@ -64,9 +54,7 @@ fn extra_of(
     place: usize,
 ) -> Result<Extra, NoMemory>
     requires { place < length rows.now }
-    ensures { (text : Chars) (times : List Chars) (tree : Tree) (members : List ℕ) → Sorted words.now text times rows.now (rows_of tree) keys.now members
-        → IsNonDecreasing keys.now
-        → Looks ids.now (look_in (rows_of tree)) → IfOk result (λ extra. Builds words.now (rows_of tree) members rows.now place extra) }
+    ensures { OfPage words.now rows.now keys.now ids.now (λ ps members. IfOk result (λ extra. Builds words.now ps members rows.now place extra)) }
 {
     let row = &rows[place];
     if !row.head.is_item {
@@ -86,10 +74,8 @@ fn texts_beside(
     row: &Row,
     reach: Reach,
 ) -> Result<Extra, NoMemory>
-    ensures names { (word : Option Chars) → ShowsWord words.now (names_in row.now.head.words) word
-        → IfOk result (λ extra. AreTokens words.now (names_in row.now.head.words) (names_beside extra) (distinct_tokens (unwrap_or word []))) }
-    ensures types { (word : Option Chars) → ShowsWord words.now (types_in row.now.head.words) word
-        → IfOk result (λ extra. AreTokens words.now (types_in row.now.head.words) (types_beside extra) (distinct_tokens (unwrap_or word []))) }
+    ensures names { MakesTokens words.now (names_in row.now.head.words) names_beside result }
+    ensures types { MakesTokens words.now (types_in row.now.head.words) types_beside result }
     ensures reach { IfOk result (λ extra. runs_beside extra ≡ reach.own ∷ reach.others.items) }
 {
     let Ok(names) = several(alloc, words, row.head.words.names()) else {
@@ -143,8 +129,7 @@ fn several(
     words: &TextStore,
     span: Option<Span>,
 ) -> Result<Option<Vec<Text>>, NoMemory>
-    ensures { (word : Option Chars) → ShowsWord words.now span word
-        → IfOk result (λ list. AreTokens words.now span (texts_in list) (distinct_tokens (unwrap_or word []))) }
+    ensures { MakesTokens words.now span texts_in result }
 {
     match span {
         Some(span) => several_at(alloc, words, span),

@@ -1,13 +1,9 @@
 //! The first row of each id.
-ghost use Rattle.std.specs.Prelude.{◌≡◌, ℕ, List, Option, Some, IfOk, OnOk, option_map, option_copied, if◌then◌else◌};
-ghost use Rattle.std.specs.Str.{chars, IsUtf8};
-ghost use Rattle.rx_terms.specs.Text.{Chars};
+ghost use Rattle.std.specs.Prelude.{◌≡◌, ℕ, List, Some, IfOk, OnOk, option_copied, if◌then◌else◌};
 ghost use Rattle.rx_grammar.specs.Names.{same};
-ghost use Rattle.rx_microdata.specs.Elements.{Placed};
-ghost use Rattle.rx_microdata.specs.Properties.{first_with_id, is_same_id};
-ghost use Rattle.rx_item_properties.specs.Held.{Numbered};
-ghost use Rattle.rx_item_properties.specs.Ids.{place_of};
-ghost use Rattle.rx_item_table.specs.Showing.{ShowsRows, ShowsWord};
+ghost use Rattle.rx_item_properties.specs.Built.{OfNumbered};
+ghost use Rattle.rx_item_properties.specs.Held.{OfWord};
+ghost use Rattle.rx_item_properties.specs.Ids.{IsNoted, Looks, look_in, place_of};
 
 use rx_item_table::{Row, Span, text_of};
 use rx_terms::NoMemory;
@@ -21,8 +17,7 @@ pub(crate) fn first_ids<'a>(
     words: &'a TextStore,
     rows: &[Row],
 ) -> Result<BTreeMap<&'a str, usize>, NoMemory>
-    ensures { (gathered : Chars) (times : List Chars) (ps : List Placed) → ShowsRows words.now gathered times rows.now ps → Numbered 0 ps
-        → IfOk result (λ ids. (text : List ℕ) → IsUtf8 text → place_of ids text ≡ option_map (λ (p : Placed). p.place) (first_with_id ps (chars text))) }
+    ensures { OfNumbered words.now rows.now (λ ps. IfOk result (λ ids. Looks ids (look_in ps))) }
 {
     let mut ids = BTreeMap::new(alloc);
     for place in (0..rows.len()).rev() {
@@ -38,8 +33,7 @@ fn note_id<'a>(
     id: Option<Span>,
     place: usize,
 ) -> Result<(), NoMemory>
-    ensures { (word : Option Chars) → ShowsWord words.now id word
-        → OnOk result ((text : List ℕ) → IsUtf8 text → place_of ids.new text ≡ (if is_same_id (chars text) word then Some place else place_of ids.old text)) }
+    ensures { OfWord words.now id (λ word. OnOk result (IsNoted ids.old word place ids.new)) }
 {
     match id {
         Some(span) => put_id(ids, text_of(words, span), place),

@@ -1,7 +1,7 @@
 //! The rows with a name, sorted by the item around and then by place.
-ghost use Rattle.std.specs.Prelude.{◌≡◌, ◌≤◌, ◌%◌, true, false, nat_lt, [], ◌∷◌, ◌++◌, length, map, IfOk, OnOk, if◌then◌else◌};
-ghost use Rattle.std.specs.List.Sorted.{IsNonDecreasing, IsPartitionPoint, IsPermutation};
-ghost use Rattle.rx_item_properties.specs.Members.{key_of, keys_from, scope_number};
+ghost use Rattle.std.specs.Prelude.{◌≡◌, ◌≤◌, ◌%◌, [], ◌∷◌, ◌++◌, length, map, IfOk, OnOk, if◌then◌else◌};
+ghost use Rattle.std.specs.List.Sorted.{IsNonDecreasing, IsPermutation};
+ghost use Rattle.rx_item_properties.specs.Members.{AreBelow, key_of, keys_from, scope_number};
 
 use crate::kept::Run;
 use rx_item_table::Row;
@@ -61,17 +61,15 @@ fn add_key(keys: &mut Vec<u128>, row: &Row, place: usize) -> Result<(), NoMemory
 
 /// How many of the keys are below the bound.
 fn before(keys: &[u128], bound: u128) -> usize
-    ensures { IsNonDecreasing keys.now → IsPartitionPoint (λ key. nat_lt key bound ≡ true) (λ key. nat_lt key bound ≡ false) keys.now result }
+    ensures { IsNonDecreasing keys.now → AreBelow keys.now bound result }
 {
     keys.partition_point(|key| *key < bound)
 }
 
 /// The members with this item around, from one place to another.
 pub(crate) fn between(keys: &[u128], scope: Option<usize>, from: usize, to: usize) -> Run
-    ensures from { IsNonDecreasing keys.now
-        → IsPartitionPoint (λ key. nat_lt key (key_of scope from) ≡ true) (λ key. nat_lt key (key_of scope from) ≡ false) keys.now result.from }
-    ensures to { IsNonDecreasing keys.now
-        → IsPartitionPoint (λ key. nat_lt key (key_of scope to) ≡ true) (λ key. nat_lt key (key_of scope to) ≡ false) keys.now result.to }
+    ensures from { IsNonDecreasing keys.now → AreBelow keys.now (key_of scope from) result.from }
+    ensures to { IsNonDecreasing keys.now → AreBelow keys.now (key_of scope to) result.to }
 {
     Run {
         from: before(keys, key_of(scope, from)),

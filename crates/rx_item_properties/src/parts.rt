@@ -1,10 +1,7 @@
 //! What is kept of a table's rows.
-ghost use Rattle.std.specs.Prelude.{List, length, IfOk};
-ghost use Rattle.rx_terms.specs.Text.{Chars};
-ghost use Rattle.rx_grammar.specs.Trees.{Tree};
-ghost use Rattle.rx_item_table.specs.Rows.{rows_of};
-ghost use Rattle.rx_item_table.specs.Showing.{ShowsRows};
-ghost use Rattle.rx_item_properties.specs.Held.{AllFit, HoldsRows};
+ghost use Rattle.std.specs.Prelude.{IfOk};
+ghost use Rattle.rx_item_properties.specs.Built.{OfShown};
+ghost use Rattle.rx_item_properties.specs.Held.{EachFits, KeepsPage};
 
 use crate::extras::extras_of;
 use crate::ids::first_ids;
@@ -24,8 +21,7 @@ struct Parts {
 
 /// What is kept of a page with these rows, whose references are resolved against this base.
 pub fn kept_of(alloc: Global, page: PageRows, base: Iri) -> Result<Kept, NoMemory>
-    ensures { (tree : Tree) → ShowsRows page.words page.text page.times.items page.rows.items (rows_of tree)
-        → IfOk result (λ kept. HoldsRows kept (rows_of tree) base) }
+    ensures { KeepsPage page base result }
 {
     let PageRows {
         rows,
@@ -47,8 +43,7 @@ pub fn kept_of(alloc: Global, page: PageRows, base: Iri) -> Result<Kept, NoMemor
 }
 
 fn parts_of(alloc: Global, words: &TextStore, rows: &[Row]) -> Result<Parts, NoMemory>
-    ensures { (text : Chars) (times : List Chars) (tree : Tree) → ShowsRows words.now text times rows.now (rows_of tree)
-        → IfOk result (λ parts. AllFit words.now (rows_of tree) parts.members.items rows.now (length rows.now) parts.extras.items) }
+    ensures { OfShown words.now rows.now (λ ps. IfOk result (λ parts. EachFits words.now ps parts.members.items rows.now parts.extras.items)) }
 {
     let ids = first_ids(alloc, words, rows)?;
     let keys = sorted_keys(alloc, rows)?;

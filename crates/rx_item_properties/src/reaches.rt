@@ -1,13 +1,8 @@
 //! The runs of members that are properties of an item.
-ghost use Rattle.std.specs.Prelude.{◌≡◌, ◌≢◌, ◌++◌, [], ◌∷◌, ℕ, List, Contains, ◌↔◌, IfOk, OnOk};
-ghost use Rattle.std.specs.List.Sorted.{IsNonDecreasing};
-ghost use Rattle.rx_terms.specs.Text.{Chars};
-ghost use Rattle.rx_grammar.specs.Trees.{Tree};
-ghost use Rattle.rx_item_table.specs.Rows.{rows_of};
-ghost use Rattle.rx_item_properties.specs.Members.{Sorted};
+ghost use Rattle.std.specs.Prelude.{◌≡◌, ◌≢◌, ◌++◌, [], ◌∷◌, ℕ, List, IfOk, OnOk};
 ghost use Rattle.rx_item_properties.specs.Disjoint.{Apart};
 ghost use Rattle.rx_item_properties.specs.Properties.{in_runs, part};
-ghost use Rattle.rx_item_properties.specs.Starts.{RunsReach};
+ghost use Rattle.rx_item_properties.specs.Starts.{HaveReached, OfSorted};
 
 use crate::disjoint::{disjoint, sort_by_begin};
 use crate::kept::{Reach, Run};
@@ -24,9 +19,7 @@ pub(crate) fn reach_of(
     starts: &[usize],
     place: usize,
 ) -> Result<Reach, NoMemory>
-    ensures reach { (words gathered : Chars) (times : List Chars) (tree : Tree) (members : List ℕ)
-        → Sorted words gathered times rows.now (rows_of tree) keys.now members → IsNonDecreasing keys.now
-        → IfOk result (λ reach. (x : ℕ) → Contains (in_runs members (reach.own ∷ reach.others.items)) x ↔ RunsReach (rows_of tree) place starts.now x) }
+    ensures reach { OfSorted rows.now keys.now (λ tree members. IfOk result (λ reach. HaveReached tree members place starts.now (reach.own ∷ reach.others.items))) }
     ensures apart { IfOk result (λ reach. Apart 0 reach.others.items) }
     ensures one { starts.now ≡ [] → IfOk result (λ reach. reach.others.items ≡ []) }
     ensures many { starts.now ≢ [] → IfOk result (λ reach. reach.own ≡ record { from = 0; to = 0 }) }
@@ -60,9 +53,7 @@ fn runs_apart(
     starts: &[usize],
     place: usize,
 ) -> Result<Vec<Run>, NoMemory>
-    ensures reach { (words gathered : Chars) (times : List Chars) (tree : Tree) (members : List ℕ)
-        → Sorted words gathered times rows.now (rows_of tree) keys.now members → IsNonDecreasing keys.now
-        → IfOk result (λ runs. (x : ℕ) → Contains (in_runs members runs.items) x ↔ RunsReach (rows_of tree) place starts.now x) }
+    ensures reach { OfSorted rows.now keys.now (λ tree members. IfOk result (λ runs. HaveReached tree members place starts.now runs.items)) }
     ensures apart { IfOk result (λ runs. Apart 0 runs.items) }
 {
     let mut runs = runs_of(alloc, rows, keys, starts, place)?;
@@ -78,9 +69,7 @@ fn runs_of(
     starts: &[usize],
     place: usize,
 ) -> Result<Vec<Run>, NoMemory>
-    ensures { (words gathered : Chars) (times : List Chars) (tree : Tree) (members : List ℕ)
-        → Sorted words gathered times rows.now (rows_of tree) keys.now members → IsNonDecreasing keys.now
-        → IfOk result (λ runs. (x : ℕ) → Contains (in_runs members runs.items) x ↔ RunsReach (rows_of tree) place starts.now x) }
+    ensures { OfSorted rows.now keys.now (λ tree members. IfOk result (λ runs. HaveReached tree members place starts.now runs.items)) }
 {
     let mut runs = Vec::new(alloc);
     add_run(&mut runs, own_run(rows, keys, place))?;

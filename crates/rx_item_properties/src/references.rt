@@ -1,9 +1,9 @@
 //! The elements to which an item refers.
-ghost use Rattle.std.specs.Prelude.{◌≡◌, ◌++◌, [], ℕ, List, Option, Contains, ◌↔◌, IfOk, OnOk, filter_map, option_to_list, unwrap_or};
+ghost use Rattle.std.specs.Prelude.{◌≡◌, ◌++◌, [], IfOk, OnOk, filter_map, option_to_list, unwrap_or};
 ghost use Rattle.std.specs.Str.{chars};
-ghost use Rattle.rx_terms.specs.Text.{Chars, tokens};
-ghost use Rattle.rx_item_properties.specs.Ids.{Looks};
-ghost use Rattle.rx_item_table.specs.Showing.{ShowsWord};
+ghost use Rattle.rx_terms.specs.Text.{tokens};
+ghost use Rattle.rx_item_properties.specs.Held.{OfWord};
+ghost use Rattle.rx_item_properties.specs.Ids.{AreReferred, OfIds};
 
 use crate::ids::place_under;
 use rx_item_table::{Span, text_of};
@@ -20,8 +20,7 @@ pub(crate) fn starts_of(
     ids: &BTreeMap<&str, usize>,
     references: Option<Span>,
 ) -> Result<Vec<usize>, NoMemory>
-    ensures { (look : Chars → Option ℕ) (word : Option Chars) → Looks ids.now look → ShowsWord words.now references word
-        → IfOk result (λ list. (n : ℕ) → Contains list.items n ↔ Contains (filter_map look (tokens (unwrap_or word []))) n) }
+    ensures { OfIds ids.now (λ look. OfWord words.now references (λ word. IfOk result (λ list. AreReferred look (unwrap_or word []) list.items))) }
 {
     match references {
         Some(span) => starts_in(alloc, ids, text_of(words, span)),
@@ -30,8 +29,7 @@ pub(crate) fn starts_of(
 }
 
 fn starts_in(alloc: Global, ids: &BTreeMap<&str, usize>, text: &str) -> Result<Vec<usize>, NoMemory>
-    ensures { (look : Chars → Option ℕ) → Looks ids.now look
-        → IfOk result (λ list. (n : ℕ) → Contains list.items n ↔ Contains (filter_map look (tokens (chars text.now))) n) }
+    ensures { OfIds ids.now (λ look. IfOk result (λ list. AreReferred look (chars text.now) list.items)) }
 {
     let mut list = found_in(alloc, ids, text)?;
     list.sort_unstable();
@@ -41,7 +39,7 @@ fn starts_in(alloc: Global, ids: &BTreeMap<&str, usize>, text: &str) -> Result<V
 
 /// The place under each token that has one.
 fn found_in(alloc: Global, ids: &BTreeMap<&str, usize>, text: &str) -> Result<Vec<usize>, NoMemory>
-    ensures { (look : Chars → Option ℕ) → Looks ids.now look → IfOk result (λ list. list.items ≡ filter_map look (tokens (chars text.now))) }
+    ensures { OfIds ids.now (λ look. IfOk result (λ list. list.items ≡ filter_map look (tokens (chars text.now)))) }
 {
     let mut list = Vec::new(alloc);
     let mut rest = text;

@@ -33,7 +33,7 @@ word_more text more (Some span) (Some part) s = stands_more text more span part 
 
 -- the numbers of times are not below this one
 abbrev pub OwnFrom : ℕ → RowValue → Type 0
-OwnFrom low (value.Own time) = low ≤ time
+OwnFrom low (value.ChildText time) = low ≤ time
 OwnFrom low _ = ⊤
 
 abbrev pub OwnsFrom : ℕ → List Row → Type 0
@@ -47,7 +47,7 @@ value_more words text mw mt times later low (value.Written span) v k o s = (s.0,
 value_more words text mw mt times later low (value.Reference span) v k o s = (s.0, s.1, stands_more words mw span s.0 s.2)
 value_more words text mw mt times later low (value.Running from) v k o s = s
 value_more words text mw mt times later low (value.Run span) v k o s = (s.0, s.1, stands_more text mt span s.0 s.2)
-value_more words text mw mt times later low (value.Own time) v k o s = (s.0, s.1, k time s.0 o s.2)
+value_more words text mw mt times later low (value.ChildText time) v k o s = (s.0, s.1, k time s.0 o s.2)
 
 row_more : (words text more_words more_text : Chars) (times later : List Chars) (low : ℕ) (row : Row) (p : Placed) → Keeps low times later → OwnFrom low row.value
     → ShowsRow words text times row p → ShowsRow (words ++ more_words) (text ++ more_text) later row p
@@ -99,7 +99,7 @@ own_weaker low lower (value.Written span) l o = tt
 own_weaker low lower (value.Reference span) l o = tt
 own_weaker low lower (value.Running from) l o = tt
 own_weaker low lower (value.Run span) l o = tt
-own_weaker low lower (value.Own time) l o = omega (arith, l, o)
+own_weaker low lower (value.ChildText time) l o = omega (arith, l, o)
 
 pub owns_weaker : (low lower : ℕ) (rows : List Row) → lower ≤ low → OwnsFrom low rows → OwnsFrom lower rows
 owns_weaker low lower [] l o = tt

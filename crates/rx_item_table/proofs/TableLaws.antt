@@ -174,7 +174,7 @@ passes at g g2 all own ps e a =
     }
 
 abbrev own_times : Taken → Chars → List Chars → List Chars
-own_times taken.OwnText own more = own ∷ more
+own_times taken.ChildText own more = own ∷ more
 own_times _ own more = more
 
 or_right_true : (a b : Bool) → b ≡ true → (a || b) ≡ true
@@ -190,14 +190,14 @@ own_in taken.Empty times = tt
 own_in (taken.Written span) times = tt
 own_in (taken.Reference span) times = tt
 own_in taken.Text times = tt
-own_in taken.OwnText times = let e = length-append times ([] ∷ []) in omega (arith, e)
+own_in taken.ChildText times = let e = length-append times ([] ∷ []) in omega (arith, e)
 
 own_size : (tk : Taken) (times : List Chars) → length times ≤ length (with_own tk times)
 own_size taken.Empty times = omega arith
 own_size (taken.Written span) times = omega arith
 own_size (taken.Reference span) times = omega arith
 own_size taken.Text times = omega arith
-own_size taken.OwnText times = let e = length-append times ([] ∷ []) in omega (arith, e)
+own_size taken.ChildText times = let e = length-append times ([] ∷ []) in omega (arith, e)
 
 own_said : (own : Chars) (times : List Chars) → with_said (Some (length times)) own (times ++ ([] ∷ [])) ≡ times ++ (own ∷ [])
 own_said own times =
@@ -213,7 +213,7 @@ times_are taken.Empty own times more = refl
 times_are (taken.Written span) own times more = refl
 times_are (taken.Reference span) own times more = refl
 times_are taken.Text own times more = refl
-times_are taken.OwnText own times more = ap (λ l. l ++ more) (own_said own times) ∙ append_assoc times (own ∷ []) more
+times_are taken.ChildText own times more = ap (λ l. l ++ more) (own_said own times) ∙ append_assoc times (own ∷ []) more
 
 -- the value of a row whose element has ended
 value_shown : (tk : Taken) (words later front longer more_text : Chars) (times more : List Chars) (v : Value) (all own : Chars)
@@ -234,14 +234,14 @@ value_shown taken.Text words later front longer mt times more v all own w t g s 
         is_run = record { is_whole = whole ∙ ap (λ l. front ++ l) (sym (append_nil all)); from = refl; to = ap mark_of whole };
       },
     )
-value_shown taken.OwnText words later front longer mt times more v all own w t g s = (own, s, get_behind times own more)
+value_shown taken.ChildText words later front longer mt times more v all own w t g s = (own, s, get_behind times own more)
 
 own_from : (tk : Taken) (mark last : ℕ) (size : ℕ) → OwnFrom size (ended_value (row_value tk mark size) last)
 own_from taken.Empty mark last size = tt
 own_from (taken.Written span) mark last size = tt
 own_from (taken.Reference span) mark last size = tt
 own_from taken.Text mark last size = tt
-own_from taken.OwnText mark last size = omega arith
+own_from taken.ChildText mark last size = omega arith
 
 -- a row ends
 row_ends : (rows new whole : List Row) (row : Row) (mark : ℕ) → whole ≡ (rows ++ (row ∷ [])) ++ new

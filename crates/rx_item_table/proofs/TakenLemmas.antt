@@ -128,7 +128,7 @@ ShowsTaken words taken.Empty v all own = v ≡ Written []
 ShowsTaken words (taken.Written span) v all own = (part : Chars) × (v ≡ Written part) × ShowsPart words span part
 ShowsTaken words (taken.Reference span) v all own = (part : Chars) × (v ≡ Reference part) × ShowsPart words span part
 ShowsTaken words taken.Text v all own = v ≡ Written all
-ShowsTaken words taken.OwnText v all own = v ≡ Written own
+ShowsTaken words taken.ChildText v all own = v ≡ Written own
 
 written_shown : (text : Chars) (o : Option Chars) (all own : Chars) → ShowsTaken (word_text text o) (written (word_span text o)) (Written (unwrap_or o [])) all own
 written_shown text None all own = refl

@@ -34,18 +34,18 @@ row_value taken.Empty mark times = value.Empty
 row_value (taken.Written span) mark times = value.Written span
 row_value (taken.Reference span) mark times = value.Reference span
 row_value taken.Text mark times = value.Running mark
-row_value taken.OwnText mark times = value.Own times
+row_value taken.ChildText mark times = value.ChildText times
 
 abbrev pub is_text : Taken → Bool
 is_text taken.Text = true
 is_text _ = false
 
 abbrev pub own_of : Taken → ℕ → Option ℕ
-own_of taken.OwnText times = Some times
+own_of taken.ChildText times = Some times
 own_of _ times = None
 
 abbrev pub with_own : Taken → List Chars → List Chars
-with_own taken.OwnText times = times ++ [] ∷ []
+with_own taken.ChildText times = times ++ [] ∷ []
 with_own _ times = times
 
 -- an element that is no row

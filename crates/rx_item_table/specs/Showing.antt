@@ -34,7 +34,7 @@ ShowsValue words gathered times (value.Written span) v = (part : Chars) × (v �
 ShowsValue words gathered times (value.Reference span) v = (part : Chars) × (v ≡ Reference part) × ShowsPart words span part
 ShowsValue words gathered times (value.Running from) v = ⊥
 ShowsValue words gathered times (value.Run span) v = (part : Chars) × (v ≡ Written part) × ShowsPart gathered span part
-ShowsValue words gathered times (value.Own time) v = (part : Chars) × (v ≡ Written part) × (slice_get times time ≡ Some part)
+ShowsValue words gathered times (value.ChildText time) v = (part : Chars) × (v ≡ Written part) × (slice_get times time ≡ Some part)
 
 pub record ShowsRow (words gathered : Chars) (times : List Chars) (row : Row) (p : Placed) : Type 0 where
   pub token : row.head.token ≡ p.facts.token

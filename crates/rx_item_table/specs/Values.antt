@@ -20,7 +20,7 @@ referred None = taken.Empty
 referred (Some span) = taken.Reference span
 
 abbrev pub own_unless : Option Span → Taken
-own_unless None = taken.OwnText
+own_unless None = taken.ChildText
 own_unless (Some span) = taken.Written span
 
 -- whether a tag gives a property name

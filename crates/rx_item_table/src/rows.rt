@@ -83,8 +83,8 @@ pub enum RowValue {
     Running(usize),
     /// A run of the page's text.
     Run(Span),
-    /// The own text of a `time`, by its number.
-    Own(usize),
+    /// The child text content of a `time`, by its number.
+    ChildText(usize),
 }
 
 /// What a tag says of its row, but for the value.

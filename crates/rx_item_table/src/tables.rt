@@ -127,7 +127,7 @@ impl Table {
     fn add_own(&mut self, alloc: Global, taken: Taken) -> Result<(), NoMemory>
         ensures { OnOk result (self.new ≡ record self.old { times = with_own taken self.old.times }) }
     {
-        if !matches!(taken, Taken::OwnText) {
+        if !matches!(taken, Taken::ChildText) {
             return Ok(());
         }
         match self.times.push(TextStore::new(alloc)) {
@@ -254,7 +254,7 @@ fn row_value(taken: Taken, mark: usize, times: usize) -> RowValue
         Taken::Written(span) => RowValue::Written(span),
         Taken::Reference(span) => RowValue::Reference(span),
         Taken::Text => RowValue::Running(mark),
-        Taken::OwnText => RowValue::Own(times),
+        Taken::ChildText => RowValue::ChildText(times),
     }
 }
 
@@ -283,7 +283,7 @@ fn own_of(taken: Taken, times: usize) -> Option<usize>
     ensures { result ≡ growing.own_of taken times }
 {
     match taken {
-        Taken::OwnText => Some(times),
+        Taken::ChildText => Some(times),
         _ => None,
     }
 }

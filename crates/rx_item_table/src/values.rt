@@ -26,8 +26,8 @@ pub(crate) enum Taken {
     Reference(Span),
     /// The element's text.
     Text,
-    /// The text of its own text children.
-    OwnText,
+    /// Its child text content.
+    ChildText,
 }
 
 fn written(span: Option<Span>) -> Taken
@@ -53,7 +53,7 @@ fn own_unless(span: Option<Span>) -> Taken
 {
     match span {
         Some(span) => Taken::Written(span),
-        None => Taken::OwnText,
+        None => Taken::ChildText,
     }
 }
 

@@ -1,34 +1,31 @@
 -- The items of a whole page.
-use Rattle.std.specs.Prelude.{◌≡◌, List, ℕ, Option, Some, None, Result, Ok, Err, IfOk}
+use Rattle.std.specs.Prelude.{◌≡◌, List, ℕ, Option, Err}
 use Rattle.std.proofs.Common.{refl, sym, ap, ap₂, subst, ◌∙◌}
 use Rattle.rx_terms.specs.Text.{Chars}
 use Rattle.rx_grammar.specs.Items.{start_of}
-use Rattle.rx_grammar.specs.Trees.{StartTag, Tree, end, element, text}
+use Rattle.rx_grammar.specs.Trees.{Tree, end, element, text}
 use Rattle.rx_rdfa.specs.Base.{base_by, root_href}
 use Rattle.rx_rdfa.specs.Tree as rules
 use Rattle.rx_rdfa.specs.Tree.{Tag, Nodes}
-use Rattle.rx_nest.specs.Signs.{Sign, signs_of}
+use Rattle.rx_nest.specs.Signs.{signs_of}
 use Rattle.rx_microdata.specs.Base as microdata
 use Rattle.rx_microdata.specs.Base.{base_in}
-use Rattle.rx_microdata.specs.Elements.{Placed}
 use Rattle.rx_grammar.specs.declared.stops.Stop.{Stop}
 use Rattle.rx_grammar.specs.declared.stops.Stop.TheVariants as stop
 use Rattle.rx_reading.specs.Readings.{IsWhole, Whole, Unfinished}
 use Rattle.rx_base.specs.Lines as lines
-use Rattle.rx_base.specs.Seekings.{Seeking, first_child, base_child, known, sought}
+use Rattle.rx_base.specs.Seekings.{known, sought}
 use Rattle.rx_base.specs.Sought.{sought_seen}
 use Rattle.rx_base.specs.declared.seeking.Sought.{Sought}
 use Rattle.rx_base.specs.declared.seeking.Sought.TheVariants as looks
 use Rattle.rx_base.proofs.Found.{base_found}
 use Rattle.rx_item_table.specs.Rows.{rows_of}
 use Rattle.rx_item_table.specs.Growing.{Growing}
-use Rattle.rx_item_table.specs.Showing.{ShowsRows, after, nothing_read, TablesShow}
-use Rattle.rx_item_properties.specs.Held.{HoldsRows}
+use Rattle.rx_item_table.specs.Showing.{ShowsRows, after, nothing_read}
 use Rattle.rx_items.specs.Collecting.{Setting, way_of, Collects, BaseIs}
 use Rattle.rx_items.specs.declared.collectors.Base.{Base}
 use Rattle.rx_items.specs.declared.collectors.Base.TheVariants as base
 use Rattle.rx_items.specs.declared.collectors.Collector.{Collector}
-use Rattle.rx_item_properties.specs.declared.kept.Kept.{Kept}
 use Rattle.rx_items.specs.Walks.{EndGives}
 use Rattle.rx_item_table.proofs.TableLaws.{show}
 use Rattle.rx_items.proofs.Telling.{told_tree}

@@ -1,22 +1,14 @@
 -- Values that are put behind those of their names, one after another, come to the groups of all of them.
-use Rattle.std.proofs.Common.{◌≡◌, ◌∙◌, refl, sym, ap, ℕ, List, [], ◌∷◌, ◌++◌, Bool, Some, None, Ordering, Less, Equal, Greater, is_eq, nat_cmp, string_bytes, string_cmp, String, Global, Vec, encode_utf8_all}
+use Rattle.std.proofs.Common.{◌≡◌, ◌∙◌, refl, sym, ap, ℕ, List, [], ◌∷◌, ◌++◌, Ordering, Less, Equal, Greater, is_eq, nat_cmp, encode_utf8_all}
 use Rattle.std.proofs.lemmas.Cmp.{nat_list_cmp_total}
 use Rattle.std.proofs.lemmas.Map.Text.{is_eq-slice_cmp}
 use Rattle.std.proofs.lemmas.Slice.Eq.{bytes_eq-Decides}
 use Rattle.std.specs.Cmp.Lexicographic.{slice_cmp}
-use Rattle.std.specs.List.{AllByRecursion}
-use Rattle.std.specs.List.Sorted.{IsStrictlySortedBy}
-use Rattle.std.specs.Map.{keys_of, lookup, set_value}
 use Rattle.std.specs.Ordering.{ordering_reverse}
-use Rattle.std.specs.BTreeMap.{insert_entry, is_at}
-use Rattle.serde_json.specs.Data.{Data, null, boolean, number, string, array, object, no_items, item, Members, no_members, member, put}
-use Rattle.std.specs.Prelude.{OnOk, Result, Ok, Err}
-use Rattle.serde_json.specs.View.{view, items_view, members_view}
-use Rattle.serde_json.proofs.Views.{Entry, view-Array, members_view-insert_entry}
-use Rattle.serde_json.specs.declared.value.Value.{Value, Array}
+use Rattle.serde_json.specs.Data.{Data, null, boolean, number, string, array, object, no_items, item, Members, no_members, member}
 use Rattle.rx_terms.specs.Text.{Chars}
 use Rattle.rx_microdata.specs.Json.{onto, with_value, grouped}
-use Rattle.rx_json_text.specs.Members.{items_and, behind, with_last}
+use Rattle.rx_json_text.specs.Members.{behind, with_last}
 
 both_ends : (d e : Data) (vs : Data) → onto d (behind e vs) ≡ behind e (onto d vs)
 both_ends d e null = refl

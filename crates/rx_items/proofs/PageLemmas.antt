@@ -7,17 +7,18 @@ use Rattle.serde_json.specs.View.{view, items_of, items_view}
 use Rattle.serde_json.specs.Written.{compact_text}
 use Rattle.serde_json.specs.declared.value.Value.{Value}
 use Rattle.rx_terms.specs.Text.{Chars}
+use Rattle.rx_grammar.specs.declared.faults.Fault.{Fault}
 use Rattle.rx_grammar.specs.declared.faults.Kind.{Kind}
 use Rattle.rx_grammar.specs.declared.stops.Stop.{Stop}
 use Rattle.rx_grammar.specs.declared.stops.Stop.TheVariants as stop
 use Rattle.rx_microdata.specs.Elements.{Placed, is_item, is_top_level, is_absent}
 use Rattle.rx_microdata.specs.Visits.{Visit, visits_from, visits_by, first_fault, standard_bounds}
-use Rattle.rx_microdata.specs.Json.{Outcome, Given, json_of_item, json_by, list_of, refused}
+use Rattle.rx_microdata.specs.Json.{Outcome, Given, Refused, json_of_item, json_by, list_of, refused}
 use Rattle.rx_microdata.proofs.Lists.{and_parts}
 use Rattle.rx_item_table.specs.Rows.{properties_in, outcome_in}
 use Rattle.rx_item_properties.specs.Held.{HoldsRows}
 use Rattle.rx_items.specs.Expanding.{At, NoFault, FaultIs, HasFault, Finds}
-use Rattle.rx_items.specs.Pages.{TopsDid, top_visits, top_data, IsTextOf, TextGives, VisitsGive}
+use Rattle.rx_items.specs.Pages.{TopsDid, top_visits, top_data, IsTextOf, JsonGives, TextGives}
 use Rattle.rx_item_properties.specs.declared.kept.Kept.{Kept}
 use Rattle.rx_items.proofs.FoundLemmas.{none_then, then_fault, fault_then, none_at_all, flat_append}
 use Rattle.rx_item_properties.proofs.HoldLemmas.{as_long as rows_as_long}
@@ -141,6 +142,18 @@ module _ (rows : List Placed) (base : Chars) where
 
   abbrev picked : Option (Kind × Visit) → Data → Outcome
   picked o value = elim o as (λ found. Outcome) [ None ↦ Given value | Some found ↦ refused found.0 found.1 ]
+
+  -- the first fault of the visits is the outcome
+  fault_given : (fault : Fault) → FaultIs 0 (visits_by (properties_in rows) standard_bounds (filter is_top_level rows)) fault → outcome_in standard_bounds base rows ≡ Refused fault
+  fault_given fault f = ap (λ o. picked o (json_by (properties_in rows) base 40 (filter is_top_level rows))) f.found ∙ f.is
+
+  pub json_refused : (why : Stop) → HasFault 0 (visits_by (properties_in rows) standard_bounds (filter is_top_level rows)) why → JsonGives (outcome_in standard_bounds base rows) (Err why)
+  json_refused stop.NoMemory f = tt
+  json_refused (stop.Fault fault) f = fault_given fault f
+
+  pub text_refused : (why : Stop) → HasFault 0 (visits_by (properties_in rows) standard_bounds (filter is_top_level rows)) why → TextGives (outcome_in standard_bounds base rows) (Err why)
+  text_refused stop.NoMemory f = tt
+  text_refused (stop.Fault fault) f = fault_given fault f
 
   same_items : (ds : List Data) → items_of ds ≡ list_of ds
   same_items [] = refl

@@ -1,5 +1,5 @@
 -- The table after some signs, and the base that is known then.
-use Rattle.std.specs.Prelude.{◌≡◌, ℕ, suc, ◌+◌, ◌-◌, ◌<◌, Bool, true, false, nat_lt, cond, List, [], ◌∷◌, ◌++◌, map, length, take, slice_set, slice_index_or, Option, Some, None, Result, Ok, Err, OnOk}
+use Rattle.std.specs.Prelude.{◌≡◌, ℕ, suc, ◌-◌, Bool, true, false, nat_lt, cond, List, [], ◌∷◌, ◌++◌, map, length, slice_set, slice_index_or, Option, Some, None}
 use Rattle.std.proofs.Common.{refl, sym, ap, subst, ◌∙◌}
 use Rattle.std.proofs.lemmas.Bool.{ltb-true}
 use Rattle.std.proofs.lemmas.List.{length-append, length-take-le}
@@ -10,8 +10,8 @@ use Rattle.rx_rdfa.specs.Tree.{Tag}
 use Rattle.rx_nest.specs.Signs as sign
 use Rattle.rx_nest.specs.Signs.{Sign, signs_of}
 use Rattle.rx_base.specs.Lines.{line_of, line_on}
-use Rattle.rx_base.specs.Seekings.{Seeking, seek, seeks, sought, first_child}
-use Rattle.rx_base.proofs.Lines.{seeks_append, said_line, said_seeks}
+use Rattle.rx_base.specs.Seekings.{seek, sought, first_child}
+use Rattle.rx_base.proofs.Lines.{seeks_append, said_seeks}
 use Rattle.rx_item_table.specs.Words.{is_marked, text_of_words}
 use Rattle.rx_item_table.specs.Values.{taken_of, text_taken}
 use Rattle.rx_item_table.specs.Growing.{Growing, innermost, with_said, said, finished, begun, added, passed, head_of}

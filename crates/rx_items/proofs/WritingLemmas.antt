@@ -12,13 +12,12 @@ use Rattle.rx_microdata.specs.Facts.{Facts, said}
 use Rattle.rx_microdata.specs.Elements.{Placed, is_item, is_top_level}
 use Rattle.rx_microdata.specs.Json.{string_of, list_of, with_id, with_types, item_of, grouped, named, json_of_item}
 use Rattle.rx_item_table.specs.Rows.{properties_in}
-use Rattle.rx_item_properties.specs.Held.{AllStand, HoldsRows}
-use Rattle.rx_item_properties.specs.declared.kept.Kept.{Kept}
+use Rattle.rx_item_properties.specs.Held.{AllStand}
 use Rattle.rx_items.specs.Expanding.{data_of}
 use Rattle.rx_items.specs.Named.{keys_in, value_if, value_at, grouped_at}
 use Rattle.rx_items.specs.Pages.{top_data}
 use Rattle.rx_items.proofs.NameLemmas.{keys_grouped}
-use Rattle.rx_items.proofs.PageLemmas.{row_data, all_data, RowThere, row_there}
+use Rattle.rx_items.proofs.PageLemmas.{row_data, all_data}
 
 pub then_ok : {X E P Q : Type 0} (r : Result X E) → (P → Q) → OnOk r P → OnOk r Q
 then_ok (Ok x) f p = f p

@@ -1,11 +1,13 @@
 -- What is kept of a page while its elements are told: the table, and the base as far as it is known.
-use Rattle.std.specs.Prelude.{◌≡◌, List, [], ◌∷◌, Option, Some, None}
+use Rattle.std.specs.Prelude.{◌≡◌, List, [], ◌∷◌, Option, Result}
 use Rattle.rx_terms.specs.Text.{Chars}
 use Rattle.rx_chars.specs.declared.syntax.Syntax.{Syntax}
 use Rattle.rx_grammar.specs.declared.limits.Limits.{Limits}
+use Rattle.rx_grammar.specs.declared.stops.Stop.{Stop}
 use Rattle.rx_rdfa.specs.Base.{base_by}
 use Rattle.rx_nest.specs.Signs as sign
 use Rattle.rx_nest.specs.Signs.{Sign}
+use Rattle.rx_reading.specs.Listening.{Hears}
 use Rattle.rx_reading.specs.Ways.{Way, refuses_none}
 use Rattle.rx_base.specs.Seekings.{Seeking, known, sought}
 use Rattle.rx_base.specs.Sought.{sought_seen}
@@ -49,3 +51,9 @@ pub record Collects (setting : Setting) (collector : Collector) (signs : List Si
   pub address_is : collector.address ≡ setting.address
   pub table_is : collector.table ≡ told_all nothing_read signs
   pub base_is : BaseIs setting.address (sought signs) collector.base
+
+-- Whatever signs a collector was told, it was told these too.
+abbrev pub CollectsMore : Collector → List Sign → Result (Unit {0}) Stop → Collector → Type 0
+CollectsMore old more result new =
+    (setting : Setting) (signs : List Sign) → Collects setting old signs
+    → Hears (way_of setting).refused (Collects setting) signs more result new

@@ -1,15 +1,19 @@
 -- The properties of an item under each of their names, in tree order and by name, and the tokens that they come to.
 use denote.Ref.{Bor}
-use Rattle.std.specs.Prelude.{◌≡◌, ℕ, Bool, List, [], ◌∷◌, ◌++◌, map, flat_map, slice_get, Option, Some, None, option_map, bytes_eq, encode_utf8_all, if◌then◌else◌}
+use Rattle.std.specs.Prelude.{◌≡◌, ℕ, Bool, true, List, [], ◌∷◌, ◌++◌, map, flat_map, slice_get, Option, Some, None, option_map, bytes_eq, encode_utf8_all, if◌then◌else◌}
 use Rattle.std.specs.Ordering.{is_lt, nat_cmp}
 use Rattle.std.specs.Cmp.Lexicographic.{slice_cmp}
 use Rattle.std.specs.List.Sorted.{IsSortedBy, IsStableBy}
 use Rattle.json.specs.Token.{Token}
-use Rattle.serde_json.specs.Data.{Data, Members, null, no_members}
+use Rattle.serde_json.specs.Data.{Data, Members, null, no_members, object}
 use Rattle.rx_json_text.specs.Tokens.{data_tokens}
 use Rattle.rx_terms.specs.Text.{Chars}
-use Rattle.rx_microdata.specs.Elements.{Placed, names_of}
-use Rattle.rx_microdata.specs.Json.{with_value}
+use Rattle.rx_microdata.specs.Elements.{Placed, is_item, names_of}
+use Rattle.rx_microdata.specs.Json.{json_of_item, with_value}
+use Rattle.rx_item_table.specs.Rows.{properties_in}
+use Rattle.rx_item_properties.specs.Held.{HoldsRows, IsElement}
+use Rattle.rx_item_properties.specs.declared.kept.Element.{Element}
+use Rattle.rx_item_properties.specs.declared.kept.Kept.{Kept}
 use Rattle.rx_items.specs.Expanding.{data_of}
 use Rattle.rx_items.specs.declared.named.Named.{Named}
 
@@ -67,6 +71,15 @@ abbrev pub ending : Option (List ℕ) → List Token
 ending None = []
 ending (Some before) = Token.end_array ∷ []
 
+-- what is so of the row at a place
+abbrev pub OfRow : Kept → ℕ → (List Placed → Chars → Placed → Type 0) → Type 0
+OfRow kept place Holds = (rows : List Placed) (base : Chars) (e : Placed) → HoldsRows kept rows base → slice_get rows place ≡ Some e → Holds rows base e
+
+-- the same of a row that this element is, and that is an item
+abbrev pub OfItem : Kept → ℕ → Element → (List Placed → Chars → Placed → Type 0) → Type 0
+OfItem kept place element Holds =
+    OfRow kept place (λ rows base root. IsElement kept rows place element root → is_item root ≡ true → Holds rows base root)
+
 module _ (rows : List Placed) (base : Chars) (left : ℕ) where
   abbrev pub value_if : Option Placed → Data
   value_if None = null
@@ -80,6 +93,18 @@ module _ (rows : List Placed) (base : Chars) (left : ℕ) where
   abbrev pub grouped_at : List Key → Members
   grouped_at [] = no_members
   grouped_at (key ∷ keys) = with_value key.0 (value_at key.1) (grouped_at keys)
+
+  -- an item in which so many may nest, itself included
+  abbrev pub item_data : Placed → Data
+  item_data root = json_of_item (properties_in rows) base left root
+
+  -- its properties
+  abbrev pub properties_data : Placed → Data
+  properties_data root = object (grouped_at (keys_in (properties_in rows root)))
+
+  -- the tokens of a value, behind the values of the name before
+  abbrev pub value_behind : Option (List ℕ) → Key → List Token
+  value_behind before key = opening before key.0 ++ data_tokens (value_at key.1)
 
   -- the tokens of values one behind another, behind the values of the name before
   abbrev pub tokens_behind : Option (List ℕ) → List Key → List Token

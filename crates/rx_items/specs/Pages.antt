@@ -1,5 +1,5 @@
 -- The top-level items of a page, one after another, and what they come to.
-use Rattle.std.specs.Prelude.{◌≡◌, ⊤, ℕ, true, false, List, [], ◌∷◌, map, filter, flat_map, take, None, Vec, Result, Ok, Err}
+use Rattle.std.specs.Prelude.{◌≡◌, ⊤, ℕ, true, false, List, [], ◌∷◌, ◌++◌, map, filter, flat_map, take, slice_get, Some, None, Vec, Result, Ok, Err}
 use Rattle.std.specs.declared.alloc.Global.{Global}
 use Rattle.serde_json.specs.Data.{Data}
 use Rattle.serde_json.specs.View.{view}
@@ -10,9 +10,12 @@ use Rattle.rx_grammar.specs.declared.stops.Stop.{Stop}
 use Rattle.rx_grammar.specs.declared.stops.Stop.TheVariants as stop
 use Rattle.rx_microdata.specs.Elements.{Placed, is_top_level}
 use Rattle.rx_microdata.specs.Visits.{Visit, visits_from, visits_by, first_fault, standard_bounds}
-use Rattle.rx_microdata.specs.Json.{Outcome, Given, Refused, json_of_item}
+use Rattle.rx_microdata.specs.Json.{Outcome, Given, Refused, json_by, json_of_item}
 use Rattle.rx_item_table.specs.Rows.{properties_in}
-use Rattle.rx_items.specs.Expanding.{NoFault, HasFault}
+use Rattle.rx_item_properties.specs.Held.{HoldsRows}
+use Rattle.rx_item_properties.specs.declared.kept.Kept.{Kept}
+use Rattle.rx_items.specs.Expanding.{Finds, NoFault, HasFault}
+use Rattle.rx_items.specs.declared.visits.Trail.{Trail}
 
 -- what is answered is this outcome, where there is memory
 abbrev pub JsonGives : Outcome → Result Value Stop → Type 0
@@ -37,6 +40,12 @@ abbrev pub VisitsGive : List Placed → Result (Unit {0}) Stop → Type 0
 VisitsGive rows (Ok done) = first_fault standard_bounds 0 (visits_by (properties_in rows) standard_bounds (filter is_top_level rows)) ≡ None
 VisitsGive rows (Err why) = HasFault 0 (visits_by (properties_in rows) standard_bounds (filter is_top_level rows)) why
 
+-- what is so of the row at a place, before a visit begins
+abbrev pub AtTop : Kept → Trail → ℕ → (List Placed → Chars → Placed → Type 0) → Type 0
+AtTop kept trail place Holds =
+    (rows : List Placed) (base : Chars) (e : Placed) → HoldsRows kept rows base → trail.path.items ≡ [] → slice_get rows place ≡ Some e
+    → Holds rows base e
+
 module _ (rows : List Placed) (base : Chars) where
   -- the visits that begin with an element, where it is a top-level item
   abbrev pub top_visits : Placed → List Visit
@@ -44,6 +53,13 @@ module _ (rows : List Placed) (base : Chars) where
 
   abbrev pub top_data : Placed → List Data
   top_data e = elim (is_top_level e) as (λ top. List Data) [ true ↦ json_of_item (properties_in rows) base 40 e ∷ [] | false ↦ [] ]
+
+  -- the JSON of each top-level item, and of the page
+  abbrev pub tops_data : List Data
+  tops_data = map (json_of_item (properties_in rows) base 40) (filter is_top_level rows)
+
+  abbrev pub page_data : Data
+  page_data = json_by (properties_in rows) base 40 (filter is_top_level rows)
 
   -- the first so many rows were visited without a fault
   pub record TopsDid (count visits : ℕ) (values : List Value) : Type 0 where
@@ -53,5 +69,10 @@ module _ (rows : List Placed) (base : Chars) where
   abbrev pub TopsGive : Result (Vec Value Global) Stop → Type 0
   TopsGive (Ok values) =
       (first_fault standard_bounds 0 (visits_by (properties_in rows) standard_bounds (filter is_top_level rows)) ≡ None)
-      × (map view values.items ≡ map (json_of_item (properties_in rows) base 40) (filter is_top_level rows))
+      × (map view values.items ≡ tops_data)
   TopsGive (Err why) = HasFault 0 (visits_by (properties_in rows) standard_bounds (filter is_top_level rows)) why
+
+-- a top-level item is visited, and its JSON stands behind that of those before
+abbrev pub AddsTop : Trail → List Value → Trail → List Value → Result (Unit {0}) Stop → List Placed → Chars → Placed → Type 0
+AddsTop old had new has result rows base e =
+    Finds old.visits (top_visits rows base e) new.visits (λ done. map view has ≡ map view had ++ top_data rows base e) result

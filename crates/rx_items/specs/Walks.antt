@@ -1,14 +1,19 @@
 -- What a walk for a page's items stands for, and what its calls answer of a page's bytes.
-use Rattle.std.specs.Prelude.{◌≡◌, ℕ, List, length, Result, Ok, Err}
+use Rattle.std.specs.Prelude.{◌≡◌, ℕ, true, false, List, length, Result, Ok, Err, IfOk}
+use Rattle.rx_terms.specs.declared.texts.NoMemory.{NoMemory}
 use Rattle.rx_grammar.specs.declared.faults.Kind.TheVariants.{Unended}
 use Rattle.rx_grammar.specs.Pages.{Page}
 use Rattle.rx_grammar.specs.PageFaults.{FaultAt}
 use Rattle.rx_grammar.specs.Trees.{Tree}
 use Rattle.rx_grammar.specs.declared.stops.Stop.{Stop}
 use Rattle.rx_grammar.specs.declared.stops.Stop.TheVariants as stop
+use Rattle.rx_scan.specs.Entries.{IsNoMemory}
+use Rattle.rx_scan.specs.Steps.{is_quiet}
+use Rattle.rx_nest.specs.Nests.{IsBetween}
 use Rattle.rx_reading.specs.Readings as readings
-use Rattle.rx_reading.specs.Readings.{Read}
+use Rattle.rx_reading.specs.Readings.{Read, Whole}
 use Rattle.rx_microdata.specs.Base.{base_in}
+use Rattle.rx_item_table.specs.Growing.{IsIdle}
 use Rattle.rx_item_table.specs.Rows.{rows_of}
 use Rattle.rx_item_properties.specs.Held.{HoldsRows}
 use Rattle.rx_items.specs.Collecting.{Setting, way_of, Collects}
@@ -25,6 +30,18 @@ ItemWalkStands setting walk bytes = readings.ReadingStands (way_of setting) (Col
 
 abbrev pub FeedGives : Setting → List ℕ → List ℕ → Result (Unit {0}) Stop → Walked → Type 0
 FeedGives setting bytes piece result new = readings.FeedGives (way_of setting) (Collects setting) bytes piece result new
+
+-- A piece that begins nothing wants no memory between tokens, where no value gathers its text.
+abbrev pub FeedsQuietly : Walked → List ℕ → Result (Unit {0}) Stop → Type 0
+FeedsQuietly old piece result =
+    (setting : Setting) (bytes : List ℕ) → ItemWalkStands setting old bytes → IsBetween setting.syntax setting.limits bytes
+    → is_quiet piece ≡ true → IsIdle old.listener.table → IsNoMemory result ≡ false
+
+-- Where a collector was told a whole page, its items are kept, with the base of the page at its address.
+abbrev pub GivesItems : Collector → Result Kept NoMemory → Type 0
+GivesItems collector result =
+    (setting : Setting) (bytes : List ℕ) (whole : Whole (way_of setting) (Collects setting) bytes collector)
+    → IfOk result (λ items. HoldsRows items (rows_of whole.tree) (base_in setting.address whole.tree))
 
 -- The bytes are a page, and its items are kept, with the base of the page at its address.
 pub record Ended (setting : Setting) (bytes : List ℕ) (kept : Kept) : Type 0 where

@@ -1,16 +1,15 @@
 //! What is kept of a page while its elements are told.
-ghost use Rattle.std.specs.Prelude.{◌≡◌, ◌∷◌, ◌++◌, [], List, map, IfOk, IsOk, OnOk};
+ghost use Rattle.std.specs.Prelude.{◌≡◌, ◌∷◌, [], map, IfOk, IsOk, OnOk};
 ghost use Rattle.std.proofs.Common.{refl};
 ghost use Rattle.std.specs.Str.{chars};
 ghost use Rattle.rx_rdfa.specs.Base.{base_by};
 ghost use Rattle.rx_terms.specs.Text.{seen_slice};
 ghost use Rattle.rx_nest.specs.Nests.{tag_shown};
-ghost use Rattle.rx_nest.specs.Signs.{Sign, begun, said, finished};
-ghost use Rattle.rx_reading.specs.Listening.{Hears};
+ghost use Rattle.rx_nest.specs.Signs.{begun, said, finished};
 ghost use Rattle.rx_reading.specs.Ways.{none_refuses};
 ghost use Rattle.rx_base.specs.Seekings.{known, seek_begun, seek_finished};
 ghost use Rattle.rx_base.specs.Tags.{tag_of};
-ghost use Rattle.rx_items.specs.Collecting.{Setting, way_of, Collects, BaseIs, BaseMoves};
+ghost use Rattle.rx_items.specs.Collecting.{BaseIs, BaseMoves, Collects, CollectsMore, Setting, way_of};
 ghost use Rattle.rx_item_table.specs.Growing.{IsIdle};
 
 use rx_base::{Clue, Sought, base};
@@ -50,8 +49,7 @@ impl Collector {
     }
 
     fn begin(&mut self, tag: &Tag<'_>) -> Result<(), Stop>
-        ensures { (setting : Setting) (signs : List Sign) → Collects setting self.old signs
-            → Hears (way_of setting).refused (Collects setting) signs (begun (tag_shown tag.now) ∷ []) result self.new }
+        ensures { CollectsMore self.old (begun (tag_shown tag.now) ∷ []) result self.new }
     {
         begin_base(
             self.alloc,
@@ -65,8 +63,7 @@ impl Collector {
     }
 
     fn text(&mut self, text: &str) -> Result<(), Stop>
-        ensures hears { (setting : Setting) (signs : List Sign) → Collects setting self.old signs
-            → Hears (way_of setting).refused (Collects setting) signs (map said (chars text.now)) result self.new }
+        ensures hears { CollectsMore self.old (map said (chars text.now)) result self.new }
         ensures quiet { IsIdle self.old.table → IsOk result × IsIdle self.new.table }
     {
         self.table.text(text)?;
@@ -74,8 +71,7 @@ impl Collector {
     }
 
     fn finish(&mut self) -> Result<(), Stop>
-        ensures { (setting : Setting) (signs : List Sign) → Collects setting self.old signs
-            → Hears (way_of setting).refused (Collects setting) signs (finished ∷ []) result self.new }
+        ensures { CollectsMore self.old (finished ∷ []) result self.new }
     {
         end_base(
             self.alloc,

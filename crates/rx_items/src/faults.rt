@@ -1,12 +1,9 @@
 //! The first faulty visit of a page's items. No JSON is made.
-ghost use Rattle.std.specs.Prelude.{◌≡◌, ⊤, suc, [], ℕ, List, Some, true, slice_get, OnOk};
-ghost use Rattle.rx_terms.specs.Text.{Chars};
-ghost use Rattle.rx_microdata.specs.Elements.{Placed, is_item};
-ghost use Rattle.rx_microdata.specs.Visits.{Visit, visits_from};
-ghost use Rattle.rx_item_table.specs.Rows.{properties_in};
-ghost use Rattle.rx_item_properties.specs.Held.{AllStand, HoldsRows, IsElement, places};
-ghost use Rattle.rx_items.specs.Expanding.{At, Finds, again, count_of, steps_in, steps_of, visits_in};
-ghost use Rattle.rx_items.specs.Pages.{VisitsGive, top_visits};
+ghost use Rattle.std.specs.Prelude.{◌≡◌, ⊤, OnOk};
+ghost use Rattle.rx_item_properties.specs.Held.{OfRows};
+ghost use Rattle.rx_items.specs.Expanding.{Finds, count_of};
+ghost use Rattle.rx_items.specs.Pages.{AtTop, VisitsGive, top_visits};
+ghost use Rattle.rx_items.specs.Visiting.{AtItem, AtRow, AtRows, Passes, visits_again, visits_among, visits_below, visits_by_name, visits_to};
 
 use crate::visits::{Trail, enter, leave};
 use rx_item_properties::{
@@ -17,7 +14,7 @@ use std::alloc::Global;
 
 /// Visits the items of a page in order of expansion until a visit is faulty.
 pub(crate) fn visit_all(alloc: Global, kept: &Kept) -> Result<(), Stop>
-    ensures { (rows : List Placed) (base : Chars) → HoldsRows kept.now rows base → VisitsGive rows result }
+    ensures { OfRows kept.now (λ rows base. VisitsGive rows result) }
 {
     let mut trail = Trail {
         path: Vec::new(alloc),
@@ -32,8 +29,7 @@ pub(crate) fn visit_all(alloc: Global, kept: &Kept) -> Result<(), Stop>
 /// Visits an element where it is a top-level item.
 fn pass_top(alloc: Global, kept: &Kept, trail: &mut Trail, place: usize) -> Result<(), Stop>
     ensures path { OnOk result (trail.new.path.items ≡ trail.old.path.items) }
-    ensures finds { (rows : List Placed) (base : Chars) (e : Placed) → HoldsRows kept.now rows base → trail.old.path.items ≡ [] → slice_get rows place ≡ Some e
-        → Finds trail.old.visits (top_visits rows base e) trail.new.visits (λ done. ⊤) result }
+    ensures finds { AtTop kept.now trail.old place (λ rows base e. Finds trail.old.visits (top_visits rows base e) trail.new.visits (λ done. ⊤) result) }
 {
     if !is_top_at(kept, place) {
         return Ok(());
@@ -54,9 +50,7 @@ fn pass(
     place: usize,
 ) -> Result<(), Stop>
     ensures path { OnOk result (trail.new.path.items ≡ trail.old.path.items) }
-    ensures finds { (rows : List Placed) (base : Chars) (above : Visit) (left : ℕ) (root : Placed) → At kept.now rows base trail.old.path.items above left
-        → slice_get rows place ≡ Some root → IsElement kept.now rows place element.now root → is_item root ≡ true
-        → Finds trail.old.visits (visits_from (properties_in rows) (suc left) above root) trail.new.visits (λ done. ⊤) result }
+    ensures finds { AtItem kept.now trail.old place element.now (Passes trail.old visits_to trail.new result) }
 {
     enter(trail, element, place)?;
     pass_item(alloc, kept, trail, element, place)?;
@@ -74,9 +68,7 @@ fn pass_item(
     place: usize,
 ) -> Result<(), Stop>
     ensures path { OnOk result (trail.new.path.items ≡ trail.old.path.items) }
-    ensures finds { (rows : List Placed) (base : Chars) (above : Visit) (left : ℕ) (root : Placed) → At kept.now rows base trail.old.path.items above left
-        → slice_get rows place ≡ Some root → IsElement kept.now rows place element.now root → is_item root ≡ true
-        → Finds trail.old.visits (visits_in rows base above left (steps_in (properties_in rows root))) trail.new.visits (λ done. ⊤) result }
+    ensures finds { AtItem kept.now trail.old place element.now (Passes trail.old visits_below trail.new result) }
 {
     match listed(kept.members.as_slice(), element.own, element.others, place) {
         Some(list) => pass_each(alloc, kept, trail, list),
@@ -94,9 +86,7 @@ fn pass_sorted(
     place: usize,
 ) -> Result<(), Stop>
     ensures path { OnOk result (trail.new.path.items ≡ trail.old.path.items) }
-    ensures finds { (rows : List Placed) (base : Chars) (above : Visit) (left : ℕ) (root : Placed) → At kept.now rows base trail.old.path.items above left
-        → slice_get rows place ≡ Some root → IsElement kept.now rows place element.now root → is_item root ≡ true
-        → Finds trail.old.visits (visits_in rows base above left (steps_in (properties_in rows root))) trail.new.visits (λ done. ⊤) result }
+    ensures finds { AtItem kept.now trail.old place element.now (Passes trail.old visits_below trail.new result) }
 {
     let list = properties(
         alloc,
@@ -112,8 +102,7 @@ fn pass_sorted(
 #[cycle(pass)]
 fn pass_each(alloc: Global, kept: &Kept, trail: &mut Trail, list: &[usize]) -> Result<(), Stop>
     ensures path { OnOk result (trail.new.path.items ≡ trail.old.path.items) }
-    ensures finds { (rows : List Placed) (base : Chars) (above : Visit) (left : ℕ) (es : List Placed) → At kept.now rows base trail.old.path.items above left
-        → list.now ≡ places es → AllStand rows es → Finds trail.old.visits (visits_in rows base above left (steps_in es)) trail.new.visits (λ done. ⊤) result }
+    ensures finds { AtRows kept.now trail.old list.now (Passes trail.old visits_among trail.new result) }
 {
     for place in list {
         pass_property(alloc, kept, trail, *place)?;
@@ -125,8 +114,7 @@ fn pass_each(alloc: Global, kept: &Kept, trail: &mut Trail, list: &[usize]) -> R
 #[cycle(pass)]
 fn pass_property(alloc: Global, kept: &Kept, trail: &mut Trail, place: usize) -> Result<(), Stop>
     ensures path { OnOk result (trail.new.path.items ≡ trail.old.path.items) }
-    ensures finds { (rows : List Placed) (base : Chars) (above : Visit) (left : ℕ) (e : Placed) → At kept.now rows base trail.old.path.items above left
-        → slice_get rows place ≡ Some e → Finds trail.old.visits (visits_in rows base above left (steps_of e)) trail.new.visits (λ done. ⊤) result }
+    ensures finds { AtRow kept.now trail.old place (Passes trail.old visits_by_name trail.new result) }
 {
     if !is_item_at(kept, place) {
         return Ok(());
@@ -148,9 +136,7 @@ fn pass_times(
     times: usize,
 ) -> Result<(), Stop>
     ensures path { OnOk result (trail.new.path.items ≡ trail.old.path.items) }
-    ensures finds { (rows : List Placed) (base : Chars) (above : Visit) (left : ℕ) (root : Placed) → At kept.now rows base trail.old.path.items above left
-        → slice_get rows place ≡ Some root → IsElement kept.now rows place element.now root → is_item root ≡ true
-        → Finds trail.old.visits (again times (visits_from (properties_in rows) (suc left) above root)) trail.new.visits (λ done. ⊤) result }
+    ensures finds { AtItem kept.now trail.old place element.now (Passes trail.old (visits_again times) trail.new result) }
 {
     for _ in 0..times {
         pass(alloc, kept, trail, element, place)?;

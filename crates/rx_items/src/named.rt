@@ -1,11 +1,9 @@
 //! The properties of an item under each of their names, by name.
-ghost use Rattle.std.specs.Prelude.{◌≡◌, ◌∷◌, ◌++◌, [], List, Some, true, map, flat_map, slice_get, IfOk, OnOk};
+ghost use Rattle.std.specs.Prelude.{◌≡◌, ◌∷◌, ◌++◌, [], map, flat_map, IfOk, OnOk};
 ghost use Rattle.std.specs.List.Sorted.{IsSortedBy, IsStableBy};
-ghost use Rattle.rx_terms.specs.Text.{Chars};
-ghost use Rattle.rx_microdata.specs.Elements.{Placed, is_item};
 ghost use Rattle.rx_item_table.specs.Rows.{properties_in};
-ghost use Rattle.rx_item_properties.specs.Held.{HoldsRows, IsElement};
-ghost use Rattle.rx_items.specs.Named.{ByName, is_before, key_at, keyed, keys_at, keys_in, keys_seen};
+ghost use Rattle.rx_item_properties.specs.Held.{OfRows};
+ghost use Rattle.rx_items.specs.Named.{ByName, OfItem, is_before, key_at, keyed, keys_at, keys_in, keys_seen};
 
 use crate::readings::token_at;
 use rx_item_properties::{Element, Kept, Tokens, element_at, listed, properties};
@@ -26,8 +24,7 @@ pub(crate) fn by_name<'a>(
     element: &Element<'_>,
     place: usize,
 ) -> Result<Vec<Named<'a>>, NoMemory>
-    ensures { (rows : List Placed) (base : Chars) (root : Placed) → HoldsRows kept.now rows base → slice_get rows place ≡ Some root
-        → IsElement kept.now rows place element.now root → is_item root ≡ true → IfOk result (λ list. ByName (keys_in (properties_in rows root)) list.items) }
+    ensures { OfItem kept.now place element.now (λ rows base root. IfOk result (λ list. ByName (keys_in (properties_in rows root)) list.items)) }
 {
     let mut list = in_tree_order(alloc, kept, element, place)?;
     sort(&mut list)?;
@@ -49,9 +46,7 @@ fn in_tree_order<'a>(
     element: &Element<'_>,
     place: usize,
 ) -> Result<Vec<Named<'a>>, NoMemory>
-    ensures { (rows : List Placed) (base : Chars) (root : Placed) → HoldsRows kept.now rows base → slice_get rows place ≡ Some root
-        → IsElement kept.now rows place element.now root → is_item root ≡ true
-        → IfOk result (λ list. keys_seen list.items ≡ keys_in (properties_in rows root)) }
+    ensures { OfItem kept.now place element.now (λ rows base root. IfOk result (λ list. keys_seen list.items ≡ keys_in (properties_in rows root))) }
 {
     // most items refer to no element, and then the places stand in a row already
     match listed(kept.members.as_slice(), element.own, element.others, place) {
@@ -67,9 +62,7 @@ fn named_sorted<'a>(
     element: &Element<'_>,
     place: usize,
 ) -> Result<Vec<Named<'a>>, NoMemory>
-    ensures { (rows : List Placed) (base : Chars) (root : Placed) → HoldsRows kept.now rows base → slice_get rows place ≡ Some root
-        → IsElement kept.now rows place element.now root → is_item root ≡ true
-        → IfOk result (λ list. keys_seen list.items ≡ keys_in (properties_in rows root)) }
+    ensures { OfItem kept.now place element.now (λ rows base root. IfOk result (λ list. keys_seen list.items ≡ keys_in (properties_in rows root))) }
 {
     let list = properties(
         alloc,
@@ -83,8 +76,7 @@ fn named_sorted<'a>(
 
 /// The elements at these places under each of their names.
 fn named_at<'a>(alloc: Global, kept: &'a Kept, places: &[usize]) -> Result<Vec<Named<'a>>, NoMemory>
-    ensures { (rows : List Placed) (base : Chars) → HoldsRows kept.now rows base
-        → IfOk result (λ list. keys_seen list.items ≡ flat_map (keys_at rows) places.now) }
+    ensures { OfRows kept.now (λ rows base. IfOk result (λ list. keys_seen list.items ≡ flat_map (keys_at rows) places.now)) }
 {
     let mut list = Vec::with_capacity(alloc, places.len())?;
     for place in places {
@@ -95,8 +87,7 @@ fn named_at<'a>(alloc: Global, kept: &'a Kept, places: &[usize]) -> Result<Vec<N
 
 /// Adds the element at a place under each of its names.
 fn add_names<'a>(list: &mut Vec<Named<'a>>, kept: &'a Kept, place: usize) -> Result<(), NoMemory>
-    ensures { (rows : List Placed) (base : Chars) → HoldsRows kept.now rows base
-        → OnOk result (keys_seen list.new.items ≡ keys_seen list.old.items ++ keys_at rows place) }
+    ensures { OfRows kept.now (λ rows base. OnOk result (keys_seen list.new.items ≡ keys_seen list.old.items ++ keys_at rows place)) }
 {
     let Some(element) = element_at(kept, place) else {
         return Ok(());

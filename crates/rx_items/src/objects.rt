@@ -1,12 +1,10 @@
 //! The JSON of an item, of its parts.
-ghost use Rattle.std.specs.Prelude.{◌≡◌, List, map, option_map, codes, IfOk, OnOk};
+ghost use Rattle.std.specs.Prelude.{◌≡◌, map, option_map, codes, IfOk};
 ghost use Rattle.std.specs.Str.{chars};
-ghost use Rattle.serde_json.specs.Data.{Data, Members, array, item, member, no_items, no_members, object, string};
+ghost use Rattle.serde_json.specs.Data.{array, item, member, no_items, no_members, object, string};
 ghost use Rattle.serde_json.specs.View.{items_view, members_view, view};
-ghost use Rattle.rx_microdata.specs.Json.{list_of, string_of, with_types};
-ghost use Rattle.rx_terms.specs.Text.{Chars};
-ghost use Rattle.rx_item_properties.specs.Held.{ShowsTokens};
-ghost use Rattle.rx_items.specs.Objects.{object_of, types_data, with_id_value};
+ghost use Rattle.rx_microdata.specs.Json.{list_of, string_of};
+ghost use Rattle.rx_items.specs.Objects.{AddsId, AddsTypes, OfTokens, object_of, types_data};
 
 use crate::readings::text_value;
 use rx_item_properties::Tokens;
@@ -24,8 +22,7 @@ pub(crate) fn item_object(
     types: &Tokens<'_>,
     properties: Map<String, Value>,
 ) -> Result<Value, NoMemory>
-    ensures { (texts : List Chars) → ShowsTokens words.now types.now texts
-        → IfOk result (λ value. view value ≡ object_of (option_map view id) texts (members_view properties.entries)) }
+    ensures { OfTokens words.now types.now (λ texts. IfOk result (λ value. view value ≡ object_of (option_map view id) texts (members_view properties.entries))) }
 {
     let members = with_properties(alloc, properties)?;
     let members = with_types(alloc, members, words, types)?;
@@ -60,9 +57,7 @@ fn with_types(
     words: &TextStore,
     types: &Tokens<'_>,
 ) -> Result<Map<String, Value>, NoMemory>
-    ensures { (texts : List Chars) → ShowsTokens words.now types.now texts
-        → IfOk result (λ new. (properties : Data) → members_view members.entries ≡ member (codes "properties") properties no_members
-        → members_view new.entries ≡ member (codes "properties") properties (with_types texts no_members)) }
+    ensures { OfTokens words.now types.now (λ texts. IfOk result (λ new. AddsTypes (members_view members.entries) texts (members_view new.entries))) }
 {
     let Ok(value) = types_value(alloc, words, types) else {
         drop(members);
@@ -82,7 +77,7 @@ fn types_value(
     words: &TextStore,
     types: &Tokens<'_>,
 ) -> Result<Option<Value>, NoMemory>
-    ensures { (texts : List Chars) → ShowsTokens words.now types.now texts → IfOk result (λ value. option_map view value ≡ types_data texts) }
+    ensures { OfTokens words.now types.now (λ texts. IfOk result (λ value. option_map view value ≡ types_data texts)) }
 {
     match types {
         Tokens::One(span) => {
@@ -116,8 +111,7 @@ fn with_id(
     members: Map<String, Value>,
     id: Option<Value>,
 ) -> Result<Map<String, Value>, NoMemory>
-    ensures { IfOk result (λ new. (properties : Data) (more : Members) → members_view members.entries ≡ member (codes "properties") properties more
-        → members_view new.entries ≡ with_id_value (option_map view id) (members_view members.entries)) }
+    ensures { IfOk result (λ new. AddsId (members_view members.entries) (option_map view id) (members_view new.entries)) }
 {
     let Some(id) = id else {
         return Ok(members);

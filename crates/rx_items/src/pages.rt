@@ -1,13 +1,9 @@
 //! The JSON of a page's top-level items.
-ghost use Rattle.std.specs.Prelude.{◌≡◌, ◌++◌, [], ℕ, List, Some, map, slice_get, OnOk};
-ghost use Rattle.serde_json.specs.View.{view};
-ghost use Rattle.rx_terms.specs.Text.{Chars};
-ghost use Rattle.rx_microdata.specs.Elements.{Placed};
+ghost use Rattle.std.specs.Prelude.{◌≡◌, OnOk};
 ghost use Rattle.rx_microdata.specs.Visits.{standard_bounds};
 ghost use Rattle.rx_item_table.specs.Rows.{outcome_in};
-ghost use Rattle.rx_item_properties.specs.Held.{HoldsRows};
-ghost use Rattle.rx_items.specs.Expanding.{Finds};
-ghost use Rattle.rx_items.specs.Pages.{JsonGives, TextGives, TopsGive, top_data, top_visits};
+ghost use Rattle.rx_item_properties.specs.Held.{OfRows};
+ghost use Rattle.rx_items.specs.Pages.{AddsTop, AtTop, JsonGives, TextGives, TopsGive};
 
 use crate::faults::visit_all;
 use crate::objects::page_object;
@@ -22,7 +18,7 @@ use std::alloc::Global;
 
 /// The JSON of a page, or the fault of the first faulty visit.
 pub(crate) fn page_of(alloc: Global, kept: &Kept) -> Result<Value, Stop>
-    ensures { (rows : List Placed) (base : Chars) → HoldsRows kept.now rows base → JsonGives (outcome_in standard_bounds base rows) result }
+    ensures { OfRows kept.now (λ rows base. JsonGives (outcome_in standard_bounds base rows) result) }
 {
     let items = top_items(alloc, kept)?;
     Ok(page_object(alloc, items)?)
@@ -30,7 +26,7 @@ pub(crate) fn page_of(alloc: Global, kept: &Kept) -> Result<Value, Stop>
 
 /// The JSON of each top-level item.
 fn top_items(alloc: Global, kept: &Kept) -> Result<Vec<Value>, Stop>
-    ensures { (rows : List Placed) (base : Chars) → HoldsRows kept.now rows base → TopsGive rows base result }
+    ensures { OfRows kept.now (λ rows base. TopsGive rows base result) }
 {
     let mut trail = Trail {
         path: Vec::new(alloc),
@@ -52,9 +48,7 @@ fn add_top(
     place: usize,
 ) -> Result<(), Stop>
     ensures path { OnOk result (trail.new.path.items ≡ trail.old.path.items) }
-    ensures finds { (rows : List Placed) (base : Chars) (e : Placed) → HoldsRows kept.now rows base → trail.old.path.items ≡ [] → slice_get rows place ≡ Some e
-        → Finds trail.old.visits (top_visits rows base e) trail.new.visits
-        (λ done. map view items.new.items ≡ map view items.old.items ++ top_data rows base e) result }
+    ensures finds { AtTop kept.now trail.old place (AddsTop trail.old items.old.items trail.new items.new.items result) }
 {
     if !is_top_at(kept, place) {
         return Ok(());
@@ -70,7 +64,7 @@ fn add_top(
 /// The compact text of a page's JSON, or the fault of the first faulty visit. Faults are found before anything is written,
 /// since they come in tree order, and the text goes by names.
 pub(crate) fn text_of(alloc: Global, kept: &Kept) -> Result<Vec<u8>, Stop>
-    ensures { (rows : List Placed) (base : Chars) → HoldsRows kept.now rows base → TextGives (outcome_in standard_bounds base rows) result }
+    ensures { OfRows kept.now (λ rows base. TextGives (outcome_in standard_bounds base rows) result) }
 {
     visit_all(alloc, kept)?;
     Ok(written(alloc, kept)?)

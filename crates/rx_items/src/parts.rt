@@ -1,15 +1,13 @@
 //! What stands beside an item's properties, and values that are no items, as tokens.
-ghost use Rattle.std.specs.Prelude.{◌≡◌, ◌∷◌, ◌++◌, [], List, Option, slice_get, unwrap_or, map, OnOk};
+ghost use Rattle.std.specs.Prelude.{◌≡◌, ◌∷◌, ◌++◌, [], slice_get, unwrap_or, map, OnOk};
 ghost use Rattle.std.specs.Str.{chars};
 ghost use Rattle.serde_json.specs.Data.{no_members};
 ghost use Rattle.rx_json_text.specs.Tokens.{data_tokens, each_tokens, members_tokens};
-ghost use Rattle.rx_terms.specs.Text.{Chars};
 ghost use Rattle.rx_refs.specs.Resolve.{resolved};
 ghost use Rattle.rx_microdata.specs.Facts.{said};
-ghost use Rattle.rx_microdata.specs.Facts as facts;
 ghost use Rattle.rx_microdata.specs.Json.{string_of, with_id, with_types};
-ghost use Rattle.rx_item_table.specs.Showing.{ShowsValue, ShowsWord};
-ghost use Rattle.rx_item_properties.specs.Held.{ShowsTokens};
+ghost use Rattle.rx_item_properties.specs.Held.{OfWord};
+ghost use Rattle.rx_items.specs.Objects.{OfTokens, OfValue};
 
 use rx_item_properties::{Kept, Tokens};
 use rx_item_table::{RowValue, Span, text_of};
@@ -26,8 +24,7 @@ pub(crate) fn write_id(
     item_id: Option<Span>,
     out: &mut JsonText,
 ) -> Result<(), NoMemory>
-    ensures { (id : Option Chars) → ShowsWord kept.now.words item_id id
-        → OnOk result (out.new ≡ out.old ++ members_tokens (with_id kept.now.base id no_members)) }
+    ensures { OfWord kept.now.words item_id (λ id. OnOk result (out.new ≡ out.old ++ members_tokens (with_id kept.now.base id no_members))) }
 {
     let Some(span) = item_id else {
         return Ok(());
@@ -42,7 +39,7 @@ pub(crate) fn write_types(
     types: &Tokens<'_>,
     out: &mut JsonText,
 ) -> Result<(), NoMemory>
-    ensures { (texts : List Chars) → ShowsTokens words.now types.now texts → OnOk result (out.new ≡ out.old ++ members_tokens (with_types texts no_members)) }
+    ensures { OfTokens words.now types.now (λ texts. OnOk result (out.new ≡ out.old ++ members_tokens (with_types texts no_members))) }
 {
     match types {
         Tokens::One(span) => write_type(text_of(words, *span), out),
@@ -88,8 +85,7 @@ pub(crate) fn write_plain(
     value: RowValue,
     out: &mut JsonText,
 ) -> Result<(), NoMemory>
-    ensures { (v : facts.Value) → ShowsValue kept.now.words kept.now.text kept.now.times.items value v
-        → OnOk result (out.new ≡ out.old ++ data_tokens (string_of (said kept.now.base v))) }
+    ensures { OfValue kept.now value (λ v. OnOk result (out.new ≡ out.old ++ data_tokens (string_of (said kept.now.base v)))) }
 {
     match value {
         RowValue::Empty => write_text("", out),
@@ -99,11 +95,11 @@ pub(crate) fn write_plain(
         }
         RowValue::Running(_from) => write_text("", out),
         RowValue::Run(span) => write_text(text_of(&kept.text, span), out),
-        RowValue::Own(number) => write_own(kept.times.as_slice(), number, out),
+        RowValue::ChildText(number) => write_own(kept.times.as_slice(), number, out),
     }
 }
 
-/// Writes the own text of a `time`, by its number.
+/// Writes the child text content of a `time`, by its number.
 fn write_own(times: &[TextStore], number: usize, out: &mut JsonText) -> Result<(), NoMemory>
     ensures { OnOk result (out.new ≡ out.old ++ data_tokens (string_of (unwrap_or (slice_get times.now number) []))) }
 {

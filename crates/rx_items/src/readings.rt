@@ -1,13 +1,14 @@
 //! The value of a property that is no item, and the id of an item, as JSON.
-ghost use Rattle.std.specs.Prelude.{◌≡◌, [], IfOk, Option, option_map, slice_get, unwrap_or};
+ghost use Rattle.std.specs.Prelude.{◌≡◌, [], IfOk, option_map, slice_get, unwrap_or};
 ghost use Rattle.std.specs.Str.{chars, encode_utf8_all};
 ghost use Rattle.serde_json.specs.View.{view};
 ghost use Rattle.rx_terms.specs.Text.{Chars};
 ghost use Rattle.rx_refs.specs.Resolve.{resolved};
 ghost use Rattle.rx_microdata.specs.Facts.{said};
-ghost use Rattle.rx_microdata.specs.Facts as facts;
 ghost use Rattle.rx_microdata.specs.Json.{string_of};
-ghost use Rattle.rx_item_table.specs.Showing.{ShowsValue, ShowsWord, ShowsPart};
+ghost use Rattle.rx_item_table.specs.Showing.{ShowsPart};
+ghost use Rattle.rx_item_properties.specs.Held.{OfWord};
+ghost use Rattle.rx_items.specs.Objects.{OfValue, id_data};
 
 use crate::objects::string_value;
 use rx_item_properties::Kept;
@@ -20,8 +21,7 @@ use std::alloc::Global;
 
 /// The value of an element that is no item.
 pub(crate) fn plain_value(alloc: Global, kept: &Kept, value: RowValue) -> Result<Value, NoMemory>
-    ensures { (v : facts.Value) → ShowsValue kept.now.words kept.now.text kept.now.times.items value v
-        → IfOk result (λ json. view json ≡ string_of (said kept.now.base v)) }
+    ensures { OfValue kept.now value (λ v. IfOk result (λ json. view json ≡ string_of (said kept.now.base v))) }
 {
     match value {
         RowValue::Empty => text_value(alloc, ""),
@@ -31,7 +31,7 @@ pub(crate) fn plain_value(alloc: Global, kept: &Kept, value: RowValue) -> Result
         }
         RowValue::Running(_from) => text_value(alloc, ""),
         RowValue::Run(span) => text_value(alloc, text_of(&kept.text, span)),
-        RowValue::Own(number) => own_value(alloc, kept.times.as_slice(), number),
+        RowValue::ChildText(number) => own_value(alloc, kept.times.as_slice(), number),
     }
 }
 
@@ -41,8 +41,7 @@ pub(crate) fn id_value(
     kept: &Kept,
     item_id: Option<Span>,
 ) -> Result<Option<Value>, NoMemory>
-    ensures { (id : Option Chars) → ShowsWord kept.now.words item_id id
-        → IfOk result (λ json. option_map view json ≡ option_map (λ reference. string_of (resolved kept.now.base reference)) id) }
+    ensures { OfWord kept.now.words item_id (λ id. IfOk result (λ json. option_map view json ≡ id_data kept.now.base id)) }
 {
     let Some(span) = item_id else {
         return Ok(None);
@@ -58,7 +57,7 @@ pub(crate) fn token_at(words: &TextStore, span: Span) -> &str
     text_of(words, span)
 }
 
-/// The own text of a `time`, by its number.
+/// The child text content of a `time`, by its number.
 fn own_value(alloc: Global, times: &[TextStore], number: usize) -> Result<Value, NoMemory>
     ensures { IfOk result (λ json. view json ≡ string_of (unwrap_or (slice_get times.now number) [])) }
 {

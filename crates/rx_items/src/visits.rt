@@ -1,17 +1,8 @@
 //! The visits of a page's items, and the JSON that they come to.
-ghost use Rattle.std.specs.Prelude.{◌≡◌, ⊤, suc, ◌+◌, ◌++◌, ◌∷◌, [], ℕ, List, Option, Some, None, true, slice_get, length, ◌==◌, nat_le, IfOk, OnOk, MatchResult};
+ghost use Rattle.std.specs.Prelude.{◌≡◌, ◌++◌, ◌∷◌, [], ℕ, List, length, ◌==◌, nat_le, OnOk};
 ghost use Rattle.std.specs.List.{list_any};
-ghost use Rattle.std.specs.Str.{encode_utf8_all};
-ghost use Rattle.serde_json.specs.Data.{Data, Members, no_members};
-ghost use Rattle.serde_json.specs.View.{members_view, view};
-ghost use Rattle.rx_terms.specs.Text.{Chars};
-ghost use Rattle.rx_grammar.specs.declared.faults.Kind.{Kind};
-ghost use Rattle.rx_microdata.specs.Elements.{Placed, is_item, names_of};
-ghost use Rattle.rx_microdata.specs.Visits.{Visit, visits_from};
-ghost use Rattle.rx_microdata.specs.Json.{grouped, item_of, json_of_item};
-ghost use Rattle.rx_item_table.specs.Rows.{properties_in};
-ghost use Rattle.rx_item_properties.specs.Held.{AllStand, HoldsRows, IsElement, ShowsElement, places};
-ghost use Rattle.rx_items.specs.Expanding.{At, Enters, StepsTaken, Finds, TakesSteps, Step, data_of, grouped_in, kind_of, steps_in, steps_of, visits_in, visits_of, with_name};
+ghost use Rattle.rx_items.specs.Expanding.{Enters, kind_of};
+ghost use Rattle.rx_items.specs.Visiting.{AddsNamed, AddsNames, AddsProperty, AtElement, AtItem, AtRow, AtRows, FillsAll, FillsItem, GivesGroup, GivesItem, GivesValue, MakesItem};
 
 use crate::objects::item_object;
 use crate::readings::{id_value, plain_value, token_at};
@@ -81,7 +72,9 @@ pub(crate) fn enter(trail: &mut Trail, element: &Element<'_>, place: usize) -> R
             at: element.at,
         }));
     }
-    trail.path.push(place)?;
+    let Ok(()) = trail.path.push(place) else {
+        return Err(Stop::NoMemory);
+    };
     trail.visits += 1;
     Ok(())
 }
@@ -104,10 +97,7 @@ pub(crate) fn visit(
     place: usize,
 ) -> Result<Value, Stop>
     ensures path { OnOk result (trail.new.path.items ≡ trail.old.path.items) }
-    ensures finds { (rows : List Placed) (base : Chars) (above : Visit) (left : ℕ) (root : Placed) → At kept.now rows base trail.old.path.items above left
-        → slice_get rows place ≡ Some root → IsElement kept.now rows place element.now root → is_item root ≡ true
-        → Finds trail.old.visits (visits_from (properties_in rows) (suc left) above root) trail.new.visits
-        (λ value. view value ≡ json_of_item (properties_in rows) base left root) result }
+    ensures finds { AtItem kept.now trail.old place element.now (GivesItem trail.old trail.new result) }
 {
     enter(trail, element, place)?;
     let group = group_of(alloc, kept, trail, element, place)?;
@@ -125,10 +115,7 @@ fn group_of(
     place: usize,
 ) -> Result<Map<String, Value>, Stop>
     ensures path { OnOk result (trail.new.path.items ≡ trail.old.path.items) }
-    ensures finds { (rows : List Placed) (base : Chars) (above : Visit) (left : ℕ) (root : Placed) → At kept.now rows base trail.old.path.items above left
-        → slice_get rows place ≡ Some root → IsElement kept.now rows place element.now root → is_item root ≡ true
-        → Finds trail.old.visits (visits_in rows base above left (steps_in (properties_in rows root))) trail.new.visits
-        (λ group. members_view group.entries ≡ grouped_in rows base above left (steps_in (properties_in rows root))) result }
+    ensures finds { AtItem kept.now trail.old place element.now (GivesGroup trail.old trail.new result) }
 {
     let mut group = Map::new(alloc);
     fill_item(alloc, kept, trail, &mut group, element, place)?;
@@ -147,10 +134,7 @@ fn fill_item(
     place: usize,
 ) -> Result<(), Stop>
     ensures path { OnOk result (trail.new.path.items ≡ trail.old.path.items) }
-    ensures finds { (rows : List Placed) (base : Chars) (above : Visit) (left : ℕ) (root : Placed) → At kept.now rows base trail.old.path.items above left
-        → slice_get rows place ≡ Some root → IsElement kept.now rows place element.now root → is_item root ≡ true → members_view group.old.entries ≡ no_members
-        → Finds trail.old.visits (visits_in rows base above left (steps_in (properties_in rows root))) trail.new.visits
-        (λ done. members_view group.new.entries ≡ grouped_in rows base above left (steps_in (properties_in rows root))) result }
+    ensures finds { AtItem kept.now trail.old place element.now (FillsItem trail.old group.old trail.new group.new result) }
 {
     // most items refer to no element, and then the places stand in a row already
     match listed(kept.members.as_slice(), element.own, element.others, place) {
@@ -170,10 +154,7 @@ fn fill_sorted(
     place: usize,
 ) -> Result<(), Stop>
     ensures path { OnOk result (trail.new.path.items ≡ trail.old.path.items) }
-    ensures finds { (rows : List Placed) (base : Chars) (above : Visit) (left : ℕ) (root : Placed) → At kept.now rows base trail.old.path.items above left
-        → slice_get rows place ≡ Some root → IsElement kept.now rows place element.now root → is_item root ≡ true → members_view group.old.entries ≡ no_members
-        → Finds trail.old.visits (visits_in rows base above left (steps_in (properties_in rows root))) trail.new.visits
-        (λ done. members_view group.new.entries ≡ grouped_in rows base above left (steps_in (properties_in rows root))) result }
+    ensures finds { AtItem kept.now trail.old place element.now (FillsItem trail.old group.old trail.new group.new result) }
 {
     let list = properties(
         alloc,
@@ -195,10 +176,7 @@ fn fill(
     list: &[usize],
 ) -> Result<(), Stop>
     ensures path { OnOk result (trail.new.path.items ≡ trail.old.path.items) }
-    ensures finds { (rows : List Placed) (base : Chars) (above : Visit) (left : ℕ) (es : List Placed) → At kept.now rows base trail.old.path.items above left
-        → list.now ≡ places es → AllStand rows es → members_view group.old.entries ≡ no_members
-        → Finds trail.old.visits (visits_in rows base above left (steps_in es)) trail.new.visits
-        (λ done. members_view group.new.entries ≡ grouped_in rows base above left (steps_in es)) result }
+    ensures finds { AtRows kept.now trail.old list.now (FillsAll trail.old group.old trail.new group.new result) }
 {
     for place in list {
         add_property(alloc, kept, trail, group, *place)?;
@@ -216,10 +194,7 @@ fn add_property(
     place: usize,
 ) -> Result<(), Stop>
     ensures path { OnOk result (trail.new.path.items ≡ trail.old.path.items) }
-    ensures finds { (rows : List Placed) (base : Chars) (above : Visit) (left : ℕ) (e : Placed) (done : List Step) (start : ℕ)
-        → At kept.now rows base trail.old.path.items above left
-        → slice_get rows place ≡ Some e → StepsTaken rows base above left start done trail.old.visits (members_view group.old.entries)
-        → TakesSteps rows base above left start (done ++ steps_of e) trail.new.visits (members_view group.new.entries) result }
+    ensures finds { AtRow kept.now trail.old place (AddsProperty trail.old group.old trail.new group.new result) }
 {
     match element_at(kept, place) {
         Some(element) => add_values(alloc, kept, trail, group, &element, place),
@@ -238,11 +213,7 @@ fn add_values(
     place: usize,
 ) -> Result<(), Stop>
     ensures path { OnOk result (trail.new.path.items ≡ trail.old.path.items) }
-    ensures finds { (rows : List Placed) (base : Chars) (above : Visit) (left : ℕ) (e : Placed) (done : List Step) (start : ℕ)
-        → At kept.now rows base trail.old.path.items above left
-        → slice_get rows place ≡ Some e → IsElement kept.now rows place element.now e
-        → StepsTaken rows base above left start done trail.old.visits (members_view group.old.entries)
-        → TakesSteps rows base above left start (done ++ steps_of e) trail.new.visits (members_view group.new.entries) result }
+    ensures finds { AtElement kept.now trail.old place element.now (AddsProperty trail.old group.old trail.new group.new result) }
 {
     match element.names {
         Tokens::One(span) => {
@@ -265,11 +236,7 @@ fn add_each(
     names: &[Text],
 ) -> Result<(), Stop>
     ensures path { OnOk result (trail.new.path.items ≡ trail.old.path.items) }
-    ensures finds { (rows : List Placed) (base : Chars) (above : Visit) (left : ℕ) (e : Placed) (done : List Step) (start : ℕ)
-        → At kept.now rows base trail.old.path.items above left
-        → slice_get rows place ≡ Some e → IsElement kept.now rows place element.now e → names.now ≡ names_of e
-        → StepsTaken rows base above left start done trail.old.visits (members_view group.old.entries)
-        → TakesSteps rows base above left start (done ++ steps_of e) trail.new.visits (members_view group.new.entries) result }
+    ensures finds { AtElement kept.now trail.old place element.now (AddsNames names.now trail.old group.old trail.new group.new result) }
 {
     for name in names {
         add_named(alloc, kept, trail, group, element, place, name.as_str())?;
@@ -290,11 +257,7 @@ fn add_named(
     name: &str,
 ) -> Result<(), Stop>
     ensures path { OnOk result (trail.new.path.items ≡ trail.old.path.items) }
-    ensures finds { (rows : List Placed) (base : Chars) (above : Visit) (left : ℕ) (e : Placed) (token : Chars) (done : List Step) (start : ℕ)
-        → At kept.now rows base trail.old.path.items above left
-        → slice_get rows place ≡ Some e → IsElement kept.now rows place element.now e → name.now ≡ encode_utf8_all token
-        → StepsTaken rows base above left start done trail.old.visits (members_view group.old.entries)
-        → TakesSteps rows base above left start (done ++ with_name e token ∷ []) trail.new.visits (members_view group.new.entries) result }
+    ensures finds { AtElement kept.now trail.old place element.now (AddsNamed name.now trail.old group.old trail.new group.new result) }
 {
     let value = value_of(alloc, kept, trail, element, place)?;
     add_value(alloc, group, name, value)?;
@@ -312,9 +275,7 @@ fn value_of(
     place: usize,
 ) -> Result<Value, Stop>
     ensures path { OnOk result (trail.new.path.items ≡ trail.old.path.items) }
-    ensures finds { (rows : List Placed) (base : Chars) (above : Visit) (left : ℕ) (e : Placed) → At kept.now rows base trail.old.path.items above left
-        → slice_get rows place ≡ Some e → IsElement kept.now rows place element.now e
-        → Finds trail.old.visits (visits_of rows base above left e) trail.new.visits (λ value. view value ≡ data_of rows base above left e) result }
+    ensures finds { AtElement kept.now trail.old place element.now (GivesValue trail.old trail.new result) }
 {
     if element.is_item {
         return visit(alloc, kept, trail, element, place);
@@ -329,9 +290,7 @@ fn finish(
     element: &Element<'_>,
     group: Map<String, Value>,
 ) -> Result<Value, NoMemory>
-    ensures { (root : Placed) (pairs : List (Chars × Data)) → ShowsElement kept.now.words kept.now.text kept.now.times.items element.now root
-        → members_view group.entries ≡ grouped pairs
-        → IfOk result (λ value. view value ≡ item_of kept.now.base root.facts pairs) }
+    ensures { MakesItem kept.now element.now group result }
 {
     let Ok(id) = id_value(alloc, kept, element.item_id) else {
         drop(group);

@@ -1,18 +1,9 @@
 //! The items of a page that is read in pieces.
-ghost use Rattle.std.specs.Prelude.{◌≡◌, ℕ, List, [], true, false, IfOk};
-ghost use Rattle.rx_grammar.specs.Trees.{Tree};
-ghost use Rattle.rx_microdata.specs.Base.{base_in};
-ghost use Rattle.rx_scan.specs.Entries.{IsNoMemory};
-ghost use Rattle.rx_scan.specs.Steps.{is_quiet};
-ghost use Rattle.rx_nest.specs.Nests.{IsBetween};
-ghost use Rattle.rx_nest.specs.Signs.{signs_of};
+ghost use Rattle.std.specs.Prelude.{◌≡◌, ℕ, List, [], IfOk};
 ghost use Rattle.rx_reading.specs.Falling.{Answered, MayAnswer};
 ghost use Rattle.rx_reading.specs.FaultPlaces.{PlaceGives};
-ghost use Rattle.rx_reading.specs.Readings.{IsWhole, Whole};
-ghost use Rattle.rx_items.specs.Collecting.{Setting, way_of, Collects};
-ghost use Rattle.rx_item_table.specs.Growing.{IsIdle};
-ghost use Rattle.rx_item_properties.specs.Held.{HoldsRows};
-ghost use Rattle.rx_item_table.specs.Rows.{rows_of};
+ghost use Rattle.rx_reading.specs.Readings.{IsWhole};
+ghost use Rattle.rx_items.specs.Collecting.{Collects, Setting, way_of};
 ghost use Rattle.rx_items.specs.Walks as walks;
 
 use crate::collectors::{Base, Collector};
@@ -42,8 +33,7 @@ impl Model for ItemWalk {
 /// The items of a whole page.
 fn items_of(collector: Collector) -> Result<Items, NoMemory>
     requires { IsWhole way_of Collects collector }
-    ensures { (setting : Setting) (bytes : List ℕ) (whole : Whole (way_of setting) (Collects setting) bytes collector)
-        → IfOk result (λ items. HoldsRows items (rows_of whole.tree) (base_in setting.address whole.tree)) }
+    ensures { walks.GivesItems collector result }
 {
     let Collector {
         alloc,
@@ -80,8 +70,7 @@ impl ItemWalk {
             → walks.FeedGives setting bytes piece.now result self.new }
         ensures place { (setting : Setting) (bytes : List ℕ) → walks.ItemWalkStands setting self.old bytes
             → PlaceGives (way_of setting) bytes piece.now result }
-        ensures quiet { (setting : Setting) (bytes : List ℕ) → walks.ItemWalkStands setting self.old bytes → IsBetween setting.syntax setting.limits bytes
-            → is_quiet piece.now ≡ true → IsIdle self.old.listener.table → IsNoMemory result ≡ false }
+        ensures quiet { walks.FeedsQuietly self.old piece.now result }
         ensures asked { MayAnswer self.old.failed self.old.spent result }
         ensures keeps { Answered result self.new.failed self.new.spent }
     {

@@ -1,15 +1,10 @@
 //! The JSON of a page's items, written token by token. No value of it is made.
-ghost use Rattle.std.specs.Prelude.{◌≡◌, ◌++◌, [], ℕ, List, None, Some, true, filter, map, slice_get, IfOk, OnOk};
-ghost use Rattle.serde_json.specs.Data.{object};
+ghost use Rattle.std.specs.Prelude.{◌≡◌, ◌++◌, None, Some, IfOk, OnOk};
 ghost use Rattle.serde_json.specs.Written.{compact_text};
 ghost use Rattle.rx_json_text.specs.Tokens.{data_tokens, each_tokens};
-ghost use Rattle.rx_terms.specs.Text.{Chars};
-ghost use Rattle.rx_microdata.specs.Elements.{Placed, is_item, is_top_level};
-ghost use Rattle.rx_microdata.specs.Json.{json_by, json_of_item};
-ghost use Rattle.rx_item_table.specs.Rows.{properties_in};
-ghost use Rattle.rx_item_properties.specs.Held.{HoldsRows, IsElement};
-ghost use Rattle.rx_items.specs.Named.{ending, grouped_at, key_seen, keys_in, keys_seen, name_seen, opening, tokens_behind, value_at};
-ghost use Rattle.rx_items.specs.Pages.{top_data};
+ghost use Rattle.rx_item_properties.specs.Held.{OfRows};
+ghost use Rattle.rx_items.specs.Named.{OfItem, OfRow, ending, item_data, key_seen, keys_seen, name_seen, opening, properties_data, tokens_behind, value_at, value_behind};
+ghost use Rattle.rx_items.specs.Pages.{page_data, top_data, tops_data};
 
 use crate::named::{Named, by_name};
 use crate::parts::{write_id, write_plain, write_types};
@@ -21,8 +16,7 @@ use std::alloc::Global;
 
 /// The text of a page's top-level items, in which an item that is too deep stands as `null`.
 pub(crate) fn written(alloc: Global, kept: &Kept) -> Result<Vec<u8>, NoMemory>
-    ensures { (rows : List Placed) (base : Chars) → HoldsRows kept.now rows base
-        → IfOk result (λ text. text.items ≡ compact_text (json_by (properties_in rows) base 40 (filter is_top_level rows))) }
+    ensures { OfRows kept.now (λ rows base. IfOk result (λ text. text.items ≡ compact_text (page_data rows base))) }
 {
     let mut out = JsonText::new(alloc);
     match write_page(alloc, kept, &mut out) {
@@ -36,8 +30,7 @@ pub(crate) fn written(alloc: Global, kept: &Kept) -> Result<Vec<u8>, NoMemory>
 
 /// Writes the object of the page.
 fn write_page(alloc: Global, kept: &Kept, out: &mut JsonText) -> Result<(), NoMemory>
-    ensures { (rows : List Placed) (base : Chars) → HoldsRows kept.now rows base
-        → OnOk result (out.new ≡ out.old ++ data_tokens (json_by (properties_in rows) base 40 (filter is_top_level rows))) }
+    ensures { OfRows kept.now (λ rows base. OnOk result (out.new ≡ out.old ++ data_tokens (page_data rows base))) }
 {
     out.begin_object()?;
     out.key("items")?;
@@ -49,8 +42,7 @@ fn write_page(alloc: Global, kept: &Kept, out: &mut JsonText) -> Result<(), NoMe
 
 /// Writes each top-level item.
 fn write_tops(alloc: Global, kept: &Kept, out: &mut JsonText) -> Result<(), NoMemory>
-    ensures { (rows : List Placed) (base : Chars) → HoldsRows kept.now rows base
-        → OnOk result (out.new ≡ out.old ++ each_tokens (map (json_of_item (properties_in rows) base 40) (filter is_top_level rows))) }
+    ensures { OfRows kept.now (λ rows base. OnOk result (out.new ≡ out.old ++ each_tokens (tops_data rows base))) }
 {
     for place in 0..kept.rows.as_slice().len() {
         write_top(alloc, kept, place, out)?;
@@ -60,8 +52,7 @@ fn write_tops(alloc: Global, kept: &Kept, out: &mut JsonText) -> Result<(), NoMe
 
 /// Writes an element where it is a top-level item.
 fn write_top(alloc: Global, kept: &Kept, place: usize, out: &mut JsonText) -> Result<(), NoMemory>
-    ensures { (rows : List Placed) (base : Chars) (e : Placed) → HoldsRows kept.now rows base → slice_get rows place ≡ Some e
-        → OnOk result (out.new ≡ out.old ++ each_tokens (top_data rows base e)) }
+    ensures { OfRow kept.now place (λ rows base e. OnOk result (out.new ≡ out.old ++ each_tokens (top_data rows base e))) }
 {
     if !is_top_at(kept, place) {
         return Ok(());
@@ -82,9 +73,7 @@ fn write_item(
     place: usize,
     out: &mut JsonText,
 ) -> Result<(), NoMemory>
-    ensures { (rows : List Placed) (base : Chars) (root : Placed) → HoldsRows kept.now rows base → slice_get rows place ≡ Some root
-        → IsElement kept.now rows place element.now root → is_item root ≡ true
-        → OnOk result (out.new ≡ out.old ++ data_tokens (json_of_item (properties_in rows) base left root)) }
+    ensures { OfItem kept.now place element.now (λ rows base root. OnOk result (out.new ≡ out.old ++ data_tokens (item_data rows base left root))) }
 {
     if left == 0 {
         return out.null();
@@ -107,9 +96,7 @@ fn write_properties(
     place: usize,
     out: &mut JsonText,
 ) -> Result<(), NoMemory>
-    ensures { (rows : List Placed) (base : Chars) (root : Placed) → HoldsRows kept.now rows base → slice_get rows place ≡ Some root
-        → IsElement kept.now rows place element.now root → is_item root ≡ true
-        → OnOk result (out.new ≡ out.old ++ data_tokens (object (grouped_at rows base left (keys_in (properties_in rows root))))) }
+    ensures { OfItem kept.now place element.now (λ rows base root. OnOk result (out.new ≡ out.old ++ data_tokens (properties_data rows base left root))) }
 {
     let list = by_name(alloc, kept, element, place)?;
     out.begin_object()?;
@@ -126,8 +113,7 @@ fn write_members(
     list: &[Named<'_>],
     out: &mut JsonText,
 ) -> Result<(), NoMemory>
-    ensures { (rows : List Placed) (base : Chars) → HoldsRows kept.now rows base
-        → OnOk result (out.new ≡ out.old ++ tokens_behind rows base left None (keys_seen list.now)) }
+    ensures { OfRows kept.now (λ rows base. OnOk result (out.new ≡ out.old ++ tokens_behind rows base left None (keys_seen list.now))) }
 {
     let mut before = None;
     for named in list {
@@ -147,8 +133,7 @@ fn write_named(
     named: &Named<'_>,
     out: &mut JsonText,
 ) -> Result<(), NoMemory>
-    ensures { (rows : List Placed) (base : Chars) → HoldsRows kept.now rows base
-        → OnOk result (out.new ≡ out.old ++ (opening (name_seen before.entry) named.now.name.now ++ data_tokens (value_at rows base left named.now.place))) }
+    ensures { OfRows kept.now (λ rows base. OnOk result (out.new ≡ out.old ++ value_behind rows base left (name_seen before.entry) (key_seen named.now))) }
 {
     open_values(before, named.name, out)?;
     write_value(alloc, kept, left, named.place, out)
@@ -163,8 +148,7 @@ fn write_value(
     place: usize,
     out: &mut JsonText,
 ) -> Result<(), NoMemory>
-    ensures { (rows : List Placed) (base : Chars) → HoldsRows kept.now rows base
-        → OnOk result (out.new ≡ out.old ++ data_tokens (value_at rows base left place)) }
+    ensures { OfRows kept.now (λ rows base. OnOk result (out.new ≡ out.old ++ data_tokens (value_at rows base left place))) }
 {
     let Some(element) = element_at(kept, place) else {
         return out.null();

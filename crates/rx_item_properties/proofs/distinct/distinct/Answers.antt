@@ -1,4 +1,4 @@
-use Rattle.std.proofs.Common.{rules, ◌≡◌, ◌∙◌, sym, ap, ◌∷◌, ◌++◌, List}
+use Rattle.std.proofs.Common.{rules, ◌∙◌, sym, ap, ◌∷◌, ◌++◌, List}
 use Rattle.std.specs.Str.{chars, IsUtf8}
 use Rattle.rx_terms.specs.Text.{Chars, tokens}
 use Rattle.rx_microdata.specs.Facts.{distinct_tokens, without_repeats_of}

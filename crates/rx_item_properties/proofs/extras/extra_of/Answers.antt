@@ -1,8 +1,7 @@
-use Rattle.std.proofs.Common.{◌≡◌, ◌∙◌, ℕ, List, ◌∷◌, Contains, ◌↔◌, Option, None, get_or, sym, ap, subst, true≢false}
-use Rattle.std.specs.Prelude.{filter_map, unwrap_or}
+use Rattle.std.proofs.Common.{ℕ, List, ◌∷◌, Contains, ◌↔◌, Option, None, get_or, sym, subst}
+use Rattle.std.specs.Prelude.{filter_map}
 use Rattle.std.proofs.lemmas.Option.{slice_get-get_or}
 use Rattle.rx_terms.specs.Text.{Chars}
-use Rattle.rx_microdata.specs.Elements.{Placed}
 use Rattle.rx_item_table.specs.Rows.{rows_of}
 use Rattle.rx_item_properties.specs.Ids.{look_in}
 use Rattle.rx_item_table.specs.Growing.{nothing_kept}
@@ -15,7 +14,7 @@ use Rattle.rx_item_properties.specs.declared.kept.Run.{Run}
 use Rattle.rx_item_properties.proofs.IdLemmas.{row_shown}
 use Rattle.rx_item_properties.proofs.NestLemmas.{numbered}
 use Rattle.rx_item_properties.proofs.PropertyLemmas.{properties_are}
-use Rattle.rx_item_properties.proofs.BuildLemmas.{same_there, fits_there, fits_plain}
+use Rattle.rx_item_properties.proofs.BuildLemmas.{fits_there, fits_plain}
 use Rattle.rx_item_properties.proofs.extras.extra_of.Goals as goal
 
 pub returns-then-not-row : goal.returns-then-not-row
@@ -31,7 +30,7 @@ returns c text times tree members sorted up looks =
     let ps = rows_of tree in
     let rows = c.args.rows.now in
     let r = row_shown c.args.words.now text times rows ps c.args.place nothing_kept sorted.shows c.requires in
-    let starts = c.in_ok-starts.ensures (look_in ps) r.2.itemref looks (subst (λ (span : Option Span). ShowsWord c.args.words.now span r.2.itemref) (sym c.references.ensures) r.2.has_references) in
+    let starts = c.in_ok-starts.ensures (look_in ps) looks r.2.itemref (subst (λ (span : Option Span). ShowsWord c.args.words.now span r.2.itemref) (sym c.references.ensures) r.2.has_references) in
     let reach = c.in_ok-reach.ensures.reach c.args.words.now text times tree members sorted up in
     let runs = c.in_ok-reach.reach.own ∷ c.in_ok-reach.reach.others.items in
     let begins : (m : ℕ) → Contains c.in_ok-starts.starts.items m ↔ Contains (filter_map (look_in ps) r.0.facts.references) m =

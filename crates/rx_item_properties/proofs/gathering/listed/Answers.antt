@@ -1,4 +1,4 @@
-use Rattle.std.proofs.Common.{◌∙◌, sym, subst, ap}
+use Rattle.std.proofs.Common.{◌∙◌, sym}
 use Rattle.rx_item_properties.proofs.ListedLemmas.{listed_rises, listed_same}
 use Rattle.rx_item_properties.proofs.gathering.listed.Goals as goal
 

@@ -1,4 +1,3 @@
-use Rattle.std.proofs.Common.{ap}
 use Rattle.rx_item_properties.proofs.RisingLemmas.{risen, same_risen}
 use Rattle.rx_item_properties.proofs.gathering.properties.Goals as goal
 

@@ -1,5 +1,3 @@
-use Rattle.std.proofs.Common.{rules}
-use Rattle.std.specs.Str.{IsUtf8}
 use Rattle.rx_item_properties.specs.Ids.{place_of}
 use Rattle.rx_item_properties.proofs.IdLemmas.{noted}
 use Rattle.rx_item_properties.proofs.ids.note_id.Goals as goal

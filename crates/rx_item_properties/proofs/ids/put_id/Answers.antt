@@ -2,5 +2,5 @@ use Rattle.std.proofs.Common.{◌∙◌}
 use Rattle.rx_item_properties.proofs.IdLemmas.{put_under}
 use Rattle.rx_item_properties.proofs.ids.put_id.Goals as goal
 
-pub returns-in-Ok : goal.returns-in-Ok
-returns-in-Ok c = λ text. c.in-Ok.ensures.updates.0 (record { ref_ptr = (0, 0); now = text }) ∙ put_under c.args.id.now text _ _
+pub returns : goal.returns
+returns c = λ text. c.in_ok-insert.ensures.updates.0 (record { ref_ptr = (0, 0); now = text }) ∙ put_under c.args.id.now text _ _

@@ -1,7 +1,8 @@
-use Rattle.std.proofs.Common.{◌∙◌, ℕ, suc, List, ◌∷◌, ap, sym, subst, Contains, ◌↔◌, Some, arith}
+use Rattle.std.proofs.Common.{◌∙◌, ℕ, suc, List, ◌∷◌, ap, sym, subst, Contains, ◌↔◌, arith}
 use Rattle.rx_microdata.specs.Visits.{visits_from}
-use Rattle.rx_microdata.specs.Elements.{names_of}
+use Rattle.rx_microdata.specs.Elements.{is_item, names_of}
 use Rattle.rx_item_table.specs.Rows.{properties_in}
+use Rattle.rx_item_properties.specs.Held.{is_there}
 use Rattle.rx_item_properties.specs.Properties.{gathered}
 use Rattle.rx_items.specs.Expanding.{HasFault, NoFault, steps_in, visits_in, again}
 use Rattle.rx_item_properties.proofs.HoldLemmas.{is_element, list_is, all_stand, place_is}
@@ -42,9 +43,9 @@ pass_item-returns-in-Some-clause-finds t c rows base above left root at row foun
 pub pass_sorted-returns-clause-finds : goal.pass_sorted-returns-clause-finds
 pass_sorted-returns-clause-finds t c rows base above left root at row found item =
     let runs = c.args.element.now.own ∷ c.args.element.now.others.now in
-    let same : (x : ℕ) → Contains c.in-Ok.list.items x ↔ Contains (gathered c.as_slice.result.now runs c.args.place) x = c.in-Ok.ensures.same in
-    let all = subst (λ (ms : List ℕ). (x : ℕ) → Contains c.in-Ok.list.items x ↔ Contains (gathered ms runs c.args.place) x) c.as_slice.ensures.value same in
-    let list = list_is c.args.kept.now rows base root c.args.element.now c.args.place c.in-Ok.list.items at.holds found item c.in-Ok.ensures.rise all in
+    let same : (x : ℕ) → Contains c.in_ok-list.list.items x ↔ Contains (gathered c.as_slice.result.now runs c.args.place) x = c.in_ok-list.ensures.same in
+    let all = subst (λ (ms : List ℕ). (x : ℕ) → Contains c.in_ok-list.list.items x ↔ Contains (gathered ms runs c.args.place) x) c.as_slice.ensures.value same in
+    let list = list_is c.args.kept.now rows base root c.args.element.now c.args.place c.in_ok-list.list.items at.holds found item c.in_ok-list.ensures.rise all in
     c.pass_each.ensures.finds rows base above left (properties_in rows root) at (c.as_slice-2.ensures.value ∙ list) (all_stand _ rows at.holds.numbered)
 
 pub pass_each-returns-in_err-pass_property-clause-finds : goal.pass_each-returns-in_err-pass_property-clause-finds
@@ -76,13 +77,13 @@ pass_property-returns-in_default-clause-finds t c rows base above left e at row 
 
 pub pass_property-returns-then-not-is_item_at-clause-finds : goal.pass_property-returns-then-not-is_item_at-clause-finds
 pass_property-returns-then-not-is_item_at-clause-finds t c rows base above left e at row =
-    (plain_passed rows base above left e c.args.trail.now.visits (sym (c.is_item_at.ensures rows base e at.holds row) ∙ c.if-not-is_item_at.true), tt)
+    (plain_passed rows base above left e c.args.trail.now.visits (sym (c.is_item_at.ensures rows base at.holds ∙ ap (is_there is_item) row) ∙ c.if-not-is_item_at.true), tt)
 
 pub pass_property-returns-clause-finds : goal.pass_property-returns-clause-finds
 pass_property-returns-clause-finds t c rows base above left e at row =
     let found = is_element c.args.kept.now rows c.args.place c.in-Some.element e row (c.in-Some.ensures rows base at.holds) in
     let shown = found.shown in
-    let item = sym (c.is_item_at.ensures rows base e at.holds row) ∙ c.if-not-is_item_at.false in
+    let item = sym (c.is_item_at.ensures rows base at.holds ∙ ap (is_there is_item) row) ∙ c.if-not-is_item_at.false in
     item_passed rows base above left e c.args.trail.now.visits c.pass_times.new.trail.visits c.count.result c.pass_times.result
     (c.count.ensures ∙ counted c.args.kept.now.words c.in-Some.element.names (names_of e) shown.names) item (c.pass_times.ensures.finds rows base above left e at row found item)
 

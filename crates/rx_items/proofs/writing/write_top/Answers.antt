@@ -1,4 +1,6 @@
-use Rattle.std.proofs.Common.{◌∙◌, [], ap, sym, Some, refl}
+use Rattle.std.proofs.Common.{◌∙◌, ap, sym}
+use Rattle.rx_microdata.specs.Elements.{is_top_level}
+use Rattle.rx_item_properties.specs.Held.{is_there}
 use Rattle.rx_item_properties.proofs.HoldLemmas.{is_element}
 use Rattle.rx_items.proofs.VisitLemmas.{no_element}
 use Rattle.rx_items.proofs.PageLemmas.{item_of_top}
@@ -10,10 +12,10 @@ returns-in_default c rows base e holds row = absurd (no_element rows c.args.plac
 
 pub returns-then-not-is_top_at : goal.returns-then-not-is_top_at
 returns-then-not-is_top_at c rows base e holds row =
-    top_nothing rows base e c.args.out.now (sym (c.is_top_at.ensures rows base e holds row) ∙ c.if-not-is_top_at.true)
+    top_nothing rows base e c.args.out.now (sym (c.is_top_at.ensures rows base holds ∙ ap (is_there is_top_level) row) ∙ c.if-not-is_top_at.true)
 
 pub returns : goal.returns
 returns c rows base e holds row =
     let found = is_element c.args.kept.now rows c.args.place c.in-Some.element e row (c.in-Some.ensures rows base holds) in
-    let top = sym (c.is_top_at.ensures rows base e holds row) ∙ c.if-not-is_top_at.false in
+    let top = sym (c.is_top_at.ensures rows base holds ∙ ap (is_there is_top_level) row) ∙ c.if-not-is_top_at.false in
     then_ok c.write_item.result (λ wrote. top_told rows base e c.args.out.now c.write_item.new.out top wrote) (c.write_item.ensures rows base e holds row found (item_of_top e top))

@@ -7,4 +7,4 @@ pub returns : goal.returns
 returns c setting signs k =
     collects_next setting c.args.self.now
     (record { alloc = c.args.self.now.alloc; address = c.args.self.now.address; base = c.end_base.new.base; table = c.finish.new.self })
-    signs finished c.depth.result c.depth.ensures refl c.finish.ensures c.in-Ok.ensures k
+    signs finished c.depth.result c.depth.ensures refl c.finish.ensures c.in_ok-end_base.ensures k

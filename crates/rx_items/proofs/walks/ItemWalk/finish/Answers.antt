@@ -1,13 +1,15 @@
 use Rattle.std.proofs.Common.{sym, subst}
-use Rattle.rx_items.specs.Walks.{ItemWalkStands}
+use Rattle.rx_items.specs.Walks.{EndGives, ItemWalkStands}
 use Rattle.rx_items.proofs.Ending.{unfinished}
+use Rattle.rx_items.proofs.VisitLemmas.{err_told}
 use Rattle.rx_items.proofs.walks.ItemWalk.finish.Goals as goal
 
-pub returns-in-Err-clause-gives : goal.returns-in-Err-clause-gives
-returns-in-Err-clause-gives c setting bytes s =
-    unfinished setting bytes c.in-Err.stop (c.in-Err.ensures.gives setting bytes (subst (λ v. ItemWalkStands setting v bytes) (sym c.self.view_is) s))
+pub returns-in_err-collector-clause-gives : goal.returns-in_err-collector-clause-gives
+returns-in_err-collector-clause-gives c setting bytes s =
+    err_told (λ r. EndGives setting bytes r) c.from_residual.result c.in_err-collector.field-0.0 c.from_residual.ensures.1
+    (unfinished setting bytes c.in_err-collector.field-0.0 (c.in_err-collector.ensures.gives setting bytes (subst (λ v. ItemWalkStands setting v bytes) (sym c.self.view_is) s)))
 
-pub returns-in-Ok-items_of-clause-gives : goal.returns-in-Ok-items_of-clause-gives
-returns-in-Ok-items_of-clause-gives c setting bytes s =
-    let whole = c.in-Ok.ensures.gives setting bytes (subst (λ v. ItemWalkStands setting v bytes) (sym c.self.view_is) s) in
-    record { tree = whole.tree; page = whole.page; holds = c.in-Ok-items_of.ensures setting bytes whole }
+pub returns-clause-gives : goal.returns-clause-gives
+returns-clause-gives c setting bytes s =
+    let whole = c.in_ok-collector.ensures.gives setting bytes (subst (λ v. ItemWalkStands setting v bytes) (sym c.self.view_is) s) in
+    record { tree = whole.tree; page = whole.page; holds = c.in_ok-items_of.ensures setting bytes whole }
