@@ -1,10 +1,11 @@
 -- Where an element stands, and how its blank nodes are named.
-use Rattle.std.specs.Prelude.{ℕ, zero, suc, [], ◌∷◌}
+use Rattle.std.specs.Prelude.{ℕ, zero, suc, [], ◌∷◌, Option}
 use Rattle.rx_terms.specs.Text.{Chars}
 use Rattle.rx_model.specs.Terms.{Node}
 use Rattle.rx_rdfa.specs.Naming.{Path, Naming}
 use Rattle.rx_rdfa.specs.Facts.{Facts, Ref}
-use Rattle.rx_rdfa.specs.Resources.{Standing, Inherited, resource_named}
+use Rattle.rx_rdfa.specs.Resources.{Standing, Inherited, Resources, resource_named}
+use Rattle.rx_rdfa.specs.Inherited.{object_below}
 use Rattle.rx_element.specs.Contexts.{context_seen}
 use Rattle.rx_element.specs.Labels.{Numbered}
 use Rattle.rx_element.specs.Moment.{moment, labelled}
@@ -37,6 +38,10 @@ naming at = moment at.labels.now at.fresh 0 0
 -- what the rules say of an element with these facts at a place
 abbrev pub ruled : {A : Type 0} → (Naming ℕ ℕ → Chars → Standing ℕ ℕ → A) → Surroundings → Facts → A
 ruled rule at facts = rule (naming at) at.base.now (standing at facts)
+
+-- the object that the children of an element at a place inherit, where it isn't the subject
+abbrev pub object_under : Surroundings → Facts → Resources ℕ → Option (Node ℕ)
+object_under at facts here = object_below (naming at) (standing at facts) here
 
 -- the node that a reading names
 abbrev pub named : Numbered → Chars → Ref → Node ℕ

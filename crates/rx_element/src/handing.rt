@@ -1,10 +1,10 @@
 //! What an element hands on to its children (RDFa Core 1.1, section 7.5, steps 10 and 13).
 ghost use Rattle.std.specs.Prelude.{◌≡◌, IfOk, option_map};
 ghost use Rattle.rx_model.specs.Seen.{node_seen};
-ghost use Rattle.rx_rdfa.specs.Inherited.{hangs, holds_some, listed, object_below};
+ghost use Rattle.rx_rdfa.specs.Inherited.{hangs, holds_some, listed};
 ghost use Rattle.rx_curie.specs.Seen.{facts_seen};
 ghost use Rattle.rx_element.specs.Found.{found_seen};
-ghost use Rattle.rx_element.specs.Places.{naming, standing};
+ghost use Rattle.rx_element.specs.Places.{object_under};
 
 use crate::places::Surroundings;
 use crate::resources::{Found, clone_option};
@@ -38,8 +38,7 @@ pub fn object_below(
     facts: &Facts,
     found: &Found,
 ) -> Result<Option<Node>, NoMemory>
-    ensures { IfOk result (λ object. option_map node_seen object
-        ≡ object_below (naming place.now) (standing place.now (facts_seen facts.now)) (found_seen found.now)) }
+    ensures { IfOk result (λ object. option_map node_seen object ≡ object_under place.now (facts_seen facts.now) (found_seen found.now)) }
 {
     if hangs(facts, found) {
         return Ok(Some(place.fresh()));

@@ -1,11 +1,9 @@
 //! The triples of an element's start (RDFa Core 1.1, section 7.5, steps 2, 7, 9, 11 and 12).
-ghost use Rattle.std.specs.Prelude.{◌≡◌, ◌≤◌, ◌+◌, ◌∷◌, [], ◌++◌, OnOk, drop, length, map, filter_map};
-ghost use Rattle.rx_model.specs.Seen.{node_seen, term_seen, triples_seen};
+ghost use Rattle.std.specs.Prelude.{◌≡◌, ◌≤◌, ◌+◌, ◌∷◌, [], OnOk, length, map, filter_map};
+ghost use Rattle.rx_model.specs.Seen.{node_seen, term_seen};
 ghost use Rattle.rx_lists.specs.Gains.{Gains};
 ghost use Rattle.rx_model.specs.Copied.{spo};
-ghost use Rattle.rx_rdfa.specs.Inherited.{listed};
-ghost use Rattle.rx_rdfa.specs.Element.{completed};
-ghost use Rattle.rx_element.specs.Triples.{ToCome, completed_by};
+ghost use Rattle.rx_element.specs.Triples.{GainsFirst, completed_by};
 
 use crate::contexts::Waiting;
 use crate::values::node_term;
@@ -54,8 +52,7 @@ fn push_first(
     object: &Term,
 ) -> Result<(), NoMemory>
     requires { count ≤ length predicates.now }
-    ensures { OnOk result (ToCome (triples_seen out.new) (map (λ p. spo (node_seen subject.now) p (term_seen object.now)) (drop count predicates.now))
-        (triples_seen out.old ++ map (λ p. spo (node_seen subject.now) p (term_seen object.now)) predicates.now)) }
+    ensures { OnOk result (GainsFirst count out.old out.new (λ p. spo (node_seen subject.now) p (term_seen object.now)) predicates.now) }
 {
     for i in 0..count {
         push_copy(out, subject, predicates.at(i), object)?;

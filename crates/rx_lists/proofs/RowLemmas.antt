@@ -1,5 +1,5 @@
 -- Predicates and their slots, side by side, as a table.
-use Rattle.std.proofs.Common.{◌≡◌, ◌∙◌, ℕ, zero, suc, ◌+◌, ◌<◌, ◌≤◌, Bool, true, false, cond, List, [], ◌∷◌, ◌++◌, map, length, Option, Some, None, option_to_list, bytes_eq, refl, sym, ap, ap₂, Result, Ok, Err, OnOk, subst, arith, append-nil, rules, slice_set, slice_index_or, slice_get}
+use Rattle.std.proofs.Common.{◌≡◌, ◌∙◌, ℕ, zero, suc, ◌+◌, ◌<◌, ◌≤◌, Bool, false, cond, List, [], ◌∷◌, ◌++◌, length, Option, Some, None, option_to_list, bytes_eq, refl, sym, ap, ap₂, Result, Ok, Err, OnOk, subst, arith, append-nil, rules, slice_set, slice_index_or}
 use Rattle.std.specs.List.{position, position_or_len, list_any}
 use Rattle.std.specs.Prelude.{nat_lt}
 use Rattle.std.proofs.lemmas.Bool.Decides.{nat_tests}
@@ -10,7 +10,7 @@ use Rattle.rx_model.specs.Sets.{IsExact}
 use Rattle.rx_model.proofs.Exact.{exact_texts}
 use Rattle.rx_rdfa.specs.Tables.{put}
 use Rattle.rx_terms.specs.declared.triples.Node.{Node}
-use Rattle.std.proofs.lemmas.List.{map-append, length-map}
+use Rattle.std.proofs.lemmas.List.{length-map}
 use Rattle.rx_lists.specs.Owners.{Owned, owned, with_lists, with_slot, with_term, Slots, slots_at, predicates_of, place_of, slots_of}
 use Rattle.rx_lists.specs.Rows.{rows, first_place, FoundAt}
 

@@ -4,7 +4,7 @@ use Rattle.std.proofs.lemmas.Str.{IsUtf8-string_bytes}
 use Rattle.rx_element.proofs.LabelLemmas.{none_kept}
 use Rattle.rx_element.proofs.labels.add_row.Goals as goal
 
-pub returns-in-Ok-push-clause-keys : goal.returns-in-Ok-push-clause-keys
-returns-in-Ok-push-clause-keys c =
-    c.in-Ok.ensures.keys
+pub returns-clause-keys : goal.returns-clause-keys
+returns-clause-keys c =
+    c.in_ok-_is_new.ensures.keys
     ∙ ap (λ (b : Bool). if b then c.args.keys.now else c.args.keys.now ++ c.args.key ∷ []) (none_kept string_bytes (λ k. IsUtf8-string_bytes k) c.args.key c.args.keys.now c.requires.fresh)
