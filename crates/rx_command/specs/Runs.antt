@@ -40,6 +40,14 @@ IfTold told holds = (content : ShelfContent) → told ≡ Some content → holds
 abbrev pub Writes : Option ShelfContent → (List ℕ → Type 0) → (List ℕ → List ℕ → List ℕ → Type 0) → Option (List ℕ) → Option (List ℕ) → Type 0
 Writes told is grows old new = (content : ShelfContent) → told ≡ Some content → (text : List ℕ) × is text × Moves (grows text) old new
 
+-- this holds of the fault for which the page is refused
+abbrev pub WhereRefused : Status → (Fault → Type 0) → Type 0
+WhereRefused result holds = (fault : Fault) → result ≡ status.Refused fault → holds fault
+
+-- this holds of the number of items, where a sample is asked for
+abbrev pub WhereSample : Option Job → (ℕ → Type 0) → Type 0
+WhereSample asked holds = (count : ℕ) → asked ≡ Some (samples count) → holds count
+
 -- what is asked for reads files
 abbrev pub reads_files : Option Job → Bool
 reads_files None = false

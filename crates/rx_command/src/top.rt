@@ -1,5 +1,5 @@
 //! The top call.
-ghost use Rattle.std.specs.Prelude.{◌≡◌, ◌≢◌, ◌≤◌, ℕ, List, None, Some, IfOk, is_some, true, string_bytes};
+ghost use Rattle.std.specs.Prelude.{◌≡◌, ◌≢◌, ◌≤◌, ℕ, List, None, IfOk, is_some, true, string_bytes};
 ghost use Rattle.rx_ports.specs.Counts.{Rose};
 ghost use Rattle.rx_ports.specs.Shelves.{Moves, GrowsBy, GrowsByPart, Stays};
 ghost use Rattle.rx_job.specs.Jobs.{several_seen};
@@ -9,7 +9,7 @@ ghost use Rattle.rx_command.specs.Gathering.{HasAll};
 ghost use Rattle.rx_command.specs.Headline.{AnswersPage};
 ghost use Rattle.rx_command.specs.Outcome.{HasBadContext, HasPageFault, LacksFile};
 ghost use Rattle.rx_command.specs.Samples.{Yields, YieldsGraph};
-ghost use Rattle.rx_command.specs.Runs.{EndsSo, IfTold, Writes, ReadCause, TakesJob, TakesToFault, StopsCleanly, IsAtEnd, GatheringEnds, SampleEnds, Says, SaysNothing, usage_line, refused_line, context_line, refused_with};
+ghost use Rattle.rx_command.specs.Runs.{EndsSo, IfTold, WhereRefused, WhereSample, Writes, ReadCause, TakesJob, TakesToFault, StopsCleanly, IsAtEnd, GatheringEnds, SampleEnds, Says, SaysNothing, usage_line, refused_line, context_line, refused_with};
 
 use crate::errors::InputError;
 use crate::gathering::gather;
@@ -81,12 +81,11 @@ pub fn run<F: Shelf, O: Sink, E: Sink>(
     ensures to_end { result ≡ Status.Done → IsAtEnd (page_asked words.now) (F.told shelf.new) }
 
     // Refused comes only where the page has this fault, and never where several pages are asked for.
-    ensures refused { (fault : Fault) → result ≡ Status.Refused fault → IfTold (F.told shelf.old) (HasPageFault words.now (F.told shelf.old) fault) }
-    ensures refuses_one { (fault : Fault) → result ≡ Status.Refused fault → gathering_asked words.now ≡ None }
+    ensures refused { WhereRefused result (λ fault. IfTold (F.told shelf.old) (HasPageFault words.now (F.told shelf.old) fault)) }
+    ensures refuses_one { WhereRefused result (λ fault. gathering_asked words.now ≡ None) }
     // The page is then read no further than 65,536 bytes past the byte that decides the fault, unless that is an item's,
     // which is found once the page has ended.
-    ensures refused_takes { (fault : Fault) → result ≡ Status.Refused fault →
-        Moves (TakesToFault (page_asked words.now) fault) (F.told shelf.old) (F.told shelf.new) }
+    ensures refused_takes { WhereRefused result (λ fault. Moves (TakesToFault (page_asked words.now) fault) (F.told shelf.old) (F.told shelf.new)) }
 
     // ReadFault comes only where the shelf failed, or lacks the context file, or lacks a page where the context file is a
     // context; and where it lacks one of them there is no other answer but want of memory.
@@ -113,8 +112,7 @@ pub fn run<F: Shelf, O: Sink, E: Sink>(
     // What err is told: one line on Usage, on Refused and on BadContext, or a front of it where err failed. On other
     // statuses it is told nothing, and didn't fail.
     ensures says_usage { result ≡ Status.Usage → Says usage_line (E.held err.old) (E.held err.new) (E.faults err.old) (E.faults err.new) }
-    ensures says_refused { (fault : Fault) → result ≡ Status.Refused fault →
-        Says (refused_line fault) (E.held err.old) (E.held err.new) (E.faults err.old) (E.faults err.new) }
+    ensures says_refused { WhereRefused result (λ fault. Says (refused_line fault) (E.held err.old) (E.held err.new) (E.faults err.old) (E.faults err.new)) }
     ensures says_context { result ≡ Status.BadContext → Says context_line (E.held err.old) (E.held err.new) (E.faults err.old) (E.faults err.new) }
     ensures says_nothing { result ≢ Status.Usage → result ≢ Status.BadContext → ((fault : Fault) → result ≢ Status.Refused fault) →
         SaysNothing (E.held err.old) (E.held err.new) (E.faults err.old) (E.faults err.new) }
@@ -126,9 +124,8 @@ pub fn run<F: Shelf, O: Sink, E: Sink>(
 
     // A sample leaves the shelf as it was, and ends with its line written, or a front of it where out failed, or in want of memory,
     // whatever the shelf and the sinks tell: no page of a sample is refused.
-    ensures sample { (count : ℕ) → job words.now ≡ Some (samples count) →
-        SampleEnds count result (O.held out.old) (O.held out.new) (O.faults out.old) (O.faults out.new) }
-    ensures sample_reads { (count : ℕ) → job words.now ≡ Some (samples count) → shelf.new ≡ shelf.old }
+    ensures sample { WhereSample (job words.now) (λ count. SampleEnds count result (O.held out.old) (O.held out.new) (O.faults out.old) (O.faults out.new)) }
+    ensures sample_reads { WhereSample (job words.now) (λ count. shelf.new ≡ shelf.old) }
 
     // Where nothing failed, a page that has a text, or a sample, is done, and so are several pages that are all there, where
     // the context file is a context; and a page that has a fault is refused; unless memory runs out.

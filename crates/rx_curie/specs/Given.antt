@@ -1,10 +1,14 @@
 -- What the code answers of a start tag.
-use Rattle.std.specs.Prelude.{◌≡◌, Bool, true, false, List, Option, Some, None, codes, is_some, option_and_then, Result, MatchResult, if◌then◌else◌}
+use Rattle.std.specs.Prelude.{◌≡◌, Bool, true, false, List, ◌∷◌, Option, Some, None, codes, is_some, option_and_then, option_map, Result, MatchResult, if◌then◌else◌}
 use Rattle.rx_terms.specs.Text.{Chars, trimmed}
 use Rattle.rx_rdfa.specs.Tree.{Tag, attribute}
-use Rattle.rx_rdfa.specs.Names.{unless_empty, vocab}
-use Rattle.rx_rdfa.specs.Facts.{Facts, Other}
-use Rattle.rx_rdfa.specs.Refusals.{Refusal, RelativeVocab, XmlLiteral, HtmlLiteral, refusal}
+use Rattle.rx_rdfa.specs.Names.{Context, unless_empty, vocab}
+use Rattle.rx_rdfa.specs.Facts.{Facts, Other, Ref, Datatype}
+use Rattle.rx_rdfa.specs.Facts as the
+use Rattle.rx_rdfa.specs.Refusals.{Refusal, RelativeVocab, XmlLiteral, HtmlLiteral, refusal, is_relative}
+use Rattle.rx_names.specs.Lines.{NamesStand}
+use Rattle.rx_names.specs.Views.{names_seen}
+use Rattle.rx_names.specs.declared.names.NamesView.{NamesView}
 use Rattle.rx_grammar.specs.declared.faults.Kind.{Kind}
 use Rattle.rx_grammar.specs.declared.faults.Kind.TheVariants as kind
 use Rattle.rx_curie.specs.declared.facts.Facts.{Facts as CodeFacts}
@@ -19,6 +23,20 @@ own_vocabulary tag = option_and_then (λ value. unless_empty (trimmed value)) (a
 -- the vocabulary in force that the elements around declare, none where the tag has `vocab`, empty or not
 abbrev pub vocabulary_from : List Tag → Tag → Option Chars
 vocabulary_from above tag = if is_some (attribute tag (codes "vocab")) then None else vocab above
+
+-- what holds of the facts that the rules give a tag, whose declarations the names have, where no element around declares a relative
+-- vocabulary
+abbrev pub OnFacts : NamesView → Tag → (Facts → Type 0) → Type 0
+OnFacts names tag Holds =
+    (above : List Tag) → NamesStand (names_seen names) (tag ∷ above) → is_relative (vocabulary_from above tag) ≡ false
+    → Holds (the.facts (names_seen names).context above tag)
+
+-- the datatype and the resource that an attribute says, where it is there
+abbrev pub datatype_in : Context → List Tag → Option Chars → Option Datatype
+datatype_in context line value = option_map (λ text. the.datatype_of (the.predicate context line (trimmed text))) value
+
+abbrev pub resource_in : Context → List Tag → Option Chars → Option Ref
+resource_in context line value = option_and_then (the.resource_of context line) value
 
 abbrev pub kind_of : Refusal → Kind
 kind_of RelativeVocab = kind.RelativeVocab

@@ -1,7 +1,7 @@
 -- The code's facts and readings as those of the rules.
-use Rattle.std.specs.Prelude.{◌≡◌, List, map, option_map}
+use Rattle.std.specs.Prelude.{◌≡◌, ◌++◌, List, map, Option, option_map, option_to_list}
 use Rattle.std.specs.Str.{chars}
-use Rattle.rx_rdfa.specs.Facts.{ElementKind, Head, Body, Time, Other, Ref, IriRef, LabelRef, RelativeRef, Datatype, Empty, Is, Facts}
+use Rattle.rx_rdfa.specs.Facts.{ElementKind, Head, Body, Time, Other, Ref, IriRef, LabelRef, RelativeRef, ref_of, Datatype, Empty, Is, Facts}
 use Rattle.rx_rdfa.specs.Readings.{Reading, Full, Joined, Label, Reference}
 use Rattle.rx_curie.specs.declared.facts.ElementKind.{ElementKind as CodeKind}
 use Rattle.rx_curie.specs.declared.facts.ElementKind.TheVariants as code_kind
@@ -26,6 +26,10 @@ ref_seen (code_ref.Relative reference) = RelativeRef reference
 
 abbrev pub refs_seen : List CodeRef → List Ref
 refs_seen list = map ref_seen list
+
+-- the new types are the old ones and that which the reading makes, if there is one
+abbrev pub GainsType : List CodeRef → List CodeRef → Option Reading → Type 0
+GainsType old new reading = refs_seen new ≡ refs_seen old ++ option_to_list (option_map ref_of reading)
 
 abbrev pub datatype_seen : CodeDatatype → Datatype
 datatype_seen code_datatype.Empty = Empty

@@ -84,15 +84,24 @@ pub enum FactsError {
     NoMemory,
 }
 
+impl From<NoMemory> for FactsError {
+    ghost use Rattle.rx_curie.specs.declared.facts.FactsError.{FactsError};
+
+    ghost from_gives = { λ _ error. error ≡ FactsError.NoMemory };
+
+    fn from(_error: NoMemory) -> FactsError {
+        FactsError::NoMemory
+    }
+}
+
 impl Facts {
-    ghost use Rattle.std.specs.Prelude.{◌≡◌, List, ◌∷◌, length, false, true, IfOk, IfErr, IsErrOf, OnOk};
-    ghost use Rattle.rx_rdfa.specs.Tree.{Tag as StartTag};
+    ghost use Rattle.std.specs.Prelude.{◌≡◌, false, true, IfErr, IsErrOf, OnOk};
     ghost use Rattle.rx_rdfa.specs.Refusals.{is_relative};
     ghost use Rattle.rx_rdfa.specs.Facts as the;
     ghost use Rattle.rx_names.specs.Tags.{tag_of};
-    ghost use Rattle.rx_names.specs.Lines.{NamesStand, vocabulary_of};
-    ghost use Rattle.rx_names.specs.Views.{names_seen};
-    ghost use Rattle.rx_curie.specs.Given.{own_vocabulary, vocabulary_from, no_facts, Gives, GivesIn, IsRefused, is_for_meaning};
+    ghost use Rattle.rx_names.specs.Lines.{vocabulary_of};
+    ghost use Rattle.rx_names.specs.Views.{names_seen, Along};
+    ghost use Rattle.rx_curie.specs.Given.{own_vocabulary, no_facts, Gives, GivesIn, IsRefused, is_for_meaning, OnFacts};
     ghost use Rattle.rx_curie.specs.Seen.{facts_seen};
 
     /// What the tag says under these names, which have its own declarations already. The first refusal that holds is
@@ -104,9 +113,7 @@ impl Facts {
         tag: &Tag<'_>,
         names: &NamesView<'_>,
     ) -> Result<Facts, FactsError>
-        ensures line { (above : List StartTag) → NamesStand (names_seen names.now) (tag_of tag.now ∷ above)
-            → is_relative (vocabulary_from above (tag_of tag.now)) ≡ false
-            → Gives result (the.facts (names_seen names.now).context above (tag_of tag.now)) }
+        ensures line { OnFacts names.now (tag_of tag.now) (Gives result) }
         ensures relative { is_relative (vocabulary_of (names_seen names.now)) ≡ true
             → IsErrOf result (FactsError.Meaning Kind.RelativeVocab) }
         ensures absolute { OnOk result (is_relative (vocabulary_of (names_seen names.now)) ≡ false) }
@@ -151,9 +158,7 @@ impl Facts {
         tag: &Tag<'_>,
         names: &NamesView<'_>,
     ) -> Result<(), FactsError>
-        ensures line { (above : List StartTag) → NamesStand (names_seen names.now) (tag_of tag.now ∷ above)
-            → is_relative (vocabulary_from above (tag_of tag.now)) ≡ false
-            → GivesIn result self.new (the.facts (names_seen names.now).context above (tag_of tag.now)) }
+        ensures line { OnFacts names.now (tag_of tag.now) (GivesIn result self.new) }
         ensures relative { is_relative (vocabulary_of (names_seen names.now)) ≡ true
             → IsErrOf result (FactsError.Meaning Kind.RelativeVocab) }
         ensures absolute { OnOk result (is_relative (vocabulary_of (names_seen names.now)) ≡ false) }
@@ -179,8 +184,7 @@ impl Facts {
         requires name { chars name.now ≡ tag.now.name }
         requires own { is_relative (own_vocabulary tag.now) ≡ false }
         requires vocabulary { is_relative (vocabulary_of (names_seen names.now)) ≡ false }
-        ensures { OnOk result ((line : List StartTag) → NamesStand (names_seen names.now) line
-            → facts_seen self.new ≡ the.facts_of (names_seen names.now).context line tag.now) }
+        ensures { OnOk result (Along names.now (λ context line. facts_seen self.new ≡ the.facts_of context line tag.now)) }
     {
         let property = tag.value("property");
         let beside = property.is_some();

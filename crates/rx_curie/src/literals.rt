@@ -1,18 +1,17 @@
 //! What says how a literal is meant: datatype, vocabulary and language.
-ghost use Rattle.std.specs.Prelude.{◌≡◌, ◌++◌, List, false, OnOk, option_map, bytes_eq, true};
+ghost use Rattle.std.specs.Prelude.{◌≡◌, ◌++◌, false, OnOk, option_map, bytes_eq, true};
 ghost use Rattle.std.specs.List.{list_all};
 ghost use Rattle.std.specs.Str.{chars};
 ghost use Rattle.rx_terms.specs.Ascii.{is_ascii};
 ghost use Rattle.rx_terms.specs.Iri.{has_scheme};
-ghost use Rattle.rx_terms.specs.Text.{Chars, trimmed, seen_slice};
+ghost use Rattle.rx_terms.specs.Text.{Chars, seen_slice};
 ghost use Rattle.rx_refs.specs.Resolve.{cleaned};
-ghost use Rattle.rx_rdfa.specs.Tree.{Tag as StartTag};
 ghost use Rattle.rx_rdfa.specs.Names.{language, unless_empty};
 ghost use Rattle.rx_rdfa.specs.Refusals.{is_relative};
 ghost use Rattle.rx_rdfa.specs.Facts as the;
-ghost use Rattle.rx_names.specs.Lines.{NamesStand, vocabulary_of};
-ghost use Rattle.rx_names.specs.Views.{names_seen};
-ghost use Rattle.rx_curie.specs.Given.{own_vocabulary};
+ghost use Rattle.rx_names.specs.Lines.{vocabulary_of};
+ghost use Rattle.rx_names.specs.Views.{names_seen, Along};
+ghost use Rattle.rx_curie.specs.Given.{own_vocabulary, datatype_in};
 ghost use Rattle.rx_curie.specs.Seen.{datatype_seen};
 
 use crate::facts::Datatype;
@@ -35,9 +34,7 @@ pub(crate) fn put_datatype(
     value: Option<&str>,
 ) -> Result<(), NoMemory>
     requires { is_relative (vocabulary_of (names_seen names.now)) ≡ false }
-    ensures { OnOk result ((line : List StartTag) → NamesStand (names_seen names.now) line
-        → option_map datatype_seen field.new ≡
-        option_map (λ value. the.datatype_of (the.predicate (names_seen names.now).context line (trimmed value))) (seen_slice value.entry)) }
+    ensures { OnOk result (Along names.now (λ context line. option_map datatype_seen field.new ≡ datatype_in context line (seen_slice value.entry))) }
 {
     let Some(value) = value else {
         empty(field);
@@ -143,7 +140,7 @@ pub(crate) fn put_language(
     alloc: Global,
     names: &NamesView<'_>,
 ) -> Result<(), NoMemory>
-    ensures { OnOk result ((line : List StartTag) → NamesStand (names_seen names.now) line → field.new ≡ language line) }
+    ensures { OnOk result (Along names.now (λ context line. field.new ≡ language line)) }
 {
     let Some(language) = names.lang() else {
         empty(field);

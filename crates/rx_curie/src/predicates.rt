@@ -1,13 +1,12 @@
 //! The predicates of `property`, `rel` and `rev`.
-ghost use Rattle.std.specs.Prelude.{◌≡◌, ◌++◌, List, false, true, IfOk, OnOk, option_map, option_and_then, option_to_list};
+ghost use Rattle.std.specs.Prelude.{◌≡◌, ◌++◌, false, true, IfOk, OnOk, option_map, option_and_then, option_to_list};
 ghost use Rattle.std.specs.Str.{chars};
 ghost use Rattle.rx_terms.specs.Text.{seen_slice};
-ghost use Rattle.rx_rdfa.specs.Tree.{Tag};
 ghost use Rattle.rx_rdfa.specs.Refusals.{is_relative};
 ghost use Rattle.rx_rdfa.specs.Readings as readings;
 ghost use Rattle.rx_rdfa.specs.Facts as the;
-ghost use Rattle.rx_names.specs.Lines.{NamesStand, vocabulary_of};
-ghost use Rattle.rx_names.specs.Views.{names_seen};
+ghost use Rattle.rx_names.specs.Lines.{vocabulary_of};
+ghost use Rattle.rx_names.specs.Views.{names_seen, Along};
 
 use crate::fields::empty;
 use crate::made::iri_of;
@@ -29,8 +28,7 @@ pub(crate) fn put_link(
     beside_property: bool,
 ) -> Result<(), NoMemory>
     requires { is_relative (vocabulary_of (names_seen names.now)) ≡ false }
-    ensures { OnOk result ((line : List Tag) → NamesStand (names_seen names.now) line
-        → field.new ≡ option_and_then (the.link (names_seen names.now).context line beside_property) (seen_slice value.entry)) }
+    ensures { OnOk result (Along names.now (λ context line. field.new ≡ option_and_then (the.link context line beside_property) (seen_slice value.entry))) }
 {
     let Some(value) = value else {
         empty(field);
@@ -49,8 +47,7 @@ fn link_of(
     beside_property: bool,
 ) -> Result<Option<Iris>, NoMemory>
     requires { is_relative (vocabulary_of (names_seen names.now)) ≡ false }
-    ensures { IfOk result (λ iris. (line : List Tag) → NamesStand (names_seen names.now) line
-        → iris ≡ the.link (names_seen names.now).context line beside_property (chars value.now)) }
+    ensures { IfOk result (λ iris. Along names.now (λ context line. iris ≡ the.link context line beside_property (chars value.now))) }
 {
     if beside_property {
         return kept_predicates(maker, names, value);
@@ -68,8 +65,7 @@ pub(crate) fn put_properties(
     value: Option<&str>,
 ) -> Result<(), NoMemory>
     requires { is_relative (vocabulary_of (names_seen names.now)) ≡ false }
-    ensures { OnOk result ((line : List Tag) → NamesStand (names_seen names.now) line
-        → field.new ≡ option_map (the.predicates (names_seen names.now).context line) (seen_slice value.entry)) }
+    ensures { OnOk result (Along names.now (λ context line. field.new ≡ option_map (the.predicates context line) (seen_slice value.entry))) }
 {
     let Some(value) = value else {
         empty(field);
@@ -83,8 +79,7 @@ pub(crate) fn put_properties(
 /// The predicates that the tokens name, in order.
 fn predicates(maker: &mut IriMaker, names: &NamesView<'_>, value: &str) -> Result<Iris, NoMemory>
     requires { is_relative (vocabulary_of (names_seen names.now)) ≡ false }
-    ensures { IfOk result (λ iris. (line : List Tag) → NamesStand (names_seen names.now) line
-        → iris ≡ the.predicates (names_seen names.now).context line (chars value.now)) }
+    ensures { IfOk result (λ iris. Along names.now (λ context line. iris ≡ the.predicates context line (chars value.now))) }
 {
     let mut iris = Iris::new(maker.alloc);
     let mut rest = value;
@@ -102,8 +97,7 @@ fn kept_predicates(
     value: &str,
 ) -> Result<Option<Iris>, NoMemory>
     requires { is_relative (vocabulary_of (names_seen names.now)) ≡ false }
-    ensures { IfOk result (λ iris. (line : List Tag) → NamesStand (names_seen names.now) line
-        → iris ≡ the.link (names_seen names.now).context line true (chars value.now)) }
+    ensures { IfOk result (λ iris. Along names.now (λ context line. iris ≡ the.link context line true (chars value.now))) }
 {
     let mut iris = Iris::new(maker.alloc);
     let mut is_present = false;
@@ -123,8 +117,7 @@ fn kept_predicates(
 
 /// Whether the token is kept beside `property`: it is a CURIE or a text with a scheme, and no term.
 fn stays_beside_property(names: &NamesView<'_>, token: &str) -> bool
-    ensures { (line : List Tag) → NamesStand (names_seen names.now) line
-        → result ≡ the.stays_beside_property (names_seen names.now).context line (chars token.now) }
+    ensures { Along names.now (λ context line. result ≡ the.stays_beside_property context line (chars token.now)) }
 {
     if is_term(token) {
         return false;
@@ -140,8 +133,7 @@ fn push_predicate(
     token: &str,
 ) -> Result<(), NoMemory>
     requires { is_relative (vocabulary_of (names_seen names.now)) ≡ false }
-    ensures { OnOk result ((line : List Tag) → NamesStand (names_seen names.now) line
-        → iris.new ≡ iris.old ++ option_to_list (the.predicate (names_seen names.now).context line (chars token.now))) }
+    ensures { OnOk result (Along names.now (λ context line. iris.new ≡ iris.old ++ option_to_list (the.predicate context line (chars token.now)))) }
 {
     match predicate(maker, names, token)? {
         Some(iri) => iris.push(iri),
@@ -156,8 +148,7 @@ pub(crate) fn predicate(
     token: &str,
 ) -> Result<Option<Iri>, NoMemory>
     requires { is_relative (vocabulary_of (names_seen names.now)) ≡ false }
-    ensures { IfOk result (λ iri. (line : List Tag) → NamesStand (names_seen names.now) line
-        → iri ≡ the.predicate (names_seen names.now).context line (chars token.now)) }
+    ensures { IfOk result (λ iri. Along names.now (λ context line. iri ≡ the.predicate context line (chars token.now))) }
 {
     if let Some(iri) = known_term(maker, names, token) {
         let iri = iri.try_clone()?;
@@ -175,8 +166,7 @@ fn iri_of_no_term(
     names: &NamesView<'_>,
     token: &str,
 ) -> Result<Option<Iri>, NoMemory>
-    ensures { IfOk result (λ iri. (line : List Tag) → NamesStand (names_seen names.now) line
-        → iri ≡ option_and_then the.iri_of (readings.read_no_term (names_seen names.now).context line (chars token.now))) }
+    ensures { IfOk result (λ iri. Along names.now (λ context line. iri ≡ option_and_then the.iri_of (readings.read_no_term context line (chars token.now)))) }
 {
     match read_no_term(names, token) {
         Some(reading) => iri_of(maker, reading),

@@ -1,13 +1,12 @@
 //! What a word of an attribute means.
-ghost use Rattle.std.specs.Prelude.{◌≡◌, List, true, false, Option, Some, None, option_map, codes, if◌then◌else◌};
+ghost use Rattle.std.specs.Prelude.{◌≡◌, true, false, Option, Some, None, option_map, codes, if◌then◌else◌};
 ghost use Rattle.std.specs.Str.{chars};
 ghost use Rattle.rx_terms.specs.Text.{begins_with, seen_slice};
-ghost use Rattle.rx_rdfa.specs.Tree.{Tag};
 ghost use Rattle.rx_rdfa.specs.Names.{vocab};
 ghost use Rattle.rx_rdfa.specs.Refusals.{is_relative};
 ghost use Rattle.rx_rdfa.specs.Readings as the;
-ghost use Rattle.rx_names.specs.Lines.{NamesStand, vocabulary_of};
-ghost use Rattle.rx_names.specs.Views.{names_seen};
+ghost use Rattle.rx_names.specs.Lines.{vocabulary_of};
+ghost use Rattle.rx_names.specs.Views.{names_seen, Along};
 ghost use Rattle.rx_terms.specs.Iri.{has_scheme};
 ghost use Rattle.rx_curie.specs.Brackets.{inside_brackets};
 ghost use Rattle.rx_curie.specs.Absolute.{none_or_absolute, none_or_named};
@@ -36,8 +35,7 @@ const XHTML_VOCABULARY: &str = "http://www.w3.org/1999/xhtml/vocab#";
 /// What a token of `property`, `rel`, `rev`, `typeof` or `datatype` means, or `None` exactly where it means nothing
 /// (TERMorCURIEorAbsIRI; RDFa Core 1.1, section 7.4.4). No memory is taken.
 pub fn read_term<'a>(names: &NamesView<'a>, text: &'a str) -> Option<Reading<'a>>
-    ensures line { (line : List Tag) → NamesStand (names_seen names.now) line
-        → option_map reading_seen result ≡ the.read_term (names_seen names.now).context line (chars text.now) }
+    ensures line { Along names.now (λ context line. option_map reading_seen result ≡ the.read_term context line (chars text.now)) }
     ensures absolute { is_relative (vocabulary_of (names_seen names.now)) ≡ false → none_or_absolute (option_map reading_seen result) ≡ true }
     ensures named { none_or_named (option_map reading_seen result) ≡ true }
 {
@@ -50,8 +48,7 @@ pub fn read_term<'a>(names: &NamesView<'a>, text: &'a str) -> Option<Reading<'a>
 /// What the value of `about` or `resource` means, or `None` exactly where it means nothing (SafeCURIEorCURIEorIRI; RDFa
 /// Core 1.1, section 7.4.5). No memory is taken.
 pub fn read_resource<'a>(names: &NamesView<'a>, text: &'a str) -> Option<Reading<'a>>
-    ensures line { (line : List Tag) → NamesStand (names_seen names.now) line
-        → option_map reading_seen result ≡ the.read_resource (names_seen names.now).context line (chars text.now) }
+    ensures line { Along names.now (λ context line. option_map reading_seen result ≡ the.read_resource context line (chars text.now)) }
     ensures absolute { none_or_absolute (option_map reading_seen result) ≡ true }
 {
     read_trimmed(names, trim(text))
@@ -59,8 +56,7 @@ pub fn read_resource<'a>(names: &NamesView<'a>, text: &'a str) -> Option<Reading
 
 /// A term, under the default vocabulary or without one.
 fn read_as_term<'a>(names: &NamesView<'a>, text: &'a str) -> Option<Reading<'a>>
-    ensures line { (line : List Tag) → NamesStand (names_seen names.now) line
-        → option_map reading_seen result ≡ the.read_as_term (names_seen names.now).context line (vocab line) (chars text.now) }
+    ensures line { Along names.now (λ context line. option_map reading_seen result ≡ the.read_as_term context line (vocab line) (chars text.now)) }
     ensures absolute { is_relative (vocabulary_of (names_seen names.now)) ≡ false → none_or_absolute (option_map reading_seen result) ≡ true }
     ensures named { none_or_named (option_map reading_seen result) ≡ true }
 {
@@ -75,8 +71,7 @@ fn read_as_term<'a>(names: &NamesView<'a>, text: &'a str) -> Option<Reading<'a>>
 
 /// A CURIE or a text with a scheme.
 pub(crate) fn read_no_term<'a>(names: &NamesView<'a>, text: &'a str) -> Option<Reading<'a>>
-    ensures line { (line : List Tag) → NamesStand (names_seen names.now) line
-        → option_map reading_seen result ≡ the.read_no_term (names_seen names.now).context line (chars text.now) }
+    ensures line { Along names.now (λ context line. option_map reading_seen result ≡ the.read_no_term context line (chars text.now)) }
     ensures absolute { none_or_absolute (option_map reading_seen result) ≡ true }
     ensures named { none_or_named (option_map reading_seen result) ≡ true }
 {
@@ -99,8 +94,7 @@ fn full_if_scheme(text: &str) -> Option<Reading<'_>>
 
 /// A CURIE.
 fn read_curie<'a>(names: &NamesView<'a>, text: &'a str) -> Option<Reading<'a>>
-    ensures line { (line : List Tag) → NamesStand (names_seen names.now) line
-        → option_map reading_seen result ≡ the.read_curie (names_seen names.now).context line (chars text.now) }
+    ensures line { Along names.now (λ context line. option_map reading_seen result ≡ the.read_curie context line (chars text.now)) }
     ensures absolute { none_or_absolute (option_map reading_seen result) ≡ true }
     ensures named { none_or_named (option_map reading_seen result) ≡ true }
 {
@@ -115,8 +109,7 @@ fn read_curie<'a>(names: &NamesView<'a>, text: &'a str) -> Option<Reading<'a>>
 
 /// A prefix with the reference behind its colon.
 fn read_parts<'a>(names: &NamesView<'a>, prefix: &'a str, reference: &'a str) -> Option<Reading<'a>>
-    ensures line { (line : List Tag) → NamesStand (names_seen names.now) line
-        → option_map reading_seen result ≡ the.read_parts (names_seen names.now).context line (chars prefix.now) (chars reference.now) }
+    ensures line { Along names.now (λ context line. option_map reading_seen result ≡ the.read_parts context line (chars prefix.now) (chars reference.now)) }
     ensures absolute { none_or_absolute (option_map reading_seen result) ≡ true }
     ensures named { none_or_named (option_map reading_seen result) ≡ true }
 {
@@ -134,8 +127,7 @@ fn read_parts<'a>(names: &NamesView<'a>, prefix: &'a str, reference: &'a str) ->
 
 /// A text without white space at its ends: a CURIE in brackets, a CURIE or a reference.
 fn read_trimmed<'a>(names: &NamesView<'a>, text: &'a str) -> Option<Reading<'a>>
-    ensures line { (line : List Tag) → NamesStand (names_seen names.now) line
-        → option_map reading_seen result ≡ the.read_trimmed (names_seen names.now).context line (chars text.now) }
+    ensures line { Along names.now (λ context line. option_map reading_seen result ≡ the.read_trimmed context line (chars text.now)) }
     ensures absolute { none_or_absolute (option_map reading_seen result) ≡ true }
 {
     match bracketed(text) {
@@ -155,8 +147,7 @@ fn bracketed(text: &str) -> Option<&str>
 }
 
 fn curie_or_reference<'a>(names: &NamesView<'a>, text: &'a str) -> Option<Reading<'a>>
-    ensures line { (line : List Tag) → NamesStand (names_seen names.now) line
-        → option_map reading_seen result ≡ the.curie_or_reference (names_seen names.now).context line (chars text.now) }
+    ensures line { Along names.now (λ context line. option_map reading_seen result ≡ the.curie_or_reference context line (chars text.now)) }
     ensures absolute { none_or_absolute (option_map reading_seen result) ≡ true }
 {
     match read_curie(names, text) {

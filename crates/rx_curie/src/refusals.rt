@@ -1,16 +1,15 @@
 //! The faults for which a start tag is refused.
-ghost use Rattle.std.specs.Prelude.{◌≡◌, ◌∷◌, ◌++◌, List, false, true, None, Some, bytes_eq, option_map};
+ghost use Rattle.std.specs.Prelude.{◌≡◌, ◌++◌, false, true, None, Some, bytes_eq, option_map};
 ghost use Rattle.std.specs.List.{list_all};
 ghost use Rattle.std.specs.Str.{chars};
 ghost use Rattle.rx_terms.specs.Ascii.{is_ascii};
-ghost use Rattle.rx_terms.specs.Text.{trimmed, seen_slice};
-ghost use Rattle.rx_rdfa.specs.Tree.{Tag as StartTag};
+ghost use Rattle.rx_terms.specs.Text.{seen_slice};
 ghost use Rattle.rx_rdfa.specs.Refusals.{is_relative, refusal};
 ghost use Rattle.rx_rdfa.specs.Facts as the;
 ghost use Rattle.rx_names.specs.Tags.{tag_of};
-ghost use Rattle.rx_names.specs.Lines.{NamesStand, vocabulary_of};
-ghost use Rattle.rx_names.specs.Views.{names_seen};
-ghost use Rattle.rx_curie.specs.Given.{own_vocabulary, vocabulary_from, kind_of, is_refusal_kind};
+ghost use Rattle.rx_names.specs.Lines.{vocabulary_of};
+ghost use Rattle.rx_names.specs.Views.{names_seen, Along};
+ghost use Rattle.rx_curie.specs.Given.{own_vocabulary, kind_of, OnFacts};
 ghost use Rattle.rx_curie.specs.Refusing.{is_iri, is_uncleaned, markup, markup_of, kind_or_none};
 ghost use Rattle.rx_curie.specs.Seen.{reading_seen};
 
@@ -27,9 +26,7 @@ use rx_words::trim;
 /// a datatype that reads as rdf:XMLLiteral, `HtmlLiteral` where that is rdf:HTML. Where an element around declares the
 /// vocabulary in force, and that has no scheme, the answer is `RelativeVocab` too. No memory is taken.
 pub fn refusal_of(tag: &Tag<'_>, names: &NamesView<'_>) -> Option<Kind>
-    ensures line { (above : List StartTag) → NamesStand (names_seen names.now) (tag_of tag.now ∷ above)
-        → is_relative (vocabulary_from above (tag_of tag.now)) ≡ false
-        → result ≡ option_map kind_of (refusal (the.facts (names_seen names.now).context above (tag_of tag.now))) }
+    ensures line { OnFacts names.now (tag_of tag.now) (λ facts. result ≡ option_map kind_of (refusal facts)) }
     ensures relative { is_relative (vocabulary_of (names_seen names.now)) ≡ true → result ≡ Some Kind.RelativeVocab }
     ensures own { result ≡ None → is_relative (own_vocabulary (tag_of tag.now)) ≡ false }
     ensures absolute { result ≡ None → is_relative (vocabulary_of (names_seen names.now)) ≡ false }
@@ -40,9 +37,7 @@ pub fn refusal_of(tag: &Tag<'_>, names: &NamesView<'_>) -> Option<Kind>
 
 /// The same by the tag's attributes.
 pub(crate) fn refusal_by(attributes: &Attributes<'_>, names: &NamesView<'_>) -> Option<Kind>
-    ensures line { (above : List StartTag) → NamesStand (names_seen names.now) (attributes.now ∷ above)
-        → is_relative (vocabulary_from above attributes.now) ≡ false
-        → result ≡ option_map kind_of (refusal (the.facts (names_seen names.now).context above attributes.now)) }
+    ensures line { OnFacts names.now attributes.now (λ facts. result ≡ option_map kind_of (refusal facts)) }
     ensures relative { is_relative (vocabulary_of (names_seen names.now)) ≡ true → result ≡ Some Kind.RelativeVocab }
     ensures own { result ≡ None → is_relative (own_vocabulary attributes.now) ≡ false }
     ensures absolute { result ≡ None → is_relative (vocabulary_of (names_seen names.now)) ≡ false }
@@ -62,8 +57,7 @@ pub(crate) fn refusal_by(attributes: &Attributes<'_>, names: &NamesView<'_>) -> 
 
 /// The kind of markup that a literal with this attribute `datatype` is, if it is any.
 fn markup_of(names: &NamesView<'_>, value: Option<&str>) -> Option<Kind>
-    ensures line { (line : List StartTag) → NamesStand (names_seen names.now) line
-        → result ≡ option_map kind_of (markup_of (names_seen names.now).context line (seen_slice value.entry)) }
+    ensures line { Along names.now (λ context line. result ≡ option_map kind_of (markup_of context line (seen_slice value.entry))) }
     ensures kinds { kind_or_none result ≡ true }
 {
     let Some(value) = value else {

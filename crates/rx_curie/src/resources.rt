@@ -1,11 +1,10 @@
 //! What `about`, `resource`, `href` and `src` name.
-ghost use Rattle.std.specs.Prelude.{◌≡◌, List, IfOk, OnOk, option_map, option_and_then};
+ghost use Rattle.std.specs.Prelude.{◌≡◌, IfOk, OnOk, option_map};
 ghost use Rattle.std.specs.Str.{chars};
 ghost use Rattle.rx_terms.specs.Text.{seen_slice};
-ghost use Rattle.rx_rdfa.specs.Tree.{Tag};
 ghost use Rattle.rx_rdfa.specs.Facts as the;
-ghost use Rattle.rx_names.specs.Lines.{NamesStand};
-ghost use Rattle.rx_names.specs.Views.{names_seen};
+ghost use Rattle.rx_names.specs.Views.{Along};
+ghost use Rattle.rx_curie.specs.Given.{resource_in};
 ghost use Rattle.rx_curie.specs.Seen.{ref_seen};
 
 use crate::fields::empty;
@@ -26,8 +25,7 @@ pub(crate) fn put_resource(
     names: &NamesView<'_>,
     value: Option<&str>,
 ) -> Result<(), NoMemory>
-    ensures { OnOk result ((line : List Tag) → NamesStand (names_seen names.now) line
-        → option_map ref_seen field.new ≡ option_and_then (the.resource_of (names_seen names.now).context line) (seen_slice value.entry)) }
+    ensures { OnOk result (Along names.now (λ context line. option_map ref_seen field.new ≡ resource_in context line (seen_slice value.entry))) }
 {
     let Some(value) = value else {
         empty(field);
@@ -44,8 +42,7 @@ fn resource_of(
     names: &NamesView<'_>,
     value: &str,
 ) -> Result<Option<Ref>, NoMemory>
-    ensures { IfOk result (λ made. (line : List Tag) → NamesStand (names_seen names.now) line
-        → option_map ref_seen made ≡ the.resource_of (names_seen names.now).context line (chars value.now)) }
+    ensures { IfOk result (λ made. Along names.now (λ context line. option_map ref_seen made ≡ the.resource_of context line (chars value.now))) }
 {
     let Some(reading) = read_resource(names, value) else {
         return Ok(None);

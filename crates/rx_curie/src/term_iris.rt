@@ -1,11 +1,10 @@
 //! The IRIs of terms under a vocabulary, of which a page has few, and most of them many times.
-ghost use Rattle.std.specs.Prelude.{◌≡◌, List, Some, true, false, IfOk, IfSome};
+ghost use Rattle.std.specs.Prelude.{◌≡◌, Some, true, false, IfOk, IfSome};
 ghost use Rattle.std.specs.Str.{chars};
-ghost use Rattle.rx_rdfa.specs.Tree.{Tag};
 ghost use Rattle.rx_rdfa.specs.Refusals.{is_relative};
 ghost use Rattle.rx_rdfa.specs.Readings.{is_term, read_term};
-ghost use Rattle.rx_names.specs.Lines.{NamesStand, vocabulary_of};
-ghost use Rattle.rx_names.specs.Views.{names_seen};
+ghost use Rattle.rx_names.specs.Lines.{vocabulary_of};
+ghost use Rattle.rx_names.specs.Views.{names_seen, Along};
 ghost use Rattle.rx_curie.specs.TermIris.{MakesIri};
 
 use crate::comparisons::is_same;
@@ -80,8 +79,7 @@ pub(crate) fn known_term<'a>(
     names: &NamesView<'_>,
     token: &str,
 ) -> Option<&'a Iri>
-    ensures { IfSome result (λ iri. (line : List Tag) → NamesStand (names_seen names.now) line
-        → MakesIri (read_term (names_seen names.now).context line (chars token.now)) (Some iri.now)) }
+    ensures { IfSome result (λ iri. Along names.now (λ context line. MakesIri (read_term context line (chars token.now)) (Some iri.now))) }
 {
     let Some(known) = maker.term_at(token) else {
         return None;
@@ -103,8 +101,7 @@ pub(crate) fn term_iri(
 ) -> Result<Option<Iri>, NoMemory>
     requires term { is_term (chars token.now) ≡ true }
     requires vocabulary { is_relative (vocabulary_of (names_seen names.now)) ≡ false }
-    ensures { IfOk result (λ iri. (line : List Tag) → NamesStand (names_seen names.now) line
-        → MakesIri (read_term (names_seen names.now).context line (chars token.now)) iri) }
+    ensures { IfOk result (λ iri. Along names.now (λ context line. MakesIri (read_term context line (chars token.now)) iri)) }
 {
     if let Some(vocabulary) = names.vocab() {
         let iri = maker.term(vocabulary, token)?;

@@ -1,15 +1,14 @@
 //! The types of `typeof`.
-ghost use Rattle.std.specs.Prelude.{◌≡◌, ◌++◌, List, false, true, IfOk, OnOk, option_map, option_to_list};
+ghost use Rattle.std.specs.Prelude.{◌≡◌, false, true, IfOk, OnOk, option_map};
 ghost use Rattle.std.specs.Str.{chars};
 ghost use Rattle.rx_terms.specs.Text.{seen_slice};
-ghost use Rattle.rx_rdfa.specs.Tree.{Tag};
 ghost use Rattle.rx_rdfa.specs.Refusals.{is_relative};
 ghost use Rattle.rx_rdfa.specs.Readings as readings;
 ghost use Rattle.rx_rdfa.specs.Readings.{is_term};
 ghost use Rattle.rx_rdfa.specs.Facts as the;
-ghost use Rattle.rx_names.specs.Lines.{NamesStand, vocabulary_of};
-ghost use Rattle.rx_names.specs.Views.{names_seen};
-ghost use Rattle.rx_curie.specs.Seen.{refs_seen};
+ghost use Rattle.rx_names.specs.Lines.{vocabulary_of};
+ghost use Rattle.rx_names.specs.Views.{names_seen, Along};
+ghost use Rattle.rx_curie.specs.Seen.{refs_seen, GainsType};
 
 use crate::fields::empty;
 use crate::made::ref_of;
@@ -31,8 +30,7 @@ pub(crate) fn put_types(
     value: Option<&str>,
 ) -> Result<(), NoMemory>
     requires { is_relative (vocabulary_of (names_seen names.now)) ≡ false }
-    ensures { OnOk result ((line : List Tag) → NamesStand (names_seen names.now) line
-        → option_map refs_seen field.new ≡ option_map (the.types_of (names_seen names.now).context line) (seen_slice value.entry)) }
+    ensures { OnOk result (Along names.now (λ context line. option_map refs_seen field.new ≡ option_map (the.types_of context line) (seen_slice value.entry))) }
 {
     let Some(value) = value else {
         empty(field);
@@ -46,8 +44,7 @@ pub(crate) fn put_types(
 /// The types that the tokens name, in order.
 fn types_of(maker: &mut IriMaker, names: &NamesView<'_>, value: &str) -> Result<TypeList, NoMemory>
     requires { is_relative (vocabulary_of (names_seen names.now)) ≡ false }
-    ensures { IfOk result (λ types. (line : List Tag) → NamesStand (names_seen names.now) line
-        → refs_seen types ≡ the.types_of (names_seen names.now).context line (chars value.now)) }
+    ensures { IfOk result (λ types. Along names.now (λ context line. refs_seen types ≡ the.types_of context line (chars value.now))) }
 {
     let mut types = TypeList::new(maker.alloc);
     let mut rest = value;
@@ -66,9 +63,7 @@ fn push_type(
     token: &str,
 ) -> Result<(), NoMemory>
     requires { is_relative (vocabulary_of (names_seen names.now)) ≡ false }
-    ensures { OnOk result ((line : List Tag) → NamesStand (names_seen names.now) line
-        → refs_seen types.new ≡
-        refs_seen types.old ++ option_to_list (option_map the.ref_of (readings.read_term (names_seen names.now).context line (chars token.now)))) }
+    ensures { OnOk result (Along names.now (λ context line. GainsType types.old types.new (readings.read_term context line (chars token.now)))) }
 {
     if let Some(iri) = known_term(maker, names, token) {
         return types.push(Ref::Iri(iri.try_clone()?));
@@ -88,9 +83,7 @@ fn push_term(
 ) -> Result<(), NoMemory>
     requires term { is_term (chars token.now) ≡ true }
     requires vocabulary { is_relative (vocabulary_of (names_seen names.now)) ≡ false }
-    ensures { OnOk result ((line : List Tag) → NamesStand (names_seen names.now) line
-        → refs_seen types.new ≡
-        refs_seen types.old ++ option_to_list (option_map the.ref_of (readings.read_term (names_seen names.now).context line (chars token.now)))) }
+    ensures { OnOk result (Along names.now (λ context line. GainsType types.old types.new (readings.read_term context line (chars token.now)))) }
 {
     match term_iri(maker, names, token)? {
         Some(iri) => types.push(Ref::Iri(iri)),
@@ -105,9 +98,7 @@ fn push_no_term(
     names: &NamesView<'_>,
     token: &str,
 ) -> Result<(), NoMemory>
-    ensures { OnOk result ((line : List Tag) → NamesStand (names_seen names.now) line
-        → refs_seen types.new ≡
-        refs_seen types.old ++ option_to_list (option_map the.ref_of (readings.read_no_term (names_seen names.now).context line (chars token.now)))) }
+    ensures { OnOk result (Along names.now (λ context line. GainsType types.old types.new (readings.read_no_term context line (chars token.now)))) }
 {
     let Some(reading) = read_no_term(names, token) else {
         return Ok(());

@@ -1,6 +1,6 @@
 -- Which triples of a list are the first of their kind.
-use Rattle.std.proofs.Common.{◌≡◌, ℕ, suc, ◌+◌, ◌<◌, ◌≤◌, Bool, true, false, not, List, [], ◌∷◌, ◌++◌, map, length, take, get_or, slice_get, Some, refl, sym, ap, ap₂, ◌∙◌, if◌then◌else◌, nat_eq, true≢false, length-append, arith, ◌||◌, ◌&&◌, ⊎_elim, option_map}
-use Rattle.std.proofs.lemmas.List.{map-append, take_all, take-map}
+use Rattle.std.proofs.Common.{◌≡◌, ℕ, suc, ◌+◌, ◌<◌, Bool, true, false, not, List, [], ◌∷◌, ◌++◌, map, length, take, get_or, slice_get, Some, refl, sym, ap, ap₂, ◌∙◌, if◌then◌else◌, nat_eq, true≢false, length-append, arith, ◌||◌, ◌&&◌, ⊎_elim, option_map}
+use Rattle.std.proofs.lemmas.List.{map-append, take-map}
 use Rattle.std.proofs.Math.Bool.{or-false}
 use Rattle.std.proofs.lemmas.Option.{slice_get-map, get_or_from_slice_get}
 use Rattle.rx_model.specs.Sets.{IsExact, contains, distinct}

@@ -11,7 +11,7 @@ use Rattle.rx_terms.specs.declared.triples.Triple.{Triple as CodeTriple}
 use Rattle.rx_model.specs.Sets.{Among, IsExact, contains, distinct}
 use Rattle.rx_model.specs.Terms.{Triple, same_triple}
 use Rattle.rx_model.specs.Seen.{triple_seen, triples_seen}
-use Rattle.rx_model.proofs.Sets.{false_unless, Among_of_distinct}
+use Rattle.rx_model.proofs.Sets.{Among_of_distinct}
 use Rattle.rx_model.proofs.Exact.{exact_numbers, exact_triples}
 use Rattle.rx_model.proofs.Seen.{triple_tells}
 use Rattle.rx_graph.specs.Graph.{added}

@@ -1,8 +1,8 @@
 -- What is copied from patterns, by their numbers.
-use Rattle.std.specs.Prelude.{◌≡◌, ◌⊎◌, ◌<◌, ℕ, Bool, false, not, ◌&&◌, List, [], length, get_or, slice_get, Option, Some, None, option_map, is_none, nat_eq, if◌then◌else◌}
+use Rattle.std.specs.Prelude.{◌≡◌, ◌⊎◌, ◌<◌, ℕ, Bool, false, not, ◌&&◌, List, [], length, get_or, slice_get, Option, Some, None, option_map, is_none, filter_map, nat_eq, if◌then◌else◌}
 use Rattle.rx_model.specs.Sets.{Among}
 use Rattle.rx_model.specs.Terms.{Node, Triple, same_node}
-use Rattle.rx_model.specs.Copied.{edges, given, leads, says_pattern}
+use Rattle.rx_model.specs.Copied.{edges, given, leads, says_pattern, treated}
 use Rattle.rx_graph.specs.Resources.{number_in, live_by}
 use Rattle.rx_graph.specs.Rows.{pushed}
 use Rattle.rx_graph.specs.Patterns.{places, edges_by, given_one, is_given, ArePatterns, AreReferenced}
@@ -70,6 +70,10 @@ contents list t = places (gives list t) 0 list
 abbrev pub given_by : List (Triple ℕ) → Node ℕ → Node ℕ → Triple ℕ → Option (Triple ℕ)
 given_by list s t u = given nat_eq list (edges nat_eq list) s t u
 
+-- all that s gets by copying t
+abbrev pub given_all : List (Triple ℕ) → Node ℕ → Node ℕ → List (Triple ℕ)
+given_all list s t = filter_map (given_by list s t) list
+
 -- what s gets by the triple at a place
 abbrev pub given_from : List (Triple ℕ) → Node ℕ → Option (Triple ℕ) → Option (Triple ℕ)
 given_from list s None = None
@@ -77,6 +81,11 @@ given_from list s (Some u) = given_one list s u
 
 abbrev pub given_at : List (Triple ℕ) → Node ℕ → ℕ → Option (Triple ℕ)
 given_at list s i = given_from list s (slice_get list i)
+
+-- ---- what stands in place of a triple
+
+abbrev pub stands_for : List (Triple ℕ) → Triple ℕ → List (Triple ℕ)
+stands_for list u = treated nat_eq list (edges nat_eq list) u
 
 -- ---- the index
 

@@ -15,6 +15,10 @@ abbrev pub added_all : List (Triple ℕ) → List (Triple ℕ) → List (Triple 
 added_all list [] = list
 added_all list (t ∷ more) = added_all (added list t) more
 
+-- Behind the code's triples of one list stand these, each where it isn't there yet.
+abbrev pub Adds : List (Triple ℕ) → List CodeTriple → List CodeTriple → Type 0
+Adds more old new = triples_seen new ≡ added_all (triples_seen old) more
+
 -- of each triple whether none of these and none before it is alike
 abbrev pub marks_after : List (Triple ℕ) → List (Triple ℕ) → List Bool
 marks_after list [] = []

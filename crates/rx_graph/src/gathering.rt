@@ -37,9 +37,7 @@ impl Gathering {
     pub(crate) fn add(&mut self, triple: Triple) -> Result<(), NoMemory>
         ensures { OnOk result (triples_seen self.new ≡ added (triples_seen self.old) (triple_seen triple)) }
     {
-        if self.triples.insert(triple).is_err() {
-            return Err(NoMemory);
-        }
+        self.triples.insert(triple)?;
         Ok(())
     }
 

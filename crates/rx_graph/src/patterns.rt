@@ -1,11 +1,11 @@
 //! The patterns of a list of triples, and what they give.
 ghost use Rattle.std.specs.Prelude.{◌≡◌, true, filter_map, option_to_list, IfOk, OnOk, nat_eq};
-ghost use Rattle.rx_model.specs.Copied.{is_pattern, edges, treated};
+ghost use Rattle.rx_model.specs.Copied.{is_pattern};
 ghost use Rattle.rx_model.specs.Seen.{node_seen, triple_seen, triples_seen};
-ghost use Rattle.rx_graph.specs.Graph.{added_all};
+ghost use Rattle.rx_graph.specs.Graph.{Adds};
 ghost use Rattle.rx_graph.specs.Resources.{resource_seen};
 ghost use Rattle.rx_graph.specs.Patterns.{ArePatterns, AreReferenced, edges_by, given_one};
-ghost use Rattle.rx_graph.specs.Copying.{given_at, given_by};
+ghost use Rattle.rx_graph.specs.Copying.{given_all, given_at, stands_for};
 
 use crate::gathering::Gathering;
 use crate::index::Index;
@@ -63,8 +63,7 @@ impl<'a> Patterns<'a> {
         triple: &'a Triple,
         gathering: &mut Gathering,
     ) -> Result<(), NoMemory>
-        ensures { OnOk result (triples_seen gathering.new ≡ added_all (triples_seen gathering.old)
-            (treated nat_eq (triples_seen self.now) (edges nat_eq (triples_seen self.now)) (triple_seen triple.now))) }
+        ensures { OnOk result (Adds (stands_for (triples_seen self.now) (triple_seen triple.now)) gathering.old gathering.new) }
     {
         if self.referenced.contains(Resource::of_node(&triple.subject)) {
             return Ok(());
@@ -84,8 +83,7 @@ impl<'a> Patterns<'a> {
         gathering: &mut Gathering,
     ) -> Result<(), NoMemory>
         requires { is_pattern nat_eq (triples_seen self.now) (resource_seen pattern) ≡ true }
-        ensures { OnOk result (triples_seen gathering.new ≡ added_all (triples_seen gathering.old)
-            (filter_map (given_by (triples_seen self.now) (node_seen subject.now) (resource_seen pattern.entry)) (triples_seen self.now))) }
+        ensures { OnOk result (Adds (given_all (triples_seen self.now) (node_seen subject.now) (resource_seen pattern.entry)) gathering.old gathering.new) }
     {
         let Some(from) = self.index.lead_of(pattern) else {
             return Ok(());
@@ -105,8 +103,7 @@ impl<'a> Patterns<'a> {
         places: &[usize],
         gathering: &mut Gathering,
     ) -> Result<(), NoMemory>
-        ensures { OnOk result (triples_seen gathering.new ≡ added_all (triples_seen gathering.old)
-            (filter_map (given_at (triples_seen self.now) (node_seen subject.now)) places.now)) }
+        ensures { OnOk result (Adds (filter_map (given_at (triples_seen self.now) (node_seen subject.now)) places.now) gathering.old gathering.new) }
     {
         for place in places {
             self.give_at(subject, *place, gathering)?;
@@ -121,8 +118,7 @@ impl<'a> Patterns<'a> {
         place: usize,
         gathering: &mut Gathering,
     ) -> Result<(), NoMemory>
-        ensures { OnOk result (triples_seen gathering.new ≡ added_all (triples_seen gathering.old)
-            (option_to_list (given_at (triples_seen self.now) (node_seen subject.now) place))) }
+        ensures { OnOk result (Adds (option_to_list (given_at (triples_seen self.now) (node_seen subject.now) place)) gathering.old gathering.new) }
     {
         if place >= self.triples.len() {
             return Ok(());
@@ -137,8 +133,7 @@ impl<'a> Patterns<'a> {
         triple: &'a Triple,
         gathering: &mut Gathering,
     ) -> Result<(), NoMemory>
-        ensures { OnOk result (triples_seen gathering.new ≡ added_all (triples_seen gathering.old)
-            (option_to_list (given_one (triples_seen self.now) (node_seen subject.now) (triple_seen triple.now)))) }
+        ensures { OnOk result (Adds (option_to_list (given_one (triples_seen self.now) (node_seen subject.now) (triple_seen triple.now))) gathering.old gathering.new) }
     {
         if says_pattern(triple) || self.index.nodes.live(triple).is_some() {
             return Ok(());

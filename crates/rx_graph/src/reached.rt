@@ -39,9 +39,7 @@ impl Reached {
     fn add(&mut self, number: usize) -> Result<(), NoMemory>
         ensures { OnOk result (self.new ≡ known_one self.old number) }
     {
-        if self.numbers.insert(number).is_err() {
-            return Err(NoMemory);
-        }
+        self.numbers.insert(number)?;
         Ok(())
     }
 

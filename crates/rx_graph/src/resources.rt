@@ -71,9 +71,7 @@ impl<'a> Nodes<'a> {
     pub fn add(&mut self, node: Resource<'a>) -> Result<(), NoMemory>
         ensures { OnOk result (self.new ≡ node_added self.old (resource_seen node.entry)) }
     {
-        if self.nodes.insert(node).is_err() {
-            return Err(NoMemory);
-        }
+        self.nodes.insert(node)?;
         Ok(())
     }
 

@@ -41,9 +41,7 @@ impl Rows {
     pub fn add(&mut self, alloc: Global) -> Result<(), NoMemory>
         ensures { OnOk result (self.new ≡ self.old ++ [] ∷ []) }
     {
-        if self.rows.push(Vec::new(alloc)).is_err() {
-            return Err(NoMemory);
-        }
+        self.rows.push(Vec::new(alloc))?;
         Ok(())
     }
 

@@ -1,6 +1,6 @@
 -- Triples that are put into groups.
 use Rattle.std.proofs.Common.{◌≡◌, ◌∙◌, ℕ, zero, suc, ◌+◌, ◌<◌, ◌≤◌, Bool, true, false, ◌||◌, nat_eq, List, [], ◌∷◌, ◌++◌, map, filter, length, take, slice_get, slice_set, get_or, Result, Ok, Err, is_ok, is_err, Option, Some, None, option_map, Bor, refl, sym, ap, ap₂, true≢false, arith, append-nil, if◌then◌else◌}
-use Rattle.std.proofs.lemmas.List.{take_all, map-append}
+use Rattle.std.proofs.lemmas.List.{map-append}
 use Rattle.std.proofs.lemmas.List.Elements.{filter-append}
 use Rattle.rx_terms.specs.declared.triples.Triple.{Triple as CodeTriple}
 use Rattle.rx_model.specs.Sets.{contains, distinct}
@@ -12,7 +12,7 @@ use Rattle.rx_terms.proofs.Bools.{same_truth}
 use Rattle.rx_graph.proofs.SetLemmas.{distinct_grows, one_more}
 use Rattle.rx_groups.specs.declared.keys.By.{By}
 use Rattle.rx_groups.specs.declared.groups.Group.{Group}
-use Rattle.rx_groups.specs.Groups.{Keyed, group_seen, key_by, has_key, keys_by, grouped, put_in}
+use Rattle.rx_groups.specs.Groups.{Keyed, group_seen, key_by, has_key, keys_by, put_in}
 
 abbrev pub lent_seen : Bor CodeTriple → Triple ℕ
 lent_seen t = triple_seen t.now

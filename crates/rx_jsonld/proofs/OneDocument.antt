@@ -6,7 +6,7 @@ use Rattle.serde_json.specs.Data.{Data, Items, Members, string, array, object, n
 use Rattle.rx_terms.specs.Text.{Chars, split_at, front_grows}
 use Rattle.rx_terms.specs.Iri.{IsIri, begins_with_scheme}
 use Rattle.rx_terms.specs.Ascii.{is_letter}
-use Rattle.rx_model.specs.Terms.{Kind, Plain, Tagged, Typed, Triple, set_of}
+use Rattle.rx_model.specs.Terms.{Kind, Plain, Tagged, Typed, set_of}
 use Rattle.rx_model.specs.Numbered.{Renamed}
 use Rattle.rx_notation.proofs.Renamings.{renamed_across}
 use Rattle.rx_jsonld.specs.Document.{Item, Reference, Value, Single, Several, Entry, Id, Types, Says, Document, SpellsEach, SpellsArray, SpellsText, SpellsItem, SpellsObject, SpellsValue, SpellsEntry, SpellsEntries, SpellsNode, AreTwo, one, SpellsOne}

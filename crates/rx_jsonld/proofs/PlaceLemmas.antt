@@ -1,8 +1,8 @@
 -- What is found by the places of a node's triples.
-use Rattle.std.proofs.Common.{◌≡◌, ◌∙◌, ◌≤◌, ℕ, zero, suc, ◌+◌, ◌-◌, ◌<◌, nat_eq, Bool, true, false, not, ◌&&◌, ◌||◌, cond, List, [], ◌∷◌, ◌++◌, map, filter, flat_map, length, take, bytes_eq, slice_get, Option, Some, None, refl, sym, ap, ap₂, subst, inl, inr, arith, append-nil, append_assoc}
+use Rattle.std.proofs.Common.{◌≡◌, ◌∙◌, ℕ, zero, suc, ◌+◌, ◌-◌, ◌<◌, nat_eq, Bool, true, false, not, ◌&&◌, ◌||◌, cond, List, [], ◌∷◌, ◌++◌, map, filter, flat_map, take, bytes_eq, slice_get, Option, Some, None, refl, sym, ap, ap₂, subst, inl, inr, arith, append-nil, append_assoc}
 use Rattle.std.proofs.lemmas.Bool.Decides.{nat_tests}
 use Rattle.std.specs.Option.{option_or}
-use Rattle.std.proofs.lemmas.List.{take_all, map-append}
+use Rattle.std.proofs.lemmas.List.{map-append}
 use Rattle.std.proofs.lemmas.List.Elements.{filter-append}
 use Rattle.serde_json.specs.Data.{Data, Members}
 use Rattle.rx_terms.specs.Text.{Chars}
@@ -22,10 +22,9 @@ use Rattle.rx_shapes.specs.Places.{places_of}
 use Rattle.rx_shapes.specs.declared.shapes.Shape.{Shape}
 use Rattle.rx_shapes.proofs.IndexLemmas.{seen_at}
 use Rattle.rx_notation.specs.Layout.{has_subject, has_predicate, about, subjects}
-use Rattle.rx_notation.specs.Laws.{IsWritable}
 use Rattle.rx_notation.proofs.Grouped.{same_nodes}
 use Rattle.rx_jsonld.specs.Lists.{first_of, object_at, blank_in, numbers_from, chain, cells_at, listed, is_listed}
-use Rattle.rx_jsonld.specs.Value.{with_said, with_all, node_value, tops}
+use Rattle.rx_jsonld.specs.Value.{with_said, with_all, node_value}
 use Rattle.rx_jsonld.specs.Places.{object_if, object_among, nodes_added, with_found, with_places, starts, node_at}
 
 -- ---- the triples at the places of those that pass a test

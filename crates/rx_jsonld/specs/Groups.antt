@@ -23,8 +23,12 @@ key_of t = key_by t (type_of t)
 abbrev pub Group : Type 0
 Group = Bor (List ℕ) × Vec ℕ Global
 
+-- places under their keys, as they are gathered
+abbrev pub Gathered : Type 0
+Gathered = BTreeMap (Bor (List ℕ)) (Vec ℕ Global)
+
 -- the places that stand under a key
-abbrev pub places_under : BTreeMap (Bor (List ℕ)) (Vec ℕ Global) → List ℕ → Option (Vec ℕ Global)
+abbrev pub places_under : Gathered → List ℕ → Option (Vec ℕ Global)
 places_under groups key = get_by (λ first. slice_cmp nat_cmp key first.now) groups
 
 module _ (list : List (Triple ℕ)) (shapes : ℕ → Shape) where

@@ -1,10 +1,7 @@
 -- The JSON-LD of a list of triples: expanded and flattened form (JSON-LD 1.1, 9; JSON-LD 1.1 Processing Algorithms and API,
 -- 4.1 and 4.3). The order, which cells are listed, and the names of blank nodes are our own choice.
 use Rattle.std.specs.Prelude.{ℕ, Bool, false, not, ◌&&◌, List, [], ◌∷◌, map, filter, length, codes, bytes_eq, encode_utf8_all, Option, Some, None, if◌then◌else◌}
-use Rattle.std.specs.Ordering.{nat_cmp, match_ordering}
-use Rattle.std.specs.Cmp.Lexicographic.{slice_cmp}
-use Rattle.serde_json.specs.Data.{Data, Items, Members, null, string, array, object, no_items, no_members, member}
-use Rattle.serde_json.specs.Data as json
+use Rattle.serde_json.specs.Data.{Data, Members, null, string, array, object, no_members, member}
 use Rattle.serde_json.specs.View.{items_of}
 use Rattle.rx_terms.specs.Text.{Chars}
 use Rattle.rx_model.specs.Terms.{Kind, Plain, Tagged, Typed, Node, Iri, Blank, Term, Resource, Literal, Triple}

@@ -1,13 +1,10 @@
 //! The places of a node's triples under their keys, in the order of the keys' bytes.
-ghost use Rattle.std.specs.Prelude.{◌≡◌, ℕ, List, ◌∷◌, ◌++◌, [], IfOk, OnOk, None};
-ghost use Rattle.serde_json.specs.Data.{no_members};
+ghost use Rattle.std.specs.Prelude.{◌≡◌, ℕ, ◌∷◌, ◌++◌, [], IfOk, OnOk};
 ghost use Rattle.rx_model.specs.Seen.{triple_seen, triples_seen};
-ghost use Rattle.rx_model.specs.Terms.{Triple as Said};
 ghost use Rattle.rx_shapes.specs.declared.shapes.Shape.{Shape};
-ghost use Rattle.rx_jsonld.specs.Groups.{grouped, key_of, places_under, value_at};
+ghost use Rattle.rx_jsonld.specs.Groups.{key_of};
 ghost use Rattle.rx_jsonld.specs.Places.{with_place, with_places};
-ghost use Rattle.rx_jsonld.specs.Changes.{Regroups};
-ghost use Rattle.rx_json_text.specs.Members.{with_last};
+ghost use Rattle.rx_jsonld.specs.Changes.{AreGroups, Files, FilesUnder, StartsUnder};
 
 use crate::objects::type_of;
 use rx_graph::Graph;
@@ -21,8 +18,7 @@ pub(crate) fn groups_of<'a>(
     graph: &'a Graph,
     places: &[usize],
 ) -> Result<BTreeMap<&'a str, Vec<usize>>, NoMemory>
-    ensures { (shapes : ℕ → Shape) → IfOk result (λ groups.
-        grouped (triples_seen graph.now) shapes groups.entries ≡ with_places (triples_seen graph.now) shapes places.now no_members) }
+    ensures { (shapes : ℕ → Shape) → IfOk result (λ groups. AreGroups (triples_seen graph.now) shapes places.now groups.entries) }
 {
     let mut groups = BTreeMap::new(alloc);
     match add_places(alloc, graph, places, &mut groups) {
@@ -40,8 +36,7 @@ fn add_places<'a>(
     places: &[usize],
     groups: &mut BTreeMap<&'a str, Vec<usize>>,
 ) -> Result<(), NoMemory>
-    ensures { (shapes : ℕ → Shape) → OnOk result
-        (Regroups (triples_seen graph.now) shapes (with_places (triples_seen graph.now) shapes places.now) groups.old.entries groups.new.entries) }
+    ensures { Files result (λ list shapes. with_places list shapes places.now) (triples_seen graph.now) groups.old groups.new }
 {
     for place in places {
         add_place(alloc, graph, *place, groups)?;
@@ -55,8 +50,7 @@ fn add_place<'a>(
     place: usize,
     groups: &mut BTreeMap<&'a str, Vec<usize>>,
 ) -> Result<(), NoMemory>
-    ensures { (shapes : ℕ → Shape) → OnOk result
-        (Regroups (triples_seen graph.now) shapes (with_place (triples_seen graph.now) shapes place) groups.old.entries groups.new.entries) }
+    ensures { Files result (λ list shapes. with_place list shapes place) (triples_seen graph.now) groups.old groups.new }
 {
     if place >= graph.len() {
         return Ok(());
@@ -81,8 +75,7 @@ fn put_place<'a>(
     place: usize,
     groups: &mut BTreeMap<&'a str, Vec<usize>>,
 ) -> Result<(), NoMemory>
-    ensures { (list : List (Said ℕ)) (shapes : ℕ → Shape) → OnOk result
-        (Regroups list shapes (with_last key.now (value_at list shapes place)) groups.old.entries groups.new.entries) }
+    ensures { FilesUnder result key.now place groups.old groups.new }
 {
     match groups.get_mut(key) {
         Some(places) => push_place(places, place),
@@ -97,8 +90,7 @@ fn start_group<'a>(
     place: usize,
     groups: &mut BTreeMap<&'a str, Vec<usize>>,
 ) -> Result<(), NoMemory>
-    ensures { (list : List (Said ℕ)) (shapes : ℕ → Shape) → OnOk result (places_under groups.old key.now ≡ None
-        → Regroups list shapes (with_last key.now (value_at list shapes place)) groups.old.entries groups.new.entries) }
+    ensures { StartsUnder result key.now place groups.old groups.new }
 {
     let mut places = Vec::new(alloc);
     push_place(&mut places, place)?;

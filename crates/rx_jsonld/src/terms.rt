@@ -2,12 +2,11 @@
 ghost use Rattle.std.specs.Prelude.{◌≡◌, map, codes, encode_utf8_all, string_bytes, IfOk, OnOk, []};
 ghost use Rattle.serde_json.specs.Data.{member, no_members, object, put, string};
 ghost use Rattle.serde_json.specs.View.{members_view, view};
-ghost use Rattle.rx_terms.specs.Text.{Chars};
-ghost use Rattle.rx_model.specs.Terms.{Plain};
 ghost use Rattle.rx_model.specs.Seen.{kind_seen, term_seen, triples_seen};
 ghost use Rattle.rx_graph.specs.Resources.{resource_seen};
 ghost use Rattle.rx_pieces.specs.Writing.{blank_text};
 ghost use Rattle.rx_shapes.specs.Table.{AreShapes};
+ghost use Rattle.rx_jsonld.specs.Changes.{TellsKind};
 ghost use Rattle.rx_jsonld.specs.Value.{id_text, item_value, list_value, literal_members, object_with, string_of, term_value};
 
 use crate::chains::{Part, object_at};
@@ -51,8 +50,7 @@ fn with_kind(
     members: Map<String, Value>,
     kind: &LiteralKind,
 ) -> Result<Map<String, Value>, NoMemory>
-    ensures { IfOk result (λ new. (text : Chars) → members_view members.entries ≡ literal_members text Plain
-        → members_view new.entries ≡ literal_members text (kind_seen kind.now)) }
+    ensures { IfOk result (λ new. TellsKind (kind_seen kind.now) members.entries new.entries) }
 {
     match kind {
         LiteralKind::Plain => Ok(members),

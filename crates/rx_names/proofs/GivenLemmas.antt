@@ -1,6 +1,5 @@
 -- Tables that are written out.
 use Rattle.std.proofs.Common.{◌≡◌, ◌∙◌, ℕ, suc, zero, ◌<◌, true, false, not, List, [], ◌∷◌, length, get_or, Option, Some, None, bytes_eq, sym, ap, refl, arith, Bor}
-use Rattle.std.specs.Prelude.{slice_get}
 use Rattle.std.specs.List.{list_all}
 use Rattle.std.specs.Option.{option_or}
 use Rattle.std.specs.Str.{chars}

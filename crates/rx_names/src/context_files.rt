@@ -27,6 +27,30 @@ pub enum ContextError {
     NoMemory,
 }
 
+impl From<NoMemory> for ContextError {
+    ghost use Rattle.rx_names.specs.declared.context_files.ContextError.{ContextError};
+
+    ghost from_gives = { λ _ error. error ≡ ContextError.NoMemory };
+
+    fn from(_error: NoMemory) -> ContextError {
+        ContextError::NoMemory
+    }
+}
+
+impl From<IriError> for ContextError {
+    ghost use Rattle.rx_names.specs.FileErrors.{of_iri};
+
+    ghost from_gives = { λ from error. error ≡ of_iri from };
+
+    fn from(error: IriError) -> ContextError {
+        match error {
+            IriError::NoScheme => ContextError::BadContext,
+            IriError::Forbidden => ContextError::BadContext,
+            IriError::NoMemory => ContextError::NoMemory,
+        }
+    }
+}
+
 /// What the names of a table are.
 #[derive(Clone, Copy)]
 pub(crate) enum MappingKind {
@@ -107,17 +131,10 @@ fn table_of_members(
 {
     let mut table = Table::new(alloc);
     for (name, value) in members.iter() {
-        let (name, iri) = match row_of(alloc, kind, name.as_str(), value) {
-            Ok(row) => row,
-            Err(error) => return Err(error),
-        };
-        match table.insert(name, iri) {
-            Ok(is_new) => {
-                if !is_new {
-                    return Err(ContextError::BadContext);
-                }
-            }
-            Err(NoMemory) => return Err(ContextError::NoMemory),
+        let (name, iri) = row_of(alloc, kind, name.as_str(), value)?;
+        let is_new = table.insert(name, iri)?;
+        if !is_new {
+            return Err(ContextError::BadContext);
         }
     }
     Ok(table)
@@ -144,9 +161,7 @@ fn row_of(
 fn prefix_row(alloc: Global, name: &str, iri: &str) -> Result<(Text, Iri), ContextError>
     ensures { FileGives result (prefix_row (lowered (chars name.now)) (chars iri.now)) }
 {
-    let Ok(name) = lower(alloc, name) else {
-        return Err(ContextError::NoMemory);
-    };
+    let name = lower(alloc, name)?;
     if !is_nc_name(name.as_str()) {
         return Err(ContextError::BadContext);
     }
@@ -162,9 +177,7 @@ fn term_row(alloc: Global, name: &str, iri: &str) -> Result<(Text, Iri), Context
     if !is_term(name) {
         return Err(ContextError::BadContext);
     }
-    let Ok(name) = Text::of(alloc, name) else {
-        return Err(ContextError::NoMemory);
-    };
+    let name = Text::of(alloc, name)?;
     with_iri(alloc, name, iri)
 }
 
@@ -172,10 +185,6 @@ fn term_row(alloc: Global, name: &str, iri: &str) -> Result<(Text, Iri), Context
 fn with_iri(alloc: Global, name: Text, iri: &str) -> Result<(Text, Iri), ContextError>
     ensures { FileGives result (if is_iri (chars iri.now) then Some (name, chars iri.now) else None) }
 {
-    match Iri::of(alloc, iri) {
-        Ok(iri) => Ok((name, iri)),
-        Err(IriError::NoScheme) => Err(ContextError::BadContext),
-        Err(IriError::Forbidden) => Err(ContextError::BadContext),
-        Err(IriError::NoMemory) => Err(ContextError::NoMemory),
-    }
+    let iri = Iri::of(alloc, iri)?;
+    Ok((name, iri))
 }

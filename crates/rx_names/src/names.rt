@@ -7,7 +7,7 @@ ghost use Rattle.rx_rdfa.specs.Tree.{Tag as StartTag};
 ghost use Rattle.rx_rdfa.specs.Names.{prefix, vocab, language, term};
 ghost use Rattle.rx_names.specs.Tags.{tag_of};
 ghost use Rattle.rx_names.specs.Lines.{no_tags, pushed, popped, NamesStand, prefix_of, vocabulary_of, language_of, declared_along};
-ghost use Rattle.rx_names.specs.Views.{names_seen};
+ghost use Rattle.rx_names.specs.Views.{names_seen, Along};
 
 use crate::contexts::Context;
 use crate::declarations::push_declarations;
@@ -132,8 +132,7 @@ impl<'a> NamesView<'a> {
     /// the context says (RDFa Core 1.1, section 7.5, step 3).
     pub fn prefix(&self, name: &str) -> Option<&'a str>
         ensures kept { seen_slice result ≡ prefix_of (names_seen self.now) (lowered (chars name.now)) }
-        ensures line { (line : List StartTag) → NamesStand (names_seen self.now) line
-            → seen_slice result ≡ prefix (names_seen self.now).context line (lowered (chars name.now)) }
+        ensures line { Along self.now (λ context line. seen_slice result ≡ prefix context line (lowered (chars name.now))) }
         ensures scheme { IfSome result (λ iri. has_scheme (chars iri.now) ≡ true) }
     {
         let names = self.names;
@@ -144,7 +143,7 @@ impl<'a> NamesView<'a> {
     /// 7.5, step 2).
     pub fn vocab(&self) -> Option<&'a str>
         ensures kept { seen_slice result ≡ vocabulary_of (names_seen self.now) }
-        ensures line { (line : List StartTag) → NamesStand (names_seen self.now) line → seen_slice result ≡ vocab line }
+        ensures line { Along self.now (λ context line. seen_slice result ≡ vocab line) }
     {
         let names = self.names;
         names.vocab()
@@ -154,7 +153,7 @@ impl<'a> NamesView<'a> {
     /// 1.1, section 7.5, step 4).
     pub fn lang(&self) -> Option<&'a str>
         ensures kept { seen_slice result ≡ language_of (names_seen self.now) }
-        ensures line { (line : List StartTag) → NamesStand (names_seen self.now) line → seen_slice result ≡ language line }
+        ensures line { Along self.now (λ context line. seen_slice result ≡ language line) }
     {
         let names = self.names;
         names.lang()

@@ -1,9 +1,9 @@
 -- What a text denotes whose parts denote something: of one line, and of one text behind another.
-use Rattle.std.proofs.Common.{◌≡◌, ◌⊎◌, ℕ, true, List, [], ◌∷◌, ◌++◌, Option, flat_map, refl, sym, ap, ◌∙◌, inl, inr, subst, append_assoc, append-nil, arith}
-use Rattle.rx_terms.specs.Ascii.{line_feed, number_sign, space}
+use Rattle.std.proofs.Common.{◌≡◌, ◌⊎◌, ℕ, true, List, [], ◌∷◌, ◌++◌, Option, refl, sym, ap, ◌∙◌, inl, inr, subst, append_assoc, append-nil, arith}
+use Rattle.rx_terms.specs.Ascii.{line_feed, number_sign}
 use Rattle.rx_terms.specs.Text.{Chars}
 use Rattle.rx_model.specs.Sets.{Among}
-use Rattle.rx_model.specs.Terms.{Node, Triple}
+use Rattle.rx_model.specs.Terms.{Triple}
 use Rattle.rx_model.proofs.Sets.{Among_cases, Among_left, Among_right}
 use Rattle.rx_nquads.specs.Quads.{Quad, quad_of}
 use Rattle.rx_nquads.specs.Document.{States, SaysNothing, Nquads, joined_lines, has_no_line_feed}

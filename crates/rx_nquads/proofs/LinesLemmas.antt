@@ -1,6 +1,6 @@
 -- Lines in memory: what is kept, and what waits.
-use Rattle.std.proofs.Common.{◌≡◌, ◌∙◌, ℕ, Bool, true, false, List, [], ◌++◌, Some, refl, sym, ap, subst, append_assoc, append-nil, arith}
-use Rattle.rx_pieces.specs.Underway.{Underway, Delivery, delivery, SentBut, IsUnderway, AddsBytes}
+use Rattle.std.proofs.Common.{◌≡◌, ◌∙◌, ℕ, Bool, false, List, [], ◌++◌, Some, refl, sym, ap, subst, append_assoc, append-nil, arith}
+use Rattle.rx_pieces.specs.Underway.{Underway, delivery, SentBut, IsUnderway, AddsBytes}
 
 module _ (u v : Underway) (held kept : List ℕ) (f g : ℕ) (bytes : List ℕ) where
   begun : u.failed ≡ false → IsUnderway (Some held) f u.waiting (delivery u (Some held) f)

@@ -2,10 +2,10 @@
 ghost use Rattle.std.specs.Prelude.{◌≡◌, ◌≤◌, ◌++◌, Err, IfOk, IsErrOf, OnErr, OnOk, encode_utf8_all, option_map, false};
 ghost use Rattle.std.specs.Str.{chars};
 ghost use Rattle.rx_ports.specs.Counts.{Rose};
-ghost use Rattle.rx_ports.specs.Shelves.{Moves, GrowsBy, GrowsByPart};
 ghost use Rattle.rx_model.specs.Seen.{triple_seen, triples_seen};
 ghost use Rattle.rx_nquads.specs.Graphs.{DenoteGraph, graph_bytes, lent_name, line_bytes};
 ghost use Rattle.rx_nquads.specs.Writing.{graph_text, line_text, nquads};
+ghost use Rattle.rx_pieces.specs.Underway.{Sends, SendsPart};
 ghost use Rattle.rx_pieces.specs.Writable.{Pushes, WritableName, WritableTriple};
 
 use crate::terms::{push_object, push_subject};
@@ -29,21 +29,17 @@ pub fn write<S: Sink>(
     name: Option<&Iri>,
     sink: &mut S,
 ) -> Result<(), WriteError>
-    ensures ok { OnOk result (Moves (GrowsBy (graph_bytes graph.now name.entry)) (S.held sink.old) (S.held sink.new)) }
+    ensures ok { OnOk result (Sends (graph_bytes graph.now name.entry) (S.held sink.old) (S.held sink.new)) }
     ensures denotes { OnOk result (DenoteGraph graph.now name.entry (graph_bytes graph.now name.entry)) }
-    ensures partly { IsErrOf result WriteError.Failed → Moves (GrowsByPart (graph_bytes graph.now name.entry)) (S.held sink.old) (S.held sink.new) }
+    ensures partly { IsErrOf result WriteError.Failed → SendsPart (graph_bytes graph.now name.entry) (S.held sink.old) (S.held sink.new) }
     ensures cause { IsErrOf result WriteError.Failed → Rose (S.faults sink.old) (S.faults sink.new) }
     ensures untouched { IsErrOf result WriteError.NoMemory → sink.new ≡ sink.old }
     ensures later { S.faults sink.old ≤ S.faults sink.new }
 {
-    let Ok(mut pieces) = Pieces::new(alloc) else {
-        return Err(WriteError::NoMemory);
-    };
+    let mut pieces = Pieces::new(alloc)?;
     push_lines(&mut pieces, sink, graph, name);
-    match pieces.send(sink) {
-        Ok(()) => Ok(()),
-        Err(_failed) => Err(WriteError::Failed),
-    }
+    pieces.send(sink)?;
+    Ok(())
 }
 
 /// The graph's text in N-Quads, as `write` writes it.

@@ -1,5 +1,5 @@
 -- Characters added to a text, one part after another.
-use Rattle.std.proofs.Common.{◌≡◌, ◌∙◌, ℕ, ◌<◌, ◌≤◌, ◌^◌, true, false, ◌||◌, ◌==◌, List, [], ◌∷◌, ◌++◌, sym, ap, ap₂, refl, subst, append_assoc, append-nil, IsAscii, suc, codes, Bool, encode_utf8, Option, arith, ◌-◌, length, drop, set, length-set, ◌+◌}
+use Rattle.std.proofs.Common.{◌≡◌, ◌∙◌, ℕ, ◌<◌, ◌≤◌, ◌^◌, true, false, ◌||◌, ◌==◌, List, [], ◌∷◌, ◌++◌, sym, ap, ap₂, refl, subst, append_assoc, append-nil, IsAscii, suc, codes, Bool, encode_utf8, arith, ◌-◌, length, drop, set, length-set, ◌+◌}
 use Rattle.std.proofs.lemmas.Bool.{and_from, and_parts, or_parts}
 use Rattle.std.proofs.lemmas.Bool.Decides.{nat_tests}
 use Rattle.std.specs.Str.{chars, IsUtf8, encode_utf8_all}

@@ -1,5 +1,5 @@
 -- Texts whose characters are Unicode scalar values.
-use Rattle.std.proofs.Common.{◌≡◌, ℕ, ◌<◌, ◌^◌, Bool, true, false, ◌==◌, List, [], ◌∷◌, ◌++◌, codes, refl}
+use Rattle.std.proofs.Common.{◌≡◌, ℕ, ◌<◌, ◌^◌, Bool, true, false, ◌==◌, [], ◌∷◌, ◌++◌, codes, refl}
 use Rattle.std.specs.Str.{all_scalars}
 use Rattle.std.specs.Fmt.{decimal}
 use Rattle.std.specs.List.{list_all}

@@ -1,7 +1,15 @@
 -- A text on its way to a sink: what waits to be sent, and what the sink has told so far.
 use Rattle.std.specs.Prelude.{◌≡◌, ℕ, ◌≤◌, Bool, true, false, List, [], ◌++◌, Option}
 use Rattle.rx_ports.specs.Counts.{Rose}
-use Rattle.rx_ports.specs.Shelves.{Moves, GrowsByPart}
+use Rattle.rx_ports.specs.Shelves.{Moves, GrowsBy, GrowsByPart}
+
+-- what a sink tells to hold has grown by these bytes
+abbrev pub Sends : List ℕ → Option (List ℕ) → Option (List ℕ) → Type 0
+Sends bytes old new = Moves (GrowsBy bytes) old new
+
+-- it has grown by a proper front of them
+abbrev pub SendsPart : List ℕ → Option (List ℕ) → Option (List ℕ) → Type 0
+SendsPart bytes old new = Moves (GrowsByPart bytes) old new
 
 -- bytes that wait to be sent, and whether the sink failed, which is given nothing more then
 pub record Underway : Type 0 where

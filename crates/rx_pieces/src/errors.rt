@@ -1,4 +1,8 @@
 //! Why a text wasn't written whole.
+ghost use Rattle.std.specs.Prelude.{◌≡◌};
+
+use rx_ports::Failed;
+use rx_terms::NoMemory;
 
 /// Why a text wasn't written whole.
 #[derive(Clone, Copy, Debug, PartialEq, Eq)]
@@ -7,4 +11,24 @@ pub enum WriteError {
     Failed,
     /// There was no memory. The sink is as it was.
     NoMemory,
+}
+
+impl From<Failed> for WriteError {
+    ghost use Rattle.rx_pieces.specs.declared.errors.WriteError.{WriteError};
+
+    ghost from_gives = { λ _ error. error ≡ WriteError.Failed };
+
+    fn from(_error: Failed) -> WriteError {
+        WriteError::Failed
+    }
+}
+
+impl From<NoMemory> for WriteError {
+    ghost use Rattle.rx_pieces.specs.declared.errors.WriteError.{WriteError};
+
+    ghost from_gives = { λ _ error. error ≡ WriteError.NoMemory };
+
+    fn from(_error: NoMemory) -> WriteError {
+        WriteError::NoMemory
+    }
 }

@@ -1,5 +1,5 @@
 -- Where a text is cut at its first `mark`.
-use Rattle.std.proofs.Common.{◌≡◌, ◌∙◌, ℕ, Bool, true, false, ◌==◌, [], ◌∷◌, ◌++◌, ap, refl, arith, Option, Some, None}
+use Rattle.std.proofs.Common.{◌≡◌, ◌∙◌, ℕ, true, false, ◌==◌, [], ◌∷◌, ◌++◌, ap, refl, arith, Option, Some, None}
 use Rattle.std.proofs.lemmas.Bool.Decides.{nat_tests}
 use Rattle.rx_terms.proofs.Bools.{by_test}
 use Rattle.rx_terms.specs.Text.{Chars, split_at, front_grows}

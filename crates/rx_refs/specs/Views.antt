@@ -1,5 +1,5 @@
 -- What the code's values stand for.
-use Rattle.std.specs.Prelude.{ℕ, List, Option, ◌++◌}
+use Rattle.std.specs.Prelude.{◌≡◌, ◌++◌, String, string_bytes}
 use Rattle.std.specs.Str.{chars}
 use Rattle.rx_terms.specs.Text.{Chars, seen_slice}
 use Rattle.rx_refs.specs.Parts.{Components}
@@ -32,3 +32,7 @@ seen_target target = record {
   query = seen_slice target.query;
   fragment = seen_slice target.fragment;
 }
+
+-- the new buffer is the old one with this text behind it
+abbrev pub Grows : {Z : Type 0} → String Z → String Z → Chars → Type 0
+Grows old new more = chars (string_bytes new) ≡ chars (string_bytes old) ++ more

@@ -5,6 +5,7 @@ ghost use Rattle.rx_terms.specs.Ascii.{solidus};
 ghost use Rattle.rx_refs.specs.Dots.{holds, without_dots, without_last_segment};
 ghost use Rattle.rx_refs.specs.Resolve.{behind_base, through_last_slash};
 ghost use Rattle.rx_refs.specs.Segments.{Takes, pushed, cut_back, after_segment, after_last};
+ghost use Rattle.rx_refs.specs.Views.{Grows};
 
 use crate::slices::{last_slash, split_once};
 use rx_terms::NoMemory;
@@ -12,7 +13,7 @@ use std::marker::Model;
 
 /// Adds the path without its dot segments at the end of the text.
 pub fn push_path(text: String, path: &str) -> Result<String, NoMemory>
-    ensures { IfOk result (λ whole. chars (string_bytes whole) ≡ chars (string_bytes text) ++ without_dots (chars path.now)) }
+    ensures { IfOk result (λ whole. Grows text whole (without_dots (chars path.now))) }
 {
     let mut grown = GrownPath::behind(text);
     let last = grown.push_closed(path)?;
@@ -22,7 +23,7 @@ pub fn push_path(text: String, path: &str) -> Result<String, NoMemory>
 
 /// The same of the path that begins with the base's up to its last `/` (section 5.2.3).
 pub fn push_merged_path(text: String, base: &str, path: &str) -> Result<String, NoMemory>
-    ensures { IfOk result (λ whole. chars (string_bytes whole) ≡ chars (string_bytes text) ++ behind_base (chars base.now) (chars path.now)) }
+    ensures { IfOk result (λ whole. Grows text whole (behind_base (chars base.now) (chars path.now))) }
 {
     let mut grown = GrownPath::behind(text);
     let _left_out = grown.push_closed(base)?;

@@ -67,9 +67,7 @@ impl Index {
     fn add(&mut self, node: Node) -> Result<(), NoMemory>
         ensures { OnOk result (self.new ≡ node_added self.old (node_seen node)) }
     {
-        if self.nodes.insert(node).is_err() {
-            return Err(NoMemory);
-        }
+        self.nodes.insert(node)?;
         Ok(())
     }
 

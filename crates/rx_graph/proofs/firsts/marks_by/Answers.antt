@@ -18,6 +18,6 @@ loop-i-preserved c =
     mark_is_known bits keys list c.requires.repeated c.requires.keys c.loop-i.i t c.at.ensures c.loop-i.firsts c.loop-i.invariant.knows c.has.result may c.in_ok-is_new.is_new c.in_ok-is_new.ensures.new in
     record {
       knows = knows_turn bits keys list c.requires.repeated c.requires.keys c.loop-i.i t c.at.ensures c.loop-i.firsts c.loop-i.invariant.knows c.has.result may _ c.in_ok-is_new.ensures.added;
-      marks = marks_turn list c.loop-i.i t c.at.ensures c.in_ok-is_new.is_new mark _ _ c.loop-i.invariant.marks c.in-Ok.ensures.items;
+      marks = marks_turn list c.loop-i.i t c.at.ensures c.in_ok-is_new.is_new mark _ _ c.loop-i.invariant.marks c.in_ok-push.ensures.items;
       all = all_turn list c.loop-i.i t c.at.ensures c.in_ok-is_new.is_new mark c.loop-i.all_new _ c.loop-i.invariant.all refl;
     }

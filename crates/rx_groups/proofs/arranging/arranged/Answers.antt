@@ -10,5 +10,5 @@ use Rattle.rx_groups.proofs.arranging.arranged.Goals as goal
 
 pub returns : goal.returns
 returns c =
-    arranged_is (triples_seen c.args.graph.now) (map lent_seen c.in_ok-list.list.items)
-    (c.in_ok-list.ensures ∙ ap (flat_map by_predicate) (c.in_ok-subjects.ensures ∙ ap (grouped by.Subject) (ap (map lent_seen) c.deref.ensures.value ∙ c.in_ok-triples.ensures)))
+    arranged_is (triples_seen c.args.graph.now) (map lent_seen c.in_ok-arrange.field-0.items)
+    (c.in_ok-arrange.ensures ∙ ap (flat_map by_predicate) (c.in_ok-subjects.ensures ∙ ap (grouped by.Subject) (ap (map lent_seen) c.deref.ensures.value ∙ c.in_ok-triples.ensures)))

@@ -4,5 +4,5 @@ use Rattle.rx_shapes.proofs.ShapeLemmas.{cells_of_index}
 use Rattle.rx_shapes.proofs.links.cell_nodes.Goals as goal
 
 pub returns : goal.returns
-returns c = cells_of_index (triples_seen c.args.graph.now) c.args.index.now c.requires.nodes c.args.inner.now c.requires.inner c.in_ok-cells.cells.items c.deref.result.now c.args.places.now
-    c.requires.places (c.deref.ensures.value ∙ c.in_ok-links.ensures) c.in_ok-cells.ensures
+returns c = cells_of_index (triples_seen c.args.graph.now) c.args.index.now c.requires.nodes c.args.inner.now c.requires.inner c.in_ok-settle.field-0.items c.deref.result.now c.args.places.now
+    c.requires.places (c.deref.ensures.value ∙ c.in_ok-links.ensures) c.in_ok-settle.ensures

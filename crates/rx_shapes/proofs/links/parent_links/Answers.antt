@@ -6,4 +6,4 @@ use Rattle.rx_shapes.proofs.links.parent_links.Goals as goal
 
 pub loop-i-preserved : goal.loop-i-preserved
 loop-i-preserved c = table_turn (λ k. parent_link (triples_seen c.args.graph.now) c.args.index.now (get_or c.args.uses.now k [])) c.loop-i.i c.parent_link.result _ _
-    (c.parent_link.ensures ∙ ap (parent_link (triples_seen c.args.graph.now) c.args.index.now) c.row.ensures) c.in-Ok.ensures.items c.loop-i.invariant
+    (c.parent_link.ensures ∙ ap (parent_link (triples_seen c.args.graph.now) c.args.index.now) c.row.ensures) c.in_ok-push.ensures.items c.loop-i.invariant

@@ -10,5 +10,5 @@ cell_nodes-requires-clause-inner c = subst (AreInner (triples_seen c.args.graph.
 pub returns : goal.returns
 returns c = shapes_of_index (triples_seen c.args.graph.now) c.args.nodes.now c.requires.nodes c.deref-2.result.now
     (subst (AreInner (triples_seen c.args.graph.now) c.args.nodes.now) (sym c.deref-2.ensures.value) c.in_ok-inner.ensures)
-    c.in_ok-cells.cells.items c.in_ok-shapes.shapes.items c.in_ok-cells.ensures
-    (c.in_ok-shapes.ensures ∙ ap₂ (λ cells n. shapes_by c.deref-2.result.now cells n) c.deref-3.ensures.value c.len.ensures)
+    c.in_ok-cells.cells.items c.in_ok-shapes_by.field-0.items c.in_ok-cells.ensures
+    (c.in_ok-shapes_by.ensures ∙ ap₂ (λ cells n. shapes_by c.deref-2.result.now cells n) c.deref-3.ensures.value c.len.ensures)

@@ -7,8 +7,8 @@ use Rattle.rx_graph.proofs.FirstLemmas.{lent_added}
 use Rattle.rx_graph.proofs.firsts.Firsts.add.Goals as goal
 
 pub returns-clause-added : goal.returns-clause-added
-returns-clause-added c = ap (map lent_seen) c.in-Ok.ensures.keys ∙ rw (← c.self.view_is) (lent_added c.self.inside.triples (record { 0 = c.args.triple }))
+returns-clause-added c = ap (map lent_seen) c.in_ok-_place.ensures.keys ∙ rw (← c.self.view_is) (lent_added c.self.inside.triples (record { 0 = c.args.triple }))
 
 pub returns-clause-new : goal.returns-clause-new
-returns-clause-new c = c.in-Ok.is_new-is ∙ c.in-Ok.ensures.added
+returns-clause-new c = c.in_ok-_place.ensures.added
     ∙ rw (← c.self.view_is) (ap not (any_seen lent_seen lent_eq (same_triple nat_eq) lents_agree_back c.self.inside.triples (record { 0 = c.args.triple })))

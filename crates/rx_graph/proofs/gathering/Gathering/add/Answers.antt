@@ -1,9 +1,9 @@
-use Rattle.std.proofs.Common.{◌∙◌, ap, sym}
+use Rattle.std.proofs.Common.{◌∙◌, ap}
 use Rattle.rx_model.specs.Seen.{triples_seen}
-use Rattle.rx_graph.proofs.SetLemmas.{added_seen, of_ok}
+use Rattle.rx_graph.proofs.SetLemmas.{added_seen}
 use Rattle.rx_graph.proofs.CodeEq.{code_eq, exact_code}
 use Rattle.rx_graph.proofs.gathering.Gathering.add.Goals as goal
 
 pub returns : goal.returns
-returns c = ap triples_seen (of_ok c.insert.result (sym c.is_err.ensures.value ∙ c.if-is_err.false) c.insert.ensures.keys)
+returns c = ap triples_seen c.in_ok-insert.ensures.keys
     ∙ rw (← c.self.view_is) (added_seen code_eq exact_code c.self.inside.triples c.args.triple)

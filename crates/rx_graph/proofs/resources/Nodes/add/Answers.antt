@@ -1,9 +1,8 @@
-use Rattle.std.proofs.Common.{◌∙◌, ap, sym, map}
+use Rattle.std.proofs.Common.{◌∙◌, ap, map}
 use Rattle.rx_graph.specs.Resources.{resource_seen}
-use Rattle.rx_graph.proofs.SetLemmas.{of_ok}
 use Rattle.rx_graph.proofs.NodeLemmas.{node_added_seen}
 use Rattle.rx_graph.proofs.resources.Nodes.add.Goals as goal
 
 pub returns : goal.returns
-returns c = ap (map resource_seen) (of_ok c.insert.result (sym c.is_err.ensures.value ∙ c.if-is_err.false) c.insert.ensures.keys)
+returns c = ap (map resource_seen) c.in_ok-insert.ensures.keys
     ∙ rw (← c.self.view_is) (node_added_seen c.self.inside.nodes c.args.node)
