@@ -10,7 +10,7 @@ use Rattle.rx_item_table.specs.Rows.{properties_in}
 use Rattle.rx_item_table.specs.Showing.{ShowsRow, ShowsRows}
 use Rattle.rx_item_table.specs.Words.{names_in, types_in}
 use Rattle.rx_item_table.specs.declared.rows.Row.{Row}
-use Rattle.rx_item_properties.specs.Held.{AreTokens, AtPlace, IsElement, Reaches, ShowsElement, Numbered, names_beside, others_beside, own_beside, places, types_beside, AllStand, HoldsRows}
+use Rattle.rx_item_properties.specs.Held.{AreTokens, AtPlace, IsElement, Reaches, ShowsElement, Numbered, is_there, names_beside, others_beside, own_beside, places, types_beside, AllStand, HoldsRows}
 use Rattle.rx_item_properties.specs.Properties.{gathered}
 use Rattle.rx_item_properties.specs.declared.kept.Element.{Element}
 use Rattle.rx_item_properties.specs.declared.kept.Extra.{Extra}
@@ -58,6 +58,10 @@ row_there kept rows base i row h lt is =
     let size = as_long kept.words kept.text kept.times.items kept.rows.items rows h.shown in
     let p = placed_at rows i (omega (arith, lt, size)) in
     (p.0, p.1, shows_at kept.words kept.text kept.times.items kept.rows.items rows i row p.0 h.shown (slice_get-get_or kept.rows.items i row lt ∙ ap Some (sym is)) p.1)
+
+-- what a test says of it is what it says of the place
+pub told_there : (test : Placed → Bool) (rows : List Placed) (i : ℕ) (p : Placed) (told : Bool) → slice_get rows i ≡ Some p → told ≡ test p → told ≡ is_there test (slice_get rows i)
+told_there test rows i p told there e = e ∙ sym (ap (is_there test) there)
 
 -- what stands at a place
 pub element_there : (kept : Kept) (rows : List Placed) (base : Chars) (i : ℕ) (row : Row) (x : Extra) (e : Element) → HoldsRows kept rows base → i < length kept.rows.items
