@@ -1,9 +1,8 @@
 -- What is said of a node, by the places of its triples.
-use Rattle.std.proofs.Common.{◌≡◌, ◌∙◌, ℕ, zero, suc, ◌+◌, ◌≤◌, Bool, true, false, cond, nat_eq, List, [], ◌∷◌, ◌++◌, map, filter, length, length-append, take, drop, drop_of_length-le, slice_get, Option, Some, None, option_to_list, refl, sym, ap, ap₂, arith, append_assoc, append-nil, if◌then◌else◌}
+use Rattle.std.proofs.Common.{◌≡◌, ◌∙◌, ℕ, suc, ◌+◌, Bool, true, false, cond, nat_eq, List, [], ◌∷◌, ◌++◌, map, filter, length, length-append, take, slice_get, Option, Some, None, option_to_list, refl, sym, ap, ap₂, arith, append_assoc, append-nil, if◌then◌else◌}
 use Rattle.std.specs.Option.{option_or}
-use Rattle.std.proofs.lemmas.List.{take_all}
 use Rattle.rx_terms.specs.Text.{Chars}
-use Rattle.rx_model.specs.Terms.{Node, Term, Triple, same_node}
+use Rattle.rx_model.specs.Terms.{Node, Triple, same_node}
 use Rattle.rx_graph.proofs.SetLemmas.{one_more}
 use Rattle.rx_shapes.specs.Rows.{positions}
 use Rattle.rx_shapes.specs.Places.{places_of}

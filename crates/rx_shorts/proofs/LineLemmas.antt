@@ -1,8 +1,8 @@
 -- Prefixes and statements, one after another.
-use Rattle.std.proofs.Common.{◌≡◌, ◌∙◌, ℕ, zero, suc, ◌+◌, ◌≤◌, Bool, true, false, ◌==◌, List, [], ◌∷◌, ◌++◌, map, flat_map, length, take, drop, slice_get, Some, refl, sym, ap, ap₂, arith, append_assoc, append-nil, codes, true≢false, if◌then◌else◌, take-append-drop}
+use Rattle.std.proofs.Common.{◌≡◌, ◌∙◌, ℕ, zero, suc, ◌+◌, Bool, true, false, ◌==◌, List, [], ◌∷◌, ◌++◌, map, flat_map, length, take, drop, slice_get, Some, refl, sym, ap, ap₂, arith, append_assoc, append-nil, codes, true≢false, if◌then◌else◌, take-append-drop}
 use Rattle.std.specs.Str.{chars}
 use Rattle.std.specs.List.{list_all, list_any}
-use Rattle.std.proofs.lemmas.List.{take_all, map-append}
+use Rattle.std.proofs.lemmas.List.{map-append}
 use Rattle.std.proofs.lemmas.Bool.Decides.{nat_tests}
 use Rattle.rx_terms.specs.Ascii.{is_ascii}
 use Rattle.rx_terms.specs.Text.{Chars}

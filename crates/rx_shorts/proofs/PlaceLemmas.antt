@@ -1,6 +1,6 @@
 -- The index of the prefixes by IRI.
-use Rattle.std.proofs.Common.{◌≡◌, ◌∙◌, ℕ, zero, suc, ◌+◌, ◌-◌, ◌<◌, ◌≤◌, Bool, true, false, cond, ◌&&◌, nat_eq, List, [], ◌∷◌, ◌++◌, length, length-append, take, take_all, drop_at, drop_of_length-le, inl, inr, drop, get_or, slice_get, Result, Ok, Err, OnOk, Option, Some, None, refl, sym, ap, subst, true≢false, arith, if◌then◌else◌}
-use Rattle.std.proofs.lemmas.List.{get_or_past, get_or-take, length-take-le}
+use Rattle.std.proofs.Common.{◌≡◌, ◌∙◌, ℕ, zero, suc, ◌+◌, ◌-◌, ◌<◌, ◌≤◌, Bool, true, false, cond, ◌&&◌, nat_eq, List, [], ◌∷◌, ◌++◌, length, length-append, take, take_all, drop_at, inl, inr, drop, get_or, slice_get, Result, Ok, Err, OnOk, Option, Some, None, refl, sym, ap, subst, true≢false, arith, if◌then◌else◌}
+use Rattle.std.proofs.lemmas.List.{get_or-take, length-take-le}
 use Rattle.std.specs.Str.{chars, encode_utf8_all, IsUtf8}
 use Rattle.std.specs.Cmp.Lexicographic.{pointwise}
 use Rattle.std.specs.Option.{option_or}

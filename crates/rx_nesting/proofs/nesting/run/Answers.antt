@@ -12,7 +12,7 @@ loop-task-smaller c =
 pub loop-task-preserved : goal.loop-task-preserved
 loop-task-preserved c =
     running_turn c.args.source.now c.args.stack.now c.args.tokens.now.items c.requires.source c.loop-task.stack c.pop.new.self c.start.new.stack (task_seen c.in-Some.task) c.loop-task.tokens.items
-    c.push.new.self.items c.in_ok-token.token c.in-Some.ensures c.in_ok-token.ensures c.in-Ok.ensures.items c.loop-task.invariant
+    c.push.new.self.items c.in_ok-token.token c.in-Some.ensures c.in_ok-token.ensures c.in_ok-push.ensures.items c.loop-task.invariant
 
 pub returns-clause-comes : goal.returns-clause-comes
 returns-clause-comes c = running_end c.args.source.now c.args.stack.now c.loop-task.stack c.args.tokens.now.items c.loop-task.tokens.items (search rules) c.loop-task.invariant

@@ -5,4 +5,4 @@ use Rattle.rx_shorts.proofs.uses.unmarked.Goals as goal
 pub loop-preserved : goal.loop-preserved
 loop-preserved c =
     let within : c.loop.counter < length c.args.shorts.now = omega (arith, c.loop-test.true, c.len-end.ensures.len) in
-    unmarked_turn c.args.shorts.now c.loop.counter c.loop.marks.items _ within c.in-Ok.ensures.items c.loop.invariant
+    unmarked_turn c.args.shorts.now c.loop.counter c.loop.marks.items _ within c.in_ok-push.ensures.items c.loop.invariant
