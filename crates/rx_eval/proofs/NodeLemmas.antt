@@ -1,5 +1,5 @@
 -- The code's test of nodes is that of the rules.
-use Rattle.std.proofs.Common.{◌≡◌, ◌↔◌, Bool, true, false, rules, nat_eq, sym, refl}
+use Rattle.std.proofs.Common.{◌≡◌, ◌↔◌, Bool, true, rules, nat_eq}
 use Rattle.rx_terms.proofs.Bools.{same_truth}
 use Rattle.rx_terms.specs.declared.triples.Node.{Node as CodeNode}
 use Rattle.rx_terms.specs.contracts.triples.NodePartialEq.TheImpl as node_impl

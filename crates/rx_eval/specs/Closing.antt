@@ -1,5 +1,5 @@
 -- The end of an element, part by part.
-use Rattle.std.specs.Prelude.{ℕ, List, [], ◌∷◌, map}
+use Rattle.std.specs.Prelude.{◌≡◌, ℕ, List, [], ◌∷◌, map}
 use Rattle.rx_terms.specs.declared.triples.Term.{Term as CodeTerm}
 use Rattle.rx_model.specs.Terms.{Node, Term, Triple}
 use Rattle.rx_model.specs.Copied.{spo}
@@ -7,9 +7,14 @@ use Rattle.rx_lists.specs.Owners.{Owners, changed, with_term}
 use Rattle.rx_lists.specs.declared.lists.SlotId.{SlotId}
 use Rattle.rx_terms.specs.Text.{Chars}
 use Rattle.rx_element.specs.TextRules.{text_literal}
+use Rattle.rx_eval.specs.OwnersSeen.{owners_seen, fill_all}
 use Rattle.rx_eval.specs.declared.frames.Gathered.{Gathered}
 use Rattle.rx_eval.specs.declared.frames.Target.{Target}
 use Rattle.rx_eval.specs.declared.frames.Target.TheVariants.{Said, Listed}
+
+-- the new owners are the old ones with the term in each of these places
+abbrev pub Fills : Owners → Owners → List SlotId → Term ℕ → Type 0
+Fills old new slots term = owners_seen new ≡ fill_all slots term (owners_seen old)
 
 -- the owners with the term in each of the places
 abbrev pub filled_in : List SlotId → CodeTerm → Owners → Owners

@@ -59,6 +59,10 @@ abbrev pub TextAt : Option Text → Chars → Chars → Chars → Type 0
 TextAt None kept front chars = Unit {0}
 TextAt (Some text) kept front chars = CutAt kept text.mark front chars
 
+-- the element has ended, whatever text stands in what is kept behind its mark
+abbrev pub EndsFrame : Frame → Chars → Ending → Ending → Type 0
+EndsFrame frame kept old new = (front chars : Chars) → TextAt frame.text kept front chars → Ends old (end_frame frame chars) new
+
 -- the last element was closed; at the root's end the page's own lists are written. Text that no open element gathers is
 -- dropped.
 pub record Closes (old new : State) : Type 0 where

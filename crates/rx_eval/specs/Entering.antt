@@ -1,8 +1,9 @@
 -- The start of an element, by the rules.
-use Rattle.std.specs.Prelude.{◌≡◌, ℕ, suc, Bool, not, ◌&&◌, List, [], ◌∷◌, ◌++◌, length, map, Option, Some, None, IfSome, nat_eq, if◌then◌else◌}
+use Rattle.std.specs.Prelude.{◌≡◌, ℕ, suc, Bool, not, ◌&&◌, List, [], ◌∷◌, ◌++◌, length, map, Option, Some, None, option_map, IfSome, nat_eq, if◌then◌else◌}
 use Rattle.rx_terms.specs.Text.{Chars}
+use Rattle.rx_terms.specs.declared.triples.Term.{Term as CodeTerm}
 use Rattle.rx_model.specs.Terms.{Node, Term, Triple, same_node}
-use Rattle.rx_model.specs.Seen.{node_seen}
+use Rattle.rx_model.specs.Seen.{node_seen, term_seen}
 use Rattle.rx_rdfa.specs.Naming.{Naming}
 use Rattle.rx_rdfa.specs.Facts.{Facts}
 use Rattle.rx_rdfa.specs.Resources.{Inherited, Standing, Resources, resources}
@@ -20,7 +21,7 @@ use Rattle.rx_element.specs.TextRules.{IsTextRule}
 use Rattle.rx_element.specs.declared.places.Level.{Level}
 use Rattle.rx_element.specs.declared.places.Surroundings.{Surroundings}
 use Rattle.rx_eval.specs.OwnersSeen.{Owning, owning, owners_seen, put_entries, places_for}
-use Rattle.rx_eval.specs.Listing.{Entries, entries_in}
+use Rattle.rx_eval.specs.Listing.{Entries, entries_in, listed_places}
 use Rattle.rx_eval.specs.States.{Text, text_seen}
 use Rattle.rx_eval.specs.declared.frames.Gathered.{Gathered}
 
@@ -124,6 +125,10 @@ abbrev pub GathersAt : Surroundings → Facts → Owners → ℕ → Option Gath
 GathersAt at facts owners mark gathered =
     IfSome gathered (λ g. Gathers facts (at_place resources_by at facts) (at_place places_at at facts (owners_seen owners)) mark (text_seen g))
 
+-- the same where the places are those that it has with inlist
+abbrev pub GathersListed : Facts → Resources ℕ → List SlotId → ℕ → Option Gathered → Type 0
+GathersListed facts here slots mark gathered = IfSome gathered (λ g. Gathers facts here (listed_places facts slots) mark (text_seen g))
+
 -- the same of an element at a place that isn't skipped, with the resources that were found and the owners so far
 module _ (at : Surroundings) (facts : Facts) (here : Resources ℕ) (owners : Owners) where
   abbrev pub naming_found : Naming ℕ ℕ
@@ -138,6 +143,10 @@ module _ (at : Surroundings) (facts : Facts) (here : Resources ℕ) (owners : Ow
   abbrev pub entries_found : Option (Term ℕ) → Entries
   entries_found value =
       entries_in (own_number (standing at facts) here (length owners)) facts here value (map waiting_seen at.around.now.hanging)
+
+  -- the owners with those that it begins, and with what it puts into their lists
+  abbrev pub lists_found : Option CodeTerm → List (Option Owning)
+  lists_found value = put_entries (entries_found (option_map term_seen value)) owners_found
 
   abbrev pub GathersFound : ℕ → Option Gathered → Type 0
   GathersFound mark gathered =

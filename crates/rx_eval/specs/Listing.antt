@@ -1,7 +1,8 @@
 -- What an element puts into lists, part by part.
-use Rattle.std.specs.Prelude.{◌≡◌, ℕ, Bool, is_none, List, [], ◌++◌, map, filter_map, Option, Some, None, if◌then◌else◌}
+use Rattle.std.specs.Prelude.{◌≡◌, ℕ, Bool, is_none, List, [], ◌++◌, map, filter_map, Option, Some, None, option_map, if◌then◌else◌}
 use Rattle.rx_terms.specs.Text.{Chars}
 use Rattle.rx_model.specs.Terms.{Node, Term}
+use Rattle.rx_model.specs.Seen.{term_seen}
 use Rattle.rx_rdfa.specs.Facts.{Facts}
 use Rattle.rx_rdfa.specs.Resources.{Hanging, Forward, Reverse, InList, Resources}
 use Rattle.rx_rdfa.specs.Inherited.{listed, hangs}
@@ -9,7 +10,9 @@ use Rattle.rx_rdfa.specs.Lists.{Entry, entry}
 use Rattle.rx_lists.specs.declared.lists.SlotId.{SlotId}
 use Rattle.rx_lists.specs.Owners.{Owners}
 use Rattle.rx_terms.specs.declared.triples.Term.{Term as CodeTerm}
+use Rattle.rx_element.specs.Contexts.{waiting_seen}
 use Rattle.rx_element.specs.TextRules.{resource_term}
+use Rattle.rx_element.specs.declared.contexts.Waiting.{Waiting}
 use Rattle.rx_eval.specs.OwnersSeen.{Owning, owners_seen, put_entries, places_for}
 
 abbrev pub Entries : Type 0
@@ -47,6 +50,10 @@ listed_entries owner facts here value = if facts.inlist then own_entries owner f
 abbrev pub entries_in : ℕ → Facts → Resources ℕ → Option (Term ℕ) → List (Hanging ℕ) → Entries
 entries_in owner facts here value hanging = listed_entries owner facts here value ++ filter_map (awaited_entry here.subject) hanging
 
+-- the same from what the code has of the value and of what waits
+abbrev pub entries_put : ℕ → Facts → Resources ℕ → Option CodeTerm → List Waiting → Entries
+entries_put owner facts here value waiting = entries_in owner facts here (option_map term_seen value) (map waiting_seen waiting)
+
 -- the places of an element with inlist for its text
 abbrev pub own_places : ℕ → Facts → Resources ℕ → List (Option Owning) → List SlotId
 own_places owner facts here owners =
@@ -57,10 +64,14 @@ own_places owner facts here owners =
 abbrev pub places_unless : Option CodeTerm → List SlotId → List SlotId
 places_unless value places = if is_none value then places else []
 
+-- the places that an element with inlist reserves for its text
+abbrev pub own_reserved : ℕ → Facts → Resources ℕ → Option CodeTerm → Owners → List SlotId
+own_reserved owner facts here value owners = places_unless value (own_places owner facts here (owners_seen owners))
+
 -- the places are reserved with inlist
 abbrev pub listed_places : Facts → List SlotId → List SlotId
 listed_places facts places = if facts.inlist then places else []
 
 -- the places that an element reserves for its text
 abbrev pub reserved : ℕ → Facts → Resources ℕ → Option CodeTerm → Owners → List SlotId
-reserved owner facts here value owners = listed_places facts (places_unless value (own_places owner facts here (owners_seen owners)))
+reserved owner facts here value owners = listed_places facts (own_reserved owner facts here value owners)

@@ -188,6 +188,14 @@ pub record StandsOn (old : Numbering) (list : List Call) (state : State) : Type 
   pub grown : Grown old now
   pub stands : EvaluatorStands now list state
 
+-- where the old state stands for some calls, the new one does for those and this one
+abbrev pub Takes : Call → State → State → Type 0
+Takes call old new = (to : Numbering) (list : List Call) → EvaluatorStands to list old → EvaluatorStands to (list ++ call ∷ []) new
+
+-- the same under a numbering that has grown
+abbrev pub TakesOn : Call → State → State → Type 0
+TakesOn call old new = (to : Numbering) (list : List Call) → EvaluatorStands to list old → StandsOn to (list ++ call ∷ []) new
+
 -- none has a number yet
 abbrev pub no_numbers : Numbering
 no_numbers b = None

@@ -3,11 +3,10 @@ ghost use Rattle.std.specs.Prelude.{◌≡◌, ◌+◌, OnOk, IfOk, option_map};
 ghost use Rattle.std.specs.Str.{chars};
 ghost use Rattle.rx_model.specs.Seen.{node_seen, term_seen, triples_seen};
 ghost use Rattle.rx_lists.specs.Gains.{Gains};
-ghost use Rattle.rx_eval.specs.OwnersSeen.{owners_seen, fill_all, open_seen, cells_seen, forgotten_seen};
-ghost use Rattle.rx_terms.specs.Text.{Chars};
+ghost use Rattle.rx_eval.specs.OwnersSeen.{owners_seen, open_seen, cells_seen, forgotten_seen};
 ghost use Rattle.rx_eval.specs.States.{frame_seen, owner_seen};
-ghost use Rattle.rx_eval.specs.Ending.{ending_seen, end_owner, end_frame, cells_count, TextAt, Ends};
-ghost use Rattle.rx_eval.specs.Closing.{filled_in, said_by, slots_in, text_value};
+ghost use Rattle.rx_eval.specs.Ending.{ending_seen, end_owner, cells_count, Ends, EndsFrame};
+ghost use Rattle.rx_eval.specs.Closing.{Fills, filled_in, said_by, slots_in, text_value};
 
 use crate::frames::{Frame, Gathered, Target};
 use rx_element::push_each;
@@ -19,7 +18,7 @@ use std::alloc::Global;
 /// Puts the value into each of the places.
 fn fill_each(lists: &mut Lists, slots: &[SlotId], value: &Term) -> Result<(), NoMemory>
     ensures code { OnOk result (lists.new ≡ filled_in slots.now value.now lists.old) }
-    ensures seen { OnOk result (owners_seen lists.new ≡ fill_all slots.now (term_seen value.now) (owners_seen lists.old)) }
+    ensures seen { OnOk result (Fills lists.old lists.new slots.now (term_seen value.now)) }
 {
     for slot in slots {
         lists.fill(*slot, value.try_clone()?);
@@ -30,7 +29,7 @@ fn fill_each(lists: &mut Lists, slots: &[SlotId], value: &Term) -> Result<(), No
 /// Puts a value into each of the places that nothing else wants; apart from the way of triples.
 #[inline(never)]
 fn fill_last(lists: &mut Lists, slots: &[SlotId], value: Term) -> Result<(), NoMemory>
-    ensures { OnOk result (owners_seen lists.new ≡ fill_all slots.now (term_seen value) (owners_seen lists.old)) }
+    ensures { OnOk result (Fills lists.old lists.new slots.now (term_seen value)) }
 {
     fill_each(lists, slots, &value)
 }
@@ -43,7 +42,7 @@ fn put_value(
     value: Term,
 ) -> Result<(), NoMemory>
     ensures said { OnOk result (Gains out.old out.new (said_by gathered.now.target (node_seen gathered.now.subject) (term_seen value))) }
-    ensures filled { OnOk result (owners_seen lists.new ≡ fill_all (slots_in gathered.now.target) (term_seen value) (owners_seen lists.old)) }
+    ensures filled { OnOk result (Fills lists.old lists.new (slots_in gathered.now.target) (term_seen value)) }
 {
     match &gathered.target {
         Target::Said(predicates) => push_each(out, &gathered.subject, predicates, value),
@@ -61,8 +60,7 @@ pub(crate) fn end_text(
 ) -> Result<(), NoMemory>
     ensures said { OnOk result (Gains out.old out.new
         (said_by gathered.now.target (node_seen gathered.now.subject) (text_value gathered.now (chars text.now)))) }
-    ensures filled { OnOk result (owners_seen lists.new
-        ≡ fill_all (slots_in gathered.now.target) (text_value gathered.now (chars text.now)) (owners_seen lists.old)) }
+    ensures filled { OnOk result (Fills lists.old lists.new (slots_in gathered.now.target) (text_value gathered.now (chars text.now))) }
 {
     let value = gathered.rule.value(alloc, text)?;
     put_value(out, lists, gathered, value)
@@ -126,8 +124,7 @@ pub(crate) fn end_frame(
     text: &TextStore,
     next: u64,
 ) -> Result<u64, NoMemory>
-    ensures { IfOk result (λ after. (front chars : Chars) → TextAt (frame_seen frame.now).text text.now front chars
-        → Ends (ending_seen out.old lists.old next) (end_frame (frame_seen frame.now) chars) (ending_seen out.new lists.new after)) }
+    ensures { IfOk result (λ after. EndsFrame (frame_seen frame.now) text.now (ending_seen out.old lists.old next) (ending_seen out.new lists.new after)) }
 {
     if let Some(gathered) = &frame.gathered {
         end_text(alloc, out, lists, gathered, text.since(gathered.mark))?;

@@ -1,18 +1,18 @@
 //! The start of an element (RDFa Core 1.1, section 7.5).
-ghost use Rattle.std.specs.Prelude.{◌≡◌, ◌&&◌, false, OnOk, IfOk, IfSome, Some, None, is_some, is_none, length, map, option_map, if◌then◌else◌};
-ghost use Rattle.rx_model.specs.Seen.{node_seen, term_seen};
+ghost use Rattle.std.specs.Prelude.{◌≡◌, ◌&&◌, false, OnOk, IfOk, Some, None, is_some, is_none, length, map, option_map, if◌then◌else◌};
+ghost use Rattle.rx_model.specs.Seen.{node_seen};
 ghost use Rattle.rx_curie.specs.Seen.{facts_seen};
 ghost use Rattle.rx_element.specs.Contexts.{context_seen, waiting_seen};
 ghost use Rattle.rx_element.specs.Found.{found_seen};
 ghost use Rattle.rx_lists.specs.Gains.{Gains};
-ghost use Rattle.rx_eval.specs.OwnersSeen.{owners_seen, put_entries};
+ghost use Rattle.rx_eval.specs.OwnersSeen.{owners_seen};
 ghost use Rattle.rx_eval.specs.Frames.{hanging_by};
 ghost use Rattle.rx_eval.specs.Listing.{listed_places};
 ghost use Rattle.rx_eval.specs.Gathering.{target_seen};
 ghost use Rattle.rx_eval.specs.Closing.{slots_in};
-ghost use Rattle.rx_eval.specs.States.{owner_seen, text_seen};
+ghost use Rattle.rx_eval.specs.States.{owner_seen};
 ghost use Rattle.rx_eval.specs.Elements.{handed_by, hanging_below, owner_in, begun_below, begun_below_number};
-ghost use Rattle.rx_eval.specs.Entering.{Gathers, GathersAt, GathersFound, handed_found, owners_found, entries_found, own_found, below_found, at_place, start_at, below_at, lists_at, gathers_at, own_at, below_own_at};
+ghost use Rattle.rx_eval.specs.Entering.{GathersAt, GathersListed, GathersFound, handed_found, lists_found, own_found, below_found, at_place, start_at, below_at, lists_at, gathers_at, own_at, below_own_at};
 
 use crate::frames::{Frame, Gathered, Target, clone_iris, waiting_of};
 use crate::handing::begin;
@@ -58,8 +58,7 @@ fn gathered(
     mark: usize,
 ) -> Result<Option<Gathered>, NoMemory>
     ensures some { IfOk result (λ gathered. is_some gathered ≡ (is_some facts.now.property && is_none value.now)) }
-    ensures what { IfOk result (λ gathered. IfSome gathered (λ g.
-        Gathers (facts_seen facts.now) (found_seen found.now) (listed_places (facts_seen facts.now) slots.items) mark (text_seen g))) }
+    ensures what { IfOk result (GathersListed (facts_seen facts.now) (found_seen found.now) slots.items mark) }
 {
     let Some(property) = &facts.property else {
         return Ok(None);
@@ -141,9 +140,7 @@ fn enter_found(
 ) -> Result<Frame, NoMemory>
     requires { found.now.skipped ≡ false }
     ensures context { IfOk result (λ frame. context_seen frame.context ≡ handed_found place.now (facts_seen facts.now) (found_seen found.now) lists.old) }
-    ensures lists { OnOk result (owners_seen lists.new
-        ≡ put_entries (entries_found place.now (facts_seen facts.now) (found_seen found.now) lists.old (option_map term_seen value.now))
-        (owners_found place.now (facts_seen facts.now) (found_seen found.now) lists.old)) }
+    ensures lists { OnOk result (owners_seen lists.new ≡ lists_found place.now (facts_seen facts.now) (found_seen found.now) lists.old value.now) }
     ensures gathers { IfOk result (λ frame. is_some frame.gathered ≡ (is_some facts.now.property && is_none value.now)) }
     ensures text { IfOk result (λ frame. GathersFound place.now (facts_seen facts.now) (found_seen found.now) lists.old mark frame.gathered) }
     ensures own { IfOk result (λ frame. option_map owner_seen frame.own ≡ own_found place.now (facts_seen facts.now) (found_seen found.now) lists.old) }

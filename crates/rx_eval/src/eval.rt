@@ -1,5 +1,5 @@
 //! The stack of contexts.
-ghost use Rattle.std.specs.Prelude.{◌≡◌, ◌<◌, ◌≤◌, ◌^◌, ◌+◌, ◌↔◌, ◌==◌, nat_le, true, false, List, [], ◌∷◌, ◌++◌, None, Some, option_map, if◌then◌else◌, length, IfOk, OnOk, OnErr, IsOk, IsErr};
+ghost use Rattle.std.specs.Prelude.{◌≡◌, ◌<◌, ◌≤◌, ◌^◌, ◌+◌, ◌↔◌, ◌==◌, nat_le, true, false, List, [], None, Some, option_map, if◌then◌else◌, length, IfOk, OnOk, OnErr, IsOk, IsErr};
 ghost use Rattle.std.specs.Str.{chars};
 ghost use Rattle.rx_model.specs.Seen.{triples_seen};
 ghost use Rattle.rx_rdfa.specs.Calls.{Call, Enter, Read, Leave, line_after, no_line};
@@ -9,7 +9,7 @@ ghost use Rattle.rx_eval.specs.Keeping.{gathers_some, first_of, is_place};
 ghost use Rattle.rx_eval.specs.Opened.{handed_on, Opens, MayOpen, begun_state, read_text};
 ghost use Rattle.rx_eval.specs.Waits.{Shows};
 ghost use Rattle.rx_eval.specs.Numbering.{Numbering};
-ghost use Rattle.rx_eval.specs.Standing.{EvaluatorStands, StandsOn, no_numbers};
+ghost use Rattle.rx_eval.specs.Standing.{EvaluatorStands, Takes, TakesOn, no_numbers};
 ghost use Rattle.rx_eval.specs.Shown.{ShowsAfter, IsMade};
 ghost use Rattle.rx_eval.specs.Ending.{Closes};
 ghost use Rattle.rx_eval.specs.States.{owner_seen};
@@ -153,8 +153,7 @@ impl Eval {
     pub fn enter(&mut self, facts: &Facts) -> Result<(), NoMemory>
         requires { self.old.spent ≡ false → MayOpen self.old (facts_seen facts.now) }
         ensures ok { OnOk result (Opens self.old (facts_seen facts.now) self.new) }
-        ensures stands { OnOk result ((to : Numbering) (list : List Call) → EvaluatorStands to list self.old
-            → StandsOn to (list ++ Enter (facts_seen facts.now) ∷ []) self.new) }
+        ensures stands { OnOk result (TakesOn (Enter (facts_seen facts.now)) self.old self.new) }
         ensures unspent { OnOk result (self.old.spent ≡ false) }
         ensures spent { OnErr result (self.new.spent ≡ true) }
     {
@@ -171,8 +170,7 @@ impl Eval {
     /// Text inside the innermost element. It is kept only while some open element gathers it; else it takes no memory.
     pub fn text(&mut self, text: &str) -> Result<(), NoMemory>
         ensures ok { OnOk result (self.new ≡ read_text (chars text.now) self.old) }
-        ensures stands { OnOk result ((to : Numbering) (list : List Call) → EvaluatorStands to list self.old
-            → EvaluatorStands to (list ++ Read (chars text.now) ∷ []) self.new) }
+        ensures stands { OnOk result (Takes (Read (chars text.now)) self.old self.new) }
         ensures unspent { OnOk result (self.old.spent ≡ false) }
         ensures spent { OnErr result (self.new.spent ≡ true) }
         ensures quiet { self.old.spent ≡ false → gathers_some self.old.frames ≡ false → IsOk result }
@@ -196,7 +194,7 @@ impl Eval {
     pub fn leave(&mut self) -> Result<(), NoMemory>
         requires { self.old.spent ≡ false → 0 < length self.old.frames }
         ensures ok { OnOk result (Closes self.old self.new) }
-        ensures stands { OnOk result ((to : Numbering) (list : List Call) → EvaluatorStands to list self.old → StandsOn to (list ++ Leave ∷ []) self.new) }
+        ensures stands { OnOk result (TakesOn Leave self.old self.new) }
         ensures unspent { OnOk result (self.old.spent ≡ false) }
         ensures spent { OnErr result (self.new.spent ≡ true) }
     {

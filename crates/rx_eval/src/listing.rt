@@ -6,7 +6,7 @@ ghost use Rattle.rx_element.specs.Found.{found_seen};
 ghost use Rattle.rx_element.specs.Contexts.{waiting_seen};
 ghost use Rattle.rx_rdfa.specs.Inherited.{listed};
 ghost use Rattle.rx_eval.specs.OwnersSeen.{owners_seen, places_for};
-ghost use Rattle.rx_eval.specs.Listing.{Puts, entries_for, linked_entries, touched_entries, awaited_entry, own_entries, listed_entries, entries_in, own_places, places_unless, reserved};
+ghost use Rattle.rx_eval.specs.Listing.{Puts, entries_for, linked_entries, touched_entries, awaited_entry, own_entries, listed_entries, entries_put, places_unless, own_reserved, reserved};
 
 use crate::entries::{add_awaited, add_each, slot_each, touch_each};
 use rx_curie::Facts;
@@ -85,8 +85,7 @@ fn put_own(
 ) -> Result<Vec<SlotId>, NoMemory>
     ensures lists { OnOk result (Puts lists.old lists.new
         (own_entries owner.0 (facts_seen facts.now) (found_seen found.now) (option_map term_seen value.now))) }
-    ensures slots { IfOk result (λ slots. slots.items
-        ≡ places_unless value.now (own_places owner.0 (facts_seen facts.now) (found_seen found.now) (owners_seen lists.old))) }
+    ensures slots { IfOk result (λ slots. slots.items ≡ own_reserved owner.0 (facts_seen facts.now) (found_seen found.now) value.now lists.old) }
 {
     put_linked(lists, owner, &facts.rel, &found.object)?;
     put_touched(lists, owner, &facts.rel, hangs(facts, found))?;
@@ -113,8 +112,7 @@ pub(crate) fn put_all(
     value: &Option<Term>,
     waiting: &[Waiting],
 ) -> Result<Vec<SlotId>, NoMemory>
-    ensures lists { OnOk result (Puts lists.old lists.new
-        (entries_in owner.0 (facts_seen facts.now) (found_seen found.now) (option_map term_seen value.now) (map waiting_seen waiting.now))) }
+    ensures lists { OnOk result (Puts lists.old lists.new (entries_put owner.0 (facts_seen facts.now) (found_seen found.now) value.now waiting.now)) }
     ensures slots { IfOk result (λ slots. slots.items ≡ reserved owner.0 (facts_seen facts.now) (found_seen found.now) value.now lists.old) }
 {
     let slots = put_listed(alloc, lists, owner, facts, found, value)?;

@@ -24,7 +24,7 @@ pub invariant_of-self-2 : goal.invariant_of-self-2
 invariant_of-self-2 c =
     let room : length c.self.inside.frames.items < c.self.inside.levels = omega (arith, (rw (← c.self.view_is) at c.requires.level), length-map c.self.inside.frames.items frame_seen) in
     sound_more c.self.inside.levels _ c.self.inside.frames.items c.push.new.self.items c.in_ok-frame.frame c.self.inside.outermost c.first_of-self-inside.result c.self.inside.text c.self.invariant room
-    c.in-Ok.ensures.items (ap length c.as_slice-frames.ensures.value)
+    c.in_ok-push.ensures.items (ap length c.as_slice-frames.ensures.value)
     (c.first_of-self-inside.ensures ∙ ap (λ (b : Bool). first_of c.self.inside.outermost b (length c.as_slice-frames.result.now)) c.is_some-gathers.ensures)
 
 pub returns : goal.returns
@@ -44,7 +44,7 @@ returns c =
       frame = frame_seen c.in_ok-frame.frame;
       fresh = fresh;
       drawing = c.in_ok-fresh.ensures.ok.path;
-      pushed = mapped_more frame_seen _ _ _ c.in-Ok.ensures.items;
+      pushed = mapped_more frame_seen _ _ _ c.in_ok-push.ensures.items;
       context =
           c.in_ok-frame.ensures.context ∙ ap₂ (λ (l : Level) (a : Inherited ℕ ℕ). below_at labels fresh base l a facts (length c.self.inside.lists)) level around
           ∙ ap (λ (n : ℕ). below_at labels fresh base (level_at (length (map frame_seen c.self.inside.frames.items))) (handed_on (context_seen c.self.inside.page) (map frame_seen c.self.inside.frames.items)) facts n)
