@@ -1,8 +1,8 @@
 //! The nested text of a graph.
 ghost use Rattle.std.specs.Prelude.{◌≡◌, ◌≤◌, IfOk, IsErrOf, OnOk};
 ghost use Rattle.rx_ports.specs.Counts.{Rose};
-ghost use Rattle.rx_ports.specs.Shelves.{Moves, GrowsBy, GrowsByPart};
 ghost use Rattle.rx_model.specs.Seen.{triples_seen};
+ghost use Rattle.rx_pieces.specs.Underway.{Sends, SendsPart};
 ghost use Rattle.rx_shapes.specs.Table.{AreShapes};
 ghost use Rattle.rx_turtle.specs.Graphs.{DenoteNested, nested_bytes};
 
@@ -31,27 +31,22 @@ pub fn write_nested<S: Sink>(
     sink: &mut S,
 ) -> Result<(), WriteError>
     requires shapes { AreShapes (triples_seen graph.now) shapes.now }
-    ensures ok { OnOk result (Moves (GrowsBy (nested_bytes context.now.prefixes graph.now shapes.now)) (S.held sink.old) (S.held sink.new)) }
+    ensures ok { OnOk result (Sends (nested_bytes context.now.prefixes graph.now shapes.now) (S.held sink.old) (S.held sink.new)) }
     ensures denotes { OnOk result (DenoteNested graph.now (nested_bytes context.now.prefixes graph.now shapes.now)) }
-    ensures partly { IsErrOf result WriteError.Failed →
-        Moves (GrowsByPart (nested_bytes context.now.prefixes graph.now shapes.now)) (S.held sink.old) (S.held sink.new) }
+    ensures partly { IsErrOf result WriteError.Failed → SendsPart (nested_bytes context.now.prefixes graph.now shapes.now) (S.held sink.old) (S.held sink.new) }
     ensures cause { IsErrOf result WriteError.Failed → Rose (S.faults sink.old) (S.faults sink.new) }
     ensures untouched { IsErrOf result WriteError.NoMemory → sink.new ≡ sink.old }
     ensures later { S.faults sink.old ≤ S.faults sink.new }
 {
-    let Ok(plan) = NestedPlan::of(alloc, graph, shapes, context) else {
-        return Err(WriteError::NoMemory);
-    };
+    let plan = NestedPlan::of(alloc, graph, shapes, context)?;
     let Ok(mut pieces) = Pieces::new(alloc) else {
         drop(plan);
         return Err(WriteError::NoMemory);
     };
     push_nested(&mut pieces, sink, &plan);
     drop(plan);
-    match pieces.send(sink) {
-        Ok(()) => Ok(()),
-        Err(_failed) => Err(WriteError::Failed),
-    }
+    pieces.send(sink)?;
+    Ok(())
 }
 
 /// The graph's nested text, as `write_nested` writes it.

@@ -1,7 +1,7 @@
 //! The text of a graph.
 ghost use Rattle.std.specs.Prelude.{◌≡◌, ◌≤◌, IfOk, IsErrOf, OnOk};
 ghost use Rattle.rx_ports.specs.Counts.{Rose};
-ghost use Rattle.rx_ports.specs.Shelves.{Moves, GrowsBy, GrowsByPart};
+ghost use Rattle.rx_pieces.specs.Underway.{Sends, SendsPart};
 ghost use Rattle.rx_turtle.specs.Graphs.{DenoteTurtle, turtle_bytes};
 
 use crate::lines::push_plan;
@@ -27,27 +27,22 @@ pub fn write<S: Sink>(
     context: &Context,
     sink: &mut S,
 ) -> Result<(), WriteError>
-    ensures ok { OnOk result (Moves (GrowsBy (turtle_bytes context.now.prefixes graph.now)) (S.held sink.old) (S.held sink.new)) }
+    ensures ok { OnOk result (Sends (turtle_bytes context.now.prefixes graph.now) (S.held sink.old) (S.held sink.new)) }
     ensures denotes { OnOk result (DenoteTurtle graph.now (turtle_bytes context.now.prefixes graph.now)) }
-    ensures partly { IsErrOf result WriteError.Failed →
-        Moves (GrowsByPart (turtle_bytes context.now.prefixes graph.now)) (S.held sink.old) (S.held sink.new) }
+    ensures partly { IsErrOf result WriteError.Failed → SendsPart (turtle_bytes context.now.prefixes graph.now) (S.held sink.old) (S.held sink.new) }
     ensures cause { IsErrOf result WriteError.Failed → Rose (S.faults sink.old) (S.faults sink.new) }
     ensures untouched { IsErrOf result WriteError.NoMemory → sink.new ≡ sink.old }
     ensures later { S.faults sink.old ≤ S.faults sink.new }
 {
-    let Ok(plan) = Plan::of(alloc, graph, context) else {
-        return Err(WriteError::NoMemory);
-    };
+    let plan = Plan::of(alloc, graph, context)?;
     let Ok(mut pieces) = Pieces::new(alloc) else {
         drop(plan);
         return Err(WriteError::NoMemory);
     };
     push_plan(&mut pieces, sink, &plan);
     drop(plan);
-    match pieces.send(sink) {
-        Ok(()) => Ok(()),
-        Err(_failed) => Err(WriteError::Failed),
-    }
+    pieces.send(sink)?;
+    Ok(())
 }
 
 /// The graph's text in Turtle, as `write` writes it.

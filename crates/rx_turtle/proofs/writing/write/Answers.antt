@@ -3,17 +3,17 @@ use Rattle.rx_pieces.proofs.Adding.{adds_by}
 use Rattle.rx_pieces.proofs.Sending.{end_stands, whole_sent}
 use Rattle.rx_turtle.proofs.writing.write.Goals as goal
 
-pub returns-in-Ok-send-clause-ok : goal.returns-in-Ok-send-clause-ok
-returns-in-Ok-send-clause-ok g c = whole_sent _ (end_stands c.in-Ok-new.ensures (adds_by c.in-Ok.ensures.text c.push_plan.ensures).bytes c.in-Ok-send.ensures.adds)
-
-pub returns-in-Ok-send-clause-later : goal.returns-in-Ok-send-clause-later
-returns-in-Ok-send-clause-later g c = (end_stands c.in-Ok-new.ensures (adds_by c.in-Ok.ensures.text c.push_plan.ensures).bytes c.in-Ok-send.ensures.adds).later
-
-pub returns-clause-partly : goal.returns-clause-partly
-returns-clause-partly g c = λ _. (end_stands c.in-Ok-new.ensures (adds_by c.in-Ok.ensures.text c.push_plan.ensures).bytes c.in-Err.ensures.adds).told
-
-pub returns-clause-cause : goal.returns-clause-cause
-returns-clause-cause g c = λ _. (end_stands c.in-Ok-new.ensures (adds_by c.in-Ok.ensures.text c.push_plan.ensures).bytes c.in-Err.ensures.adds).cause refl
+pub returns-clause-ok : goal.returns-clause-ok
+returns-clause-ok g c = whole_sent _ (end_stands c.in-Ok.ensures (adds_by c.in_ok-plan.ensures.text c.push_plan.ensures).bytes c.in_ok-send.ensures.adds)
 
 pub returns-clause-later : goal.returns-clause-later
-returns-clause-later g c = (end_stands c.in-Ok-new.ensures (adds_by c.in-Ok.ensures.text c.push_plan.ensures).bytes c.in-Err.ensures.adds).later
+returns-clause-later g c = (end_stands c.in-Ok.ensures (adds_by c.in_ok-plan.ensures.text c.push_plan.ensures).bytes c.in_ok-send.ensures.adds).later
+
+pub returns-in_err-send-clause-partly : goal.returns-in_err-send-clause-partly
+returns-in_err-send-clause-partly g c = λ _. (end_stands c.in-Ok.ensures (adds_by c.in_ok-plan.ensures.text c.push_plan.ensures).bytes c.in_err-send.ensures.adds).told
+
+pub returns-in_err-send-clause-cause : goal.returns-in_err-send-clause-cause
+returns-in_err-send-clause-cause g c = λ _. (end_stands c.in-Ok.ensures (adds_by c.in_ok-plan.ensures.text c.push_plan.ensures).bytes c.in_err-send.ensures.adds).cause refl
+
+pub returns-in_err-send-clause-later : goal.returns-in_err-send-clause-later
+returns-in_err-send-clause-later g c = (end_stands c.in-Ok.ensures (adds_by c.in_ok-plan.ensures.text c.push_plan.ensures).bytes c.in_err-send.ensures.adds).later
