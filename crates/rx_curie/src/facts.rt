@@ -120,10 +120,8 @@ impl Facts {
         ensures kinds { IfErr result (λ why. is_for_meaning why ≡ true) }
     {
         let mut facts = Facts::none();
-        match facts.renew(maker, tag, names) {
-            Ok(()) => Ok(facts),
-            Err(error) => Err(error),
-        }
+        facts.renew(maker, tag, names)?;
+        Ok(facts)
     }
 
     /// What a tag without attributes says, whose element the rules don't name and which is in no language: the facts into
