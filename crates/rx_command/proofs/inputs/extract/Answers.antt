@@ -7,11 +7,11 @@ use Rattle.rx_command.specs.Inputs.{PageText, PageRefused}
 use Rattle.rx_command.proofs.InputLemmas.{page_text, page_found, fails_refused, fails_clean, fails_no_context}
 use Rattle.rx_command.proofs.inputs.extract.Goals as goal
 
-pub returns-in-Ok-of-clause-ok : goal.returns-in-Ok-of-clause-ok
-returns-in-Ok-of-clause-ok g c =
+pub returns-clause-ok : goal.returns-clause-ok
+returns-clause-ok g c =
     let e = extraction_of c.args.approach c.args.format c.args.graph in
-    moves_weaker (PageText (extracts e) c.args.approach.context (encode_utf8_all c.args.page.now) c.in-Ok-of.outcome)
-    (λ x y r. page_text e c.args.approach.context _ _ c.in-Ok.form c.in-Ok-of.outcome c.in-Ok-read_page.list c.as_str.ensures.bytes c.in-Ok.ensures c.in-Ok-of.ensures.spelled c.in-Ok-of.ensures.denoted x y r)
+    moves_weaker (PageText (extracts e) c.args.approach.context (encode_utf8_all c.args.page.now) c.in_ok-of.field-0)
+    (λ x y r. page_text e c.args.approach.context _ _ c.in-Ok.form c.in_ok-of.field-0 c.in-Ok-read_page.list c.as_str.ensures.bytes c.in-Ok.ensures c.in_ok-of.ensures.spelled c.in_ok-of.ensures.denoted x y r)
     c.in-Ok-read_page.ensures.gives
 
 pub returns-in-Err-clause-refused : goal.returns-in-Err-clause-refused

@@ -9,14 +9,14 @@ pub take-requires : goal.take-requires
 take-requires c =
     let i = c.loop-number.invariant in
     let all : c.loop-number.number ≡ c.args.count = omega (arith, c.loop-number-test.false, c.loop-number.auto.number-end) in
-    whole_due c.args.count i.bytes _ c.requires.few (record { stands = i.fed.stands; size = i.fed.size }) (tail_due c.args.count i.bytes c.loop-number.self.piece.items _ (i.due ∙ ap items_to all) c.in-Ok.ensures.items)
+    whole_due c.args.count i.bytes _ c.requires.few (record { stands = i.fed.stands; size = i.fed.size }) (tail_due c.args.count i.bytes c.loop-number.self.piece.items _ (i.due ∙ ap items_to all) c.in_ok-extend_from_slice.ensures.items)
 
 pub returns : goal.returns
 returns c =
     let i = c.loop-number.invariant in
     let all : c.loop-number.number ≡ c.args.count = omega (arith, c.loop-number-test.false, c.loop-number.auto.number-end) in
     let due : Feeding = record { walk = c.loop-number.self.walk; piece = c.extend_from_slice.new.self; size = c.loop-number.self.size; depth = c.loop-number.self.depth } in
-    if_whole c.args.count i.bytes due c.take.new.self c.take.result (tail_due c.args.count i.bytes c.loop-number.self.piece.items _ (i.due ∙ ap items_to all) c.in-Ok.ensures.items) (i.depth ∙ ap deepest_in all)
+    if_whole c.args.count i.bytes due c.take.new.self c.take.result (tail_due c.args.count i.bytes c.loop-number.self.piece.items _ (i.due ∙ ap items_to all) c.in_ok-extend_from_slice.ensures.items) (i.depth ∙ ap deepest_in all)
     (c.take.ensures i.bytes (record { stands = i.fed.stands; size = i.fed.size }))
 
 pub loop-number-preserved : goal.loop-number-preserved
