@@ -10,12 +10,13 @@ use Rattle.rx_item_table.specs.Rows.{properties_in}
 use Rattle.rx_item_table.specs.Showing.{ShowsRow, ShowsRows}
 use Rattle.rx_item_table.specs.Words.{names_in, types_in}
 use Rattle.rx_item_table.specs.declared.rows.Row.{Row}
-use Rattle.rx_item_properties.specs.Held.{AreTokens, AtPlace, IsElement, Reaches, ShowsElement, Numbered, is_there, names_beside, others_beside, own_beside, places, types_beside, AllStand, HoldsRows}
+use Rattle.rx_item_properties.specs.Held.{AreTokens, AtPlace, IsElement, NamesAt, Reaches, ShowsElement, ShowsTokens, Numbered, is_there, names_beside, others_beside, own_beside, places, types_beside, AllStand, HoldsRows}
 use Rattle.rx_item_properties.specs.Properties.{gathered}
 use Rattle.rx_item_properties.specs.declared.kept.Element.{Element}
 use Rattle.rx_item_properties.specs.declared.kept.Extra.{Extra}
 use Rattle.rx_item_properties.specs.declared.kept.Kept.{Kept}
 use Rattle.rx_item_properties.specs.declared.kept.Run.{Run}
+use Rattle.rx_item_properties.specs.declared.kept.Tokens.{Tokens}
 use Rattle.rx_item_properties.proofs.RisingLemmas.{Rises, same_rising, less_of}
 
 -- a row and what it shows
@@ -81,6 +82,16 @@ element_there kept rows base i row x e h lt row_is x_is shown own others =
         reached = λ item. subst (λ (runs : List Run). Reaches rows kept.members.items i runs p.0) (λ j. sym own j ∷ sym others j) (fits.reach item);
       },
     )
+
+-- what shows its names
+pub names_there : (kept : Kept) (rows : List Placed) (base : Chars) (i : ℕ) (row : Row) (x : Extra) (names : Tokens) → HoldsRows kept rows base → i < length kept.rows.items
+    → slice_get kept.rows.items i ≡ Some row → slice_get kept.extras.items i ≡ Some x
+    → ((words : Chars) (texts : List Chars) → AreTokens words (names_in row.head.words) (names_beside x) texts → ShowsTokens words names texts)
+    → NamesAt kept rows i (Some names)
+names_there kept rows base i row x names h lt row_is x_is shows =
+    let size = as_long kept.words kept.text kept.times.items kept.rows.items rows h.shown in
+    let p = placed_at rows i (omega (arith, lt, size)) in
+    (p.0, p.1, shows kept.words (names_of p.0) (h.extras.fit i row p.0 x row_is p.1 x_is).names)
 
 -- an element is that of the row at its place
 pub is_element : (kept : Kept) (rows : List Placed) (place : ℕ) (e : Element) (p : Placed) → slice_get rows place ≡ Some p → AtPlace kept rows place (Some e) → IsElement kept rows place e p

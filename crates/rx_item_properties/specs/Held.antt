@@ -12,6 +12,7 @@ use Rattle.rx_item_table.specs.Showing.{ShowsPart, ShowsWord, ShowsValue, ShowsR
 use Rattle.rx_item_table.specs.Words.{names_in, types_in}
 use Rattle.rx_item_table.specs.declared.rows.PageRows.{PageRows}
 use Rattle.rx_item_table.specs.declared.rows.Row.{Row}
+use Rattle.rx_item_table.specs.declared.rows.RowValue.{RowValue}
 use Rattle.rx_item_table.specs.declared.spans.Span.{Span}
 use Rattle.rx_item_properties.specs.Properties.{gathered}
 use Rattle.rx_item_properties.specs.declared.kept.Element.{Element}
@@ -150,3 +151,14 @@ is_there test (Some p) = test p
 abbrev pub AtPlace : Kept → List Placed → ℕ → Option Element → Type 0
 AtPlace kept rows place None = slice_get rows place ≡ None
 AtPlace kept rows place (Some e) = (p : Placed) × (slice_get rows place ≡ Some p) × IsElement kept rows place e p
+
+-- the names of the row at a place, where there is one
+abbrev pub NamesAt : Kept → List Placed → ℕ → Option Tokens → Type 0
+NamesAt kept rows place None = slice_get rows place ≡ None
+NamesAt kept rows place (Some names) = (p : Placed) × (slice_get rows place ≡ Some p) × ShowsTokens kept.words names (names_of p)
+
+-- its value
+abbrev pub ValueAt : Kept → List Placed → ℕ → Option RowValue → Type 0
+ValueAt kept rows place None = slice_get rows place ≡ None
+ValueAt kept rows place (Some value) =
+    (p : Placed) × (slice_get rows place ≡ Some p) × ShowsValue kept.words kept.text kept.times.items value p.facts.value

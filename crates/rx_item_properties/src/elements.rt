@@ -3,10 +3,11 @@ ghost use Rattle.std.specs.Prelude.{◌≡◌, [], List, None, slice_get};
 ghost use Rattle.rx_terms.specs.Text.{Chars};
 ghost use Rattle.rx_microdata.specs.Elements.{Placed, is_item, is_top_level};
 ghost use Rattle.rx_item_table.specs.Showing.{ShowsRow};
-ghost use Rattle.rx_item_properties.specs.Held.{AreTokens, AtPlace, OfRows, ShowsTheSame, ShowsTokens, is_there, names_beside, others_beside, own_beside, texts_in, texts_seen, types_beside};
+ghost use Rattle.rx_item_table.specs.Words.{names_in};
+ghost use Rattle.rx_item_properties.specs.Held.{AreTokens, AtPlace, NamesAt, OfRows, ShowsTheSame, ShowsTokens, ValueAt, is_there, names_beside, others_beside, own_beside, texts_in, texts_seen, types_beside};
 
 use crate::kept::{Element, Extra, Kept, Run, Tokens};
-use rx_item_table::{Row, Span};
+use rx_item_table::{Row, RowValue, Span};
 use rx_terms::Text;
 
 /// The element at a place.
@@ -21,6 +22,38 @@ pub fn element_at(kept: &Kept, place: usize) -> Option<Element<'_>>
         return None;
     };
     Some(element_of(row, extra))
+}
+
+/// The names of the element at a place, where no more of it is asked for: it is cheaper than an element. None where no row
+/// is there.
+#[inline(always)]
+pub fn names_at(kept: &Kept, place: usize) -> Option<Tokens<'_>>
+    ensures { OfRows kept.now (λ rows base. NamesAt kept.now rows place result) }
+{
+    let Some(row) = kept.rows.get(place) else {
+        return None;
+    };
+    let Some(extra) = kept.extras.get(place) else {
+        return None;
+    };
+    Some(names_of(row, extra))
+}
+
+/// The value of the element at a place, where no more of it is asked for. None where no row is there.
+#[inline(always)]
+pub fn value_at(kept: &Kept, place: usize) -> Option<RowValue>
+    ensures { OfRows kept.now (λ rows base. ValueAt kept.now rows place result) }
+{
+    match kept.rows.get(place) {
+        Some(row) => Some(value_of(row)),
+        None => None,
+    }
+}
+
+fn value_of(row: &Row) -> RowValue
+    ensures { result ≡ row.now.value }
+{
+    row.value
 }
 
 /// Whether there is a row at a place that is that of a top-level item. It is asked of each row, and is cheaper than an
@@ -69,6 +102,13 @@ fn element_of<'a>(row: &Row, extra: &'a Extra) -> Element<'a>
         own: own_beside(extra),
         others: others_beside(extra),
     }
+}
+
+/// The names of a row that has this beside it.
+fn names_of<'a>(row: &Row, extra: &'a Extra) -> Tokens<'a>
+    ensures { (words : Chars) (texts : List Chars) → AreTokens words (names_in row.now.head.words) (names_beside extra.now) texts → ShowsTokens words result texts }
+{
+    tokens(row.head.words.names(), names_beside(extra))
 }
 
 /// The tokens of an attribute that stands there, where they take no memory of their own, or else these.

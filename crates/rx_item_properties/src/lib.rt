@@ -17,7 +17,7 @@ mod reaches;
 mod references;
 mod starts;
 
-pub use elements::{element_at, is_item_at, is_top_at};
+pub use elements::{element_at, is_item_at, is_top_at, names_at, value_at};
 pub use gathering::{listed, properties};
 pub use kept::{Element, Kept, Run, Tokens};
 pub use parts::kept_of;

@@ -1,6 +1,6 @@
 -- The properties of an item under each of their names, in tree order and by name, and the tokens that they come to.
 use denote.Ref.{Bor}
-use Rattle.std.specs.Prelude.{◌≡◌, ℕ, Bool, true, List, [], ◌∷◌, ◌++◌, map, flat_map, slice_get, Option, Some, None, option_map, bytes_eq, encode_utf8_all, if◌then◌else◌}
+use Rattle.std.specs.Prelude.{◌≡◌, ℕ, Bool, true, false, List, [], ◌∷◌, ◌++◌, map, flat_map, slice_get, Option, Some, None, option_map, bytes_eq, encode_utf8_all, if◌then◌else◌}
 use Rattle.std.specs.Ordering.{is_lt, nat_cmp}
 use Rattle.std.specs.Cmp.Lexicographic.{slice_cmp}
 use Rattle.std.specs.List.Sorted.{IsSortedBy, IsStableBy}
@@ -11,7 +11,7 @@ use Rattle.rx_terms.specs.Text.{Chars}
 use Rattle.rx_microdata.specs.Elements.{Placed, is_item, names_of}
 use Rattle.rx_microdata.specs.Json.{json_of_item, with_value}
 use Rattle.rx_item_table.specs.Rows.{properties_in}
-use Rattle.rx_item_properties.specs.Held.{HoldsRows, IsElement}
+use Rattle.rx_item_properties.specs.Held.{HoldsRows, IsElement, is_there}
 use Rattle.rx_item_properties.specs.declared.kept.Element.{Element}
 use Rattle.rx_item_properties.specs.declared.kept.Kept.{Kept}
 use Rattle.rx_items.specs.Expanding.{data_of}
@@ -79,6 +79,11 @@ OfRow kept place Holds = (rows : List Placed) (base : Chars) (e : Placed) → Ho
 abbrev pub OfItem : Kept → ℕ → Element → (List Placed → Chars → Placed → Type 0) → Type 0
 OfItem kept place element Holds =
     OfRow kept place (λ rows base root. IsElement kept rows place element root → is_item root ≡ true → Holds rows base root)
+
+-- what is so of a place where no item stands, whatever number of items may nest
+abbrev pub OfPlain : Kept → ℕ → (List Placed → Chars → ℕ → Type 0) → Type 0
+OfPlain kept place Holds =
+    (rows : List Placed) (base : Chars) (left : ℕ) → HoldsRows kept rows base → is_there is_item (slice_get rows place) ≡ false → Holds rows base left
 
 module _ (rows : List Placed) (base : Chars) (left : ℕ) where
   abbrev pub value_if : Option Placed → Data

@@ -6,7 +6,7 @@ ghost use Rattle.rx_item_properties.specs.Held.{OfRows};
 ghost use Rattle.rx_items.specs.Named.{ByName, OfItem, is_before, key_at, keyed, keys_at, keys_in, keys_seen};
 
 use crate::readings::token_at;
-use rx_item_properties::{Element, Kept, Tokens, element_at, listed, properties};
+use rx_item_properties::{Element, Kept, Tokens, listed, names_at, properties};
 use rx_terms::{NoMemory, Text};
 use std::alloc::Global;
 
@@ -89,10 +89,10 @@ fn named_at<'a>(alloc: Global, kept: &'a Kept, places: &[usize]) -> Result<Vec<N
 fn add_names<'a>(list: &mut Vec<Named<'a>>, kept: &'a Kept, place: usize) -> Result<(), NoMemory>
     ensures { OfRows kept.now (λ rows base. OnOk result (keys_seen list.new.items ≡ keys_seen list.old.items ++ keys_at rows place)) }
 {
-    let Some(element) = element_at(kept, place) else {
+    let Some(names) = names_at(kept, place) else {
         return Ok(());
     };
-    match element.names {
+    match names {
         Tokens::One(span) => add_name(list, token_at(&kept.words, span), place),
         Tokens::Many(names) => add_each(list, names, place),
     }

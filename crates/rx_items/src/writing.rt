@@ -3,13 +3,13 @@ ghost use Rattle.std.specs.Prelude.{◌≡◌, ◌++◌, None, Some, IfOk, OnOk}
 ghost use Rattle.serde_json.specs.Written.{compact_text};
 ghost use Rattle.rx_json_text.specs.Tokens.{data_tokens, each_tokens};
 ghost use Rattle.rx_item_properties.specs.Held.{OfRows};
-ghost use Rattle.rx_items.specs.Named.{OfItem, OfRow, ending, item_data, key_seen, keys_seen, name_seen, opening, properties_data, tokens_behind, value_at, value_behind};
+ghost use Rattle.rx_items.specs.Named.{OfItem, OfPlain, OfRow, ending, item_data, key_seen, keys_seen, name_seen, opening, properties_data, tokens_behind, value_at, value_behind};
 ghost use Rattle.rx_items.specs.Pages.{page_data, top_data, tops_data};
 
 use crate::named::{Named, by_name};
 use crate::parts::{write_id, write_plain, write_types};
 use crate::visits::NESTED;
-use rx_item_properties::{Element, Kept, element_at, is_top_at};
+use rx_item_properties::{Element, Kept, element_at, is_item_at, is_top_at, value_at};
 use rx_json_text::JsonText;
 use rx_terms::NoMemory;
 use std::alloc::Global;
@@ -18,7 +18,7 @@ use std::alloc::Global;
 pub(crate) fn written(alloc: Global, kept: &Kept) -> Result<Vec<u8>, NoMemory>
     ensures { OfRows kept.now (λ rows base. IfOk result (λ text. text.items ≡ compact_text (page_data rows base))) }
 {
-    let mut out = JsonText::new(alloc);
+    let mut out = JsonText::with_room(alloc, room_for(kept))?;
     match write_page(alloc, kept, &mut out) {
         Ok(()) => Ok(out.into_bytes()),
         Err(NoMemory) => {
@@ -26,6 +26,13 @@ pub(crate) fn written(alloc: Global, kept: &Kept) -> Result<Vec<u8>, NoMemory>
             Err(NoMemory)
         }
     }
+}
+
+/// About how many bytes are written: those of the texts that are kept, and what stands around each name and value. It is
+/// less than what is kept of the page.
+fn room_for(kept: &Kept) -> usize {
+    let texts = kept.words.mark().saturating_add(kept.text.mark());
+    texts.saturating_add(kept.rows.as_slice().len().saturating_mul(24))
 }
 
 /// Writes the object of the page.
@@ -150,13 +157,28 @@ fn write_value(
 ) -> Result<(), NoMemory>
     ensures { OfRows kept.now (λ rows base. OnOk result (out.new ≡ out.old ++ data_tokens (value_at rows base left place))) }
 {
+    if !is_item_at(kept, place) {
+        return write_plain_at(alloc, kept, place, out);
+    }
     let Some(element) = element_at(kept, place) else {
         return out.null();
     };
-    if element.is_item {
-        return write_item(alloc, kept, left, &element, place, out);
-    }
-    write_plain(alloc, kept, element.value, out)
+    write_item(alloc, kept, left, &element, place, out)
+}
+
+/// Writes the value of the property at a place that is no item, of which no element is made.
+fn write_plain_at(
+    alloc: Global,
+    kept: &Kept,
+    place: usize,
+    out: &mut JsonText,
+) -> Result<(), NoMemory>
+    ensures { OfPlain kept.now place (λ rows base left. OnOk result (out.new ≡ out.old ++ data_tokens (value_at rows base left place))) }
+{
+    let Some(value) = value_at(kept, place) else {
+        return out.null();
+    };
+    write_plain(alloc, kept, value, out)
 }
 
 /// Before a value of this name, behind the values of the name before.

@@ -1,5 +1,5 @@
 //! A JSON text that is made token by token.
-ghost use Rattle.std.specs.Prelude.{◌≡◌, [], ◌∷◌, ◌++◌, OnOk};
+ghost use Rattle.std.specs.Prelude.{◌≡◌, [], ◌∷◌, ◌++◌, IfOk, OnOk};
 ghost use Rattle.json.specs.Print.{print};
 ghost use Rattle.json.specs.Token.{begin_array, begin_object, end_array, end_object, key, null, string};
 ghost use Rattle.serde_json.specs.Data.{Data};
@@ -38,6 +38,16 @@ impl JsonText {
         JsonText {
             writer: Writer::new(Vec::new(alloc)),
         }
+    }
+
+    /// A text that has no token yet, with room for so many bytes: one of at most this length is never moved while it grows.
+    pub fn with_room(alloc: Global, room: usize) -> Result<JsonText, NoMemory>
+        ensures { IfOk result (λ text. text ≡ []) }
+    {
+        let out = Vec::with_capacity(alloc, room)?;
+        Ok(JsonText {
+            writer: Writer::new(out),
+        })
     }
 
     /// The text, in which no space stands: where its tokens are those of a value, the compact text of this value.

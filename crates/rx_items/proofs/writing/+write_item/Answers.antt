@@ -1,12 +1,13 @@
 use Rattle.std.proofs.Common.{◌∙◌, ◌++◌, ap, sym, None, append_assoc}
 use Rattle.rx_json_text.specs.Tokens.{data_tokens}
-use Rattle.rx_microdata.specs.Facts.{said}
-use Rattle.rx_microdata.specs.Json.{string_of, json_of_item}
+use Rattle.rx_microdata.specs.Elements.{is_item}
+use Rattle.rx_microdata.specs.Json.{json_of_item}
 use Rattle.rx_item_table.specs.Rows.{properties_in}
+use Rattle.rx_item_properties.specs.Held.{is_there}
 use Rattle.rx_item_properties.proofs.HoldLemmas.{all_stand}
 use Rattle.rx_items.specs.Named.{keys_in, keys_seen, name_seen, opening, tokens_behind, value_at, grouped_at}
 use Rattle.rx_items.proofs.NameLemmas.{by_name_told}
-use Rattle.rx_items.proofs.WritingLemmas.{then_ok, object_made, item_told, value_none, value_item, value_plain, data_told}
+use Rattle.rx_items.proofs.WritingLemmas.{then_ok, object_made, item_told, value_none, value_item, data_told}
 use Rattle.rx_items.proofs.writing.+write_item.Goals as goal
 
 pub write_item-returns : goal.write_item-returns
@@ -34,25 +35,20 @@ write_named-returns t c rows base holds =
     ∙ append_assoc c.args.out.now (opening (name_seen c.args.before) c.args.named.now.name.now) (data_tokens (value_at rows base c.args.left c.args.named.now.place)))
     (c.write_value.ensures rows base holds)
 
+pub write_value-returns-then-not-is_item_at : goal.write_value-returns-then-not-is_item_at
+write_value-returns-then-not-is_item_at t c rows base holds =
+    c.write_plain_at.ensures rows base c.args.left holds (sym (c.is_item_at.ensures rows base holds) ∙ c.if-not-is_item_at.true)
+
 pub write_value-returns-in_default : goal.write_value-returns-in_default
 write_value-returns-in_default t c rows base holds =
     let none = value_none rows base c.args.left c.args.place (c.in_default.ensures rows base holds) in
     then_ok c.null.result (λ wrote. wrote ∙ ap (λ ts. c.args.out.now ++ ts) (sym none)) c.null.ensures
 
-pub write_value-returns-then-element : goal.write_value-returns-then-element
-write_value-returns-then-element t c rows base holds =
+pub write_value-returns : goal.write_value-returns
+write_value-returns t c rows base holds =
     let at = c.in-Some.ensures rows base holds in
-    let item = sym at.2.shown.is_item ∙ c.if-element.true in
+    let item = sym (c.is_item_at.ensures rows base holds ∙ ap (is_there is_item) at.1) ∙ c.if-not-is_item_at.false in
     then_ok c.write_item.result
     (λ wrote. data_told c.args.out.now c.write_item.new.out (json_of_item (properties_in rows) base c.args.left at.0) (value_at rows base c.args.left c.args.place)
     (value_item rows base c.args.left c.args.place at.0 at.1 item) wrote)
     (c.write_item.ensures rows base at.0 holds at.1 at.2 item)
-
-pub write_value-returns : goal.write_value-returns
-write_value-returns t c rows base holds =
-    let at = c.in-Some.ensures rows base holds in
-    let plain = sym at.2.shown.is_item ∙ c.if-element.false in
-    then_ok c.write_plain.result
-    (λ wrote. data_told c.args.out.now c.write_plain.new.out (string_of (said c.args.kept.now.base at.0.facts.value)) (value_at rows base c.args.left c.args.place)
-    (ap (λ b. string_of (said b at.0.facts.value)) holds.base_is ∙ value_plain rows base c.args.left c.args.place at.0 at.1 plain) wrote)
-    (c.write_plain.ensures at.0.facts.value at.2.shown.value)
