@@ -33,6 +33,28 @@ pub const LARGEST_CONTEXT: usize = 65_536;
 pub(crate) fn outcome_of_job<F: Shelf>(
     alloc: Global,
     shelf: &mut F,
+    job: Job,
+) -> Result<Outcome, InputError>
+    requires { reads_page job ≡ true }
+    ensures ok { GivesBy result (JobText (page_by job)) (F.told shelf.old) (F.told shelf.new) }
+    ensures refused { RefusesBy result (JobRefused (page_by job)) (F.told shelf.old) (F.told shelf.new) }
+    ensures takes { Moves (TakesFiles (Some (page_by job))) (F.told shelf.old) (F.told shelf.new) }
+    ensures bad { IsErrOf result InputError.BadContext → WhereTold (HasOther (page_by job).context) (F.told shelf.old) }
+    ensures bad_takes { IsErrOf result InputError.BadContext → Moves (TakesContext (page_by job).context) (F.told shelf.old) (F.told shelf.new) }
+    ensures named { IsErrOf result InputError.BadContext → is_some (page_by job).context ≡ true }
+    ensures failed { IsErrOf result InputError.Failed → FailedOr F.told F.faults shelf.old shelf.new (IsLacking (page_by job)) }
+    ensures cleanly { IsErrOf result InputError.Failed → Moves (StopsCleanly (Some (page_by job))) (F.told shelf.old) (F.told shelf.new) }
+    ensures later { F.faults shelf.old ≤ F.faults shelf.new }
+{
+    let outcome = outcome_by(alloc, shelf, &job);
+    drop(job);
+    outcome
+}
+
+/// The same of a job that is lent.
+fn outcome_by<F: Shelf>(
+    alloc: Global,
+    shelf: &mut F,
     job: &Job,
 ) -> Result<Outcome, InputError>
     requires { reads_page job.now ≡ true }

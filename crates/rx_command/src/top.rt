@@ -1,5 +1,5 @@
 //! The top call.
-ghost use Rattle.std.specs.Prelude.{◌≡◌, ◌≢◌, ◌≤◌, ℕ, List, None, IfOk, is_some, true, string_bytes};
+ghost use Rattle.std.specs.Prelude.{◌≡◌, ◌≢◌, ◌≤◌, ℕ, List, None, IfOk, IsErrOf, OnOk, is_some, true, string_bytes};
 ghost use Rattle.rx_ports.specs.Counts.{Rose};
 ghost use Rattle.rx_ports.specs.Shelves.{Moves, GrowsBy, GrowsByPart, Stays};
 ghost use Rattle.rx_job.specs.Jobs.{several_seen};
@@ -10,10 +10,12 @@ ghost use Rattle.rx_command.specs.Headline.{AnswersPage};
 ghost use Rattle.rx_command.specs.Outcome.{HasBadContext, HasPageFault, LacksFile};
 ghost use Rattle.rx_command.specs.Samples.{Yields, YieldsGraph};
 ghost use Rattle.rx_command.specs.Runs.{EndsSo, IfTold, WhereRefused, WhereSample, Writes, ReadCause, TakesJob, TakesToFault, StopsCleanly, IsAtEnd, GatheringEnds, SampleEnds, Says, SaysNothing, usage_line, refused_line, context_line, refused_with};
+ghost use Rattle.rx_command.specs.Written.{Denoted, text_of};
 
 use crate::errors::InputError;
 use crate::gathering::gather;
 use crate::inputs::outcome_of_job;
+use crate::outcomes::Outcome;
 use crate::samples::sample;
 use crate::statuses::Status;
 use rx_job::{Asking, Job, JobError, Several};
@@ -156,49 +158,40 @@ pub fn run<F: Shelf, O: Sink, E: Sink>(
         }
         Asking::Page => {}
     }
-    match outcome_of_job(alloc, shelf, &job) {
-        Ok(outcome) => match outcome.write(alloc, out) {
-            Ok(()) => {
-                drop(outcome);
-                drop(job);
-                Status::Done
-            }
-            Err(WriteError::Failed) => {
-                drop(outcome);
-                drop(job);
-                Status::WriteFault
-            }
-            Err(WriteError::NoMemory) => {
-                drop(outcome);
-                drop(job);
-                Status::Memory
-            }
+    match outcome_of_job(alloc, shelf, job) {
+        Ok(outcome) => match write(alloc, outcome, out) {
+            Ok(()) => Status::Done,
+            Err(WriteError::Failed) => Status::WriteFault,
+            Err(WriteError::NoMemory) => Status::Memory,
         },
-        Err(InputError::Failed) => {
-            drop(job);
-            Status::ReadFault
-        }
+        Err(InputError::Failed) => Status::ReadFault,
         Err(InputError::BadContext) => {
-            drop(job);
             say(err, BAD_CONTEXT);
             Status::BadContext
         }
-        Err(InputError::Refused(fault)) => {
-            drop(job);
-            match line_of(alloc, fault) {
-                Ok(line) => {
-                    say(err, line.as_bytes());
-                    drop(line);
-                    Status::Refused(fault)
-                }
-                Err(_no_memory) => Status::Memory,
+        Err(InputError::Refused(fault)) => match line_of(alloc, fault) {
+            Ok(line) => {
+                say(err, line.as_bytes());
+                drop(line);
+                Status::Refused(fault)
             }
-        }
-        Err(InputError::NoMemory) => {
-            drop(job);
-            Status::Memory
-        }
+            Err(_no_memory) => Status::Memory,
+        },
+        Err(InputError::NoMemory) => Status::Memory,
     }
+}
+
+/// Writes the outcome's text.
+fn write<O: Sink>(alloc: Global, outcome: Outcome, out: &mut O) -> Result<(), WriteError>
+    ensures ok { OnOk result (Moves (GrowsBy (text_of outcome)) (O.held out.old) (O.held out.new)) }
+    ensures denoted { OnOk result (Denoted outcome) }
+    ensures partly { IsErrOf result WriteError.Failed → Moves (GrowsByPart (text_of outcome)) (O.held out.old) (O.held out.new) }
+    ensures cause { IsErrOf result WriteError.Failed → Rose (O.faults out.old) (O.faults out.new) }
+    ensures untouched { IsErrOf result WriteError.NoMemory → out.new ≡ out.old }
+{
+    let written = outcome.write(alloc, out);
+    drop(outcome);
+    written
 }
 
 /// Writes the line that is said of the sample page.

@@ -35,10 +35,10 @@ pub returns-in-Err-NoMemory-clause-takes : goal.returns-in-Err-NoMemory-clause-t
 returns-in-Err-NoMemory-clause-takes g c = page_takes c.in_ok-approach.approach c.args.syntax c.args.context.now c.args.address.now c.args.page.now c.as_str.result.now c.in_ok-approach.ensures.syntax c.in_ok-approach.ensures.context c.in_ok-approach.ensures.address c.as_str.ensures.bytes _ _ c.read_page_by.ensures.takes c.read_page_by.ensures.to_first
 
 pub returns-in_ok-accept-in-Ok-clause-ok : goal.returns-in_ok-accept-in-Ok-clause-ok
-returns-in_ok-accept-in-Ok-clause-ok g c = adds_accepted c.in_ok-approach.approach c.args.syntax c.args.context.now c.args.address.now c.args.page.now c.as_str.result.now c.in_ok-approach.ensures.syntax c.in_ok-approach.ensures.context c.in_ok-approach.ensures.address c.as_str.ensures.bytes _ _ _ _ c.in-Ok.list c.read_page_by.ensures.takes c.read_page_by.ensures.to_first c.in-Ok.ensures.gives c.in_ok-accept.ensures
+returns-in_ok-accept-in-Ok-clause-ok g c = adds_accepted c.in_ok-approach.approach c.args.syntax c.args.context.now c.args.address.now c.args.page.now c.as_str.result.now c.in_ok-approach.ensures.syntax c.in_ok-approach.ensures.context c.in_ok-approach.ensures.address c.as_str.ensures.bytes _ _ _ _ c.in-Ok.list c.read_page_by.ensures.takes c.read_page_by.ensures.to_first c.in-Ok.ensures.gives c.in_ok-accept-in-Ok.ensures
 
 pub returns-in_ok-refuse-in-Err-Refused-clause-ok : goal.returns-in_ok-refuse-in-Err-Refused-clause-ok
 returns-in_ok-refuse-in-Err-Refused-clause-ok g c =
     let found = fails_refused (way_of c.in_ok-approach.approach) c.as_str.result.now c.as_str.result.now c.in-Err-Refused.field-0 c.in-Err-Refused.fault _ _ (λ i. c.as_str.result.now) c.in-Err-Refused.ensures.gives c.in-Err-Refused.field-0-is in
-    let adds : c.refuse.new.many ≡ c.args.many.now ++ refused_page c.args.address.now c.in-Err-Refused.fault ∷ [] = rw c.in-Err-Refused.field-0-is at c.in_ok-refuse.ensures.ok in
-    adds_refused c.in_ok-approach.approach c.args.syntax c.args.context.now c.args.address.now c.args.page.now c.as_str.result.now c.in_ok-approach.ensures.syntax c.in_ok-approach.ensures.context c.in_ok-approach.ensures.address c.as_str.ensures.bytes _ _ c.args.many.now c.refuse.new.many c.in-Err-Refused.fault c.read_page_by.ensures.takes c.read_page_by.ensures.to_first found adds
+    let adds : c.refuse.new.self ≡ c.args.many.now ++ refused_page c.args.address.now c.in-Err-Refused.fault ∷ [] = rw c.in-Err-Refused.field-0-is at c.in_ok-refuse-in-Err-Refused.ensures.ok in
+    adds_refused c.in_ok-approach.approach c.args.syntax c.args.context.now c.args.address.now c.args.page.now c.as_str.result.now c.in_ok-approach.ensures.syntax c.in_ok-approach.ensures.context c.in_ok-approach.ensures.address c.as_str.ensures.bytes _ _ c.args.many.now c.refuse.new.self c.in-Err-Refused.fault c.read_page_by.ensures.takes c.read_page_by.ensures.to_first found adds

@@ -4,11 +4,11 @@ use Rattle.rx_job.specs.Words.{itemizes}
 use Rattle.rx_session.proofs.RequestLemmas.{items_asked}
 use Rattle.rx_session.proofs.requests.open_items.Goals as goal
 
-pub returns-in-Ok-items : goal.returns-in-Ok-items
-returns-in-Ok-items c = record {
+pub returns : goal.returns
+returns c = record {
   task = itemizes (record { syntax = c.in-Some.syntax; address = c.in-Ok.address });
   context = standard;
   is = items_asked c.args.syntax c.args.address.now c.in-Some.syntax c.in-Ok.address (sym c.syntax_of.ensures ∙ c.in-Some.is) c.in-Ok.ensures;
   holds = refl;
-  fed = c.in-Ok-items.ensures standard;
+  fed = c.in_ok-items.ensures standard;
 }

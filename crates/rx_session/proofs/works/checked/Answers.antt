@@ -5,5 +5,5 @@ use Rattle.rx_session.proofs.works.checked.Goals as goal
 pub returns-in-Err : goal.returns-in-Err
 returns-in-Err c syntax context bytes at = check_stops syntax context c.args.check bytes c.in-Err.stop at (c.in-Err.ensures.gives (setting_for syntax context) bytes at)
 
-pub returns-in-Ok-text_of : goal.returns-in-Ok-text_of
-returns-in-Ok-text_of c syntax context bytes at = check_ends syntax context bytes c.in-Ok-text_of.text.items (c.in-Ok.ensures.gives (setting_for syntax context) bytes at) c.in-Ok-text_of.ensures.text
+pub returns : goal.returns
+returns c syntax context bytes at = check_ends syntax context bytes c.in_ok-text_of.field-0.items (c.in-Ok.ensures.gives (setting_for syntax context) bytes at) c.in_ok-text_of.ensures.text
