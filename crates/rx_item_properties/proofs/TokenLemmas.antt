@@ -1,7 +1,7 @@
 -- A text without white space is a token.
-use Rattle.std.proofs.Common.{◌≡◌, ◌∙◌, ℕ, ◌<◌, Bool, true, false, not, ◌==◌, List, [], ◌∷◌, length, take, drop, get_or, refl, ap, arith, None}
+use Rattle.std.proofs.Common.{◌≡◌, ◌∙◌, ℕ, ◌<◌, nat_lt, cond, Bool, true, false, not, ◌&&◌, ◌==◌, List, [], ◌∷◌, length, take, drop, get_or, refl, ap, arith, Some, None}
 use Rattle.std.specs.Char.{is_ascii_whitespace}
-use Rattle.std.specs.List.{position}
+use Rattle.std.specs.List.{list_all, position, position_or_len}
 use Rattle.std.specs.Str.{chars, IsUtf8, IsTrimAsciiStart}
 use Rattle.std.proofs.lemmas.Bool.Decides.{nat_tests}
 use Rattle.std.proofs.lemmas.List.{take_all, length-drop}
@@ -25,3 +25,28 @@ one_token text empty utf8 none is some =
     let front : chars (take (length text) text) ≡ chars text = ap chars (take_all (length text) text (omega arith)) in
     let rest : tokens (chars (drop (length text) text)) ≡ [] = ap tokens (chars-end (drop (length text) text) (omega (arith, length-drop (length text) text))) in
     tokens-first (chars text) (chars (take (length text) text)) (chars (drop (length text) text)) cut.0 ∙ (λ i. front i ∷ rest i)
+
+visible : (c : ℕ) → nat_lt 32 c ≡ true → is_ascii_whitespace c ≡ false
+visible c h = grind (arith, nat_tests)
+
+first_of : (a b : Bool) → (a && b) ≡ true → a ≡ true
+first_of true b h = refl
+first_of false b h = absurd (cc)
+
+second_of : (a b : Bool) → (a && b) ≡ true → b ≡ true
+second_of true b h = h
+second_of false b h = absurd (cc)
+
+none_white : (text : List ℕ) → list_all (λ b. nat_lt 32 b) text ≡ true → position_or_len is_ascii_whitespace text ≡ length text
+none_white [] h = refl
+none_white (c ∷ text) h =
+    let rest = none_white text (second_of (nat_lt 32 c) (list_all (λ b. nat_lt 32 b) text) h) in
+    rw (visible c (first_of (nat_lt 32 c) (list_all (λ b. nat_lt 32 b) text) h)) (omega (arith, rest))
+
+no_place : (n m : ℕ) → n ≡ m → None ≡ cond (nat_lt n m) (Some n) None
+no_place n m e =
+    let below : nat_lt m m ≡ false = grind (arith, nat_tests) in
+    rw e (rw below refl)
+
+pub unbroken_token : (text : List ℕ) → IsUtf8 text → (length text == 0) ≡ false → list_all (λ b. nat_lt 32 b) text ≡ true → tokens (chars text) ≡ chars text ∷ []
+unbroken_token text utf8 filled all = one_token text (length text == 0) utf8 (no_place _ _ (none_white text all)) refl (ap not filled)

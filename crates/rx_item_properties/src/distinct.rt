@@ -1,7 +1,6 @@
 //! The tokens of a text, each once.
-ghost use Rattle.std.specs.Prelude.{◌≡◌, ℕ, List, [], ◌∷◌, ◌++◌, ◌||◌, not, true, Some, IfOk, OnOk};
-ghost use Rattle.std.specs.Char.{is_ascii_whitespace};
-ghost use Rattle.std.specs.List.{position};
+ghost use Rattle.std.specs.Prelude.{◌≡◌, ℕ, List, [], ◌∷◌, ◌++◌, ◌||◌, nat_lt, not, true, Some, IfOk, OnOk};
+ghost use Rattle.std.specs.List.{list_all};
 ghost use Rattle.std.specs.Str.{chars};
 ghost use Rattle.rx_terms.specs.Text.{Chars, tokens};
 ghost use Rattle.rx_grammar.specs.Names.{same};
@@ -34,20 +33,21 @@ pub(crate) fn several_at(
     Ok(Some(list))
 }
 
-/// Whether the text is a token and nothing else.
+/// Whether the text is a token and nothing else, in which no control character stands.
 fn is_token(text: &str) -> bool
     ensures { result ≡ true → tokens (chars text.now) ≡ chars text.now ∷ [] }
 {
-    match first_white(text) {
-        Some(_) => false,
-        None => !text.is_empty(),
+    if text.is_empty() {
+        return false;
     }
+    is_unbroken(text)
 }
 
-fn first_white(text: &str) -> Option<usize>
-    ensures { result ≡ position is_ascii_whitespace text.now }
+/// Whether each byte is behind the space, and so none is white space. That takes fewer steps to tell than white space.
+fn is_unbroken(text: &str) -> bool
+    ensures { result ≡ list_all (λ b. nat_lt 32 b) text.now }
 {
-    text.bytes().position(|b| b.is_ascii_whitespace())
+    text.bytes().all(|b| b > b' ')
 }
 
 /// The tokens of a text in order, without those that stood before.

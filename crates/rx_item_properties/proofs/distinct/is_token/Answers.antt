@@ -1,6 +1,6 @@
 use Rattle.std.proofs.Common.{◌∙◌, sym}
-use Rattle.rx_item_properties.proofs.TokenLemmas.{one_token}
+use Rattle.rx_item_properties.proofs.TokenLemmas.{unbroken_token}
 use Rattle.rx_item_properties.proofs.distinct.is_token.Goals as goal
 
-pub returns-in-None : goal.returns-in-None
-returns-in-None c some = one_token c.args.text.now c.is_empty.result c.utf8.text (sym c.in-None.is ∙ c.first_white.ensures) c.is_empty.ensures some
+pub returns : goal.returns
+returns c is = unbroken_token c.args.text.now c.utf8.text (sym c.is_empty.ensures ∙ c.if-is_empty.false) (sym c.is_unbroken.ensures ∙ is)
