@@ -52,11 +52,7 @@ pub(crate) fn outcome_of_job<F: Shelf>(
 }
 
 /// The same of a job that is lent.
-fn outcome_by<F: Shelf>(
-    alloc: Global,
-    shelf: &mut F,
-    job: &Job,
-) -> Result<Outcome, InputError>
+fn outcome_by<F: Shelf>(alloc: Global, shelf: &mut F, job: &Job) -> Result<Outcome, InputError>
     requires { reads_page job.now ≡ true }
     ensures ok { GivesBy result (JobText (page_by job.now)) (F.told shelf.old) (F.told shelf.new) }
     ensures refused { RefusesBy result (JobRefused (page_by job.now)) (F.told shelf.old) (F.told shelf.new) }
