@@ -91,9 +91,10 @@ def growth(given, folder):
         print(f"{shape}, {sizes[0]} and {sizes[1]} bytes: {small / 1e6:.0f} and {large / 1e6:.0f} million, {large / small:.2f} times")
 
 
-def least(program, path, rounds):
-    runs = [program.run(path) for _ in range(rounds)]
-    return min(run.seconds for run in runs), {run.status for run in runs}
+def least(programs, path, rounds):
+    """The least time of each program, of so many rounds in which each runs in turn."""
+    taken = [[program.run(path).seconds for program in programs] for _ in range(rounds)]
+    return [min(seconds) for seconds in zip(*taken)]
 
 
 def peers(given, folder):
@@ -106,7 +107,7 @@ def peers(given, folder):
         Program("items", [given.program, "items", "--base", ADDRESS], []),
         Program("extruct", ["/usr/bin/python3", "-c", EXTRUCT], [ADDRESS]),
     ]
-    (own, _), (other, _) = (least(program, page, given.rounds) for program in programs)
+    own, other = least(programs, page, given.rounds)
     print(f"2,000 products: items {own:.4f} s, extruct {other:.2f} s, {other / own:.0f} times")
 
 
