@@ -66,7 +66,10 @@ impl Lists {
     {
         let number = self.owners.len();
         let owner = OwnerLists::new(self.alloc, subject);
-        self.owners.push(Some(owner))?;
+        // Not by `?`: with its conversion of the error this isn't compiled into the caller.
+        let Ok(()) = self.owners.push(Some(owner)) else {
+            return Err(NoMemory);
+        };
         Ok(Owner(number))
     }
 
