@@ -6,3 +6,4 @@ pub mod Members
 pub mod Starts
 pub mod Built
 pub mod Disjoint
+pub mod Lying
