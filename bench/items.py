@@ -15,7 +15,6 @@ start counts for neither.
 """
 
 import argparse
-import ctypes
 import json
 import os
 import re
@@ -24,7 +23,7 @@ import sys
 import tempfile
 
 import shapes
-from measure import ADDRESS, BUILT, PR_SET_CHILD_SUBREAPER, Program
+from measure import ADDRESS, BUILT, Program, seconds_alone
 
 TOP = os.path.join(os.path.dirname(os.path.abspath(__file__)), "..")
 
@@ -93,7 +92,7 @@ def growth(given, folder):
 
 def least(programs, path, rounds):
     """The least time of each program, of so many rounds in which each runs in turn."""
-    taken = [[program.run(path).seconds for program in programs] for _ in range(rounds)]
+    taken = [[seconds_alone(program.words(path)) for program in programs] for _ in range(rounds)]
     return [min(seconds) for seconds in zip(*taken)]
 
 
@@ -134,7 +133,6 @@ def arguments():
 
 def main():
     given = arguments()
-    ctypes.CDLL(None).prctl(PR_SET_CHILD_SUBREAPER, 1, 0, 0, 0)
     with tempfile.TemporaryDirectory() as folder:
         {"growth": growth, "peers": peers, "process": process}[given.what](given, folder)
 

@@ -12,4 +12,5 @@ mod ReferenceLemmas
 mod ReachLemmas
 mod PropertyLemmas
 mod BuildLemmas
+mod WalkLemmas
 mod DisjointLemmas

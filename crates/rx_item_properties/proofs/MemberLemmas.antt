@@ -1,7 +1,6 @@
 -- Which rows stand in a run of members.
 use Rattle.std.proofs.Common.{◌≡◌, ◌∙◌, ◌+◌, ◌-◌, ◌*◌, ◌%◌, ◌<◌, ◌≤◌, ℕ, zero, suc, Bool, true, false, cond, List, [], ◌∷◌, ◌++◌, map, length, take, drop, get_or, Contains, Option, Some, None, refl, sym, ap, subst, arith}
 use Rattle.std.specs.Prelude.{slice_get}
-use Rattle.std.proofs.lemmas.List.Sorted.{Contains-permutation, IsPermutation-sym}
 use Rattle.std.proofs.lemmas.Option.{slice_get-get_or}
 use Rattle.std.proofs.lemmas.Bool.{cases_lt, ltb-true, ltb-false}
 use Rattle.rx_terms.specs.Text.{Chars}
@@ -143,7 +142,7 @@ place_in : (scope : Option ℕ) (place : ℕ) → place < 18446744073709551615 �
 place_in None place lt = omega (arith, lt)
 place_in (Some k) place lt = omega (arith, lt)
 
-same_number : (a b : Option ℕ) → scope_number a ≡ scope_number b → a ≡ b
+pub same_number : (a b : Option ℕ) → scope_number a ≡ scope_number b → a ≡ b
 same_number None None e = refl
 same_number None (Some b) e = absurd (omega (arith, e))
 same_number (Some a) None e = absurd (omega (arith, e))
@@ -180,7 +179,7 @@ module _ (words gathered : Chars) (times : List Chars) (rows : List Row) (ps : L
       let p = in_part (map (λ key. key % 18446744073709551615) keys) run x (subst (λ (l : List ℕ). Contains (part l run) x) s.places c) in
       let m = map_at (λ key. key % 18446744073709551615) keys p.at x p.is in
       let key = m.0 in
-      let k = key_found words gathered times rows ps 0 key s.shows (Contains-permutation keys (keys_from 0 rows) key (IsPermutation-sym (keys_from 0 rows) keys s.same) (is_there keys p.at key m.1)) in
+      let k = key_found words gathered times rows ps 0 key s.shows ((s.same key).0 (is_there keys p.at key m.1)) in
       let here = got keys p.at key m.1 in
       let low : key_of scope from ≤ key =
       subst (λ n. key_of scope from ≤ n) here (ltb-false (get_or keys p.at key) (key_of scope from) (r.begins.1 p.at key p.low (short_of keys p.at key m.1))) in
@@ -209,7 +208,7 @@ module _ (words gathered : Chars) (times : List Chars) (rows : List Row) (ps : L
   of_range x h =
       let plain : 0 + x ≡ x = omega arith in
       let key = key_of h.row.scope (0 + x) in
-      let there = there_is keys key (Contains-permutation (keys_from 0 rows) keys key s.same (key_there words gathered times rows ps 0 x h.row s.shows h.is h.named)) in
+      let there = there_is keys key ((s.same key).1 (key_there words gathered times rows ps 0 x h.row s.shows h.is h.named)) in
       let key_is : key ≡ key_of scope x = ap (key_of h.row.scope) plain ∙ ap (λ (o : Option ℕ). key_of o x) h.scope_is in
       let here = got keys there.0 key there.1 in
       let short = row_short ps x h.row h.is in

@@ -6,7 +6,7 @@ ghost use Rattle.rx_item_properties.specs.Starts.{reach_end};
 ghost use Rattle.rx_item_table.specs.declared.rows.Row.{Row};
 
 use crate::kept::Run;
-use crate::members::between;
+use crate::members::{between, inside_from};
 use rx_item_table::Row;
 
 /// The members of which the item at this place is the nearest one around.
@@ -14,6 +14,13 @@ pub(crate) fn own_run(rows: &[Row], keys: &[u128], place: usize) -> Run
     ensures { IsNonDecreasing keys.now → RunOf keys.now (Some place) 0 (length rows.now) result }
 {
     between(keys, Some(place), 0, rows.len())
+}
+
+/// The same, told in few steps where they begin at the hint, or a little behind it.
+pub(crate) fn own_run_from(rows: &[Row], keys: &[u128], place: usize, hint: usize) -> Run
+    ensures { IsNonDecreasing keys.now → RunOf keys.now (Some place) 0 (length rows.now) result }
+{
+    inside_from(keys, place, rows.len(), hint)
 }
 
 /// The members that a start reaches: itself where it is an item, else also what is below it and in no item below it.

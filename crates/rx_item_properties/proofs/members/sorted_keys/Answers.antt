@@ -1,6 +1,11 @@
-use Rattle.std.proofs.Common.{ℕ}
-use Rattle.std.proofs.lemmas.List.Sorted.{IsNonDecreasingBy-from_sort}
+use Rattle.rx_item_properties.proofs.WalkLemmas.{done_first, done_next, done_all}
 use Rattle.rx_item_properties.proofs.members.sorted_keys.Goals as goal
 
-pub returns-clause-sorted : goal.returns-clause-sorted
-returns-clause-sorted c = IsNonDecreasingBy-from_sort (λ (key : ℕ). key) c.sort_unstable.new.self.items c.sort_unstable.ensures.sorted
+pub loop-place-init : goal.loop-place-init
+loop-place-init c = done_first c.args.rows.now c.add_keys.new.keys.items (rw c.in_ok-keys.ensures.items at c.in_ok-add_keys.ensures)
+
+pub loop-place-preserved : goal.loop-place-preserved
+loop-place-preserved c = let l = c.loop-place in done_next c.args.rows.now l.place l.keys.items c.add_inside.new.keys.items c.in_ok-add_inside.ensures l.invariant
+
+pub returns-clause-same : goal.returns-clause-same
+returns-clause-same c lies = let l = c.loop-place in done_all c.args.rows.now l.place l.keys.items c.loop-place-test.false l.invariant lies
