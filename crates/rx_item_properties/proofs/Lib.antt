@@ -10,6 +10,7 @@ mod MemberLemmas
 mod StartLemmas
 mod ReferenceLemmas
 mod ReachLemmas
+mod AroundLemmas
 mod PropertyLemmas
 mod BuildLemmas
 mod WalkLemmas

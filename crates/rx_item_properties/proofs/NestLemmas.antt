@@ -13,11 +13,11 @@ use Rattle.rx_item_properties.specs.Held.{Numbered}
 use Rattle.std.proofs.lemmas.List.{length-append}
 use Rattle.rx_item_table.proofs.Alike.{Each}
 
-each_append : (P : Placed → Type 0) (a b : List Placed) → Each P a → Each P b → Each P (a ++ b)
+pub each_append : (P : Placed → Type 0) (a b : List Placed) → Each P a → Each P b → Each P (a ++ b)
 each_append P [] b p q = q
 each_append P (x ∷ a) b p q = (p.0, each_append P a b p.1 q)
 
-each_by : (P Q : Placed → Type 0) (a : List Placed) → ((x : Placed) → P x → Q x) → Each P a → Each Q a
+pub each_by : (P Q : Placed → Type 0) (a : List Placed) → ((x : Placed) → P x → Q x) → Each P a → Each Q a
 each_by P Q [] f p = tt
 each_by P Q (x ∷ a) f p = (f x p.0, each_by P Q a f p.1)
 
@@ -88,14 +88,14 @@ pairs_right (x ∷ xs) a b p q = (each_append (Nests x) a b p.0 q.0, pairs_right
 pairs_both : (a b : List Placed) → Pairs a a → Pairs a b → Pairs b a → Pairs b b → Pairs (a ++ b) (a ++ b)
 pairs_both a b aa ab ba bb = each_append (λ s. Each (Nests s) (a ++ b)) a b (pairs_right a a b aa ab) (pairs_right b a b ba bb)
 
-not_item : (tag : StartTag) (inner : Tree) → matters (facts_of tag inner) ≡ false → begins_item tag ≡ false
+pub not_item : (tag : StartTag) (inner : Tree) → matters (facts_of tag inner) ≡ false → begins_item tag ≡ false
 not_item tag inner none = by (begins_item tag) none
   where
     by : (b : Bool) → (b || (is_some (facts_of tag inner).names || is_some (facts_of tag inner).id)) ≡ false → b ≡ false
     by true e = absurd (cc (e))
     by false e = refl
 
-scope_before : (tag : StartTag) (place : ℕ) (scope : Option ℕ) → is_before scope place ≡ true → is_before (scope_in tag place scope) (suc place) ≡ true
+pub scope_before : (tag : StartTag) (place : ℕ) (scope : Option ℕ) → is_before scope place ≡ true → is_before (scope_in tag place scope) (suc place) ≡ true
 scope_before tag place scope h = by (begins_item tag)
   where
     by : (b : Bool) → is_before (cond b (Some place) scope) (suc place) ≡ true
@@ -118,7 +118,7 @@ within tag scope place from size all e l h f =
     let ends = f.ends in
     record { low = omega (arith, l, low); high = omega (arith, h, high); ends = omega (arith, h, ends); has_room = f.has_room; scope_of = scope_within tag scope e.scope place from l f.scope_of; before = f.before }
 
-abbrev row_at : StartTag → Tree → Option ℕ → ℕ → ℕ → Placed
+abbrev pub row_at : StartTag → Tree → Option ℕ → ℕ → ℕ → Placed
 row_at tag inner scope place past = record { place = place; past = past; scope = scope; facts = needed (facts_of tag inner) }
 
 -- what is within an element nests in it
@@ -138,11 +138,11 @@ inside tag inner scope place size e f = record {
     other false i (inl is) = inl is
     other false i (inr k) = let low = k.2 in inr (k.0, k.1, omega (arith, low))
 
-before_more : (scope : Option ℕ) (place later : ℕ) → place ≤ later → is_before scope place ≡ true → is_before scope later ≡ true
+pub before_more : (scope : Option ℕ) (place later : ℕ) → place ≤ later → is_before scope place ≡ true → is_before scope later ≡ true
 before_more None place later le h = refl
 before_more (Some k) place later le h = let lt = ltb-true k place h in lt-ltb k later (omega (arith, lt, le))
 
-each_both : (P Q : Placed → Type 0) (a : List Placed) → Each P a → Each Q a → Each (λ x. P x × Q x) a
+pub each_both : (P Q : Placed → Type 0) (a : List Placed) → Each P a → Each Q a → Each (λ x. P x × Q x) a
 each_both P Q [] p q = tt
 each_both P Q (x ∷ a) p q = ((p.0, q.0), each_both P Q a p.1 q.1)
 
@@ -203,7 +203,7 @@ module _ (tag : StartTag) (inner : Tree) (scope : Option ℕ) (place n m : ℕ) 
           (each_by (From (suc place)) (λ s. Nests s row) (a ++ b) (λ e f. apart_back row e (suc place) (omega arith) f) later)
           (pairs_both a b p.pairs (pairs_apart (suc place + n) a b low high) (pairs_back (suc place + n) a b low high) q.pairs)
 
-scope_none : (tag : StartTag) (place : ℕ) (scope : Option ℕ) → begins_item tag ≡ false → is_before scope place ≡ true → is_before (scope_in tag place scope) place ≡ true
+pub scope_none : (tag : StartTag) (place : ℕ) (scope : Option ℕ) → begins_item tag ≡ false → is_before scope place ≡ true → is_before (scope_in tag place scope) place ≡ true
 scope_none tag place scope plain h = subst (λ b. is_before (cond b (Some place) scope) place ≡ true) (sym plain) h
 
 pub laid : (tree : Tree) (scope : Option ℕ) (place : ℕ) → is_before scope place ≡ true → Laid (row_count tree) scope place (rows_from scope place tree)

@@ -13,7 +13,7 @@ use Rattle.rx_item_properties.proofs.HoldLemmas.{place_is}
 use Rattle.rx_item_properties.proofs.MemberLemmas.{InRange}
 use Rattle.rx_item_properties.proofs.NestLemmas.{Fits, Nests, Pairs}
 
-each_at : (P : Placed → Type 0) (ps : List Placed) (i : ℕ) (p : Placed) → Each P ps → slice_get ps i ≡ Some p → P p
+pub each_at : (P : Placed → Type 0) (ps : List Placed) (i : ℕ) (p : Placed) → Each P ps → slice_get ps i ≡ Some p → P p
 each_at P [] i p e g = absurd (cc (g))
 each_at P (x ∷ ps) zero p e g = let same : x ≡ p = cc (g) in subst P same e.0
 each_at P (x ∷ ps) (suc i) p e g = each_at P ps i p e.1 g
