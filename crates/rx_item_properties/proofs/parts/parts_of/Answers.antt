@@ -1,6 +1,7 @@
 use Rattle.std.proofs.Common.{None, subst, ◌≤◌, ℕ}
 use Rattle.rx_item_table.specs.Rows.{rows_of}
 use Rattle.rx_item_properties.specs.Members.{Sorted}
+use Rattle.rx_item_properties.proofs.AroundLemmas.{lies}
 use Rattle.rx_item_properties.proofs.NestLemmas.{numbered}
 use Rattle.rx_item_properties.proofs.ReachLemmas.{rows_length}
 use Rattle.rx_item_properties.proofs.parts.parts_of.Goals as goal
@@ -10,7 +11,7 @@ returns c text times tree shows =
     let ps = rows_of tree in
     let sorted : Sorted c.args.words.now text times c.args.rows.now ps c.in_ok-keys.keys.items c.in_ok-members.members.items = record {
       shows = shows;
-      same = c.in_ok-keys.ensures.same;
+      same = c.in_ok-keys.ensures.same (lies c.args.words.now text times c.args.rows.now tree shows);
       places = rw c.as_slice.ensures.value at c.in_ok-members.ensures;
       small = subst (λ (n : ℕ). n ≤ 18446744073709551615) (rows_length c.args.words.now text times c.args.rows.now ps shows) c.in_ok-keys.ensures.small;
     } in
