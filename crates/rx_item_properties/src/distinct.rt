@@ -49,11 +49,20 @@ fn is_token(text: &str) -> bool
     is_unbroken(text)
 }
 
-/// Whether each byte is behind the space, and so none is white space. That takes fewer steps to tell than white space.
+/// Whether each byte is behind the space, and so none is white space. That takes fewer steps to tell than white space, and
+/// a loop by place takes fewer than an iterator.
 fn is_unbroken(text: &str) -> bool
     ensures { result ≡ list_all (λ b. nat_lt 32 b) text.now }
 {
-    text.bytes().all(|b| b > b' ')
+    let bytes = text.as_bytes();
+    let mut at = 0;
+    while at < bytes.len() {
+        if bytes[at] <= b' ' {
+            return false;
+        }
+        at += 1;
+    }
+    true
 }
 
 /// The tokens of a text in order, without those that stood before.
