@@ -1,17 +1,26 @@
 -- What stands beside a table's rows, one after another.
-use Rattle.std.proofs.Common.{◌≡◌, ◌∙◌, ◌+◌, ◌≤◌, ℕ, zero, suc, Bool, true, false, List, [], ◌∷◌, ◌++◌, length, Option, Some, None, option_map, refl, sym, ap, subst, arith}
-use Rattle.std.specs.Prelude.{slice_get, unwrap_or}
+use Rattle.std.proofs.Common.{◌≡◌, ◌∙◌, ◌+◌, ◌≤◌, ℕ, zero, suc, Bool, true, false, List, [], ◌∷◌, ◌++◌, length, Contains, ◌↔◌, Option, Some, None, option_map, refl, sym, ap, subst, arith}
+use Rattle.std.specs.Prelude.{filter_map, slice_get, unwrap_or}
 use mathlib.Core.Logic.{◌⊎◌, inl, inr}
 use Rattle.std.proofs.lemmas.List.{length-append}
-use Rattle.rx_terms.specs.Text.{Chars}
+use Rattle.rx_terms.specs.Text.{Chars, tokens}
+use Rattle.rx_grammar.specs.Trees.{Tree}
 use Rattle.rx_microdata.specs.Elements.{Placed, is_item}
 use Rattle.rx_microdata.specs.Facts.{distinct_tokens}
-use Rattle.rx_item_table.specs.Showing.{ShowsRow}
+use Rattle.rx_item_table.specs.Rows.{rows_of}
+use Rattle.rx_item_table.specs.Showing.{ShowsRow, ShowsWord}
 use Rattle.rx_item_table.specs.Words.{names_in, types_in}
 use Rattle.rx_item_table.specs.declared.rows.Row.{Row}
+use Rattle.rx_item_table.specs.declared.spans.Span.{Span}
 use Rattle.rx_item_properties.specs.Held.{AllFit, AreTokens, Fits, Reaches, names_beside, runs_beside, types_beside}
 use Rattle.rx_item_properties.specs.Built.{Builds}
+use Rattle.rx_item_properties.specs.Ids.{look_in}
+use Rattle.rx_item_properties.specs.Members.{RunOf, Sorted}
 use Rattle.rx_item_properties.specs.declared.kept.Extra.{Extra}
+use Rattle.rx_item_properties.specs.declared.kept.Run.{Run}
+use Rattle.rx_item_properties.proofs.NestLemmas.{numbered}
+use Rattle.rx_item_properties.proofs.PropertyLemmas.{properties_are}
+use Rattle.rx_item_properties.proofs.ReachLemmas.{reach_alone}
 
 pub same_there : (ps : List Placed) (i : ℕ) (a b : Placed) → slice_get ps i ≡ Some a → slice_get ps i ≡ Some b → a ≡ b
 same_there ps i a b e f = let found : Some a ≡ Some b = sym e ∙ f in cc (found)
@@ -83,3 +92,22 @@ pub fits_there : (words text : Chars) (times : List Chars) (ps : List Placed) (m
     → Reaches ps members place (runs_beside x) p → Builds words ps members rows place x
 fits_there words text times ps members rows place row p x row_is there s names types reach =
     fits_by words text times ps members rows place row p x row_is there s names types (λ item. reach)
+
+-- where no references are kept, there are none
+pub refers_not : (words : Chars) (span : Option Span) (word : Option Chars) → span ≡ None → ShowsWord words span word → tokens (unwrap_or word []) ≡ []
+refers_not words None None e s = refl
+refers_not words None (Some part) e s = absurd s
+refers_not words (Some span) word e s = absurd (cc (e))
+
+no_starts : (ps : List Placed) (refs : List Chars) → refs ≡ [] → (m : ℕ) → Contains [] m ↔ Contains (filter_map (look_in ps) refs) m
+no_starts ps refs none m =
+    let same : Contains [] m ↔ Contains (filter_map (look_in ps) []) m = ((λ c. c), (λ c. c)) in
+    subst (λ (list : List Chars). Contains [] m ↔ Contains (filter_map (look_in ps) list) m) (sym none) same
+
+-- what an item reaches that refers to nothing
+pub reaches_alone : (words text : Chars) (times : List Chars) (rows : List Row) (tree : Tree) (keys members : List ℕ) → Sorted words text times rows (rows_of tree) keys members
+    → (place : ℕ) (run : Run) (p : Placed) → slice_get (rows_of tree) place ≡ Some p → p.facts.references ≡ [] → RunOf keys (Some place) 0 (length rows) run
+    → Reaches (rows_of tree) members place (run ∷ []) p
+reaches_alone words text times rows tree keys members sorted place run p there none r =
+    properties_are (rows_of tree) (numbered tree None 0) p place members (run ∷ []) [] there (no_starts (rows_of tree) p.facts.references none)
+    (reach_alone words text times rows tree keys members sorted place [] run [] refl refl r)

@@ -1,13 +1,17 @@
 //! What elements have beside their rows.
-ghost use Rattle.std.specs.Prelude.{◌≡◌, ◌<◌, ◌++◌, ◌∷◌, [], None, true, length, IfOk, OnOk};
-ghost use Rattle.rx_item_table.specs.Words.{names_in, types_in};
+ghost use Rattle.std.specs.Prelude.{◌≡◌, ◌<◌, ◌++◌, ◌∷◌, [], None, Some, true, length, unwrap_or, IfOk, OnOk};
+ghost use Rattle.std.specs.List.Sorted.{IsNonDecreasing};
+ghost use Rattle.rx_microdata.specs.Facts.{distinct_tokens};
+ghost use Rattle.rx_item_table.specs.Words.{names_in, references_in, types_in};
 ghost use Rattle.rx_item_properties.specs.Built.{Builds, OfPage};
-ghost use Rattle.rx_item_properties.specs.Held.{EachFits, MakesTokens, names_beside, runs_beside, texts_in, types_beside};
+ghost use Rattle.rx_item_properties.specs.Held.{AreTokens, EachFits, MakesTokens, OfWord, names_beside, runs_beside, texts_in, types_beside};
+ghost use Rattle.rx_item_properties.specs.Members.{RunOf};
 
-use crate::distinct::several_at;
-use crate::kept::{Extra, Rare, Reach};
+use crate::distinct::{is_single_at, several_at};
+use crate::kept::{Extra, Rare, Reach, Run};
 use crate::reaches::{no_reach, reach_of};
 use crate::references::starts_of;
+use crate::starts::own_run;
 use rx_item_table::{Row, Span};
 use rx_terms::{NoMemory, Text};
 use rx_values::TextStore;
@@ -57,6 +61,48 @@ fn extra_of(
     ensures { OfPage words.now rows.now keys.now ids.now (λ ps members. IfOk result (λ extra. Builds words.now ps members rows.now place extra)) }
 {
     let row = &rows[place];
+    if is_plain(words, row) {
+        let own = plain_run(rows, keys, row, place);
+        return Ok(Extra::Plain(own));
+    }
+    rare_extra(alloc, words, rows, keys, ids, place)
+}
+
+/// Whether a row has no list of names or types of its own, and refers to nothing. Most rows are such.
+fn is_plain(words: &TextStore, row: &Row) -> bool
+    ensures references { result ≡ true → references_in row.now.head.words ≡ None }
+    ensures names { result ≡ true → OfWord words.now (names_in row.now.head.words) (λ word. AreTokens words.now (names_in row.now.head.words) None (distinct_tokens (unwrap_or word []))) }
+    ensures types { result ≡ true → OfWord words.now (types_in row.now.head.words) (λ word. AreTokens words.now (types_in row.now.head.words) None (distinct_tokens (unwrap_or word []))) }
+{
+    row.head.words.references().is_none()
+        && is_single(words, row.head.words.names())
+        && is_single(words, row.head.words.types())
+}
+
+/// The members that a row at this place reaches that refers to nothing: none where it is no item.
+fn plain_run(rows: &[Row], keys: &[u128], row: &Row, place: usize) -> Run
+    ensures { row.now.head.is_item ≡ true → IsNonDecreasing keys.now → RunOf keys.now (Some place) 0 (length rows.now) result }
+{
+    if row.head.is_item {
+        return own_run(rows, keys, place);
+    }
+    Run { from: 0, to: 0 }
+}
+
+/// The same of a row that isn't plain; apart from the way of most rows.
+#[inline(never)]
+fn rare_extra(
+    alloc: Global,
+    words: &TextStore,
+    rows: &[Row],
+    keys: &[u128],
+    ids: &BTreeMap<&str, usize>,
+    place: usize,
+) -> Result<Extra, NoMemory>
+    requires { place < length rows.now }
+    ensures { OfPage words.now rows.now keys.now ids.now (λ ps members. IfOk result (λ extra. Builds words.now ps members rows.now place extra)) }
+{
+    let row = &rows[place];
     if !row.head.is_item {
         let plain = texts_beside(alloc, words, row, no_reach(alloc))?;
         return Ok(plain);
@@ -92,20 +138,14 @@ fn texts_beside(
         types,
         reach,
     };
-    kept_small(alloc, rare)
+    keep_rare(alloc, rare)
 }
 
-/// A run alone where there is nothing else, which is most often so.
-fn kept_small(alloc: Global, rare: Rare) -> Result<Extra, NoMemory>
+fn keep_rare(alloc: Global, rare: Rare) -> Result<Extra, NoMemory>
     ensures names { IfOk result (λ extra. names_beside extra ≡ texts_in rare.names) }
     ensures types { IfOk result (λ extra. types_beside extra ≡ texts_in rare.types) }
     ensures reach { IfOk result (λ extra. runs_beside extra ≡ rare.reach.own ∷ rare.reach.others.items) }
 {
-    if is_run(&rare) {
-        let own = rare.reach.own;
-        drop(rare);
-        return Ok(Extra::Plain(own));
-    }
     match Box::new(alloc, rare) {
         Ok(rare) => Ok(Extra::Rare(rare)),
         Err(refused) => {
@@ -113,14 +153,6 @@ fn kept_small(alloc: Global, rare: Rare) -> Result<Extra, NoMemory>
             Err(NoMemory)
         }
     }
-}
-
-fn is_run(rare: &Rare) -> bool
-    ensures names { result ≡ true → texts_in rare.now.names ≡ None }
-    ensures types { result ≡ true → texts_in rare.now.types ≡ None }
-    ensures reach { result ≡ true → rare.now.reach.others.items ≡ [] }
-{
-    rare.names.is_none() && rare.types.is_none() && rare.reach.others.as_slice().is_empty()
 }
 
 /// The tokens of an attribute's value, each once, where they aren't the value itself.
@@ -134,5 +166,15 @@ fn several(
     match span {
         Some(span) => several_at(alloc, words, span),
         None => Ok(None),
+    }
+}
+
+/// Whether an attribute is absent, or its value is one token, so that there is no list of its tokens.
+fn is_single(words: &TextStore, span: Option<Span>) -> bool
+    ensures { result ≡ true → OfWord words.now span (λ word. AreTokens words.now span None (distinct_tokens (unwrap_or word []))) }
+{
+    match span {
+        Some(span) => is_single_at(words, span),
+        None => true,
     }
 }

@@ -13,7 +13,6 @@ use crate::words::keep_attribute;
 use rx_tags::Tag;
 use rx_terms::NoMemory;
 use rx_values::TextStore;
-use rx_words::first_token;
 
 /// What is known of a value when its element begins.
 #[derive(Clone, Copy)]
@@ -62,9 +61,16 @@ pub(crate) fn is_named(names: Option<&str>) -> bool
     ensures { result ≡ is_any (tokens (unwrap_or (seen_slice names.entry) [])) }
 {
     match names {
-        Some(names) => first_token(names).is_some(),
+        Some(names) => has_token(names),
         None => false,
     }
+}
+
+/// Whether anything is left behind the white space at the front. Mostly that looks at one byte.
+fn has_token(text: &str) -> bool
+    ensures { result ≡ is_any (tokens (chars text.now)) }
+{
+    !text.trim_ascii_start().is_empty()
 }
 
 /// Keeps the value of an element where it is asked for and stands in the tag.
