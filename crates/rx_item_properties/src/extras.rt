@@ -11,7 +11,7 @@ use crate::distinct::{is_single_at, several_at};
 use crate::kept::{Extra, Rare, Reach, Run};
 use crate::reaches::{no_reach, reach_of};
 use crate::references::starts_of;
-use crate::starts::own_run;
+use crate::starts::own_run_from;
 use rx_item_table::{Row, Span};
 use rx_terms::{NoMemory, Text};
 use rx_values::TextStore;
@@ -29,11 +29,22 @@ pub(crate) fn extras_of(
     ensures { OfPage words.now rows.now keys.now ids.now (λ ps members. IfOk result (λ extras. EachFits words.now ps members rows.now extras.items)) }
 {
     let mut extras = Vec::with_capacity(alloc, rows.len())?;
+    // The members of items stand in the order of the items, so those of one mostly begin where those of the last one end.
+    let mut hint = 0;
     for place in 0..rows.len() {
-        let extra = extra_of(alloc, words, rows, keys, ids, place)?;
+        let extra = extra_of(alloc, words, rows, keys, ids, place, hint)?;
+        hint = end_of(&extra).max(hint);
         add_extra(&mut extras, extra)?;
     }
     Ok(extras)
+}
+
+/// Where the members end that are kept as a run.
+fn end_of(extra: &Extra) -> usize {
+    match extra {
+        Extra::Plain(run) => run.to,
+        Extra::Rare(_rare) => 0,
+    }
 }
 
 fn add_extra(extras: &mut Vec<Extra>, extra: Extra) -> Result<(), NoMemory>
@@ -48,7 +59,7 @@ fn add_extra(extras: &mut Vec<Extra>, extra: Extra) -> Result<(), NoMemory>
     }
 }
 
-/// What the element of the row at this place has beside it.
+/// What the element of the row at this place has beside it. Where its members begin is known at once if it is at the hint.
 fn extra_of(
     alloc: Global,
     words: &TextStore,
@@ -56,13 +67,14 @@ fn extra_of(
     keys: &[u128],
     ids: &BTreeMap<&str, usize>,
     place: usize,
+    hint: usize,
 ) -> Result<Extra, NoMemory>
     requires { place < length rows.now }
     ensures { OfPage words.now rows.now keys.now ids.now (λ ps members. IfOk result (λ extra. Builds words.now ps members rows.now place extra)) }
 {
     let row = &rows[place];
     if is_plain(words, row) {
-        let own = plain_run(rows, keys, row, place);
+        let own = plain_run(rows, keys, row, place, hint);
         return Ok(Extra::Plain(own));
     }
     rare_extra(alloc, words, rows, keys, ids, place)
@@ -80,11 +92,11 @@ fn is_plain(words: &TextStore, row: &Row) -> bool
 }
 
 /// The members that a row at this place reaches that refers to nothing: none where it is no item.
-fn plain_run(rows: &[Row], keys: &[u128], row: &Row, place: usize) -> Run
+fn plain_run(rows: &[Row], keys: &[u128], row: &Row, place: usize, hint: usize) -> Run
     ensures { row.now.head.is_item ≡ true → IsNonDecreasing keys.now → RunOf keys.now (Some place) 0 (length rows.now) result }
 {
     if row.head.is_item {
-        return own_run(rows, keys, place);
+        return own_run_from(rows, keys, place, hint);
     }
     Run { from: 0, to: 0 }
 }
