@@ -105,9 +105,9 @@ no_starts ps refs none m =
     subst (λ (list : List Chars). Contains [] m ↔ Contains (filter_map (look_in ps) list) m) (sym none) same
 
 -- what an item reaches that refers to nothing
-pub reaches_alone : (words text : Chars) (times : List Chars) (rows : List Row) (tree : Tree) (keys members : List ℕ) → Sorted words text times rows (rows_of tree) keys members
-    → (place : ℕ) (run : Run) (p : Placed) → slice_get (rows_of tree) place ≡ Some p → p.facts.references ≡ [] → RunOf keys (Some place) 0 (length rows) run
+pub reaches_alone : (words text : Chars) (times : List Chars) (rows : List Row) (tree : Tree) (members : List ℕ) → Sorted words text times rows (rows_of tree) members
+    → (place : ℕ) (run : Run) (p : Placed) → slice_get (rows_of tree) place ≡ Some p → p.facts.references ≡ [] → RunOf rows members (Some place) 0 (length rows) run
     → Reaches (rows_of tree) members place (run ∷ []) p
-reaches_alone words text times rows tree keys members sorted place run p there none r =
+reaches_alone words text times rows tree members sorted place run p there none r =
     properties_are (rows_of tree) (numbered tree None 0) p place members (run ∷ []) [] there (no_starts (rows_of tree) p.facts.references none)
-    (reach_alone words text times rows tree keys members sorted place [] run [] refl refl r)
+    (reach_alone words text times rows tree members sorted place [] run [] refl refl r)

@@ -43,11 +43,11 @@ pub record StartAt (ps : List Placed) (place x : ℕ) : Type 0 where
   pub there : slice_get ps place ≡ Some start
   pub reached : Reached ps start x
 
-module _ (words gathered : Chars) (times : List Chars) (rows : List Row) (tree : Tree) (keys members : List ℕ) (s : Sorted words gathered times rows (rows_of tree) keys members) where
-  pub own_members : (place : ℕ) (run : Run) → RunOf keys (Some place) 0 (length rows) run → (x : ℕ) → Contains (part members run) x ↔ FromChildren (rows_of tree) place x
+module _ (words gathered : Chars) (times : List Chars) (rows : List Row) (tree : Tree) (members : List ℕ) (s : Sorted words gathered times rows (rows_of tree) members) where
+  pub own_members : (place : ℕ) (run : Run) → RunOf rows members (Some place) 0 (length rows) run → (x : ℕ) → Contains (part members run) x ↔ FromChildren (rows_of tree) place x
   own_members place run r x = (
-    (λ c. let i = in_range words gathered times rows (rows_of tree) keys members s (Some place) 0 (length rows) run r x c in record { row = i.row; is = i.is; named = i.named; scope_is = i.scope_is }),
-    (λ o. of_range words gathered times rows (rows_of tree) keys members s (Some place) 0 (length rows) run r x (record {
+    (λ c. let i = in_range words gathered times rows (rows_of tree) members s (Some place) 0 (length rows) run r x c in record { row = i.row; is = i.is; named = i.named; scope_is = i.scope_is }),
+    (λ o. of_range words gathered times rows (rows_of tree) members s (Some place) 0 (length rows) run r x (record {
       row = o.row;
       is = o.is;
       named = o.named;
@@ -58,31 +58,31 @@ module _ (words gathered : Chars) (times : List Chars) (rows : List Row) (tree :
   )
 
   start_there : (place : ℕ) (run : Run) (row : Row) (start : Placed) → slice_get (rows_of tree) place ≡ Some start → ShowsRow words gathered times row start
-      → RunOf keys row.scope place (reach_end row place) run → (x : ℕ) → Contains (part members run) x ↔ StartAt (rows_of tree) place x
+      → RunOf rows members row.scope place (reach_end row place) run → (x : ℕ) → Contains (part members run) x ↔ StartAt (rows_of tree) place x
   start_there place run row start there shown r x =
       let l = laid tree None 0 refl in
       let n = numbered tree None 0 in
       let item = shown.is_item in
       let past = shown.past in
       let end_is : reach_end row place ≡ end_by (is_item start) place start.past = λ i. cond (item i) (place + 1) (past i) in
-      let run_of : RunOf keys start.scope place (end_by (is_item start) place start.past) run =
-      subst (λ (o : Option ℕ). RunOf keys o place (end_by (is_item start) place start.past) run) shown.scope (subst (λ e. RunOf keys row.scope place e run) end_is r) in (
+      let run_of : RunOf rows members start.scope place (end_by (is_item start) place start.past) run =
+      subst (λ (o : Option ℕ). RunOf rows members o place (end_by (is_item start) place start.past) run) shown.scope (subst (λ e. RunOf rows members row.scope place e run) end_is r) in (
         (λ c. record {
           start = start;
           there = there;
           reached = run_reaches (rows_of tree) (row_count tree) n l.fits l.pairs start place there x
-              (in_range words gathered times rows (rows_of tree) keys members s start.scope place (end_by (is_item start) place start.past) run run_of x c);
+              (in_range words gathered times rows (rows_of tree) members s start.scope place (end_by (is_item start) place start.past) run run_of x c);
         }),
         (λ a.
             let alike : a.start ≡ start = same a.start start place a.there there in
-            of_range words gathered times rows (rows_of tree) keys members s start.scope place (end_by (is_item start) place start.past) run run_of x
+            of_range words gathered times rows (rows_of tree) members s start.scope place (end_by (is_item start) place start.past) run run_of x
             (reached_in_run (rows_of tree) (row_count tree) n l.fits l.pairs start place there x (subst (λ (p : Placed). Reached (rows_of tree) p x) alike a.reached))),
       )
     where
       same : (a b : Placed) (place : ℕ) → slice_get (rows_of tree) place ≡ Some a → slice_get (rows_of tree) place ≡ Some b → a ≡ b
       same a b place e f = let found : Some a ≡ Some b = sym e ∙ f in cc (found)
 
-  pub start_members : (place : ℕ) (run : Run) → ((row : Row) → slice_get rows place ≡ Some row → RunOf keys row.scope place (reach_end row place) run)
+  pub start_members : (place : ℕ) (run : Run) → ((row : Row) → slice_get rows place ≡ Some row → RunOf rows members row.scope place (reach_end row place) run)
       → (slice_get rows place ≡ None → run ≡ record { from = 0; to = 0 }) → (x : ℕ) → Contains (part members run) x ↔ StartAt (rows_of tree) place x
   start_members place run some none = by (cases_lt place (length rows))
     where
@@ -98,7 +98,7 @@ module _ (words gathered : Chars) (times : List Chars) (rows : List Row) (tree :
         (λ a. let short = row_short (rows_of tree) place a.start a.there in let e = size in absurd (omega (arith, short, e, over))),
       )
 
-  pub reach_begins : (place : ℕ) (old new : List Run) (run : Run) → old ≡ [] → ((members : List ℕ) → in_runs members new ≡ in_runs members old ++ part members run) → RunOf keys (Some place) 0 (length rows) run
+  pub reach_begins : (place : ℕ) (old new : List Run) (run : Run) → old ≡ [] → ((members : List ℕ) → in_runs members new ≡ in_runs members old ++ part members run) → RunOf rows members (Some place) 0 (length rows) run
       → (x : ℕ) → Contains (in_runs members new) x ↔ RunsReach (rows_of tree) place [] x
   reach_begins place old new run none added r x =
       let is : in_runs members new ≡ part members run = added members ∙ ap (λ (runs : List Run). in_runs members runs ++ part members run) none in
@@ -112,7 +112,7 @@ module _ (words gathered : Chars) (times : List Chars) (rows : List Row) (tree :
       back is f (inr a) = absurd (no_place a.place a.among)
 
   -- where there is no start
-  pub reach_alone : (place : ℕ) (starts : List ℕ) (run : Run) (others : List Run) → starts ≡ [] → others ≡ [] → RunOf keys (Some place) 0 (length rows) run
+  pub reach_alone : (place : ℕ) (starts : List ℕ) (run : Run) (others : List Run) → starts ≡ [] → others ≡ [] → RunOf rows members (Some place) 0 (length rows) run
       → (x : ℕ) → Contains (in_runs members (run ∷ others)) x ↔ RunsReach (rows_of tree) place starts x
   reach_alone place starts run others none alone r x =
       subst (λ (l : List ℕ). Contains (in_runs members (run ∷ others)) x ↔ RunsReach (rows_of tree) place l x) (sym none)

@@ -2,7 +2,6 @@
 use denote.Ref.{Bor}
 use Rattle.std.specs.Prelude.{◌≡◌, ℕ, List, Some, slice_get}
 use Rattle.std.specs.BTreeMap.{BTreeMap}
-use Rattle.std.specs.List.Sorted.{IsNonDecreasing}
 use Rattle.rx_terms.specs.Text.{Chars}
 use Rattle.rx_grammar.specs.Trees.{Tree}
 use Rattle.rx_microdata.specs.Elements.{Placed}
@@ -11,7 +10,7 @@ use Rattle.rx_item_table.specs.Showing.{ShowsRows}
 use Rattle.rx_item_table.specs.declared.rows.Row.{Row}
 use Rattle.rx_item_properties.specs.Held.{Fits, Numbered}
 use Rattle.rx_item_properties.specs.Ids.{Looks, look_in}
-use Rattle.rx_item_properties.specs.Members.{Sorted}
+use Rattle.rx_item_properties.specs.Members.{Rises, Sorted}
 use Rattle.rx_item_properties.specs.declared.kept.Extra.{Extra}
 
 -- this stands beside the row at a place
@@ -19,13 +18,12 @@ abbrev pub Builds : Chars → List Placed → List ℕ → List Row → ℕ → 
 Builds words ps members rows place x =
     (row : Row) (p : Placed) → slice_get rows place ≡ Some row → slice_get ps place ≡ Some p → Fits words ps members place row p x
 
--- what is so of the rows of each page that these rows show, and of its members, of which these are the keys, where its ids
--- are known
-abbrev pub OfPage : Chars → List Row → List ℕ → BTreeMap (Bor (List ℕ)) ℕ → (List Placed → List ℕ → Type 0) → Type 0
-OfPage words rows keys ids Holds =
-    (text : Chars) (times : List Chars) (tree : Tree) (members : List ℕ)
-    → Sorted words text times rows (rows_of tree) keys members → IsNonDecreasing keys
-    → Looks ids (look_in (rows_of tree)) → Holds (rows_of tree) members
+-- what is so of the rows of each page that these rows show, of which these are the members, where its ids are known
+abbrev pub OfPage : Chars → List Row → List ℕ → BTreeMap (Bor (List ℕ)) ℕ → (List Placed → Type 0) → Type 0
+OfPage words rows members ids Holds =
+    (text : Chars) (times : List Chars) (tree : Tree)
+    → Sorted words text times rows (rows_of tree) members → Rises rows members
+    → Looks ids (look_in (rows_of tree)) → Holds (rows_of tree)
 
 -- the same where these rows are all that is known
 abbrev pub OfShown : Chars → List Row → (List Placed → Type 0) → Type 0

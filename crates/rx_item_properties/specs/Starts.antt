@@ -1,6 +1,5 @@
 -- Where the search for an item's properties begins.
 use Rattle.std.specs.Prelude.{◌≡◌, ℕ, ◌+◌, true, List, Some, slice_get, Contains, ◌↔◌, ◌⊎◌, if◌then◌else◌}
-use Rattle.std.specs.List.Sorted.{IsNonDecreasing}
 use Rattle.rx_terms.specs.Text.{Chars}
 use Rattle.rx_grammar.specs.Trees.{Tree}
 use Rattle.rx_microdata.specs.Elements.{Placed, names_of}
@@ -8,7 +7,7 @@ use Rattle.rx_microdata.specs.Properties.{is_any}
 use Rattle.rx_microdata.specs.Laws.{reaches_by_scope}
 use Rattle.rx_item_table.specs.Rows.{rows_of}
 use Rattle.rx_item_table.specs.declared.rows.Row.{Row}
-use Rattle.rx_item_properties.specs.Members.{Sorted}
+use Rattle.rx_item_properties.specs.Members.{Rises, Sorted}
 use Rattle.rx_item_properties.specs.Properties.{in_runs}
 use Rattle.rx_item_properties.specs.declared.kept.Run.{Run}
 
@@ -45,8 +44,8 @@ RunsReach ps place starts x = FromChildren ps place x ⊎ FromStart ps starts x
 abbrev pub HaveReached : Tree → List ℕ → ℕ → List ℕ → List Run → Type 0
 HaveReached tree members place starts runs = (x : ℕ) → Contains (in_runs members runs) x ↔ RunsReach (rows_of tree) place starts x
 
--- what is so of each page that these rows show, and of its members, of which these are the keys
-abbrev pub OfSorted : List Row → List ℕ → (Tree → List ℕ → Type 0) → Type 0
-OfSorted rows keys Holds =
-    (words gathered : Chars) (times : List Chars) (tree : Tree) (members : List ℕ)
-    → Sorted words gathered times rows (rows_of tree) keys members → IsNonDecreasing keys → Holds tree members
+-- what is so of each page that these rows show, of which these are the members
+abbrev pub OfSorted : List Row → List ℕ → (Tree → Type 0) → Type 0
+OfSorted rows members Holds =
+    (words gathered : Chars) (times : List Chars) (tree : Tree)
+    → Sorted words gathered times rows (rows_of tree) members → Rises rows members → Holds tree

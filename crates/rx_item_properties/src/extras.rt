@@ -1,11 +1,10 @@
 //! What elements have beside their rows.
 ghost use Rattle.std.specs.Prelude.{◌≡◌, ◌<◌, ◌++◌, ◌∷◌, [], None, Some, true, length, unwrap_or, IfOk, OnOk};
-ghost use Rattle.std.specs.List.Sorted.{IsNonDecreasing};
 ghost use Rattle.rx_microdata.specs.Facts.{distinct_tokens};
 ghost use Rattle.rx_item_table.specs.Words.{names_in, references_in, types_in};
 ghost use Rattle.rx_item_properties.specs.Built.{Builds, OfPage};
 ghost use Rattle.rx_item_properties.specs.Held.{AreTokens, EachFits, MakesTokens, OfWord, names_beside, runs_beside, texts_in, types_beside};
-ghost use Rattle.rx_item_properties.specs.Members.{RunOf};
+ghost use Rattle.rx_item_properties.specs.Members.{Rises, RunOf};
 
 use crate::distinct::{is_single_at, several_at};
 use crate::kept::{Extra, Rare, Reach, Run};
@@ -23,16 +22,16 @@ pub(crate) fn extras_of(
     alloc: Global,
     words: &TextStore,
     rows: &[Row],
-    keys: &[u128],
+    members: &[usize],
     ids: &BTreeMap<&str, usize>,
 ) -> Result<Vec<Extra>, NoMemory>
-    ensures { OfPage words.now rows.now keys.now ids.now (λ ps members. IfOk result (λ extras. EachFits words.now ps members rows.now extras.items)) }
+    ensures { OfPage words.now rows.now members.now ids.now (λ ps. IfOk result (λ extras. EachFits words.now ps members.now rows.now extras.items)) }
 {
     let mut extras = Vec::with_capacity(alloc, rows.len())?;
     // The members of items stand in the order of the items, so those of one mostly begin where those of the last one end.
     let mut hint = 0;
     for place in 0..rows.len() {
-        let extra = extra_of(alloc, words, rows, keys, ids, place, hint)?;
+        let extra = extra_of(alloc, words, rows, members, ids, place, hint)?;
         hint = end_of(&extra).max(hint);
         add_extra(&mut extras, extra)?;
     }
@@ -64,20 +63,20 @@ fn extra_of(
     alloc: Global,
     words: &TextStore,
     rows: &[Row],
-    keys: &[u128],
+    members: &[usize],
     ids: &BTreeMap<&str, usize>,
     place: usize,
     hint: usize,
 ) -> Result<Extra, NoMemory>
     requires { place < length rows.now }
-    ensures { OfPage words.now rows.now keys.now ids.now (λ ps members. IfOk result (λ extra. Builds words.now ps members rows.now place extra)) }
+    ensures { OfPage words.now rows.now members.now ids.now (λ ps. IfOk result (λ extra. Builds words.now ps members.now rows.now place extra)) }
 {
     let row = &rows[place];
     if is_plain(words, row) {
-        let own = plain_run(rows, keys, row, place, hint);
+        let own = plain_run(rows, members, row, place, hint);
         return Ok(Extra::Plain(own));
     }
-    rare_extra(alloc, words, rows, keys, ids, place)
+    rare_extra(alloc, words, rows, members, ids, place)
 }
 
 /// Whether a row has no list of names or types of its own, and refers to nothing. Most rows are such.
@@ -92,11 +91,11 @@ fn is_plain(words: &TextStore, row: &Row) -> bool
 }
 
 /// The members that a row at this place reaches that refers to nothing: none where it is no item.
-fn plain_run(rows: &[Row], keys: &[u128], row: &Row, place: usize, hint: usize) -> Run
-    ensures { row.now.head.is_item ≡ true → IsNonDecreasing keys.now → RunOf keys.now (Some place) 0 (length rows.now) result }
+fn plain_run(rows: &[Row], members: &[usize], row: &Row, place: usize, hint: usize) -> Run
+    ensures { row.now.head.is_item ≡ true → Rises rows.now members.now → RunOf rows.now members.now (Some place) 0 (length rows.now) result }
 {
     if row.head.is_item {
-        return own_run_from(rows, keys, place, hint);
+        return own_run_from(rows, members, place, hint);
     }
     Run { from: 0, to: 0 }
 }
@@ -107,12 +106,12 @@ fn rare_extra(
     alloc: Global,
     words: &TextStore,
     rows: &[Row],
-    keys: &[u128],
+    members: &[usize],
     ids: &BTreeMap<&str, usize>,
     place: usize,
 ) -> Result<Extra, NoMemory>
     requires { place < length rows.now }
-    ensures { OfPage words.now rows.now keys.now ids.now (λ ps members. IfOk result (λ extra. Builds words.now ps members rows.now place extra)) }
+    ensures { OfPage words.now rows.now members.now ids.now (λ ps. IfOk result (λ extra. Builds words.now ps members.now rows.now place extra)) }
 {
     let row = &rows[place];
     if !row.head.is_item {
@@ -120,7 +119,7 @@ fn rare_extra(
         return Ok(plain);
     }
     let starts = starts_of(alloc, words, ids, row.head.words.references())?;
-    let reach = reach_of(alloc, rows, keys, starts.as_slice(), place)?;
+    let reach = reach_of(alloc, rows, members, starts.as_slice(), place)?;
     let extra = texts_beside(alloc, words, row, reach)?;
     Ok(extra)
 }

@@ -6,7 +6,7 @@ ghost use Rattle.rx_item_properties.specs.Held.{EachFits, KeepsPage};
 use crate::extras::extras_of;
 use crate::ids::first_ids;
 use crate::kept::{Extra, Kept};
-use crate::members::{places_of, sorted_keys};
+use crate::members::members_of;
 use rx_item_table::{PageRows, Row};
 use rx_terms::{Iri, NoMemory};
 use rx_values::TextStore;
@@ -46,8 +46,7 @@ fn parts_of(alloc: Global, words: &TextStore, rows: &[Row]) -> Result<Parts, NoM
     ensures { OfShown words.now rows.now (λ ps. IfOk result (λ parts. EachFits words.now ps parts.members.items rows.now parts.extras.items)) }
 {
     let ids = first_ids(alloc, words, rows)?;
-    let keys = sorted_keys(alloc, rows)?;
-    let members = places_of(alloc, keys.as_slice())?;
-    let extras = extras_of(alloc, words, rows, keys.as_slice(), &ids)?;
+    let members = members_of(alloc, rows)?;
+    let extras = extras_of(alloc, words, rows, members.as_slice(), &ids)?;
     Ok(Parts { extras, members })
 }

@@ -15,22 +15,22 @@ use std::alloc::Global;
 pub(crate) fn reach_of(
     alloc: Global,
     rows: &[Row],
-    keys: &[u128],
+    members: &[usize],
     starts: &[usize],
     place: usize,
 ) -> Result<Reach, NoMemory>
-    ensures reach { OfSorted rows.now keys.now (λ tree members. IfOk result (λ reach. HaveReached tree members place starts.now (reach.own ∷ reach.others.items))) }
+    ensures reach { OfSorted rows.now members.now (λ tree. IfOk result (λ reach. HaveReached tree members.now place starts.now (reach.own ∷ reach.others.items))) }
     ensures apart { IfOk result (λ reach. Apart 0 reach.others.items) }
     ensures one { starts.now ≡ [] → IfOk result (λ reach. reach.others.items ≡ []) }
     ensures many { starts.now ≢ [] → IfOk result (λ reach. reach.own ≡ record { from = 0; to = 0 }) }
 {
     if starts.is_empty() {
         return Ok(Reach {
-            own: own_run(rows, keys, place),
+            own: own_run(rows, members, place),
             others: Vec::new(alloc),
         });
     }
-    let others = runs_apart(alloc, rows, keys, starts, place)?;
+    let others = runs_apart(alloc, rows, members, starts, place)?;
     Ok(Reach {
         own: Run { from: 0, to: 0 },
         others,
@@ -49,14 +49,14 @@ pub(crate) fn no_reach(alloc: Global) -> Reach {
 fn runs_apart(
     alloc: Global,
     rows: &[Row],
-    keys: &[u128],
+    members: &[usize],
     starts: &[usize],
     place: usize,
 ) -> Result<Vec<Run>, NoMemory>
-    ensures reach { OfSorted rows.now keys.now (λ tree members. IfOk result (λ runs. HaveReached tree members place starts.now runs.items)) }
+    ensures reach { OfSorted rows.now members.now (λ tree. IfOk result (λ runs. HaveReached tree members.now place starts.now runs.items)) }
     ensures apart { IfOk result (λ runs. Apart 0 runs.items) }
 {
-    let mut runs = runs_of(alloc, rows, keys, starts, place)?;
+    let mut runs = runs_of(alloc, rows, members, starts, place)?;
     sort_by_begin(&mut runs);
     Ok(disjoint(alloc, runs.as_slice())?)
 }
@@ -65,16 +65,16 @@ fn runs_apart(
 fn runs_of(
     alloc: Global,
     rows: &[Row],
-    keys: &[u128],
+    members: &[usize],
     starts: &[usize],
     place: usize,
 ) -> Result<Vec<Run>, NoMemory>
-    ensures { OfSorted rows.now keys.now (λ tree members. IfOk result (λ runs. HaveReached tree members place starts.now runs.items)) }
+    ensures { OfSorted rows.now members.now (λ tree. IfOk result (λ runs. HaveReached tree members.now place starts.now runs.items)) }
 {
     let mut runs = Vec::new(alloc);
-    add_run(&mut runs, own_run(rows, keys, place))?;
+    add_run(&mut runs, own_run(rows, members, place))?;
     for start in starts {
-        add_run(&mut runs, start_run(rows, keys, *start))?;
+        add_run(&mut runs, start_run(rows, members, *start))?;
     }
     Ok(runs)
 }

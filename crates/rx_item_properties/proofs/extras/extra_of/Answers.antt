@@ -8,7 +8,8 @@ use Rattle.rx_item_properties.proofs.IdLemmas.{row_shown}
 use Rattle.rx_item_properties.proofs.extras.extra_of.Goals as goal
 
 pub returns-then-is_plain : goal.returns-then-is_plain
-returns-then-is_plain c text times tree members sorted up looks =
+returns-then-is_plain c text times tree sorted up looks =
+    let members = c.args.members.now in
     let ps = rows_of tree in
     let words = c.args.words.now in
     let rows = c.args.rows.now in
@@ -19,5 +20,5 @@ returns-then-is_plain c text times tree members sorted up looks =
     let own = c.plain_run-own in
     fits_by words text times ps members rows c.args.place row r.0 (extra.Plain own.result) (slice_get-get_or rows c.args.place nothing_kept c.requires) r.1 r.2
     (plain.names is r.2.itemprop r.2.has_names) (plain.types is r.2.itemtype r.2.has_types)
-    (λ item. reaches_alone words text times rows tree c.args.keys.now members sorted c.args.place own.result r.0 r.1
+    (λ item. reaches_alone words text times rows tree members sorted c.args.place own.result r.0 r.1
     (r.2.references ∙ refers_not words _ r.2.itemref (plain.references is) r.2.has_references) (own.ensures (r.2.is_item ∙ item) up))

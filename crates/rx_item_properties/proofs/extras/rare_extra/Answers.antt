@@ -18,7 +18,8 @@ use Rattle.rx_item_properties.proofs.BuildLemmas.{fits_there, fits_plain}
 use Rattle.rx_item_properties.proofs.extras.rare_extra.Goals as goal
 
 pub returns-then-not-row : goal.returns-then-not-row
-returns-then-not-row c text times tree members sorted up looks =
+returns-then-not-row c text times tree sorted up looks =
+    let members = c.args.members.now in
     let ps = rows_of tree in
     let rows = c.args.rows.now in
     let r = row_shown c.args.words.now text times rows ps c.args.place nothing_kept sorted.shows c.requires in
@@ -26,12 +27,13 @@ returns-then-not-row c text times tree members sorted up looks =
     (c.in_ok-plain.ensures.names r.2.itemprop r.2.has_names) (c.in_ok-plain.ensures.types r.2.itemtype r.2.has_types) c.if-not-row.true
 
 pub returns : goal.returns
-returns c text times tree members sorted up looks =
+returns c text times tree sorted up looks =
+    let members = c.args.members.now in
     let ps = rows_of tree in
     let rows = c.args.rows.now in
     let r = row_shown c.args.words.now text times rows ps c.args.place nothing_kept sorted.shows c.requires in
     let starts = c.in_ok-starts.ensures (look_in ps) looks r.2.itemref (subst (λ (span : Option Span). ShowsWord c.args.words.now span r.2.itemref) (sym c.references.ensures) r.2.has_references) in
-    let reach = c.in_ok-reach.ensures.reach c.args.words.now text times tree members sorted up in
+    let reach = c.in_ok-reach.ensures.reach c.args.words.now text times tree sorted up in
     let runs = c.in_ok-reach.reach.own ∷ c.in_ok-reach.reach.others.items in
     let begins : (m : ℕ) → Contains c.in_ok-starts.starts.items m ↔ Contains (filter_map (look_in ps) r.0.facts.references) m =
     subst (λ (refs : List Chars). (m : ℕ) → Contains c.in_ok-starts.starts.items m ↔ Contains (filter_map (look_in ps) refs) m) (sym r.2.references) starts in

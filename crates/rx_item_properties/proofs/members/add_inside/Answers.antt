@@ -8,11 +8,11 @@ pub returns-then-not-row : goal.returns-then-not-row
 returns-then-not-row c =
     let rows = c.args.rows.now in
     let place = c.args.place in
-    item_none rows place (get_or rows place nothing_kept) c.args.keys.now.items (slice_get-get_or rows place nothing_kept c.requires) c.if-not-row.true
+    item_none rows place (get_or rows place nothing_kept) c.args.members.now.items (slice_get-get_or rows place nothing_kept c.requires) c.if-not-row.true
 
 pub returns : goal.returns
 returns c =
     let rows = c.args.rows.now in
     let place = c.args.place in
-    if_ok c.add_keys.result
-    (λ adds. item_some rows place (get_or rows place nothing_kept) c.args.keys.now.items c.add_keys.new.keys.items (slice_get-get_or rows place nothing_kept c.requires) adds) c.add_keys.ensures
+    if_ok c.add_members.result
+    (λ adds. item_some rows place (get_or rows place nothing_kept) c.args.members.now.items c.add_members.new.members.items (slice_get-get_or rows place nothing_kept c.requires) adds) c.add_members.ensures

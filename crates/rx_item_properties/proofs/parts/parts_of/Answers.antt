@@ -9,11 +9,10 @@ use Rattle.rx_item_properties.proofs.parts.parts_of.Goals as goal
 pub returns : goal.returns
 returns c text times tree shows =
     let ps = rows_of tree in
-    let sorted : Sorted c.args.words.now text times c.args.rows.now ps c.in_ok-keys.keys.items c.in_ok-members.members.items = record {
+    let sorted : Sorted c.args.words.now text times c.args.rows.now ps c.in_ok-members.members.items = record {
       shows = shows;
-      same = c.in_ok-keys.ensures.same (lies c.args.words.now text times c.args.rows.now tree shows);
-      places = rw c.as_slice.ensures.value at c.in_ok-members.ensures;
-      small = subst (λ (n : ℕ). n ≤ 18446744073709551615) (rows_length c.args.words.now text times c.args.rows.now ps shows) c.in_ok-keys.ensures.small;
+      same = c.in_ok-members.ensures.same (lies c.args.words.now text times c.args.rows.now tree shows);
+      small = subst (λ (n : ℕ). n ≤ 18446744073709551615) (rows_length c.args.words.now text times c.args.rows.now ps shows) c.in_ok-members.ensures.small;
     } in
-    c.in_ok-extras.ensures text times tree c.in_ok-members.members.items (rw c.as_slice-2.ensures.value sorted) (rw c.as_slice-2.ensures.value c.in_ok-keys.ensures.sorted)
-    (c.in_ok-ids.ensures text times ps shows (numbered tree None 0))
+    let extras = rw c.as_slice.ensures.value at c.in_ok-extras.ensures in
+    extras text times tree sorted c.in_ok-members.ensures.rises (c.in_ok-ids.ensures text times ps shows (numbered tree None 0))

@@ -2,8 +2,8 @@ use Rattle.rx_item_properties.proofs.ReachLemmas.{reach_alone, no_starts, some_s
 use Rattle.rx_item_properties.proofs.reaches.reach_of.Goals as goal
 
 pub returns-then-is_empty-clause-reach : goal.returns-then-is_empty-clause-reach
-returns-then-is_empty-clause-reach c words gathered times tree members sorted up x =
-    reach_alone words gathered times c.args.rows.now tree c.args.keys.now members sorted c.args.place c.args.starts.now c.own_run.result _
+returns-then-is_empty-clause-reach c words gathered times tree sorted up x =
+    reach_alone words gathered times c.args.rows.now tree c.args.members.now sorted c.args.place c.args.starts.now c.own_run.result _
     (no_starts c.args.starts.now c.is_empty.result c.is_empty.ensures c.if-is_empty.true) c.new.ensures.items (c.own_run.ensures up) x
 
 pub returns-then-is_empty-clause-many : goal.returns-then-is_empty-clause-many

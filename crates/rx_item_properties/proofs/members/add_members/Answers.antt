@@ -2,7 +2,7 @@ use Rattle.std.proofs.Common.{◌<◌, length, get_or, arith}
 use Rattle.std.proofs.lemmas.Option.{slice_get-get_or}
 use Rattle.rx_item_table.specs.Growing.{nothing_kept}
 use Rattle.rx_item_properties.proofs.WalkLemmas.{adds_turn, adds_all, row_within}
-use Rattle.rx_item_properties.proofs.members.add_keys.Goals as goal
+use Rattle.rx_item_properties.proofs.members.add_members.Goals as goal
 
 pub loop-place-preserved : goal.loop-place-preserved
 loop-place-preserved c =
@@ -17,12 +17,12 @@ loop-place-preserved c =
       low = omega (arith, low, behind);
       bound = c.next_place-place.ensures.bound;
       adds = rw c.next_place-place.ensures.exact
-          (adds_turn rows c.args.scope c.args.from l.place c.args.keys.now.items l.keys.items c.add_key.new.keys.items (get_or rows l.place nothing_kept) (slice_get-get_or rows l.place nothing_kept short) low c.in_ok-add_key.ensures
+          (adds_turn rows c.args.scope c.args.from l.place c.args.members.now.items l.members.items c.add_member.new.members.items (get_or rows l.place nothing_kept) (slice_get-get_or rows l.place nothing_kept short) low c.in_ok-add_member.ensures
           l.invariant.adds);
     }
 
 pub returns : goal.returns
 returns c =
     let l = c.loop-place in
-    adds_all c.args.rows.now c.args.scope c.args.from c.args.to l.place c.args.keys.now.items l.keys.items
+    adds_all c.args.rows.now c.args.scope c.args.from c.args.to l.place c.args.members.now.items l.members.items
     (λ x row lt is. let short = row_within c.args.rows.now x row is in let end = c.min-end.ensures in let past = c.loop-place-test.false in omega (arith, end, past, lt, short)) l.invariant.bound l.invariant.adds
