@@ -1,9 +1,10 @@
 -- The first row of each id, from the back.
-use Rattle.std.proofs.Common.{◌≡◌, ◌∙◌, ◌+◌, ◌<◌, ◌≤◌, ℕ, zero, suc, Bool, true, false, cond, List, [], ◌∷◌, length, drop, get_or, Option, Some, None, option_map, is_eq, refl, sym, ap, arith, nat_cmp}
-use Rattle.std.specs.Prelude.{slice_get, OnOk, Result, Ok, Err}
+use Rattle.std.proofs.Common.{◌≡◌, ◌∙◌, ◌+◌, ◌<◌, ◌≤◌, ℕ, zero, suc, Bool, true, false, ◌||◌, cond, List, [], ◌∷◌, length, drop, get_or, Option, Some, None, option_map, is_eq, refl, sym, ap, arith, nat_cmp}
+use Rattle.std.specs.Prelude.{slice_get, IfOk, OnOk, Result, Ok, Err}
 use Rattle.std.specs.Cmp.Lexicographic.{slice_cmp, nat_list_eq_equiv}
 use Rattle.std.proofs.lemmas.Map.Text.{is_eq-slice_cmp}
 use Rattle.std.specs.Str.{chars, IsUtf8}
+use Rattle.std.specs.List.{list_any}
 use Rattle.rx_terms.specs.Text.{Chars}
 use Rattle.rx_terms.proofs.CharLemmas.{same-chars}
 use Rattle.rx_grammar.specs.Names.{same}
@@ -11,14 +12,23 @@ use Rattle.rx_microdata.specs.Elements.{Placed}
 use Rattle.rx_microdata.specs.Properties.{first_with_id, is_same_id}
 use Rattle.rx_item_properties.specs.Held.{Numbered}
 use Rattle.rx_item_table.specs.Spans.{IsRun}
+use Rattle.rx_item_table.specs.Words.{references_in, span_if}
 use Rattle.rx_item_table.specs.Showing.{ShowsRow, ShowsRows, ShowsWord}
 use Rattle.rx_item_table.specs.declared.spans.Span.{Span}
 use Rattle.rx_item_table.specs.declared.rows.Row.{Row}
 use Rattle.std.specs.BTreeMap.{BTreeMap, is_at}
 use Rattle.std.specs.Map.{lookup}
 use denote.Ref.{Bor}
-use Rattle.rx_item_properties.specs.Ids.{place_of}
+use Rattle.rx_item_properties.specs.Ids.{Looks, LooksFor, has_references, place_of}
 use Rattle.rx_item_properties.proofs.HoldLemmas.{place_is}
+
+or_none : (a b : Bool) → (a || b) ≡ false → a ≡ false
+or_none true b e = absurd (cc (e))
+or_none false b e = refl
+
+or_none_behind : (a b : Bool) → (a || b) ≡ false → b ≡ false
+or_none_behind true b e = absurd (cc (e))
+or_none_behind false b e = e
 
 pub put_under : (id text : List ℕ) (new old : Option ℕ) → cond (is_eq (slice_cmp nat_cmp id text)) new old ≡ cond (same id text) new old
 put_under id text new old = ap (λ b. cond b new old) (is_eq-slice_cmp id text)
@@ -70,3 +80,17 @@ empty_ids ids text none = ap (λ es. lookup (is_at (λ (id : Bor (List ℕ)). sl
 
 pub all_ids : (ps : List Placed) (i : ℕ) (text : Chars) → i ≤ 0 → option_map (λ (p : Placed). p.place) (first_with_id (drop i ps) text) ≡ option_map (λ (p : Placed). p.place) (first_with_id ps text)
 all_ids ps i text le = let none : i ≡ 0 = omega (arith, le) in ap (λ n. option_map (λ (p : Placed). p.place) (first_with_id (drop n ps) text)) none
+
+-- where no row has references, none has a run of them
+pub looks_for_none : {P : Type 0} (rows : List Row) (place : ℕ) (row : Row) (span : Span) → slice_get rows place ≡ Some row → list_any has_references rows ≡ false → references_in row.head.words ≡ Some span → P
+looks_for_none [] place row span g none is = absurd (cc (g))
+looks_for_none (r ∷ rows) zero row span g none is =
+    let same : r ≡ row = cc (g) in
+    let no : row.head.words.has_references ≡ false = ap has_references (sym same) ∙ or_none r.head.words.has_references (list_any has_references rows) none in
+    let clash : None ≡ Some span = ap (λ b. span_if b row.head.words.item_id_end row.head.words.references_end) (sym no) ∙ is in
+    absurd (cc (clash))
+looks_for_none (r ∷ rows) (suc place) row span g none is = looks_for_none rows place row span g (or_none_behind r.head.words.has_references (list_any has_references rows) none) is
+
+pub looks_for : {E : Type 0} (rows : List Row) (look : Chars → Option ℕ) (r : Result (BTreeMap (Bor (List ℕ)) ℕ) E) → IfOk r (λ ids. Looks ids look) → IfOk r (λ ids. LooksFor rows ids look)
+looks_for rows look (Ok ids) looks = λ place row there span is. looks
+looks_for rows look (Err e) looks = tt

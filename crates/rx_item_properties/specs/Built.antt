@@ -9,7 +9,7 @@ use Rattle.rx_item_table.specs.Rows.{rows_of}
 use Rattle.rx_item_table.specs.Showing.{ShowsRows}
 use Rattle.rx_item_table.specs.declared.rows.Row.{Row}
 use Rattle.rx_item_properties.specs.Held.{Fits, Numbered}
-use Rattle.rx_item_properties.specs.Ids.{Looks, look_in}
+use Rattle.rx_item_properties.specs.Ids.{LooksFor, look_in}
 use Rattle.rx_item_properties.specs.Members.{Rises, Sorted}
 use Rattle.rx_item_properties.specs.declared.kept.Extra.{Extra}
 
@@ -23,7 +23,7 @@ abbrev pub OfPage : Chars → List Row → List ℕ → BTreeMap (Bor (List ℕ)
 OfPage words rows members ids Holds =
     (text : Chars) (times : List Chars) (tree : Tree)
     → Sorted words text times rows (rows_of tree) members → Rises rows members
-    → Looks ids (look_in (rows_of tree)) → Holds (rows_of tree)
+    → LooksFor rows ids (look_in (rows_of tree)) → Holds (rows_of tree)
 
 -- the same where these rows are all that is known
 abbrev pub OfShown : Chars → List Row → (List Placed → Type 0) → Type 0

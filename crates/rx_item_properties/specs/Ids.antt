@@ -1,5 +1,5 @@
 -- The first row of each id, as a sorted map of texts has them.
-use Rattle.std.specs.Prelude.{◌≡◌, ℕ, List, Option, Some, option_map, filter_map, Contains, ◌↔◌, if◌then◌else◌}
+use Rattle.std.specs.Prelude.{◌≡◌, ℕ, Bool, List, Option, Some, option_map, filter_map, slice_get, Contains, ◌↔◌, if◌then◌else◌}
 use Rattle.std.specs.Str.{chars, IsUtf8}
 use Rattle.rx_terms.specs.Text.{Chars, tokens}
 use Rattle.std.specs.BTreeMap.{BTreeMap, get_by}
@@ -7,6 +7,9 @@ use Rattle.std.specs.Cmp.Lexicographic.{slice_cmp}
 use Rattle.std.specs.Ordering.{nat_cmp}
 use Rattle.rx_microdata.specs.Elements.{Placed}
 use Rattle.rx_microdata.specs.Properties.{first_with_id, is_same_id}
+use Rattle.rx_item_table.specs.Words.{references_in}
+use Rattle.rx_item_table.specs.declared.rows.Row.{Row}
+use Rattle.rx_item_table.specs.declared.spans.Span.{Span}
 use denote.Ref.{Bor}
 
 -- the place under a text of these bytes
@@ -20,6 +23,17 @@ Looks ids look = (text : List ℕ) → IsUtf8 text → place_of ids text ≡ loo
 -- what is so of each look-up that the map answers for
 abbrev pub OfIds : BTreeMap (Bor (List ℕ)) ℕ → ((Chars → Option ℕ) → Type 0) → Type 0
 OfIds ids Holds = (look : Chars → Option ℕ) → Looks ids look → Holds look
+
+-- it does where these references are there, which are looked up in it
+abbrev pub LooksWhere : Option Span → BTreeMap (Bor (List ℕ)) ℕ → (Chars → Option ℕ) → Type 0
+LooksWhere references ids look = (span : Span) → references ≡ Some span → Looks ids look
+
+abbrev pub has_references : Row → Bool
+has_references row = row.head.words.has_references
+
+-- it does where some row has references
+abbrev pub LooksFor : List Row → BTreeMap (Bor (List ℕ)) ℕ → (Chars → Option ℕ) → Type 0
+LooksFor rows ids look = (place : ℕ) (row : Row) → slice_get rows place ≡ Some row → LooksWhere (references_in row.head.words) ids look
 
 -- the place of the first row with an id
 abbrev pub look_in : List Placed → Chars → Option ℕ

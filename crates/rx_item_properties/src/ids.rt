@@ -1,9 +1,10 @@
 //! The first row of each id.
 ghost use Rattle.std.specs.Prelude.{◌≡◌, ℕ, List, Some, IfOk, OnOk, option_copied, if◌then◌else◌};
+ghost use Rattle.std.specs.List.{list_any};
 ghost use Rattle.rx_grammar.specs.Names.{same};
 ghost use Rattle.rx_item_properties.specs.Built.{OfNumbered};
 ghost use Rattle.rx_item_properties.specs.Held.{OfWord};
-ghost use Rattle.rx_item_properties.specs.Ids.{IsNoted, Looks, look_in, place_of};
+ghost use Rattle.rx_item_properties.specs.Ids.{IsNoted, Looks, LooksFor, has_references, look_in, place_of};
 
 use rx_item_table::{Row, Span, text_of};
 use rx_terms::NoMemory;
@@ -11,8 +12,34 @@ use rx_values::TextStore;
 use std::alloc::Global;
 use std::collections::BTreeMap;
 
+/// The place of the first row with each id, where some row refers to ids; else they aren't looked at.
+pub(crate) fn ids_of<'a>(
+    alloc: Global,
+    words: &'a TextStore,
+    rows: &[Row],
+) -> Result<BTreeMap<&'a str, usize>, NoMemory>
+    ensures { OfNumbered words.now rows.now (λ ps. IfOk result (λ ids. LooksFor rows.now ids (look_in ps))) }
+{
+    if !refer(rows) {
+        return Ok(BTreeMap::new(alloc));
+    }
+    first_ids(alloc, words, rows)
+}
+
+/// Whether some row has references.
+fn refer(rows: &[Row]) -> bool
+    ensures { result ≡ list_any has_references rows.now }
+{
+    for row in rows {
+        if row.head.words.has_references {
+            return true;
+        }
+    }
+    false
+}
+
 /// The place of the first row with each id.
-pub(crate) fn first_ids<'a>(
+fn first_ids<'a>(
     alloc: Global,
     words: &'a TextStore,
     rows: &[Row],

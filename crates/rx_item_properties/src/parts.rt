@@ -4,7 +4,7 @@ ghost use Rattle.rx_item_properties.specs.Built.{OfShown};
 ghost use Rattle.rx_item_properties.specs.Held.{EachFits, KeepsPage};
 
 use crate::extras::extras_of;
-use crate::ids::first_ids;
+use crate::ids::ids_of;
 use crate::kept::{Extra, Kept};
 use crate::members::members_of;
 use rx_item_table::{PageRows, Row};
@@ -45,7 +45,7 @@ pub fn kept_of(alloc: Global, page: PageRows, base: Iri) -> Result<Kept, NoMemor
 fn parts_of(alloc: Global, words: &TextStore, rows: &[Row]) -> Result<Parts, NoMemory>
     ensures { OfShown words.now rows.now (λ ps. IfOk result (λ parts. EachFits words.now ps parts.members.items rows.now parts.extras.items)) }
 {
-    let ids = first_ids(alloc, words, rows)?;
+    let ids = ids_of(alloc, words, rows)?;
     let members = members_of(alloc, rows)?;
     let extras = extras_of(alloc, words, rows, members.as_slice(), &ids)?;
     Ok(Parts { extras, members })

@@ -1,9 +1,9 @@
 //! The elements to which an item refers.
-ghost use Rattle.std.specs.Prelude.{◌≡◌, ◌++◌, [], IfOk, OnOk, filter_map, option_to_list, unwrap_or};
+ghost use Rattle.std.specs.Prelude.{◌≡◌, ◌++◌, [], ℕ, Option, IfOk, OnOk, filter_map, option_to_list, unwrap_or};
 ghost use Rattle.std.specs.Str.{chars};
-ghost use Rattle.rx_terms.specs.Text.{tokens};
+ghost use Rattle.rx_terms.specs.Text.{Chars, tokens};
 ghost use Rattle.rx_item_properties.specs.Held.{OfWord};
-ghost use Rattle.rx_item_properties.specs.Ids.{AreReferred, OfIds};
+ghost use Rattle.rx_item_properties.specs.Ids.{AreReferred, LooksWhere, OfIds};
 
 use crate::ids::place_under;
 use rx_item_table::{Span, text_of};
@@ -20,7 +20,7 @@ pub(crate) fn starts_of(
     ids: &BTreeMap<&str, usize>,
     references: Option<Span>,
 ) -> Result<Vec<usize>, NoMemory>
-    ensures { OfIds ids.now (λ look. OfWord words.now references (λ word. IfOk result (λ list. AreReferred look (unwrap_or word []) list.items))) }
+    ensures { (look : Chars → Option ℕ) → LooksWhere references ids.now look → OfWord words.now references (λ word. IfOk result (λ list. AreReferred look (unwrap_or word []) list.items)) }
 {
     match references {
         Some(span) => starts_in(alloc, ids, text_of(words, span)),

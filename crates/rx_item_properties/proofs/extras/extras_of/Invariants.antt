@@ -3,11 +3,11 @@ use Rattle.rx_terms.specs.Text.{Chars}
 use Rattle.rx_grammar.specs.Trees.{Tree}
 use Rattle.rx_item_table.specs.Rows.{rows_of}
 use Rattle.rx_item_properties.specs.Members.{Rises, Sorted}
-use Rattle.rx_item_properties.specs.Ids.{Looks, look_in}
+use Rattle.rx_item_properties.specs.Ids.{LooksFor, look_in}
 use Rattle.rx_item_properties.specs.Held.{AllFit}
 use Rattle.rx_item_properties.proofs.extras.extras_of.Given as goal
 
 abbrev pub invariant-loop-place : goal.invariant-loop-place
 invariant-loop-place l =
     (text : Chars) (times : List Chars) (tree : Tree) → Sorted l.words text times l.rows (rows_of tree) l.members → Rises l.rows l.members
-    → Looks l.ids (look_in (rows_of tree)) → AllFit l.words (rows_of tree) l.members l.rows l.place l.extras.items
+    → LooksFor l.rows l.ids (look_in (rows_of tree)) → AllFit l.words (rows_of tree) l.members l.rows l.place l.extras.items

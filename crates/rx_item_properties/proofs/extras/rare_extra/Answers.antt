@@ -1,9 +1,9 @@
-use Rattle.std.proofs.Common.{ℕ, List, ◌∷◌, Contains, ◌↔◌, Option, None, get_or, sym, subst}
+use Rattle.std.proofs.Common.{ℕ, List, ◌∷◌, Contains, ◌↔◌, ◌∙◌, Option, None, get_or, sym, subst}
 use Rattle.std.specs.Prelude.{filter_map}
 use Rattle.std.proofs.lemmas.Option.{slice_get-get_or}
 use Rattle.rx_terms.specs.Text.{Chars}
 use Rattle.rx_item_table.specs.Rows.{rows_of}
-use Rattle.rx_item_properties.specs.Ids.{look_in}
+use Rattle.rx_item_properties.specs.Ids.{LooksWhere, look_in}
 use Rattle.rx_item_table.specs.Growing.{nothing_kept}
 use Rattle.rx_item_table.specs.Showing.{ShowsWord}
 use Rattle.rx_item_table.specs.declared.spans.Span.{Span}
@@ -32,7 +32,9 @@ returns c text times tree sorted up looks =
     let ps = rows_of tree in
     let rows = c.args.rows.now in
     let r = row_shown c.args.words.now text times rows ps c.args.place nothing_kept sorted.shows c.requires in
-    let starts = c.in_ok-starts.ensures (look_in ps) looks r.2.itemref (subst (λ (span : Option Span). ShowsWord c.args.words.now span r.2.itemref) (sym c.references.ensures) r.2.has_references) in
+    let there = slice_get-get_or rows c.args.place nothing_kept c.requires in
+    let asked : LooksWhere c.references.result c.args.ids.now (look_in ps) = λ span is. looks c.args.place (get_or rows c.args.place nothing_kept) there span (sym c.references.ensures ∙ is) in
+    let starts = c.in_ok-starts.ensures (look_in ps) asked r.2.itemref (subst (λ (span : Option Span). ShowsWord c.args.words.now span r.2.itemref) (sym c.references.ensures) r.2.has_references) in
     let reach = c.in_ok-reach.ensures.reach c.args.words.now text times tree sorted up in
     let runs = c.in_ok-reach.reach.own ∷ c.in_ok-reach.reach.others.items in
     let begins : (m : ℕ) → Contains c.in_ok-starts.starts.items m ↔ Contains (filter_map (look_in ps) r.0.facts.references) m =
