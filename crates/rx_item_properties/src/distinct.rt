@@ -50,19 +50,15 @@ fn is_token(text: &str) -> bool
 }
 
 /// Whether each byte is behind the space, and so none is white space. That takes fewer steps to tell than white space, and
-/// a loop by place takes fewer than an iterator.
+/// a loop that never ends early is compiled to one that takes many bytes at a time.
 fn is_unbroken(text: &str) -> bool
     ensures { result ≡ list_all (λ b. nat_lt 32 b) text.now }
 {
-    let bytes = text.as_bytes();
-    let mut at = 0;
-    while at < bytes.len() {
-        if bytes[at] <= b' ' {
-            return false;
-        }
-        at += 1;
+    let mut all = true;
+    for byte in text.as_bytes() {
+        all &= *byte > b' ';
     }
-    true
+    all
 }
 
 /// The tokens of a text in order, without those that stood before.
