@@ -64,6 +64,10 @@ abbrev pub MakesTokens : {X : Type 0} → Chars → Option Span → (X → Optio
 MakesTokens words span list_in result =
     OfWord words span (λ word. IfOk result (λ made. AreTokens words span (list_in made) (distinct_tokens (unwrap_or word []))))
 
+-- an attribute that stands there, or is absent, needs no list of its tokens
+abbrev pub NeedsNoList : Chars → Option Span → Type 0
+NeedsNoList words span = OfWord words span (λ word. AreTokens words span None (distinct_tokens (unwrap_or word [])))
+
 -- the tokens of an attribute, by what is kept of tags
 abbrev pub ShowsTokens : Chars → Tokens → List Chars → Type 0
 ShowsTokens words (tokens.One span) texts = (token : Chars) × (texts ≡ token ∷ []) × ShowsPart words span token

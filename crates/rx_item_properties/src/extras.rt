@@ -1,9 +1,8 @@
 //! What elements have beside their rows.
-ghost use Rattle.std.specs.Prelude.{◌≡◌, ◌<◌, ◌++◌, ◌∷◌, [], None, Some, true, length, unwrap_or, IfOk, OnOk};
-ghost use Rattle.rx_microdata.specs.Facts.{distinct_tokens};
+ghost use Rattle.std.specs.Prelude.{◌≡◌, ◌<◌, ◌++◌, ◌∷◌, [], None, Some, true, length, IfOk, OnOk};
 ghost use Rattle.rx_item_table.specs.Words.{names_in, references_in, types_in};
 ghost use Rattle.rx_item_properties.specs.Built.{Builds, OfPage};
-ghost use Rattle.rx_item_properties.specs.Held.{AreTokens, EachFits, MakesTokens, OfWord, names_beside, runs_beside, texts_in, types_beside};
+ghost use Rattle.rx_item_properties.specs.Held.{EachFits, MakesTokens, NeedsNoList, names_beside, runs_beside, texts_in, types_beside};
 ghost use Rattle.rx_item_properties.specs.Members.{Rises, RunOf};
 
 use crate::distinct::{is_single_at, several_at};
@@ -82,8 +81,8 @@ fn extra_of(
 /// Whether a row has no list of names or types of its own, and refers to nothing. Most rows are such.
 fn is_plain(words: &TextStore, row: &Row) -> bool
     ensures references { result ≡ true → references_in row.now.head.words ≡ None }
-    ensures names { result ≡ true → OfWord words.now (names_in row.now.head.words) (λ word. AreTokens words.now (names_in row.now.head.words) None (distinct_tokens (unwrap_or word []))) }
-    ensures types { result ≡ true → OfWord words.now (types_in row.now.head.words) (λ word. AreTokens words.now (types_in row.now.head.words) None (distinct_tokens (unwrap_or word []))) }
+    ensures names { result ≡ true → NeedsNoList words.now (names_in row.now.head.words) }
+    ensures types { result ≡ true → NeedsNoList words.now (types_in row.now.head.words) }
 {
     row.head.words.references().is_none()
         && is_single(words, row.head.words.names())
@@ -182,7 +181,7 @@ fn several(
 
 /// Whether an attribute is absent, or its value is one token, so that there is no list of its tokens.
 fn is_single(words: &TextStore, span: Option<Span>) -> bool
-    ensures { result ≡ true → OfWord words.now span (λ word. AreTokens words.now span None (distinct_tokens (unwrap_or word []))) }
+    ensures { result ≡ true → NeedsNoList words.now span }
 {
     match span {
         Some(span) => is_single_at(words, span),
