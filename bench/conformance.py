@@ -2,7 +2,7 @@
 """How many of the W3C's RDFa 1.1 tests rdfax passes, as Debian's source package raptor2 carries them.
 
     apt-get install python3-rdflib    # with --peers also raptor2-utils and python3-pyrdfa
-    curl -O http://deb.debian.org/debian/pool/main/r/raptor2/raptor2_2.0.15.orig.tar.gz    # or apt-get source raptor2
+    apt-get source --download-only raptor2    # with a line deb-src in apt's sources
     tar xzf raptor2_2.0.15.orig.tar.gz
     ./build    # proves and builds the program, if it isn't there
     /usr/bin/python3 bench/conformance.py raptor2-2.0.15/tests/rdfa11
