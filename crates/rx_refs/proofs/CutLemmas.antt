@@ -34,11 +34,11 @@ pub through-none : (text : Chars) → holds 47 text ≡ false → through_last_s
 through-none [] h = refl
 through-none (c ∷ text) h = rw h refl
 
-without-slash : (front rest : Chars) → holds 47 rest ≡ false → without_last_segment (front ++ 47 ∷ rest) ≡ front
+pub without-slash : (front rest : Chars) → holds 47 rest ≡ false → without_last_segment (front ++ 47 ∷ rest) ≡ front
 without-slash [] rest h = rw h refl
 without-slash (c ∷ front) rest h = rw (holds-at front rest) (ap (λ x. c ∷ x) (without-slash front rest h))
 
-without-none : (text : Chars) → holds 47 text ≡ false → without_last_segment text ≡ []
+pub without-none : (text : Chars) → holds 47 text ≡ false → without_last_segment text ≡ []
 without-none [] h = refl
 without-none (c ∷ text) h = rw (holds-rest c text h) refl
 

@@ -7,3 +7,7 @@ pub mod SchemeLemmas
 pub mod WholeLemmas
 pub mod TargetLemmas
 pub mod EscapeLemmas
+pub mod PlainLemmas
+pub mod ByteLemmas
+pub mod ClimbLemmas
+pub mod UpLemmas

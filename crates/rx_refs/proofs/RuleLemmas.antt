@@ -15,7 +15,7 @@ step-other : (input output : Chars) → IsOther input → step (at input output)
 unfolding step
 step-other input output o = rw (o.a_parent, o.a_here, o.b_inside, o.b_last, o.c_inside, o.c_last, o.d) refl
 
-reduced-end : (output : Chars) → reduced (at [] output) ≡ output
+pub reduced-end : (output : Chars) → reduced (at [] output) ≡ output
 unfolding reduced
 reduced-end output = refl
 

@@ -63,10 +63,10 @@ cut-scheme text h = go (behind 58 text) refl where
       }
 
 -- the characters of a scheme
-scheme_chars : (text : Chars) → is_scheme text ≡ true → list_all is_scheme_char text ≡ true
+pub scheme_chars : (text : Chars) → is_scheme text ≡ true → list_all is_scheme_char text ≡ true
 scheme_chars text h = (and_parts (begins_with_letter text) (list_all is_scheme_char text) h).1
 
-no_hash : (text : Chars) → list_all is_scheme_char text ≡ true → holds 35 text ≡ false
+pub no_hash : (text : Chars) → list_all is_scheme_char text ≡ true → holds 35 text ≡ false
 no_hash [] h = refl
 no_hash (c ∷ text) h =
     let p = and_parts (is_scheme_char c) (list_all is_scheme_char text) h in
@@ -74,12 +74,12 @@ no_hash (c ∷ text) h =
     let other : (c == 35) ≡ false = grind (arith, nat_tests) in
     rw (other, no_hash text p.1) refl
 
-before-append : (front rest : Chars) → holds 35 front ≡ false → before 35 (front ++ rest) ≡ front ++ before 35 rest
+pub before-append : (front rest : Chars) → holds 35 front ≡ false → before 35 (front ++ rest) ≡ front ++ before 35 rest
 before-append [] rest h = refl
 before-append (c ∷ front) rest h =
     by_test (c == 35) (λ t. let g : true ≡ false = rw t at h in absurd (cc g)) (λ t. rw t (ap (λ x. c ∷ x) (before-append front rest (rw t at h))))
 
-before-clean : (mark : ℕ) (text : Chars) → has_forbidden text ≡ false → has_forbidden (before mark text) ≡ false
+pub before-clean : (mark : ℕ) (text : Chars) → has_forbidden text ≡ false → has_forbidden (before mark text) ≡ false
 before-clean mark [] h = refl
 before-clean mark (c ∷ text) h =
     by_test (c == mark) (λ t. rw t refl) (λ t.

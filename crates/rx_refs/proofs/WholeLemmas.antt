@@ -16,13 +16,13 @@ use Rattle.rx_refs.proofs.SchemeLemmas.{cut-scheme, scheme-cut, scheme-none, cle
 
 -- The parts of a text are the text
 
-behind-mark : (mark : ℕ) (text : Chars) → before mark text ++ delimited (λ (rest : Chars). mark ∷ rest) (behind mark text) ≡ text
+pub behind-mark : (mark : ℕ) (text : Chars) → before mark text ++ delimited (λ (rest : Chars). mark ∷ rest) (behind mark text) ≡ text
 behind-mark mark text = go (behind mark text) refl where
   go : (o : Option Chars) → behind mark text ≡ o → before mark text ++ delimited (λ (rest : Chars). mark ∷ rest) o ≡ text
   go None e = append-nil (before mark text) ∙ (behind-none mark text e).0
   go (Some rest) e = sym (behind-some mark text rest e).0
 
-authority-path : (part : Chars) → delimited (λ (authority : Chars). codes "//" ++ authority) (authority_of part) ++ path_of part ≡ part
+pub authority-path : (part : Chars) → delimited (λ (authority : Chars). codes "//" ++ authority) (authority_of part) ++ path_of part ≡ part
 authority-path part =
     by_test (begins_with (codes "//") part) (λ t.
     let front = begins-front (codes "//") part t in

@@ -3,6 +3,7 @@ pub mod Dots
 pub mod Rules
 pub mod Resolve
 pub mod Views
+pub mod Plain
 pub mod Segments
 pub mod Laws
 pub mod Rows

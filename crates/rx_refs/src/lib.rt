@@ -11,6 +11,7 @@ ghost use Rattle.rx_refs.specs.Laws.{AbsoluteStandsAlone, PartsAreWhole, Resolve
 mod dots;
 mod escapes;
 mod parts;
+mod plain;
 mod recomposition;
 mod resolution;
 mod slices;

@@ -1,11 +1,12 @@
 //! What a reference means against a base.
-ghost use Rattle.std.specs.Prelude.{◌≡◌, IfOk};
-ghost use Rattle.std.specs.Str.{chars};
+ghost use Rattle.std.specs.Prelude.{◌≡◌, ◌++◌, IfOk, take, drop, string_bytes, encode_utf8_all};
+ghost use Rattle.std.specs.Str.{chars, IsCharBoundary};
 ghost use Rattle.rx_refs.specs.Resolve.{resolved, without_fragment};
 ghost use Rattle.rx_terms.specs.Iri.{IsIri};
 
 use crate::escapes::clean_string;
 use crate::parts::split;
+use crate::plain::{climbed, front_length, stands_alone};
 use crate::recomposition::recompose;
 use crate::slices::cut;
 use crate::targets::target_of;
@@ -16,6 +17,74 @@ use std::alloc::Global;
 /// What the reference means against the base, by RFC 3986, section 5.2.2, strict. The reference is trimmed first, and
 /// each character that no IRI may have becomes its escape last. Every text is a reference.
 pub fn resolve(alloc: Global, base: &Iri, reference: &str) -> Result<Iri, NoMemory>
+    ensures meaning { IfOk result (λ iri. iri ≡ resolved base.now (chars reference.now)) }
+    ensures iri { IfOk result (λ iri. IsIri iri) }
+{
+    if let Some(front) = front_length(base.as_str(), reference) {
+        return behind_front(alloc, base, front, reference);
+    }
+    if let Some((front, left_out)) = climbed(base.as_str(), reference) {
+        return behind_climbs(alloc, base, front, reference, left_out);
+    }
+    if stands_alone(reference) {
+        return itself(alloc, base, reference);
+    }
+    resolve_by_parts(alloc, base, reference)
+}
+
+/// The reference, where it means itself.
+fn itself(alloc: Global, base: &Iri, reference: &str) -> Result<Iri, NoMemory>
+    requires { resolved base.now (chars reference.now) ≡ chars reference.now }
+    ensures meaning { IfOk result (λ iri. iri ≡ resolved base.now (chars reference.now)) }
+    ensures iri { IfOk result (λ iri. IsIri iri) }
+{
+    let _base = base.as_str();
+    let text = Text::of(alloc, reference)?;
+    Iri::of_text(alloc, text)
+}
+
+/// The base up to a place and then the reference, where that is what it means.
+fn behind_front(alloc: Global, base: &Iri, front: usize, reference: &str) -> Result<Iri, NoMemory>
+    requires boundary { IsCharBoundary (encode_utf8_all base.now) front }
+    requires meaning { resolved base.now (chars reference.now) ≡ chars (take front (encode_utf8_all base.now)) ++ chars reference.now }
+    ensures meaning { IfOk result (λ iri. iri ≡ resolved base.now (chars reference.now)) }
+    ensures iri { IfOk result (λ iri. IsIri iri) }
+{
+    let text = joined(alloc, &base.as_str()[..front], reference)?;
+    Iri::of_text(alloc, Text::of_string(text))
+}
+
+/// The base up to a place and then the reference from a place on, where that is what it means.
+fn behind_climbs(
+    alloc: Global,
+    base: &Iri,
+    front: usize,
+    reference: &str,
+    left_out: usize,
+) -> Result<Iri, NoMemory>
+    requires boundary { IsCharBoundary (encode_utf8_all base.now) front }
+    requires cut { IsCharBoundary reference.now left_out }
+    requires meaning { resolved base.now (chars reference.now) ≡ chars (take front (encode_utf8_all base.now)) ++ chars (drop left_out reference.now) }
+    ensures meaning { IfOk result (λ iri. iri ≡ resolved base.now (chars reference.now)) }
+    ensures iri { IfOk result (λ iri. IsIri iri) }
+{
+    let text = joined(alloc, &base.as_str()[..front], &reference[left_out..])?;
+    Iri::of_text(alloc, Text::of_string(text))
+}
+
+/// The one text behind the other.
+fn joined(alloc: Global, front: &str, rest: &str) -> Result<String, NoMemory>
+    ensures { IfOk result (λ text. chars (string_bytes text) ≡ chars front.now ++ chars rest.now) }
+{
+    let mut text = String::with_capacity(alloc, front.len() + rest.len())?;
+    text.push_str(front)?;
+    text.push_str(rest)?;
+    Ok(text)
+}
+
+/// The same by all components.
+#[inline(never)]
+fn resolve_by_parts(alloc: Global, base: &Iri, reference: &str) -> Result<Iri, NoMemory>
     ensures meaning { IfOk result (λ iri. iri ≡ resolved base.now (chars reference.now)) }
     ensures iri { IfOk result (λ iri. IsIri iri) }
 {

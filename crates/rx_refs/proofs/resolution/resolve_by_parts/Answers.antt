@@ -8,8 +8,8 @@ use Rattle.rx_refs.specs.Parts.{Components, components_of, recomposed}
 use Rattle.rx_refs.specs.Resolve.{target, cleaned, resolved}
 use Rattle.rx_refs.specs.Views.{seen, seen_target}
 use Rattle.rx_refs.proofs.WholeLemmas.{resolved-iri}
-use Rattle.rx_refs.proofs.resolution.resolve.Goals as goal
-use Rattle.rx_refs.proofs.resolution.resolve.Goals.{In_ok-clean}
+use Rattle.rx_refs.proofs.resolution.resolve_by_parts.Goals as goal
+use Rattle.rx_refs.proofs.resolution.resolve_by_parts.Goals.{In_ok-clean}
 
 together : (base reference base_text trim clean text : Chars) (t b r : Components) → clean ≡ cleaned text → text ≡ recomposed t → t ≡ target b r
     → b ≡ components_of base_text → base_text ≡ base → r ≡ components_of trim → trim ≡ trimmed reference → clean ≡ resolved base reference

@@ -1,0 +1,9 @@
+use Rattle.std.proofs.Common.{◌≡◌, ◌+◌, ◌-◌, ◌*◌, ◌≤◌, length, drop}
+use Rattle.rx_refs.specs.Plain.{count_of}
+use Rattle.rx_refs.proofs.plain.count_climbs.Given as goal
+
+abbrev pub invariant-loop-count : goal.invariant-loop-count
+invariant-loop-count l = record { fits : l.at ≤ length l.text; less : l.at ≡ l.count * 3; same : l.count + count_of (drop l.at l.text) ≡ count_of l.text }
+
+abbrev pub decreases-loop-count : goal.decreases-loop-count
+decreases-loop-count l = length l.text - l.at

@@ -1,0 +1,9 @@
+use Rattle.std.proofs.Common.{◌≡◌, ◌-◌, ◌≤◌, length, drop}
+use Rattle.rx_refs.specs.Plain.{fragment_from}
+use Rattle.rx_refs.proofs.plain.fragment_of.Given as goal
+
+abbrev pub invariant-loop-at : goal.invariant-loop-at
+invariant-loop-at l = record { fits : l.at ≤ length l.base; same : fragment_from l.at (drop l.at l.base) ≡ fragment_from 0 l.base }
+
+abbrev pub decreases-loop-at : goal.decreases-loop-at
+decreases-loop-at l = length l.base - l.at

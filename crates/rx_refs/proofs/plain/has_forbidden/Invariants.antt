@@ -1,0 +1,6 @@
+use Rattle.std.proofs.Common.{◌≡◌, drop}
+use Rattle.rx_terms.specs.Iri.{has_forbidden}
+use Rattle.rx_refs.proofs.plain.has_forbidden.Given as goal
+
+abbrev pub invariant-loop-byte : goal.invariant-loop-byte
+invariant-loop-byte l = has_forbidden (drop l.byte-index l.bytes) ≡ has_forbidden l.bytes

@@ -1,0 +1,7 @@
+use Rattle.std.proofs.Common.{◌≡◌, true, take}
+use Rattle.std.specs.List.{list_all}
+use Rattle.rx_refs.specs.Plain.{is_scheme_byte}
+use Rattle.rx_refs.proofs.plain.scheme_length.Given as goal
+
+abbrev pub invariant-loop-byte : goal.invariant-loop-byte
+invariant-loop-byte l = record { counted : l.count ≡ l.byte-index; front : list_all is_scheme_byte (take l.count l.bytes) ≡ true }
