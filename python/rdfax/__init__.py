@@ -28,19 +28,19 @@ from rdfax.places import Place, to_line
 from rdfax.terms import Blank, Iri, Literal, Quad
 
 __all__ = [
+    "FORMATS",
+    "KINDS",
+    "SYNTAXES",
     "BadContext",
     "Blank",
     "Error",
-    "FORMATS",
     "Iri",
-    "KINDS",
     "Kind",
     "Literal",
     "Page",
     "Place",
     "Quad",
     "Refused",
-    "SYNTAXES",
     "Usage",
     "__version__",
     "check",

@@ -6,7 +6,6 @@ import argparse
 import importlib
 import sys
 from collections.abc import Sequence
-from typing import Optional
 
 from rdfax._version import __version__
 
@@ -36,7 +35,7 @@ def _own_parser() -> argparse.ArgumentParser:
     return parser
 
 
-def main(arguments: Optional[Sequence[str]] = None) -> int:
+def main(arguments: Sequence[str] | None = None) -> int:
     """Does what the words ask for, and answers the exit status."""
     own = _own_parser()
     chosen = own.parse_args(arguments)

@@ -8,7 +8,7 @@ import os
 from pathlib import Path
 from typing import Any
 
-__all__ = ["BAD_CONTEXT", "DONE", "Fault", "NO_MEMORY", "Options", "PageHandle", "REFUSED", "Terms", "USAGE", "library"]
+__all__ = ["BAD_CONTEXT", "DONE", "NO_MEMORY", "REFUSED", "USAGE", "Fault", "Options", "PageHandle", "Terms", "library"]
 
 SONAME = "librdfax.so.0"
 

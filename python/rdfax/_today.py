@@ -7,7 +7,7 @@ from __future__ import annotations
 
 import ctypes
 import re
-from typing import Any, Optional
+from typing import Any
 
 from rdfax._library import Fault, Options, PageHandle, Terms
 
@@ -60,7 +60,17 @@ class Today:
     def __getattr__(self, name: str) -> Any:
         return getattr(self._opened, name)
 
-    def rdfax_extract(self, options: Options, base: bytes, base_length: int, graph: Optional[bytes], graph_length: int, context: Optional[bytes], context_length: int, page: PageHandle) -> int:
+    def rdfax_extract(
+        self,
+        options: Options,
+        base: bytes,
+        base_length: int,
+        graph: bytes | None,
+        graph_length: int,
+        context: bytes | None,
+        context_length: int,
+        page: PageHandle,
+    ) -> int:
         if options.first_node:
             raise NotImplementedError("this library has no first_node")
         form = 0 if options.format == _QUADS else options.format
@@ -69,7 +79,7 @@ class Today:
         self._lines.pop(page.at or 0, None)
         return status
 
-    def rdfax_check(self, syntax: int, context: Optional[bytes], context_length: int, page: PageHandle) -> int:
+    def rdfax_check(self, syntax: int, context: bytes | None, context_length: int, page: PageHandle) -> int:
         status: int = self._opened.rdfax_check(syntax, context or b"", context_length, context is not None, page)
         return status
 

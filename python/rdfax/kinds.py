@@ -59,8 +59,10 @@ _ROWS = [
         "Mismatch",
         "An end tag ends nothing that is open.",
         "{} ends nothing that is open",
-        "End what was begun last first, and each element once: a p ends where a list, a table, a heading or a div begins, "
-        "and an element without content, such as br, has no end tag.",
+        (
+            "End what was begun last first, and each element once: a p ends where a list, a table, a heading or a div begins, "
+            "and an element without content, such as br, has no end tag."
+        ),
     ),
     (
         "NothingOpen",
@@ -72,7 +74,7 @@ _ROWS = [
         "SelfClosed",
         "An element that an end tag has to close ends with `/>`.",
         "{} closes nothing in HTML",
-        "Write an end tag, as in `<a id=\"x\"></a>`; where all of the page is XHTML, read it as XHTML.",
+        'Write an end tag, as in `<a id="x"></a>`; where all of the page is XHTML, read it as XHTML.',
     ),
     (
         "UnknownReference",

@@ -10,16 +10,16 @@ import typing
 import weakref
 from collections.abc import Iterator
 from contextlib import contextmanager
-from typing import Any, NoReturn, Optional, Union
+from typing import Any, NoReturn
 
 from rdfax import _library
 from rdfax._library import Fault, Options, PageHandle, Terms, library
 from rdfax.errors import BadContext, Refused, Usage
 from rdfax.terms import Blank, Iri, Literal, Quad
 
-__all__ = ["FORMATS", "Format", "Page", "SYNTAXES", "Source", "Syntax", "TASKS", "Task", "check", "extract", "items", "items_text", "quads", "to_bytes"]
+__all__ = ["FORMATS", "SYNTAXES", "TASKS", "Format", "Page", "Source", "Syntax", "Task", "check", "extract", "items", "items_text", "quads", "to_bytes"]
 
-Source = Union[str, bytes, bytearray, memoryview]
+Source = str | bytes | bytearray | memoryview
 Task = typing.Literal["extract", "quads", "items", "check"]
 Syntax = typing.Literal["html", "xhtml"]
 Format = typing.Literal["nquads", "turtle", "nested", "jsonld"]
@@ -65,7 +65,7 @@ class Page:
     <BLANKLINE>
     """
 
-    def __init__(self, task: Task, base: Optional[str] = None, **options: Any) -> None:
+    def __init__(self, task: Task, base: str | None = None, **options: Any) -> None:
         self._handle = PageHandle()
         self._lock = threading.Lock()
         # Not `__del__`: this one isn't called once the interpreter ends, when another thread may be in the middle of a call.
@@ -116,7 +116,7 @@ class Page:
         with self._alone():
             self._closing()
 
-    def __enter__(self) -> Page:
+    def __enter__(self) -> typing.Self:
         return self
 
     def __exit__(self, *_: object) -> None:
@@ -159,7 +159,7 @@ class Page:
         return Refused(room.raw.decode("ascii"), int(fault.at), int(fault.token))
 
 
-def _chosen(task: Task, base: Optional[str], options: dict[str, Any]) -> dict[str, Any]:
+def _chosen(task: Task, base: str | None, options: dict[str, Any]) -> dict[str, Any]:
     """All options of the task, those that were given among them."""
     if task not in _OPTIONS:
         raise Usage(f"the task {task!r} is none of {', '.join(TASKS)}")
@@ -189,7 +189,7 @@ def _opened(task: Task, base: str, chosen: dict[str, Any], handle: PageHandle) -
     return int(library().rdfax_extract(wanted, address, len(address), graph, 0 if graph is None else len(graph), context, context_length, handle))
 
 
-def _wrong_names(base: Optional[str], chosen: dict[str, Any]) -> str:
+def _wrong_names(base: str | None, chosen: dict[str, Any]) -> str:
     graph = chosen.get("graph")
     if graph is None:
         return f"the base {base!r} is no IRI"
@@ -198,11 +198,11 @@ def _wrong_names(base: Optional[str], chosen: dict[str, Any]) -> str:
     return f"the base {base!r} or the graph's name {graph!r} is no IRI"
 
 
-def _lent(at: Optional[int], length: int) -> str:
+def _lent(at: int | None, length: int) -> str:
     return ctypes.string_at(at, length).decode("utf-8") if at and length else ""
 
 
-def _term(kind: int, text: str, language: str, datatype: str) -> Union[Iri, Blank, Literal]:
+def _term(kind: int, text: str, language: str, datatype: str) -> Iri | Blank | Literal:
     if kind == _library.IRI:
         return Iri(text)
     if kind == _library.BLANK:
@@ -236,8 +236,8 @@ def extract(
     *,
     syntax: Syntax = "html",
     format: Format = "nquads",
-    graph: Optional[str] = None,
-    context: Optional[Source] = None,
+    graph: str | None = None,
+    context: Source | None = None,
     first_node: int = 0,
 ) -> str:
     """The text of the page's triples, in a format of `FORMATS`.
@@ -257,8 +257,8 @@ def quads(
     base: str,
     *,
     syntax: Syntax = "html",
-    graph: Optional[str] = None,
-    context: Optional[Source] = None,
+    graph: str | None = None,
+    context: Source | None = None,
     first_node: int = 0,
 ) -> Iterator[Quad]:
     """The page's triples, one after another; the words are those of `extract`.
@@ -291,7 +291,7 @@ def items(page: Source, base: str, *, syntax: Syntax = "html") -> dict[str, Any]
     return found
 
 
-def check(page: Source, *, syntax: Syntax = "html", context: Optional[Source] = None) -> None:
+def check(page: Source, *, syntax: Syntax = "html", context: Source | None = None) -> None:
     """Nothing where the page is one of the grammar and nothing in it is refused; else `Refused` is raised.
 
     >>> check("<html><p>Anvil</html>")

@@ -2,7 +2,7 @@
 
 from __future__ import annotations
 
-from typing import NamedTuple, Optional, Union
+from typing import NamedTuple
 
 __all__ = ["Blank", "Iri", "Literal", "Object", "Quad", "Subject"]
 
@@ -41,12 +41,12 @@ class Literal(NamedTuple):
     """
 
     text: str
-    language: Optional[str] = None
-    datatype: Optional[Iri] = None
+    language: str | None = None
+    datatype: Iri | None = None
 
 
-Subject = Union[Iri, Blank]
-Object = Union[Iri, Blank, Literal]
+Subject = Iri | Blank
+Object = Iri | Blank | Literal
 
 
 class Quad(NamedTuple):
@@ -55,4 +55,4 @@ class Quad(NamedTuple):
     subject: Subject
     predicate: Iri
     object: Object
-    graph: Optional[Iri] = None
+    graph: Iri | None = None
