@@ -24,7 +24,7 @@ from typing import Any
 
 HERE = Path(__file__).resolve().parent
 SONAME = "librdfax.so.0"
-BUILT = HERE.parent / "out" / SONAME
+BUILT = HERE.parent / "built" / SONAME
 # Files have one time, so that the same sources give the same wheel: the first that a zip file can tell.
 EPOCH = (1980, 1, 1, 0, 0, 0)
 

@@ -25,6 +25,7 @@ from rdfax.errors import BadContext, Error, Refused, Usage
 from rdfax.kinds import KINDS, Kind
 from rdfax.pages import FORMATS, SYNTAXES, Page, check, extract, items, items_text, quads
 from rdfax.places import Place, to_line
+from rdfax.shapes import syntaxes
 from rdfax.terms import Blank, Iri, Literal, Quad
 
 __all__ = [
@@ -48,5 +49,6 @@ __all__ = [
     "items",
     "items_text",
     "quads",
+    "syntaxes",
     "to_line",
 ]

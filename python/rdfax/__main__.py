@@ -4,10 +4,16 @@ from __future__ import annotations
 
 import argparse
 import importlib
+import os
 import sys
-from collections.abc import Sequence
+from collections.abc import Callable, Sequence
 
+from rdfax._library import LibraryMissing
 from rdfax._version import __version__
+from rdfax.errors import BadContext, Usage
+
+# The statuses of the command `rdfax`, and those of the shell.
+USAGE, UNREADABLE, NO_MEMORY, BAD_CONTEXT, NO_LIBRARY, INTERRUPTED, BROKEN_PIPE = 2, 3, 5, 6, 69, 130, 141
 
 # Of each command what its module does: `add_arguments(parser)` adds its options, `run(arguments)` answers the exit status.
 COMMANDS = {
@@ -42,8 +48,24 @@ def main(arguments: Sequence[str] | None = None) -> int:
     module = importlib.import_module(f"rdfax.commands.{chosen.command}")
     parser = argparse.ArgumentParser(prog=f"{own.prog} {chosen.command}", description=module.__doc__, formatter_class=argparse.RawDescriptionHelpFormatter)
     module.add_arguments(parser)
-    status: int = module.run(parser.parse_args(chosen.arguments))
-    return status
+    words = parser.parse_args(chosen.arguments)
+    return _status(lambda: int(module.run(words)))
+
+
+def _status(work: Callable[[], int]) -> int:
+    """The status of the work, or of the error that ended it, which is told on standard error."""
+    try:
+        return work()
+    except KeyboardInterrupt:
+        return INTERRUPTED
+    except BrokenPipeError:
+        # Whoever reads has enough. Python is to say nothing of what it couldn't write.
+        os.dup2(os.open(os.devnull, os.O_WRONLY), sys.stdout.fileno())
+        return BROKEN_PIPE
+    except (Usage, OSError, BadContext, MemoryError, LibraryMissing) as error:
+        print(f"rdfax: {error}", file=sys.stderr)
+        statuses = {Usage: USAGE, OSError: UNREADABLE, BadContext: BAD_CONTEXT, MemoryError: NO_MEMORY, LibraryMissing: NO_LIBRARY}
+        return next(status for kind, status in statuses.items() if isinstance(error, kind))
 
 
 if __name__ == "__main__":

@@ -71,6 +71,10 @@ _CALLS = {
 }
 
 
+class LibraryMissing(ImportError):
+    """The shared object isn't there."""
+
+
 def _candidates() -> list[str]:
     named = os.environ.get("RDFAX_LIBRARY")
     if named:
@@ -86,7 +90,7 @@ def _opened() -> ctypes.CDLL:
             return ctypes.CDLL(name)
         except OSError as error:
             said.append(str(error))
-    raise ImportError(f"rdfax: the shared object isn't there ({'; '.join(said)}); RDFAX_LIBRARY may name it")
+    raise LibraryMissing(f"the shared object isn't there ({'; '.join(said)}); RDFAX_LIBRARY may name it")
 
 
 @functools.cache

@@ -39,25 +39,25 @@ class Kind(NamedTuple):
 _ROWS = [
     (
         "NotUtf8",
-        "The bytes are no UTF-8.",
+        "The bytes since the last whole character begin no character of UTF-8.",
         "bytes that are no UTF-8",
         "Store the page as UTF-8, as `iconv -f LATIN1 -t UTF-8` does for one in Latin-1.",
     ),
     (
         "Nul",
-        "The character U+0000 stands in the page.",
+        "The character U+0000 stands literally.",
         "the character U+0000",
         "Take the character away; a page in UTF-16 is to be stored as UTF-8.",
     ),
     (
         "BadTag",
         "A character can't stand there in a tag, or begins none.",
-        "{} can't be a tag, or its last character can't stand there",
+        "{} begins no tag",
         "Look for a quote too many or too few; in XHTML each attribute has a value in quotes.",
     ),
     (
         "Mismatch",
-        "An end tag ends nothing that is open.",
+        "An end tag has another name than the open element.",
         "{} ends nothing that is open",
         (
             "End what was begun last first, and each element once: a p ends where a list, a table, a heading or a div begins, "
@@ -72,19 +72,19 @@ _ROWS = [
     ),
     (
         "SelfClosed",
-        "An element that an end tag has to close ends with `/>`.",
+        "In HTML, /> ends the start tag of an element that an end tag has to close.",
         "{} closes nothing in HTML",
         'Write an end tag, as in `<a id="x"></a>`; where all of the page is XHTML, read it as XHTML.',
     ),
     (
         "UnknownReference",
-        "A named reference isn't in HTML 4.01's table.",
+        "A named character reference isn't in the table of HTML 4.01.",
         "{} is no reference that is known",
         "Write the character itself, or its number, as in `&#47;`.",
     ),
     (
         "BadReference",
-        "A numeric reference stands for 0, for a surrogate, or for a number past U+10FFFF.",
+        "A numeric character reference is to 0, to a surrogate, or past U+10FFFF.",
         "{} stands for no character",
         "Take the reference away.",
     ),
@@ -102,19 +102,19 @@ _ROWS = [
     ),
     (
         "Outside",
-        "Text, a reference or a start tag stands outside of `<html>..</html>`.",
+        "Text, a reference, a CDATA section or a further start tag stands outside the root.",
         "{} stands outside of <html>..</html>",
         "Take it away, or move it into the body.",
     ),
     (
         "RootNotHtml",
-        "The first start tag isn't `<html>`.",
+        "The first start tag isn't html.",
         "{} stands where <html> has to",
         "Write `<html>` before it, and `</html>` at the end.",
     ),
     (
         "BadDoctype",
-        "A document type isn't HTML's, or stands in the wrong place.",
+        "A document type isn't HTML's, is a second one, or stands after the root's start tag.",
         "{} is no document type of HTML, or the second one, or misplaced",
         "Write `<!DOCTYPE html>`, once, before `<html>`.",
     ),
@@ -126,19 +126,19 @@ _ROWS = [
     ),
     (
         "RepeatedAttribute",
-        "A tag of XHTML has an attribute twice.",
+        "In XHTML, an attribute's name stands twice in one tag.",
         "{} has an attribute twice",
         "Keep one of the two.",
     ),
     (
         "StrictText",
-        "XML doesn't allow a character of a text, a value or a comment.",
+        "In XHTML, a character that XML doesn't allow stands in text, a value or a comment.",
         "{} isn't allowed in XML",
         "Write `&amp;`, `&lt;` or `]]&gt;`, and no `--` in a comment.",
     ),
     (
         "Plaintext",
-        "There is an element plaintext.",
+        "In HTML, there is a plaintext element.",
         "{} can't be closed",
         "Use pre.",
     ),
@@ -150,19 +150,19 @@ _ROWS = [
     ),
     (
         "RelativeVocab",
-        "A vocab has no scheme.",
+        "A vocab attribute has no scheme.",
         "{} has a vocab without a scheme",
         "Write the vocabulary's whole IRI.",
     ),
     (
         "XmlLiteral",
-        "A property has the datatype rdf:XMLLiteral, so that its value would be markup.",
+        "A property has the datatype rdf:XMLLiteral, whose value would be markup.",
         "{} has the datatype rdf:XMLLiteral",
         "Drop the datatype: then the value is the text, without its markup.",
     ),
     (
         "HtmlLiteral",
-        "A property has the datatype rdf:HTML, so that its value would be markup.",
+        "A property has the datatype rdf:HTML, whose value would be markup.",
         "{} has the datatype rdf:HTML",
         "Drop the datatype: then the value is the text, without its markup.",
     ),
@@ -174,13 +174,13 @@ _ROWS = [
     ),
     (
         "ItemsTooNested",
-        "An item lies within 40 others.",
+        "An item stands within 40 others.",
         "{} lies within 40 other items",
         "Nest fewer items.",
     ),
     (
         "ItemsTooMany",
-        "The page has more than 100,000 objects of items.",
+        "There are more than 100,000 item objects.",
         "with {} there are more than 100,000 objects of items",
         "Cut the page in several, or name an id in fewer itemrefs: an item counts each time that it is a value.",
     ),

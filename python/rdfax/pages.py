@@ -8,14 +8,14 @@ import struct
 import threading
 import typing
 import weakref
-from collections.abc import Iterator
+from collections.abc import Callable, Iterator
 from contextlib import contextmanager
-from typing import Any, NoReturn
+from typing import Any, NamedTuple, NoReturn
 
 from rdfax import _library
 from rdfax._library import Fault, Options, PageHandle, Terms, library
 from rdfax.errors import BadContext, Refused, Usage
-from rdfax.terms import Blank, Iri, Literal, Quad
+from rdfax.terms import Blank, Iri, Literal, Object, Quad
 
 __all__ = ["FORMATS", "SYNTAXES", "TASKS", "Format", "Page", "Source", "Syntax", "Task", "check", "extract", "items", "items_text", "quads", "to_bytes"]
 
@@ -31,14 +31,17 @@ FORMATS: tuple[Format, ...] = typing.get_args(Format)
 _QUADS = len(FORMATS)
 # How many bytes are handed over at once: between two calls Python does what else is due, such as an interrupt.
 _PIECE = 1 << 20
-# The options of each task, and what they are where they aren't given.
-_OPTIONS: dict[str, dict[str, Any]] = {
-    "extract": {"syntax": "html", "format": "nquads", "graph": None, "context": None, "first_node": 0},
-    "quads": {"syntax": "html", "graph": None, "context": None, "first_node": 0},
-    "items": {"syntax": "html"},
-    "check": {"syntax": "html", "context": None},
+# How many quads are read at once.
+_BATCH = 256
+# The options of each task. All have `syntax`.
+_OPTIONS = {
+    "extract": {"base", "format", "graph", "context", "first_node"},
+    "quads": {"base", "graph", "context", "first_node"},
+    "items": {"base"},
+    "check": {"context"},
 }
-_TERM = struct.Struct("@" + "IPNPNPN" * 4)
+# The terms of a quad as they lie in memory: of each its kind, and the address and the length of text, language and datatype.
+_TERMS = struct.Struct("@" + "IPNPNPN" * 4)
 
 
 def to_bytes(page: Source) -> bytes:
@@ -53,7 +56,7 @@ class Page:
 
     The task is one of `TASKS`. Each but `check` needs the page's address as `base`. The options are the words of the
     functions of the task's name: an option that the task doesn't have is a `TypeError`, a value that no option has is
-    `Usage`. A page is used by one thread at a time: a call while another thread's call goes on is a `RuntimeError`.
+    `Usage`. A page is in one call at a time: another one, from another thread, is a `RuntimeError`.
 
     >>> with Page("extract", "http://h.example/d", format="turtle") as page:
     ...     page.feed(b'<html><p property="schema:na')
@@ -65,17 +68,61 @@ class Page:
     <BLANKLINE>
     """
 
-    def __init__(self, task: Task, base: str | None = None, **options: Any) -> None:
+    @typing.overload
+    def __init__(
+        self,
+        task: typing.Literal["extract"],
+        base: str,
+        *,
+        syntax: Syntax = ...,
+        format: Format = ...,
+        graph: str | None = ...,
+        context: Source | None = ...,
+        first_node: int = ...,
+    ) -> None: ...
+
+    @typing.overload
+    def __init__(
+        self,
+        task: typing.Literal["quads"],
+        base: str,
+        *,
+        syntax: Syntax = ...,
+        graph: str | None = ...,
+        context: Source | None = ...,
+        first_node: int = ...,
+    ) -> None: ...
+
+    @typing.overload
+    def __init__(self, task: typing.Literal["items"], base: str, *, syntax: Syntax = ...) -> None: ...
+
+    @typing.overload
+    def __init__(self, task: typing.Literal["check"], *, syntax: Syntax = ..., context: Source | None = ...) -> None: ...
+
+    def __init__(
+        self,
+        task: Task,
+        base: str | None = None,
+        *,
+        syntax: Syntax = "html",
+        format: Format | None = None,
+        graph: str | None = None,
+        context: Source | None = None,
+        first_node: int | None = None,
+    ) -> None:
+        given = {"base": base, "format": format, "graph": graph, "context": context, "first_node": first_node}
+        _check_options(task, given)
+        request = Request(
+            task, _number("syntax", syntax, SYNTAXES), base or "", _number("format", format or "nquads", FORMATS), graph, context, first_node or 0
+        )
         self._handle = PageHandle()
         self._lock = threading.Lock()
-        # Not `__del__`: this one isn't called once the interpreter ends, when another thread may be in the middle of a call.
+        # Not `__del__`, and not at the interpreter's end: another thread may be in the middle of a call then.
         self._closing = weakref.finalize(self, library().rdfax_close, self._handle)
         self._closing.atexit = False
-        chosen = _chosen(task, base, options)
-        with self._alone():
-            status = _opened(task, base or "", chosen, self._handle)
+        status = request.open(self._handle)
         if status == _library.USAGE:
-            raise Usage(_wrong_names(base, chosen))
+            raise Usage(request.wrong())
         self._answered(status)
 
     def feed(self, piece: Source) -> None:
@@ -83,15 +130,15 @@ class Page:
         held = to_bytes(piece)
         with self._alone():
             status = library().rdfax_feed(self._handle, held, len(held))
-        self._answered(status)
+            self._answered(status)
 
     def finish(self) -> bytes:
-        """The page's end: its text in UTF-8, which is empty with `quads`."""
+        """The page's end: its text in UTF-8, which is empty where the task is `quads`."""
         with self._alone():
-            status = library().rdfax_finish(self._handle)
-            text = self._text() if status == _library.DONE else b""
-        self._answered(status)
-        return text
+            self._answered(library().rdfax_finish(self._handle))
+            room = (ctypes.c_char * library().rdfax_text_length(self._handle))()
+            library().rdfax_text(self._handle, 0, room, len(room))
+        return bytes(room.raw)
 
     @property
     def nodes(self) -> int:
@@ -100,16 +147,26 @@ class Page:
             return int(library().rdfax_nodes(self._handle))
 
     def quads(self) -> Iterator[Quad]:
-        """The quads of a page that was finished, one after another, in order of first appearance."""
+        """The quads of a page that was finished, one after another, in order of first appearance.
+
+        >>> with Page("quads", "http://h.example/d") as page:
+        ...     page.feed('<html><p property="schema:name" lang="en">Anvil</p></html>')
+        ...     page.finish()
+        ...     [quad.object for quad in page.quads()]
+        b''
+        [Literal(text='Anvil', language='en', datatype=None)]
+        """
+        return typing.cast("Iterator[Quad]", map(Quad._make, self.terms(_term)))
+
+    def terms(self, make: Callable[[int, str, str, str], Any]) -> Iterator[tuple[Any, Any, Any, Any]]:
+        """The quads of a page that was finished, of terms that `make` makes of kind, text, language and datatype."""
         with self._alone():
             count = library().rdfax_quad_count(self._handle)
-        terms = Terms()
-        for number in range(count):
+        lent = Terms()
+        for start in range(0, count, _BATCH):
             with self._alone():
-                if not library().rdfax_quad(self._handle, number, terms):
-                    raise Usage("the page was closed while its quads were read")
-                quad = _quad(terms)
-            yield quad
+                batch = [self._quad(number, lent, make) for number in range(start, min(start + _BATCH, count))]
+            yield from batch
 
     def close(self) -> None:
         """Lets go what is kept of the page."""
@@ -123,22 +180,22 @@ class Page:
         self.close()
 
     def __reduce__(self) -> NoReturn:
-        raise TypeError("a Page can neither be pickled nor copied")
+        raise TypeError("a Page can be neither pickled nor copied")
 
     @contextmanager
     def _alone(self) -> Iterator[None]:
         if not self._lock.acquire(blocking=False):
-            raise RuntimeError("the page is in use by another thread")
+            raise RuntimeError("another thread is in a call with this page")
         try:
             yield
         finally:
             self._lock.release()
 
-    def _text(self) -> bytes:
-        length = library().rdfax_text_length(self._handle)
-        room = (ctypes.c_char * length)()
-        library().rdfax_text(self._handle, 0, room, length)
-        return bytes(room.raw)
+    def _quad(self, number: int, lent: Terms, make: Callable[[int, str, str, str], Any]) -> tuple[Any, Any, Any, Any]:
+        if not library().rdfax_quad(self._handle, number, lent):
+            raise Usage("the page was closed while its quads were read")
+        fields = _TERMS.unpack_from(lent)
+        return tuple(_made(fields[start : start + 7], make) for start in range(0, 28, 7))  # type: ignore[return-value]
 
     def _answered(self, status: int) -> None:
         if status == _library.REFUSED:
@@ -152,72 +209,81 @@ class Page:
 
     def _refused(self) -> Refused:
         fault = Fault()
-        with self._alone():
-            library().rdfax_fault(self._handle, fault)
-            room = (ctypes.c_char * library().rdfax_fault_name(self._handle, None, 0))()
-            library().rdfax_fault_name(self._handle, room, len(room))
+        library().rdfax_fault(self._handle, fault)
+        room = (ctypes.c_char * library().rdfax_fault_name(self._handle, None, 0))()
+        library().rdfax_fault_name(self._handle, room, len(room))
         return Refused(room.raw.decode("ascii"), int(fault.at), int(fault.token))
 
 
-def _chosen(task: Task, base: str | None, options: dict[str, Any]) -> dict[str, Any]:
-    """All options of the task, those that were given among them."""
+class Request(NamedTuple):
+    """What is asked for: a page's task, with the numbers of the library and the words."""
+
+    task: Task
+    syntax: int
+    base: str
+    format: int
+    graph: str | None
+    context: Source | None
+    first_node: int
+
+    def open(self, handle: PageHandle) -> int:
+        """Opens the page, and answers the library's status."""
+        base, context = self.base.encode("utf-8"), None if self.context is None else to_bytes(self.context)
+        graph = None if self.graph is None else self.graph.encode("utf-8")
+        if self.task == "items":
+            return int(library().rdfax_items(self.syntax, base, len(base), handle))
+        if self.task == "check":
+            return int(library().rdfax_check(self.syntax, context, len(context or b""), handle))
+        options = Options(self.syntax, _QUADS if self.task == "quads" else self.format, self.first_node)
+        return int(library().rdfax_extract(options, base, len(base), graph, len(graph or b""), context, len(context or b""), handle))
+
+    def wrong(self) -> str:
+        """Why the library knows nothing of it."""
+        if self.graph is None:
+            return f"the base {self.base!r} is no IRI"
+        if FORMATS[self.format] != "nquads":
+            return f"a text in the format {FORMATS[self.format]} can name no graph"
+        return f"the base {self.base!r} or the graph's name {self.graph!r} is no IRI"
+
+
+def _check_options(task: Task, given: dict[str, Any]) -> None:
+    """Raises an error where the task is none, or an option was given that it doesn't have."""
     if task not in _OPTIONS:
         raise Usage(f"the task {task!r} is none of {', '.join(TASKS)}")
-    if (base is None) != (task == "check"):
-        raise TypeError(f"the task {task} {'takes no base' if task == 'check' else 'needs a base'}")
-    unknown = [name for name in options if name not in _OPTIONS[task]]
-    if unknown:
-        raise TypeError(f"the task {task} has no option {unknown[0]}")
-    chosen = {**_OPTIONS[task], **options}
-    for name, values in (("syntax", SYNTAXES), ("format", FORMATS)):
-        if name in chosen and chosen[name] not in values:
-            raise Usage(f"the {name} {chosen[name]!r} is none of {', '.join(values)}")
-    return chosen
+    wrong = [name for name, value in given.items() if value is not None and name not in _OPTIONS[task]]
+    if wrong:
+        raise TypeError(f"the task {task} has no option {wrong[0]}")
+    if "base" in _OPTIONS[task] and given["base"] is None:
+        raise TypeError(f"the task {task} needs a base, which is the page's address")
+    if not 0 <= (given["first_node"] or 0) <= 1 << 63:
+        raise Usage(f"first_node is from 0 to 2 ** 63, and not {given['first_node']}")
 
 
-def _opened(task: Task, base: str, chosen: dict[str, Any], handle: PageHandle) -> int:
-    """Opens the page, and answers the library's status."""
-    syntax, address = SYNTAXES.index(chosen["syntax"]), base.encode("utf-8")
-    context = None if chosen.get("context") is None else to_bytes(chosen["context"])
-    context_length = 0 if context is None else len(context)
-    if task == "items":
-        return int(library().rdfax_items(syntax, address, len(address), handle))
-    if task == "check":
-        return int(library().rdfax_check(syntax, context, context_length, handle))
-    graph = None if chosen["graph"] is None else chosen["graph"].encode("utf-8")
-    wanted = Options(syntax, _QUADS if task == "quads" else FORMATS.index(chosen["format"]), chosen["first_node"])
-    return int(library().rdfax_extract(wanted, address, len(address), graph, 0 if graph is None else len(graph), context, context_length, handle))
-
-
-def _wrong_names(base: str | None, chosen: dict[str, Any]) -> str:
-    graph = chosen.get("graph")
-    if graph is None:
-        return f"the base {base!r} is no IRI"
-    if chosen.get("format", "nquads") != "nquads":
-        return f"a text in the format {chosen['format']} can name no graph"
-    return f"the base {base!r} or the graph's name {graph!r} is no IRI"
+def _number(name: str, value: str, values: tuple[str, ...]) -> int:
+    if value not in values:
+        raise Usage(f"the {name} {value!r} is none of {', '.join(values)}")
+    return values.index(value)
 
 
 def _lent(at: int | None, length: int) -> str:
-    return ctypes.string_at(at, length).decode("utf-8") if at and length else ""
+    return ctypes.string_at(at, length).decode("utf-8") if at is not None and length else ""
 
 
-def _term(kind: int, text: str, language: str, datatype: str) -> Iri | Blank | Literal:
+def _made(fields: tuple[Any, ...], make: Callable[[int, str, str, str], Any]) -> Any:
+    kind, text, text_length, language, language_length, datatype, datatype_length = fields
+    if kind == _library.NOTHING:
+        return None
+    if kind == _library.LITERAL:
+        return make(kind, _lent(text, text_length), _lent(language, language_length), _lent(datatype, datatype_length))
+    return make(kind, _lent(text, text_length), "", "")
+
+
+def _term(kind: int, text: str, language: str, datatype: str) -> Object:
     if kind == _library.IRI:
         return Iri(text)
     if kind == _library.BLANK:
         return Blank(text)
     return Literal(text, language or None, Iri(datatype) if datatype else None)
-
-
-def _quad(terms: Terms) -> Quad:
-    """The quad of which the library lends the terms."""
-    fields = _TERM.unpack_from(terms)
-    found = []
-    for start in range(0, len(fields), 7):
-        kind, *lent = fields[start : start + 7]
-        found.append(None if kind == _library.NOTHING else _term(kind, _lent(*lent[:2]), _lent(*lent[2:4]), _lent(*lent[4:])))
-    return Quad(*found)  # type: ignore[arg-type]
 
 
 def _fed(page: Page, source: Source) -> bytes:
@@ -266,8 +332,13 @@ def quads(
     >>> next(quads('<html><p property="schema:name" lang="en">Anvil</p></html>', "http://h.example/d")).object
     Literal(text='Anvil', language='en', datatype=None)
     """
-    with Page("quads", base, syntax=syntax, graph=graph, context=context, first_node=first_node) as opened:
-        _fed(opened, page)
+    opened = Page("quads", base, syntax=syntax, graph=graph, context=context, first_node=first_node)
+    _fed(opened, page)
+    return _and_close(opened)
+
+
+def _and_close(opened: Page) -> Iterator[Quad]:
+    with opened:
         yield from opened.quads()
 
 

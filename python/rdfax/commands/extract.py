@@ -3,22 +3,23 @@
 from __future__ import annotations
 
 import argparse
-import sys
-from pathlib import Path
 
-from rdfax.pages import FORMATS, SYNTAXES, extract
+from rdfax.commands.pages import add_base, add_context, add_syntax, context_of, write_text
+from rdfax.pages import FORMATS, Page
+
+__all__ = ["add_arguments", "run"]
 
 
 def add_arguments(parser: argparse.ArgumentParser) -> None:
     """Adds the command's options."""
-    parser.add_argument("--syntax", choices=SYNTAXES, default="html")
-    parser.add_argument("--format", choices=FORMATS, default="nquads")
-    parser.add_argument("--graph", metavar="IRI")
-    parser.add_argument("--base", metavar="IRI", required=True)
-    parser.add_argument("page", metavar="PAGE")
+    add_syntax(parser)
+    parser.add_argument("--format", choices=FORMATS, default="nquads", help="the form of the triples, which is N-Quads where none is named")
+    parser.add_argument("--graph", metavar="IRI", help="the name of the graph in which the quads stand, with N-Quads alone")
+    add_context(parser)
+    add_base(parser)
 
 
 def run(arguments: argparse.Namespace) -> int:
-    """Writes the page's triples."""
-    sys.stdout.write(extract(Path(arguments.page).read_bytes(), arguments.base, syntax=arguments.syntax, format=arguments.format, graph=arguments.graph))
-    return 0
+    """Writes the page's triples, and answers the status."""
+    page = Page("extract", arguments.base, syntax=arguments.syntax, format=arguments.format, graph=arguments.graph, context=context_of(arguments))
+    return write_text(page, arguments.page)

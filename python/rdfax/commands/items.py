@@ -3,20 +3,19 @@
 from __future__ import annotations
 
 import argparse
-import sys
-from pathlib import Path
 
-from rdfax.pages import SYNTAXES, items_text
+from rdfax.commands.pages import add_base, add_syntax, write_text
+from rdfax.pages import Page
+
+__all__ = ["add_arguments", "run"]
 
 
 def add_arguments(parser: argparse.ArgumentParser) -> None:
     """Adds the command's options."""
-    parser.add_argument("--syntax", choices=SYNTAXES, default="html")
-    parser.add_argument("--base", metavar="IRI", required=True)
-    parser.add_argument("page", metavar="PAGE")
+    add_syntax(parser)
+    add_base(parser)
 
 
 def run(arguments: argparse.Namespace) -> int:
-    """Writes the page's items."""
-    sys.stdout.write(items_text(Path(arguments.page).read_bytes(), arguments.base, syntax=arguments.syntax))
-    return 0
+    """Writes the page's items, and answers the status."""
+    return write_text(Page("items", arguments.base, syntax=arguments.syntax), arguments.page)
