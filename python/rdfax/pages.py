@@ -10,6 +10,7 @@ import typing
 import weakref
 from collections.abc import Callable, Iterator
 from contextlib import contextmanager
+from ctypes import string_at
 from typing import Any, NamedTuple, NoReturn
 
 from rdfax import _library
@@ -40,8 +41,11 @@ _OPTIONS = {
     "items": {"base"},
     "check": {"context"},
 }
-# The terms of a quad as they lie in memory: of each its kind, and the address and the length of text, language and datatype.
-_TERMS = struct.Struct("@" + "IPNPNPN" * 4)
+# What is read of a quad's terms (`Terms`): kind and text of subject, object and graph, the text of the predicate, and the
+# language and the datatype of the object; each but the kind as an address and a length. The rest is passed over.
+_TERMS = struct.Struct("@I4xPN32x 8xPN32x I4xPNPNPN I4xPN32x")
+# What makes a term of its kind, text, language and datatype.
+_Make = Callable[[int, bytes, bytes, bytes], Any]
 
 
 def to_bytes(page: Source) -> bytes:
@@ -158,7 +162,7 @@ class Page:
         """
         return typing.cast("Iterator[Quad]", map(Quad._make, self.terms(_term)))
 
-    def terms(self, make: Callable[[int, str, str, str], Any]) -> Iterator[tuple[Any, Any, Any, Any]]:
+    def terms(self, make: _Make) -> Iterator[tuple[Any, Any, Any, Any]]:
         """The quads of a page that was finished, of terms that `make` makes of kind, text, language and datatype."""
         with self._alone():
             count = library().rdfax_quad_count(self._handle)
@@ -191,11 +195,16 @@ class Page:
         finally:
             self._lock.release()
 
-    def _quad(self, number: int, lent: Terms, make: Callable[[int, str, str, str], Any]) -> tuple[Any, Any, Any, Any]:
+    def _quad(self, number: int, lent: Terms, make: _Make) -> tuple[Any, Any, Any, Any]:
         if not library().rdfax_quad(self._handle, number, lent):
             raise Usage("the page was closed while its quads were read")
-        fields = _TERMS.unpack_from(lent)
-        return tuple(_made(fields[start : start + 7], make) for start in range(0, 28, 7))  # type: ignore[return-value]
+        kind, text, length, predicate, predicate_length, object_kind, *value, graph_kind, graph, graph_length = _TERMS.unpack_from(lent)
+        return (
+            make(kind, string_at(text, length), b"", b""),
+            make(_library.IRI, string_at(predicate, predicate_length), b"", b""),
+            make(object_kind, string_at(*value[:2]), string_at(*value[2:4]), string_at(*value[4:])),
+            make(graph_kind, string_at(graph, graph_length), b"", b"") if graph_kind else None,
+        )
 
     def _answered(self, status: int) -> None:
         if status == _library.REFUSED:
@@ -265,25 +274,12 @@ def _number(name: str, value: str, values: tuple[str, ...]) -> int:
     return values.index(value)
 
 
-def _lent(at: int | None, length: int) -> str:
-    return ctypes.string_at(at, length).decode("utf-8") if at is not None and length else ""
-
-
-def _made(fields: tuple[Any, ...], make: Callable[[int, str, str, str], Any]) -> Any:
-    kind, text, text_length, language, language_length, datatype, datatype_length = fields
-    if kind == _library.NOTHING:
-        return None
-    if kind == _library.LITERAL:
-        return make(kind, _lent(text, text_length), _lent(language, language_length), _lent(datatype, datatype_length))
-    return make(kind, _lent(text, text_length), "", "")
-
-
-def _term(kind: int, text: str, language: str, datatype: str) -> Object:
+def _term(kind: int, text: bytes, language: bytes, datatype: bytes) -> Object:
     if kind == _library.IRI:
-        return Iri(text)
+        return Iri(text, "utf-8")
     if kind == _library.BLANK:
-        return Blank(text)
-    return Literal(text, language or None, Iri(datatype) if datatype else None)
+        return Blank(text, "utf-8")
+    return Literal(text.decode(), language.decode() or None, Iri(datatype, "utf-8") if datatype else None)
 
 
 def _fed(page: Page, source: Source) -> bytes:

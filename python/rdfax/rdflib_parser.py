@@ -106,18 +106,18 @@ class _Terms:
     """Makes rdflib's terms of one page. Its blank nodes are its own, and an IRI that comes again is the same object."""
 
     def __init__(self) -> None:
-        self._nodes: dict[str, rdflib.BNode] = {}
-        self._iris: dict[str, rdflib.URIRef] = {}
+        self._nodes: dict[bytes, rdflib.BNode] = {}
+        self._iris: dict[bytes, rdflib.URIRef] = {}
 
-    def make(self, kind: int, text: str, language: str, datatype: str) -> rdflib.term.Node:
+    def make(self, kind: int, text: bytes, language: bytes, datatype: bytes) -> rdflib.term.Node:
         if kind == IRI:
-            return self._iri(text)
+            return self._iris.get(text) or self._iri(text)
         if kind == BLANK:
             return self._nodes.get(text) or self._nodes.setdefault(text, rdflib.BNode())
-        return rdflib.Literal(text, lang=language or None, datatype=self._iri(datatype) if datatype else None)
+        return rdflib.Literal(text.decode(), lang=language.decode() or None, datatype=self._iri(datatype) if datatype else None)
 
-    def _iri(self, text: str) -> rdflib.URIRef:
-        return self._iris.get(text) or self._iris.setdefault(text, rdflib.URIRef(text))
+    def _iri(self, text: bytes) -> rdflib.URIRef:
+        return self._iris.setdefault(text, rdflib.URIRef(text.decode()))
 
 
 def _others(name: str) -> Iterator[importlib.metadata.EntryPoint]:

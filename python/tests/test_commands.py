@@ -95,8 +95,8 @@ def test_json() -> None:
         "column": 5,
         "kind": "Mismatch",
         "message": "</p> ends nothing that is open",
-        "at": 59,
-        "token": 56,
+        "at": 57,
+        "token": 54,
     }
     assert json.loads(rdfax_does("check", "--format", "json", "right.html")[1]) == []
 
@@ -111,30 +111,28 @@ def test_annotations_of_github(folder: Path) -> None:
 
 def test_a_thousand_pages_have_a_progress_bar_and_a_sum(folder: Path) -> None:
     pytest.importorskip("tqdm")
-    page = "<html>" + '<p property="schema:name">Anvil</p>' * 4000 + "</html>"
+    page = "<html>" + '<p property="schema:name">Anvil</p>' * 1000 + "</html>"
     names = [f"{number}.html" for number in range(1000)]
     for name in names:
         (folder / name).write_text(page)
     shown = on_a_terminal("check", *names, "page.html")
-    assert re.search(r"\d+%\|.*/1001 ", shown)
+    assert re.search(r"\d+%.*/1001 ", shown)
     assert "1,001 pages: 1,000 read, 1 refused (Mismatch 1)" in shown
-    assert "%|" not in rdfax_does("check", *names)[2]
+    assert "/1000 " not in rdfax_does("check", *names)[2]
 
 
 @pytest.mark.parametrize("setting", ["", "set errorformat=%f:%l:%c:\\ %t%*[^:]:\\ %m,%-G%.%#"], ids=["as vim is set", "as the docs set it"])
 def test_vim_reads_it(folder: Path, setting: str) -> None:
-    script = folder / "script.vim"
-    make = f"set makeprg={sys.executable}\\ -m\\ rdfax\\ check\\ page.html\\ right.html"
-    lines = [
-        make,
-        setting,
-        "silent make!",
-        "call writefile([json_encode(filter(getqflist(), 'v:val.valid'))], 'found')",
-        "cfirst",
-        "call writefile([getpos('.')], 'at')",
-    ]
-    script.write_text("\n".join([*lines[:4], "cfirst", "call writefile([json_encode(getpos('.'))], 'at')", "qall!"]))
-    subprocess.run(["vim", "-es", "-u", "NONE", "-S", str(script)], check=False, timeout=60)
+    (folder / "script.vim").write_text(f"""
+set makeprg={sys.executable}\\ -m\\ rdfax\\ check\\ page.html\\ right.html
+{setting}
+silent make!
+call writefile([json_encode(filter(getqflist(), 'v:val.valid'))], 'found')
+cfirst
+call writefile([json_encode(getpos('.'))], 'at')
+qall!
+""")
+    subprocess.run(["vim", "-es", "-u", "NONE", "-S", "script.vim"], check=False, timeout=60)
     (found,) = json.loads((folder / "found").read_text())
     assert (found["lnum"], found["col"]) == (5, 5)
     assert found["text"].strip().endswith("Mismatch: </p> ends nothing that is open")
