@@ -237,8 +237,8 @@ class Request(NamedTuple):
 
     def open(self, handle: PageHandle) -> int:
         """Opens the page, and answers the library's status."""
-        base, context = self.base.encode("utf-8"), None if self.context is None else to_bytes(self.context)
-        graph = None if self.graph is None else self.graph.encode("utf-8")
+        base, graph = _encoded("base", self.base), None if self.graph is None else _encoded("graph's name", self.graph)
+        context = None if self.context is None else to_bytes(self.context)
         if self.task == "items":
             return int(library().rdfax_items(self.syntax, base, len(base), handle))
         if self.task == "check":
@@ -272,6 +272,13 @@ def _number(name: str, value: str, values: tuple[str, ...]) -> int:
     if value not in values:
         raise Usage(f"the {name} {value!r} is none of {', '.join(values)}")
     return values.index(value)
+
+
+def _encoded(name: str, text: str) -> bytes:
+    try:
+        return text.encode("utf-8")
+    except UnicodeEncodeError:
+        raise Usage(f"the {name} {text!r} isn't text in UTF-8") from None
 
 
 def _term(kind: int, text: bytes, language: bytes, datatype: bytes) -> Object:

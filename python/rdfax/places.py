@@ -68,10 +68,12 @@ def to_line(page: Source, fault: Refused) -> Place:
 def printable(text: str) -> str:
     r"""The text with U+FFFD for each control character but the tab, so that no page can steer a terminal.
 
+    Nor is half a surrogate pair left, as it stands in a file's name that isn't UTF-8.
+
     >>> printable("a\x1b[31mb")
     'a\ufffd[31mb'
     """
-    return "".join("\ufffd" if unicodedata.category(character) in ("Cc", "Cf") and character != "\t" else character for character in text)
+    return "".join("\ufffd" if unicodedata.category(character) in ("Cc", "Cf", "Cs") and character != "\t" else character for character in text)
 
 
 def _blank(character: str) -> str:

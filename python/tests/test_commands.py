@@ -85,6 +85,12 @@ def test_a_page_cannot_steer_the_terminal(folder: Path) -> None:
     assert not re.search("[\x1b\x9b]", rdfax_does("check", "hostile.html")[1])
 
 
+def test_a_name_need_not_be_text(folder: Path) -> None:
+    os.rename(b"page.html", b"\xff.html")
+    status, written, _ = rdfax_does("check", os.fsdecode(b"\xff.html"))
+    assert (status, written) == (1, REPORT.replace("page", "\ufffd"))
+
+
 def test_json() -> None:
     status, written, _ = rdfax_does("check", "--format", "json", "page.html", "right.html")
     (found,) = json.loads(written)

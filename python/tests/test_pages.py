@@ -116,6 +116,7 @@ def test_nothing_else_is_a_page(page: Any) -> None:
         (("extract",), {}, TypeError, "base"),
         (("extract", "d"), {}, rdfax.Usage, "'d'"),
         (("extract", ""), {}, rdfax.Usage, "''"),
+        (("extract", "http://h.example/\udcff"), {}, rdfax.Usage, "isn't text"),
         (("extract", BASE), {"graph": ""}, rdfax.Usage, "''"),
         (("extract", BASE), {"graph": "g"}, rdfax.Usage, "'g'"),
         (("extract", BASE), {"graph": BASE, "format": "turtle"}, rdfax.Usage, "turtle"),

@@ -96,7 +96,7 @@ class _Checking:
 def _finding(name: str, page: bytes, refused: Refused) -> Finding:
     place, kind = to_line(page, refused), KINDS[refused.kind]
     message = printable(kind.told(place.source))
-    return Finding(name, place.line, place.column, kind.name, message, kind.mended, refused.at, refused.token, caret(page, refused))
+    return Finding(printable(name), place.line, place.column, kind.name, message, kind.mended, refused.at, refused.token, caret(page, refused))
 
 
 def _write_text(findings: Iterator[Finding], out: TextIO) -> None:
@@ -104,7 +104,7 @@ def _write_text(findings: Iterator[Finding], out: TextIO) -> None:
     bold, red, green, plain = ("\x1b[1m", "\x1b[1;31m", "\x1b[1;32m", "\x1b[0m") if coloured else ("", "", "", "")
     for finding in findings:
         line, mark = finding.shown.split("\n")
-        place = f"{printable(finding.file)}:{finding.line}:{finding.column}"
+        place = f"{finding.file}:{finding.line}:{finding.column}"
         print(f"{bold}{place}:{plain} {red}error:{plain} {bold}{finding.kind}: {finding.message}{plain}", file=out)
         print(f"{line}\n{green}{mark}{plain}\nhelp: {finding.mended}", file=out, flush=coloured)
 
