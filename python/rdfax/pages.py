@@ -116,9 +116,8 @@ class Page:
     ) -> None:
         given = {"base": base, "format": format, "graph": graph, "context": context, "first_node": first_node}
         _check_options(task, given)
-        request = Request(
-            task, _number("syntax", syntax, SYNTAXES), base or "", _number("format", format or "nquads", FORMATS), graph, context, first_node or 0
-        )
+        form = _number("format", "nquads" if format is None else format, FORMATS)
+        request = Request(task, _number("syntax", syntax, SYNTAXES), base or "", form, graph, context, first_node or 0)
         self._handle = PageHandle()
         self._lock = threading.Lock()
         # Not `__del__`, and not at the interpreter's end: another thread may be in the middle of a call then.

@@ -170,7 +170,7 @@ FEW = [row for task in ("extract", "items") for status in (0, 1, 2, 6) for row i
 def test_extract_and_items_do_what_the_command_does(row: Row, folder: Path) -> None:
     status, written, said = rdfax_does(*_words(row, folder))
     assert (status, written) == (row.status, row.written)
-    if status == 1:
+    if status == 1 and row.said:
         assert said == row.said
 
 
