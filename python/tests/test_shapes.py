@@ -14,7 +14,7 @@ import rdfax
 extruct = pytest.importorskip("extruct")
 
 BASE = "http://shop.example/anvil"
-ITEM = '<div itemscope itemtype="http://schema.org/Product" itemid="/anvil#it">{}</div>'
+ITEM = '<div itemscope itemtype="http://schema.org/Product" itemid="http://shop.example/anvil#it">{}</div>'
 MICRODATA = {
     "no item": "<p>Anvil</p>",
     "one value": ITEM.format('<b itemprop="name">Anvil</b>'),
@@ -36,7 +36,7 @@ MICRODATA = {
 RDFA = {
     "no triple": "<p>Anvil</p>",
     "a literal": '<p property="schema:name">Anvil</p>',
-    "a language": '<p property="schema:name" lang="en">Anvil</p>',
+    "a language": '<p property="schema:name" xml:lang="en">Anvil</p>',
     "a datatype": '<p property="schema:price" datatype="xsd:decimal" content="119.99">119.99</p>',
     "a type": '<p vocab="http://schema.org/" typeof="Product"><b property="name">Anvil</b><b property="name">Amboss</b></p>',
     "two types": '<p about="#it" typeof="schema:Product schema:Thing"></p>',
@@ -79,11 +79,12 @@ def test_rdfa(body: str) -> None:
 
 
 DIFFERENT = {
-    "an item without properties": (ITEM.format("Anvil"), {"type": "http://schema.org/Product", "id": "/anvil#it", "properties": {}}),
+    "an item without properties": (ITEM.format("Anvil"), {"type": "http://schema.org/Product", "id": "http://shop.example/anvil#it", "properties": {}}),
     "white space": (ITEM.format('<b itemprop="name"> Anvil\n</b>'), {"properties": {"name": " Anvil\n"}}),
     "content of any element": (ITEM.format('<b itemprop="name" content="Amboss">Anvil</b>'), {"properties": {"name": "Anvil"}}),
     "a time without datetime": (ITEM.format('<time itemprop="validFrom">2026</time>'), {"properties": {"validFrom": "2026"}}),
     "an image without src": (ITEM.format('<img itemprop="image">'), {"properties": {"image": ""}}),
+    "a relative itemid": ('<p itemscope itemtype="http://schema.org/Product" itemid="#it"><b itemprop="name">Anvil</b></p>', {"properties": {"name": "Anvil"}}),
     "a property of no item": ('<p itemprop="x" itemscope><b itemprop="name">Anvil</b></p>', None),
 }
 
@@ -94,3 +95,9 @@ def test_what_the_docs_say_is_different(body: str, found: dict[str, Any] | None)
     ours = rdfax.syntaxes(page, BASE)["microdata"]
     assert ours != _theirs(page)["microdata"]
     assert (found is None and ours == []) or (found is not None and found["properties"] == ours[0]["properties"])
+
+
+def test_rdfa_s_lang_is_different_too() -> None:
+    page = _page('<p property="schema:name" lang="en">Anvil</p>')
+    ours, theirs = rdfax.syntaxes(page, BASE)["rdfa"], _theirs(page)["rdfa"]
+    assert [node["http://schema.org/name"] for node in (*ours, *theirs)] == [[{"@value": "Anvil", "@language": "en"}], [{"@value": "Anvil"}]]
