@@ -69,7 +69,7 @@ def test_a_file_that_is_missing_is_told_and_the_others_are_checked() -> None:
     assert rdfax_does("check", "none.html", "page.html") == (
         3,
         REPORT,
-        "none.html: No such file or directory\n2 pages: 0 read, 1 refused (Mismatch 1), 1 files that couldn't be read\n",
+        "none.html: No such file or directory\n2 pages: 0 read, 1 refused (Mismatch 1), 1 unreadable\n",
     )
 
 
@@ -121,8 +121,10 @@ def test_a_thousand_pages_have_a_progress_bar_and_a_sum(folder: Path) -> None:
     names = [f"{number}.html" for number in range(1000)]
     for name in names:
         (folder / name).write_text(page)
-    shown = on_a_terminal("check", *names, "page.html")
+    shown = on_a_terminal("check", "page.html", *names)
     assert re.search(r"\d+%.*/1001 ", shown)
+    # (the bar is away where something else is written, and at the end)
+    assert re.search(r"\rpage.html:5:5", re.sub(r"\x1b\[[\d;]*m", "", shown))
     assert "1,001 pages: 1,000 read, 1 refused (Mismatch 1)" in shown
     assert "/1000 " not in rdfax_does("check", *names)[2]
 

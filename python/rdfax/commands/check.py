@@ -20,7 +20,7 @@ from rdfax.errors import Refused
 from rdfax.kinds import KINDS
 from rdfax.pages import check
 from rdfax.places import caret, printable, to_line
-from rdfax.progress import progress
+from rdfax.progress import progress, write
 
 __all__ = ["add_arguments", "run"]
 
@@ -72,7 +72,7 @@ class _Checking:
                 with open_page(name) as file:
                     page = file.read()
             except OSError as error:
-                print(f"{printable(name)}: {error.strerror}", file=sys.stderr)
+                write(f"{printable(name)}: {error.strerror}", sys.stderr)
                 self.unreadable += 1
                 continue
             try:
@@ -88,7 +88,7 @@ class _Checking:
         if self.refused:
             said[1] += f" ({', '.join(f'{kind} {count:,}' for kind, count in self.refused.most_common())})"
         if self.unreadable:
-            said.append(f"{self.unreadable:,} files that couldn't be read")
+            said.append(f"{self.unreadable:,} unreadable")
         total = self.read + self.refused.total() + self.unreadable
         return f"{total:,} page{'' if total == 1 else 's'}: {', '.join(said)}"
 
@@ -105,8 +105,8 @@ def _write_text(findings: Iterator[Finding], out: TextIO) -> None:
     for finding in findings:
         line, mark = finding.shown.split("\n")
         place = f"{finding.file}:{finding.line}:{finding.column}"
-        print(f"{bold}{place}:{plain} {red}error:{plain} {bold}{finding.kind}: {finding.message}{plain}", file=out)
-        print(f"{line}\n{green}{mark}{plain}\nhelp: {finding.mended}", file=out, flush=coloured)
+        head = f"{bold}{place}:{plain} {red}error:{plain} {bold}{finding.kind}: {finding.message}{plain}"
+        write(f"{head}\n{line}\n{green}{mark}{plain}\nhelp: {finding.mended}", out)
 
 
 def _write_json(findings: Iterator[Finding], out: TextIO) -> None:
@@ -118,7 +118,7 @@ def _write_json(findings: Iterator[Finding], out: TextIO) -> None:
 def _write_github(findings: Iterator[Finding], out: TextIO) -> None:
     for finding in findings:
         place = f"file={_escaped(finding.file, ':,')},line={finding.line},col={finding.column},title={finding.kind}"
-        print(f"::error {place}::{_escaped(f'{finding.message}. {finding.mended}')}", file=out)
+        write(f"::error {place}::{_escaped(f'{finding.message}. {finding.mended}')}", out)
 
 
 def _escaped(text: str, more: str = "") -> str:
