@@ -87,8 +87,8 @@ def test_a_quad_has_its_terms_in_their_places() -> None:
         == [
             (BASE, f"{schema}name", rdfax.Literal(text="Anvil", language="en", datatype=None), graph),
             (BASE, f"{schema}price", rdfax.Literal(text="1", language=None, datatype=rdfax.Iri("http://www.w3.org/2001/XMLSchema#decimal")), graph),
-            (BASE, f"{schema}offers", rdfax.Blank("b0"), graph),
             (rdfax.Blank("b0"), "http://www.w3.org/1999/02/22-rdf-syntax-ns#type", rdfax.Iri(f"{schema}Offer"), graph),
+            (BASE, f"{schema}offers", rdfax.Blank("b0"), graph),
         ]
         or sorted(map(str, found)) == []
     )
