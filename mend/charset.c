@@ -1,5 +1,6 @@
 #include "charset.h"
 #include "rdfax_mend.h"
+#include <lexbor/encoding/multi.h>
 #include <lexbor/html/encoding.h>
 #include <string.h>
 
@@ -184,19 +185,86 @@ static void put(decoded *text, lxb_codepoint_t code, size_t original, size_t aft
         mark(text, after);
 }
 
+/* The next character of Shift_JIS (Encoding Standard, 12.3.1). lexbor 3.0.1 refuses the lead bytes E1 to FB. */
+static lxb_codepoint_t shift_jis_next(const lxb_char_t **at, const lxb_char_t *end) {
+    lxb_char_t lead = *(*at)++;
+    if (lead <= 0x80)
+        return lead;
+    if (lead >= 0xA1 && lead <= 0xDF)
+        return 0xFF61 - 0xA1 + (lxb_codepoint_t)lead;
+    if (lead == 0xA0 || lead > 0xFC || *at == end)
+        return LXB_ENCODING_DECODE_ERROR;
+    lxb_char_t trail = **at;
+    size_t pointer = (lead - (lead < 0xA0 ? 0x81U : 0xC1U)) * 188U + trail - (trail < 0x7F ? 0x40U : 0x41U);
+    lxb_codepoint_t code = LXB_ENCODING_DECODE_ERROR;
+    if (trail >= 0x40 && trail <= 0xFC && trail != 0x7F)
+        code = pointer >= 8836 && pointer <= 10715 ? (lxb_codepoint_t)(0xE000 - 8836 + pointer)
+             : pointer < sizeof lxb_encoding_multi_jis0208_map / sizeof *lxb_encoding_multi_jis0208_map ? lxb_encoding_multi_jis0208_map[pointer]
+             : LXB_ENCODING_DECODE_ERROR;
+    *at += code <= LXB_ENCODING_MAX_CODEPOINT || trail >= 0x80;
+    return code;
+}
+
+static bool is_surrogate(lxb_codepoint_t unit, lxb_codepoint_t first) {
+    return unit >= first && unit < first + 0x400;
+}
+
+static lxb_codepoint_t utf_16_unit(const lxb_char_t *at, bool is_big) {
+    return is_big ? (lxb_codepoint_t)(at[0] << 8 | at[1]) : (lxb_codepoint_t)(at[1] << 8 | at[0]);
+}
+
+/* The next character of UTF-16 (Encoding Standard, 14.2.1). lexbor 3.0.1 tells a surrogate that stands alone as one. */
+static lxb_codepoint_t utf_16_next(const lxb_char_t **at, const lxb_char_t *end, bool is_big) {
+    if (end - *at < 2) {
+        *at = end;
+        return LXB_ENCODING_DECODE_ERROR;
+    }
+    lxb_codepoint_t unit = utf_16_unit(*at, is_big);
+    *at += 2;
+    if (!is_surrogate(unit, 0xD800))
+        return is_surrogate(unit, 0xDC00) ? LXB_ENCODING_DECODE_ERROR : unit;
+    lxb_codepoint_t low = end - *at >= 2 ? utf_16_unit(*at, is_big) : 0;
+    if (is_surrogate(low, 0xDC00)) {
+        *at += 2;
+        return 0x10000 + ((unit - 0xD800) << 10) + (low - 0xDC00);
+    }
+    if (end - *at < 2)
+        *at = end;
+    return LXB_ENCODING_DECODE_ERROR;
+}
+
+static lxb_codepoint_t next_code(lxb_encoding_decode_t *state, const lxb_char_t **at, const lxb_char_t *end) {
+    lxb_encoding_t encoding = state->encoding_data->encoding;
+    if (encoding == LXB_ENCODING_SHIFT_JIS)
+        return shift_jis_next(at, end);
+    if (encoding == LXB_ENCODING_UTF_16BE || encoding == LXB_ENCODING_UTF_16LE)
+        return utf_16_next(at, end, encoding == LXB_ENCODING_UTF_16BE);
+    return state->encoding_data->decode_single(state, at, end);
+}
+
+/* Whether the bytes ended within a character, where the decoder asked for more of them. */
+static bool is_unfinished(const lxb_encoding_decode_t *state) {
+    if (state->encoding_data->encoding != LXB_ENCODING_ISO_2022_JP)
+        return true;
+    unsigned within = state->u.iso_2022_jp.state;
+    return within == LXB_ENCODING_DECODE_2022_JP_TRAIL || within == LXB_ENCODING_DECODE_2022_JP_ESCAPE_START ||
+           within == LXB_ENCODING_DECODE_2022_JP_ESCAPE;
+}
+
 static void decode_each(const unsigned char *bytes, size_t length, const lxb_encoding_data_t *encoding, decoded *text) {
     lxb_encoding_decode_t state;
+    lxb_codepoint_t code = 0;
     lxb_encoding_decode_init_single(&state, encoding);
     const lxb_char_t *at = bytes, *end = bytes + length;
     while (at < end && !text->own.failed && !text->marks.failed) {
         const lxb_char_t *from = at;
-        lxb_codepoint_t code = encoding->decode_single(&state, &at, end);
+        code = next_code(&state, &at, end);
         if (code != LXB_ENCODING_DECODE_CONTINUE)
             put(text, code, (size_t)(from - bytes), (size_t)(at - bytes));
     }
     if (state.second_codepoint != 0)
         put(text, state.second_codepoint, length, length);
-    if (lxb_encoding_decode_finish_single(&state) != LXB_STATUS_OK)
+    if (code == LXB_ENCODING_DECODE_CONTINUE && is_unfinished(&state))
         put(text, LXB_ENCODING_DECODE_ERROR, length, length);
 }
 
@@ -209,7 +277,11 @@ bool charset_decode(const unsigned char *bytes, size_t length, charset from, dec
     if (is_utf8_already(text->bytes, text->length, from.encoding->encoding))
         return true;
     buffer_reserve(&text->own, text->length + text->length / 2);
-    decode_each(text->bytes, text->length, from.encoding, text);
+    /* the replacement encoding has one character for all of the page */
+    if (from.encoding->encoding == LXB_ENCODING_REPLACEMENT)
+        put(text, LXB_ENCODING_DECODE_ERROR, 0, text->length);
+    else
+        decode_each(text->bytes, text->length, from.encoding, text);
     text->bytes = text->own.bytes;
     text->length = text->own.length;
     return !text->own.failed && !text->marks.failed;
