@@ -56,23 +56,24 @@ def primer(folder: Path) -> Iterator[Known]:
 
 
 class Items(NamedTuple):
-    """A page whose items extruct's tests tell."""
+    """A page whose items extruct's tests tell: in lists, as the standard has them, where `is_strict`, else in extruct's own shape."""
 
     name: str
     page: bytes
     items: Any
+    is_strict: bool
 
 
 def microdata(folder: Path) -> Iterator[Items]:
     """The pages of extruct's tests for which it tells items in its own shape."""
-    for path in sorted(folder.rglob("*.html")):
+    for path in sorted(path for name in ("schema.org", "w3c", "websites") for path in (folder / name).glob("*.html")):
         told = path.with_suffix(".json")
-        if path.parent.name == "w3crdfa" or not told.exists():
+        if not told.exists():
             continue
         held = json.loads(told.read_text("utf-8"))
         held = held.get("microdata", held) if isinstance(held, dict) else held
         if isinstance(held, list) and any("properties" in item for item in held if isinstance(item, dict)):
-            yield Items(f"{path.parent.name}/{path.name}", path.read_bytes(), held)
+            yield Items(f"{path.parent.name}/{path.name}", path.read_bytes(), held, path.parent.name == "w3c")
 
 
 def by_pyrdfa(page: bytes, base: str) -> rdflib.Graph | None:
@@ -87,11 +88,11 @@ def by_pyrdfa(page: bytes, base: str) -> rdflib.Graph | None:
         return None
 
 
-def by_extruct(page: bytes) -> Any:
+def by_extruct(page: bytes, is_strict: bool) -> Any:
     """extruct's items of a page."""
-    import extruct
+    from extruct.w3cmicrodata import MicrodataExtractor
 
-    return extruct.extract(page, base_url=PRIMER_BASE, syntaxes=["microdata"], uniform=False)["microdata"]
+    return MicrodataExtractor(strict=is_strict).extract(page)
 
 
 def squeezed(value: Any) -> Any:
