@@ -120,6 +120,29 @@ static uint32_t refused(rdfax_mended *mended, uint32_t refusal) {
     return RDFAX_MEND_REFUSED;
 }
 
+/* Whether a reader of the mended page would take it for another charset than UTF-8, since it declares that still. */
+static bool misleads(const work *page, const spelled *result) {
+    charset read = charset_of(result->page.bytes, result->page.length, NULL);
+    const lxb_encoding_data_t *encoding = read.encoding;
+    if (read.found >= RDFAX_MEND_BY_VALIDITY)
+        encoding = late_declaration(page->tree.document);
+    return encoding != NULL && encoding->encoding != LXB_ENCODING_UTF_8;
+}
+
+/* Puts a byte order mark, which goes before any declaration, in front of the page. */
+static void put_mark(spelled *result) {
+    static const char mark[] = "\xEF\xBB\xBF";
+    enum { LENGTH = sizeof mark - 1 };
+    if (!buffer_reserve(&result->page, LENGTH))
+        return;
+    memmove(result->page.bytes + LENGTH, result->page.bytes, result->page.length);
+    memcpy(result->page.bytes, mark, LENGTH);
+    result->page.length += LENGTH;
+    rdfax_mend_place *places = (rdfax_mend_place *)(void *)result->places.bytes;
+    for (size_t at = 0; at < result->places.length / sizeof *places; at++)
+        places[at].mended += LENGTH;
+}
+
 /* Hands the mended page over, with its places as the original's. */
 static void hand_over(const work *page, spelled *result, rdfax_mended *mended) {
     mended->page = result->page.bytes;
@@ -133,6 +156,9 @@ static void hand_over(const work *page, spelled *result, rdfax_mended *mended) {
 static uint32_t spell_page(const work *page, uint32_t syntax, rdfax_mended *mended) {
     spelled result = {.changes = &mended->changes};
     bool done = spell(page->tree.document, page->text.bytes, page->text.length, syntax, &result);
+    if (done && misleads(page, &result))
+        put_mark(&result);
+    done = done && !result.page.failed;
     if (done && result.refusal == RDFAX_MEND_NO_REFUSAL) {
         hand_over(page, &result, mended);
         return RDFAX_MEND_DONE;

@@ -78,7 +78,7 @@ typedef struct {
 } rdfax_mend_place;
 
 typedef struct {
-    uint8_t *page; /* UTF-8, without a byte order mark */
+    uint8_t *page; /* UTF-8, with a byte order mark where it declares another charset still */
     size_t length;
     const char *charset; /* the name of the encoding by the Encoding Standard; static */
     uint32_t found;      /* how: RDFAX_MEND_BY_.. */

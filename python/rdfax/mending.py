@@ -19,15 +19,12 @@ from typing import Any, NamedTuple
 
 from rdfax._library import LibraryMissing
 from rdfax.errors import Error, Refused, Usage
-from rdfax.pages import SYNTAXES, Format, Source, Syntax, check, extract, items_text, quads, to_bytes
+from rdfax.pages import SYNTAXES, Format, Mend, Source, Syntax, check, extract, items_text, quads, to_bytes
 from rdfax.terms import Quad
 
-__all__ = ["Mend", "Mended", "MendedQuads", "MendedText", "NotMended", "checked", "extracted", "items_told", "mend", "quads_told"]
+__all__ = ["Mended", "MendedQuads", "MendedText", "NotMended", "checked", "extracted", "items_told", "mend", "quads_told"]
 
 SONAME = "librdfax_mend.so"
-
-# Whether a page is mended: never, where it is refused, or in any case.
-Mend = bool | typing.Literal["always"]
 
 _DONE, _REFUSED, _USAGE, _NO_MEMORY = 0, 1, 2, 5
 _CHANGES = ("characters", "token_errors", "tree_errors", "implied", "comments", "templates", "attributes", "names", "spans", "raw", "doctypes")

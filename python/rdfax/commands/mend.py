@@ -9,11 +9,13 @@ from __future__ import annotations
 import argparse
 import json
 import sys
+from collections.abc import Callable
 
 from rdfax.commands.pages import REFUSED, add_syntax, open_page
-from rdfax.mending import NotMended, mend
+from rdfax.errors import Refused
+from rdfax.mending import MendedText, NotMended, mend
 
-__all__ = ["add_arguments", "run"]
+__all__ = ["add_arguments", "run", "write_mended"]
 
 
 def add_arguments(parser: argparse.ArgumentParser) -> None:
@@ -26,8 +28,7 @@ def add_arguments(parser: argparse.ArgumentParser) -> None:
 
 def run(arguments: argparse.Namespace) -> int:
     """Writes the mended page, and answers the status."""
-    with open_page(arguments.page) as file:
-        page = file.read()
+    page = _read(arguments.page)
     try:
         mended = mend(page, arguments.charset, arguments.syntax)
     except NotMended as error:
@@ -35,5 +36,24 @@ def run(arguments: argparse.Namespace) -> int:
         return REFUSED
     print(json.dumps(mended.told()) if arguments.report else mended, file=sys.stderr)
     sys.stdout.buffer.write(mended.page)
+    sys.stdout.buffer.flush()
+    return 0
+
+
+def _read(name: str) -> bytes:
+    with open_page(name) as file:
+        return file.read()
+
+
+def write_mended(name: str, read: Callable[[bytes], str]) -> int:
+    """Writes what is read of a page with mending, and says so where it was mended. Answers the status."""
+    try:
+        text = read(_read(name))
+    except (Refused, NotMended) as error:
+        print(error, file=sys.stderr)
+        return REFUSED
+    if isinstance(text, MendedText):
+        print(text.mended, file=sys.stderr)
+    sys.stdout.buffer.write(text.encode("utf-8"))
     sys.stdout.buffer.flush()
     return 0
