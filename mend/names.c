@@ -141,20 +141,20 @@ bool name_is_strict(const unsigned char *name, size_t length) {
     return true;
 }
 
-static bool ends_name(unsigned char byte) {
+bool name_ends_at(unsigned char byte) {
     return byte == 0 || byte == '\t' || byte == '\n' || byte == '\f' || byte == '\r' || byte == ' ' || byte == '/' || byte == '>';
 }
 
 bool name_is_tag(const unsigned char *name, size_t length) {
     for (size_t at = 0; at < length; at++)
-        if (ends_name(name[at]))
+        if (name_ends_at(name[at]))
             return false;
     return length != 0 && is_letter(name[0]);
 }
 
 bool name_is_attribute(const unsigned char *name, size_t length) {
     for (size_t at = 0; at < length; at++)
-        if (ends_name(name[at]) || name[at] == '=' || name[at] == '"' || name[at] == '\'' || name[at] == '<')
+        if (name_ends_at(name[at]) || name[at] == '=' || name[at] == '"' || name[at] == '\'' || name[at] == '<')
             return false;
     return length != 0;
 }

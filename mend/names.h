@@ -24,6 +24,9 @@ typedef struct {
 /* By lexbor's number of the name in lower case. */
 name_traits name_traits_of(lxb_tag_id_t tag);
 
+/* Whether the byte ends the name of a tag: white space, `/`, `>` or 0. */
+bool name_ends_at(unsigned char byte);
+
 /* Whether a name can be spelled: of an element or an attribute, in XHTML; of an element in HTML; of an attribute in HTML. */
 bool name_is_strict(const unsigned char *name, size_t length);
 bool name_is_tag(const unsigned char *name, size_t length);

@@ -96,15 +96,11 @@ static void add_text(speller *s, lxb_dom_node_t *node) {
     add_escaped(&s->out->page, text->data, text->length, false, s->is_strict);
 }
 
-static bool ends_name(unsigned char byte) {
-    return byte != 0 && strchr("\t\n\f\r />", byte) != NULL;
-}
-
 /* Whether these characters and the name stand there, and then what ends a name. */
 static bool is_tag_of(const char *front, const unsigned char *text, size_t length, const beginning *e) {
     size_t count = strlen(front);
     return length > count + e->length && memcmp(text, front, count) == 0 &&
-           strncasecmp((const char *)text + count, (const char *)e->name, e->length) == 0 && ends_name(text[count + e->length]);
+           strncasecmp((const char *)text + count, (const char *)e->name, e->length) == 0 && name_ends_at(text[count + e->length]);
 }
 
 /* Whether a browser that reads the script's text takes no `</script>` behind it as its end: after `<!--` and `<script`
@@ -253,9 +249,9 @@ static void add_attributes(speller *s, lxb_dom_node_t *node) {
 }
 
 /* Whether the element's own start tag stands at the place: `<` and its name. */
-static bool is_own_tag(const speller *s, const lxb_dom_node_t *node, size_t place) {
+static bool is_own_tag(const speller *s, lxb_dom_node_t *node, size_t place) {
     size_t length = 0;
-    const lxb_char_t *name = lxb_dom_element_qualified_name(lxb_dom_interface_element((lxb_dom_node_t *)(uintptr_t)node), &length);
+    const lxb_char_t *name = lxb_dom_element_qualified_name(lxb_dom_interface_element(node), &length);
     if (place >= s->length || s->text[place] != '<')
         return false;
     /* HTML, 13.2.6.4.7: the parser reads the name image as img */
@@ -264,7 +260,7 @@ static bool is_own_tag(const speller *s, const lxb_dom_node_t *node, size_t plac
     return s->length - place > length && strncasecmp((const char *)s->text + place + 1, (const char *)name, length) == 0;
 }
 
-static void add_place(speller *s, const lxb_dom_node_t *node) {
+static void add_place(speller *s, lxb_dom_node_t *node) {
     rdfax_mend_place place = {.mended = s->out->page.length, .original = s->length};
     const rdfax_mend_place *last = NULL;
     if (node->user != NULL)
