@@ -99,7 +99,6 @@ def xml_tree(page: bytes) -> list[Node]:
     parser = xml.parsers.expat.ParserCreate("utf-8")
     parser.ordered_attributes = True
     parser.buffer_text = True
-    hidden = 0
 
     def start(name: str, given: list[str]) -> None:
         made = element(name, list(zip(given[::2], given[1::2], strict=True)), [])
@@ -112,7 +111,6 @@ def xml_tree(page: bytes) -> list[Node]:
     parser.StartElementHandler, parser.EndElementHandler = start, end
     parser.CharacterDataHandler = lambda text: add_text(holders[-1], text)
     parser.Parse(page, True)
-    del hidden
     return top
 
 
