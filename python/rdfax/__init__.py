@@ -23,6 +23,7 @@ from __future__ import annotations
 from rdfax._version import __version__
 from rdfax.errors import BadContext, Error, Refused, Usage
 from rdfax.kinds import KINDS, Kind
+from rdfax.mending import Mended, NotMended, mend
 from rdfax.pages import FORMATS, SYNTAXES, Page, check, extract, items, items_text, quads
 from rdfax.places import Place, to_line
 from rdfax.shapes import syntaxes
@@ -38,6 +39,8 @@ __all__ = [
     "Iri",
     "Kind",
     "Literal",
+    "Mended",
+    "NotMended",
     "Page",
     "Place",
     "Quad",
@@ -48,6 +51,7 @@ __all__ = [
     "extract",
     "items",
     "items_text",
+    "mend",
     "quads",
     "syntaxes",
     "to_line",

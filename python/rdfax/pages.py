@@ -18,12 +18,17 @@ from rdfax._library import Fault, Options, PageHandle, Terms, library
 from rdfax.errors import BadContext, Refused, Usage
 from rdfax.terms import Blank, Iri, Literal, Object, Quad
 
-__all__ = ["FORMATS", "SYNTAXES", "TASKS", "Format", "Page", "Source", "Syntax", "Task", "check", "extract", "items", "items_text", "quads", "to_bytes"]
+if typing.TYPE_CHECKING:
+    from rdfax.mending import Mended
+
+__all__ = ["FORMATS", "SYNTAXES", "TASKS", "Format", "Mend", "Page", "Source", "Syntax", "Task", "check", "extract", "items", "items_text", "quads", "to_bytes"]
 
 Source = str | bytes | bytearray | memoryview
 Task = typing.Literal["extract", "quads", "items", "check"]
 Syntax = typing.Literal["html", "xhtml"]
 Format = typing.Literal["nquads", "turtle", "nested", "jsonld"]
+# Whether a page is mended before it is read: never, where it is refused for its form, or in any case.
+Mend = bool | typing.Literal["always"]
 
 TASKS: tuple[Task, ...] = typing.get_args(Task)
 SYNTAXES: tuple[Syntax, ...] = typing.get_args(Syntax)
@@ -307,15 +312,23 @@ def extract(
     graph: str | None = None,
     context: Source | None = None,
     first_node: int = 0,
+    mend: Mend = False,
+    charset: str | None = None,
 ) -> str:
     """The text of the page's triples, in a format of `FORMATS`.
 
     `base` is the page's address. `graph` names the graph in which the quads stand (N-Quads alone). `context` is the
     content of a context file. The labels of blank nodes are `_:b0`, `_:b1` and so on, from the number `first_node`.
+    `mend` is true, for a page that is refused for its form, or "always"; the text of a mended page says so
+    (docs/MENDING.md), and `charset` is the label that came with it.
 
     >>> extract('<html><p property="schema:name" lang="en">Anvil</p></html>', "http://h.example/d", graph="http://h.example/g")
     '<http://h.example/d> <http://schema.org/name> "Anvil"@en <http://h.example/g> .\\n'
     """
+    if mend:
+        from rdfax import mending
+
+        return mending.extracted(page, base, mend, charset=charset, syntax=syntax, format=format, graph=graph, context=context, first_node=first_node)
     with Page("extract", base, syntax=syntax, format=format, graph=graph, context=context, first_node=first_node) as opened:
         return _fed(opened, page).decode("utf-8")
 
@@ -328,12 +341,18 @@ def quads(
     graph: str | None = None,
     context: Source | None = None,
     first_node: int = 0,
+    mend: Mend = False,
+    charset: str | None = None,
 ) -> Iterator[Quad]:
     """The page's triples, one after another; the words are those of `extract`.
 
     >>> next(quads('<html><p property="schema:name" lang="en">Anvil</p></html>', "http://h.example/d")).object
     Literal(text='Anvil', language='en', datatype=None)
     """
+    if mend:
+        from rdfax import mending
+
+        return mending.quads_told(page, base, mend, charset=charset, syntax=syntax, graph=graph, context=context, first_node=first_node)
     opened = Page("quads", base, syntax=syntax, graph=graph, context=context, first_node=first_node)
     _fed(opened, page)
     return _and_close(opened)
@@ -344,28 +363,33 @@ def _and_close(opened: Page) -> Iterator[Quad]:
         yield from opened.quads()
 
 
-def items_text(page: Source, base: str, *, syntax: Syntax = "html") -> str:
+def items_text(page: Source, base: str, *, syntax: Syntax = "html", mend: Mend = False, charset: str | None = None) -> str:
     """The JSON text of the page's items (Microdata), as the HTML Standard has it, and a line feed.
 
     >>> items_text('<html><p itemscope itemtype="http://schema.org/Thing"></p></html>', "http://h.example/d")
     '{"items":[{"properties":{},"type":["http://schema.org/Thing"]}]}\\n'
     """
+    if mend:
+        from rdfax import mending
+
+        return mending.items_told(page, base, mend, charset=charset, syntax=syntax)
     with Page("items", base, syntax=syntax) as opened:
         return _fed(opened, page).decode("utf-8")
 
 
-def items(page: Source, base: str, *, syntax: Syntax = "html") -> dict[str, Any]:
+def items(page: Source, base: str, *, syntax: Syntax = "html", mend: Mend = False, charset: str | None = None) -> dict[str, Any]:
     """The page's items (Microdata), as the HTML Standard's JSON has them.
 
     >>> items('<html><p itemscope><b itemprop="name">Anvil</b></p></html>', "http://h.example/d")
     {'items': [{'properties': {'name': ['Anvil']}}]}
     """
-    found: dict[str, Any] = json.loads(items_text(page, base, syntax=syntax))
+    found: dict[str, Any] = json.loads(items_text(page, base, syntax=syntax, mend=mend, charset=charset))
     return found
 
 
-def check(page: Source, *, syntax: Syntax = "html", context: Source | None = None) -> None:
-    """Nothing where the page is one of the grammar and nothing in it is refused; else `Refused` is raised.
+def check(page: Source, *, syntax: Syntax = "html", context: Source | None = None, mend: Mend = False, charset: str | None = None) -> Mended | None:
+    """Nothing where the page is one of the grammar and nothing in it is refused; else `Refused` is raised. With `mend`
+    the mended page, where it was mended.
 
     >>> check("<html><p>Anvil</html>")
     >>> check("<html><p>Anvil")
@@ -373,5 +397,10 @@ def check(page: Source, *, syntax: Syntax = "html", context: Source | None = Non
       ...
     rdfax.errors.Refused: refused: Unended at byte 14 in token 14
     """
+    if mend:
+        from rdfax import mending
+
+        return mending.checked(page, mend, charset=charset, syntax=syntax, context=context)
     with Page("check", syntax=syntax, context=context) as opened:
         _fed(opened, page)
+    return None

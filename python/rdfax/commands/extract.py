@@ -4,8 +4,9 @@ from __future__ import annotations
 
 import argparse
 
+from rdfax.commands.mend import write_mended
 from rdfax.commands.pages import add_base, add_context, add_syntax, context_of, write_text
-from rdfax.pages import FORMATS, Page
+from rdfax.pages import FORMATS, Page, extract
 
 __all__ = ["add_arguments", "run"]
 
@@ -21,5 +22,8 @@ def add_arguments(parser: argparse.ArgumentParser) -> None:
 
 def run(arguments: argparse.Namespace) -> int:
     """Writes the page's triples, and answers the status."""
+    if arguments.mend:
+        options = {name: getattr(arguments, name) for name in ("syntax", "format", "graph", "charset")}
+        return write_mended(arguments.page, lambda page: extract(page, arguments.base, context=context_of(arguments), mend=True, **options))
     page = Page("extract", arguments.base, syntax=arguments.syntax, format=arguments.format, graph=arguments.graph, context=context_of(arguments))
     return write_text(page, arguments.page)

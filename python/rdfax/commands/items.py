@@ -4,8 +4,9 @@ from __future__ import annotations
 
 import argparse
 
+from rdfax.commands.mend import write_mended
 from rdfax.commands.pages import add_base, add_syntax, write_text
-from rdfax.pages import Page
+from rdfax.pages import Page, items_text
 
 __all__ = ["add_arguments", "run"]
 
@@ -18,4 +19,6 @@ def add_arguments(parser: argparse.ArgumentParser) -> None:
 
 def run(arguments: argparse.Namespace) -> int:
     """Writes the page's items, and answers the status."""
+    if arguments.mend:
+        return write_mended(arguments.page, lambda page: items_text(page, arguments.base, syntax=arguments.syntax, mend=True, charset=arguments.charset))
     return write_text(Page("items", arguments.base, syntax=arguments.syntax), arguments.page)

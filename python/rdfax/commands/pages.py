@@ -32,6 +32,8 @@ def add_context(parser: argparse.ArgumentParser) -> None:
 def add_base(parser: argparse.ArgumentParser) -> None:
     """Adds the option for the page's address, and the page."""
     parser.add_argument("--base", metavar="IRI", required=True, help="the page's address")
+    parser.add_argument("--mend", action="store_true", help="mend the page where it is refused for its form, and say so")
+    parser.add_argument("--charset", metavar="LABEL", help="the charset that came with the page, for mending")
     parser.add_argument("page", metavar="PAGE", help="the page's file, or - for standard input")
 
 
