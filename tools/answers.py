@@ -5,7 +5,7 @@ import subprocess
 import sys
 
 HERE = os.path.dirname(os.path.dirname(os.path.abspath(__file__)))
-PROGRAM = os.path.join(HERE, "crates/rdfax/out/rdfax")
+PROGRAM = os.path.join(HERE, "built/rdfax")
 
 
 class Answer:
