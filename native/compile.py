@@ -6,6 +6,7 @@
 the kit's own module for the second, and the libraries of the first. The crate itself is proved again as it is compiled.
 """
 
+import importlib
 import os
 import sys
 
@@ -13,11 +14,9 @@ import sys
 def main() -> int:
     kit, repository = sys.argv[1:]
     sys.path.insert(0, os.path.join(kit, "bin"))
-    import rtlib
-
-    crate = rtlib.Crate(os.getcwd(), repository, {})
+    crate = importlib.import_module("rtlib").Crate(os.getcwd(), repository, {})
     os.makedirs("out", exist_ok=True)
-    return crate.compile([], f"out/lib{crate.name}.a")
+    return int(crate.compile([], f"out/lib{crate.name}.a"))
 
 
 if __name__ == "__main__":

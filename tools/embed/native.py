@@ -75,8 +75,8 @@ def compare(what: str, stream: bytes, wanted: list[rows.Wanted]) -> bool:
 def rows_hold(native: Native, wanted: list[rows.Wanted]) -> bool:
     path = rows.write_list(native.folder, "all.list", [each.job for each in wanted])
     right = compare("C", output([native.make("pages", example("pages.c")), path]), wanted)
-    quads = sum(each.job.format == "quads" for each in wanted)
-    print(f"C: {'all as the program' if right else 'wrong'}; {quads} of these jobs told quads, {'as rdflib reads the text' if terms.rdflib else 'WITHOUT rdflib, which is not there'}")
+    quads, read = sum(each.job.format == "quads" for each in wanted), "as rdflib reads the text" if terms.rdflib else "without rdflib, which isn't there"
+    print(f"C: {'all as the program' if right else 'WRONG'}; {quads} of the jobs told quads, {read}")
     return right
 
 
@@ -142,6 +142,6 @@ def memory_holds(native: Native, wanted: list[rows.Wanted]) -> bool:
         program = native.make("refused", example("pages.c"), test("refusing_heap.c"), kind=kind)
         counts[kind] = [refuse_each(program, native.folder, job) for job in firsts.values()]
     right = None not in counts["a"] and counts["a"] == counts["so"] and all(counts["a"])
-    total = sum(count or 0 for kind in counts.values() for count in kind)
-    print(f"memory: {total} requests of {len(firsts)} jobs refused, one at a time and with both libraries: {'status 5 each, or the answer that was asked for' if right else 'WRONG'}")
+    total, told = sum(count or 0 for kind in counts.values() for count in kind), "status 5 each, or the answer that was asked for"
+    print(f"memory: {total} requests of {len(firsts)} jobs refused, one at a time, with both libraries: {told if right else 'WRONG'}")
     return right

@@ -6,6 +6,7 @@ import contextlib
 import io
 import os
 import shutil
+from typing import Callable
 
 from answers import HERE
 from embed import header, native, rows
@@ -33,7 +34,11 @@ def catches(edit: str, folder: str, libraries: str, wanted: list[rows.Wanted]) -
     shutil.copytree(os.path.join(HERE, "include"), os.path.join(room, "include"))
     plant(edit, room)
     made = native.Native(room, os.path.join(room, "include"), libraries)
-    tests = {"kinds": lambda: header.kinds_hold(room), "rows": lambda: native.rows_hold(made, wanted), "calls": lambda: native.calls_hold(made)}
+    tests: dict[str, Callable[[], bool]] = {
+        "kinds": lambda: header.kinds_hold(room),
+        "rows": lambda: native.rows_hold(made, wanted),
+        "calls": lambda: native.calls_hold(made),
+    }
     with contextlib.redirect_stdout(io.StringIO()):
         return [name for name, test in tests.items() if not test()]
 

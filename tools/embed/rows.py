@@ -68,8 +68,9 @@ def job_of(row: dict[str, Any], folder: str) -> Job | None:
     options = {name[2:]: value for name, value in given.items()}
     job = Job(row["name"], folder, task, rest[-1], **options)
     files = [job.page] + [job.context] * (job.context != "-")
-    words = [*options.values(), *files]
-    if job.syntax not in SYNTAXES or job.format not in FORMATS or not set(files) <= set(row["files"]) or any(re.search(r"[\t\n\0]", word) or not word for word in words):
+    if job.syntax not in SYNTAXES or job.format not in FORMATS or not set(files) <= set(row["files"]):
+        return None
+    if any(re.search(r"[\t\n\0]", word) or not word for word in [*options.values(), *files]):
         return None
     os.makedirs(folder, exist_ok=True)
     for name in files:

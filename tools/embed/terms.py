@@ -2,12 +2,13 @@
 
 from __future__ import annotations
 
+import importlib
+import importlib.util
 import json
+from typing import Any
 
-try:
-    import rdflib
-except ImportError:
-    rdflib = None
+# (without a type, which it has only in part)
+rdflib: Any = importlib.import_module("rdflib") if importlib.util.find_spec("rdflib") else None
 
 Term = tuple[str, str, str, str]
 ESCAPES = str.maketrans({'"': '\\"', "\\": "\\\\", "\n": "\\n", "\r": "\\r"})
@@ -40,7 +41,7 @@ def as_read(text: str) -> set[tuple[object, ...]]:
     return {(*(names.get(term, term) for term in quad[:3]), graph_of(quad[3])) for quad in dataset.quads()}
 
 
-def graph_of(context: rdflib.Graph) -> object:
+def graph_of(context: Any) -> object:
     """The name of a graph, which is an IRI here; rdflib gives the default graph a blank node of its own."""
     return context.identifier if isinstance(context.identifier, rdflib.URIRef) else None
 
