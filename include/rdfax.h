@@ -12,9 +12,9 @@
  *         fwrite(room, 1, length, stdout);
  *     rdfax_close(&page);
  *
- * What each call answers is proved: its contract stands above it in crates/rdfax_c/src/exports.rt. The calls without a
- * contract are rdfax_version, rdfax_kind_sentence and the three of memory, which are written in C (native/). A proof holds
- * where the caller keeps the following, which nothing checks.
+ * What each call answers is proved: its contract stands above it in crates/rdfax_c/src/exports.rt. In C (native/), without
+ * a proof, are rdfax_version, rdfax_kind_sentence, the three of memory, and that NULL is told as absent or as empty. The
+ * proofs hold where the caller keeps the following, which nothing checks.
  *
  * Pages. A page is UTF-8: bytes that aren't are its fault (RDFAX_FAULT_NOT_UTF8), and a page in another encoding is converted
  * first. It may come in pieces of any length, which may end within a character. The grammar allows 1,073,741,824 bytes to a
@@ -208,8 +208,8 @@ typedef struct {
 } rdfax_terms;
 
 /* The quads of a page that was finished with RDFAX_QUADS: how many there are (0 of any other page), each once and in order
- * of first appearance; and that of a number, from 0. Where there is none of that number the answer is false, and `*terms`
- * stays. */
+ * of first appearance; and that of a number, from 0. Where there is none of that number, or no memory to tell it, the answer
+ * is false, and `*terms` stays. */
 size_t rdfax_quad_count(rdfax_page *page);
 bool rdfax_quad(rdfax_page *page, size_t number, rdfax_terms *terms);
 
