@@ -10,6 +10,10 @@ built=$here/built
 # The proved program and the proved library, once they are built, and the C library that is linked of the latter.
 program=$built/rdfax
 archive=$built/librdfax_c.a
+
+# The proved program that a passed ./test leaves, and that is set aside while the next one runs.
+tested=$here/crates/rdfax/out/rdfax
+
 version=$(cat "$here/VERSION")
 soname=librdfax.so.0
 shared=librdfax.so.$version
