@@ -104,3 +104,8 @@ fn whole(mut page: Page, bytes: &[u8]) -> Result<Finished, Error> {
     page.feed(bytes)?;
     page.finish()
 }
+
+/// The example of the README is tried, too.
+#[cfg(doctest)]
+#[doc = include_str!("../README.md")]
+struct Readme;
