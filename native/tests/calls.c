@@ -137,6 +137,21 @@ static void a_fault(void) {
     rdfax_close(&page);
 }
 
+/* What HTML refuses and XHTML doesn't. */
+static void syntaxes(void) {
+    static const struct {
+        uint32_t syntax, status;
+    } rows[] = {{RDFAX_HTML, RDFAX_REFUSED}, {RDFAX_XHTML, RDFAX_DONE}};
+    for (size_t i = 0; i < 2; i++) {
+        rdfax_page page = RDFAX_NO_PAGE;
+        rdfax_fault_place fault = {0, 0, 0};
+        CHECK(rdfax_check(rows[i].syntax, NONE, &page) == RDFAX_DONE);
+        CHECK(rdfax_feed(&page, TEXT("<html><p/></html>")) == rows[i].status && rdfax_finish(&page) == rows[i].status);
+        CHECK(!rdfax_fault(&page, &fault) || fault.kind == RDFAX_FAULT_SELF_CLOSED);
+        rdfax_close(&page);
+    }
+}
+
 static bool is(rdfax_bytes bytes, const char *text) {
     return bytes.length == strlen(text) && (bytes.length == 0 || memcmp(bytes.bytes, text, bytes.length) == 0);
 }
@@ -186,6 +201,7 @@ int main(int count, char **words) {
     no_page();
     a_text();
     a_fault();
+    syntaxes();
     quads();
     nodes();
     print_sentences();
