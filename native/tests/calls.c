@@ -1,4 +1,5 @@
-/* Tries each call of the library, and each option that it refuses: ./calls VERSION. Status 0 where all is as it must be. */
+/* Tries each call of the library, and each option that it refuses: ./calls VERSION [long]. Status 0 where all is as it must
+ * be. With the second word a page of more than a gibibyte is handed over, too. */
 #include <rdfax.h>
 #include <stdio.h>
 #include <string.h>
@@ -152,6 +153,21 @@ static void syntaxes(void) {
     }
 }
 
+/* The fault of a page that begins so and goes on with this many pieces of a mebibyte, all spaces. */
+static void too_long(const char *begin, int pieces, rdfax_fault_place wanted) {
+    static char spaces[1 << 20];
+    memset(spaces, ' ', sizeof spaces);
+    rdfax_page page = RDFAX_NO_PAGE;
+    rdfax_fault_place fault = {0, 0, 0};
+    CHECK(rdfax_check(RDFAX_HTML, NONE, &page) == RDFAX_DONE);
+    uint32_t status = rdfax_feed(&page, TEXT(begin));
+    for (int i = 0; i < pieces && status == RDFAX_DONE; i++)
+        status = rdfax_feed(&page, spaces, sizeof spaces);
+    CHECK(status == RDFAX_REFUSED && rdfax_fault(&page, &fault));
+    CHECK(fault.kind == wanted.kind && fault.token == wanted.token && fault.at == wanted.at);
+    rdfax_close(&page);
+}
+
 static bool is(rdfax_bytes bytes, const char *text) {
     return bytes.length == strlen(text) && (bytes.length == 0 || memcmp(bytes.bytes, text, bytes.length) == 0);
 }
@@ -195,13 +211,16 @@ static void print_sentences(void) {
 }
 
 int main(int count, char **words) {
-    CHECK(count == 2 && strcmp(rdfax_version(), words[1]) == 0 && strcmp(RDFAX_VERSION, words[1]) == 0);
+    CHECK(count >= 2 && strcmp(rdfax_version(), words[1]) == 0 && strcmp(RDFAX_VERSION, words[1]) == 0);
     refused_options();
     refused_tasks();
     no_page();
     a_text();
     a_fault();
     syntaxes();
+    too_long("<html><p title=\"", 2, (rdfax_fault_place){RDFAX_FAULT_TAG_TOO_LONG, 6, 6 + (1 << 20)});
+    if (count == 3)
+        too_long("<html>", 1025, (rdfax_fault_place){RDFAX_FAULT_PAGE_TOO_LONG, 1 << 30, 1 << 30});
     quads();
     nodes();
     print_sentences();

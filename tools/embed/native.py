@@ -80,16 +80,16 @@ def rows_hold(native: Native, wanted: list[rows.Wanted]) -> bool:
     return right
 
 
-def calls_hold(native: Native) -> bool:
-    """Whether each call answers as it must, in both libraries, and the sentences of the kinds are the header's."""
+def calls_hold(native: Native, words: dict[str, list[str]]) -> bool:
+    """Whether each call answers as it must, in each library, and the sentences of the kinds are the header's."""
     wanted = "".join(sentence + "\n" for _, _, sentence in header.kinds_of_header())
     right = True
-    for kind in ("a", "so"):
-        done = subprocess.run([native.make("calls", test("calls.c"), kind=kind), header.version()], capture_output=True, text=True, check=False)
+    for kind, more in words.items():
+        done = subprocess.run([native.make("calls", test("calls.c"), kind=kind), header.version(), *more], capture_output=True, text=True, check=False)
         if done.returncode != 0 or done.stdout != wanted:
             print(f"calls: wrong with librdfax.{kind}: {done.stderr or 'the sentences are not those of the header'}")
             right = False
-    print(f"calls: {'each as it must be, and each refused option, in librdfax.a and librdfax.so' if right else 'WRONG'}")
+    print(f"calls: {'each as it must be, and each refused option, in librdfax.a and librdfax.so; a page past a gibibyte is refused' if right else 'WRONG'}")
     return right
 
 
@@ -109,7 +109,7 @@ def valgrind_holds(native: Native, wanted: list[rows.Wanted]) -> bool:
     if not shutil.which("valgrind"):
         print("valgrind: not there")
         return True
-    few = list({each.job.name: each for each in wanted if os.path.getsize(each.job.path(each.job.page)) <= 100_000}.values())
+    few = list({each.job.folder: each for each in wanted if os.path.getsize(each.job.path(each.job.page)) <= 100_000}.values())
     path = rows.write_list(native.folder, "few.list", [each.job for each in few])
     programs = [[os.path.join(native.folder, "pages_a"), path], [os.path.join(native.folder, "calls_a"), header.version()]]
     right = all(subprocess.run([*LEAKS, *words], stdout=subprocess.DEVNULL, check=False).returncode == 0 for words in programs)

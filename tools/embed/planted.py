@@ -37,7 +37,7 @@ def catches(edit: str, folder: str, libraries: str, wanted: list[rows.Wanted]) -
     tests: dict[str, Callable[[], bool]] = {
         "kinds": lambda: header.kinds_hold(room),
         "rows": lambda: native.rows_hold(made, wanted),
-        "calls": lambda: native.calls_hold(made),
+        "calls": lambda: native.calls_hold(made, {"a": []}),
     }
     with contextlib.redirect_stdout(io.StringIO()):
         return [name for name, test in tests.items() if not test()]
