@@ -1,8 +1,7 @@
 """How `rdfax items` grows with pages of several shapes, and how fast it is beside a check and beside extruct.
 
     apt-get install valgrind python3-extruct
-    ./build                          # proves and builds the program, if it isn't there
-    (cd crates/rdfax_c && rt lib)    # and the static library, for the last one
+    ./build                          # proves and builds program and library, if they aren't there
     python3 bench/items.py growth
     python3 bench/items.py peers
     python3 bench/items.py process
