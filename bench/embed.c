@@ -1,6 +1,6 @@
 /* The same page so many times in one process, through the library: embed COUNT PAGE [TASK]
  * TASK is extract, which is meant without it, check, or open, which opens and closes the page and hands nothing over. */
-#include "../include/rdfax.h"
+#include <rdfax.h>
 #include <stdio.h>
 #include <stdlib.h>
 #include <string.h>
@@ -11,17 +11,17 @@ int main(int count, char **words) {
         return 70;
     size_t length = (size_t)ftell(file), most = 8 * length + 4096;
     rewind(file);
-    uint8_t *bytes = malloc(length), *room = malloc(most);
+    char *bytes = malloc(length), *room = malloc(most);
     if (bytes == NULL || room == NULL || fread(bytes, 1, length, file) != length)
         return 70;
     const char *base = "http://localhost/", *task = count > 3 ? words[3] : "extract";
-    rdfax_options options = {RDFAX_HTML, RDFAX_NQUADS, false, false};
+    rdfax_options options = {RDFAX_HTML, RDFAX_NQUADS, 0};
     rdfax_page page = RDFAX_NO_PAGE;
     size_t written = 0;
     for (int left = atoi(words[1]); left > 0; left--) {
         uint32_t status = strcmp(task, "check") == 0
-            ? rdfax_check(RDFAX_HTML, (const uint8_t *)"", 0, false, &page)
-            : rdfax_extract(&options, (const uint8_t *)base, strlen(base), (const uint8_t *)"", 0, (const uint8_t *)"", 0, &page);
+            ? rdfax_check(RDFAX_HTML, NULL, 0, &page)
+            : rdfax_extract(&options, base, strlen(base), NULL, 0, NULL, 0, &page);
         if (strcmp(task, "open") != 0) {
             if (status == RDFAX_DONE)
                 status = rdfax_feed(&page, bytes, length);

@@ -1,8 +1,7 @@
 """How many pages a second come through the library in one process, beside a command a page and beside libraptor2.
 
     apt-get install libraptor2-dev valgrind
-    ./build                          # proves and builds the program, if it isn't there
-    (cd crates/rdfax_c && rt lib)    # and the static library
+    ./build                          # proves and builds program and library, if they aren't there
     python3 bench/embed.py [COUNT]
 
 Of each size of page (bench/page.py) COUNT are extracted as N-Quads, 1,000 without the word: in one process by the library
@@ -23,8 +22,8 @@ import page
 
 HERE = os.path.dirname(os.path.abspath(__file__))
 TOP = os.path.dirname(HERE)
-PROGRAM = os.path.join(TOP, "crates/rdfax/out/rdfax")
-LIBRARY = os.path.join(TOP, "crates/rdfax_c/out/librdfax_c.a")
+PROGRAM = os.path.join(TOP, "built/rdfax")
+LIBRARY = os.path.join(TOP, "built/librdfax.a")
 # how many items make a page of some 2, 20 and 200 kB
 ITEMS = [21, 220, 2_190]
 ROUNDS = 3
@@ -33,8 +32,7 @@ ROUNDS = 3
 def build(folder):
     """The two programs, made in the folder."""
     ours, theirs = os.path.join(folder, "embed"), os.path.join(folder, "embed_raptor")
-    heap = os.path.join(TOP, "examples/embed/heap.c")
-    subprocess.run(["cc", "-O2", "-o", ours, os.path.join(HERE, "embed.c"), heap, LIBRARY], check=True)
+    subprocess.run(["cc", "-O2", "-I", os.path.join(TOP, "include"), "-o", ours, os.path.join(HERE, "embed.c"), LIBRARY], check=True)
     flags = subprocess.run(["pkg-config", "--cflags", "--libs", "raptor2"], stdout=subprocess.PIPE, check=True, text=True).stdout.split()
     subprocess.run(["cc", "-O2", "-o", theirs, os.path.join(HERE, "embed_raptor.c"), *flags], check=True)
     return ours, theirs

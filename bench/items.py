@@ -1,8 +1,7 @@
 """How `rdfax items` grows with pages of several shapes, and how fast it is beside a check and beside extruct.
 
     apt-get install valgrind python3-extruct
-    ./build                          # proves and builds the program, if it isn't there
-    (cd crates/rdfax_c && rt lib)    # and the static library, for the last one
+    ./build                          # proves and builds program and library, if they aren't there
     python3 bench/items.py growth
     python3 bench/items.py peers
     python3 bench/items.py process
@@ -111,12 +110,9 @@ def peers(given, folder):
 
 
 def process(given, folder):
-    shared = os.path.join(folder, "librdfax.so")
-    library = os.path.join(TOP, "crates/rdfax_c/out/librdfax_c.a")
-    heap = os.path.join(TOP, "examples/embed/heap.c")
-    subprocess.run(["cc", "-O2", "-fPIC", "-shared", "-o", shared, heap, "-Wl,--whole-archive", library, "-Wl,--no-whole-archive"], check=True)
+    shared = os.path.join(TOP, "built/librdfax.so")
     page = product_file(folder, 2_000)
-    words = ["/usr/bin/python3", "-c", PROCESS, os.path.join(TOP, "examples/embed"), page, ADDRESS, str(given.rounds)]
+    words = ["/usr/bin/python3", "-c", PROCESS, os.path.join(TOP, "python"), page, ADDRESS, str(given.rounds)]
     run = subprocess.run(words, env={**os.environ, "RDFAX_LIBRARY": shared}, stdout=subprocess.PIPE, check=True)
     own, other = json.loads(run.stdout)
     print(f"2,000 products in one process: rdfax {own:.5f} s, extruct {other:.3f} s, {other / own:.0f} times")

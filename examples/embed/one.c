@@ -1,26 +1,30 @@
 /* Prints the triples of the page on standard input as Turtle: ./one BASE <page.html */
-#include "../../include/rdfax.h"
+#include <rdfax.h>
 #include <stdio.h>
 #include <string.h>
 
-#define BYTES(text) (const uint8_t *)(text), strlen(text)
+/* Says why there is no text. */
+static void tell(rdfax_page *page, uint32_t status) {
+    rdfax_fault_place fault;
+    if (rdfax_fault(page, &fault))
+        fprintf(stderr, "refused at byte %llu: %s\n", (unsigned long long)fault.at, rdfax_kind_sentence(fault.kind));
+    else
+        fprintf(stderr, "status %u\n", (unsigned)status);
+}
 
 int main(int count, char **words) {
-    static uint8_t room[65536];
+    static char room[65536];
+    const char *base = count == 2 ? words[1] : "";
     rdfax_page page = RDFAX_NO_PAGE;
-    rdfax_options options = {.syntax = RDFAX_HTML, .format = RDFAX_TURTLE};
-    uint32_t status = rdfax_extract(&options, BYTES(count == 2 ? words[1] : ""), BYTES(""), BYTES(""), &page);
+    rdfax_options options = {RDFAX_HTML, RDFAX_TURTLE, 0};
+    uint32_t status = rdfax_extract(&options, base, strlen(base), NULL, 0, NULL, 0, &page);
     size_t length;
     while (status == RDFAX_DONE && (length = fread(room, 1, sizeof room, stdin)) != 0)
         status = rdfax_feed(&page, room, length);
     if (status == RDFAX_DONE)
         status = rdfax_finish(&page);
-    rdfax_fault_place fault;
-    if (rdfax_fault(&page, &fault)) {
-        length = rdfax_fault_name(&page, room, sizeof room);
-        fprintf(stderr, "refused: %.*s at byte %llu in token %llu\n", (int)length, room, (unsigned long long)fault.at,
-                (unsigned long long)fault.token);
-    }
+    if (status != RDFAX_DONE)
+        tell(&page, status);
     for (size_t from = 0; (length = rdfax_text(&page, from, room, sizeof room)) != 0; from += length)
         fwrite(room, 1, length, stdout);
     rdfax_close(&page);

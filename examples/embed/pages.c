@@ -1,19 +1,20 @@
 /* Does the jobs of a list, two pages in turn: ./pages LIST
  *
- * Each line of the list is a job of eight words with tabs between them: extract, items or check; the numbers of a syntax
- * and of a format; the base; the name of the graph; the context file; the page's file; and how many bytes a piece has. `-`
- * stands for none. Of each job a line is written, with its status, the length of its text and, where it was refused, the
- * fault; and behind it the text. */
-#include "../../include/rdfax.h"
-#include <stdio.h>
+ * Each line of the list is a job of nine words with tabs between them: extract, items or check; html or xhtml; nquads,
+ * turtle, nested, jsonld or quads; the base; the name of the graph; the context file; the number of the first node; the
+ * page's file; and how many bytes a piece has. `-` stands for none. Of each job a line is written, with its status, the
+ * length of its text and how many blank nodes it has or, where it was refused, the number of the fault's kind and the fault;
+ * and behind it the text. Quads are written as terms.h tells. */
+#define _POSIX_C_SOURCE 200809L
+#include "terms.h"
 #include <stdlib.h>
 #include <string.h>
 
-enum { WORDS = 8, ROOM = 1 << 16 };
-enum { TASK, SYNTAX, FORMAT, BASE, GRAPH, CONTEXT, PAGE, PIECE };
+enum { WORDS = 9, ROOM = 1 << 16 };
+enum { TASK, SYNTAX, FORMAT, BASE, GRAPH, CONTEXT, NODE, PAGE, PIECE };
 
 typedef struct {
-    uint8_t *at;
+    char *at;
     size_t length;
 } bytes;
 
@@ -23,7 +24,7 @@ typedef struct {
     bytes file, context;
     size_t from;
     uint32_t status;
-    bool opened;
+    bool opened, lacks_memory;
     rdfax_page page;
 } job;
 
@@ -49,34 +50,61 @@ static bool given(const char *word) {
     return strcmp(word, "-") != 0;
 }
 
-static bytes of_word(const char *word) {
-    return given(word) ? (bytes){(uint8_t *)word, strlen(word)} : (bytes){(uint8_t *)"", 0};
+static bytes of_word(char *word) {
+    return given(word) ? (bytes){word, strlen(word)} : (bytes){NULL, 0};
+}
+
+static uint32_t syntax_of(const char *word) {
+    return strcmp(word, "xhtml") == 0 ? RDFAX_XHTML : RDFAX_HTML;
+}
+
+static uint32_t format_of(const char *word) {
+    static const struct {
+        const char *name;
+        uint32_t number;
+    } formats[] = {{"nquads", RDFAX_NQUADS}, {"turtle", RDFAX_TURTLE}, {"nested", RDFAX_NESTED}, {"jsonld", RDFAX_JSONLD}, {"quads", RDFAX_QUADS}};
+    for (size_t i = 0; i < sizeof formats / sizeof *formats; i++)
+        if (strcmp(word, formats[i].name) == 0)
+            return formats[i].number;
+    fail(word);
+    return 0;
+}
+
+/* Cuts a line at its tabs. */
+static void cut(char *line, char **words) {
+    char *rest = line;
+    for (int i = 0; i < WORDS; i++) {
+        words[i] = rest;
+        rest += strcspn(rest, "\t\n");
+        if (*rest == 0 && i + 1 < WORDS)
+            fail("a line has too few words");
+        *rest++ = 0;
+    }
+}
+
+static uint32_t open_page(job *job) {
+    char **words = job->words;
+    bytes base = of_word(words[BASE]), graph = of_word(words[GRAPH]), context = job->context;
+    uint32_t syntax = syntax_of(words[SYNTAX]);
+    if (strcmp(words[TASK], "items") == 0)
+        return rdfax_items(syntax, base.at, base.length, &job->page);
+    if (strcmp(words[TASK], "check") == 0)
+        return rdfax_check(syntax, context.at, context.length, &job->page);
+    rdfax_options options = {syntax, format_of(words[FORMAT]), strtoull(words[NODE], NULL, 10)};
+    return rdfax_extract(&options, base.at, base.length, graph.at, graph.length, context.at, context.length, &job->page);
 }
 
 /* Reads the next job of the list and opens its page. */
 static bool begin(job *job, FILE *list) {
     if (fgets(job->line, sizeof job->line, list) == NULL)
         return false;
-    char *rest = job->line;
-    rest[strcspn(rest, "\n")] = 0;
-    for (int i = 0; i < WORDS; i++)
-        if ((job->words[i] = strsep(&rest, "\t")) == NULL)
-            fail("a line has too few words");
-    char **words = job->words;
-    bytes base = of_word(words[BASE]), graph = of_word(words[GRAPH]);
+    cut(job->line, job->words);
     job->page = (rdfax_page)RDFAX_NO_PAGE;
-    job->file = read_file(words[PAGE]);
-    job->context = given(words[CONTEXT]) ? read_file(words[CONTEXT]) : (bytes){calloc(1, 1), 0};
+    job->file = read_file(job->words[PAGE]);
+    job->context = given(job->words[CONTEXT]) ? read_file(job->words[CONTEXT]) : (bytes){NULL, 0};
     job->from = 0;
-    uint32_t syntax = (uint32_t)atoi(words[SYNTAX]);
-    if (strcmp(words[TASK], "items") == 0)
-        job->status = rdfax_items(syntax, base.at, base.length, &job->page);
-    else if (strcmp(words[TASK], "check") == 0)
-        job->status = rdfax_check(syntax, job->context.at, job->context.length, given(words[CONTEXT]), &job->page);
-    else
-        job->status = rdfax_extract(
-            &(rdfax_options){syntax, (uint32_t)atoi(words[FORMAT]), given(words[GRAPH]), given(words[CONTEXT])}, base.at,
-            base.length, graph.at, graph.length, job->context.at, job->context.length, &job->page);
+    job->lacks_memory = false;
+    job->status = open_page(job);
     job->opened = job->status == RDFAX_DONE;
     return true;
 }
@@ -85,7 +113,7 @@ static bool begin(job *job, FILE *list) {
 static bool goes_on(job *job) {
     if (job->status != RDFAX_DONE)
         return false;
-    size_t left = job->file.length - job->from, size = (size_t)atoi(job->words[PIECE]);
+    size_t left = job->file.length - job->from, size = strtoul(job->words[PIECE], NULL, 10);
     if (left == 0) {
         job->status = rdfax_finish(&job->page);
         return false;
@@ -97,28 +125,71 @@ static bool goes_on(job *job) {
     return true;
 }
 
-/* Writes what came of a job, and lets it go. What was answered has to come again. */
-static void end(job *job) {
-    static uint8_t room[1021];
-    rdfax_page *page = &job->page;
-    rdfax_fault_place fault;
-    size_t length = rdfax_text_length(page);
-    printf("%u %zu", job->status, length);
-    if (rdfax_fault(page, &fault)) {
-        size_t count = rdfax_fault_name(page, room, sizeof room);
-        printf(" %.*s at byte %llu in token %llu", (int)count, room, (unsigned long long)fault.at,
-               (unsigned long long)fault.token);
+/* A stream to a text, which the caller frees. */
+static FILE *stream_to(bytes *text) {
+    *text = (bytes){NULL, 0};
+    FILE *out = open_memstream(&text->at, &text->length);
+    if (out == NULL)
+        fail("open_memstream");
+    return out;
+}
+
+/* Writes the quads of a page; where one can't be told, there is no memory. */
+static bytes written_quads(job *job) {
+    bytes text;
+    FILE *out = stream_to(&text);
+    bool all = print_quads(out, &job->page);
+    fclose(out);
+    if (!all) {
+        job->lacks_memory = true;
+        text.length = 0;
     }
-    printf("\n");
-    size_t from = 0;
-    for (size_t count; (count = rdfax_text(page, from, room, sizeof room)) != 0; from += count)
-        fwrite(room, 1, count, stdout);
-    if (from != length || (job->opened && (rdfax_finish(page) != job->status || rdfax_status(page) != job->status))
-        || (job->opened && rdfax_feed(page, room, 1) != (job->status == RDFAX_DONE ? RDFAX_USAGE : job->status)))
+    return text;
+}
+
+/* The text of a page, in small pieces. */
+static bytes copied_text(rdfax_page *page) {
+    char room[1021];
+    bytes text;
+    FILE *out = stream_to(&text);
+    for (size_t from = 0, count; (count = rdfax_text(page, from, room, sizeof room)) != 0; from += count)
+        fwrite(room, 1, count, out);
+    fclose(out);
+    return text;
+}
+
+static void tell_fault(rdfax_page *page) {
+    char name[64];
+    rdfax_fault_place fault;
+    size_t count = rdfax_fault_name(page, NULL, 0);
+    if (rdfax_fault(page, &fault) && count <= sizeof name && rdfax_fault_name(page, name, sizeof name) == count)
+        printf(" %u %.*s at byte %llu in token %llu", (unsigned)fault.kind, (int)count, name, (unsigned long long)fault.at, (unsigned long long)fault.token);
+}
+
+/* What was answered has to come again. */
+static void see_that_it_stays(job *job) {
+    rdfax_page *page = &job->page;
+    uint32_t fed = job->status == RDFAX_DONE ? RDFAX_USAGE : job->status;
+    if (job->opened && (rdfax_finish(page) != job->status || rdfax_status(page) != job->status || rdfax_feed(page, "x", 1) != fed))
         fail("an answer changed");
+}
+
+/* Writes what came of a job, and lets it go. */
+static void end(job *job) {
+    rdfax_page *page = &job->page;
+    bytes text = rdfax_quad_count(page) != 0 ? written_quads(job) : copied_text(page);
+    uint32_t status = job->lacks_memory ? RDFAX_NO_MEMORY : job->status;
+    printf("%u %zu", (unsigned)status, text.length);
+    if (status == RDFAX_DONE)
+        printf(" %llu", (unsigned long long)rdfax_nodes(page));
+    tell_fault(page);
+    printf("\n");
+    fwrite(text.at, 1, text.length, stdout);
+    see_that_it_stays(job);
     rdfax_close(page);
     if (rdfax_status(page) != RDFAX_USAGE)
         fail("a page is open that was closed");
+    free(text.at);
     free(job->file.at);
     free(job->context.at);
 }
