@@ -1,28 +1,32 @@
 -- What the calls answer, and what is kept.
-use Rattle.std.specs.Prelude.{◌≡◌, ◌⊎◌, ℕ, Bool, true, false, List, [], Option, Some, None, option_map, option_and_then, Result, Ok, Err}
-use Rattle.rx_terms.specs.Text.{Chars}
+use Rattle.std.specs.Prelude.{◌≡◌, ◌⊎◌, ℕ, Bool, true, false, List, [], ◌++◌, length, min, take, drop, Option, Some, None, option_map, option_and_then, Result, Ok, Err}
 use Rattle.rx_grammar.specs.declared.faults.Fault.{Fault}
 use Rattle.rx_rdfa.specs.Names.{Context}
-use Rattle.rx_job.specs.Words.{Task}
+use Rattle.rx_nquads.specs.Quads.{Quad}
+use Rattle.rx_quads.specs.Listed.{ShowsOne}
+use Rattle.rx_quads.specs.declared.terms.ShownQuad.{ShownQuad}
 use Rattle.rx_many.specs.Writing.{kind_name}
 use Rattle.rx_session.specs.Kinds.{kind_number}
 use Rattle.rx_session.specs.Requests.{Opens, extraction_in}
-use Rattle.rx_session.specs.Sessions.{IsFed, FeedGives, FinishGives, FeedAgain, FinishAgain, text_in, fault_in}
+use Rattle.rx_session.specs.Sessions.{IsFed, FeedGives, FinishGives, FeedAgain, FinishAgain, KeepsQuads, text_in, nodes_in, quads_in, shown_in, fault_in}
+use Rattle.rx_session.specs.Wants.{Want}
 use Rattle.rx_session.specs.declared.errors.OpenError.{OpenError}
 use Rattle.rx_session.specs.declared.errors.SessionError.{SessionError}
 use Rattle.rx_session.specs.declared.sessions.State.{State}
 use Rattle.rdfax_c.specs.Statuses.{answer_code, open_code, state_code}
+use Rattle.rdfax_c.specs.Lent.{quad_lent}
 use Rattle.rdfax_c.specs.declared.options.Options.{Options}
 use Rattle.rdfax_c.specs.declared.options.PageFault.{PageFault}
+use Rattle.rdfax_c.specs.declared.terms.Terms.{Terms}
 
 -- bytes, where they are given
 abbrev pub given : Bool → List ℕ → Option (List ℕ)
 given true bytes = Some bytes
 given false bytes = None
 
--- what the options ask for of a page of this address
-abbrev pub extraction_by : Options → List ℕ → List ℕ → Option Task
-extraction_by options address graph = extraction_in options.syntax options.format address (given options.has_graph graph)
+-- what the options ask for of a page of this address, in the graph of this name
+abbrev pub extraction_by : Options → List ℕ → Option (List ℕ) → Option Want
+extraction_by options address graph = extraction_in options.syntax options.format options.first_node address graph
 
 abbrev pub fault_seen : Fault → PageFault
 fault_seen fault = record { kind = kind_number fault.kind; token = fault.token; at = fault.at }
@@ -37,7 +41,7 @@ opened_code (Ok session) = 0
 opened_code (Err why) = open_code why
 
 -- A session was opened for what is asked for, and the page keeps it; or the page keeps none, and the number says why.
-pub record OpensPage (asked : Option Task) (file : Option (List ℕ)) (result : ℕ) (new : Option State) : Type 0 where
+pub record OpensPage (asked : Option Want) (file : Option (List ℕ)) (result : ℕ) (new : Option State) : Type 0 where
   pub answer : Result State OpenError
   pub opens : Opens asked file answer
   pub code : result ≡ opened_code answer
@@ -53,7 +57,7 @@ pub record FeedsSession (piece : List ℕ) (old : State) (result : ℕ) (new : O
   pub now : State
   pub kept : new ≡ Some now
   pub code : result ≡ answer_code answer
-  pub gives : (task : Task) (context : Context) (bytes : List ℕ) → IsFed task context bytes old → FeedGives task context bytes piece answer now
+  pub gives : (want : Want) (context : Context) (bytes : List ℕ) → IsFed want context bytes old → FeedGives want context bytes piece answer now
   pub again : FeedAgain old answer now
 
 pub record FinishesSession (old : State) (result : ℕ) (new : Option State) : Type 0 where
@@ -61,7 +65,7 @@ pub record FinishesSession (old : State) (result : ℕ) (new : Option State) : T
   pub now : State
   pub kept : new ≡ Some now
   pub code : result ≡ answer_code answer
-  pub gives : (task : Task) (context : Context) (bytes : List ℕ) → IsFed task context bytes old → FinishGives task context bytes answer now
+  pub gives : (want : Want) (context : Context) (bytes : List ℕ) → IsFed want context bytes old → FinishGives want context bytes answer now
   pub again : FinishAgain old answer now
 
 -- a page of which no session is open is left so
@@ -81,6 +85,14 @@ abbrev pub page_text : Option State → List ℕ
 page_text None = []
 page_text (Some session) = text_in session
 
+abbrev pub page_nodes : Option State → ℕ
+page_nodes None = 0
+page_nodes (Some session) = nodes_in session
+
+abbrev pub page_quads : Option State → List Quad
+page_quads None = []
+page_quads (Some session) = quads_in session
+
 abbrev pub page_fault : Option State → Option Fault
 page_fault page = option_and_then fault_in page
 
@@ -89,7 +101,33 @@ abbrev pub fault_name : Option Fault → List ℕ
 fault_name None = []
 fault_name (Some fault) = kind_name fault.kind
 
+-- room into which a text was copied as far as it goes
+abbrev pub filled : List ℕ → List ℕ → List ℕ
+filled text room = take (min (length room) (length text)) text ++ drop (min (length room) (length text)) room
+
 -- the fault was told, or there is none and nothing was
 abbrev pub TellsFault : Option Fault → Bool → PageFault → PageFault → Type 0
 TellsFault None result old new = (result ≡ false) × (new ≡ old)
 TellsFault (Some fault) result old new = (result ≡ true) × (new ≡ fault_seen fault)
+
+-- The quad of this number is lent: the page keeps its terms as bytes, and these are told by their places and lengths.
+pub record LendsQuad (old : State) (number : ℕ) (new : State) (out : Terms) : Type 0 where
+  pub quad : ShownQuad
+  pub kept : shown_in new ≡ Some quad
+  pub shown : ShowsOne (quads_in old) number quad
+  pub told : out ≡ quad_lent quad
+
+abbrev pub LendsWhere : State → ℕ → Bool → State → Terms → Terms → Type 0
+LendsWhere old number true now before after = LendsQuad old number now after
+LendsWhere old number false now before after = after ≡ before
+
+-- the session lends a quad or none, and nothing is changed but which quad is shown
+pub record TellsSession (old : State) (number : ℕ) (result : Bool) (new : Option State) (before after : Terms) : Type 0 where
+  pub now : State
+  pub kept : new ≡ Some now
+  pub keeps : KeepsQuads old now
+  pub lends : LendsWhere old number result now before after
+
+abbrev pub TellsQuad : Option State → ℕ → Bool → Option State → Terms → Terms → Type 0
+TellsQuad None number result new before after = (result ≡ false) × (new ≡ None) × (after ≡ before)
+TellsQuad (Some old) number result new before after = TellsSession old number result new before after

@@ -22,6 +22,6 @@ open_code open_error.NoMemory = 5
 -- the page is being read; its text is there; it has a fault; there was no memory
 abbrev pub state_code : State → ℕ
 state_code (state.Reads work) = 8
-state_code (state.Gave text) = 0
+state_code (state.Gave given) = 0
 state_code (state.Refused fault) = 1
 state_code state.Spent = 5

@@ -1,11 +1,14 @@
-//! The calls.
+//! The calls. Those whose names end with `_given` take no null pointer, and are told whether a name or a file is given: the
+//! calls of the header stand above them.
 ghost use Rattle.std.specs.Prelude.{◌≡◌, ◌++◌, None, length, min, take, drop};
 ghost use Rattle.rx_session.specs.Requests.{items_in, check_in};
-ghost use Rattle.rdfax_c.specs.Calls.{given, extraction_by, KeepsPage, OpensPage, FeedsPage, FinishesPage, page_code, page_text, page_fault, fault_name, TellsFault};
+ghost use Rattle.rx_session.specs.Sessions.{KeepsQuads};
+ghost use Rattle.rdfax_c.specs.Calls.{given, extraction_by, KeepsPage, OpensPage, FeedsPage, FinishesPage, page_code, page_text, page_nodes, page_quads, page_fault, fault_name, filled, TellsFault, TellsQuad, LendsWhere};
 
 use crate::options::{Options, PageFault, fault_seen, given};
 use crate::pages::Page;
 use crate::statuses::{DONE, NO_MEMORY, USAGE, answer_code, open_code, state_code};
+use crate::terms::{Terms, quad_lent};
 use rx_session::{
     OpenError, Session, copy_front, name_of, open_check, open_extraction, open_items,
 };
@@ -13,30 +16,38 @@ use std::alloc::Global;
 
 /// Opens a page of this address whose triples are wanted. What the page had open before is closed.
 #[unsafe(no_mangle)]
-pub extern "C" fn rdfax_extract(
+pub extern "C" fn rdfax_extract_given(
     alloc: Global,
     options: &Options,
     address: &[u8],
     graph: &[u8],
+    has_graph: bool,
     context: &[u8],
+    has_context: bool,
     page: &mut Page,
 ) -> u32
-    ensures { OpensPage (extraction_by options.now address.now graph.now) (given options.now.has_context context.now) result page.new.handle.session }
+    ensures { OpensPage (extraction_by options.now address.now (given has_graph graph.now)) (given has_context context.now) result page.new.handle.session }
 {
     let opened = open_extraction(
         alloc,
         options.syntax,
         options.format,
+        options.first_node,
         address,
-        given(options.has_graph, graph),
-        given(options.has_context, context),
+        given(has_graph, graph),
+        given(has_context, context),
     );
     keep(alloc, page, opened)
 }
 
 /// Opens a page of this address whose items are wanted. What the page had open before is closed.
 #[unsafe(no_mangle)]
-pub extern "C" fn rdfax_items(alloc: Global, syntax: u32, address: &[u8], page: &mut Page) -> u32
+pub extern "C" fn rdfax_items_given(
+    alloc: Global,
+    syntax: u32,
+    address: &[u8],
+    page: &mut Page,
+) -> u32
     ensures { OpensPage (items_in syntax address.now) None result page.new.handle.session }
 {
     let opened = open_items(alloc, syntax, address);
@@ -45,7 +56,7 @@ pub extern "C" fn rdfax_items(alloc: Global, syntax: u32, address: &[u8], page: 
 
 /// Opens a page whose faults are wanted. What the page had open before is closed.
 #[unsafe(no_mangle)]
-pub extern "C" fn rdfax_check(
+pub extern "C" fn rdfax_check_given(
     alloc: Global,
     syntax: u32,
     context: &[u8],
@@ -82,7 +93,7 @@ fn keep(alloc: Global, page: &mut Page, opened: Result<Session, OpenError>) -> u
 
 /// Hands a piece of the page over.
 #[unsafe(no_mangle)]
-pub extern "C" fn rdfax_feed(alloc: Global, page: &mut Page, piece: &[u8]) -> u32
+pub extern "C" fn rdfax_feed_given(alloc: Global, page: &mut Page, piece: &[u8]) -> u32
     ensures { FeedsPage piece.now page.old.handle.session result page.new.handle.session }
 {
     let Some(mut session) = page.take(alloc) else {
@@ -93,7 +104,7 @@ pub extern "C" fn rdfax_feed(alloc: Global, page: &mut Page, piece: &[u8]) -> u3
     code
 }
 
-/// The page's end: its text is made.
+/// The page's end: its text is made, or its quads are there.
 #[unsafe(no_mangle)]
 pub extern "C" fn rdfax_finish(alloc: Global, page: &mut Page) -> u32
     ensures { FinishesPage page.old.handle.session result page.new.handle.session }
@@ -136,7 +147,12 @@ pub extern "C" fn rdfax_text_length(alloc: Global, page: &mut Page) -> usize
 
 /// Copies the page's text from this byte on, as far as there is room, and answers how many bytes that are.
 #[unsafe(no_mangle)]
-pub extern "C" fn rdfax_text(alloc: Global, page: &mut Page, from: usize, out: &mut [u8]) -> usize
+pub extern "C" fn rdfax_text_given(
+    alloc: Global,
+    page: &mut Page,
+    from: usize,
+    out: &mut [u8],
+) -> usize
     ensures count { result ≡ min (length out.old) (length (drop from (page_text page.old.handle.session))) }
     ensures copied { out.new ≡ take result (drop from (page_text page.old.handle.session)) ++ drop result out.old }
     ensures kept { page.new.handle.session ≡ page.old.handle.session }
@@ -169,11 +185,11 @@ pub extern "C" fn rdfax_fault(alloc: Global, page: &mut Page, out: &mut PageFaul
     }
 }
 
-/// Copies the name of the kind of the page's fault, as far as there is room, and answers how many bytes that are.
+/// Copies the name of the kind of the page's fault, as far as there is room, and answers how many bytes the name has.
 #[unsafe(no_mangle)]
-pub extern "C" fn rdfax_fault_name(alloc: Global, page: &mut Page, out: &mut [u8]) -> usize
-    ensures count { result ≡ min (length out.old) (length (fault_name (page_fault page.old.handle.session))) }
-    ensures copied { out.new ≡ take result (fault_name (page_fault page.old.handle.session)) ++ drop result out.old }
+pub extern "C" fn rdfax_fault_name_given(alloc: Global, page: &mut Page, out: &mut [u8]) -> usize
+    ensures count { result ≡ length (fault_name (page_fault page.old.handle.session)) }
+    ensures copied { out.new ≡ filled (fault_name (page_fault page.old.handle.session)) out.old }
     ensures kept { page.new.handle.session ≡ page.old.handle.session }
 {
     let Some(session) = page.take(alloc) else {
@@ -182,9 +198,78 @@ pub extern "C" fn rdfax_fault_name(alloc: Global, page: &mut Page, out: &mut [u8
     let fault = session.fault();
     page.put(session);
     match fault {
-        Some(fault) => copy_front(name_of(fault.kind).as_bytes(), out),
+        Some(fault) => copy_name(name_of(fault.kind).as_bytes(), out),
         None => 0,
     }
+}
+
+/// Copies the name as far as there is room, and answers how many bytes it has.
+fn copy_name(name: &[u8], out: &mut [u8]) -> usize
+    ensures count { result ≡ length name.now }
+    ensures copied { out.new ≡ filled name.now out.old }
+{
+    let _copied = copy_front(name, out);
+    name.len()
+}
+
+/// How many blank nodes the page's graph has, once an extraction was finished; 0 otherwise.
+#[unsafe(no_mangle)]
+pub extern "C" fn rdfax_nodes(alloc: Global, page: &mut Page) -> u64
+    ensures count { result ≡ page_nodes page.old.handle.session }
+    ensures kept { page.new.handle.session ≡ page.old.handle.session }
+{
+    let Some(session) = page.take(alloc) else {
+        return 0;
+    };
+    let count = session.nodes();
+    page.put(session);
+    count
+}
+
+/// How many quads the page has, once an extraction quad by quad was finished; 0 otherwise.
+#[unsafe(no_mangle)]
+pub extern "C" fn rdfax_quad_count(alloc: Global, page: &mut Page) -> usize
+    ensures count { result ≡ length (page_quads page.old.handle.session) }
+    ensures kept { page.new.handle.session ≡ page.old.handle.session }
+{
+    let Some(session) = page.take(alloc) else {
+        return 0;
+    };
+    let count = session.quad_count();
+    page.put(session);
+    count
+}
+
+/// Lends the terms of the quad of this number, from 0, until the next call with the page, and answers whether there is one.
+/// Nothing is told where there is none, or no memory for it.
+#[unsafe(no_mangle)]
+pub extern "C" fn rdfax_quad(alloc: Global, page: &mut Page, number: usize, out: &mut Terms) -> bool
+    ensures { TellsQuad page.old.handle.session number result page.new.handle.session out.old out.new }
+{
+    let Some(mut session) = page.take(alloc) else {
+        return false;
+    };
+    let is_lent = lend_quad(alloc, session.as_mut(), number, out);
+    page.put(session);
+    is_lent
+}
+
+/// Shows the quad of this number, and lends its terms.
+fn lend_quad(alloc: Global, session: &mut Session, number: usize, out: &mut Terms) -> bool
+    ensures keeps { KeepsQuads session.old session.new }
+    ensures lends { LendsWhere session.old number result session.new out.old out.new }
+{
+    let Ok(is_there) = session.show(alloc, number) else {
+        return false;
+    };
+    if !is_there {
+        return false;
+    }
+    let Some(quad) = session.shown() else {
+        return false;
+    };
+    *out = quad_lent(quad);
+    true
 }
 
 /// Closes the page. It may be opened again.

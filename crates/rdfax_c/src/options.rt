@@ -11,12 +11,10 @@ use rx_session::{Fault, kind_number};
 pub struct Options {
     /// 0 is HTML, 1 XHTML.
     pub syntax: u32,
-    /// 0 is N-Quads, 1 Turtle, 2 nested Turtle, 3 JSON-LD.
+    /// 0 is N-Quads, 1 Turtle, 2 nested Turtle, 3 JSON-LD, 4 quad by quad.
     pub format: u32,
-    /// Whether the graph has a name.
-    pub has_graph: bool,
-    /// Whether there is a context file.
-    pub has_context: bool,
+    /// The number of the first blank node.
+    pub first_node: u64,
 }
 
 /// A fault of a page.

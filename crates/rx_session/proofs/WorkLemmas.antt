@@ -1,16 +1,12 @@
 -- A page that is being read, and what its calls answer.
 use Rattle.std.proofs.Common.{◌≡◌, ◌∙◌, ℕ, List, ◌++◌, refl, sym, ap, subst, inl, inr, None, Result, Ok, Err, append-nil}
-use Rattle.std.specs.Prelude.{nat_eq, Vec}
+use Rattle.std.specs.Prelude.{Bool, Vec}
 use Rattle.std.specs.declared.alloc.Global.{Global}
 use Rattle.rx_terms.specs.Text.{Chars}
-use Rattle.rx_terms.specs.declared.triples.Triple.{Triple as CodeTriple}
 use Rattle.rx_chars.specs.declared.syntax.Syntax.{Syntax}
 use Rattle.rx_grammar.specs.declared.faults.Fault.{Fault}
 use Rattle.rx_grammar.specs.declared.limits.Limits.{Limits}
 use Rattle.rx_grammar.specs.Trees.{Tree}
-use Rattle.rx_model.specs.Copied.{copied}
-use Rattle.rx_model.specs.Numbered.{numbered}
-use Rattle.rx_model.specs.Seen.{triples_seen}
 use Rattle.rx_rdfa.specs.Names.{Context}
 use Rattle.rx_grammar.specs.declared.stops.Stop.{Stop}
 use Rattle.rx_grammar.specs.declared.stops.Stop.TheVariants as stop
@@ -31,49 +27,49 @@ use Rattle.rx_job.specs.Words.{Task, Extraction, Itemization, extracts, itemizes
 use Rattle.rx_command.specs.Headline.{IsTheText, IsTheFault}
 use Rattle.rx_command.specs.JsonTexts.{AreItems, JsonTextGives}
 use Rattle.rx_command.specs.Outcome.{HasItems, IsRight, ok_line}
-use Rattle.rx_command.specs.Reading.{standard, setting_for, item_setting_for, for_triples, for_items, for_faults, Aim, way_for, HasFirst, GivesList}
-use Rattle.rx_command.specs.Written.{form_in, IsFormText, FormDenotes, text_of, Denoted}
-use Rattle.rx_command.specs.declared.forms.Form.{Form}
-use Rattle.rx_command.specs.declared.outcomes.Outcome.{Outcome}
-use Rattle.rx_command.proofs.InputLemmas.{text_made}
+use Rattle.rx_command.specs.Reading.{standard, setting_for, item_setting_for, for_triples, for_items, for_faults, Aim, way_for, HasFirst}
 use Rattle.rx_command.proofs.OutcomeLemmas.{the_fault}
 use Rattle.rx_command.proofs.FaultLemmas.{no_meaning_in}
 use Rattle.rx_command.proofs.ReadLemmas.{IsRead, refuses_so}
 use Rattle.rx_command.proofs.TextLemmas.{the_text}
-use Rattle.rx_session.specs.Works.{IsAt, PieceGives, EndGives}
+use Rattle.rx_session.specs.Wants.{plan_for}
+use Rattle.rx_session.specs.Works.{Reads, Takes, Ends}
+use Rattle.rx_session.specs.declared.given.Given.{Given}
+use Rattle.rx_session.specs.declared.given.Given.TheVariants as given
+use Rattle.rx_session.specs.declared.outputs.Plan.{Plan}
 use Rattle.rx_session.specs.declared.works.Work.TheVariants as work
 
 -- ---- a piece
 
-pub feeds_walk : (task : Task) (context : Context) (old new : walks.Walked) (form : Form) (bytes piece : List ℕ) (r : Result (Unit {0}) Stop)
+pub feeds_walk : (task : Task) (first : ℕ) (singly : Bool) (context : Context) (old new : walks.Walked) (plan : Plan) (from : ℕ) (bytes piece : List ℕ) (r : Result (Unit {0}) Stop)
     → ((setting : Setting) (address : Chars) (bytes : List ℕ) → walks.WalkStands setting address old bytes → walks.FeedGives setting address bytes piece r new)
-    → IsAt task context (work.Extracts old form) bytes → PieceGives task context bytes piece r (work.Extracts new form)
-feeds_walk (extracts e) context old new form bytes piece (Ok done) gives at = (gives (setting_for e.syntax context) e.address bytes at.0, at.1)
-feeds_walk (extracts e) context old new form bytes piece (Err (stop.Fault fault)) gives at =
+    → Reads task first singly context (work.Extracts old plan from) bytes → Takes task first singly context bytes piece r (work.Extracts new plan from)
+feeds_walk (extracts e) first singly context old new plan from bytes piece (Ok done) gives at = (gives (setting_for e.syntax context) e.address bytes at.0, at.1, at.2)
+feeds_walk (extracts e) first singly context old new plan from bytes piece (Err (stop.Fault fault)) gives at =
     λ rest. the_fault (extracts e) context ((bytes ++ piece) ++ rest) fault ((gives (setting_for e.syntax context) e.address bytes at.0).0.stays rest)
-feeds_walk (extracts e) context old new form bytes piece (Err stop.NoMemory) gives at = tt
-feeds_walk (itemizes i) context old new form bytes piece r gives at = absurd at
-feeds_walk (checks syntax) context old new form bytes piece r gives at = absurd at
+feeds_walk (extracts e) first singly context old new plan from bytes piece (Err stop.NoMemory) gives at = tt
+feeds_walk (itemizes i) first singly context old new plan from bytes piece r gives at = absurd at
+feeds_walk (checks syntax) first singly context old new plan from bytes piece r gives at = absurd at
 
-pub feeds_items : (task : Task) (context : Context) (old new : items.Walked) (bytes piece : List ℕ) (r : Result (Unit {0}) Stop)
+pub feeds_items : (task : Task) (first : ℕ) (singly : Bool) (context : Context) (old new : items.Walked) (bytes piece : List ℕ) (r : Result (Unit {0}) Stop)
     → ((setting : ItemSetting) (bytes : List ℕ) → items.ItemWalkStands setting old bytes → items.FeedGives setting bytes piece r new)
-    → IsAt task context (work.Itemizes old) bytes → PieceGives task context bytes piece r (work.Itemizes new)
-feeds_items (extracts e) context old new bytes piece r gives at = absurd at
-feeds_items (itemizes i) context old new bytes piece (Ok done) gives at = gives (item_setting_for i.syntax i.address) bytes at
-feeds_items (itemizes i) context old new bytes piece (Err (stop.Fault fault)) gives at =
+    → Reads task first singly context (work.Itemizes old) bytes → Takes task first singly context bytes piece r (work.Itemizes new)
+feeds_items (extracts e) first singly context old new bytes piece r gives at = absurd at
+feeds_items (itemizes i) first singly context old new bytes piece (Ok done) gives at = gives (item_setting_for i.syntax i.address) bytes at
+feeds_items (itemizes i) first singly context old new bytes piece (Err (stop.Fault fault)) gives at =
     λ rest. the_fault (itemizes i) context ((bytes ++ piece) ++ rest) fault (inl ((gives (item_setting_for i.syntax i.address) bytes at).0.stays rest))
-feeds_items (itemizes i) context old new bytes piece (Err stop.NoMemory) gives at = tt
-feeds_items (checks syntax) context old new bytes piece r gives at = absurd at
+feeds_items (itemizes i) first singly context old new bytes piece (Err stop.NoMemory) gives at = tt
+feeds_items (checks syntax) first singly context old new bytes piece r gives at = absurd at
 
-pub feeds_check : (task : Task) (context : Context) (old new : check.Checked) (bytes piece : List ℕ) (r : Result (Unit {0}) Stop)
+pub feeds_check : (task : Task) (first : ℕ) (singly : Bool) (context : Context) (old new : check.Checked) (bytes piece : List ℕ) (r : Result (Unit {0}) Stop)
     → ((setting : Setting) (bytes : List ℕ) → check.CheckStands setting old bytes → check.FeedGives setting bytes piece r new)
-    → IsAt task context (work.Checks old) bytes → PieceGives task context bytes piece r (work.Checks new)
-feeds_check (extracts e) context old new bytes piece r gives at = absurd at
-feeds_check (itemizes i) context old new bytes piece r gives at = absurd at
-feeds_check (checks syntax) context old new bytes piece (Ok done) gives at = gives (setting_for syntax context) bytes at
-feeds_check (checks syntax) context old new bytes piece (Err (stop.Fault fault)) gives at =
+    → Reads task first singly context (work.Checks old) bytes → Takes task first singly context bytes piece r (work.Checks new)
+feeds_check (extracts e) first singly context old new bytes piece r gives at = absurd at
+feeds_check (itemizes i) first singly context old new bytes piece r gives at = absurd at
+feeds_check (checks syntax) first singly context old new bytes piece (Ok done) gives at = gives (setting_for syntax context) bytes at
+feeds_check (checks syntax) first singly context old new bytes piece (Err (stop.Fault fault)) gives at =
     λ rest. the_fault (checks syntax) context ((bytes ++ piece) ++ rest) fault ((gives (setting_for syntax context) bytes at).0.stays rest)
-feeds_check (checks syntax) context old new bytes piece (Err stop.NoMemory) gives at = tt
+feeds_check (checks syntax) first singly context old new bytes piece (Err stop.NoMemory) gives at = tt
 
 -- ---- the page's end
 
@@ -87,67 +83,68 @@ shown_read way bytes nest signs shown paid accepted =
 end_first : (syntax : Syntax) (aim : Aim) (bytes : List ℕ) (fault : Fault) → IsRead (way_for syntax aim) bytes → FaultAt syntax standard bytes fault → HasFirst (way_for syntax aim) bytes fault
 end_first syntax aim bytes fault i f = for_form f (λ other m. no_meaning_in (way_for syntax aim) (refuses_so aim) bytes i.now i.read i.accepted other m)
 
-pub walk_stops : (e : Extraction) (context : Context) (walk : walks.Walked) (bytes : List ℕ) (why : Stop) → walks.WalkStands (setting_for e.syntax context) e.address walk bytes
-    → Unfinished (way_of (setting_for e.syntax context)) bytes why → EndGives (extracts e) context bytes (Err why)
-walk_stops e context walk bytes (stop.Fault fault) at ends =
+pub walk_stops : (e : Extraction) (first : ℕ) (singly : Bool) (context : Context) (walk : walks.Walked) (bytes : List ℕ) (why : Stop) → walks.WalkStands (setting_for e.syntax context) e.address walk bytes
+    → Unfinished (way_of (setting_for e.syntax context)) bytes why → Ends (extracts e) first singly context bytes (Err why)
+walk_stops e first singly context walk bytes (stop.Fault fault) at ends =
     the_fault (extracts e) context bytes fault (end_first e.syntax (for_triples context e.address) bytes fault
     (shown_read (way_for e.syntax (for_triples context e.address)) bytes walk.nest at.goes.signs at.goes.shown at.paid at.goes.known.accepted) ends.0)
-walk_stops e context walk bytes stop.NoMemory at ends = tt
+walk_stops e first singly context walk bytes stop.NoMemory at ends = tt
 
-pub walk_ends : (e : Extraction) (context : Context) (form : Form) (outcome : Outcome) (list : List CodeTriple) (bytes text : List ℕ) → form ≡ form_in e.format e.graph context
-    → IsFormText form (numbered nat_eq (copied nat_eq (triples_seen list))) (text_of outcome) → (Denoted outcome → FormDenotes form (text_of outcome) (numbered nat_eq (copied nat_eq (triples_seen list))))
-    → GivesList e.syntax context e.address bytes list → Denoted outcome → text ≡ text_of outcome → IsTheText (extracts e) context bytes text
-walk_ends e context form outcome list bytes text f spelled denotes given denoted is =
-    let made = text_made e context form outcome list bytes f spelled denotes given in
-    subst (λ t. IsTheText (extracts e) context bytes t) (sym is) (the_text (extracts e) context bytes (text_of outcome) made.0 (made.1 denoted))
-
-pub items_stop : (i : Itemization) (context : Context) (walk : items.Walked) (bytes : List ℕ) (why : Stop) → items.ItemWalkStands (item_setting_for i.syntax i.address) walk bytes
-    → items.EndGives (item_setting_for i.syntax i.address) bytes (Err why) → EndGives (itemizes i) context bytes (Err why)
-items_stop i context walk bytes (stop.Fault fault) at ends =
+pub items_stop : (i : Itemization) (first : ℕ) (singly : Bool) (context : Context) (walk : items.Walked) (bytes : List ℕ) (why : Stop) → items.ItemWalkStands (item_setting_for i.syntax i.address) walk bytes
+    → items.EndGives (item_setting_for i.syntax i.address) bytes (Err why) → Ends (itemizes i) first singly context bytes (Err why)
+items_stop i first singly context walk bytes (stop.Fault fault) at ends =
     the_fault (itemizes i) context bytes fault (inl (end_first i.syntax (for_items i.address) bytes fault
     (shown_read (way_for i.syntax (for_items i.address)) bytes walk.nest at.goes.signs at.goes.shown at.paid refl) ends.0))
-items_stop i context walk bytes stop.NoMemory at ends = tt
+items_stop i first singly context walk bytes stop.NoMemory at ends = tt
 
-pub items_end : (i : Itemization) (context : Context) (bytes : List ℕ) (kept : Kept) (r : Result (Vec ℕ Global) Stop) → items.Ended (item_setting_for i.syntax i.address) bytes kept
-    → ((address : Chars) (tree : Tree) → AreItems address tree kept → JsonTextGives {V = Vec ℕ Global} (λ text. text.items) address tree r) → EndGives (itemizes i) context bytes r
-items_end i context bytes kept (Ok text) ended gives =
+pub items_text : (i : Itemization) (first : ℕ) (singly : Bool) (context : Context) (bytes : List ℕ) (kept : Kept) (text : Vec ℕ Global) → items.Ended (item_setting_for i.syntax i.address) bytes kept
+    → ((address : Chars) (tree : Tree) → AreItems address tree kept → JsonTextGives {V = Vec ℕ Global} (λ text. text.items) address tree (Ok text))
+    → Ends (itemizes i) first singly context bytes (Ok (given.Text text 0))
+items_text i first singly context bytes kept text ended gives =
     let has : HasItems i bytes text.items = record { tree = ended.tree; page = ended.page; json = gives i.address ended.tree ended.holds } in
-    the_text (itemizes i) context bytes text.items has has
-items_end i context bytes kept (Err (stop.Fault fault)) ended gives =
-    the_fault (itemizes i) context bytes fault (inr (record { tree = ended.tree; page = ended.page; refused = gives i.address ended.tree ended.holds }))
-items_end i context bytes kept (Err stop.NoMemory) ended gives = tt
+    (the_text (itemizes i) context bytes text.items has has, refl)
 
-pub check_stops : (syntax : Syntax) (context : Context) (v : check.Checked) (bytes : List ℕ) (why : Stop) → check.CheckStands (setting_for syntax context) v bytes
-    → Unfinished (way_of (setting_for syntax context)) bytes why → EndGives (checks syntax) context bytes (Err why)
-check_stops syntax context v bytes (stop.Fault fault) at ends =
+pub items_refused : (i : Itemization) (first : ℕ) (singly : Bool) (context : Context) (bytes : List ℕ) (kept : Kept) (why : Stop) → items.Ended (item_setting_for i.syntax i.address) bytes kept
+    → ((address : Chars) (tree : Tree) → AreItems address tree kept → JsonTextGives {V = Vec ℕ Global} (λ text. text.items) address tree (Err why))
+    → Ends (itemizes i) first singly context bytes (Err why)
+items_refused i first singly context bytes kept (stop.Fault fault) ended gives =
+    the_fault (itemizes i) context bytes fault (inr (record { tree = ended.tree; page = ended.page; refused = gives i.address ended.tree ended.holds }))
+items_refused i first singly context bytes kept stop.NoMemory ended gives = tt
+
+pub check_stops : (syntax : Syntax) (first : ℕ) (singly : Bool) (context : Context) (v : check.Checked) (bytes : List ℕ) (why : Stop) → check.CheckStands (setting_for syntax context) v bytes
+    → Unfinished (way_of (setting_for syntax context)) bytes why → Ends (checks syntax) first singly context bytes (Err why)
+check_stops syntax first singly context v bytes (stop.Fault fault) at ends =
     the_fault (checks syntax) context bytes fault (end_first syntax (for_faults context) bytes fault
     (shown_read (way_for syntax (for_faults context)) bytes v.nest at.goes.signs at.goes.shown at.paid at.goes.known.accepted) ends.0)
-check_stops syntax context v bytes stop.NoMemory at ends = tt
+check_stops syntax first singly context v bytes stop.NoMemory at ends = tt
 
-pub check_ends : (syntax : Syntax) (context : Context) (bytes text : List ℕ) → check.Accepted (setting_for syntax context) bytes → text ≡ ok_line → IsTheText (checks syntax) context bytes text
-check_ends syntax context bytes text a is =
+pub check_ends : (syntax : Syntax) (first : ℕ) (singly : Bool) (context : Context) (bytes : List ℕ) (text : Vec ℕ Global) → check.Accepted (setting_for syntax context) bytes → text.items ≡ ok_line
+    → Ends (checks syntax) first singly context bytes (Ok (given.Text text 0))
+check_ends syntax first singly context bytes text a is =
     let right : IsRight syntax context bytes ok_line = record { tree = a.tree; is = record { page = a.page; accepted = a.accepted }; spelled = refl } in
-    subst (λ t. IsTheText (checks syntax) context bytes t) (sym is) (the_text (checks syntax) context bytes ok_line right right)
+    (subst (λ t. IsTheText (checks syntax) context bytes t) (sym is) (the_text (checks syntax) context bytes ok_line right right), refl)
 
 -- ---- by its kind
 
-pub finishes_walk : (task : Task) (context : Context) (walk : walks.Walked) (form : Form) (bytes : List ℕ) (r : Result (Vec ℕ Global) Stop)
-    → ((e : Extraction) (context : Context) (bytes : List ℕ) → walks.WalkStands (setting_for e.syntax context) e.address walk bytes → form ≡ form_in e.format e.graph context → EndGives (extracts e) context bytes r)
-    → IsAt task context (work.Extracts walk form) bytes → EndGives task context bytes r
-finishes_walk (extracts e) context walk form bytes r ends at = ends e context bytes at.0 at.1
-finishes_walk (itemizes i) context walk form bytes r ends at = absurd at
-finishes_walk (checks syntax) context walk form bytes r ends at = absurd at
+pub finishes_walk : (task : Task) (first : ℕ) (singly : Bool) (context : Context) (walk : walks.Walked) (plan : Plan) (from : ℕ) (bytes : List ℕ) (r : Result Given Stop)
+    → ((e : Extraction) (singly : Bool) (context : Context) (bytes : List ℕ) → walks.WalkStands (setting_for e.syntax context) e.address walk bytes
+    → plan ≡ plan_for singly e.format e.graph context → Ends (extracts e) from singly context bytes r)
+    → Reads task first singly context (work.Extracts walk plan from) bytes → Ends task first singly context bytes r
+finishes_walk (extracts e) first singly context walk plan from bytes r ends at =
+    subst (λ (n : ℕ). Ends (extracts e) n singly context bytes r) at.2 (ends e singly context bytes at.0 at.1)
+finishes_walk (itemizes i) first singly context walk plan from bytes r ends at = absurd at
+finishes_walk (checks syntax) first singly context walk plan from bytes r ends at = absurd at
 
-pub finishes_items : (task : Task) (context : Context) (walk : items.Walked) (bytes : List ℕ) (r : Result (Vec ℕ Global) Stop)
-    → ((i : Itemization) (context : Context) (bytes : List ℕ) → items.ItemWalkStands (item_setting_for i.syntax i.address) walk bytes → EndGives (itemizes i) context bytes r)
-    → IsAt task context (work.Itemizes walk) bytes → EndGives task context bytes r
-finishes_items (extracts e) context walk bytes r ends at = absurd at
-finishes_items (itemizes i) context walk bytes r ends at = ends i context bytes at
-finishes_items (checks syntax) context walk bytes r ends at = absurd at
+pub finishes_items : (task : Task) (first : ℕ) (singly : Bool) (context : Context) (walk : items.Walked) (bytes : List ℕ) (r : Result Given Stop)
+    → ((i : Itemization) (first : ℕ) (singly : Bool) (context : Context) (bytes : List ℕ) → items.ItemWalkStands (item_setting_for i.syntax i.address) walk bytes → Ends (itemizes i) first singly context bytes r)
+    → Reads task first singly context (work.Itemizes walk) bytes → Ends task first singly context bytes r
+finishes_items (extracts e) first singly context walk bytes r ends at = absurd at
+finishes_items (itemizes i) first singly context walk bytes r ends at = ends i first singly context bytes at
+finishes_items (checks syntax) first singly context walk bytes r ends at = absurd at
 
-pub finishes_check : (task : Task) (context : Context) (v : check.Checked) (bytes : List ℕ) (r : Result (Vec ℕ Global) Stop)
-    → ((syntax : Syntax) (context : Context) (bytes : List ℕ) → check.CheckStands (setting_for syntax context) v bytes → EndGives (checks syntax) context bytes r)
-    → IsAt task context (work.Checks v) bytes → EndGives task context bytes r
-finishes_check (extracts e) context v bytes r ends at = absurd at
-finishes_check (itemizes i) context v bytes r ends at = absurd at
-finishes_check (checks syntax) context v bytes r ends at = ends syntax context bytes at
+pub finishes_check : (task : Task) (first : ℕ) (singly : Bool) (context : Context) (v : check.Checked) (bytes : List ℕ) (r : Result Given Stop)
+    → ((syntax : Syntax) (first : ℕ) (singly : Bool) (context : Context) (bytes : List ℕ) → check.CheckStands (setting_for syntax context) v bytes → Ends (checks syntax) first singly context bytes r)
+    → Reads task first singly context (work.Checks v) bytes → Ends task first singly context bytes r
+finishes_check (extracts e) first singly context v bytes r ends at = absurd at
+finishes_check (itemizes i) first singly context v bytes r ends at = absurd at
+finishes_check (checks syntax) first singly context v bytes r ends at = ends syntax first singly context bytes at

@@ -1,3 +1,5 @@
+pub mod Wants
+pub mod Given
 pub mod Works
 pub mod Sessions
 pub mod Requests

@@ -1,5 +1,5 @@
 -- What numbers and bytes from outside ask for.
-use Rattle.std.specs.Prelude.{◌≡◌, ℕ, ◌≤◌, Bool, true, false, ◌&&◌, ◌==◌, List, [], length, Option, Some, None, is_some, option_map, option_and_then, Result, Ok, Err, if◌then◌else◌}
+use Rattle.std.specs.Prelude.{◌≡◌, ℕ, ◌≤◌, ◌^◌, Bool, true, false, ◌&&◌, ◌==◌, nat_lt, List, [], length, Option, Some, None, is_some, option_map, option_and_then, Result, Ok, Err, if◌then◌else◌}
 use Rattle.std.specs.Str.{chars, is_utf8}
 use Rattle.rx_chars.specs.declared.syntax.Syntax.{Syntax}
 use Rattle.rx_chars.specs.declared.syntax.Syntax.TheVariants.{Html, Xhtml}
@@ -8,11 +8,13 @@ use Rattle.rx_terms.specs.Text.{Chars}
 use Rattle.rx_rdfa.specs.Names.{Context}
 use Rattle.rx_rdfa.specs.Standard.{standard}
 use Rattle.rx_names.specs.ContextFiles.{context_of}
-use Rattle.rx_job.specs.declared.formats.Format.{Format}
 use Rattle.rx_job.specs.declared.formats.Format.TheVariants.{Nquads, Turtle, Nested, Jsonld}
-use Rattle.rx_job.specs.Words.{Task, extracts, itemizes, checks, names_graphs}
+use Rattle.rx_job.specs.Words.{itemizes, checks}
 use Rattle.rx_command.specs.Contexts.{is_context, largest_context}
 use Rattle.rx_session.specs.Sessions.{IsFed}
+use Rattle.rx_session.specs.Wants.{Want, plain, names_graphs, extraction_seen}
+use Rattle.rx_session.specs.declared.outputs.Output.{Output}
+use Rattle.rx_session.specs.declared.outputs.Output.TheVariants.{Text, Quads}
 use Rattle.rx_session.specs.declared.errors.OpenError.{OpenError}
 use Rattle.rx_session.specs.declared.errors.OpenError.TheVariants as error
 use Rattle.rx_session.specs.declared.sessions.State.{State}
@@ -25,37 +27,43 @@ bytes_in bytes = option_map (λ lent. lent.now) bytes
 abbrev pub syntax_in : ℕ → Option Syntax
 syntax_in number = if number == 0 then Some Html else (if number == 1 then Some Xhtml else None)
 
-abbrev pub format_in : ℕ → Option Format
-format_in number =
-    if number == 0 then Some Nquads else (if number == 1 then Some Turtle else (if number == 2 then Some Nested else (if number == 3 then Some Jsonld else None)))
+-- the number of the first blank node
+abbrev pub first_in : ℕ → Option ℕ
+first_in number = if nat_lt (2 ^ 63) number then None else Some number
+
+-- a format, or quad by quad
+abbrev pub output_in : ℕ → Option Output
+output_in number =
+    if number == 0 then Some (Text Nquads) else (if number == 1 then Some (Text Turtle) else (if number == 2 then Some (Text Nested)
+    else (if number == 3 then Some (Text Jsonld) else (if number == 4 then Some Quads else None))))
 
 -- the characters of bytes that are the UTF-8 of an IRI
 abbrev pub iri_in : List ℕ → Option Chars
 iri_in bytes = if is_utf8 bytes && is_iri (chars bytes) then Some (chars bytes) else None
 
--- a graph has no name, or one that is an IRI and that the format can say
-abbrev pub graph_in : Format → Option (List ℕ) → Option (Option Chars)
-graph_in format None = Some None
-graph_in format (Some name) = if names_graphs format then option_map Some (iri_in name) else None
+-- a graph has no name, or one that is an IRI and can be said
+abbrev pub graph_in : Output → Option (List ℕ) → Option (Option Chars)
+graph_in output None = Some None
+graph_in output (Some name) = if names_graphs output then option_map Some (iri_in name) else None
 
-abbrev pub extraction_with : Option Syntax → Option Format → Option Chars → Option (List ℕ) → Option Task
-extraction_with (Some syntax) (Some format) (Some address) graph =
-    option_map (λ name. extracts (record { syntax = syntax; format = format; graph = name; address = address })) (graph_in format graph)
-extraction_with syntax format address graph = None
+abbrev pub extraction_with : Option ℕ → Option Syntax → Option Output → Option Chars → Option (List ℕ) → Option Want
+extraction_with (Some first) (Some syntax) (Some output) (Some address) graph =
+    option_map (λ name. extraction_seen (record { syntax = syntax; output = output; graph = name; address = address; first = first })) (graph_in output graph)
+extraction_with first syntax output address graph = None
 
--- the numbers of a syntax and of a format, an address, and the name of a graph, if any
-abbrev pub extraction_in : ℕ → ℕ → List ℕ → Option (List ℕ) → Option Task
-extraction_in syntax format address graph = extraction_with (syntax_in syntax) (format_in format) (iri_in address) graph
+-- the numbers of a syntax and of a format, that of the first blank node, an address, and the name of a graph, if any
+abbrev pub extraction_in : ℕ → ℕ → ℕ → List ℕ → Option (List ℕ) → Option Want
+extraction_in syntax format first address graph = extraction_with (first_in first) (syntax_in syntax) (output_in format) (iri_in address) graph
 
-abbrev pub items_with : Option Syntax → Option Chars → Option Task
-items_with (Some syntax) (Some address) = Some (itemizes (record { syntax = syntax; address = address }))
+abbrev pub items_with : Option Syntax → Option Chars → Option Want
+items_with (Some syntax) (Some address) = Some (plain (itemizes (record { syntax = syntax; address = address })))
 items_with syntax address = None
 
-abbrev pub items_in : ℕ → List ℕ → Option Task
+abbrev pub items_in : ℕ → List ℕ → Option Want
 items_in syntax address = items_with (syntax_in syntax) (iri_in address)
 
-abbrev pub check_in : ℕ → Option Task
-check_in syntax = option_map checks (syntax_in syntax)
+abbrev pub check_in : ℕ → Option Want
+check_in syntax = option_map (λ s. plain (checks s)) (syntax_in syntax)
 
 -- the context that holds: the standard one, or that of a file of these bytes
 abbrev pub IsContextOf : Option (List ℕ) → Context → Type 0
@@ -79,17 +87,17 @@ ContextGives file (Err error.Usage) = ⊥
 ContextGives file (Err error.BadContext) = IsNoContext file
 ContextGives file (Err error.NoMemory) = Unit {0}
 
--- this task is asked for, the context file, if any, is a context, and the session was opened for that
-pub record Opened (asked : Option Task) (file : Option (List ℕ)) (session : State) : Type 0 where
-  pub task : Task
+-- this is asked for, the context file, if any, is a context, and the session was opened for that
+pub record Opened (asked : Option Want) (file : Option (List ℕ)) (session : State) : Type 0 where
+  pub want : Want
   pub context : Context
-  pub is : asked ≡ Some task
+  pub is : asked ≡ Some want
   pub holds : IsContextOf file context
-  pub fed : IsFed task context [] session
+  pub fed : IsFed want context [] session
 
 -- A session was opened for what is asked for; or nothing is asked for; or something is, and the context file is none; or
 -- there was no memory.
-abbrev pub Opens : Option Task → Option (List ℕ) → Result State OpenError → Type 0
+abbrev pub Opens : Option Want → Option (List ℕ) → Result State OpenError → Type 0
 Opens asked file (Ok session) = Opened asked file session
 Opens asked file (Err error.Usage) = asked ≡ None
 Opens asked file (Err error.BadContext) = IsNoContext file × (is_some asked ≡ true)

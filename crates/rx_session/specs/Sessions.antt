@@ -4,36 +4,56 @@ use Rattle.rx_grammar.specs.declared.faults.Fault.{Fault}
 use Rattle.rx_rdfa.specs.Names.{Context}
 use Rattle.rx_grammar.specs.declared.stops.Stop.{Stop}
 use Rattle.rx_grammar.specs.declared.stops.Stop.TheVariants as stop
-use Rattle.rx_job.specs.Words.{Extraction, Task}
-use Rattle.rx_command.specs.Headline.{IsTheText, IsTheFault}
+use Rattle.rx_nquads.specs.Quads.{Quad}
+use Rattle.rx_command.specs.Headline.{IsTheFault}
+use Rattle.rx_quads.specs.declared.terms.ShownQuad.{ShownQuad}
+use Rattle.rx_session.specs.Given.{GivesWanted, KeepsGiven, ShowsGiven, text_given, nodes_given, quads_given, shown_given}
+use Rattle.rx_session.specs.Wants.{Want}
 use Rattle.rx_session.specs.Works.{IsAt, HasFaultOn}
+use Rattle.rx_session.specs.declared.given.Given.{Given}
 use Rattle.rx_session.specs.declared.errors.SessionError.{SessionError}
 use Rattle.rx_session.specs.declared.errors.SessionError.TheVariants as error
-use Rattle.rx_session.specs.declared.sessions.Extraction.{Extraction as CodeExtraction}
 use Rattle.rx_session.specs.declared.sessions.State.{State}
 use Rattle.rx_session.specs.declared.sessions.State.TheVariants as state
 
--- The session was opened for this task under this context, these bytes of the page were handed over, and they were taken.
-abbrev pub IsFed : Task → Context → List ℕ → State → Type 0
-IsFed task context bytes (state.Reads work) = IsAt task context work bytes
-IsFed task context bytes (state.Gave text) = ⊥
-IsFed task context bytes (state.Refused fault) = ⊥
-IsFed task context bytes state.Spent = ⊥
+-- The session was opened for this under this context, these bytes of the page were handed over, and they were taken.
+abbrev pub IsFed : Want → Context → List ℕ → State → Type 0
+IsFed want context bytes (state.Reads work) = IsAt want context work bytes
+IsFed want context bytes (state.Gave given) = ⊥
+IsFed want context bytes (state.Refused fault) = ⊥
+IsFed want context bytes state.Spent = ⊥
 
 -- what holds of a session wherever it took some bytes of a page
-abbrev pub WhereFed : State → (Task → Context → List ℕ → Type 0) → Type 0
-WhereFed session holds = (task : Task) (context : Context) (bytes : List ℕ) → IsFed task context bytes session → holds task context bytes
-
--- what is asked of an extraction
-abbrev pub extraction_seen : CodeExtraction → Extraction
-extraction_seen e = record { syntax = e.syntax; format = e.format; graph = e.graph; address = e.address }
+abbrev pub WhereFed : State → (Want → Context → List ℕ → Type 0) → Type 0
+WhereFed session holds = (want : Want) (context : Context) (bytes : List ℕ) → IsFed want context bytes session → holds want context bytes
 
 -- the page's text once it was finished
 abbrev pub text_in : State → List ℕ
 text_in (state.Reads work) = []
-text_in (state.Gave text) = text.items
+text_in (state.Gave given) = text_given given
 text_in (state.Refused fault) = []
 text_in state.Spent = []
+
+-- how many blank nodes it has then
+abbrev pub nodes_in : State → ℕ
+nodes_in (state.Reads work) = 0
+nodes_in (state.Gave given) = nodes_given given
+nodes_in (state.Refused fault) = 0
+nodes_in state.Spent = 0
+
+-- its quads then, where these are handed over singly
+abbrev pub quads_in : State → List Quad
+quads_in (state.Reads work) = []
+quads_in (state.Gave given) = quads_given given
+quads_in (state.Refused fault) = []
+quads_in state.Spent = []
+
+-- the quad that was shown last
+abbrev pub shown_in : State → Option ShownQuad
+shown_in (state.Reads work) = None
+shown_in (state.Gave given) = shown_given given
+shown_in (state.Refused fault) = None
+shown_in state.Spent = None
 
 -- its fault, where it was refused
 abbrev pub fault_in : State → Option Fault
@@ -54,37 +74,37 @@ is_spent (state.Gave text) = false
 is_spent (state.Refused fault) = false
 is_spent state.Spent = true
 
--- the page was finished, and has this text
-abbrev pub HasGiven : List ℕ → State → Type 0
-HasGiven text (state.Reads work) = ⊥
-HasGiven text (state.Gave given) = given.items ≡ text
-HasGiven text (state.Refused fault) = ⊥
-HasGiven text state.Spent = ⊥
+-- the page was finished, and gave what was asked for
+abbrev pub HasGiven : Want → Context → List ℕ → State → Type 0
+HasGiven want context bytes (state.Reads work) = ⊥
+HasGiven want context bytes (state.Gave given) = GivesWanted want.task want.first want.singly context bytes given
+HasGiven want context bytes (state.Refused fault) = ⊥
+HasGiven want context bytes state.Spent = ⊥
 
 -- A piece was taken; or one of its bytes decides a fault, which each page has that begins so; or there was no memory.
-abbrev pub FeedGives : Task → Context → List ℕ → List ℕ → Result (Unit {0}) SessionError → State → Type 0
-FeedGives task context bytes piece (Ok done) new = IsFed task context (bytes ++ piece) new
-FeedGives task context bytes piece (Err (error.Refused fault)) new = HasFaultOn task context (bytes ++ piece) fault × (new ≡ state.Refused fault)
-FeedGives task context bytes piece (Err error.NoMemory) new = new ≡ state.Spent
-FeedGives task context bytes piece (Err error.Finished) new = ⊥
+abbrev pub FeedGives : Want → Context → List ℕ → List ℕ → Result (Unit {0}) SessionError → State → Type 0
+FeedGives want context bytes piece (Ok done) new = IsFed want context (bytes ++ piece) new
+FeedGives want context bytes piece (Err (error.Refused fault)) new = HasFaultOn want.task context (bytes ++ piece) fault × (new ≡ state.Refused fault)
+FeedGives want context bytes piece (Err error.NoMemory) new = new ≡ state.Spent
+FeedGives want context bytes piece (Err error.Finished) new = ⊥
 
--- The page has one text, which is there then; or one fault; or there was no memory.
-abbrev pub FinishGives : Task → Context → List ℕ → Result (Unit {0}) SessionError → State → Type 0
-FinishGives task context bytes (Ok done) new = IsTheText task context bytes (text_in new) × HasGiven (text_in new) new
-FinishGives task context bytes (Err (error.Refused fault)) new = IsTheFault task context bytes fault × (new ≡ state.Refused fault)
-FinishGives task context bytes (Err error.NoMemory) new = new ≡ state.Spent
-FinishGives task context bytes (Err error.Finished) new = ⊥
+-- The page has one text, or one list of quads, which is there then; or one fault; or there was no memory.
+abbrev pub FinishGives : Want → Context → List ℕ → Result (Unit {0}) SessionError → State → Type 0
+FinishGives want context bytes (Ok done) new = HasGiven want context bytes new
+FinishGives want context bytes (Err (error.Refused fault)) new = IsTheFault want.task context bytes fault × (new ≡ state.Refused fault)
+FinishGives want context bytes (Err error.NoMemory) new = new ≡ state.Spent
+FinishGives want context bytes (Err error.Finished) new = ⊥
 
 -- what was answered comes again, and the session stays as it was
 abbrev pub FeedAgain : State → Result (Unit {0}) SessionError → State → Type 0
 FeedAgain (state.Reads work) result new = Unit {0}
-FeedAgain (state.Gave text) result new = (result ≡ Err error.Finished) × (new ≡ state.Gave text)
+FeedAgain (state.Gave given) result new = (result ≡ Err error.Finished) × (new ≡ state.Gave given)
 FeedAgain (state.Refused fault) result new = (result ≡ Err (error.Refused fault)) × (new ≡ state.Refused fault)
 FeedAgain state.Spent result new = (result ≡ Err error.NoMemory) × (new ≡ state.Spent)
 
 abbrev pub FinishAgain : State → Result (Unit {0}) SessionError → State → Type 0
 FinishAgain (state.Reads work) result new = Unit {0}
-FinishAgain (state.Gave text) result new = (result ≡ Ok tt) × (new ≡ state.Gave text)
+FinishAgain (state.Gave given) result new = (result ≡ Ok tt) × (new ≡ state.Gave given)
 FinishAgain (state.Refused fault) result new = (result ≡ Err (error.Refused fault)) × (new ≡ state.Refused fault)
 FinishAgain state.Spent result new = (result ≡ Err error.NoMemory) × (new ≡ state.Spent)
 
@@ -92,3 +112,24 @@ FinishAgain state.Spent result new = (result ≡ Err error.NoMemory) × (new ≡
 abbrev pub StoppedBy : Stop → SessionError → State → Type 0
 StoppedBy (stop.Fault fault) result new = (result ≡ error.Refused fault) × (new ≡ state.Refused fault)
 StoppedBy stop.NoMemory result new = (result ≡ error.NoMemory) × (new ≡ state.Spent)
+
+-- where another given stands in the place of the old one
+abbrev pub HasOther : (Given → Type 0) → State → Type 0
+HasOther holds (state.Reads work) = ⊥
+HasOther holds (state.Gave given) = holds given
+HasOther holds (state.Refused fault) = ⊥
+HasOther holds state.Spent = ⊥
+
+-- another quad may be shown, and nothing else is changed
+abbrev pub KeepsQuads : State → State → Type 0
+KeepsQuads (state.Reads work) new = new ≡ state.Reads work
+KeepsQuads (state.Gave given) new = HasOther (λ other. KeepsGiven given other) new
+KeepsQuads (state.Refused fault) new = new ≡ state.Refused fault
+KeepsQuads state.Spent new = new ≡ state.Spent
+
+-- the quad of this number is shown, or there is none
+abbrev pub ShowsQuad : State → ℕ → Bool → State → Type 0
+ShowsQuad (state.Reads work) number is_there new = is_there ≡ false
+ShowsQuad (state.Gave given) number is_there new = HasOther (λ other. ShowsGiven given number is_there other) new
+ShowsQuad (state.Refused fault) number is_there new = is_there ≡ false
+ShowsQuad state.Spent number is_there new = is_there ≡ false

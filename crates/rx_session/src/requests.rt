@@ -4,33 +4,38 @@ ghost use Rattle.rx_session.specs.Requests.{Opens, bytes_in, extraction_in, item
 
 use crate::errors::OpenError;
 use crate::sessions::{Extraction, Session};
-use crate::values::{context_of, format_of, graph_of, iri_of, syntax_of};
+use crate::values::{context_of, first_of, graph_of, iri_of, output_of, syntax_of};
 use std::alloc::Global;
 
 /// A session for the triples of a page of this address: syntax 0 is HTML and 1 XHTML; format 0 N-Quads, 1 Turtle, 2 Turtle
-/// with blank nodes and lists where they are used, and 3 JSON-LD. The graph has a name or none, and the context is that of
-/// a file of these bytes, or the standard one.
+/// with blank nodes and lists where they are used, 3 JSON-LD, and 4 no text, but quads that are shown one at a time. Blank
+/// nodes are numbered from `first` on. The graph has a name or none, and the context is that of a file of these bytes, or
+/// the standard one.
 pub fn open_extraction(
     alloc: Global,
     syntax: u32,
     format: u32,
+    first: u64,
     address: &[u8],
     graph: Option<&[u8]>,
     context: Option<&[u8]>,
 ) -> Result<Session, OpenError>
-    ensures { Opens (extraction_in syntax format address.now (bytes_in graph.entry)) (bytes_in context.entry) result }
+    ensures { Opens (extraction_in syntax format first address.now (bytes_in graph.entry)) (bytes_in context.entry) result }
 {
+    let Some(first) = first_of(first) else {
+        return Err(OpenError::Usage);
+    };
     let Some(syntax) = syntax_of(syntax) else {
         return Err(OpenError::Usage);
     };
-    let Some(format) = format_of(format) else {
+    let Some(output) = output_of(format) else {
         return Err(OpenError::Usage);
     };
     let address = match iri_of(alloc, address) {
         Ok(address) => address,
         Err(error) => return Err(error),
     };
-    let graph = match graph_of(alloc, format, graph) {
+    let graph = match graph_of(alloc, output, graph) {
         Ok(graph) => graph,
         Err(error) => {
             drop(address);
@@ -39,9 +44,10 @@ pub fn open_extraction(
     };
     let extraction = Extraction {
         syntax,
-        format,
+        output,
         graph,
         address,
+        first,
     };
     let context = match context_of(alloc, context) {
         Ok(context) => context,

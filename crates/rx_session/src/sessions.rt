@@ -1,15 +1,20 @@
-//! A page that is handed over in pieces, then its text.
+//! A page that is handed over in pieces, then its text or its quads.
 ghost use Rattle.std.specs.Prelude.{◌≡◌, ◌++◌, [], IfOk, length, min, take, drop};
 ghost use Rattle.rx_rdfa.specs.Names.{Context as RulesContext};
-ghost use Rattle.rx_job.specs.Words.{extracts, itemizes, checks};
-ghost use Rattle.rx_session.specs.Sessions.{StoppedBy, IsFed, WhereFed, extraction_seen, FeedGives, FinishGives, FeedAgain, FinishAgain, text_in, fault_in, is_read, is_spent};
+ghost use Rattle.rx_job.specs.Words.{itemizes, checks};
+ghost use Rattle.rx_session.specs.Given.{lent_quad};
+ghost use Rattle.rx_session.specs.Wants.{plain, extraction_seen};
+ghost use Rattle.rx_session.specs.Sessions.{StoppedBy, IsFed, WhereFed, FeedGives, FinishGives, FeedAgain, FinishAgain, text_in, nodes_in, quads_in, shown_in, KeepsQuads, ShowsQuad, fault_in, is_read, is_spent};
 
 use crate::copies::copy_front;
 use crate::errors::SessionError;
+use crate::given::Given;
+use crate::outputs::{Output, Plan};
 use crate::works::Work;
-use rx_command::{Fault, Form, Format};
+use rx_command::Fault;
 use rx_items::ItemWalk;
 use rx_names::Context;
+use rx_quads::ShownQuad;
 use rx_terms::{Iri, NoMemory};
 use rx_walk::{Check, Limits, Stop, Syntax, Walk};
 use std::alloc::Global;
@@ -21,15 +26,15 @@ use std::mem;
 pub(crate) enum State {
     /// It is being read.
     Reads(Work),
-    /// It was read to its end, and this is its text.
-    Gave(Vec<u8>),
+    /// It was read to its end, and gives this.
+    Gave(Given),
     /// It has this fault.
     Refused(Fault),
     /// There was no memory.
     Spent,
 }
 
-/// A page that is handed over in pieces, then its text. A contract sees where the page stands.
+/// A page that is handed over in pieces, then its text or its quads. A contract sees where the page stands.
 ///
 /// What was answered comes again: a fault and want of memory at each later call, and a page that was finished stays so.
 #[derive(Drop)]
@@ -49,9 +54,11 @@ impl Model for Session {
 #[derive(Drop)]
 pub struct Extraction {
     pub syntax: Syntax,
-    pub format: Format,
+    pub output: Output,
     pub graph: Option<Iri>,
     pub address: Iri,
+    /// The number of the first blank node.
+    pub first: u64,
 }
 
 impl Session {
@@ -61,33 +68,32 @@ impl Session {
         extraction: Extraction,
         context: Context,
     ) -> Result<Session, NoMemory>
-        ensures { IfOk result (λ session. IsFed (extracts (extraction_seen extraction)) context [] session) }
+        ensures { IfOk result (λ session. IsFed (extraction_seen extraction) context [] session) }
     {
         let Extraction {
             syntax,
-            format,
+            output,
             graph,
             address,
+            first,
         } = extraction;
-        let form = Form::of(alloc, format, graph.as_ref(), &context);
-        drop(graph);
-        let Ok(form) = form else {
+        let Ok(plan) = Plan::of(alloc, output, graph, &context) else {
             drop(context);
             drop(address);
             return Err(NoMemory);
         };
         let Ok(walk) = Walk::new(alloc, syntax, context, address, Limits::standard()) else {
-            drop(form);
+            drop(plan);
             return Err(NoMemory);
         };
         Ok(Session {
-            state: State::Reads(Work::Extracts { walk, form }),
+            state: State::Reads(Work::Extracts { walk, plan, first }),
         })
     }
 
     /// Before the first byte of a page whose items are wanted.
     pub fn items(alloc: Global, syntax: Syntax, address: Iri) -> Result<Session, NoMemory>
-        ensures { (context : RulesContext) → IfOk result (λ session. IsFed (itemizes (record { syntax = syntax; address = address })) context [] session) }
+        ensures { (context : RulesContext) → IfOk result (λ session. IsFed (plain (itemizes (record { syntax = syntax; address = address }))) context [] session) }
     {
         let walk = ItemWalk::new(alloc, syntax, address, Limits::standard())?;
         Ok(Session {
@@ -97,7 +103,7 @@ impl Session {
 
     /// Before the first byte of a page whose faults are wanted, under a context.
     pub fn check(alloc: Global, syntax: Syntax, context: Context) -> Result<Session, NoMemory>
-        ensures { IfOk result (λ session. IsFed (checks syntax) context [] session) }
+        ensures { IfOk result (λ session. IsFed (plain (checks syntax)) context [] session) }
     {
         let check = Check::new(alloc, syntax, context, Limits::standard())?;
         Ok(Session {
@@ -107,7 +113,7 @@ impl Session {
 
     /// Takes the whole piece.
     pub fn feed(&mut self, piece: &[u8]) -> Result<(), SessionError>
-        ensures gives { WhereFed self.old (λ task context bytes. FeedGives task context bytes piece.now result self.new) }
+        ensures gives { WhereFed self.old (λ want context bytes. FeedGives want context bytes piece.now result self.new) }
         ensures again { FeedAgain self.old result self.new }
     {
         match &mut self.state {
@@ -121,21 +127,21 @@ impl Session {
         }
     }
 
-    /// The page's end: its text is there then.
+    /// The page's end: its text is there then, or its quads are.
     pub fn finish(&mut self, alloc: Global) -> Result<(), SessionError>
-        ensures gives { WhereFed self.old (λ task context bytes. FinishGives task context bytes result self.new) }
+        ensures gives { WhereFed self.old (λ want context bytes. FinishGives want context bytes result self.new) }
         ensures again { FinishAgain self.old result self.new }
     {
         match mem::replace(&mut self.state, State::Spent) {
             State::Reads(work) => match work.finish(alloc) {
-                Ok(text) => {
-                    drop(mem::replace(&mut self.state, State::Gave(text)));
+                Ok(given) => {
+                    drop(mem::replace(&mut self.state, State::Gave(given)));
                     Ok(())
                 }
                 Err(stop) => Err(self.stopped(stop)),
             },
-            State::Gave(text) => {
-                drop(mem::replace(&mut self.state, State::Gave(text)));
+            State::Gave(given) => {
+                drop(mem::replace(&mut self.state, State::Gave(given)));
                 Ok(())
             }
             State::Refused(fault) => {
@@ -162,13 +168,14 @@ impl Session {
         }
     }
 
-    /// The page's text once it was finished, and nothing before and after a fault or want of memory.
+    /// The page's text once it was finished, and nothing before and after a fault or want of memory, nor where its quads are
+    /// shown.
     pub fn text(&self) -> &[u8]
         ensures { result.now ≡ text_in self.now }
     {
         match &self.state {
             State::Reads(_) => &[],
-            State::Gave(text) => text.as_slice(),
+            State::Gave(given) => given.text(),
             State::Refused(_) => &[],
             State::Spent => &[],
         }
@@ -181,6 +188,55 @@ impl Session {
     {
         let text = self.text();
         copy_front(&text[from.min(text.len())..], out)
+    }
+
+    /// How many blank nodes the page's graph has once it was finished, and none otherwise.
+    pub fn nodes(&self) -> u64
+        ensures { result ≡ nodes_in self.now }
+    {
+        match &self.state {
+            State::Reads(_) => 0,
+            State::Gave(given) => given.nodes(),
+            State::Refused(_) => 0,
+            State::Spent => 0,
+        }
+    }
+
+    /// How many quads the page has once it was finished, where they are shown one at a time; none otherwise.
+    pub fn quad_count(&self) -> usize
+        ensures { result ≡ length (quads_in self.now) }
+    {
+        match &self.state {
+            State::Reads(_) => 0,
+            State::Gave(given) => given.quad_count(),
+            State::Refused(_) => 0,
+            State::Spent => 0,
+        }
+    }
+
+    /// Shows the quad of this number, from 0, and answers whether there is one.
+    pub fn show(&mut self, alloc: Global, number: usize) -> Result<bool, NoMemory>
+        ensures keeps { KeepsQuads self.old self.new }
+        ensures shows { IfOk result (λ is_there. ShowsQuad self.old number is_there self.new) }
+    {
+        match &mut self.state {
+            State::Reads(_) => Ok(false),
+            State::Gave(given) => Ok(given.show(alloc, number)?),
+            State::Refused(_) => Ok(false),
+            State::Spent => Ok(false),
+        }
+    }
+
+    /// The quad that was shown last.
+    pub fn shown(&self) -> Option<&ShownQuad>
+        ensures { lent_quad result ≡ shown_in self.now }
+    {
+        match &self.state {
+            State::Reads(_) => None,
+            State::Gave(given) => given.shown(),
+            State::Refused(_) => None,
+            State::Spent => None,
+        }
     }
 
     /// The page's fault, where it was refused.

@@ -1,15 +1,29 @@
 //! Numbers and bytes from outside, as what they stand for.
 ghost use Rattle.std.specs.Prelude.{◌≡◌, MatchResult, Some, false};
-ghost use Rattle.rx_session.specs.Requests.{syntax_in, format_in, iri_in, graph_in, bytes_in, FailsOpen, ContextGives};
-ghost use Rattle.rx_job.specs.Words.{names_graphs};
+ghost use Rattle.rx_session.specs.Requests.{first_in, syntax_in, output_in, iri_in, graph_in, bytes_in, FailsOpen, ContextGives};
+ghost use Rattle.rx_session.specs.Wants.{names_graphs};
 
 use crate::errors::OpenError;
+use crate::outputs::Output;
 use rx_chars::Syntax;
 use rx_command::LARGEST_CONTEXT;
 use rx_job::Format;
 use rx_names::{Context, ContextError};
 use rx_terms::{Iri, IriError};
 use std::alloc::Global;
+
+/// The largest number of a first blank node, so that what is added to it stays within 64 bits.
+const LARGEST_FIRST: u64 = 0x8000_0000_0000_0000;
+
+/// The number of the first blank node, where it isn't too large.
+pub(crate) fn first_of(number: u64) -> Option<u64>
+    ensures { result ≡ first_in number }
+{
+    if number > LARGEST_FIRST {
+        return None;
+    }
+    Some(number)
+}
 
 /// The syntax of this number.
 pub(crate) fn syntax_of(number: u32) -> Option<Syntax>
@@ -22,15 +36,16 @@ pub(crate) fn syntax_of(number: u32) -> Option<Syntax>
     }
 }
 
-/// The format of this number.
-pub(crate) fn format_of(number: u32) -> Option<Format>
-    ensures { result ≡ format_in number }
+/// How triples are handed over, by the number of a format, or by 4 quad by quad.
+pub(crate) fn output_of(number: u32) -> Option<Output>
+    ensures { result ≡ output_in number }
 {
     match number {
-        0 => Some(Format::Nquads),
-        1 => Some(Format::Turtle),
-        2 => Some(Format::Nested),
-        3 => Some(Format::Jsonld),
+        0 => Some(Output::Text(Format::Nquads)),
+        1 => Some(Output::Text(Format::Turtle)),
+        2 => Some(Output::Text(Format::Nested)),
+        3 => Some(Output::Text(Format::Jsonld)),
+        4 => Some(Output::Quads),
         _ => None,
     }
 }
@@ -50,18 +65,18 @@ pub(crate) fn iri_of(alloc: Global, bytes: &[u8]) -> Result<Iri, OpenError>
     }
 }
 
-/// The name of the graph, where one is given. Usage comes exactly where the format can't say it, or it is no IRI.
+/// The name of the graph, where one is given. Usage comes exactly where it can't be said, or it is no IRI.
 pub(crate) fn graph_of(
     alloc: Global,
-    format: Format,
+    output: Output,
     name: Option<&[u8]>,
 ) -> Result<Option<Iri>, OpenError>
-    ensures { MatchResult result (λ graph. graph_in format (bytes_in name.entry) ≡ Some graph) (FailsOpen (graph_in format (bytes_in name.entry))) }
+    ensures { MatchResult result (λ graph. graph_in output (bytes_in name.entry) ≡ Some graph) (FailsOpen (graph_in output (bytes_in name.entry))) }
 {
     let Some(name) = name else {
         return Ok(None);
     };
-    if !names_graphs(format) {
+    if !names_graphs(output) {
         return Err(OpenError::Usage);
     }
     match iri_of(alloc, name) {
@@ -70,14 +85,15 @@ pub(crate) fn graph_of(
     }
 }
 
-fn names_graphs(format: Format) -> bool
-    ensures { result ≡ names_graphs format }
+fn names_graphs(output: Output) -> bool
+    ensures { result ≡ names_graphs output }
 {
-    match format {
-        Format::Nquads => true,
-        Format::Turtle => false,
-        Format::Nested => false,
-        Format::Jsonld => false,
+    match output {
+        Output::Text(Format::Nquads) => true,
+        Output::Text(Format::Turtle) => false,
+        Output::Text(Format::Nested) => false,
+        Output::Text(Format::Jsonld) => false,
+        Output::Quads => true,
     }
 }
 

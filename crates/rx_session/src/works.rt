@@ -1,21 +1,27 @@
 //! A page that is being read, for its triples, for its items or for its faults.
-ghost use Rattle.std.specs.Prelude.{ℕ, List};
+ghost use Rattle.std.specs.Prelude.{ℕ, List, IfOk};
 ghost use Rattle.rx_rdfa.specs.Names.{Context as RulesContext};
-ghost use Rattle.rx_job.specs.Words.{Task};
+ghost use Rattle.rx_command.specs.Written.{graph_made};
+ghost use Rattle.rx_session.specs.Given.{IsGiven};
+ghost use Rattle.rx_session.specs.Wants.{Want};
 ghost use Rattle.rx_session.specs.Works.{IsAt, PieceGives, EndGives, CheckEnds, ExtractionEnds, ItemizationEnds};
 
-use crate::texts::text_of;
-use rx_command::{Form, Outcome, text_of_items};
+use crate::given::Given;
+use crate::graphs::{Counted, graph_of};
+use crate::outputs::Plan;
+use crate::texts::{right_text, text_of};
+use rx_command::text_of_items;
 use rx_items::ItemWalk;
-use rx_terms::NoMemory;
+use rx_quads::Quads;
+use rx_terms::{NoMemory, TripleList};
 use rx_walk::{Check, Stop, Walk};
 use std::alloc::Global;
 
-/// A page that is being read: a walk where its triples are wanted, with how they are written, or where its items are; and a
-/// check where only its faults are.
+/// A page that is being read: a walk where its triples are wanted, with how they are handed over and the number of the first
+/// blank node, or where its items are; and a check where only its faults are.
 #[derive(Drop)]
 pub(crate) enum Work {
-    Extracts { walk: Walk, form: Form },
+    Extracts { walk: Walk, plan: Plan, first: u64 },
     Itemizes(ItemWalk),
     Checks(Check),
 }
@@ -23,8 +29,8 @@ pub(crate) enum Work {
 impl Work {
     /// Takes the whole piece.
     pub(crate) fn feed(&mut self, piece: &[u8]) -> Result<(), Stop>
-        ensures { (task : Task) (context : RulesContext) (bytes : List ℕ) → IsAt task context self.old bytes
-            → PieceGives task context bytes piece.now result self.new }
+        ensures { (want : Want) (context : RulesContext) (bytes : List ℕ) → IsAt want context self.old bytes
+            → PieceGives want context bytes piece.now result self.new }
     {
         match self {
             Work::Extracts { walk, .. } => walk.feed(piece),
@@ -33,44 +39,54 @@ impl Work {
         }
     }
 
-    /// The page's end: its text.
-    pub(crate) fn finish(self, alloc: Global) -> Result<Vec<u8>, Stop>
-        ensures { (task : Task) (context : RulesContext) (bytes : List ℕ) → IsAt task context self bytes → EndGives task context bytes result }
+    /// The page's end, and what it gives.
+    pub(crate) fn finish(self, alloc: Global) -> Result<Given, Stop>
+        ensures { (want : Want) (context : RulesContext) (bytes : List ℕ) → IsAt want context self bytes → EndGives want context bytes result }
     {
         match self {
-            Work::Extracts { walk, form } => extracted(alloc, walk, form),
+            Work::Extracts { walk, plan, first } => extracted(alloc, walk, plan, first),
             Work::Itemizes(walk) => itemized(alloc, walk),
             Work::Checks(check) => checked(alloc, check),
         }
     }
 }
 
-/// The text of the page's triples.
-fn extracted(alloc: Global, walk: Walk, form: Form) -> Result<Vec<u8>, Stop>
-    ensures { ExtractionEnds walk form result }
+/// What the page's triples give.
+fn extracted(alloc: Global, walk: Walk, plan: Plan, first: u64) -> Result<Given, Stop>
+    ensures { ExtractionEnds walk plan first result }
 {
     let list = match walk.finish() {
         Ok(list) => list,
         Err(stop) => {
-            drop(form);
+            drop(plan);
             return Err(stop);
         }
     };
-    let outcome = Outcome::of(alloc, list, form)?;
-    match text_of(alloc, &outcome) {
-        Ok(text) => {
-            drop(outcome);
-            Ok(text)
+    Ok(given_of(alloc, list, plan, first)?)
+}
+
+fn given_of(alloc: Global, list: TripleList, plan: Plan, first: u64) -> Result<Given, NoMemory>
+    ensures { IfOk result (λ given. IsGiven plan first (graph_made list) given) }
+{
+    let Ok(counted) = graph_of(alloc, list, first) else {
+        drop(plan);
+        return Err(NoMemory);
+    };
+    let Counted { graph, nodes } = counted;
+    match plan {
+        Plan::Text(form) => {
+            let text = text_of(alloc, graph, form)?;
+            Ok(Given::Text { text, nodes })
         }
-        Err(NoMemory) => {
-            drop(outcome);
-            Err(Stop::NoMemory)
+        Plan::Quads(name) => {
+            let quads = Quads::new(alloc, graph, name);
+            Ok(Given::Quads { quads, nodes })
         }
     }
 }
 
 /// The text of the page's items.
-fn itemized(alloc: Global, walk: ItemWalk) -> Result<Vec<u8>, Stop>
+fn itemized(alloc: Global, walk: ItemWalk) -> Result<Given, Stop>
     ensures { ItemizationEnds walk result }
 {
     let found = match walk.finish() {
@@ -80,7 +96,7 @@ fn itemized(alloc: Global, walk: ItemWalk) -> Result<Vec<u8>, Stop>
     match text_of_items(alloc, &found) {
         Ok(text) => {
             drop(found);
-            Ok(text)
+            Ok(Given::Text { text, nodes: 0 })
         }
         Err(stop) => {
             drop(found);
@@ -90,12 +106,13 @@ fn itemized(alloc: Global, walk: ItemWalk) -> Result<Vec<u8>, Stop>
 }
 
 /// That the page is one.
-fn checked(alloc: Global, check: Check) -> Result<Vec<u8>, Stop>
+fn checked(alloc: Global, check: Check) -> Result<Given, Stop>
     ensures { CheckEnds check result }
 {
     match check.finish() {
         Ok(()) => {}
         Err(stop) => return Err(stop),
     }
-    Ok(text_of(alloc, &Outcome::Right)?)
+    let text = right_text(alloc)?;
+    Ok(Given::Text { text, nodes: 0 })
 }

@@ -3,7 +3,9 @@ use Rattle.rx_session.proofs.WorkLemmas.{check_stops, check_ends}
 use Rattle.rx_session.proofs.works.checked.Goals as goal
 
 pub returns-in-Err : goal.returns-in-Err
-returns-in-Err c syntax context bytes at = check_stops syntax context c.args.check bytes c.in-Err.stop at (c.in-Err.ensures.gives (setting_for syntax context) bytes at)
+returns-in-Err c syntax first singly context bytes at =
+    check_stops syntax first singly context c.args.check bytes c.in-Err.stop at (c.in-Err.ensures.gives (setting_for syntax context) bytes at)
 
 pub returns : goal.returns
-returns c syntax context bytes at = check_ends syntax context bytes c.in_ok-text_of.field-0.items (c.in-Ok.ensures.gives (setting_for syntax context) bytes at) c.in_ok-text_of.ensures.text
+returns c syntax first singly context bytes at =
+    check_ends syntax first singly context bytes c.in_ok-text.text (c.in-Ok.ensures.gives (setting_for syntax context) bytes at) c.in_ok-text.ensures

@@ -1,0 +1,3 @@
+pub mod RaisedLemmas
+pub mod CountLemmas
+pub mod QuadLemmas

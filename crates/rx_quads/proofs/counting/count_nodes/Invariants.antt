@@ -1,0 +1,7 @@
+use Rattle.std.proofs.Common.{◌≡◌, take}
+use Rattle.rx_model.specs.Seen.{triples_seen}
+use Rattle.rx_quads.specs.Raised.{past}
+use Rattle.rx_quads.proofs.counting.count_nodes.Given as goal
+
+abbrev pub invariant-loop-i : goal.invariant-loop-i
+invariant-loop-i l = l.count ≡ past (triples_seen (take l.i l.graph))

@@ -1,0 +1,199 @@
+-- What is made of the triples of a page that was read.
+use Rattle.std.proofs.Common.{◌≡◌, ◌∙◌, ℕ, zero, suc, Bool, true, false, List, ◌++◌, refl, sym, ap, subst, encode_utf8_all}
+use Rattle.std.specs.Prelude.{codes, Option, Vec}
+use Rattle.rx_terms.specs.Text.{Chars}
+use Rattle.rx_terms.specs.declared.triples.Triple.{Triple as CodeTriple}
+use Rattle.rx_model.specs.Terms.{Triple, Graph, set_of}
+use Rattle.rx_model.specs.Numbered.{Renamed}
+use Rattle.rx_rdfa.specs.Blanks.{same_bnode, model}
+use Rattle.rx_rdfa.specs.Made.{made}
+use Rattle.rx_rdfa.specs.Names.{Context}
+use Rattle.rx_rdfa.specs.Whole.{written, graph_of}
+use Rattle.rx_rdfa.proofs.Exact.{exact_bnodes}
+use Rattle.rx_rdfa.proofs.Whole.{written_denotes}
+use Rattle.rx_model.specs.Copied.{copied}
+use Rattle.rx_grammar.specs.Trees.{Tree}
+use Rattle.rx_pages.proofs.Trees.{one_tree}
+use Rattle.rx_nquads.specs.Quads.{Quad, quads}
+use Rattle.rx_job.specs.declared.formats.Format.{Format}
+use Rattle.rx_job.specs.declared.formats.Format.TheVariants as format
+use Rattle.rx_job.specs.Words.{Extraction, extracts}
+use Rattle.rx_command.specs.Headline.{IsTheText}
+use Rattle.rx_command.specs.Outcome.{IsAccepted, IsTextAs, DenotesAs, HasText, Denotes, base_in, facts_in}
+use Rattle.rx_command.specs.Reading.{standard, GivesList}
+use Rattle.rx_command.specs.Written.{form_in, IsFormText, FormDenotes, graph_made}
+use Rattle.rx_command.proofs.MadeLemmas.{list_written}
+use Rattle.rx_command.proofs.OutcomeLemmas.{the_tree}
+use Rattle.rx_shapes.specs.Shapes.{Inner, Cell, last_cell, next_cell, IsShape}
+use Rattle.rx_shapes.specs.declared.shapes.Shape.{Shape}
+use Rattle.rx_shapes.specs.declared.shapes.Shape.TheVariants as shape
+use Rattle.rx_nested.specs.Laws.{HaveShapes}
+use Rattle.rx_nested.specs.Nesting.{nested}
+use Rattle.rx_jsonld.specs.Value.{jsonld}
+use Rattle.serde_json.specs.Written.{compact_text}
+use Rattle.rx_quads.specs.Raised.{raised, AreFrom, past}
+use Rattle.rx_quads.specs.Listed.{Listed, quads_of}
+use Rattle.rx_quads.proofs.CountLemmas.{numbers_without_gaps, renamed_then}
+use Rattle.rx_quads.proofs.RaisedLemmas.{raises_one_to_one}
+use Rattle.rx_session.specs.Given.{triples_from, HasTextFrom, IsTheTextFrom, IsTheTextOf, HasQuadsFrom, AreTheQuads, HasNodes, IsGiven, GivesWanted}
+use Rattle.rx_session.specs.Wants.{plan_for}
+use Rattle.rx_session.specs.declared.given.Given.{Given}
+use Rattle.rx_session.specs.declared.given.Given.TheVariants as given
+use Rattle.rx_session.specs.declared.outputs.Plan.{Plan}
+use Rattle.rx_session.specs.declared.outputs.Plan.TheVariants as plans
+use Rattle.rx_command.specs.declared.forms.Form.{Form}
+use Rattle.std.specs.declared.alloc.Global.{Global}
+
+-- ---- a node has one shape, and a list one text in a format
+
+cell_inner : (g : Graph ℕ) (b : ℕ) → Cell g b → Inner g b
+cell_inner g b (last_cell inner pair) = inner
+cell_inner g b (next_cell inner pair more) = inner
+
+one_shape : (g : Graph ℕ) (b : ℕ) (s t : Shape) → IsShape g b s → IsShape g b t → s ≡ t
+one_shape g b shape.Cell shape.Cell p q = refl
+one_shape g b shape.Cell shape.Inside p q = absurd (q.1 p)
+one_shape g b shape.Cell shape.Labelled p q = absurd (q (cell_inner g b p))
+one_shape g b shape.Inside shape.Cell p q = absurd (p.1 q)
+one_shape g b shape.Inside shape.Inside p q = refl
+one_shape g b shape.Inside shape.Labelled p q = absurd (q p.0)
+one_shape g b shape.Labelled shape.Cell p q = absurd (p (cell_inner g b q))
+one_shape g b shape.Labelled shape.Inside p q = absurd (p q.0)
+one_shape g b shape.Labelled shape.Labelled p q = refl
+
+same_shapes : (list : List (Triple ℕ)) (s t : ℕ → Shape) → HaveShapes list s → HaveShapes list t → s ≡ t
+same_shapes list s t p q = λ i n. one_shape (set_of list) n (s n) (t n) (p n) (q n) i
+
+one_text_as : (f : Format) (graph : Option Chars) (context : Context) (list : List (Triple ℕ)) (a b : List ℕ) → IsTextAs f graph context list a → IsTextAs f graph context list b → a ≡ b
+one_text_as format.Nquads graph context list a b p q = p ∙ sym q
+one_text_as format.Turtle graph context list a b p q = p ∙ sym q
+one_text_as format.Nested graph context list a b p q =
+    p.spelled ∙ (ap (λ (s : ℕ → Shape). encode_utf8_all (nested context.prefixes list s)) (same_shapes list p.shapes q.shapes p.have q.have) ∙ sym q.spelled)
+one_text_as format.Jsonld graph context list a b p q =
+    p.spelled ∙ (ap (λ (s : ℕ → Shape). compact_text (jsonld list s) ++ codes "\n") (same_shapes list p.shapes q.shapes p.have q.have) ∙ sym q.spelled)
+
+-- ---- a form writes what its format does
+
+module _ (graph : Option Chars) (context : Context) where
+  same_text : (f : Format) (list : List (Triple ℕ)) (text : List ℕ) → IsFormText (form_in f graph context) list text → IsTextAs f graph context list text
+  same_text format.Nquads list text is = is
+  same_text format.Turtle list text is = is
+  same_text format.Nested list text is = is
+  same_text format.Jsonld list text is = is
+
+  same_meaning : (f : Format) (text : List ℕ) (triples : List (Triple ℕ)) → FormDenotes (form_in f graph context) text triples → DenotesAs f graph text triples
+  same_meaning format.Nquads text triples d = d
+  same_meaning format.Turtle text triples d = d
+  same_meaning format.Nested text triples d = d
+  same_meaning format.Jsonld text triples d = d
+
+-- ---- a page has one text and one list of quads
+
+module _ (first : ℕ) (e : Extraction) (context : Context) (bytes : List ℕ) where
+  one_text_from : (a b : List ℕ) → HasTextFrom first e context bytes a → HasTextFrom first e context bytes b → a ≡ b
+  one_text_from a b p q =
+      let same : p.tree ≡ q.tree = one_tree e.syntax standard bytes p.tree q.tree p.is.page q.is.page in
+      one_text_as e.format e.graph context (triples_from first e context q.tree) a b
+      (subst (λ t. IsTextAs e.format e.graph context (triples_from first e context t) a) same p.spelled) q.spelled
+
+  one_quads_from : (a b : List Quad) → HasQuadsFrom first e context bytes a → HasQuadsFrom first e context bytes b → a ≡ b
+  one_quads_from a b p q =
+      let same : p.tree ≡ q.tree = one_tree e.syntax standard bytes p.tree q.tree p.is.page q.is.page in
+      p.are ∙ (ap (λ t. quads (triples_from first e context t) e.graph) same ∙ sym q.are)
+
+-- from 0 on it is the text that the command writes
+text_of : (first : ℕ) (e : Extraction) (context : Context) (bytes text : List ℕ) → IsTheTextFrom first e context bytes text → IsTheTextOf first e context bytes text
+text_of zero e context bytes text t = record {
+  tree = t.tree;
+  is = t.is;
+  gives = record { tree = t.gives.tree; is = t.gives.is; spelled = t.gives.spelled };
+  alone = λ other o. t.alone other (record { tree = o.tree; is = o.is; spelled = o.spelled });
+  denotes = t.denotes;
+}
+text_of (suc n) e context bytes text t = t
+
+-- ---- what is made of a list that a walk gives
+
+module _ (e : Extraction) (context : Context) (bytes : List ℕ) (list : List CodeTriple) (ended : GivesList e.syntax context e.address bytes list) (first : ℕ) where
+  accepted : IsAccepted e.syntax context bytes ended.tree
+  accepted = record { page = ended.page; accepted = ended.accepted }
+
+  same_graph : graph_made list ≡ written (base_in e.address ended.tree) (facts_in context ended.tree)
+  same_graph = list_written e.address context ended.tree list ended.made
+
+  renamed_from : Renamed (graph_of (base_in e.address ended.tree) (facts_in context ended.tree)) (set_of (triples_from first e context ended.tree))
+  renamed_from =
+      let graph : List (Triple ℕ) = written (base_in e.address ended.tree) (facts_in context ended.tree) in
+      renamed_then (graph_of (base_in e.address ended.tree) (facts_in context ended.tree)) (set_of graph) (set_of (raised first graph))
+      (written_denotes (base_in e.address ended.tree) (facts_in context ended.tree)) (raises_one_to_one first graph)
+
+  text_from : (text : List ℕ) → IsFormText (form_in e.format e.graph context) (raised first (graph_made list)) text
+      → FormDenotes (form_in e.format e.graph context) text (raised first (graph_made list)) → IsTheTextFrom first e context bytes text
+  text_from text spelled denotes =
+      let has : HasTextFrom first e context bytes text = record {
+        tree = ended.tree;
+        is = accepted;
+        spelled =
+            subst (λ ts. IsTextAs e.format e.graph context (raised first ts) text) same_graph
+            (same_text e.graph context e.format (raised first (graph_made list)) text spelled);
+      } in
+      record {
+        tree = ended.tree;
+        is = the_tree (extracts e) context bytes ended.tree accepted;
+        gives = has;
+        alone = λ other o. one_text_from first e context bytes other text o has;
+        denotes = record {
+          tree = ended.tree;
+          is = accepted;
+          triples = triples_from first e context ended.tree;
+          denotes =
+              subst (λ ts. DenotesAs e.format e.graph text (raised first ts)) same_graph
+              (same_meaning e.graph context e.format text (raised first (graph_made list)) denotes);
+          renamed = renamed_from;
+        };
+      }
+
+  quads_from : (of : List Quad) → of ≡ quads (raised first (graph_made list)) e.graph → AreTheQuads first e context bytes of
+  quads_from of is =
+      let same : of ≡ quads (triples_from first e context ended.tree) e.graph = is ∙ ap (λ ts. quads (raised first ts) e.graph) same_graph in
+      record {
+        tree = ended.tree;
+        is = the_tree (extracts e) context bytes ended.tree accepted;
+        gives = same;
+        alone = λ other o. one_quads_from first e context bytes other of o (record { tree = ended.tree; is = accepted; are = same });
+        renamed = renamed_from;
+      }
+
+  nodes_from : (count : ℕ) → count ≡ past (graph_made list) → HasNodes first e context bytes count
+  nodes_from count is =
+      let base : Chars = base_in e.address ended.tree in
+      record {
+        tree = ended.tree;
+        is = accepted;
+        from =
+            subst (λ n. AreFrom first n (triples_from first e context ended.tree)) (sym (is ∙ ap past same_graph))
+            (numbers_without_gaps same_bnode exact_bnodes first (copied same_bnode (made model base (facts_in context ended.tree))));
+      }
+
+  given_from : (singly : Bool) (g : Given) → IsGiven (plan_for singly e.format e.graph context) first (graph_made list) g → GivesWanted (extracts e) first singly context bytes g
+  given_from false (given.Text text nodes) m = (text_of first e context bytes text.items (text_from text.items m.0 m.1), nodes_from nodes m.2)
+  given_from false (given.Quads q nodes) m = absurd m
+  given_from true (given.Text text nodes) m = absurd m
+  given_from true (given.Quads q nodes) m = (quads_from (quads_of q) m.0, nodes_from nodes m.1)
+
+  pub walk_ends : (singly : Bool) (plan : Plan) (g : Given) → plan ≡ plan_for singly e.format e.graph context → IsGiven plan first (graph_made list) g
+      → GivesWanted (extracts e) first singly context bytes g
+  walk_ends singly plan g is made = given_from singly g (subst (λ (p : Plan). IsGiven p first (graph_made list) g) is made)
+
+-- ---- what is given
+
+pub given_text : (plan : Plan) (form : Form) (first : ℕ) (list seen : List (Triple ℕ)) (text : Vec ℕ Global) (nodes : ℕ) → plan ≡ plans.Text form → seen ≡ raised first list
+    → IsFormText form seen text.items → FormDenotes form text.items seen → nodes ≡ past list → IsGiven plan first list (given.Text text nodes)
+given_text plan form first list seen text nodes is e spelled denotes n =
+    subst (λ (p : Plan). IsGiven p first list (given.Text text nodes)) (sym is)
+    (subst (λ ts. IsFormText form ts text.items) e spelled, subst (λ ts. FormDenotes form text.items ts) e denotes, n)
+
+pub given_quads : (plan : Plan) (name : Option Chars) (first : ℕ) (list seen : List (Triple ℕ)) (q : Listed) (nodes : ℕ) → plan ≡ plans.Quads name → seen ≡ raised first list
+    → quads_of q ≡ quads seen name → nodes ≡ past list → IsGiven plan first list (given.Quads q nodes)
+given_quads plan name first list seen q nodes is e are n =
+    subst (λ (p : Plan). IsGiven p first list (given.Quads q nodes)) (sym is) (are ∙ ap (λ ts. quads ts name) e, n)
