@@ -12,7 +12,7 @@ http://h.example/anvil http://schema.org/name Anvil None
 >>> rdfax.check("<html><p></html></p>")
 Traceback (most recent call last):
   ...
-rdfax.errors.Refused: refused: Outside at byte 19 in token 16
+rdfax.errors.Refused: refused: NothingOpen at byte 19 in token 16
 
 A page is bytes in UTF-8, or a text. A page that isn't one by the grammar is refused at its first fault: `Refused` says
 why and where. Nothing is guessed.

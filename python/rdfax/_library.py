@@ -97,10 +97,6 @@ def _opened() -> ctypes.CDLL:
 def library() -> Any:
     """The shared object: the one that RDFAX_LIBRARY names, else the one beside this package, else the system's."""
     opened = _opened()
-    from rdfax import _today
-
-    if not hasattr(opened, "rdfax_quad"):
-        return _today.Today(opened)
     for name, (given, answer) in _CALLS.items():
         call = getattr(opened, name)
         call.argtypes, call.restype = given, answer

@@ -14,7 +14,7 @@ class Kind(NamedTuple):
     """A kind of fault.
 
     >>> KINDS["Mismatch"].wrong
-    'An end tag ends nothing that is open.'
+    'An end tag has another name than the open element.'
     >>> KINDS["Mismatch"].told("</p>")
     '</p> ends nothing that is open'
     """
