@@ -1,10 +1,11 @@
-"""How pip builds the package: a wheel of the modules, and of the shared object where there is one.
+"""How pip builds the package: a wheel of the modules, and of the shared objects that there are.
 
 This is a build backend (PEP 517) that needs Python's standard library alone, so that `pip install ./python` works in a
 fresh virtual environment without a network: such a one has no `wheel`, and from Python 3.12 on no setuptools either.
 
-The shared object is the file that RDFAX_LIBRARY names, else the one that `./build` made. Where there is none, the wheel
-is of the modules alone, and the package uses the system's library.
+The library is the file that RDFAX_LIBRARY names, else the one that `./build` made; the mender's is the one that
+RDFAX_MEND_LIBRARY names, else the one of `make -C mend`. A wheel without them is of the modules alone, and the package uses
+the system's.
 """
 
 from __future__ import annotations
@@ -23,8 +24,8 @@ from pathlib import Path
 from typing import Any
 
 HERE = Path(__file__).resolve().parent
-SONAME = "librdfax.so.0"
-BUILT = HERE.parent / "built" / SONAME
+# The variable that names each shared object, and where it is else.
+SHARED_OBJECTS = {"RDFAX_LIBRARY": "built/librdfax.so.0", "RDFAX_MEND_LIBRARY": "mend/out/librdfax_mend.so.0"}
 # Files have one time, so that the same sources give the same wheel: the first that a zip file can tell.
 EPOCH = (1980, 1, 1, 0, 0, 0)
 
@@ -46,12 +47,14 @@ def project() -> dict[str, Any]:
     return table
 
 
-def shared_object() -> Path | None:
-    """The library that goes into the wheel, if there is one."""
-    named = os.environ.get("RDFAX_LIBRARY")
-    if named:
-        return Path(named)
-    return BUILT if BUILT.is_file() else None
+def _shared_objects() -> list[tuple[str, bytes]]:
+    """The shared objects that go into the wheel, as far as there are any."""
+    found = []
+    for variable, made in SHARED_OBJECTS.items():
+        path = Path(os.environ.get(variable) or HERE.parent / made)
+        if path.is_file() or os.environ.get(variable):
+            found.append((f"rdfax/{Path(made).name}", path.read_bytes()))
+    return found
 
 
 def metadata() -> str:
@@ -111,13 +114,12 @@ def _digest(content: bytes) -> str:
 
 
 def build_wheel(wheel_directory: str, config_settings: Settings = None, metadata_directory: str | None = None) -> str:
-    """Writes the wheel: for any system, or for this one where the shared object is inside."""
-    library = shared_object()
-    if library is None:
+    """Writes the wheel: for any system, or for this one where a shared object is inside."""
+    inside = _shared_objects()
+    if not inside:
         return _write_wheel(wheel_directory, "py3-none-any", _modules())
     platform = sysconfig.get_platform().replace("-", "_").replace(".", "_")
-    inside = (f"rdfax/{SONAME}", library.read_bytes())
-    return _write_wheel(wheel_directory, f"py3-none-{platform}", [*_modules(), inside])
+    return _write_wheel(wheel_directory, f"py3-none-{platform}", [*_modules(), *inside])
 
 
 def build_editable(wheel_directory: str, config_settings: Settings = None, metadata_directory: str | None = None) -> str:

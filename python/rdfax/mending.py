@@ -24,7 +24,7 @@ from rdfax.terms import Quad
 
 __all__ = ["Mended", "MendedQuads", "MendedText", "NotMended", "checked", "extracted", "items_told", "mend", "quads_told"]
 
-SONAME = "librdfax_mend.so"
+SONAME = "librdfax_mend.so.0"
 
 _DONE, _REFUSED, _USAGE, _NO_MEMORY = 0, 1, 2, 5
 _CHANGES = ("characters", "token_errors", "tree_errors", "implied", "comments", "templates", "attributes", "names", "spans", "raw", "doctypes")
