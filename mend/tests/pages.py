@@ -20,7 +20,7 @@ def unpacked(package: str, cache: Path) -> Path:
     """The folder of a binary package's files, fetched once."""
     folder = cache / "pages" / package
     if not folder.is_dir():
-        cache.mkdir(parents=True, exist_ok=True)
+        folder.parent.mkdir(parents=True, exist_ok=True)
         subprocess.run(["apt-get", "-qq", "download", package], cwd=cache, check=True, stderr=subprocess.DEVNULL)
         (archive,) = cache.glob(f"{package}_*.deb")
         subprocess.run(["dpkg", "-x", archive, folder], check=True)

@@ -201,7 +201,8 @@ class Page:
 
     def _quad(self, number: int, lent: Terms, make: _Make) -> tuple[Any, Any, Any, Any]:
         if not library().rdfax_quad(self._handle, number, lent):
-            raise Usage("the page was closed while its quads were read")
+            is_closed = number >= library().rdfax_quad_count(self._handle)
+            self._answered(_library.USAGE if is_closed else _library.NO_MEMORY)
         kind, text, length, predicate, predicate_length, object_kind, *value, graph_kind, graph, graph_length = _TERMS.unpack_from(lent)
         return (
             make(kind, string_at(text, length), b"", b""),

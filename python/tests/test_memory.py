@@ -5,6 +5,11 @@ from __future__ import annotations
 import subprocess
 import sys
 
+import pytest
+
+import rdfax
+from rdfax._library import library
+
 SCRIPT = """
 import resource, rdfax
 small, base = '<html><p property="schema:name">Anvil</p></html>', "http://h.example/d"
@@ -26,3 +31,12 @@ print(rdfax.extract(small, base), end="")
 def test_want_of_memory_is_a_memory_error() -> None:
     done = subprocess.run([sys.executable, "-c", SCRIPT], capture_output=True, text=True, check=True)
     assert done.stdout.splitlines() == ["MemoryError"] * 3 + ['<http://h.example/d> <http://schema.org/name> "Anvil" .']
+
+
+def test_a_quad_that_is_there_but_not_told_is_a_memory_error(monkeypatch: pytest.MonkeyPatch) -> None:
+    with rdfax.Page("quads", "http://h.example/d") as page:
+        page.feed('<html><p property="schema:name">Anvil</p></html>')
+        page.finish()
+        monkeypatch.setattr(library(), "rdfax_quad", lambda *_: False)
+        with pytest.raises(MemoryError):
+            next(page.quads())
