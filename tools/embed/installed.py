@@ -14,6 +14,13 @@ FILES = {
     "bin/rdfax", "include/rdfax.h", "lib/librdfax.a", "lib/librdfax.so", "lib/librdfax.so.0", "lib/librdfax.so.VERSION", "lib/pkgconfig/rdfax.pc",
     "share/man/man1/rdfax.1", "share/man/man3/rdfax.3",
 }
+# what comes with them where the mender was made, and where lexbor was fetched for it
+MENDER, LEXBOR = os.path.join(HERE, "mend/out/rdfax-mend"), os.path.join(HERE, "mend/out/lexbor")
+FILES_OF_MENDER = {
+    "bin/rdfax-mend", "include/rdfax_mend.h", "lib/librdfax_mend.a", "lib/librdfax_mend.so", "lib/librdfax_mend.so.0",
+    "share/man/man1/rdfax-mend.1",
+}
+COPYRIGHT_OF_LEXBOR = "share/doc/rdfax-mend/lexbor-copyright"
 
 
 def said(*words: str, **settings: str) -> str:
@@ -56,12 +63,18 @@ def works(folder: str, prefix: str) -> bool:
     return found == [wanted, wanted] and said("pkg-config", "--modversion", "rdfax", **path).strip() == header.version()
 
 
+def wanted_files() -> set[str]:
+    if not os.path.exists(MENDER):
+        return FILES
+    return FILES | FILES_OF_MENDER | ({COPYRIGHT_OF_LEXBOR} if os.path.exists(LEXBOR) else set())
+
+
 def install_holds(folder: str) -> bool:
     """Whether ./install copies all below a folder, where it is used, and with DESTDIR the same below that."""
     install, prefix, root = os.path.join(HERE, "install"), os.path.join(folder, "prefix"), os.path.join(folder, "root")
     said(install, prefix)
     said(install, "/usr", DESTDIR=root)
-    right = files_below(prefix) == FILES and files_below(os.path.join(root, "usr")) == FILES and works(folder, prefix)
+    right = files_below(prefix) == files_below(os.path.join(root, "usr")) == wanted_files() and works(folder, prefix)
     right = right and "\nlibdir=/usr/lib\n" in said("cat", os.path.join(root, "usr/lib/pkgconfig/rdfax.pc"))
     print(f"install: {'program and example, by pkg-config, shared and static, write the same; DESTDIR holds' if right else 'WRONG'}")
     return right
