@@ -48,12 +48,13 @@ def project() -> dict[str, Any]:
 
 
 def _shared_objects() -> list[tuple[str, bytes]]:
-    """The shared objects that go into the wheel, as far as there are any."""
+    """The shared objects that go into the wheel, as far as there are any, with the copyright of what is linked into one."""
     found = []
     for variable, made in SHARED_OBJECTS.items():
         path = Path(os.environ.get(variable) or HERE.parent / made)
         if path.is_file() or os.environ.get(variable):
             found.append((f"rdfax/{Path(made).name}", path.read_bytes()))
+            found += [("rdfax/lexbor-copyright", notice.read_bytes()) for notice in path.parent.glob("lexbor/copyright")]
     return found
 
 

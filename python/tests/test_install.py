@@ -21,6 +21,7 @@ import rdfax
 TOP = Path(__file__).resolve().parents[2]
 VERSION = (TOP / "VERSION").read_text(encoding="ascii").strip()
 LIBRARY = os.environ.get("RDFAX_LIBRARY", str(TOP / "built" / "librdfax.so.0"))
+MENDER = TOP / "mend" / "out" / "librdfax_mend.so.0"
 USE = """
 import json, rdfax
 print(json.dumps([rdfax.__version__, rdfax.__file__, rdfax.extract('<html><p property="schema:name">Anvil</p></html>', "http://h.example/d")]))
@@ -92,3 +93,12 @@ def test_the_same_sources_give_the_same_wheel(python: Path, tmp_path: Path) -> N
         pip(python, "wheel", "--no-deps", "--wheel-dir", copied, copied / "python", RDFAX_LIBRARY=LIBRARY)
     one, two = (next((tmp_path / folder).glob("*.whl")).read_bytes() for folder in ("one", "two"))
     assert one == two
+
+
+@pytest.mark.skipif(not MENDER.is_file(), reason="the mender isn't made")
+def test_a_wheel_has_the_mender_inside(python: Path) -> None:
+    pip(python, "install", TOP / "python", RDFAX_LIBRARY=LIBRARY)
+    script = "import rdfax; print(rdfax.mend('<p>Anvil').page.decode())"
+    environment = {name: value for name, value in os.environ.items() if name not in ("RDFAX_LIBRARY", "RDFAX_MEND_LIBRARY", "PYTHONPATH")}
+    done = subprocess.run([python, "-I", "-c", script], env=environment, capture_output=True, text=True, check=True)
+    assert done.stdout == "<html><head></head><body><p>Anvil</p></body></html>\n"
