@@ -201,8 +201,9 @@ class Page:
 
     def _quad(self, number: int, lent: Terms, make: _Make) -> tuple[Any, Any, Any, Any]:
         if not library().rdfax_quad(self._handle, number, lent):
-            is_closed = number >= library().rdfax_quad_count(self._handle)
-            self._answered(_library.USAGE if is_closed else _library.NO_MEMORY)
+            if number >= library().rdfax_quad_count(self._handle):
+                raise Usage("the page was closed while its quads were read")
+            raise MemoryError("rdfax: there was no memory")
         kind, text, length, predicate, predicate_length, object_kind, *value, graph_kind, graph, graph_length = _TERMS.unpack_from(lent)
         return (
             make(kind, string_at(text, length), b"", b""),

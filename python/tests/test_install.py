@@ -80,7 +80,8 @@ def test_a_folder_is_installed_to_be_edited(python: Path) -> None:
 
 def test_an_archive_of_sources_is_installed(python: Path, tmp_path: Path) -> None:
     script = f"import backend; print(backend.build_sdist({str(tmp_path)!r}))"
-    name = subprocess.run([sys.executable, "-c", script], cwd=TOP / "python", capture_output=True, text=True, check=True).stdout.strip()
+    environment = {**os.environ, "PYTHONPATH": str(TOP / "python")}
+    name = subprocess.run([sys.executable, "-c", script], env=environment, capture_output=True, text=True, check=True).stdout.strip()
     pip(python, "install", tmp_path / name)
     assert uses(python, RDFAX_LIBRARY=LIBRARY)[0] == VERSION
 
