@@ -85,6 +85,16 @@ def feed():
 threading.Thread(target=feed, daemon=True).start()
 time.sleep(0.2)
 """,
+    "a page that a thread feeds": """
+import atexit, threading, time
+atexit.register(time.sleep, 0.2)  # (what the package does at the end is done before this, so that the thread would meet it)
+page = rdfax.Page('extract', 'http://h.example/d')
+def feed():
+    while True:
+        page.feed(b' ')
+        time.sleep(0.01)
+threading.Thread(target=feed, daemon=True).start()
+""",
     "quads that are half read": """
 found = rdfax.quads('<html><p property="schema:name">1</p><p property="schema:name">2</p></html>', 'http://h.example/d')
 next(found)
