@@ -27,7 +27,7 @@ def add_arguments(parser: argparse.ArgumentParser) -> None:
     parser.add_argument("--seconds", type=float, default=10, metavar="N", help="how long the reading of a page may take (10)")
     parser.add_argument("--memory", type=int, default=1024, metavar="MIB", help="how much memory the reading of a page may take (1024)")
     parser.add_argument("--bytes", type=int, default=32 << 20, metavar="N", help="how many bytes a page may have (33554432)")
-    parser.add_argument("--workers", type=int, default=2, metavar="N", help="how many pages are read at once (2)")
+    parser.add_argument("--workers", type=int, default=3, metavar="N", help="how many pages are read at once (3)")
 
 
 def run(arguments: argparse.Namespace) -> int:
@@ -51,7 +51,7 @@ def run(arguments: argparse.Namespace) -> int:
     pool = Pool(limits)
     app = create_app(Settings(private=arguments.private, public=arguments.public, limits=limits), pool)
     host = "0.0.0.0" if arguments.public else "127.0.0.1"
-    server = waitress.create_server(app, host=host, port=arguments.port, ident="rdfax", threads=16, max_request_body_size=arguments.bytes + 1)
+    server = waitress.create_server(app, host=host, port=arguments.port, ident="rdfax", threads=16, max_request_body_size=4 * arguments.bytes)
     address = f"http://127.0.0.1:{server.effective_port}/"
     if arguments.public:
         print(_PUBLIC, file=sys.stderr)

@@ -49,11 +49,12 @@ def _refusing(app: Flask, settings: Settings) -> None:
     """What is refused before anything is read."""
 
     @app.before_request
-    def look() -> None:
+    def look() -> Response | None:
         if not settings.public and not _is_own_host(request.host):
-            abort(421, "This server answers to 127.0.0.1 and localhost alone.")
+            return Response('{"failed":"This server answers to 127.0.0.1 and localhost alone."}', 421, mimetype="application/json")
         if request.method == "POST" and _OWN_HEADER not in request.headers:
             abort(403, "Only the page itself may ask.")
+        return None
 
     @app.errorhandler(HTTPException)
     def told(error: HTTPException) -> Response:

@@ -2,6 +2,7 @@
 
 from __future__ import annotations
 
+import typing
 from collections import defaultdict
 from collections.abc import Iterator
 
@@ -9,6 +10,9 @@ from rdfax.serving.triples import RDF, RDFA, Triple
 from rdfax.terms import Blank, Iri, Object, Subject
 
 __all__ = ["copied", "numbered"]
+
+# A subject stays a subject.
+Term = typing.TypeVar("Term", Subject, Object)
 
 _TYPE, _PATTERN, _COPY = Iri(f"{RDF}type"), Iri(f"{RDFA}Pattern"), Iri(f"{RDFA}copy")
 
@@ -66,7 +70,7 @@ def numbered(triples: list[Triple]) -> list[Triple]:
     """The triples with b0, b1, b2 for their blank nodes, in order of first occurrence."""
     labels = dict[str, Blank]()
 
-    def label(term: Object) -> Object:
-        return labels.setdefault(term, Blank(f"b{len(labels)}")) if isinstance(term, Blank) else term
+    def label(term: Term) -> Term:
+        return typing.cast("Term", labels.setdefault(term, Blank(f"b{len(labels)}"))) if isinstance(term, Blank) else term
 
     return [triple._replace(subject=label(triple.subject), object=label(triple.object)) for triple in triples]

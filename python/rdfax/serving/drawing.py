@@ -31,7 +31,7 @@ def short(iri: str) -> str:
     'schema:name'
     """
     found = max((name for name, start in STANDARD.prefixes.items() if iri.startswith(start)), key=lambda name: len(STANDARD.prefixes[name]), default=None)
-    return iri if found is None else f"{found}:{iri.removeprefix(STANDARD.prefixes[found])}"
+    return iri if found is None or iri == STANDARD.prefixes[found] else f"{found}:{iri.removeprefix(STANDARD.prefixes[found])}"
 
 
 def _label(text: str) -> str:
@@ -53,7 +53,10 @@ class _Dot:
 
     def __init__(self) -> None:
         self._nodes = dict[tuple[type, str], str]()
-        self.lines = ["digraph {", 'rankdir=LR; nslimit=1; nslimit1=1; mclimit=0.5; node [fontname="sans-serif" fontsize=11]; edge [fontname="sans-serif" fontsize=9];']
+        self.lines = [
+            "digraph {",
+            'rankdir=LR; nslimit=1; nslimit1=1; mclimit=0.5; node [fontname="sans-serif" fontsize=11]; edge [fontname="sans-serif" fontsize=9];',
+        ]
 
     def _resource(self, term: Subject) -> str:
         key = (type(term), str(term))

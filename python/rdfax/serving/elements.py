@@ -44,7 +44,7 @@ class Facts(NamedTuple):
     linked: Resource | None
     rel: list[Predicate] | None
     rev: list[Predicate] | None
-    property: list[Predicate] | None
+    properties: list[Predicate] | None
     types: list[Resource] | None
     datatype: Predicate | None
     plain: bool
@@ -168,5 +168,5 @@ def resources_of(facts: Facts, around: Resource, fallback: Resource | None, new:
         typed = (facts.about or at_root or facts.linked or fallback or new) if has_typeof else None
         return Resources(facts.about or at_root or around, typed, typed)
     subject = facts.about or facts.linked or fallback or (new if has_typeof else None) or around
-    silent = facts.property is None and facts.about is None and facts.linked is None and at_root is None and not has_typeof
+    silent = facts.properties is None and facts.about is None and facts.linked is None and at_root is None and not has_typeof
     return Resources(subject, subject if has_typeof else None, None, silent)

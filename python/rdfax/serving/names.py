@@ -147,7 +147,8 @@ class Scope:
         if self.vocabulary is not None:
             return Name("iri", cleaned(self.vocabulary.iri + token), "vocabulary", "", self.vocabulary)
         terms, lowered = self._context.terms, ascii_lowered(token)
-        name = token if token in terms else next((term for term in terms if ascii_lowered(term) == lowered), None)
+        alike = [token] if token in terms else [term for term in terms if ascii_lowered(term) == lowered]
+        name = next(iter(alike), None)
         return None if name is None else Name("iri", cleaned(terms[name]), "term", name)
 
     def _curie(self, text: str) -> Name | None:

@@ -232,7 +232,7 @@ class _Machine:
 
     def _value(self, facts: Facts, here: Resources, lists: _Lists) -> _Waiting | None:
         """Says the properties, or answers what waits for the element's text."""
-        if facts.property is None:
+        if facts.properties is None:
             return None
         value = _value_now(facts, here)
         if value is not None:
@@ -240,11 +240,11 @@ class _Machine:
             return None
         items = []
         if facts.inlist:
-            items = [lists.add(predicate, self._origin(facts, here.subject, predicate, _by_text(facts)), None) for predicate in facts.property]
+            items = [lists.add(predicate, self._origin(facts, here.subject, predicate, _by_text(facts)), None) for predicate in facts.properties]
         return _Waiting(facts, here.subject, items, len(self._texts))
 
     def _say_properties(self, facts: Facts, subject: Resource, lists: _Lists | None, value: Object, how: How) -> None:
-        for predicate in facts.property or ():
+        for predicate in facts.properties or ():
             origin = self._origin(facts, subject, predicate, how)
             if facts.inlist and lists is not None:
                 lists.add(predicate, origin, value)

@@ -5,6 +5,7 @@ Each function answers what `json.dumps` takes.
 
 from __future__ import annotations
 
+import importlib
 import itertools
 import json
 import time
@@ -44,8 +45,9 @@ def _term(term: Object) -> Told:
 def _triples(page: bytes, base: str, syntax: pages.Syntax) -> Told:
     with pages.Page("quads", base, syntax=syntax) as opened:
         _feed(opened, page)
-        shown = [[_term(quad.subject), _term(quad.predicate), _term(quad.object)] for quad in itertools.islice(opened.quads(), SHOWN_TRIPLES)]
-        count = sum(1 for _ in opened.quads()) if len(shown) == SHOWN_TRIPLES else len(shown)
+        quads = opened.quads()
+        shown = [[_term(quad.subject), _term(quad.predicate), _term(quad.object)] for quad in itertools.islice(quads, SHOWN_TRIPLES)]
+        count = len(shown) + sum(1 for _ in quads)
     return {"triples": shown, "count": count, "prefixes": STANDARD.prefixes}
 
 
@@ -182,7 +184,7 @@ class _Spans:
 def mended(page: bytes, charset: str | None) -> Told:
     """The page as a browser's reading has it, where the mender is there."""
     try:
-        from rdfax.mending import mend
+        mend = importlib.import_module("rdfax.mending").mend
     except ImportError:
         return {"none": "The mender isn't there: this rdfax was built without it."}
     try:
@@ -195,4 +197,3 @@ def mended(page: bytes, charset: str | None) -> Told:
 def whole(page: bytes, base: str, syntax: pages.Syntax) -> Told:
     """All views of a page and the places of its triples, for a report."""
     return {"views": {view: read(page, base, syntax, view) for view in VIEWS}, "places": places(page, base, syntax)}
-

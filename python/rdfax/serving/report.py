@@ -74,7 +74,8 @@ def _digest(content: str) -> str:
 def written(told: Sequence[dict[str, Any]]) -> str:
     """The report's file. Only its own scripts run: its policy names their digests."""
     styles, scripts = [_content(path) for path in _STYLES], [_content(path) for path in _SCRIPTS]
-    policy = f"default-src 'none'; script-src {' '.join(map(_digest, scripts))}; style-src {' '.join(map(_digest, styles))}; base-uri 'none'; form-action 'none'"
+    digests = {"script-src": map(_digest, scripts), "style-src": map(_digest, styles)}
+    policy = "; ".join(["default-src 'none'", "base-uri 'none'", "form-action 'none'", *(f"{name} {' '.join(values)}" for name, values in digests.items())])
     return _FRAME.format(
         policy=policy,
         styles="\n".join(f"<style>{style}</style>" for style in styles),

@@ -9,6 +9,7 @@ import queue
 import resource
 import signal
 import threading
+from collections.abc import Callable
 from contextlib import suppress
 from multiprocessing.connection import Connection
 from multiprocessing.context import ForkServerProcess
@@ -26,7 +27,7 @@ class Limits(NamedTuple):
     seconds: float = 10
     waiting: float = 30
     memory: int = 1 << 30
-    workers: int = 2
+    workers: int = 3
 
 
 class Busy(Exception):
@@ -48,7 +49,7 @@ def _answer(task: str, words: tuple[Any, ...]) -> bytes:
 
     if task == "text":
         return reading.text(*words)
-    tasks = {"read": reading.read, "places": reading.places, "mended": reading.mended, "fetch": _fetched}
+    tasks: dict[str, Callable[..., dict[str, Any]]] = {"read": reading.read, "places": reading.places, "mended": reading.mended, "fetch": _fetched}
     return json.dumps(tasks[task](*words)).encode()
 
 

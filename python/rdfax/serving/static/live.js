@@ -59,7 +59,8 @@
 
     async json(path, words, body = null) {
       try {
-        return await (await this.post(path, words, body)).json();
+        const response = await this.post(path, words, body);
+        return response.status === 413 ? { failed: "The page has more bytes than the server takes." } : await response.json();
       } catch (error) {
         return error.name === "AbortError" ? null : { failed: "The server doesn't answer: is it still running?" };
       }
@@ -111,6 +112,7 @@
 
     setSource(text, raw = null, mended = false) {
       if (!mended) this.mendedOf = null;
+      at("redirects")?.remove();
       this.setting = true;
       this.editor.setValue(text);
       this.setting = false;
@@ -175,6 +177,7 @@
 
     changed() {
       this.hint.hidden = !this.isEmpty();
+      this.workbench.busy(true);
       clearTimeout(this.timer);
       this.timer = setTimeout(() => {
         this.workbench.refresh();

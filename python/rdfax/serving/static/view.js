@@ -6,7 +6,10 @@ const rdfax = {};
 
 (() => {
   const SVG = "http://www.w3.org/2000/svg";
-  const ROWS = 1000;
+  const ROWS = 300;
+  // After a change of a longer page its places are asked for once nothing more was changed for a while.
+  const LONG = 50_000;
+  const QUIET = 300;
   const TABS = [
     ["triples", "Triples"],
     ["turtle", "Turtle"],
@@ -63,7 +66,7 @@ const rdfax = {};
     for (const [name, start] of Object.entries(prefixes)) {
       if (iri.startsWith(start) && (best === null || start.length > prefixes[best].length)) best = name;
     }
-    return best === null ? iri : `${best}:${iri.slice(prefixes[best].length)}`;
+    return best === null || iri === prefixes[best] ? iri : `${best}:${iri.slice(prefixes[best].length)}`;
   }
 
   function termElement(term, prefixes) {
@@ -71,6 +74,11 @@ const rdfax = {};
     if ("blank" in term) return make("span", { class: "blank" }, `_:${term.blank}`);
     const kind = term.language ? ` @${term.language}` : term.datatype ? ` ${shortened(term.datatype, prefixes)}` : "";
     return make("span", { class: "literal" }, `\u201c${term.text}\u201d`, make("span", { class: "faint" }, kind));
+  }
+
+  // A sentence in which code stands between backquotes.
+  function sentence(text) {
+    return text.split("`").map((piece, at) => (at % 2 ? make("code", {}, piece) : piece));
   }
 
   function count(number, noun) {
@@ -99,6 +107,11 @@ const rdfax = {};
     mark(from, to, name) {
       const [start, end] = [{ line: from[0], ch: from[1] }, { line: to[0], ch: to[1] }];
       this.marks.push(this.editor.markText(start, end, { className: name }));
+    }
+
+    note(at, words) {
+      const widget = make("span", { class: "fault decides" }, words);
+      this.marks.push(this.editor.setBookmark({ line: at[0], ch: at[1] }, { widget }));
     }
 
     clear() {
@@ -183,6 +196,7 @@ const rdfax = {};
     // Asks anew, and shows what comes, unless something newer was asked meanwhile.
     async refresh() {
       const ticket = ++this.ticket;
+      this.busy(true);
       this.source.clear();
       this.chosen = null;
       this.origins = null;
@@ -192,11 +206,22 @@ const rdfax = {};
       if (ticket !== this.ticket || told === null) return;
       this.told = told;
       this.show(view);
-      const places = await this.provider.places();
-      if (ticket === this.ticket && places !== null) this.showPlaces(places);
+      this.busy(false);
+      if (told.bytes > LONG && this.provider.isEmpty) await new Promise((done) => setTimeout(done, QUIET));
+      if (ticket !== this.ticket) return;
+      const places = "count" in told ? await this.provider.places() : {};
+      if (ticket !== this.ticket || places === null) return;
+      this.showPlaces(places);
+      this.panel.dataset.placed = "true";
+    }
+
+    busy(on) {
+      this.panel.setAttribute("aria-busy", String(on));
+      if (on) delete this.panel.dataset.placed;
     }
 
     showEmpty() {
+      this.busy(false);
       this.refusal.hidden = this.copyNote.hidden = true;
       this.status.textContent = "";
       this.panel.replaceChildren(
@@ -242,9 +267,9 @@ const rdfax = {};
       const where = `The token begins at byte ${fault.token}; byte ${fault.at} decides.`;
       this.refusal.replaceChildren(
         make("h2", {}, head),
-        make("p", {}, make("code", {}, `${fault.told}.`)),
+        ...(fault.wrong.toLowerCase() === `${fault.told}.`.toLowerCase() ? [] : [make("p", {}, make("code", {}, `${fault.told}.`))]),
         make("p", {}, fault.wrong),
-        make("p", {}, make("strong", {}, "Mended: "), fault.mended),
+        make("p", {}, make("strong", {}, "How it is mended: "), ...sentence(fault.mended)),
         make(
           "div",
           { class: "tools" },
@@ -257,9 +282,17 @@ const rdfax = {};
       this.status.textContent = head;
       const what = this.tab === "items" ? "items" : "triples";
       this.panel.replaceChildren(make("p", {}, `A refused page has no ${what}: nothing is guessed.`));
-      this.source.mark(fault.start, fault.end, "fault");
-      const decided = [fault.end[0], Math.max(0, fault.end[1] - 1)];
-      if (fault.at >= fault.token) this.source.mark(decided, fault.end, "decides");
+      this.markFault(fault);
+    }
+
+    // The token from its first byte to the one that decides, and the place behind the last where the page ends too early.
+    markFault(fault) {
+      const same = fault.start[0] === fault.end[0] && fault.start[1] === fault.end[1];
+      if (same || fault.at >= this.told.bytes) this.source.note(fault.end, "\u25c2 the page ends here");
+      if (!same) {
+        this.source.mark(fault.start, fault.end, "fault");
+        if (fault.at < this.told.bytes) this.source.mark([fault.end[0], Math.max(0, fault.end[1] - 1)], fault.end, "decides");
+      }
       this.source.show(fault.start);
     }
 
@@ -290,10 +323,10 @@ const rdfax = {};
       if (!triples.length) return this.panel.replaceChildren(make("p", {}, "The page has no triples. Look at the items, too: Microdata is shown there."));
       this.body = make("tbody", { onkeydown: (event) => this.rowKeys(event) });
       const shown = all > triples.length ? `The first ${triples.length.toLocaleString("en")} of ${count(all, "triple")}` : count(all, "triple");
-      const heads = ["Place", "Subject", "Predicate", "Object"].map((name) => make("th", { scope: "col" }, name));
+      const heads = ["Place", "Subject", "Predicate", "Object"].map((name) => make("th", { scope: "col", class: name.toLowerCase() }, name));
       const table = make("table", {}, make("caption", {}, `${shown}. A row shows where it is said.`), make("thead", {}, make("tr", {}, ...heads)), this.body);
       this.origin = make("div", { class: "origin", "aria-live": "polite", hidden: true });
-      this.panel.replaceChildren(this.tools("nquads"), this.origin, table);
+      this.panel.replaceChildren(this.tools("nquads"), table, this.origin);
       this.addRows(ROWS);
     }
 
@@ -410,6 +443,7 @@ const rdfax = {};
         if (before(span) && (best < 0 || span[0] > spans[origins[best].span][0])) best = number;
       }
       if (best < 0 || !this.reaches(spans[origins[best].span], cursor)) return;
+      if (this.tab === "triples" && best >= this.rows.length) this.addRows(best + 1);
       this.markOrigin(best, false);
       this.markRows(origins, origins[best].span);
     }
@@ -451,11 +485,15 @@ const rdfax = {};
     showGraph() {
       if (!this.told.svg) return this.panel.replaceChildren(make("p", {}, this.told.none));
       const { drawn, count: all } = this.told;
-      const note = drawn < all ? make("p", {}, `The first ${drawn} of ${count(all, "triple")} are drawn.`) : make("p", { class: "faint" }, "An arrow leads to its place in the source, a node to its rows.");
+      const note = drawn < all ? make("span", {}, `The first ${drawn} of ${count(all, "triple")} are drawn.`) : make("span", { class: "faint" }, "An arrow leads to its place in the source, a node to its rows.");
       const svg = this.drawn(this.told.svg);
       svg.setAttribute("role", "group");
       svg.setAttribute("aria-label", "The graph of the page");
-      this.panel.replaceChildren(note, make("div", { class: "drawing" }, svg));
+      const holder = make("div", { class: "drawing whole" }, svg);
+      const size = button("Actual size", () => {
+        size.textContent = holder.classList.toggle("whole") ? "Actual size" : "Whole";
+      });
+      this.panel.replaceChildren(make("div", { class: "tools" }, size, note), holder);
     }
 
     drawn([name, attributes, text, children]) {
