@@ -113,6 +113,7 @@
     setSource(text, raw = null, mended = false) {
       if (!mended) this.mendedOf = null;
       at("redirects")?.remove();
+      at("example").value = "";
       this.setting = true;
       this.editor.setValue(text);
       this.setting = false;
@@ -171,6 +172,7 @@
       at("base").value = example.base;
       at("syntax").value = "html";
       this.setSource(example.source);
+      at("example").value = name;
     }
 
     // ---- what changes
@@ -190,6 +192,7 @@
         if (this.setting) return;
         this.raw = null;
         this.mendedOf = null;
+        at("example").value = "";
         this.changed();
       });
       this.editor.setOption("extraKeys", { Tab: false, "Shift-Tab": false, "Ctrl-Enter": () => this.workbench.panel.focus() });

@@ -254,7 +254,7 @@ const rdfax = {};
       if (this.tab === "statistics") this.showStatistics(null);
       else (shows[view] ?? (() => this.showText(view)))();
       const said = "count" in told ? `${count(told.count, "triple")}, ` : "";
-      this.status.textContent = `${said}${count(told.bytes, "byte")}, read in ${told.milliseconds} ms`;
+      this.status.textContent = `${said}${count(told.bytes, "byte")}, ${view === "graph" ? "drawn" : "read"} in ${told.milliseconds} ms`;
     }
 
     showProblem(problem) {
@@ -324,7 +324,7 @@ const rdfax = {};
       this.body = make("tbody", { onkeydown: (event) => this.rowKeys(event) });
       const shown = all > triples.length ? `The first ${triples.length.toLocaleString("en")} of ${count(all, "triple")}` : count(all, "triple");
       const heads = ["Place", "Subject", "Predicate", "Object"].map((name) => make("th", { scope: "col", class: name.toLowerCase() }, name));
-      const table = make("table", {}, make("caption", {}, `${shown}. A row shows where it is said.`), make("thead", {}, make("tr", {}, ...heads)), this.body);
+      const table = make("table", {}, make("caption", {}, `${shown}. Choose a row to see where it is said.`), make("thead", {}, make("tr", {}, ...heads)), this.body);
       this.origin = make("div", { class: "origin", "aria-live": "polite", hidden: true });
       this.panel.replaceChildren(this.tools("nquads"), table, this.origin);
       this.addRows(ROWS);
@@ -364,8 +364,9 @@ const rdfax = {};
     showPlaces(places) {
       this.places = places;
       this.origins = places.origins ? places : null;
+      if (!("count" in this.told)) return;
       if (this.tab === "statistics") return this.showStatistics(places);
-      if (places.none && this.tab === "triples" && !this.told.refused) {
+      if (places.none && this.tab === "triples") {
         this.panel.prepend(make("p", { role: "note" }, places.none));
       }
       if (this.tab === "triples") for (const [number, row] of this.rows.entries()) row.cells[0].textContent = this.placeOf(number);
