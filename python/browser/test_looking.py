@@ -140,6 +140,16 @@ def test_the_keyboard_alone(page: Page) -> None:
     assert page.focused() != "TEXTAREA"
 
 
+def test_each_control_has_a_name(page: Page) -> None:
+    page.example("product.html")
+    for tab in TABS:
+        page.tab(tab)
+        page.settled(places=True)
+        controls = [control for control in page.all("input, select, button, textarea, [tabindex='0']") if control.is_displayed()]
+        assert len(controls) > 15
+        assert [control.get_attribute("outerHTML")[:90] for control in controls if not control.accessible_name] == []
+
+
 def test_what_is_written_is_shown(page: Page) -> None:
     page.driver.execute_script("rdfax.live.editor.focus()")
     page.keys('<html><p property="schema:name">Anvil</p></html>')

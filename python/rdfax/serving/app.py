@@ -125,7 +125,8 @@ def _tasks(app: Flask, settings: Settings, pool: Pool) -> None:
 
     @app.post("/api/mended")
     def mended() -> Response:
-        return _json(pool.ask("mended", request.get_data(cache=False), request.args.get("charset")))
+        page, _, syntax = _asked()
+        return _json(pool.ask("mended", page, request.args.get("charset"), syntax))
 
     @app.post("/api/fetch")
     def fetch() -> Response:

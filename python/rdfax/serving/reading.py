@@ -181,17 +181,17 @@ class _Spans:
         return {"origins": rows, "spans": [[*span, *told[2 * number], *told[2 * number + 1]] for number, span in enumerate(spans)]}
 
 
-def mended(page: bytes, charset: str | None) -> Told:
+def mended(page: bytes, charset: str | None, syntax: pages.Syntax) -> Told:
     """The page as a browser's reading has it, where the mender is there."""
     try:
         mend = importlib.import_module("rdfax.mending").mend
+        made = mend(page, charset) if syntax == "html" else mend(page, charset, syntax)
     except ImportError:
         return {"none": "The mender isn't there: this rdfax was built without it."}
-    try:
-        made = mend(page, charset)
-    except (ImportError, ValueError) as error:
+    except ValueError as error:
         return {"none": f"The page isn't mended: {error}"}
-    return {"page": bytes(made.page).decode("utf-8", "replace"), "charset": made.charset, "changes": dict(made.changes)}
+    changes = {kind.replace("_", " "): count for kind, count in made.changes.items()}
+    return {"page": bytes(made.page).decode("utf-8", "replace"), "charset": made.charset, "changes": changes}
 
 
 def whole(page: bytes, base: str, syntax: pages.Syntax) -> Told:

@@ -29,6 +29,7 @@
   class Live {
     constructor() {
       this.raw = null;
+      this.charset = null;
       this.mendedOf = null;
       this.asking = null;
       this.timer = null;
@@ -86,20 +87,24 @@
 
     note() {
       if (this.mendedOf === null) return null;
+      const { charset, changes } = this.mendedOf;
+      const counts = Object.entries(changes).map(([kind, number]) => `${kind} ${number}`);
       return [
         make("p", {}, make("strong", {}, "A mended copy. "), "This is what a browser's reading of the page gives, and not what its author wrote: it was guessed."),
+        make("p", { class: "faint" }, `Read as ${charset}; changed: ${counts.join(", ") || "nothing"}.`),
         button("Back to the page", () => this.unmend()),
       ];
     }
 
     async mend() {
-      const told = await this.json("mended", new URLSearchParams(), this.bytes());
+      const charset = this.raw === null ? "utf-8" : this.charset;
+      const told = await this.json("mended", this.words(charset ? { charset } : {}), this.bytes());
       if (told === null) return;
       if (told.none || told.failed) {
         this.workbench.panel.prepend(make("p", { role: "note" }, told.none ?? told.failed));
         return;
       }
-      this.mendedOf = { raw: this.raw, text: this.editor.getValue() };
+      this.mendedOf = { raw: this.raw, text: this.editor.getValue(), charset: told.charset, changes: told.changes };
       this.setSource(told.page, null, true);
     }
 
@@ -134,6 +139,7 @@
     }
 
     async takeFile(file) {
+      this.charset = null;
       at("syntax").value = /\.xht(ml)?$/i.test(file.name) ? "xhtml" : "html";
       this.take(new Uint8Array(await file.arrayBuffer()));
     }
@@ -150,6 +156,7 @@
       }
       at("base").value = told.address;
       at("syntax").value = told.syntax;
+      this.charset = told.charset;
       this.take(decoded(told.page.replace(/=+$/, "")));
       const led = [...told.redirects, told.address];
       if (led.length > 1) this.workbench.panel.before(this.redirected(led));

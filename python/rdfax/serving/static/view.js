@@ -6,7 +6,7 @@ const rdfax = {};
 
 (() => {
   const SVG = "http://www.w3.org/2000/svg";
-  const ROWS = 300;
+  const ROWS = 100;
   // After a change of a longer page its places are asked for once nothing more was changed for a while.
   const LONG = 50_000;
   const QUIET = 300;
@@ -314,7 +314,7 @@ const rdfax = {};
     showText(view) {
       const { text, characters } = this.told;
       const cut = characters > text.length ? make("p", {}, `The first ${text.length.toLocaleString("en")} of ${characters.toLocaleString("en")} characters; the download has all.`) : null;
-      this.panel.replaceChildren(this.tools(view), ...(cut ? [cut] : []), make("pre", { tabindex: "0" }, text || "The page has no triples."));
+      this.panel.replaceChildren(this.tools(view), ...(cut ? [cut] : []), make("pre", { tabindex: "0", "aria-label": "The text" }, text || "The page has no triples."));
     }
 
     showTriples() {
@@ -324,7 +324,7 @@ const rdfax = {};
       this.body = make("tbody", { onkeydown: (event) => this.rowKeys(event) });
       const shown = all > triples.length ? `The first ${triples.length.toLocaleString("en")} of ${count(all, "triple")}` : count(all, "triple");
       const heads = ["Place", "Subject", "Predicate", "Object"].map((name) => make("th", { scope: "col", class: name.toLowerCase() }, name));
-      const table = make("table", {}, make("caption", {}, `${shown}. Choose a row to see where it is said.`), make("thead", {}, make("tr", {}, ...heads)), this.body);
+      const table = make("table", { role: "grid" }, make("caption", {}, `${shown}. Choose a row to see where it is said.`), make("thead", {}, make("tr", {}, ...heads)), this.body);
       this.origin = make("div", { class: "origin", "aria-live": "polite", hidden: true });
       this.panel.replaceChildren(this.tools("nquads"), table, this.origin);
       this.addRows(ROWS);
