@@ -21,7 +21,7 @@ def pytest_addoption(parser: pytest.Parser) -> None:
 
 @pytest.fixture(scope="session")
 def server() -> Iterator[Server]:
-    with serving() as started:
+    with serving("--seconds", "60") as started:  # (the machine may have much else to do)
         yield started
 
 

@@ -26,7 +26,7 @@ POLICY = ("default-src 'none'", "script-src 'self'", "frame-ancestors 'none'")
 
 @pytest.fixture(scope="module")
 def server() -> Iterator[Server]:
-    with serving() as started:
+    with serving("--seconds", "60") as started:  # (the machine may have much else to do)
         yield started
 
 

@@ -103,7 +103,10 @@ def _word(name: str, among: tuple[str, ...], default: str) -> str:
     return word
 
 
-def _asked() -> tuple[bytes, str, str]:
+def _asked(limits: Limits) -> tuple[bytes, str, str]:
+    """The page, its address and its syntax."""
+    if (request.content_length or 0) > limits.page:
+        abort(413, "The page has more bytes than the server takes.")
     return request.get_data(cache=False), request.args.get("base", ""), _word("syntax", SYNTAXES, "html")
 
 
@@ -113,19 +116,19 @@ def _tasks(app: Flask, settings: Settings, pool: Pool) -> None:
 
     @app.post("/api/read")
     def read() -> Response:
-        return _json(pool.ask("read", *_asked(), _word("view", views, "triples")))
+        return _json(pool.ask("read", *_asked(settings.limits), _word("view", views, "triples")))
 
     @app.post("/api/places")
     def places() -> Response:
-        return _json(pool.ask("places", *_asked()))
+        return _json(pool.ask("places", *_asked(settings.limits)))
 
     @app.post("/api/text")
     def text() -> Response:
-        return Response(pool.ask("text", *_asked(), _word("view", views, "nquads")), mimetype="text/plain")
+        return Response(pool.ask("text", *_asked(settings.limits), _word("view", views, "nquads")), mimetype="text/plain")
 
     @app.post("/api/mended")
     def mended() -> Response:
-        page, _, syntax = _asked()
+        page, _, syntax = _asked(settings.limits)
         return _json(pool.ask("mended", page, request.args.get("charset"), syntax))
 
     @app.post("/api/fetch")
@@ -137,7 +140,6 @@ def _tasks(app: Flask, settings: Settings, pool: Pool) -> None:
 def create_app(settings: Settings, pool: Pool) -> Flask:
     """The application, over processes that read."""
     app = Flask("rdfax", static_folder=None)
-    app.config["MAX_CONTENT_LENGTH"] = settings.limits.page
     _refusing(app, settings)
     _files(app)
     _tasks(app, settings, pool)

@@ -6,6 +6,7 @@ The library tells no places. What this reading makes of a page is compared with 
 
 from __future__ import annotations
 
+import itertools
 from collections.abc import Iterator, Sequence
 from typing import NamedTuple
 
@@ -45,7 +46,10 @@ class _Item:
 class _Lists:
     """The lists of one owner: of each predicate its items, and the origin of its first item or touch."""
 
+    _owners = itertools.count()
+
     def __init__(self) -> None:
+        self._owner = next(self._owners)
         self._lists = dict[Iri, tuple[Origin, list[_Item]]]()
 
     def add(self, predicate: Predicate, origin: Origin, value: Object | None) -> _Item:
@@ -61,7 +65,7 @@ class _Lists:
     def triples(self, subject: Resource) -> Iterator[Triple]:
         """The triples of all lists."""
         for predicate, (origin, items) in self._lists.items():
-            cells = [Blank(f" cell {id(self)} {number} {predicate}") for number in range(len(items))]
+            cells = [Blank(f" cell {self._owner} {number} {predicate}") for number in range(len(items))]
             nodes: list[Blank | Iri] = [*cells, _NIL]
             yield Triple(subject.node, predicate, nodes[0], origin._replace(subject=subject.how, object=How("the first cell of the list")))
             for number, item in enumerate(items):
