@@ -5,6 +5,8 @@ from __future__ import annotations
 import base64
 import http.server
 import socket
+import subprocess
+import sys
 import threading
 import time
 from collections import Counter
@@ -122,6 +124,11 @@ def test_private_and_odd_addresses_are_not_fetched(server: Server, address: str)
     port = server.address.rstrip("/").rpartition(":")[2]
     told = server.post("api/fetch", address=address.format(port=port)).json
     assert told.keys() == {"none"}, told
+
+
+def test_what_is_open_to_all_fetches_nothing_private() -> None:
+    done = subprocess.run([sys.executable, "-m", "rdfax", "serve", "--public", "--private"], capture_output=True, check=False)
+    assert done.returncode == 2 and b"can't go together" in done.stderr
 
 
 def test_a_page_is_fetched_and_its_redirects_are_told(small: Server, site: str) -> None:

@@ -7,7 +7,10 @@ python3-waitress and libjs-codemirror, and graphviz for the drawing.
 from __future__ import annotations
 
 import argparse
+import logging
 import sys
+
+from rdfax.errors import Usage
 
 __all__ = ["add_arguments", "run"]
 
@@ -32,6 +35,8 @@ def add_arguments(parser: argparse.ArgumentParser) -> None:
 
 def run(arguments: argparse.Namespace) -> int:
     """Serves until it is interrupted, and answers the status."""
+    if arguments.public and arguments.private:
+        raise Usage("--public and --private can't go together: everyone could have this network's addresses fetched")
     try:
         import waitress
 
@@ -50,6 +55,7 @@ def run(arguments: argparse.Namespace) -> int:
     limits = Limits(page=arguments.bytes, seconds=arguments.seconds, memory=arguments.memory << 20, workers=arguments.workers)
     pool = Pool(limits)
     app = create_app(Settings(private=arguments.private, public=arguments.public, limits=limits), pool)
+    logging.getLogger("waitress").setLevel(logging.ERROR)
     host = "0.0.0.0" if arguments.public else "127.0.0.1"
     server = waitress.create_server(app, host=host, port=arguments.port, ident="rdfax", threads=16, max_request_body_size=4 * arguments.bytes)
     address = f"http://127.0.0.1:{server.effective_port}/"
