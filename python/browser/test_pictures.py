@@ -27,6 +27,17 @@ def folder(request: pytest.FixtureRequest) -> Path:
     return Path(named).resolve()
 
 
+def _taken(page: Page, path: Path) -> None:
+    """Takes a picture; of few colours, which is smaller, where Pillow is there."""
+    page.driver.save_screenshot(str(path))
+    try:
+        from PIL import Image
+    except ImportError:
+        return
+    with Image.open(path) as picture:
+        picture.convert("RGB").quantize(64).save(path, optimize=True)
+
+
 def _product(page: Page) -> None:
     page.example("product.html")
     page.settled(places=True)
@@ -39,21 +50,21 @@ def test_pictures(page: Page, folder: Path) -> None:
     page.sized(1180, 660)
     try:
         _product(page)
-        page.driver.save_screenshot(str(folder / "triples.png"))
+        _taken(page, folder / "triples.png")
         page.source(FAULTY)
-        page.driver.save_screenshot(str(folder / "refused.png"))
+        _taken(page, folder / "refused.png")
         page.dark(True)
         page.example("product.html")
         page.tab("graph")
         page.settled(places=True)
         page.driver.execute_script("document.getElementById('edge2').dispatchEvent(new MouseEvent('click', {bubbles: true})); document.activeElement.blur()")
-        page.driver.save_screenshot(str(folder / "graph-dark.png"))
+        _taken(page, folder / "graph-dark.png")
         page.dark(False)
         page.sized(390, 844)
         page.tab("triples")
         _product(page)
         page.driver.execute_script("window.scrollTo(0, 420)")
-        page.driver.save_screenshot(str(folder / "phone.png"))
+        _taken(page, folder / "phone.png")
     finally:
         page.dark(False)
         page.sized(1280, 800)
