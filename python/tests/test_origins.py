@@ -2,8 +2,11 @@
 
 from __future__ import annotations
 
+import doctest
+
 import pytest
-from rows import Row, rows
+from made_pages import made_pages
+from rows import TOP, Row, rows
 
 import rdfax
 from rdfax.serving.names import STANDARD, context_of
@@ -32,6 +35,24 @@ def test_the_two_readings_agree_on_all_rows() -> None:
     print(f"{len(READ) - len(differing)} of {len(READ)} pages of the worked rows: the two readings agree")
     assert not differing
     assert len(READ) > 80
+
+
+def test_the_two_readings_agree_on_pages_that_are_made_by_chance() -> None:
+    read, differing = 0, list[str]()
+    for page in made_pages(seed=46, number=1000):
+        try:
+            quads = list(rdfax.quads(page, BASE))
+        except rdfax.Refused:
+            continue
+        if places_of(find(page.encode(), BASE), quads) is None:
+            differing.append(page)
+        read += 1
+    print(f"{read} of 1000 pages that are made by chance are read: the two readings agree on {read - len(differing)}")
+    assert not differing and read > 500
+
+
+def test_the_example_of_the_documentation() -> None:
+    assert doctest.testfile(str(TOP / "docs" / "SERVE.md"), module_relative=False) == (0, 4)
 
 
 def _spelled(page: bytes, origin: Origin) -> list[str | None]:
