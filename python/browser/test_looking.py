@@ -76,6 +76,8 @@ def test_what_a_browser_s_reading_gives(page: Page) -> None:
         pytest.skip("the mender isn't there")
     page.settled()
     assert "A mended copy" in page.text(".copy") and "Anvil" in page.text("tbody")
+    written = page.driver.execute_async_script("rdfax.live.text('nquads').then(arguments[0])")
+    assert written.startswith("# Of a mended copy") and written.endswith('"Anvil" .\n')
     page.one(".copy button").click()
     page.settled()
     assert "Mismatch" in page.text(".refusal") and not page.one(".copy").is_displayed()
@@ -210,6 +212,8 @@ def test_an_address_is_fetched(page: Page) -> None:
         page.one("#fetch").click()
         page.wait("rdfax.live.editor.getValue().includes('workbench')")
         assert page.one("#base").get_attribute("value") == f"{site.address}static/page.html"
+        page.settled(places=True)
+        page.driver.get("about:blank")
 
 
 def test_a_phone_s_width(page: Page) -> None:

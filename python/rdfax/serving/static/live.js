@@ -78,7 +78,13 @@
     }
 
     async text(view) {
-      return (await this.post("text", this.words({ view }), this.bytes())).text();
+      const text = await (await this.post("text", this.words({ view }), this.bytes())).text();
+      const marked = this.mendedOf !== null && ["turtle", "nested", "nquads"].includes(view);
+      return marked ? `# Of a mended copy: a browser's reading of the page, and not what its author wrote.\n${text}` : text;
+    }
+
+    name() {
+      return this.mendedOf === null ? "page" : "mended-page";
     }
 
     opened() {
@@ -243,9 +249,10 @@
 
     async state() {
       const words = this.words({ tab: this.workbench.tab });
-      const text = this.editor.getValue();
+      // (a link to a mended copy leads to the page itself: nothing would mark the copy there)
+      const { text, raw } = this.mendedOf ?? { text: this.editor.getValue(), raw: this.raw };
       if (at("address").value) words.set("address", at("address").value);
-      if (text && this.raw === null && text.length <= LONGEST_LINK) words.set("page", await packed(text));
+      if (text && raw === null && text.length <= LONGEST_LINK) words.set("page", await packed(text));
       return words.toString();
     }
 

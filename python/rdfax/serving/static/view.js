@@ -297,12 +297,11 @@ const rdfax = {};
     }
 
     tools(view) {
-      const name = `page.${FILES[view]}`;
       return make(
         "div",
         { class: "tools" },
         button("Copy", async () => this.said(copy(await this.provider.text(view)), "Copied.")),
-        button("Download", async () => download(name, await this.provider.text(view))),
+        button("Download", async () => download(`${this.provider.name?.() ?? "page"}.${FILES[view]}`, await this.provider.text(view))),
       );
     }
 
