@@ -35,7 +35,7 @@ def server() -> Iterator[Server]:
 @pytest.fixture(scope="module")
 def small() -> Iterator[Server]:
     """A server with tight bounds, which fetches from this machine."""
-    with serving("--private", "--bytes", "400000", "--seconds", "2", "--memory", "400") as started:
+    with serving("--private", "--bytes", "400000", "--seconds", "5", "--memory", "300") as started:
         yield started
 
 
@@ -169,9 +169,8 @@ def test_the_connection_goes_to_the_address_that_was_looked_at(site: str, monkey
 
 
 def test_a_page_that_takes_too_much_ends_its_own_process_alone(small: Server) -> None:
-    # (each of many nested elements keeps its text: memory grows with the square of the page)
-    hostile = "<html>" + '<p property="e:p"><b property="schema:name">'.replace("<p", "<i").replace("e:p", "schema:text") * 250 + "x" * 300_000
-    hostile += "</b></i>" * 250 + "</html>"
+    # (each of 500 nested elements has its text, and a subject of its own: 150 MB of literals)
+    hostile = "<html>" + "".join(f'<i about="#{number}" property="schema:text">' for number in range(500)) + "x" * 300_000 + "</i>" * 500 + "</html>"
     told = small.read(hostile)
     assert "failed" in told, told.keys()
     assert small.read(ANVIL)["count"] == 1
