@@ -41,9 +41,13 @@ def version() -> str:
 
 
 @functools.cache
+def _declared() -> dict[str, Any]:
+    return tomllib.loads((HERE / "pyproject.toml").read_text(encoding="utf-8"))
+
+
 def project() -> dict[str, Any]:
     """The table `project` of pyproject.toml."""
-    table: dict[str, Any] = tomllib.loads((HERE / "pyproject.toml").read_text(encoding="utf-8"))["project"]
+    table: dict[str, Any] = _declared()["project"]
     return table
 
 
@@ -82,8 +86,17 @@ def entry_points() -> str:
 def _modules() -> Files:
     for path in sorted((HERE / "rdfax").rglob("*.py")):
         yield path.relative_to(HERE).as_posix(), path.read_bytes()
+    yield from _package_data()
     yield "rdfax/py.typed", b""
     yield "rdfax/VERSION", f"{version()}\n".encode()
+
+
+def _package_data() -> Files:
+    """The files of the package that are no modules, and the repository's examples, which the page to look at offers."""
+    for path in sorted(path for pattern in _declared()["tool"]["backend"]["package-data"] for path in HERE.glob(pattern)):
+        yield path.relative_to(HERE).as_posix(), path.read_bytes()
+    for path in sorted((HERE.parent / "examples").glob("*.html")):
+        yield f"rdfax/serving/examples/{path.name}", path.read_bytes()
 
 
 def _write_wheel(folder: str, tag: str, files: Files) -> str:

@@ -1,0 +1,199 @@
+"""What is told of a page: its triples, texts, items and drawing, or why it is refused; and where its triples come from.
+
+Each function answers what `json.dumps` takes.
+"""
+
+from __future__ import annotations
+
+import importlib
+import itertools
+import json
+import time
+from collections.abc import Callable, Iterable
+from typing import Any
+
+from rdfax import pages
+from rdfax.errors import Refused, Usage
+from rdfax.kinds import KINDS
+from rdfax.places import printable, to_line
+from rdfax.serving import origins
+from rdfax.serving.drawing import drawing
+from rdfax.serving.markup import Span
+from rdfax.serving.names import STANDARD, Name
+from rdfax.serving.positions import positions
+from rdfax.serving.triples import How, Origin
+from rdfax.terms import Iri, Literal, Object
+
+__all__ = ["PLACED_BYTES", "VIEWS", "mended", "places", "read", "text", "whole"]
+
+# More triples, and longer texts, aren't shown.
+SHOWN_TRIPLES = 5_000
+SHOWN_TEXT = 1_000_000
+# Of a longer page no places are told: the second reading would take too long.
+PLACED_BYTES = 1_000_000
+_DRAWN_TRIPLES = 300
+
+Told = dict[str, Any]
+
+
+def _term(term: Object) -> Told:
+    if isinstance(term, Literal):
+        return {"text": term.text, "language": term.language, "datatype": term.datatype}
+    return {"iri": term} if isinstance(term, Iri) else {"blank": term}
+
+
+def _triples(page: bytes, base: str, syntax: pages.Syntax) -> Told:
+    with pages.Page("quads", base, syntax=syntax) as opened:
+        _feed(opened, page)
+        quads = opened.quads()
+        shown = [[_term(quad.subject), _term(quad.predicate), _term(quad.object)] for quad in itertools.islice(quads, SHOWN_TRIPLES)]
+        count = len(shown) + sum(1 for _ in quads)
+    return {"triples": shown, "count": count, "prefixes": STANDARD.prefixes}
+
+
+def _feed(opened: pages.Page, page: bytes) -> None:
+    opened.feed(page)
+    opened.finish()
+
+
+def _graph(page: bytes, base: str, syntax: pages.Syntax) -> Told:
+    quads = list(pages.quads(page, base, syntax=syntax))
+    return {**drawing(quads[:_DRAWN_TRIPLES]), "count": len(quads), "drawn": min(len(quads), _DRAWN_TRIPLES)}
+
+
+def _items(page: bytes, base: str, syntax: pages.Syntax) -> Told:
+    return pages.items(page, base, syntax=syntax)
+
+
+def _text_view(form: pages.Format) -> Callable[[bytes, str, pages.Syntax], Told]:
+    def view(page: bytes, base: str, syntax: pages.Syntax) -> Told:
+        written = pages.extract(page, base, syntax=syntax, format=form)
+        if form == "jsonld" and len(written) <= SHOWN_TEXT:
+            written = json.dumps(json.loads(written), indent=2, ensure_ascii=False)
+        return {"text": written[:SHOWN_TEXT], "characters": len(written)}
+
+    return view
+
+
+VIEWS: dict[str, Callable[[bytes, str, pages.Syntax], Told]] = {
+    "triples": _triples,
+    **{form: _text_view(form) for form in pages.FORMATS},
+    "items": _items,
+    "graph": _graph,
+}
+
+
+def read(page: bytes, base: str, syntax: pages.Syntax, view: str) -> Told:
+    """One view of the page; or why the page is refused, or the base is none."""
+    started = time.perf_counter()
+    try:
+        told = VIEWS[view](page, base, syntax)
+    except Refused as refused:
+        told = {"refused": _refusal(page, refused)}
+    except Usage as usage:
+        told = {"wrong": str(usage)}
+    return {**told, "bytes": len(page), "milliseconds": _since(started)}
+
+
+def _since(started: float) -> float:
+    return round(1000 * (time.perf_counter() - started), 1)
+
+
+def _refusal(page: bytes, refused: Refused) -> Told:
+    place, kind = to_line(page, refused), KINDS[refused.kind]
+    start, end = positions(page, [refused.token, refused.at + 1])
+    return {
+        "kind": kind.name,
+        "at": refused.at,
+        "token": refused.token,
+        "line": place.line,
+        "column": place.column,
+        "told": printable(kind.told(place.source)),
+        "wrong": kind.wrong,
+        "mended": kind.mended,
+        "start": start,
+        "end": end,
+    }
+
+
+def text(page: bytes, base: str, syntax: pages.Syntax, view: str) -> bytes:
+    """The whole text of a view, as the library writes it, for a file."""
+    if view == "items":
+        return pages.items_text(page, base, syntax=syntax).encode()
+    form: pages.Format = next((form for form in pages.FORMATS if form == view), "nquads")
+    return pages.extract(page, base, syntax=syntax, format=form).encode()
+
+
+def places(page: bytes, base: str, syntax: pages.Syntax) -> Told:
+    """Where each triple that is shown comes from, and how many elements and levels the page has."""
+    if len(page) > PLACED_BYTES:
+        return {"none": f"The page has more than {PLACED_BYTES:,} bytes: no places are told."}
+    try:
+        quads = list(pages.quads(page, base, syntax=syntax))
+    except (Refused, Usage):
+        return {"none": "The page is refused: it has no triples."}
+    started = time.perf_counter()
+    found = origins.find(page, base, syntax=syntax)
+    told: Told = {"elements": found.elements, "depth": found.depth, "milliseconds": _since(started)}
+    agreed = origins.places_of(found, quads)
+    if agreed is None:
+        return {**told, "none": "The second reading, which tells places, gives other triples than the library. The library's are shown, without places."}
+    return {**told, **_Spans(page).told(agreed[:SHOWN_TRIPLES])}
+
+
+class _Spans:
+    """Tells origins, with a table of the places that they name."""
+
+    def __init__(self, page: bytes) -> None:
+        self._page, self._numbers = page, dict[Span, int]()
+
+    def _number(self, span: Span | None) -> int | None:
+        return None if span is None else self._numbers.setdefault(span, len(self._numbers))
+
+    def _name(self, name: Name | None) -> Told | None:
+        if name is None or not name.by:
+            return None
+        declared = name.declared
+        return {
+            "by": name.by,
+            "word": name.word,
+            "iri": None if declared is None else declared.iri,
+            "declared": None if declared is None else self._number(declared.span),
+        }
+
+    def _how(self, how: How | None) -> Told | None:
+        return None if how is None else {"says": how.says, "span": self._number(how.span), "name": self._name(how.name)}
+
+    def _origin(self, origin: Origin) -> Told:
+        return {
+            "element": origin.element,
+            "span": self._number(origin.span),
+            "terms": [self._how(how) for how in (origin.subject, origin.predicate, origin.object, origin.datatype)],
+            "copied": None if origin.copied is None else self._number(origin.copied.span),
+        }
+
+    def told(self, agreed: Iterable[Origin]) -> Told:
+        """The origins, and each place as first byte, byte behind it, line and character of both."""
+        rows = [self._origin(origin) for origin in agreed]
+        spans = list(self._numbers)
+        ends = [end for span in spans for end in span]
+        told = positions(self._page, ends)
+        return {"origins": rows, "spans": [[*span, *told[2 * number], *told[2 * number + 1]] for number, span in enumerate(spans)]}
+
+
+def mended(page: bytes, charset: str | None, syntax: pages.Syntax) -> Told:
+    """The page as a browser's reading has it, where the mender is there."""
+    try:
+        mend = importlib.import_module("rdfax.mending").mend
+        made = mend(page, charset) if syntax == "html" else mend(page, charset, syntax)
+    except ImportError:
+        return {"none": "The mender isn't there: this rdfax was built without it."}
+    except ValueError as error:
+        return {"none": f"The page isn't mended: {error}"}
+    changes = {kind.replace("_", " "): count for kind, count in made.changes.items()}
+    return {"page": bytes(made.page).decode("utf-8", "replace"), "charset": made.charset, "changes": changes}
+
+
+def whole(page: bytes, base: str, syntax: pages.Syntax) -> Told:
+    """All views of a page and the places of its triples, for a report."""
+    return {"views": {view: read(page, base, syntax, view) for view in VIEWS}, "places": places(page, base, syntax)}
