@@ -20,9 +20,9 @@ COMMANDS = {
     "check": "check pages, and show where each refused one is faulty",
     "extract": "write the RDFa of pages as N-Quads, Turtle or JSON-LD",
     "items": "write the Microdata of pages as JSON",
-    "crawl": "fetch pages, and gather their data",
-    "serve": "answer requests for the data of pages over HTTP",
-    "report": "sum up what was refused, and why",
+    "crawl": "read web archives, and gather the data of their pages",
+    "serve": "open a page to look at: what a page says, and why it is refused",
+    "report": "write what pages say, and why they are refused, as one HTML file",
     "mend": "write a mended copy of a refused page",
 }
 
