@@ -1,0 +1,123 @@
+"""One page of a crawl: what is handed over, and what comes of it."""
+
+from __future__ import annotations
+
+import codecs
+import time
+import typing
+from typing import Any, NamedTuple
+
+from rdfax.errors import Refused, Usage
+from rdfax.pages import Page, Syntax, items_text
+
+__all__ = ["Found", "Given", "Status", "read"]
+
+Status = typing.Literal["read", "refused", "failed"]
+
+# Labels of the Web that mean another encoding than Python's codec of that name.
+_LABELS = dict.fromkeys(("ascii", "us-ascii", "iso-8859-1", "iso8859-1", "iso88591", "latin1", "latin-1", "l1"), "cp1252")
+_LABELS |= {"iso-8859-9": "cp1254", "latin5": "cp1254", "gb2312": "gb18030", "gbk": "gb18030", "shift_jis": "cp932", "sjis": "cp932", "euc-kr": "cp949"}
+
+
+class Given(NamedTuple):
+    """A page as it was fetched."""
+
+    address: str
+    syntax: Syntax
+    charset: str | None
+    body: bytes
+
+
+class Found(NamedTuple):
+    """What came of a page: its triples and items as texts, or why there are none."""
+
+    status: Status
+    kind: str = ""
+    token: int | None = None
+    at: int | None = None
+    mended: str = ""
+    quads: bytes = b""
+    items: bytes = b""
+    nodes: int = 0
+    mending: float = 0.0
+    reading: float = 0.0
+
+
+class _Text(NamedTuple):
+    """A page's bytes in UTF-8, and its charset where it had another."""
+
+    body: bytes
+    codec: str | None
+
+    def original(self, place: int) -> int:
+        """A place in the page as it was fetched."""
+        return place if self.codec is None else len(self.body[:place].decode("utf-8", "ignore").encode(self.codec))
+
+
+def _text(given: Given) -> _Text:
+    """The page in UTF-8. What isn't in the charset of its header is taken as it stands."""
+    label = (given.charset or "utf-8").strip().lower()
+    try:
+        codec = codecs.lookup(_LABELS.get(label, label)).name
+        if codec == "utf-8" or (given.body.isascii() and not codec.startswith("utf-")):
+            return _Text(given.body, None)
+        return _Text(given.body.decode(codec).encode(), codec)
+    except (LookupError, UnicodeError):
+        return _Text(given.body, None)
+
+
+class _Reading:
+    """A page's reading: by the library alone, or mended first where that refuses it."""
+
+    def __init__(self, given: Given, first_node: int, options: Any) -> None:
+        self._given, self._first, self._options = given, first_node, options
+        self.mending = self.nodes = 0
+
+    def texts(self, body: bytes) -> tuple[bytes, bytes]:
+        """The page's quads and items."""
+        quads, items = b"", b""
+        if self._options.rdfa:
+            graph = self._given.address.partition("#")[0]
+            with Page("extract", self._given.address, syntax=self._given.syntax, graph=graph, first_node=self._first) as page:
+                page.feed(body)
+                quads = page.finish()
+                self.nodes = page.nodes if b"_:b" in quads else 0
+        # Where the page is one of the grammar and has no such letters, it has no item.
+        if self._options.items and (not self._options.rdfa or b"itemscope" in body.lower()):
+            items = items_text(body, self._given.address, syntax=self._given.syntax).encode()
+        return quads, items
+
+
+def read(given: Given, first_node: int, options: Any) -> Found:
+    """Reads a page, whose blank nodes are numbered from `first_node`."""
+    began, reading = time.process_time(), _Reading(given, first_node, options)
+    text = _text(given)
+    try:
+        quads, items = reading.texts(text.body)
+    except Refused as refused:
+        if options.mend:
+            return _mended(reading, given, refused, began)
+        return Found("refused", refused.kind, text.original(refused.token), text.original(refused.at), reading=time.process_time() - began)
+    except Usage:
+        return Found("failed", "BadAddress")
+    return Found("read", quads=quads, items=items, nodes=reading.nodes, reading=time.process_time() - began)
+
+
+def _mended(reading: _Reading, given: Given, refused: Refused, began: float) -> Found:
+    """Reads the page once more, mended."""
+    from rdfax.mending import NotMended, mend
+
+    refused_by = time.process_time()
+    try:
+        mended = mend(given.body, given.charset, given.syntax)
+    except NotMended as limit:
+        return Found("failed", limit.kind, refused.token, refused.at, mending=time.process_time() - refused_by, reading=refused_by - began)
+    mended_by = time.process_time()
+    told = Found("read", mended=str(mended), mending=mended_by - refused_by)
+    try:
+        quads, items = reading.texts(mended.page)
+        told = told._replace(quads=quads, items=items, nodes=reading.nodes)
+    except Refused as again:
+        place = mended.refused(again)
+        told = told._replace(status="refused", kind=place.kind, token=place.token, at=place.at)
+    return told._replace(reading=refused_by - began + time.process_time() - mended_by)

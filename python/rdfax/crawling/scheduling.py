@@ -1,0 +1,122 @@
+"""Who has the shards done: this process, one after another, or Dask's distributed scheduler."""
+
+from __future__ import annotations
+
+import itertools
+import typing
+from collections.abc import Callable, Iterable, Iterator
+from typing import Any, Protocol, Self
+
+from rdfax.errors import Error
+
+__all__ = ["Engine", "SchedulerLost", "engine"]
+
+# How many tasks the scheduler is told of at once, for each thread of the workers: it needn't hold millions.
+_AHEAD = 4
+_WANTED = "a crawl by workers needs Dask's package distributed (the extra `crawl`); --workers 0 goes without"
+
+Task = Any
+# A task, and its answer, or none where the workers that did it ended.
+Done = tuple[Task, Any]
+
+
+class SchedulerLost(Error):
+    """Dask's scheduler is gone. What was done stays."""
+
+
+class Engine(Protocol):
+    """Has tasks done."""
+
+    def __enter__(self) -> Self: ...
+
+    def __exit__(self, *_: object) -> None: ...
+
+    def do(self, work: Callable[..., Any], tasks: Iterable[tuple[Any, ...]]) -> Iterator[Done]:
+        """Each task with its answer, as they come. An error of the work itself ends all."""
+        ...
+
+
+class _Here:
+    """Does tasks in this process."""
+
+    def __enter__(self) -> Self:
+        return self
+
+    def __exit__(self, *_: object) -> None:
+        pass
+
+    def do(self, work: Callable[..., Any], tasks: Iterable[tuple[Any, ...]]) -> Iterator[Done]:
+        for task in tasks:
+            yield task, work(*task)
+
+
+class _Dask:
+    """Has tasks done by the workers of a scheduler that runs, or of a cluster on this machine."""
+
+    def __init__(self, scheduler: str | None, workers: int) -> None:
+        import dask
+        from distributed import Client
+
+        # A task whose worker ends is given back at once; a scheduler that runs already has its own number.
+        dask.config.set({"distributed.scheduler.allowed-failures": 0, "distributed.comm.timeouts.connect": "10s"})
+        if scheduler:
+            self._client = Client(scheduler)
+        else:
+            self._client = Client(n_workers=workers, threads_per_worker=1, processes=True, memory_limit=None, dashboard_address=None)
+
+    def __enter__(self) -> Self:
+        return self
+
+    def __exit__(self, *_: object) -> None:
+        self._client.close()
+
+    def do(self, work: Callable[..., Any], tasks: Iterable[tuple[Any, ...]]) -> Iterator[Done]:
+        """What a worker's end lost is done once more, one task at a time: then one that ends its worker takes no other along."""
+        lost = []
+        for task, answer in self._once(work, tasks, _AHEAD * max(1, sum(self._client.nthreads().values()))):
+            if answer is None:
+                lost.append(task)
+            else:
+                yield task, answer
+        yield from self._once(work, lost, 1)
+
+    def _once(self, work: Callable[..., Any], tasks: Iterable[tuple[Any, ...]], ahead: int) -> Iterator[Done]:
+        from distributed import as_completed
+
+        left, known = iter(tasks), {}
+
+        def submitted(count: int) -> list[Any]:
+            futures = []
+            for task in itertools.islice(left, count):
+                future = self._client.submit(work, *task, pure=False)
+                known[future.key] = task
+                futures.append(future)
+            return futures
+
+        running = as_completed(submitted(ahead))
+        for future in running:
+            yield known.pop(future.key), self._answer(future)
+            for more in submitted(1):
+                running.add(more)
+
+    def _answer(self, future: Any) -> Any:
+        from distributed import KilledWorker
+
+        if future.status == "finished":
+            return future.result()
+        if future.status in ("cancelled", "lost"):
+            raise SchedulerLost("Dask's scheduler is gone; the same command goes on")
+        error = future.exception()
+        if isinstance(error, KilledWorker):
+            return None
+        raise error
+
+
+def engine(scheduler: str | None, workers: int) -> Engine:
+    """Dask's, or this process where there are to be no workers."""
+    if workers == 0 and scheduler is None:
+        return _Here()
+    try:
+        return typing.cast(Engine, _Dask(scheduler, workers))
+    except ImportError as error:
+        raise ImportError(f"{_WANTED} ({error})") from None
