@@ -90,29 +90,29 @@ class _Reading:
 
 def read(given: Given, first_node: int, options: Any) -> Found:
     """Reads a page, whose blank nodes are numbered from `first_node`."""
-    began, reading = time.process_time(), _Reading(given, first_node, options)
+    began, reading = time.thread_time(), _Reading(given, first_node, options)
     text = _text(given)
     try:
         quads, items = reading.texts(text.body)
     except Refused as refused:
         if options.mend:
             return _mended(reading, given, refused, began)
-        return Found("refused", refused.kind, text.original(refused.token), text.original(refused.at), reading=time.process_time() - began)
+        return Found("refused", refused.kind, text.original(refused.token), text.original(refused.at), reading=time.thread_time() - began)
     except Usage:
         return Found("failed", "BadAddress")
-    return Found("read", quads=quads, items=items, nodes=reading.nodes, reading=time.process_time() - began)
+    return Found("read", quads=quads, items=items, nodes=reading.nodes, reading=time.thread_time() - began)
 
 
 def _mended(reading: _Reading, given: Given, refused: Refused, began: float) -> Found:
     """Reads the page once more, mended."""
     from rdfax.mending import NotMended, mend
 
-    refused_by = time.process_time()
+    refused_by = time.thread_time()
     try:
         mended = mend(given.body, given.charset, given.syntax)
     except NotMended as limit:
-        return Found("failed", limit.kind, refused.token, refused.at, mending=time.process_time() - refused_by, reading=refused_by - began)
-    mended_by = time.process_time()
+        return Found("failed", limit.kind, refused.token, refused.at, mending=time.thread_time() - refused_by, reading=refused_by - began)
+    mended_by = time.thread_time()
     told = Found("read", mended=str(mended), mending=mended_by - refused_by)
     try:
         quads, items = reading.texts(mended.page)
@@ -120,4 +120,4 @@ def _mended(reading: _Reading, given: Given, refused: Refused, began: float) -> 
     except Refused as again:
         place = mended.refused(again)
         told = told._replace(status="refused", kind=place.kind, token=place.token, at=place.at)
-    return told._replace(reading=refused_by - began + time.process_time() - mended_by)
+    return told._replace(reading=refused_by - began + time.thread_time() - mended_by)

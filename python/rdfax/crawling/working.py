@@ -37,13 +37,13 @@ def work(out: str, shard: Shard, options: Options) -> int:
     folder = Path(out)
     if place_of(folder, shard).is_dir():
         return shard.records
-    began = time.process_time()
+    began = time.thread_time()
     with Outputs(folder, shard, options.compression) as outputs, Reader(options) as reader:
         nodes = 0
         for batch in _batches(_entries(shard, options, outputs.sums)):
             nodes += _add(batch, reader, nodes, outputs)
         spent = outputs.sums.tables["seconds"]
-        own = time.process_time() - began
+        own = time.thread_time() - began
         outputs.sums.spend("hand over", own - spent["read"] - spent["write"])
         outputs.keep()
     return shard.records
@@ -56,9 +56,9 @@ def _add(batch: list[_Entry], reader: Reader, nodes: int, outputs: Outputs) -> i
     for record, given, told in batch:
         found = told or next(answers)
         made += found.nodes
-        began = time.process_time()
+        began = time.thread_time()
         outputs.add(record, given, found)
-        outputs.sums.spend("write", time.process_time() - began)
+        outputs.sums.spend("write", time.thread_time() - began)
         outputs.sums.spend("mend", found.mending)
         outputs.sums.spend("extract", found.reading)
     return made
@@ -79,15 +79,15 @@ def _batches(entries: Iterator[_Entry]) -> Iterator[list[_Entry]]:
 
 def _entries(shard: Shard, options: Options, sums: Sums) -> Iterator[_Entry]:
     """The pages of a shard. Records that are none are counted."""
-    began = time.process_time()
+    began = time.thread_time()
     for record in records(shard.archive, shard.start, shard.end, longest=options.limits.bytes, reader=options.reader):
         sums.tables["totals"]["records"] += 1
         entry = _entry(record, fetched(record, options.limits.bytes), sums)
         if entry is not None:
-            sums.spend("read", time.process_time() - began)
+            sums.spend("read", time.thread_time() - began)
             yield entry
-            began = time.process_time()
-    sums.spend("read", time.process_time() - began)
+            began = time.thread_time()
+    sums.spend("read", time.thread_time() - began)
 
 
 def _entry(record: Record, page: Fetched | None, sums: Sums) -> _Entry | None:
