@@ -344,7 +344,7 @@ def test_mended(tmp_path: Path) -> None:
     crawl(out, tmp_path / "a.warc.gz", "--workers", 0, "--mend")
     for number, row in enumerate(table(out)):
         broken = number % 5 == 4
-        assert (row["status"], bool(row["mended"]), row["triples"]) == ("read", broken, "1" if broken or number % 2 == 0 else "3")
+        assert (row["status"], bool(row["mended"]), row["triples"]) == ("read", broken, "1" if broken or number % 2 == 0 else "4")
     quads = gzip.decompress(next(out.glob("shards/*/quads.nq.gz")).read_bytes()).decode()
     assert quads.count("# mended: ") == 4
     assert json.loads((out / "report.json").read_text())["outcomes"] == {"read": 16, "read, mended": 4}

@@ -6,6 +6,8 @@ more in a new one, and told as failed where it ends that too; the others of the 
 
 from __future__ import annotations
 
+import contextlib
+import multiprocessing
 import os
 import resource
 import signal
@@ -23,8 +25,8 @@ __all__ = ["Reader", "main"]
 
 # Beside the seconds of processor time that a page may take, so many times as many of the clock's.
 _PATIENCE = 20
-# A child that isn't there after so many seconds has another fault than its page.
-_START = 120
+# So many children may end before they have begun.
+_STARTS = 3
 
 
 class Reader:
@@ -76,25 +78,24 @@ class Reader:
             yield self._ended("")
 
     def _begin(self) -> None:
-        import multiprocessing
+        for _ in range(_STARTS):
+            with contextlib.suppress(EOFError, ConnectionError):
+                return self._start()
+            self._end()
+        raise ChildProcessError("the children of the crawl end at their start")
 
+    def _start(self) -> None:
         self._link, its = multiprocessing.Pipe()
         words = [sys.executable, "-c", "from rdfax.crawling.child import main; main()", str(its.fileno())]
         package = os.path.dirname(os.path.dirname(os.path.dirname(os.path.abspath(__file__))))
-        paths = [package, *filter(None, [os.environ.get("PYTHONPATH")])]
-        self._process = subprocess.Popen(words, pass_fds=[its.fileno()], stdin=subprocess.DEVNULL, env={**os.environ, "PYTHONPATH": os.pathsep.join(paths)})
+        path = os.pathsep.join([package, *filter(None, [os.environ.get("PYTHONPATH")])])
+        self._process = subprocess.Popen(words, pass_fds=[its.fileno()], stdin=subprocess.DEVNULL, env={**os.environ, "PYTHONPATH": path})
         its.close()
         self._link.send(self._options)
-        if not self._link.poll(_START):
-            self._end()
+        if not self._link.poll(_PATIENCE * self._options.limits.seconds):
             raise TimeoutError("a child of the crawl doesn't begin")
-        try:
-            fault = self._link.recv()
-        except EOFError:
-            self._end()
-            raise ChildProcessError("a child of the crawl ended at its start") from None
+        fault = self._link.recv()
         if fault is not None:
-            self._end()
             raise fault
 
     def _ended(self, kind: str) -> Found:

@@ -3,6 +3,7 @@
 from __future__ import annotations
 
 import itertools
+import logging
 import typing
 from collections.abc import Callable, Iterable, Iterator
 from typing import Any, Protocol, Self
@@ -57,12 +58,15 @@ class _Dask:
         import dask
         from distributed import Client
 
+        # What the scheduler's and a worker's end come to is told by who calls.
+        logging.getLogger("distributed").setLevel(logging.CRITICAL)
         # A task whose worker ends is given back at once; a scheduler that runs already has its own number.
         dask.config.set({"distributed.scheduler.allowed-failures": 0, "distributed.comm.timeouts.connect": "10s"})
         if scheduler:
             self._client = Client(scheduler)
         else:
-            self._client = Client(n_workers=workers, threads_per_worker=1, processes=True, memory_limit=None, dashboard_address=None)
+            words = {"n_workers": workers, "threads_per_worker": 1, "processes": True, "memory_limit": None, "dashboard_address": None}
+            self._client = Client(**words, silence_logs=logging.CRITICAL)
 
     def __enter__(self) -> Self:
         return self
@@ -100,13 +104,17 @@ class _Dask:
                 running.add(more)
 
     def _answer(self, future: Any) -> Any:
-        from distributed import KilledWorker
+        from concurrent.futures import CancelledError
 
-        if future.status == "finished":
-            return future.result()
-        if future.status in ("cancelled", "lost"):
-            raise SchedulerLost("Dask's scheduler is gone; the same command goes on")
-        error = future.exception()
+        from distributed import KilledWorker
+        from distributed.comm import CommClosedError
+
+        try:
+            if future.status == "finished":
+                return future.result()
+            error = future.exception()
+        except (CommClosedError, CancelledError):
+            raise SchedulerLost("Dask's scheduler is gone; the same command goes on") from None
         if isinstance(error, KilledWorker):
             return None
         raise error
