@@ -16,7 +16,7 @@ import io
 import re
 import typing
 import zlib
-from collections.abc import Callable, Generator, Iterator, Mapping
+from collections.abc import Generator, Iterator, Mapping
 from email.message import Message
 from pathlib import Path
 from typing import BinaryIO, NamedTuple
@@ -416,11 +416,7 @@ def _unpacked(coding: str, body: bytes, longest: int) -> bytes:
     if coding == "deflate":
         zlibbed = len(body) > 1 and body[0] & 15 == 8 and (body[0] << 8 | body[1]) % 31 == 0
         return _inflated(body, 15 if zlibbed else -15, longest)
-    unpack = _unpacker(coding)
-    try:
-        return unpack(body)
-    except Exception:
-        raise _Damaged("BadEncoding") from None
+    raise _Damaged("BadEncoding")
 
 
 def _inflated(body: bytes, wbits: int, longest: int) -> bytes:
@@ -438,19 +434,3 @@ def _inflated(body: bytes, wbits: int, longest: int) -> bytes:
             raise _Damaged("BadEncoding")
         body = inflater.unused_data if inflater.unused_data.startswith(_GZIP) else b""
     return b"".join(made)
-
-
-def _unpacker(coding: str) -> Callable[[bytes], bytes]:
-    """What unpacks a coding by a package, where that is installed."""
-    try:
-        if coding == "br":
-            import brotli
-
-            return typing.cast("Callable[[bytes], bytes]", brotli.decompress)
-        if coding == "zstd":
-            import zstandard
-
-            return lambda body: zstandard.ZstdDecompressor().decompressobj().decompress(body)
-    except ImportError:
-        pass
-    raise _Damaged("BadEncoding")

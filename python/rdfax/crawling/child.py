@@ -130,7 +130,7 @@ def main() -> None:
     options = link.recv()
     try:
         _prepare(options)
-    except Exception as error:
+    except (ImportError, OSError, MemoryError) as error:
         link.send(error)
         return
     link.send(None)

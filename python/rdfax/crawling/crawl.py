@@ -9,7 +9,7 @@ import sys
 from collections.abc import Iterator
 from contextlib import contextmanager
 from pathlib import Path
-from typing import Any
+from typing import Any, Self
 
 from rdfax.crawling.options import Options, begin
 from rdfax.crawling.outputs import place_of
@@ -102,7 +102,7 @@ class _Bar:
                 return
             self._bar = tqdm(total=total, unit=unit, file=sys.stderr, disable=None, leave=False, unit_scale=True)
 
-    def __enter__(self) -> _Bar:
+    def __enter__(self) -> Self:
         return self
 
     def __exit__(self, *_: object) -> None:
