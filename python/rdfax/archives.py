@@ -294,7 +294,8 @@ class _Digest:
 
     def right(self) -> bool:
         digest = self._of.digest()
-        return self._told.lower() in (digest.hex(), base64.b32encode(digest).decode().lower(), base64.b32encode(digest).decode().lower().rstrip("="))
+        spelled = base64.b32encode(digest).decode("ascii").rstrip("=").lower()
+        return self._told.rstrip("=").lower() in (spelled, digest.hex())
 
 
 def _block(stream: typing.IO[bytes], length: int, longest: int, told: str) -> tuple[bytes, _Digest | None]:
