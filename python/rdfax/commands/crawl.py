@@ -23,9 +23,16 @@ __all__ = ["add_arguments", "run"]
 UNDONE, NO_LIBRARY = 1, 69
 
 
-def _positive(word: str) -> int:
+def _natural(word: str) -> int:
     number = int(word)
-    if number <= 0:
+    if number < 0:
+        raise ValueError
+    return number
+
+
+def _positive(word: str) -> int:
+    number = _natural(word)
+    if number == 0:
         raise ValueError
     return number
 
@@ -40,7 +47,7 @@ def add_arguments(parser: argparse.ArgumentParser) -> None:
     parser.add_argument("--items", action="store_true", help="write Microdata, and RDFa only with --rdfa")
     where = parser.add_mutually_exclusive_group()
     where.add_argument("--scheduler", metavar="ADDRESS", help="Dask's scheduler, as tcp://machine:8786")
-    where.add_argument("--workers", type=int, metavar="N", default=os.cpu_count(), help="as many processes here; 0 does without Dask")
+    where.add_argument("--workers", type=_natural, metavar="N", default=os.cpu_count(), help="as many processes here; 0 does without Dask")
     parser.add_argument("--compress", choices=COMPRESSIONS, default="gzip", help="how quads, items and tables are compressed")
     parser.add_argument("--records", type=_positive, metavar="N", default=Options.records, help="the most records of a shard (%(default)s)")
     parser.add_argument("--bytes", type=_positive, metavar="N", default=defaults.bytes, help="the most bytes of a page (%(default)s)")

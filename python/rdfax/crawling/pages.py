@@ -5,8 +5,9 @@ from __future__ import annotations
 import codecs
 import time
 import typing
-from typing import Any, NamedTuple
+from typing import NamedTuple
 
+from rdfax.crawling.options import Options
 from rdfax.errors import Refused, Usage
 from rdfax.pages import Page, Syntax, items_text
 
@@ -69,9 +70,9 @@ def _text(given: Given) -> _Text:
 class _Reading:
     """A page's reading: by the library alone, or mended first where that refuses it."""
 
-    def __init__(self, given: Given, first_node: int, options: Any) -> None:
+    def __init__(self, given: Given, first_node: int, options: Options) -> None:
         self._given, self._first, self._options = given, first_node, options
-        self.mending = self.nodes = 0
+        self.nodes = 0
 
     def texts(self, body: bytes) -> tuple[bytes, bytes]:
         """The page's quads and items."""
@@ -88,7 +89,7 @@ class _Reading:
         return quads, items
 
 
-def read(given: Given, first_node: int, options: Any) -> Found:
+def read(given: Given, first_node: int, options: Options) -> Found:
     """Reads a page, whose blank nodes are numbered from `first_node`."""
     began, reading = time.thread_time(), _Reading(given, first_node, options)
     text = _text(given)
