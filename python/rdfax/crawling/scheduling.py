@@ -59,7 +59,8 @@ class _Dask:
         from distributed import Client
 
         # What the scheduler's and a worker's end come to is told by who calls.
-        logging.getLogger("distributed").setLevel(logging.CRITICAL)
+        for name in ("distributed", "distributed.client"):
+            logging.getLogger(name).setLevel(logging.CRITICAL)
         # A task whose worker ends is given back at once; a scheduler that runs already has its own number.
         dask.config.set({"distributed.scheduler.allowed-failures": 0, "distributed.comm.timeouts.connect": "10s"})
         if scheduler:
@@ -114,7 +115,10 @@ class _Dask:
                 return future.result()
             error = future.exception()
         except (CommClosedError, CancelledError):
-            raise SchedulerLost("Dask's scheduler is gone; the same command goes on") from None
+            error = None
+        if error is None or isinstance(error, CancelledError):
+            # A task that is neither done nor wrong was forgotten by the scheduler.
+            raise SchedulerLost("Dask's scheduler is gone; the same command goes on")
         if isinstance(error, KilledWorker):
             return None
         raise error
