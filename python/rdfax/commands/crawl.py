@@ -24,16 +24,15 @@ UNDONE, NO_LIBRARY = 1, 69
 
 
 def _natural(word: str) -> int:
-    number = int(word)
-    if number < 0:
-        raise ValueError
-    return number
+    if not word.isdecimal():
+        raise argparse.ArgumentTypeError(f"{word!r} is no whole number")
+    return int(word)
 
 
 def _positive(word: str) -> int:
     number = _natural(word)
     if number == 0:
-        raise ValueError
+        raise argparse.ArgumentTypeError("0 is too few")
     return number
 
 
