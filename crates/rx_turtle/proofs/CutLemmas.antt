@@ -12,12 +12,12 @@ use Rattle.rx_notation.specs.Layout.{separated}
 use Rattle.rx_pieces.specs.Underway.{Delivery}
 use Rattle.rx_pieces.specs.Writable.{Adds}
 use Rattle.rx_pieces.proofs.Adding.{adds_then, adds_nothing, adds_by, adds_failed}
-use Rattle.rx_groups.specs.declared.keys.By.{By}
-use Rattle.rx_groups.specs.declared.keys.By.TheVariants as by
-use Rattle.rx_groups.specs.Groups.{Keyed, key_by, has_key}
-use Rattle.rx_groups.specs.Runs.{all_in, put_before, runs, said_in}
-use Rattle.rx_groups.proofs.GroupLemmas.{lent_seen}
-use Rattle.rx_groups.proofs.ArrangedLemmas.{first_key, seen_length}
+use Rattle.rx_turtle.specs.declared.keys.By.{By}
+use Rattle.rx_turtle.specs.declared.keys.By.TheVariants as by
+use Rattle.rx_turtle.specs.Groups.{Keyed, key_by, has_key}
+use Rattle.rx_turtle.specs.Runs.{all_in, put_before, runs, said_in}
+use Rattle.rx_turtle.proofs.GroupLemmas.{lent_seen}
+use Rattle.rx_turtle.proofs.ArrangedLemmas.{first_key, seen_length}
 use Rattle.rx_turtle.specs.Written.{group_text, first_line, said_text, statements_text, first_statement, later}
 
 -- ---- a text by what is left of it

@@ -29,18 +29,18 @@ use Rattle.rx_nested.specs.Pieces.{piece_text, piece_names}
 use Rattle.rx_nested.proofs.Declared.{of_named}
 use Rattle.rx_nested.proofs.Stepping.{pieces_are_text}
 use Rattle.rx_nested.proofs.NestedMeaning.{nested_denotes}
-use Rattle.rx_nesting.specs.declared.source.Source.{Source}
-use Rattle.rx_nesting.specs.declared.tokens.Token.{Token}
-use Rattle.rx_nesting.specs.declared.tokens.Words.{Words}
-use Rattle.rx_nesting.specs.declared.tokens.Words.TheVariants as fixed
-use Rattle.rx_shorts.specs.Rows.{AreRows}
-use Rattle.rx_shorts.specs.Uses.{marked_all, unmarked, chosen}
-use Rattle.rx_nesting.specs.Tokens.{Shown, Fixed, Noun, Verb, Quoted, token_seen, tokens_seen, words_text, piece_of, pieces_of, shown_text, shown_texts, iris_of_shown, WritableShown}
-use Rattle.rx_nesting.specs.Due.{list_of, shapes_of, IsSource, AreTokens}
+use Rattle.rx_turtle.specs.declared.source.Source.{Source}
+use Rattle.rx_turtle.specs.declared.tokens.Token.{Token}
+use Rattle.rx_turtle.specs.declared.tokens.Words.{Words}
+use Rattle.rx_turtle.specs.declared.tokens.Words.TheVariants as fixed
+use Rattle.rx_turtle.specs.Rows.{AreRows}
+use Rattle.rx_turtle.specs.Uses.{marked_all, unmarked, chosen}
+use Rattle.rx_turtle.specs.Tokens.{Shown, Fixed, Noun, Verb, Quoted, token_seen, tokens_seen, words_text, piece_of, pieces_of, shown_text, shown_texts, iris_of_shown, WritableShown}
+use Rattle.rx_turtle.specs.Due.{list_of, shapes_of, IsSource, AreTokens}
 use Rattle.rx_turtle.specs.Nested.{iris_of_tokens, AreWritable}
-use Rattle.rx_nesting.proofs.RunLemmas.{have_shapes}
-use Rattle.rx_shorts.proofs.ScalarLemmas.{all_writable, resource_writable, verb_writable, object_writable, prefixes_writable}
-use Rattle.rx_shorts.proofs.UseLemmas.{chosen_used, marks_size, marked_both}
+use Rattle.rx_turtle.proofs.RunLemmas.{have_shapes}
+use Rattle.rx_turtle.proofs.ScalarLemmas.{all_writable, resource_writable, verb_writable, object_writable, prefixes_writable}
+use Rattle.rx_turtle.proofs.UseLemmas.{chosen_used, marks_size, marked_both}
 
 -- ---- the loops over tokens
 

@@ -10,16 +10,16 @@ use Rattle.rx_notation.specs.Laws.{IsContext, IsWritable, proper_triple}
 use Rattle.rx_notation.specs.Meaning.{Turtle}
 use Rattle.rx_notation.proofs.LayoutMeaning.{layout_denotes}
 use Rattle.rx_notation.proofs.Ordered.{rising}
-use Rattle.rx_groups.specs.declared.keys.By.TheVariants as by
-use Rattle.rx_groups.specs.Groups.{Keyed, has_key, keys_by, grouped}
-use Rattle.rx_groups.specs.Runs.{Said, said_by}
+use Rattle.rx_turtle.specs.declared.keys.By.TheVariants as by
+use Rattle.rx_turtle.specs.Groups.{Keyed, has_key, keys_by, grouped}
+use Rattle.rx_turtle.specs.Runs.{Said, said_by}
 use Rattle.rx_turtle.specs.Written.{plan, group_text, said_text, plan_text}
-use Rattle.rx_shorts.specs.Rows.{AreRows}
-use Rattle.rx_shorts.specs.Uses.{used_marks, chosen}
-use Rattle.rx_groups.proofs.GroupLemmas.{map_twice}
-use Rattle.rx_nesting.proofs.PredicateLemmas.{keys_are}
-use Rattle.rx_shorts.proofs.ScalarLemmas.{turtle_writable}
-use Rattle.rx_shorts.proofs.UseLemmas.{chosen_used}
+use Rattle.rx_turtle.specs.Rows.{AreRows}
+use Rattle.rx_turtle.specs.Uses.{used_marks, chosen}
+use Rattle.rx_turtle.proofs.GroupLemmas.{map_twice}
+use Rattle.rx_turtle.proofs.PredicateLemmas.{keys_are}
+use Rattle.rx_turtle.proofs.ScalarLemmas.{turtle_writable}
+use Rattle.rx_turtle.proofs.UseLemmas.{chosen_used}
 
 map_like : {A B : Type 0} (f g : A → B) (list : List A) → ((a : A) → f a ≡ g a) → map f list ≡ map g list
 map_like f g [] h = refl

@@ -1,3 +1,16 @@
 pub mod Written
 pub mod Nested
 pub mod Graphs
+pub mod Due
+pub mod Said
+pub mod Tokens
+pub mod Shorts
+pub mod Slots
+pub mod Places
+pub mod Known
+pub mod Rows
+pub mod Uses
+pub mod Verbs
+pub mod Groups
+pub mod Runs
+pub mod Cuts

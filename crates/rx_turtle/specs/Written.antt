@@ -4,12 +4,12 @@ use Rattle.rx_terms.specs.Text.{Chars}
 use Rattle.rx_model.specs.Terms.{Triple}
 use Rattle.rx_notation.specs.Short.{Prefixes}
 use Rattle.rx_notation.specs.Layout.{resource_text, object_text, separated, prefixes_text}
-use Rattle.rx_groups.specs.declared.keys.By.TheVariants as by
+use Rattle.rx_turtle.specs.declared.keys.By.TheVariants as by
 use Rattle.rx_turtle.specs.declared.plan.Plan.{Plan}
-use Rattle.rx_groups.specs.Groups.{Keyed, grouped, lent_triples}
-use Rattle.rx_groups.specs.Runs.{runs, Said, said_by, said_in}
-use Rattle.rx_shorts.specs.Uses.{chosen}
-use Rattle.rx_shorts.specs.Verbs.{key_text}
+use Rattle.rx_turtle.specs.Groups.{Keyed, grouped, lent_triples}
+use Rattle.rx_turtle.specs.Runs.{runs, Said, said_by, said_in}
+use Rattle.rx_turtle.specs.Uses.{chosen}
+use Rattle.rx_turtle.specs.Verbs.{key_text}
 
 -- each subject with its predicates, and each of these with its triples
 abbrev pub plan : List (Triple ℕ) → List Said

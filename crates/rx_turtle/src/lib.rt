@@ -8,12 +8,36 @@
 //! they are used.
 #![tactic(auto)]
 
+mod arranging;
+mod cells;
+mod cuts;
+mod due;
+mod groups;
+mod hints;
+mod keys;
+mod known;
+mod lengths;
+mod lent;
 mod lines;
+mod names;
 mod nested_plan;
 mod nested_writing;
+mod nesting;
+mod places;
+mod plain;
 mod plan;
+mod prefixes;
+mod said;
+mod shorts;
+mod slots;
+mod source;
+mod stack;
+mod starts;
+mod terms;
 mod token_texts;
 mod token_uses;
+mod tokens;
+mod uses;
 mod writing;
 
 pub use nested_writing::{nested, write_nested};

@@ -3,17 +3,20 @@ ghost use Rattle.std.specs.Prelude.{◌≡◌, ◌==◌, ◌+◌, ◌<◌, ◌�
 ghost use Rattle.std.specs.Str.{chars};
 ghost use Rattle.rx_graph.specs.Resources.{resource_seen};
 ghost use Rattle.rx_pieces.specs.Writable.{Pushes};
-ghost use Rattle.rx_groups.specs.declared.keys.By.TheVariants as by;
-ghost use Rattle.rx_groups.specs.Runs.{runs, said_in};
+ghost use Rattle.rx_turtle.specs.declared.keys.By.TheVariants as by;
+ghost use Rattle.rx_turtle.specs.Runs.{runs, said_in};
 ghost use Rattle.rx_turtle.specs.Written.{objects_text, group_text, lines_text, first_line, said_text, statements_text, first_statement, later, text_of};
-ghost use Rattle.rx_groups.specs.Groups.{lent_triples};
+ghost use Rattle.rx_turtle.specs.Groups.{lent_triples};
 
 use crate::plan::Plan;
 use rx_graph::Resource;
-use rx_groups::{By, cut};
+use crate::cuts::cut;
+use crate::keys::By;
 use rx_pieces::{Pieces, push};
 use rx_ports::Sink;
-use rx_shorts::{Shorts, push_key, push_object, push_prefixes, push_resource};
+use crate::prefixes::push_prefixes;
+use crate::shorts::Shorts;
+use crate::terms::{push_key, push_object, push_resource};
 use rx_terms::Triple;
 
 /// Adds the whole text.

@@ -11,11 +11,14 @@ use crate::token_texts::push_tokens;
 use crate::token_uses::{is_graph, token_marks};
 use rx_graph::Graph;
 use rx_names::Context;
-use rx_nesting::{Source, Token, tokens_of};
+use crate::nesting::tokens_of;
+use crate::source::Source;
+use crate::tokens::Token;
 use rx_pieces::Pieces;
 use rx_ports::Sink;
 use rx_shapes::Shapes;
-use rx_shorts::{Shorts, push_prefixes};
+use crate::prefixes::push_prefixes;
+use crate::shorts::Shorts;
 use rx_terms::NoMemory;
 use std::alloc::Global;
 

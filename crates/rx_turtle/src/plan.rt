@@ -6,9 +6,10 @@ ghost use Rattle.rx_turtle.specs.Written.{text_of};
 ghost use Rattle.rx_turtle.specs.Graphs.{DenoteTurtle, turtle_bytes};
 
 use rx_graph::Graph;
-use rx_groups::arranged;
+use crate::arranging::arranged;
 use rx_names::Context;
-use rx_shorts::{Shorts, used_marks};
+use crate::shorts::Shorts;
+use crate::uses::used_marks;
 use rx_terms::{NoMemory, Triple};
 use std::alloc::Global;
 

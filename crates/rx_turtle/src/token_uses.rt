@@ -9,14 +9,15 @@ ghost use Rattle.rx_notation.specs.Laws.{IsWritable};
 ghost use Rattle.rx_notation.specs.Layout.{iris_of_node};
 ghost use Rattle.rx_notation.specs.Short.{names_rise};
 ghost use Rattle.rx_turtle.specs.Nested.{iris_of_tokens, AreWritable};
-ghost use Rattle.rx_nesting.specs.Tokens.{token_seen, iris_of_shown, WritableShown};
-ghost use Rattle.rx_shorts.specs.Uses.{marked_all, unmarked};
-ghost use Rattle.rx_shorts.specs.Verbs.{iris_of_verb};
+ghost use Rattle.rx_turtle.specs.Tokens.{token_seen, iris_of_shown, WritableShown};
+ghost use Rattle.rx_turtle.specs.Uses.{marked_all, unmarked};
+ghost use Rattle.rx_turtle.specs.Verbs.{iris_of_verb};
 
 use rx_graph::{Graph, Resource};
-use rx_nesting::Token;
+use crate::tokens::Token;
 use rx_pieces::{is_writable, is_writable_blank, is_writable_iri, is_writable_literal};
-use rx_shorts::{Shorts, mark_iri, mark_kind, mark_predicate, unmarked};
+use crate::shorts::Shorts;
+use crate::uses::{mark_iri, mark_kind, mark_predicate, unmarked};
 use rx_terms::NoMemory;
 use std::alloc::Global;
 

@@ -1,8 +1,8 @@
 use Rattle.std.proofs.Common.{◌-◌, drop, map, length}
 use Rattle.rx_pieces.specs.Underway.{delivery}
-use Rattle.rx_groups.specs.declared.keys.By.TheVariants as by
-use Rattle.rx_groups.specs.Runs.{runs}
-use Rattle.rx_groups.proofs.GroupLemmas.{lent_seen}
+use Rattle.rx_turtle.specs.declared.keys.By.TheVariants as by
+use Rattle.rx_turtle.specs.Runs.{runs}
+use Rattle.rx_turtle.proofs.GroupLemmas.{lent_seen}
 use Rattle.rx_turtle.proofs.CutLemmas.{Remains, lines_from}
 use Rattle.rx_turtle.proofs.lines.push_lines.Given as goal
 

@@ -2,8 +2,8 @@ use Rattle.std.proofs.Common.{ℕ, codes, refl, map, get_or}
 use Rattle.std.proofs.lemmas.Option.{slice_get-get_or}
 use Rattle.rx_model.specs.Terms.{Triple}
 use Rattle.rx_notation.specs.Layout.{object_text}
-use Rattle.rx_groups.proofs.GroupLemmas.{lent_seen, lent_at}
-use Rattle.rx_shorts.proofs.LineLemmas.{listed}
+use Rattle.rx_turtle.proofs.GroupLemmas.{lent_seen, lent_at}
+use Rattle.rx_turtle.proofs.LineLemmas.{listed}
 use Rattle.rx_turtle.proofs.lines.push_objects.Goals as goal
 
 pub loop-i-preserved : goal.loop-i-preserved

@@ -2,7 +2,7 @@ use Rattle.std.proofs.Common.{take, map}
 use Rattle.rx_pieces.specs.Underway.{delivery}
 use Rattle.rx_pieces.specs.Writable.{Adds}
 use Rattle.rx_turtle.specs.Written.{objects_text}
-use Rattle.rx_groups.proofs.GroupLemmas.{lent_seen}
+use Rattle.rx_turtle.proofs.GroupLemmas.{lent_seen}
 use Rattle.rx_turtle.proofs.lines.push_objects.Given as goal
 
 abbrev pub invariant-loop-i : goal.invariant-loop-i

@@ -1,8 +1,8 @@
 use Rattle.std.proofs.Common.{◌∙◌, refl, sym, map}
 use Rattle.std.proofs.lemmas.Option.{slice_get_read}
-use Rattle.rx_nesting.specs.Tokens.{token_seen, shown_text}
-use Rattle.rx_groups.proofs.GroupLemmas.{seen_at}
-use Rattle.rx_shorts.proofs.LineLemmas.{joined, joined_failed}
+use Rattle.rx_turtle.specs.Tokens.{token_seen, shown_text}
+use Rattle.rx_turtle.proofs.GroupLemmas.{seen_at}
+use Rattle.rx_turtle.proofs.LineLemmas.{joined, joined_failed}
 use Rattle.rx_turtle.proofs.token_texts.push_tokens.Goals as goal
 
 pub returns-then-has_failed : goal.returns-then-has_failed

@@ -1,7 +1,7 @@
 use Rattle.std.proofs.Common.{◌∙◌, arith, ap, refl}
 use Rattle.std.proofs.lemmas.Option.{slice_get_read}
-use Rattle.rx_nesting.specs.Tokens.{token_seen, iris_of_shown}
-use Rattle.rx_shorts.specs.Uses.{marked_all}
+use Rattle.rx_turtle.specs.Tokens.{token_seen, iris_of_shown}
+use Rattle.rx_turtle.specs.Uses.{marked_all}
 use Rattle.rx_turtle.proofs.NestedLemmas.{viewed_start, viewed_more, viewed_marks, viewed_writable}
 use Rattle.rx_turtle.proofs.token_uses.mark_tokens.Goals as goal
 

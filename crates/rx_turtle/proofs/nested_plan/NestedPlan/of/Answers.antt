@@ -4,7 +4,7 @@ use Rattle.rx_shapes.specs.Table.{shape_in}
 use Rattle.rx_notation.specs.Short.{names_rise}
 use Rattle.rx_nested.specs.Nesting.{nested}
 use Rattle.rx_turtle.specs.Nested.{iris_of_tokens, AreWritable}
-use Rattle.rx_shorts.specs.Uses.{marked_all, unmarked}
+use Rattle.rx_turtle.specs.Uses.{marked_all, unmarked}
 use Rattle.rx_turtle.proofs.NestedLemmas.{nested_is, marks_long, text_denotes}
 use Rattle.rx_turtle.proofs.nested_plan.NestedPlan.of.Goals as goal
 

@@ -1,4 +1,0 @@
-pub mod GroupLemmas
-pub mod TakenLemmas
-pub mod ArrangedLemmas
-pub mod BorrowLemmas

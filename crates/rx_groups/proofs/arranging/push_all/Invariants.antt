@@ -1,6 +1,0 @@
-use Rattle.std.proofs.Common.{◌≡◌, ◌++◌, take, map}
-use Rattle.rx_groups.proofs.GroupLemmas.{lent_seen}
-use Rattle.rx_groups.proofs.arranging.push_all.Given as goal
-
-abbrev pub invariant-loop-i : goal.invariant-loop-i
-invariant-loop-i l = map lent_seen l.list.items ≡ map lent_seen l.fn.list.items ++ map lent_seen (take l.i l.triples)

@@ -1,9 +1,0 @@
-use Rattle.std.proofs.Common.{◌≡◌, ◌++◌, take, map}
-use Rattle.rx_groups.specs.declared.keys.By.TheVariants as by
-use Rattle.rx_groups.specs.Groups.{keys_by}
-use Rattle.rx_groups.specs.Runs.{all_in}
-use Rattle.rx_groups.proofs.GroupLemmas.{lent_seen, rows_by}
-use Rattle.rx_groups.proofs.arranging.push_few.Given as goal
-
-abbrev pub invariant-loop-i : goal.invariant-loop-i
-invariant-loop-i l = map lent_seen l.list.items ≡ map lent_seen l.fn.list.items ++ all_in (rows_by by.Predicate (map lent_seen l.triples) (keys_by by.Predicate (take l.i (map lent_seen l.triples))))

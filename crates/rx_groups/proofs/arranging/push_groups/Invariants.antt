@@ -1,7 +1,0 @@
-use Rattle.std.proofs.Common.{◌≡◌, ◌++◌, take, map}
-use Rattle.rx_groups.specs.Runs.{all_in}
-use Rattle.rx_groups.proofs.GroupLemmas.{lent_seen}
-use Rattle.rx_groups.proofs.arranging.push_groups.Given as goal
-
-abbrev pub invariant-loop-i : goal.invariant-loop-i
-invariant-loop-i l = map lent_seen l.list.items ≡ map lent_seen l.fn.list.items ++ all_in (take l.i l.groups)

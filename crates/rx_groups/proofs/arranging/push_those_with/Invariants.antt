@@ -1,9 +1,0 @@
-use Rattle.std.proofs.Common.{◌≡◌, ◌++◌, take, map, filter}
-use Rattle.rx_graph.specs.Resources.{resource_seen}
-use Rattle.rx_groups.specs.declared.keys.By.TheVariants as by
-use Rattle.rx_groups.specs.Groups.{has_key}
-use Rattle.rx_groups.proofs.GroupLemmas.{lent_seen}
-use Rattle.rx_groups.proofs.arranging.push_those_with.Given as goal
-
-abbrev pub invariant-loop-i : goal.invariant-loop-i
-invariant-loop-i l = map lent_seen l.list.items ≡ map lent_seen l.fn.list.items ++ filter (has_key by.Predicate (resource_seen l.key)) (take l.i (map lent_seen l.triples))

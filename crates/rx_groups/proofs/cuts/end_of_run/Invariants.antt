@@ -1,9 +1,0 @@
-use Rattle.std.proofs.Common.{◌≡◌, ◌≤◌, true, take, map}
-use Rattle.std.specs.List.{list_all}
-use Rattle.rx_graph.specs.Resources.{resource_seen}
-use Rattle.rx_groups.specs.Groups.{has_key}
-use Rattle.rx_groups.proofs.GroupLemmas.{lent_seen}
-use Rattle.rx_groups.proofs.cuts.end_of_run.Given as goal
-
-abbrev pub invariant-loop-i : goal.invariant-loop-i
-invariant-loop-i l = (1 ≤ l.i) × (list_all (has_key l.by (resource_seen l.key)) (take l.i (map lent_seen l.triples)) ≡ true)

@@ -1,5 +1,0 @@
-pub mod PredicateLemmas
-pub mod DueLemmas
-pub mod SaidLemmas
-pub mod StepLemmas
-pub mod RunLemmas

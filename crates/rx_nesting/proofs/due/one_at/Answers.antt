@@ -1,7 +1,0 @@
-use Rattle.std.proofs.Common.{refl}
-use Rattle.std.proofs.lemmas.Option.{slice_get_read}
-use Rattle.rx_groups.proofs.GroupLemmas.{lent_at}
-use Rattle.rx_nesting.proofs.due.one_at.Goals as goal
-
-pub returns : goal.returns
-returns c = lent_at c.args.said.now c.args.place c.index-said-place.result (slice_get_read c.args.said.now _ c.args.place c.index-said-place.result refl c.requires c.index-said-place.is)

@@ -1,6 +1,0 @@
-use Rattle.std.proofs.Common.{◌≡◌, take, []}
-use Rattle.rx_nesting.proofs.RunLemmas.{Stated}
-use Rattle.rx_nesting.proofs.nesting.tokens_about.Given as goal
-
-abbrev pub invariant-loop-i : goal.invariant-loop-i
-invariant-loop-i l = Stated l.source (take l.i l.subjects) l.tokens.items × (l.stack ≡ [])

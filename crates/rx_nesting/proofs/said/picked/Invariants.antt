@@ -1,8 +1,0 @@
-use Rattle.std.proofs.Common.{◌≡◌, take, map}
-use Rattle.rx_model.specs.Seen.{triples_seen}
-use Rattle.rx_nesting.specs.Said.{picked}
-use Rattle.rx_groups.proofs.GroupLemmas.{lent_seen}
-use Rattle.rx_nesting.proofs.said.picked.Given as goal
-
-abbrev pub invariant-loop-i : goal.invariant-loop-i
-invariant-loop-i l = map lent_seen l.triples.items ≡ picked (triples_seen l.graph) (take l.i l.places)

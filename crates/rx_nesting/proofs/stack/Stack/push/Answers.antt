@@ -1,5 +1,0 @@
-use Rattle.rx_nesting.proofs.DueLemmas.{pushed_due}
-use Rattle.rx_nesting.proofs.stack.Stack.push.Goals as goal
-
-pub returns : goal.returns
-returns c = rw (← c.self.view_is) (pushed_due _ _ _ c.in_ok-push.ensures.items)

@@ -1,9 +1,0 @@
-pub mod Finding
-pub mod SlotLemmas
-pub mod KnownLemmas
-pub mod PlainLemmas
-pub mod PlaceLemmas
-pub mod AddLemmas
-pub mod UseLemmas
-pub mod LineLemmas
-pub mod ScalarLemmas

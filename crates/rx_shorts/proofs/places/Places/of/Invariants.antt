@@ -1,7 +1,0 @@
-use Rattle.std.proofs.Common.{drop}
-use Rattle.rx_shorts.specs.Places.{Finds}
-use Rattle.rx_shorts.specs.Rows.{AreRows}
-use Rattle.rx_shorts.proofs.places.Places.of.Given as goal
-
-abbrev pub invariant-loop-place : goal.invariant-loop-place
-invariant-loop-place l = Finds l.place (drop l.place l.context.prefixes) l.places × AreRows (drop l.place l.context.prefixes)

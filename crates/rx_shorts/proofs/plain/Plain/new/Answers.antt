@@ -1,6 +1,0 @@
-use Rattle.std.proofs.Common.{refl}
-use Rattle.rx_shorts.proofs.PlainLemmas.{no_names}
-use Rattle.rx_shorts.proofs.plain.Plain.new.Goals as goal
-
-pub loop-i-init : goal.loop-i-init
-loop-i-init c = (refl, no_names 256)

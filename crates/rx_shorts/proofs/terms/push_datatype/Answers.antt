@@ -1,6 +1,0 @@
-use Rattle.std.proofs.Common.{codes, refl}
-use Rattle.rx_pieces.proofs.Adding.{adds_then, literal}
-use Rattle.rx_shorts.proofs.terms.push_datatype.Goals as goal
-
-pub returns : goal.returns
-returns g c = adds_then (literal (codes "^^") refl c.push.ensures) c.push_iri.ensures

@@ -1,0 +1,20 @@
+-- Terms added to a text.
+use Rattle.std.proofs.Common.{◌≡◌, ℕ, List, ◌++◌, refl, sym, ap, append_assoc, codes}
+use Rattle.std.specs.Str.{chars}
+use Rattle.rx_terms.specs.Text.{Chars}
+use Rattle.rx_notation.specs.Short.{Prefixes, local_name}
+use Rattle.rx_notation.specs.Layout.{short_iri}
+use Rattle.rx_pieces.specs.Underway.{Delivery, AddsBytes}
+use Rattle.rx_pieces.specs.Writable.{Adds}
+use Rattle.rx_pieces.specs.Writing.{string_text, escaped_text}
+use Rattle.rx_pieces.proofs.Sending.{bytes_by}
+use Rattle.rx_pieces.proofs.Adding.{adds_then, adds_by, literal}
+use Rattle.rx_turtle.specs.Shorts.{IsShort}
+
+pub short_added : {a b c d : Delivery} (context : Prefixes) (iri name : Chars) (local : List ℕ) → IsShort context iri name local → Adds a b name → Adds b c (chars (codes ":")) → AddsBytes c d local → Adds a d (short_iri context iri)
+short_added {a} {b} {c} {d} context iri name local s first colon last =
+    let behind : Adds c d (local_name s.prefix iri) = record { bytes = bytes_by s.rest last } in
+    rw s.found (adds_then (adds_by s.named first) (adds_then (literal (codes ":") refl colon) behind))
+
+pub string_ended : (text suffix : Chars) → (codes "\"" ++ escaped_text text) ++ (codes "\"" ++ suffix) ≡ string_text text ++ suffix
+string_ended text suffix = ap (λ z. codes "\"" ++ z) (sym (append_assoc (escaped_text text) (codes "\"") suffix))

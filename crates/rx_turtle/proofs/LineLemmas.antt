@@ -1,0 +1,110 @@
+-- Prefixes and statements, one after another.
+use Rattle.std.proofs.Common.{◌≡◌, ◌∙◌, ℕ, zero, suc, ◌+◌, Bool, true, false, ◌==◌, List, [], ◌∷◌, ◌++◌, map, flat_map, length, take, drop, slice_get, Some, refl, sym, ap, ap₂, arith, append_assoc, append-nil, codes, true≢false, if◌then◌else◌, take-append-drop}
+use Rattle.std.specs.Str.{chars}
+use Rattle.std.specs.List.{list_all, list_any}
+use Rattle.std.proofs.lemmas.List.{map-append}
+use Rattle.std.proofs.lemmas.Bool.Decides.{nat_tests}
+use Rattle.rx_terms.specs.Ascii.{is_ascii}
+use Rattle.rx_terms.specs.Text.{Chars}
+use Rattle.rx_terms.proofs.CharLemmas.{ascii-chars}
+use Rattle.rx_graph.proofs.SetLemmas.{one_more}
+use Rattle.rx_notation.specs.Short.{Prefix, Prefixes}
+use Rattle.rx_notation.specs.Layout.{separated, prefix_text, prefixes_text}
+use Rattle.rx_pieces.specs.Underway.{Delivery}
+use Rattle.rx_pieces.specs.Writable.{Adds}
+use Rattle.rx_pieces.proofs.Adding.{adds_then, adds_by, adds_failed, iri_before}
+use Rattle.rx_turtle.specs.Uses.{chosen}
+
+-- ---- with another text between neighbours
+
+-- what stands before a text behind these
+abbrev gap : Chars → List Chars → Chars
+gap between [] = []
+gap between (text ∷ texts) = between
+
+separated_more : (between : Chars) (texts : List Chars) (text : Chars) → separated between (texts ++ text ∷ []) ≡ separated between texts ++ (gap between texts ++ text)
+separated_more between [] text = append-nil text
+separated_more between (first ∷ texts) text = ap (λ z. first ++ z) (behind texts) ∙ sym (append_assoc first (flat_map (λ next. between ++ next) texts) (between ++ text))
+  where
+    behind : (list : List Chars) → flat_map (λ next. between ++ next) (list ++ text ∷ []) ≡ flat_map (λ next. between ++ next) list ++ (between ++ text)
+    behind [] = append-nil (between ++ text)
+    behind (next ∷ list) = ap (λ z. (between ++ next) ++ z) (behind list) ∙ sym (append_assoc (between ++ next) (flat_map (λ n. between ++ n) list) (between ++ text))
+
+module _ {A : Type 0} (f : A → Chars) (between : Chars) (plain : list_all is_ascii between ≡ true) where
+  gap_at : (list : List A) (i : ℕ) (a : A) → slice_get list i ≡ Some a → gap between (map f (take i list)) ≡ (if i == 0 then [] else between)
+  gap_at [] i a at = absurd (cc)
+  gap_at (x ∷ list) zero a at = refl
+  gap_at (x ∷ list) (suc i) a at = let some : (suc i == 0) ≡ false = grind (arith, nat_tests) in rw some refl
+
+  pub listed : {start now mid next : Delivery} (list : List A) (i : ℕ) (a : A) → slice_get list i ≡ Some a → Adds start now (separated between (map f (take i list)))
+      → Adds now mid (if i == 0 then [] else chars between) → Adds mid next (f a) → Adds start next (separated between (map f (take (i + 1) list)))
+  listed list i a at so_far first last =
+      let more : map f (take (i + 1) list) ≡ map f (take i list) ++ f a ∷ [] = ap (map f) (one_more list i a at) ∙ map-append f (take i list) (a ∷ []) in
+      adds_by (sym (ap (separated between) more ∙ separated_more between (map f (take i list)) (f a)))
+      (adds_then so_far (adds_then (adds_by (ap (λ z. if i == 0 then [] else z) (ascii-chars between plain) ∙ sym (gap_at list i a at)) first) last))
+
+-- ---- one behind another
+
+module _ {A : Type 0} (f : A → Chars) where
+  texts_both : (xs ys : List A) → flat_map f (xs ++ ys) ≡ flat_map f xs ++ flat_map f ys
+  texts_both [] ys = refl
+  texts_both (x ∷ xs) ys = ap (λ z. f x ++ z) (texts_both xs ys) ∙ sym (append_assoc (f x) (flat_map f xs) (flat_map f ys))
+
+  pub joined : {start now next : Delivery} (list : List A) (i : ℕ) (a : A) → slice_get list i ≡ Some a → Adds start now (flat_map f (take i list)) → Adds now next (f a) → Adds start next (flat_map f (take (i + 1) list))
+  joined list i a at so_far last =
+      adds_by (sym (ap (flat_map f) (one_more list i a at) ∙ texts_both (take i list) (a ∷ []) ∙ ap (λ z. flat_map f (take i list) ++ z) (append-nil (f a)))) (adds_then so_far last)
+
+  -- the sink failed, and no more is written
+  pub joined_failed : {start now : Delivery} (list : List A) (i : ℕ) → now.underway.failed ≡ true → Adds start now (flat_map f (take i list)) → Adds start now (flat_map f list)
+  joined_failed list i failed h = adds_by (sym (texts_both (take i list) (drop i list)) ∙ ap (flat_map f) (take-append-drop i list)) (adds_failed (flat_map f (drop i list)) failed h)
+
+-- ---- prefixes
+
+abbrev one_chosen : Bool → Prefix → Prefixes
+one_chosen mark row = if mark then row ∷ [] else []
+
+chosen_more : (marks : List Bool) (context : Prefixes) (i : ℕ) (mark : Bool) (row : Prefix) → slice_get marks i ≡ Some mark → slice_get context i ≡ Some row
+    → chosen (take (i + 1) marks) (take (i + 1) context) ≡ chosen (take i marks) (take i context) ++ one_chosen mark row
+chosen_more [] context i mark row at there = absurd (cc)
+chosen_more (m ∷ marks) [] i mark row at there = absurd (cc)
+chosen_more (true ∷ marks) (p ∷ context) zero mark row at there = let same : true ≡ mark = cc in let is : p ≡ row = cc in ap₂ one_chosen same is
+chosen_more (false ∷ marks) (p ∷ context) zero mark row at there = let same : false ≡ mark = cc in let is : p ≡ row = cc in ap₂ one_chosen same is
+chosen_more (true ∷ marks) (p ∷ context) (suc i) mark row at there =
+    let up : suc i + 1 ≡ suc (i + 1) = omega arith in
+    ap (λ n. chosen (take n (true ∷ marks)) (take n (p ∷ context))) up ∙ ap (λ z. p ∷ z) (chosen_more marks context i mark row at there)
+chosen_more (false ∷ marks) (p ∷ context) (suc i) mark row at there =
+    let up : suc i + 1 ≡ suc (i + 1) = omega arith in
+    ap (λ n. chosen (take n (false ∷ marks)) (take n (p ∷ context))) up ∙ chosen_more marks context i mark row at there
+
+pub prefix_turn : {start now next : Delivery} (marks : List Bool) (context : Prefixes) (i : ℕ) (mark : Bool) (row : Prefix) → slice_get marks i ≡ Some mark → slice_get context i ≡ Some row
+    → Adds start now (flat_map prefix_text (chosen (take i marks) (take i context))) → Adds now next (if mark then prefix_text row else [])
+    → Adds start next (flat_map prefix_text (chosen (take (i + 1) marks) (take (i + 1) context)))
+prefix_turn marks context i mark row at there so_far last =
+    adds_by (sym (ap (flat_map prefix_text) (chosen_more marks context i mark row at there) ∙ texts_both prefix_text (chosen (take i marks) (take i context)) (one_chosen mark row) ∙ ap (λ z. flat_map prefix_text (chosen (take i marks) (take i context)) ++ z) (line mark)))
+    (adds_then so_far last)
+  where
+    line : (b : Bool) → flat_map prefix_text (one_chosen b row) ≡ (if b then prefix_text row else [])
+    line true = append-nil (prefix_text row)
+    line false = refl
+
+pub none_chosen : (marks : List Bool) (context : Prefixes) → list_any (λ mark. mark) marks ≡ false → chosen marks context ≡ []
+none_chosen [] context h = refl
+none_chosen (true ∷ marks) context h = absurd (true≢false h)
+none_chosen (false ∷ marks) [] h = refl
+none_chosen (false ∷ marks) (p ∷ context) h = none_chosen marks context h
+
+some_ended : (marks : List Bool) (context : Prefixes) → length marks ≡ length context → list_any (λ mark. mark) marks ≡ true → prefixes_text (chosen marks context) ≡ flat_map prefix_text (chosen marks context) ++ codes "\n"
+some_ended [] context same h = absurd (true≢false (sym h))
+some_ended (mark ∷ marks) [] same h = absurd (omega (arith, same))
+some_ended (true ∷ marks) (p ∷ context) same h = refl
+some_ended (false ∷ marks) (p ∷ context) same h = some_ended marks context (omega (arith, same)) h
+
+pub lines_ended : {start now next : Delivery} (marks : List Bool) (context : Prefixes) → length marks ≡ length context → list_any (λ mark. mark) marks ≡ true
+    → Adds start now (flat_map prefix_text (chosen marks context)) → Adds now next (codes "\n") → Adds start next (prefixes_text (chosen marks context))
+lines_ended marks context same some h k = adds_by (sym (some_ended marks context same some)) (adds_then h k)
+
+pub no_lines : {start now : Delivery} (marks : List Bool) (context : Prefixes) → list_any (λ mark. mark) marks ≡ false → Adds start now (flat_map prefix_text (chosen marks context)) → Adds start now (prefixes_text (chosen marks context))
+no_lines marks context none h = adds_by (ap (flat_map prefix_text) (none_chosen marks context none) ∙ ap prefixes_text (sym (none_chosen marks context none))) h
+
+pub prefix_spelled : (name iri : Chars) → codes "@prefix " ++ (name ++ (codes ": <" ++ (iri ++ codes "> .\n"))) ≡ prefix_text (name, iri)
+prefix_spelled name iri = ap (λ z. codes "@prefix " ++ (name ++ (codes ": " ++ z))) (iri_before iri (codes " .\n"))

@@ -1,0 +1,67 @@
+-- What slots tell.
+use Rattle.std.proofs.Common.{◌≡◌, ◌∙◌, ℕ, ◌-◌, ◌<◌, Bool, true, false, nat_eq, List, length, get_or, slice_set, bit_and, Option, Some, None, refl, sym, ap, ap₂, subst, true≢false, arith, if◌then◌else◌}
+use Rattle.std.specs.Cmp.Lexicographic.{pointwise}
+use Rattle.std.proofs.lemmas.Bool.Decides.{nat_tests}
+use Rattle.std.proofs.lemmas.List.{get_or-set_same, get_or-set_other, get_or_default, length-set}
+use Rattle.rx_model.proofs.Exact.{exact_texts}
+use Rattle.rx_model.proofs.Sets.{false_unless}
+use Rattle.rx_turtle.specs.declared.slots.Slot.{Slot}
+use Rattle.rx_turtle.specs.declared.slots.Slot.TheVariants.{Free, One, Many}
+use Rattle.rx_turtle.specs.Slots.{number_of, slot_of, told_by, told, with_iri, IsSo, Tells}
+use denote.Ref.{Bor}
+
+pub so_also : (told : Option (Option ℕ)) (a b : Option ℕ) → a ≡ b → IsSo told a → IsSo told b
+so_also None a b e h = h
+so_also (Some x) a b e h = h ∙ e
+
+-- what a slot tells of the bytes with the IRI in it
+told_with : (slot : Slot) (iri : Bor (List ℕ)) (place : ℕ) (bytes : List ℕ) (o : Option ℕ) → IsSo (told_by slot bytes) o
+    → IsSo (told_by (with_iri slot iri place) bytes) (if pointwise nat_eq iri.now bytes then Some place else o)
+told_with Free iri place bytes o h = ap (λ (z : Option ℕ). if pointwise nat_eq iri.now bytes then Some place else z) h
+told_with (One other first) iri place bytes o h = go (pointwise nat_eq other.now iri.now) refl
+  where
+    go : (b : Bool) → pointwise nat_eq other.now iri.now ≡ b → IsSo (told_by (if b then One iri place else Many) bytes) (if pointwise nat_eq iri.now bytes then Some place else o)
+    go true e = within (pointwise nat_eq iri.now bytes) refl
+      where
+        same : other.now ≡ iri.now
+        same = (exact_texts other.now iri.now).0 e
+
+        within : (c : Bool) → pointwise nat_eq iri.now bytes ≡ c → (if c then Some place else None) ≡ (if c then Some place else o)
+        within true f = refl
+        within false f = sym (ap (λ (b : Bool). if b then Some first else None) (ap (λ z. pointwise nat_eq z bytes) same ∙ f)) ∙ h
+    go false e = tt
+told_with Many iri place bytes o h = tt
+
+pub nat_is : (a b : ℕ) → nat_eq a b ≡ true → a ≡ b
+nat_is a b h = grind (arith, nat_tests)
+
+pub nat_is_not : (a b : ℕ) → nat_eq a b ≡ false → a ≡ b → ⊥
+nat_is_not a b h e = let same : nat_eq a b ≡ true = grind (arith, nat_tests, e) in true≢false (sym same ∙ h)
+
+pub tells_put : (old new : List Slot) (at : ℕ) (slot : Slot) (iri : Bor (List ℕ)) (place : ℕ) → at ≡ slot_of old iri.now → at < length old → slot ≡ get_or old at slot → new ≡ slice_set old at (with_iri slot iri place)
+    → (found : List ℕ → Option ℕ) → Tells old found → Tells new (λ bytes. if pointwise nat_eq iri.now bytes then Some place else found bytes)
+tells_put old new at slot iri place is within read e found h = record { each = λ bytes. go bytes (nat_eq (slot_of old bytes) at) refl }
+  where
+    after : List ℕ → Option ℕ
+    after bytes = if pointwise nat_eq iri.now bytes then Some place else found bytes
+
+    at_new : (bytes : List ℕ) → told new bytes ≡ told_by (get_or (slice_set old at (with_iri slot iri place)) (slot_of old bytes) Many) bytes
+    at_new bytes = ap₂ (λ (z : List Slot) (n : ℕ). told_by (get_or z (bit_and (number_of bytes) (n - 1)) Many) bytes) e (ap length e ∙ length-set old at (with_iri slot iri place))
+
+    there : (bytes : List ℕ) → slot_of old bytes ≡ at → told old bytes ≡ told_by slot bytes
+    there bytes k = ap (λ (s : Slot). told_by s bytes) (ap (λ n. get_or old n Many) k ∙ get_or_default old at Many slot within ∙ sym read)
+
+    other : (bytes : List ℕ) → (slot_of old bytes ≡ at → ⊥) → pointwise nat_eq iri.now bytes ≡ false
+    other bytes apart = false_unless (pointwise nat_eq iri.now bytes) (λ k. apart (ap (slot_of old) (sym ((exact_texts iri.now bytes).0 k)) ∙ sym is))
+
+    go : (bytes : List ℕ) (b : Bool) → nat_eq (slot_of old bytes) at ≡ b → IsSo (told new bytes) (after bytes)
+    go bytes true k =
+        let here : slot_of old bytes ≡ at = nat_is (slot_of old bytes) at k in
+        subst (λ (z : Option (Option ℕ)). IsSo z (after bytes))
+        (sym (at_new bytes ∙ ap (λ (s : Slot). told_by s bytes) (ap (λ n. get_or (slice_set old at (with_iri slot iri place)) n Many) here ∙ get_or-set_same old at (with_iri slot iri place) Many within)))
+        (told_with slot iri place bytes (found bytes) (subst (λ (z : Option (Option ℕ)). IsSo z (found bytes)) (there bytes here) (h.each bytes)))
+    go bytes false k =
+        let apart : slot_of old bytes ≡ at → ⊥ = nat_is_not (slot_of old bytes) at k in
+        subst (λ (z : Option (Option ℕ)). IsSo z (after bytes))
+        (sym (at_new bytes ∙ ap (λ (s : Slot). told_by s bytes) (get_or-set_other old at (slot_of old bytes) (with_iri slot iri place) Many apart)))
+        (so_also (told old bytes) (found bytes) (after bytes) (sym (ap (λ (b : Bool). if b then Some place else found bytes) (other bytes apart))) (h.each bytes))

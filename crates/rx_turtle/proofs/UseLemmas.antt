@@ -1,0 +1,139 @@
+-- Which prefixes are used.
+use Rattle.std.proofs.Common.{◌≡◌, ◌∙◌, ℕ, zero, suc, ◌+◌, ◌<◌, ◌≤◌, Bool, true, false, ◌||◌, List, [], ◌∷◌, ◌++◌, map, filter, filter_map, flat_map, length, take, slice_get, slice_set, Option, Some, None, refl, sym, ap, ap₂, subst, inl, inr, arith, append_assoc, append-nil, cond}
+use Rattle.std.proofs.lemmas.List.{take_all, length-map}
+use Rattle.std.proofs.lemmas.Bool.{or_right}
+use Rattle.rx_terms.specs.Text.{Chars}
+use Rattle.rx_terms.specs.declared.triples.Triple.{Triple as CodeTriple}
+use Rattle.rx_model.specs.Sets.{Among, contains}
+use Rattle.rx_model.specs.Terms.{Triple}
+use Rattle.rx_model.specs.Seen.{triple_seen, triples_seen}
+use Rattle.rx_model.proofs.Sets.{Among_cases, false_unless}
+use Rattle.rx_graph.proofs.SetLemmas.{seen_more}
+use Rattle.rx_pieces.specs.Writable.{WritableTriple}
+use Rattle.rx_notation.specs.Short.{Prefix, Prefixes, prefix_of, names_rise}
+use Rattle.rx_notation.specs.Layout.{iris_of, used, same_prefix, prefixes_used}
+use Rattle.rx_notation.specs.Laws.{IsWritable}
+use Rattle.rx_notation.proofs.Chosen.{Apart, names_apart, exact_prefixes}
+use Rattle.rx_notation.proofs.Ordered.{rising}
+use Rattle.rx_turtle.specs.Shorts.{place_of, IsPlace}
+use Rattle.rx_turtle.specs.Uses.{marked, marked_all, unmarked, used_marks, chosen}
+use Rattle.rx_turtle.proofs.Finding.{place_is}
+
+-- ---- the loop over the triples
+
+pub marked_both : (context : Prefixes) (marks : List Bool) (xs ys : List Chars) → marked_all context marks (xs ++ ys) ≡ marked_all context (marked_all context marks xs) ys
+marked_both context marks [] ys = refl
+marked_both context marks (x ∷ xs) ys = marked_both context (marked marks (place_of context x)) xs ys
+
+iris_more : (list : List (Triple ℕ)) (t : Triple ℕ) → flat_map iris_of (list ++ t ∷ []) ≡ flat_map iris_of list ++ iris_of t
+iris_more [] t = append-nil (iris_of t)
+iris_more (u ∷ list) t = ap (λ z. iris_of u ++ z) (iris_more list t) ∙ sym (append_assoc (iris_of u) (flat_map iris_of list) (iris_of t))
+
+-- the first triples are looked at
+pub record Looked (context : Prefixes) (start now : List Bool) (list : List CodeTriple) (i : ℕ) : Type 0 where
+  pub marks : now ≡ marked_all context start (flat_map iris_of (triples_seen (take i list)))
+  pub writable : (t : Triple ℕ) → Among (triples_seen (take i list)) t → WritableTriple None t
+
+pub looked_start : (context : Prefixes) (start : List Bool) (list : List CodeTriple) → Looked context start start list 0
+looked_start context start list = record { marks = refl; writable = λ t m. absurd m }
+
+pub looked_more : (context : Prefixes) (start now next : List Bool) (list : List CodeTriple) (i : ℕ) (t : CodeTriple) → slice_get list i ≡ Some t → next ≡ marked_all context now (iris_of (triple_seen t)) → WritableTriple None (triple_seen t)
+    → Looked context start now list i → Looked context start next list (i + 1)
+looked_more context start now next list i t at turn writable h =
+    let more = seen_more list i t at in
+    record {
+      marks =
+          turn ∙ ap (λ z. marked_all context z (iris_of (triple_seen t))) h.marks ∙ sym (marked_both context start (flat_map iris_of (triples_seen (take i list))) (iris_of (triple_seen t)))
+          ∙ ap (marked_all context start) (sym (ap (flat_map iris_of) more ∙ iris_more (triples_seen (take i list)) (triple_seen t)));
+      writable = λ u m. elim (Among_cases (triples_seen (take i list)) (triple_seen t ∷ []) u (subst (λ (z : List (Triple ℕ)). Among z u) more m)) [
+        | inl k ↦ h.writable u k
+        | inr k ↦ elim k [ inl e ↦ subst (WritableTriple None) e writable | inr n ↦ absurd n ]
+      ];
+    }
+
+pub looked_marks : (context : Prefixes) (start now : List Bool) (list : List CodeTriple) (i : ℕ) → length list ≤ i → Looked context start now list i → now ≡ marked_all context start (flat_map iris_of (triples_seen list))
+looked_marks context start now list i past h = h.marks ∙ ap (λ z. marked_all context start (flat_map iris_of (triples_seen z))) (take_all i list past)
+
+pub looked_writable : (context : Prefixes) (start now : List Bool) (list : List CodeTriple) (i : ℕ) → length list ≤ i → Looked context start now list i → IsWritable (triples_seen list)
+looked_writable context start now list i past h = record { parts = λ t m. h.writable t (subst (λ (z : List CodeTriple). Among (triples_seen z) t) (sym (take_all i list past)) m) }
+
+-- ---- no marks
+
+none_more : (context : Prefixes) (n : ℕ) → n < length context → unmarked (take (n + 1) context) ≡ unmarked (take n context) ++ false ∷ []
+none_more [] n h = absurd (omega (arith, h))
+none_more (p ∷ context) zero h = refl
+none_more (p ∷ context) (suc n) h =
+    let up : suc n + 1 ≡ suc (n + 1) = omega arith in
+    ap (λ m. unmarked (take m (p ∷ context))) up ∙ ap (λ z. false ∷ z) (none_more context n (omega (arith, h)))
+
+pub unmarked_turn : (context : Prefixes) (n : ℕ) (old new : List Bool) → n < length context → new ≡ old ++ false ∷ [] → old ≡ unmarked (take n context) → new ≡ unmarked (take (n + 1) context)
+unmarked_turn context n old new within grows h = grows ∙ ap (λ z. z ++ false ∷ []) h ∙ sym (none_more context n within)
+
+-- ---- what the marks are
+
+module _ {A : Type 0} where
+  map_same : (f g : A → Bool) (list : List A) → ((a : A) → Among list a → f a ≡ g a) → map f list ≡ map g list
+  map_same f g [] h = refl
+  map_same f g (x ∷ list) h = ap₂ ◌∷◌ (h x (inl refl)) (map_same f g list (λ a m. h a (inr m)))
+
+or_false : (b : Bool) → b ≡ (b || false)
+or_false true = refl
+or_false false = refl
+
+or_assoc : (a b c : Bool) → ((a || b) || c) ≡ (a || (b || c))
+or_assoc true b c = refl
+or_assoc false b c = refl
+
+there_at : (context : Prefixes) (i : ℕ) (q : Prefix) → slice_get context i ≡ Some q → Among context q
+there_at [] i q at = absurd (cc)
+there_at (p ∷ context) zero q at = inl (cc)
+there_at (p ∷ context) (suc i) q at = inr (there_at context i q at)
+
+unlike : (p q : Prefix) → (p.0 ≡ q.0 → ⊥) → same_prefix q p ≡ false
+unlike p q apart = false_unless (same_prefix q p) (λ h. apart (ap (λ (z : Prefix). z.0) (sym ((exact_prefixes q p).0 h))))
+
+one_mark : (f : Prefix → Bool) (context : Prefixes) (i : ℕ) (q : Prefix) → Apart context → slice_get context i ≡ Some q → slice_set (map f context) i true ≡ map (λ (p : Prefix). f p || same_prefix q p) context
+one_mark f [] i q apart at = absurd (cc)
+one_mark f (p ∷ context) zero q apart at =
+    let same : p ≡ q = cc in
+    ap₂ ◌∷◌ (sym (or_right (f p) (same_prefix q p) ((exact_prefixes q p).1 (sym same))))
+    (map_same f (λ (r : Prefix). f r || same_prefix q r) context (λ r m. or_false (f r) ∙ ap (λ b. f r || b) (sym (unlike r q (λ e. apart.0 r m (ap (λ (z : Prefix). z.0) same ∙ sym e))))))
+one_mark f (p ∷ context) (suc i) q apart at =
+    ap₂ ◌∷◌ (or_false (f p) ∙ ap (λ b. f p || b) (sym (unlike p q (apart.0 q (there_at context i q at))))) (one_mark f context i q apart.1 at)
+
+module _ (context : Prefixes) (rise : names_rise context ≡ true) where
+  apart : Apart context
+  apart = names_apart context (rising.once context rise)
+
+  abbrev said_by : List Chars → Prefixes
+  said_by iris = filter_map (prefix_of context) iris
+
+  all_marks : (iris : List Chars) (f : Prefix → Bool) → marked_all context (map f context) iris ≡ map (λ (p : Prefix). f p || contains same_prefix (said_by iris) p) context
+  all_marks [] f = map_same f (λ (p : Prefix). f p || false) context (λ p m. or_false (f p))
+  all_marks (iri ∷ more) f = go (place_of context iri) (place_is context iri rise) (all_marks more)
+    where
+      go : (o : Option ℕ) → IsPlace context (prefix_of context iri) o → ((g : Prefix → Bool) → marked_all context (map g context) more ≡ map (λ (p : Prefix). g p || contains same_prefix (said_by more) p) context)
+          → marked_all context (marked (map f context) o) more ≡ map (λ (p : Prefix). f p || contains same_prefix (said_by (iri ∷ more)) p) context
+      go None is ih = rw is (ih f)
+      go (Some i) (q, at, is) ih =
+          rw is (ap (λ z. marked_all context z more) (one_mark f context i q apart at) ∙ ih (λ (p : Prefix). f p || same_prefix q p)
+          ∙ map_same (λ (p : Prefix). (f p || same_prefix q p) || contains same_prefix (said_by more) p) (λ (p : Prefix). f p || (same_prefix q p || contains same_prefix (said_by more) p)) context
+          (λ p m. or_assoc (f p) (same_prefix q p) (contains same_prefix (said_by more) p)))
+
+  chosen_are : (f : Prefix → Bool) (ps : Prefixes) → chosen (map f ps) ps ≡ filter f ps
+  chosen_are f [] = refl
+  chosen_are f (p ∷ ps) = go (f p) (chosen_are f ps)
+    where
+      go : (b : Bool) → chosen (map f ps) ps ≡ filter f ps → chosen (b ∷ map f ps) (p ∷ ps) ≡ cond b (p ∷ filter f ps) (filter f ps)
+      go true ih = ap (λ z. p ∷ z) ih
+      go false ih = ih
+
+  marks_are : (list : List (Triple ℕ)) → used_marks context list ≡ map (contains same_prefix (used context list)) context
+  marks_are list = all_marks (flat_map iris_of list) (λ (p : Prefix). false)
+
+  -- those that are marked are the prefixes of the text
+  pub chosen_used : (list : List (Triple ℕ)) → chosen (used_marks context list) context ≡ prefixes_used context list
+  chosen_used list = ap (λ z. chosen z context) (marks_are list) ∙ chosen_are (contains same_prefix (used context list)) context ∙ sym (rising.in_order context list rise)
+
+  pub marks_size : (list : List (Triple ℕ)) → length (used_marks context list) ≡ length context
+  marks_size list = ap length (marks_are list) ∙ length-map context (contains same_prefix (used context list))

@@ -1,0 +1,14 @@
+use Rattle.std.proofs.Common.{map, arith, []}
+use Rattle.rx_graph.specs.Resources.{resource_seen}
+use Rattle.rx_turtle.specs.Runs.{by_predicate}
+use Rattle.rx_turtle.proofs.GroupLemmas.{lent_seen}
+use Rattle.rx_turtle.proofs.ArrangedLemmas.{rows_turn, rows_end}
+use Rattle.rx_turtle.proofs.arranging.arrange.Goals as goal
+
+pub loop-i-preserved : goal.loop-i-preserved
+loop-i-preserved c =
+    rows_turn by_predicate c.args.subjects.now c.loop-i.i (resource_seen c.at.result.0, map lent_seen c.at.result.1.now) [] (map lent_seen c.loop-i.list.items) (map lent_seen c.push_arranged.new.list.items)
+    c.at.ensures c.in_ok-push_arranged.ensures c.loop-i.invariant
+
+pub returns : goal.returns
+returns c = rows_end by_predicate c.args.subjects.now c.loop-i.i [] (map lent_seen c.loop-i.list.items) (omega (arith, c.loop-i-test.false, c.len-i-end.ensures)) c.loop-i.invariant

@@ -1,0 +1,13 @@
+use Rattle.std.proofs.Common.{◌∙◌, ap, map}
+use Rattle.rx_model.specs.Seen.{node_seen, triples_seen}
+use Rattle.rx_turtle.specs.declared.keys.By.TheVariants as by
+use Rattle.rx_turtle.specs.Groups.{grouped}
+use Rattle.rx_turtle.specs.Runs.{runs}
+use Rattle.rx_turtle.proofs.GroupLemmas.{lent_seen}
+use Rattle.rx_turtle.proofs.SaidLemmas.{said_is}
+use Rattle.rx_turtle.proofs.said.said_of.Goals as goal
+
+pub returns : goal.returns
+returns c =
+    said_is (triples_seen c.args.graph.now) c.args.shapes.now c.requires (node_seen c.args.node.now) c.places.result.now c.places.ensures (map lent_seen c.in_ok-triples.triples.items) (runs by.Predicate (map lent_seen c.in_ok-by_predicate.field-0.items))
+    c.in_ok-triples.ensures (c.in_ok-by_predicate.ensures ∙ ap (λ z. grouped by.Predicate (map lent_seen z)) c.deref.ensures.value)

@@ -1,0 +1,11 @@
+use Rattle.std.proofs.Common.{codes, refl}
+use Rattle.rx_model.specs.Seen.{kind_seen}
+use Rattle.rx_notation.specs.Layout.{suffix_text}
+use Rattle.rx_pieces.proofs.Adding.{adds_then, adds_by, behind_words, literal}
+use Rattle.rx_turtle.proofs.AddLemmas.{string_ended}
+use Rattle.rx_turtle.proofs.terms.push_literal.Goals as goal
+
+pub returns : goal.returns
+returns g c =
+    adds_by (string_ended c.args.literal.now.lexical (suffix_text c.args.shorts.now (kind_seen c.args.literal.now.kind)))
+    (adds_then (behind_words (codes "\"") _ refl c.push_text.ensures.adds) (adds_then (literal (codes "\"") refl c.push.ensures) c.push_suffix.ensures))

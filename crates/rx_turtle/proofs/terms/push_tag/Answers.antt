@@ -1,0 +1,6 @@
+use Rattle.std.proofs.Common.{codes, refl}
+use Rattle.rx_pieces.proofs.Adding.{adds_then, literal}
+use Rattle.rx_turtle.proofs.terms.push_tag.Goals as goal
+
+pub returns : goal.returns
+returns g c = adds_then (literal (codes "@") refl c.push.ensures) c.push_lang.ensures.adds

@@ -1,0 +1,63 @@
+-- Triples in groups: those of a subject, and of these those of a predicate.
+use Rattle.std.specs.Prelude.{◌≡◌, ℕ, zero, suc, Bool, nat_eq, List, [], ◌∷◌, ◌++◌, map, filter, Option, Some, None}
+use Rattle.rx_model.specs.Sets.{distinct}
+use Rattle.rx_model.specs.Terms.{Node, Iri, Triple, same_node}
+use Rattle.rx_terms.specs.declared.triples.Triple.{Triple as CodeTriple}
+use Rattle.rx_model.specs.Seen.{triple_seen}
+use Rattle.rx_graph.specs.Resources.{resource_seen, number_in}
+use Rattle.rx_turtle.specs.declared.keys.By.{By}
+use Rattle.rx_turtle.specs.declared.keys.By.TheVariants as by
+use Rattle.rx_turtle.specs.declared.groups.Group.{Group}
+use denote.Ref.{Bor}
+
+-- triples of the code that are lent, as triples of the model
+abbrev pub lent_triples : List (Bor CodeTriple) → List (Triple ℕ)
+lent_triples list = map (λ t. triple_seen t.now) list
+
+-- the list got these triples at its end
+abbrev pub Gains : List (Bor CodeTriple) → List (Bor CodeTriple) → List (Triple ℕ) → Type 0
+Gains old new more = lent_triples new ≡ lent_triples old ++ more
+
+abbrev pub key_by : By → Triple ℕ → Node ℕ
+key_by by.Subject t = t.subject
+key_by by.Predicate t = Iri t.predicate
+
+abbrev pub has_key : By → Node ℕ → Triple ℕ → Bool
+has_key kind key t = same_node nat_eq (key_by kind t) key
+
+abbrev pub those_with : By → Node ℕ → List (Triple ℕ) → List (Triple ℕ)
+those_with kind key list = filter (has_key kind key) list
+
+-- a key and triples
+abbrev pub Keyed : Type 0
+Keyed = Node ℕ × List (Triple ℕ)
+
+-- the keys in order of first occurrence
+abbrev pub keys_by : By → List (Triple ℕ) → List (Node ℕ)
+keys_by kind list = distinct (same_node nat_eq) (map (key_by kind) list)
+
+-- each key with its triples
+abbrev pub grouped : By → List (Triple ℕ) → List Keyed
+grouped kind list = map {B = Keyed} (λ key. (key, filter (has_key kind key) list)) (keys_by kind list)
+
+-- the triple at the end of one group
+abbrev pub put_in : List Keyed → ℕ → Triple ℕ → List Keyed
+put_in [] place t = []
+put_in (group ∷ groups) zero t = (group.0, group.1 ++ t ∷ []) ∷ groups
+put_in (group ∷ groups) (suc place) t = group ∷ put_in groups place t
+
+-- the keys of groups
+abbrev pub keys_in : List Keyed → List (Node ℕ)
+keys_in groups = map (λ (group : Keyed). group.0) groups
+
+-- the triple at the end of the group at this place, or, where there is none, in a group of its own
+abbrev pub taken_at : List Keyed → Option ℕ → Node ℕ → Triple ℕ → List Keyed
+taken_at groups (Some place) key t = put_in groups place t
+taken_at groups None key t = groups ++ (key, t ∷ []) ∷ []
+
+-- the triple at the end of the group of its key
+abbrev pub taken_in : By → List Keyed → Triple ℕ → List Keyed
+taken_in kind groups t = taken_at groups (number_in (keys_in groups) (key_by kind t)) (key_by kind t) t
+
+abbrev pub group_seen : Group → Keyed
+group_seen group = (resource_seen group.key, lent_triples group.triples.items)
