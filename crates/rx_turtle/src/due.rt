@@ -7,10 +7,10 @@ ghost use Rattle.rx_turtle.specs.Runs.{runs};
 ghost use Rattle.rx_turtle.specs.declared.keys.By.TheVariants as by;
 ghost use Rattle.rx_turtle.specs.Due.{lines_due, statement_due, verb_due, behind_due, next_due, first_due};
 
+use crate::arranging::by_predicate;
 use crate::stack::{Stack, Task};
 use crate::tokens::{Token, Words};
 use rx_graph::Resource;
-use crate::arranging::by_predicate;
 use rx_terms::{NoMemory, Triple};
 use std::alloc::Global;
 

@@ -8,15 +8,15 @@ ghost use Rattle.rx_turtle.specs.Runs.{runs, said_in};
 ghost use Rattle.rx_turtle.specs.Written.{objects_text, group_text, lines_text, first_line, said_text, statements_text, first_statement, later, text_of};
 ghost use Rattle.rx_turtle.specs.Groups.{lent_triples};
 
-use crate::plan::Plan;
-use rx_graph::Resource;
 use crate::cuts::cut;
 use crate::keys::By;
-use rx_pieces::{Pieces, push};
-use rx_ports::Sink;
+use crate::plan::Plan;
 use crate::prefixes::push_prefixes;
 use crate::shorts::Shorts;
 use crate::terms::{push_key, push_object, push_resource};
+use rx_graph::Resource;
+use rx_pieces::{Pieces, push};
+use rx_ports::Sink;
 use rx_terms::Triple;
 
 /// Adds the whole text.

@@ -7,18 +7,18 @@ ghost use Rattle.rx_nested.specs.Nesting.{nested};
 ghost use Rattle.rx_turtle.specs.Nested.{nested_of};
 ghost use Rattle.rx_turtle.specs.Graphs.{DenoteNested, nested_bytes};
 
+use crate::nesting::tokens_of;
+use crate::prefixes::push_prefixes;
+use crate::shorts::Shorts;
+use crate::source::Source;
 use crate::token_texts::push_tokens;
 use crate::token_uses::{is_graph, token_marks};
+use crate::tokens::Token;
 use rx_graph::Graph;
 use rx_names::Context;
-use crate::nesting::tokens_of;
-use crate::source::Source;
-use crate::tokens::Token;
 use rx_pieces::Pieces;
 use rx_ports::Sink;
 use rx_shapes::Shapes;
-use crate::prefixes::push_prefixes;
-use crate::shorts::Shorts;
 use rx_terms::NoMemory;
 use std::alloc::Global;
 

@@ -8,14 +8,14 @@ ghost use Rattle.rx_turtle.specs.declared.keys.By.TheVariants as by;
 ghost use Rattle.rx_turtle.specs.Due.{list_of, IsSource, AreCells, Comes, Says, AreTokens, IsSubject};
 
 use crate::due::push_statement;
+use crate::groups::Groups;
+use crate::keys::By;
+use crate::lent::borrowed;
 use crate::source::Source;
 use crate::stack::Stack;
 use crate::starts::start;
 use crate::tokens::Token;
 use rx_graph::Resource;
-use crate::groups::Groups;
-use crate::keys::By;
-use crate::lent::borrowed;
 use rx_shapes::{Shape, Shapes};
 use rx_terms::{NoMemory, Triple};
 

@@ -5,11 +5,11 @@ ghost use Rattle.rx_notation.specs.Layout.{turtle};
 ghost use Rattle.rx_turtle.specs.Written.{text_of};
 ghost use Rattle.rx_turtle.specs.Graphs.{DenoteTurtle, turtle_bytes};
 
-use rx_graph::Graph;
 use crate::arranging::arranged;
-use rx_names::Context;
 use crate::shorts::Shorts;
 use crate::uses::used_marks;
+use rx_graph::Graph;
+use rx_names::Context;
 use rx_terms::{NoMemory, Triple};
 use std::alloc::Global;
 

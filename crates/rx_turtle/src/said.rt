@@ -7,8 +7,8 @@ ghost use Rattle.rx_turtle.specs.declared.keys.By.TheVariants as by;
 ghost use Rattle.rx_turtle.specs.Said.{picked, predicate_of, object_by, found, said_of};
 ghost use Rattle.rx_turtle.specs.Groups.{lent_triples, Gains};
 
-use rx_graph::Graph;
 use crate::arranging::by_predicate;
+use rx_graph::Graph;
 use rx_shapes::{Shapes, is_first, is_rest};
 use rx_terms::{Iri, NoMemory, Node, Term, Triple};
 use std::alloc::Global;

@@ -4,11 +4,11 @@ ghost use Rattle.std.specs.Str.{chars};
 ghost use Rattle.rx_pieces.specs.Writable.{Pushes};
 ghost use Rattle.rx_turtle.specs.Tokens.{token_seen, tokens_seen, words_text, shown_text, shown_texts};
 
+use crate::shorts::Shorts;
+use crate::terms::{push_key, push_literal, push_resource};
 use crate::tokens::{Token, Words};
 use rx_pieces::{Pieces, push};
 use rx_ports::Sink;
-use crate::shorts::Shorts;
-use crate::terms::{push_key, push_literal, push_resource};
 
 /// Adds the tokens. Once the sink has failed, the rest isn't made.
 pub(crate) fn push_tokens<S: Sink>(

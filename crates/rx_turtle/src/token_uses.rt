@@ -13,11 +13,11 @@ ghost use Rattle.rx_turtle.specs.Tokens.{token_seen, iris_of_shown, WritableShow
 ghost use Rattle.rx_turtle.specs.Uses.{marked_all, unmarked};
 ghost use Rattle.rx_turtle.specs.Verbs.{iris_of_verb};
 
-use rx_graph::{Graph, Resource};
-use crate::tokens::Token;
-use rx_pieces::{is_writable, is_writable_blank, is_writable_iri, is_writable_literal};
 use crate::shorts::Shorts;
+use crate::tokens::Token;
 use crate::uses::{mark_iri, mark_kind, mark_predicate, unmarked};
+use rx_graph::{Graph, Resource};
+use rx_pieces::{is_writable, is_writable_blank, is_writable_iri, is_writable_literal};
 use rx_terms::NoMemory;
 use std::alloc::Global;
 
