@@ -12,10 +12,6 @@ use Rattle.rx_microdata.specs.Facts.{Written, said}
 use Rattle.rx_microdata.specs.Facts as facts
 use Rattle.rx_microdata.specs.Json.{string_of}
 
-pub if_same : {E : Type 0} (r : Result Value E) (a b : Data) → a ≡ b → IfOk r (λ json. view json ≡ a) → IfOk r (λ json. view json ≡ b)
-if_same (Ok json) a b e h = h ∙ e
-if_same (Err error) a b e h = h
-
 pub cut_at_start : (text : Chars) → CutAt text 0 [] text
 cut_at_start text = record { whole = refl; size = refl }
 

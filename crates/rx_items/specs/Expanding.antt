@@ -95,23 +95,6 @@ module _ (rows : List Placed) (base : Chars) (above : Visit) (left : ℕ) where
   abbrev pub visits_in : List Step → List Visit
   visits_in steps = flat_map (λ (s : Step). visits_of s.element) steps
 
-  abbrev pub pair_of : Step → Chars × Data
-  pair_of s = (s.name, data_of s.element)
-
-  abbrev pub grouped_in : List Step → Members
-  grouped_in steps = grouped (map pair_of steps)
-
-module _ (rows : List Placed) (base : Chars) (above : Visit) (left : ℕ) where
-  -- these steps were taken without a fault, and their values stand under their names
-  pub record StepsTaken (start : ℕ) (steps : List Step) (visits : ℕ) (members : Members) : Type 0 where
-    pub no_fault : NoFault start (visits_in rows base above left steps) visits
-    pub grouped : members ≡ grouped_in rows base above left steps
-
-  -- these steps are taken, or the first fault is told
-  abbrev pub TakesSteps : ℕ → List Step → ℕ → Members → Result (Unit {0}) Stop → Type 0
-  TakesSteps start steps visits group (Ok x) = StepsTaken start steps visits group
-  TakesSteps start steps visits group (Err why) = HasFault start (visits_in rows base above left steps) why
-
 -- a visit begins, or is refused
 abbrev pub Enters : Trail → Trail → Element → ℕ → Result (Unit {0}) Stop → Type 0
 Enters old new element place (Ok x) =
