@@ -1,19 +1,17 @@
 -- What the visits of a page come to, step by step.
-use Rattle.std.proofs.Common.{◌≡◌, ◌∙◌, ◌+◌, ℕ, suc, Bool, true, false, ◌==◌, ◌||◌, cond, List, [], ◌∷◌, ◌++◌, map, filter, length, Option, Some, None, option_map, refl, sym, ap, subst, arith, nat_lt, encode_utf8_all, append_assoc}
+use Rattle.std.proofs.Common.{◌≡◌, ◌∙◌, ◌+◌, ℕ, suc, Bool, true, false, ◌==◌, ◌||◌, cond, List, [], ◌∷◌, ◌++◌, map, filter, length, Option, Some, None, option_map, refl, sym, ap, subst, arith, nat_lt, append_assoc}
 use Rattle.std.specs.Prelude.{flat_map, nat_le}
 use Rattle.std.specs.List.{list_any}
 use Rattle.std.specs.Option.{option_or}
-use Rattle.std.proofs.lemmas.List.{append-nil, length-append, map-append}
-use Rattle.serde_json.specs.Data.{Data, Members}
+use Rattle.std.proofs.lemmas.List.{length-append}
 use Rattle.rx_terms.specs.Text.{Chars}
 use Rattle.rx_grammar.specs.declared.faults.Fault.{Fault}
 use Rattle.rx_grammar.specs.declared.faults.Kind.{Kind}
 use Rattle.rx_grammar.specs.declared.faults.Kind.TheVariants.{Cycle, ItemsTooNested, ItemsTooMany}
 use Rattle.rx_microdata.specs.Elements.{Placed, is_item, names_of}
 use Rattle.rx_microdata.specs.Visits.{Visit, Bounds, visits_from, standard_bounds, fault_of, first_fault, items_in}
-use Rattle.rx_microdata.specs.Json.{grouped, named}
 use Rattle.rx_item_table.specs.Rows.{properties_in}
-use Rattle.rx_items.specs.Expanding.{path_of, kind_of, NoFault, FaultIs, Step, with_name, steps_of, steps_in, visits_of, visits_in, data_of}
+use Rattle.rx_items.specs.Expanding.{path_of, kind_of, NoFault, FaultIs, Step, with_name, steps_of, steps_in, visits_of, visits_in}
 
 -- ---- faults in a row
 
@@ -96,9 +94,6 @@ flat_append {X} {Y} f [] ys = refl
 flat_append {X} {Y} f (x ∷ xs) ys = ap (λ (l : List Y). f x ++ l) (flat_append f xs ys) ∙ sym (append_assoc (f x) (flat_map f xs) (flat_map f ys))
 
 module _ (rows : List Placed) (base : Chars) (above : Visit) (left : ℕ) where
-
-  }
-
   pub fault_stays : (start : ℕ) (done more : List Step) (fault : Fault) → FaultIs start (visits_in rows base above left done) fault → FaultIs start (visits_in rows base above left (done ++ more)) fault
   fault_stays start done more fault f =
       subst (λ (vs : List Visit). FaultIs start vs fault) (sym (flat_append (λ (s : Step). visits_of rows base above left s.element) done more))

@@ -1,11 +1,9 @@
 -- The top-level items of a page, one after another.
 use Rattle.std.proofs.Common.{◌≡◌, ◌∙◌, ◌+◌, ◌<◌, ◌≤◌, ℕ, zero, suc, Bool, true, false, cond, List, [], ◌∷◌, ◌++◌, map, filter, length, take, drop, get_or, Option, Some, None, refl, sym, ap, subst, arith}
-use Rattle.std.specs.Prelude.{flat_map, slice_get, Result, Err, codes}
-use Rattle.std.proofs.lemmas.List.{append-nil, take_all, map-append}
-use Rattle.serde_json.specs.Data.{Data, Items, array, item, object, member, no_members}
-use Rattle.serde_json.specs.View.{view, items_of, items_view}
+use Rattle.std.specs.Prelude.{flat_map, slice_get, Result, Err}
+use Rattle.std.proofs.lemmas.List.{append-nil, take_all}
+use Rattle.serde_json.specs.Data.{Data}
 use Rattle.serde_json.specs.Written.{compact_text}
-use Rattle.serde_json.specs.declared.value.Value.{Value}
 use Rattle.rx_terms.specs.Text.{Chars}
 use Rattle.rx_grammar.specs.declared.faults.Fault.{Fault}
 use Rattle.rx_grammar.specs.declared.faults.Kind.{Kind}
@@ -13,7 +11,7 @@ use Rattle.rx_grammar.specs.declared.stops.Stop.{Stop}
 use Rattle.rx_grammar.specs.declared.stops.Stop.TheVariants as stop
 use Rattle.rx_microdata.specs.Elements.{Placed, is_item, is_top_level, is_absent}
 use Rattle.rx_microdata.specs.Visits.{Visit, visits_from, visits_by, first_fault, standard_bounds}
-use Rattle.rx_microdata.specs.Json.{Outcome, Given, Refused, json_of_item, json_by, list_of, refused}
+use Rattle.rx_microdata.specs.Json.{Outcome, Given, Refused, json_of_item, json_by, refused}
 use Rattle.rx_microdata.proofs.Lists.{and_parts}
 use Rattle.rx_item_table.specs.Rows.{properties_in, outcome_in}
 use Rattle.rx_item_properties.specs.Held.{HoldsRows}
@@ -64,8 +62,6 @@ module _ (rows : List Placed) (base : Chars) where
       ap (flat_map (top_data rows base)) (one_more rows i e lt) ∙ flat_append (top_data rows base) (take i rows) (get_or rows i e ∷ [])
       ∙ ap (λ (l : List Data). flat_map (top_data rows base) (take i rows) ++ l) (append-nil (top_data rows base (get_or rows i e)))
       ∙ ap (λ (x : Placed). flat_map (top_data rows base) (take i rows) ++ top_data rows base x) (sym is)
-
-  }
 
   all_visits : (ps : List Placed) → flat_map (top_visits rows base) ps ≡ visits_by (properties_in rows) standard_bounds (filter is_top_level ps)
   all_visits [] = refl

@@ -1,19 +1,9 @@
 -- The compact text of a value of texts in lists and objects, whose names rise, is read back as that value.
-use Rattle.std.proofs.Common.{◌≡◌, ◌∙◌, ◌≤◌, ℕ, zero, suc, max, Bool, true, false, List, [], ◌∷◌, ◌++◌, map, refl, sym, ap, ap₂, subst, arith, append-nil, Option, Some, None, option_map, option_and_then, Ordering, Less, Equal, Greater, nat_cmp}
+use Rattle.std.proofs.Common.{◌≡◌, ℕ, zero, suc, Bool, true, false, List, [], ◌∷◌, ◌++◌, map, refl, subst, arith, Option, Some, None, Ordering, Less, Equal, Greater, nat_cmp}
 use Rattle.std.specs.Prelude.{codes, filter, flat_map, encode_utf8_all}
 use Rattle.std.specs.Ordering.{match_ordering}
 use Rattle.std.specs.Cmp.Lexicographic.{slice_cmp}
-use Rattle.std.proofs.lemmas.Cmp.{nat_list_cmp_total}
-use Rattle.json.specs.Token.{Token}
-use Rattle.json.specs.Lex.{tokens}
-use Rattle.json.specs.Json as json
-use Rattle.json.specs.Tree as tree
-use Rattle.json.proofs.Printed.Tokens.{tokens-print}
-use Rattle.json.proofs.Printed.Trees.{value-json_tokens, ArePrintable-json_tokens}
-use Rattle.serde_json.specs.Data.{Data, Items, Members, null, boolean, number, string, array, object, no_items, item, no_members, member, put, depth, items_depth, members_depth}
-use Rattle.serde_json.specs.Read.{read, max_depth, of_json, of_items, of_members}
-use Rattle.serde_json.specs.Written.{compact_text, outline, items_outline, members_outline}
-use Rattle.serde_json.proofs.Texts.{print-outline}
+use Rattle.serde_json.specs.Data.{Data, Members, null, boolean, number, string, array, object, no_members, member}
 use Rattle.rx_json.specs.Plain.{Leads, IsPlain, ArePlain, MembersArePlain}
 use Rattle.rx_json.proofs.PlainLemmas.{turned, leads_one, leads_through}
 use Rattle.rx_json.proofs.ReadLemmas.{read_back}
@@ -43,6 +33,7 @@ onto_plain value (object ms) p q = (p, tt)
 leads_added : (before name : List ℕ) (value : Data) (members : Members) → slice_cmp nat_cmp before name ≡ Less → Leads before members → Leads before (with_value name value members)
 leads_added before name value no_members c l = (c, tt)
 leads_added before name value (member first values more) c l =
+    leads_one before (slice_cmp nat_cmp name first) (member name (onto value null) (member first values more)) (member first (onto value values) more) (member first values (with_value name value more))
     (c, (l.0, l.1)) (l.0, l.1) (l.0, leads_added before name value more c l.1)
 
 added_plain : (name : List ℕ) (value : Data) (members : Members) → IsPlain value → MembersArePlain members → MembersArePlain (with_value name value members)

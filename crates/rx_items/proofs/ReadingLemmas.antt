@@ -1,11 +1,8 @@
 -- Texts as JSON.
 use Rattle.std.proofs.Common.{◌≡◌, ◌∙◌, ℕ, List, [], refl, sym, ap}
-use Rattle.std.specs.Prelude.{IfOk, Result, Ok, Err, Option, Some, None, slice_get, unwrap_or}
+use Rattle.std.specs.Prelude.{Option, Some, None, slice_get, unwrap_or}
 use Rattle.std.specs.Str.{chars}
 use Rattle.std.proofs.lemmas.Str.{chars-nil}
-use Rattle.serde_json.specs.Data.{Data}
-use Rattle.serde_json.specs.View.{view}
-use Rattle.serde_json.specs.declared.value.Value.{Value}
 use Rattle.rx_terms.specs.Text.{Chars}
 use Rattle.rx_values.specs.Marks.{CutAt}
 use Rattle.rx_microdata.specs.Facts.{Written, said}

@@ -1,28 +1,24 @@
 -- The visit of an item, and those of its properties.
-use Rattle.std.proofs.Common.{◌≡◌, ◌∙◌, ◌+◌, ◌<◌, ◌≤◌, ℕ, zero, suc, Bool, true, false, ◌==◌, cond, List, [], ◌∷◌, ◌++◌, map, length, take, drop, get_or, Option, Some, None, option_map, refl, sym, ap, subst, arith, nat_lt, append_assoc}
+use Rattle.std.proofs.Common.{◌≡◌, ◌∙◌, ◌+◌, ◌<◌, ◌≤◌, ℕ, zero, suc, Bool, true, false, ◌==◌, cond, List, [], ◌∷◌, ◌++◌, length, take, drop, get_or, Option, Some, None, option_map, refl, sym, ap, subst, arith, nat_lt, append_assoc}
 use Rattle.std.specs.Prelude.{flat_map, nat_le, slice_get, Result, Ok, Err, IsErrAnd}
 use Rattle.std.specs.List.{list_any}
 use Rattle.std.specs.Option.{option_or}
-use Rattle.std.proofs.lemmas.List.{append-nil, take_all, map-append}
-use Rattle.serde_json.specs.Data.{Data, Members}
-use Rattle.serde_json.specs.View.{view}
-use Rattle.serde_json.specs.declared.value.Value.{Value}
+use Rattle.std.proofs.lemmas.List.{append-nil}
 use Rattle.rx_terms.specs.Text.{Chars}
 use Rattle.rx_grammar.specs.declared.faults.Kind.{Kind}
 use Rattle.rx_grammar.specs.declared.faults.Kind.TheVariants.{Cycle, ItemsTooNested, ItemsTooMany}
 use Rattle.rx_grammar.specs.declared.stops.Stop.{Stop}
 use Rattle.rx_grammar.specs.declared.stops.Stop.TheVariants as stop
-use Rattle.rx_microdata.specs.Facts.{said}
-use Rattle.rx_microdata.specs.Elements.{Placed, is_item, names_of}
+use Rattle.rx_microdata.specs.Elements.{Placed}
 use Rattle.rx_microdata.specs.Visits.{Visit, visits_from, standard_bounds, fault_of, first_fault, is_cycle, items_in}
-use Rattle.rx_microdata.specs.Json.{string_of, item_of, json_of_item, Refused}
+use Rattle.rx_microdata.specs.Json.{Refused}
 use Rattle.rx_item_table.specs.Rows.{properties_in}
 use Rattle.rx_item_properties.specs.Held.{AllStand, places}
-use Rattle.rx_items.specs.Expanding.{At, path_of, kind_of, NoFault, FaultIs, HasFault, Finds, Enters, Step, with_name, steps_of, steps_in, visits_of, visits_in, data_of}
+use Rattle.rx_items.specs.Expanding.{At, path_of, kind_of, NoFault, FaultIs, HasFault, Finds, Enters, Step, steps_of, steps_in, visits_in}
 use Rattle.rx_item_properties.specs.declared.kept.Element.{Element}
 use Rattle.rx_item_properties.specs.declared.kept.Kept.{Kept}
 use Rattle.rx_items.specs.declared.visits.Trail.{Trail}
-use Rattle.rx_items.proofs.FoundLemmas.{none_at_all, fault_is, path_size, steps_visits, fault_stays}
+use Rattle.rx_items.proofs.FoundLemmas.{fault_is, path_size, steps_visits, fault_stays}
 use Rattle.rx_item_properties.proofs.TakeLemmas.{cut_at, one_more}
 use Rattle.rx_item_properties.proofs.HoldLemmas.{place_is}
 
@@ -61,7 +57,6 @@ module _ (rows : List Placed) (base : Chars) (above : Visit) (left : ℕ) where
       ∙ ap (λ (x : Placed). (steps_in (take i es) ++ steps_of x) ++ steps_in (drop (i + 1) es)) (sym is) in
       subst (λ (steps : List Step). FaultIs start (visits_in rows base above left steps) fault) (sym all)
       (fault_stays rows base above left start (steps_in (take i es) ++ steps_of e) (steps_in (drop (i + 1) es)) fault f)
-
   -- ---- a value
 
 -- the row that a place of the list stands for

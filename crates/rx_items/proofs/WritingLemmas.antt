@@ -1,7 +1,7 @@
 -- The events of an item and of a page, part by part.
-use Rattle.std.proofs.Common.{◌≡◌, ◌∙◌, ◌+◌, ◌-◌, ◌<◌, ◌≤◌, ℕ, zero, suc, Bool, true, false, true≢false, ◌==◌, encode_utf8_all, List, [], ◌∷◌, ◌++◌, map, filter, length, take, drop, get_or, codes, Option, Some, None, refl, sym, ap, subst, arith, append_assoc, append-nil}
+use Rattle.std.proofs.Common.{◌≡◌, ◌∙◌, ◌+◌, ◌-◌, ◌<◌, ◌≤◌, ℕ, zero, suc, Bool, true, false, true≢false, ◌==◌, encode_utf8_all, List, [], ◌∷◌, ◌++◌, map, filter, length, take, drop, drop-cons, drop_of_length-le, get_or, codes, Option, Some, None, refl, sym, ap, arith, append_assoc, append-nil}
 use Rattle.std.specs.Prelude.{flat_map, slice_get, OnOk, Result, Ok, Err}
-use Rattle.std.proofs.lemmas.List.{take_all, drop-cons, drop_of_length-le}
+use Rattle.std.proofs.lemmas.List.{take_all}
 use Rattle.serde.specs.Event as event
 use Rattle.serde.specs.Event.{Event, Log, Logs}
 use Rattle.serde.specs.declared.name.Case.TheVariants.{AsIs}
@@ -10,14 +10,17 @@ use Rattle.serde_json.specs.View.{items_of}
 use Rattle.rx_json.specs.Events.{Grows, data_events, members_events, each_events}
 use Rattle.rx_json.proofs.GrowLemmas.{one, none, both, told_as, each_more, object_made, array_made}
 use Rattle.rx_terms.specs.Text.{Chars}
+use Rattle.rx_refs.specs.Resolve.{resolved}
 use Rattle.rx_microdata.specs.Facts.{Facts, said}
 use Rattle.rx_microdata.specs.Elements.{Placed, is_item, is_top_level}
 use Rattle.rx_microdata.specs.Json.{string_of, list_of, with_id, with_types, item_of, grouped, named, json_of_item}
 use Rattle.rx_item_table.specs.Rows.{properties_in}
-use Rattle.rx_item_properties.specs.Held.{AllStand}
+use Rattle.rx_item_properties.specs.Held.{AllStand, OfRows}
+use Rattle.rx_item_properties.specs.declared.kept.Kept.{Kept}
 use Rattle.rx_items.specs.Expanding.{data_of}
-use Rattle.rx_items.specs.Named.{keys_in, value_if, value_at, grouped_at}
-use Rattle.rx_items.specs.Pages.{top_data}
+use Rattle.rx_items.specs.Named.{keys_in, key_seen, keys_seen, opening, ending, events_behind, value_behind, value_if, value_at, grouped_at}
+use Rattle.rx_items.specs.declared.named.Named.{Named}
+use Rattle.rx_items.specs.Pages.{page_data, top_data}
 use Rattle.rx_items.proofs.NameLemmas.{keys_grouped}
 use Rattle.rx_items.proofs.PageLemmas.{row_data, all_data}
 
@@ -138,5 +141,42 @@ text_told {old} {new} text chars same l = told_as (event.text text ∷ []) (data
 pub cut : {X : Type 0} (xs : List X) (i : ℕ) (x : X) → i < length xs → drop i xs ≡ get_or xs i x ∷ drop (i + 1) xs
 cut xs i x lt = let next : suc i ≡ i + 1 = omega arith in drop-cons xs i x lt ∙ ap (λ (n : ℕ). get_or xs i x ∷ drop n xs) next
 
+-- texts in a row: one more is written, and none is left
+pub texts_turn : (texts : List Chars) (i : ℕ) (text other : Chars) → i < length texts → text ≡ get_or texts i other → data_events (string_of text) ++ each_events (map string_of (drop (i + 1) texts)) ≡ each_events (map string_of (drop i texts))
+texts_turn texts i text other lt is =
+    ap (λ (t : Chars). data_events (string_of t) ++ each_events (map string_of (drop (i + 1) texts))) is ∙ sym (ap (λ (ts : List Chars). each_events (map string_of ts)) (cut texts i other lt))
+
+pub texts_end : (texts : List Chars) (i : ℕ) → length texts ≤ i → each_events (map string_of (drop i texts)) ≡ []
+texts_end texts i over = ap (λ (ts : List Chars). each_events (map string_of ts)) (drop_of_length-le texts over)
+
 pub not_none : {X : Type 0} (xs : List X) (empty : Bool) → empty ≡ (length xs == 0) → empty ≡ false → length xs ≡ 0 → ⊥
 not_none xs empty is full none = true≢false (sym (is ∙ ap (λ n. n == 0) none) ∙ full)
+
+-- ---- the members of an item's properties
+
+module _ (rows : List Placed) (base : Chars) (left : ℕ) (list : List Named) (i : ℕ) where
+  -- one more is written
+  pub member_turn : (d : Named) (before : Option (List ℕ)) → i < length list
+      → value_behind rows base left before (key_seen (get_or list i d)) ++ events_behind rows base left (Some (get_or list i d).name.now) (keys_seen (drop (i + 1) list)) ≡ events_behind rows base left before (keys_seen (drop i list))
+  member_turn d before lt =
+      append_assoc (opening before (get_or list i d).name.now) (data_events (value_at rows base left (get_or list i d).place)) _
+      ∙ sym (ap (λ (l : List Named). events_behind rows base left before (keys_seen l)) (cut list i d lt))
+
+  -- none is left
+  pub member_end : (before : Option (List ℕ)) → length list ≤ i → ending before ≡ events_behind rows base left before (keys_seen (drop i list))
+  member_end before over = sym (ap (λ (l : List Named). events_behind rows base left before (keys_seen l)) (drop_of_length-le list over))
+
+-- ---- what is so of whatever rows are held
+
+pub of_all : {X E : Type 0} (kept : Kept) (old new : Log) (r : Result X E) → OfRows kept (λ rows base. OnOk r (Grows old new (data_events (page_data rows base))))
+    → OnOk r (OfRows kept (λ rows base. Grows old new (data_events (page_data rows base))))
+of_all kept old new (Ok x) all = all
+of_all kept old new (Err e) all = tt
+
+-- ---- an id
+
+pub id_told : {old named new : Log} (base : Chars) (text token : Chars) → text ≡ token → Logs old named (event.field_key (codes "id") AsIs) → Grows named new (data_events (string_of (resolved base text)))
+    → Grows old new (members_events (with_id base (Some token) no_members))
+id_told {old} {named} {new} base text token same k g =
+    told_as (event.field_key (codes "id") AsIs ∷ data_events (string_of (resolved base text))) (members_events (with_id base (Some token) no_members))
+    (ap (λ (t : Chars). event.field_key (codes "id") AsIs ∷ data_events (string_of (resolved base t))) same) (both (one old named (event.field_key (codes "id") AsIs) k) g)

@@ -1,7 +1,7 @@
 -- The visits of an item's properties, one after another, and the JSON that they come to.
 use Rattle.std.specs.Prelude.{◌≡◌, ⊤, ℕ, zero, suc, ◌+◌, true, false, ◌==◌, nat_le, List, [], ◌∷◌, ◌++◌, map, flat_map, length, Option, Some, None, Result, Ok, Err, if◌then◌else◌}
 use Rattle.std.specs.List.{list_any}
-use Rattle.serde_json.specs.Data.{Data, Members}
+use Rattle.serde_json.specs.Data.{Data}
 use Rattle.rx_terms.specs.Text.{Chars}
 use Rattle.rx_grammar.specs.declared.faults.Fault.{Fault}
 use Rattle.rx_grammar.specs.declared.faults.Kind.{Kind}
@@ -11,7 +11,7 @@ use Rattle.rx_grammar.specs.declared.stops.Stop.TheVariants as stop
 use Rattle.rx_microdata.specs.Facts.{said}
 use Rattle.rx_microdata.specs.Elements.{Placed, is_item, names_of}
 use Rattle.rx_microdata.specs.Visits.{Visit, visits_from, standard_bounds, first_fault}
-use Rattle.rx_microdata.specs.Json.{string_of, json_of_item, grouped, refused, Refused}
+use Rattle.rx_microdata.specs.Json.{string_of, json_of_item, refused, Refused}
 use Rattle.rx_item_table.specs.Rows.{properties_in}
 use Rattle.rx_item_properties.specs.Held.{HoldsRows}
 use Rattle.rx_item_properties.specs.declared.kept.Kept.{Kept}

@@ -1,10 +1,7 @@
 -- The JSON object of an item, of its parts.
-use Rattle.std.specs.Prelude.{◌≡◌, List, [], ◌∷◌, map, Option, Some, None, option_map, codes}
-use Rattle.serde_json.specs.Data.{Data, Members, array, object, no_members, member}
+use Rattle.std.specs.Prelude.{List}
 use Rattle.rx_terms.specs.Text.{Chars}
-use Rattle.rx_refs.specs.Resolve.{resolved}
 use Rattle.rx_microdata.specs.Facts as facts
-use Rattle.rx_microdata.specs.Json.{string_of, list_of, with_types}
 use Rattle.rx_item_table.specs.Showing.{ShowsValue}
 use Rattle.rx_item_table.specs.declared.rows.RowValue.{RowValue}
 use Rattle.rx_item_properties.specs.Held.{ShowsTokens}

@@ -1,5 +1,5 @@
 -- The top-level items of a page, one after another, and what they come to.
-use Rattle.std.specs.Prelude.{◌≡◌, ⊤, ℕ, true, false, List, [], ◌∷◌, ◌++◌, map, filter, flat_map, take, slice_get, Some, None, Vec, Result, Ok, Err}
+use Rattle.std.specs.Prelude.{◌≡◌, ⊤, ℕ, true, false, List, [], ◌∷◌, map, filter, slice_get, Some, None, Vec, Result, Ok, Err}
 use Rattle.std.specs.declared.alloc.Global.{Global}
 use Rattle.serde_json.specs.Data.{Data}
 use Rattle.serde_json.specs.View.{view}
@@ -14,7 +14,7 @@ use Rattle.rx_microdata.specs.Json.{Outcome, Given, Refused, json_by, json_of_it
 use Rattle.rx_item_table.specs.Rows.{properties_in}
 use Rattle.rx_item_properties.specs.Held.{HoldsRows}
 use Rattle.rx_item_properties.specs.declared.kept.Kept.{Kept}
-use Rattle.rx_items.specs.Expanding.{Finds, NoFault, HasFault}
+use Rattle.rx_items.specs.Expanding.{HasFault}
 use Rattle.rx_items.specs.declared.visits.Trail.{Trail}
 
 -- what is answered is this outcome, where there is memory

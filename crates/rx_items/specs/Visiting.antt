@@ -1,21 +1,14 @@
 -- What is said of the steps of a visit: whatever rows are held, and on whatever path they are reached.
-use Rattle.std.specs.Prelude.{◌≡◌, ⊤, ℕ, suc, true, List, [], ◌∷◌, ◌++◌, slice_get, Some, Result, String, IfOk, encode_utf8_all}
-use Rattle.std.specs.BTreeMap.{BTreeMap}
-use Rattle.std.specs.declared.alloc.Global.{Global}
-use Rattle.serde_json.specs.Data.{Data, no_members}
-use Rattle.serde_json.specs.View.{members_view, view}
-use Rattle.serde_json.specs.declared.value.Value.{Value}
+use Rattle.std.specs.Prelude.{◌≡◌, ⊤, ℕ, suc, true, List, slice_get, Some, Result}
 use Rattle.rx_terms.specs.Text.{Chars}
-use Rattle.rx_terms.specs.declared.texts.NoMemory.{NoMemory}
 use Rattle.rx_grammar.specs.declared.stops.Stop.{Stop}
-use Rattle.rx_microdata.specs.Elements.{Placed, is_item, names_of}
+use Rattle.rx_microdata.specs.Elements.{Placed, is_item}
 use Rattle.rx_microdata.specs.Visits.{Visit, visits_from}
-use Rattle.rx_microdata.specs.Json.{grouped, item_of, json_of_item}
 use Rattle.rx_item_table.specs.Rows.{properties_in}
-use Rattle.rx_item_properties.specs.Held.{AllStand, IsElement, ShowsElement, places}
+use Rattle.rx_item_properties.specs.Held.{AllStand, IsElement, places}
 use Rattle.rx_item_properties.specs.declared.kept.Element.{Element}
 use Rattle.rx_item_properties.specs.declared.kept.Kept.{Kept}
-use Rattle.rx_items.specs.Expanding.{At, Finds, Step, StepsTaken, TakesSteps, again, data_of, grouped_in, steps_in, steps_of, visits_in, visits_of, with_name}
+use Rattle.rx_items.specs.Expanding.{At, Finds, again, steps_in, steps_of, visits_in}
 use Rattle.rx_items.specs.declared.visits.Trail.{Trail}
 
 -- what is so of the row at a place, whatever path the trail has walked

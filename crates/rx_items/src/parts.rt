@@ -33,7 +33,8 @@ pub(crate) fn write_id<S: Serializer>(
         return Ok(());
     };
     out.key("id")?;
-    write_reference(alloc, &kept.base, text_of(&kept.words, span), out)
+    let reference = text_of(&kept.words, span);
+    write_reference(alloc, &kept.base, reference, out)
 }
 
 /// Writes the member of an item's types, where it has any.
@@ -103,11 +104,7 @@ pub(crate) fn write_plain<S: Serializer>(
 }
 
 /// Writes the child text content of a `time`, by its number.
-fn write_own<S: Serializer>(
-    times: &[TextStore],
-    number: usize,
-    out: &mut S,
-) -> Result<(), S::Error>
+fn write_own<S: Serializer>(times: &[TextStore], number: usize, out: &mut S) -> Result<(), S::Error>
     ensures { OnOk result (Grows (S.written out.old) (S.written out.new) (data_events (string_of (unwrap_or (slice_get times.now number) [])))) }
 {
     match times.get(number) {

@@ -71,7 +71,12 @@ fn write_tops<S: Serializer>(alloc: Global, kept: &Kept, out: &mut S) -> Result<
 }
 
 /// Writes an element where it is a top-level item.
-fn write_top<S: Serializer>(alloc: Global, kept: &Kept, place: usize, out: &mut S) -> Result<(), S::Error>
+fn write_top<S: Serializer>(
+    alloc: Global,
+    kept: &Kept,
+    place: usize,
+    out: &mut S,
+) -> Result<(), S::Error>
     ensures { OfRow kept.now place (λ rows base e. OnOk result (Grows (S.written out.old) (S.written out.new) (each_events (top_data rows base e)))) }
 {
     if !is_top_at(kept, place) {

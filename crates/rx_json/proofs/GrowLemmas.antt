@@ -32,8 +32,9 @@ Left old now rest all = (new : Log) → Grows now new rest → Grows old new all
 pub turn : {old now next : Log} {part rest whole all : List Event} → part ++ rest ≡ whole → Left old now whole all → Grows now next part → Left old next rest all
 turn {old} {now} {next} {part} {rest} {whole} {all} same left step new more = left new (told_as (part ++ rest) whole same (both step more))
 
-pub over : {old now : Log} {all : List Event} → Left old now [] all → Grows old now all
-over {old} {now} left = left now (none now)
+-- nothing is left
+pub ends_at : {old now : Log} {all : List Event} (rest : List Event) → rest ≡ [] → Left old now rest all → Grows old now all
+ends_at {old} {now} rest done left = left now (told_as [] rest (sym done) (none now))
 
 -- ---- the marks around a value
 

@@ -1,15 +1,15 @@
-use Rattle.std.proofs.Common.{◌∙◌, ◌++◌, [], ◌∷◌, ap, sym, None}
+use Rattle.std.proofs.Common.{◌∙◌, [], ◌∷◌, ap, sym, None}
 use Rattle.serde.specs.Event as event
 use Rattle.rx_json.specs.Events.{data_events}
-use Rattle.rx_json.proofs.GrowLemmas.{one, both, told_as, object_made, then_ok}
+use Rattle.rx_json.proofs.GrowLemmas.{one, both, told_as, object_made, turn, then_ok}
 use Rattle.rx_microdata.specs.Elements.{is_item}
 use Rattle.rx_microdata.specs.Json.{json_of_item}
 use Rattle.rx_item_table.specs.Rows.{properties_in}
 use Rattle.rx_item_properties.specs.Held.{is_there}
 use Rattle.rx_item_properties.proofs.HoldLemmas.{all_stand}
-use Rattle.rx_items.specs.Named.{keys_in, keys_seen, name_seen, opening, events_behind, value_at, grouped_at}
+use Rattle.rx_items.specs.Named.{keys_in, keys_seen, name_seen, ending, events_behind, value_at, grouped_at}
 use Rattle.rx_items.proofs.NameLemmas.{by_name_told}
-use Rattle.rx_items.proofs.WritingLemmas.{item_told, value_none, value_item, data_told}
+use Rattle.rx_items.proofs.WritingLemmas.{item_told, member_turn, member_end, value_none, value_item, data_told}
 use Rattle.rx_items.proofs.writing.+write_item.Goals as goal
 
 pub write_item-returns : goal.write_item-returns
@@ -51,3 +51,15 @@ write_value-returns g t c rows base holds =
     (λ wrote. data_told (json_of_item (properties_in rows) base c.args.left at.0) (value_at rows base c.args.left c.args.place)
     (value_item rows base c.args.left c.args.place at.0 at.1 item) wrote)
     (c.write_item.ensures rows base at.0 holds at.1 at.2 item)
+
+pub write_members-loop-named-preserved : goal.write_members-loop-named-preserved
+write_members-loop-named-preserved g t c rows base holds =
+    let l = c.loop-named in
+    turn (member_turn rows base c.args.left c.args.list.now l.named-index _ (name_seen l.before) c.loop-named-test.true) (l.invariant rows base holds) (c.in_ok-write_named.ensures rows base holds)
+
+pub write_members-returns : goal.write_members-returns
+write_members-returns g t c rows base holds =
+    let l = c.loop-named in
+    then_ok c.end_values.result
+    (λ ended. l.invariant rows base holds _ (told_as (ending (name_seen l.before)) _ (member_end rows base c.args.left c.args.list.now l.named-index (name_seen l.before) c.loop-named-test.false) ended))
+    c.end_values.ensures
