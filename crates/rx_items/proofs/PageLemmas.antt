@@ -48,9 +48,6 @@ module _ (rows : List Placed) (base : Chars) where
   abbrev data_when : Placed → Bool → List Data
   data_when e b = elim b as (λ top. List Data) [ true ↦ json_of_item (properties_in rows) base 40 e ∷ [] | false ↦ [] ]
 
-  pub top_told : (e : Placed) (visits : ℕ) (why : Stop) → is_top_level e ≡ true → HasFault visits (visits_from (properties_in rows) 41 [] e) why → HasFault visits (top_visits rows base e) why
-  top_told e visits why top f = subst (λ b. HasFault visits (visits_when e b) why) (sym top) f
-
   row_visits : (i : ℕ) (e : Placed) → i < length rows → e ≡ get_or rows i e → flat_map (top_visits rows base) (take (i + 1) rows) ≡ flat_map (top_visits rows base) (take i rows) ++ top_visits rows base e
   row_visits i e lt is =
       ap (flat_map (top_visits rows base)) (one_more rows i e lt) ∙ flat_append (top_visits rows base) (take i rows) (get_or rows i e ∷ [])

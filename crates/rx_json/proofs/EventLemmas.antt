@@ -1,6 +1,6 @@
 -- The tokens that are written for the events of a plain value are the value's.
-use Rattle.std.proofs.Common.{◌≡◌, ◌∙◌, ◌+◌, ◌-◌, ◌≤◌, ℕ, Bool, true, false, true≢false, if◌then◌else◌, min, ◌^◌, List, [], ◌∷◌, ◌++◌, refl, sym, ap, subst, append_assoc, append-nil, Some, length}
-use Rattle.std.proofs.Common.{◌⊎◌, ⊎_elim}
+use Rattle.std.proofs.Common.{◌≡◌, ◌∙◌, ◌+◌, ◌-◌, ◌≤◌, ℕ, Bool, true, false, true≢false, if◌then◌else◌, min, ◌^◌, List, [], ◌∷◌, ◌++◌, refl, sym, ap, subst, append_assoc, append-nil, Some}
+use Rattle.std.proofs.Common.{⊎_elim}
 use Rattle.std.proofs.Math.Logic.{∥∥₁_elim}
 use Rattle.std.specs.Coded.{Coded-set}
 use Rattle.json.specs.Token.{Token, tokens_code}
@@ -9,11 +9,10 @@ use Rattle.json.specs.Print.{print}
 use Rattle.json.specs.Tree.{json_tokens, items_tokens, members_tokens}
 use Rattle.serde.specs.Event as event
 use Rattle.serde.specs.Event.{Event, Log}
-use Rattle.serde.specs.declared.name.Case.TheVariants.{AsIs}
 use Rattle.serde.specs.declared.name.NameKind.TheVariants.{Field}
 use Rattle.serde.proofs.Spellings.{spelled-AsIs}
 use Rattle.serde_json.specs.Data.{Data, null, boolean, number, string, array, object, Items, no_items, item, Members, no_members, member, depth}
-use Rattle.serde_json.specs.Sent.{State, start, with, bool_token, text_token, Takes, TakesAll, TakesEnd, AreTokensOf, IsTextOf}
+use Rattle.serde_json.specs.Sent.{State, start, with, bool_token, text_token, TakesAll, TakesEnd, AreTokensOf, IsTextOf}
 use Rattle.serde_json.specs.Read.{read, max_depth}
 use Rattle.serde_json.specs.Written.{compact_text, outline, items_outline, members_outline}
 use Rattle.serde_json.proofs.Texts.{print-outline}
@@ -66,9 +65,6 @@ moved : (ts us vs : List Token) (es : List Event) (last : State) → ts ++ us �
 moved ts us vs es last is f = subst (λ ws. From ws es last) is f
 
 module _ (last : State) where
-  abbrev Takes-on : State → List Event → Type 0
-  Takes-on s es = TakesAll s es last
-
   mutual
     value_taken : (d : Data) → IsPlain d → (s : State) (ts : List Token) → At s ts → (es : List Event) → TakesAll s (data_events d ++ es) last → From (ts ++ json_tokens (outline d)) es last
     value_taken null p s ts a es t = record { next = t.0; at = added s t.0 ts (Token.null ∷ []) a (other s.flattens _ (with s (Token.null ∷ [])) t.0 a.none_flattens t.1.1); rest = t.2 }

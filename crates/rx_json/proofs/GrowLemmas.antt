@@ -1,10 +1,10 @@
 -- Events one behind another.
-use Rattle.std.proofs.Common.{◌≡◌, ◌∙◌, List, [], ◌∷◌, ◌++◌, refl, sym, ap, append_assoc, append-nil, Option, Some, None}
+use Rattle.std.proofs.Common.{◌≡◌, ◌∙◌, List, [], ◌∷◌, ◌++◌, refl, sym, ap, append_assoc, append-nil, Some, None}
 use Rattle.std.specs.Prelude.{ℕ, OnOk, Result, Ok, Err}
 use Rattle.serde.specs.Event as event
 use Rattle.serde.specs.Event.{Event, Log, Logs}
 use Rattle.serde.specs.declared.name.Case.TheVariants.{AsIs}
-use Rattle.serde_json.specs.Data.{Data, array, object, Members, item, no_items, member, no_members}
+use Rattle.serde_json.specs.Data.{Data, array, object, Members}
 use Rattle.serde_json.specs.View.{items_of}
 use Rattle.rx_json.specs.Events.{Grows, data_events, items_events, members_events, each_events}
 
@@ -37,9 +37,6 @@ pub ends_at : {old now : Log} {all : List Event} (rest : List Event) → rest �
 ends_at {old} {now} rest done left = left now (told_as [] rest (sym done) (none now))
 
 -- ---- the marks around a value
-
-ended : (before last : List Event) (x : Event) → before ++ (last ++ x ∷ []) ≡ (before ++ last) ++ x ∷ []
-ended before last x = sym (append_assoc before last (x ∷ []))
 
 pub each_items : (ds : List Data) → items_events (items_of ds) ≡ each_events ds
 each_items [] = refl

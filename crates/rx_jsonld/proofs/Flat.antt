@@ -1,5 +1,5 @@
 -- A list's value nests six levels deep at most.
-use Rattle.std.proofs.Common.{◌≡◌, ◌≤◌, ℕ, suc, max, List, [], ◌∷◌, map, codes, Option, Some, None, Ordering, Less, Equal, Greater, arith, nat_cmp, cond}
+use Rattle.std.proofs.Common.{◌≤◌, ℕ, suc, List, [], ◌∷◌, map, codes, Option, Some, None, Ordering, Less, Equal, Greater, arith, nat_cmp, cond}
 use Rattle.std.proofs.Common.{Bool, true, false}
 use Rattle.std.specs.Ordering.{match_ordering}
 use Rattle.std.specs.Cmp.Lexicographic.{slice_cmp}

@@ -1,19 +1,14 @@
 -- What a call changes: values of a list, events of a text, places under keys.
-use Rattle.std.specs.Prelude.{◌≡◌, ◌++◌, ℕ, List, ◌∷◌, map, None, Result, OnOk, String}
-use Rattle.std.specs.Global.{Global}
+use Rattle.std.specs.Prelude.{◌≡◌, ℕ, List, ◌∷◌, None, Result, OnOk}
 use Rattle.serde.specs.Event.{Log, field_key}
 use Rattle.serde.specs.declared.name.Case.TheVariants.{AsIs}
 use Rattle.serde_json.specs.Data.{Data, Members, no_members}
-use Rattle.serde_json.specs.View.{members_view, view}
-use Rattle.serde_json.specs.declared.value.Value.{Value}
-use Rattle.rx_terms.specs.Text.{Chars}
-use Rattle.rx_model.specs.Terms.{Kind, Plain, Triple}
+use Rattle.rx_model.specs.Terms.{Triple}
 use Rattle.rx_shapes.specs.declared.shapes.Shape.{Shape}
 use Rattle.rx_json.specs.Events.{Grows, data_events, each_events}
 use Rattle.rx_jsonld.specs.Members.{with_last}
 use Rattle.rx_jsonld.specs.Groups.{Gathered, Group, grouped, places_under, value_at}
 use Rattle.rx_jsonld.specs.Places.{with_places}
-use Rattle.rx_jsonld.specs.Value.{literal_members}
 
 -- the members for which the places stand became what this makes of them
 abbrev pub Regroups : List (Triple ℕ) → (ℕ → Shape) → (Members → Members) → List Group → List Group → Type 0

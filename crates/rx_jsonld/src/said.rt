@@ -6,10 +6,11 @@ ghost use Rattle.serde_json.specs.Data.{object};
 ghost use Rattle.rx_model.specs.Seen.{kind_seen, term_seen, triple_seen, triples_seen};
 ghost use Rattle.rx_graph.specs.Resources.{resource_seen};
 ghost use Rattle.rx_pieces.specs.Writing.{blank_text};
-ghost use Rattle.rx_shapes.specs.Table.{AreShapes, shape_in};
+ghost use Rattle.rx_shapes.specs.Table.{shape_in};
 ghost use Rattle.rx_jsonld.specs.Changes.{Writes, WritesEach};
 ghost use Rattle.rx_jsonld.specs.Groups.{value_said};
 ghost use Rattle.rx_json.specs.Events.{Grows, members_events};
+ghost use Rattle.rx_jsonld.specs.Places.{PlacesAre};
 ghost use Rattle.rx_jsonld.specs.Value.{id_text, item_value, list_from, list_value, literal_members, object_value, object_with, plain_value, string_of, term_value};
 
 use crate::chains::{Part, chain, first_cell, object_at};
@@ -31,7 +32,7 @@ pub(crate) fn write_said<S: Serializer>(
     triple: &Triple,
     out: &mut S,
 ) -> Result<(), S::Error>
-    requires { AreShapes (triples_seen graph.now) shapes.now }
+    requires { PlacesAre (triples_seen graph.now) shapes.now }
     ensures { OnOk result (Writes (value_said (triples_seen graph.now) (shape_in shapes.now) (triple_seen triple.now)) (S.written out.old) (S.written out.new)) }
 {
     match type_of(triple) {
@@ -48,7 +49,7 @@ fn write_object<S: Serializer>(
     triple: &Triple,
     out: &mut S,
 ) -> Result<(), S::Error>
-    requires { AreShapes (triples_seen graph.now) shapes.now }
+    requires { PlacesAre (triples_seen graph.now) shapes.now }
     ensures { OnOk result (Writes (object_value (triples_seen graph.now) (shape_in shapes.now) (triple_seen triple.now)) (S.written out.old) (S.written out.new)) }
 {
     match first_cell(shapes, triple) {
@@ -64,7 +65,7 @@ fn write_chain<S: Serializer>(
     first: Blank,
     out: &mut S,
 ) -> Result<(), S::Error>
-    requires { AreShapes (triples_seen graph.now) shapes.now }
+    requires { PlacesAre (triples_seen graph.now) shapes.now }
     ensures { OnOk result (Writes (list_from (triples_seen graph.now) first.0) (S.written out.old) (S.written out.new)) }
 {
     let Ok(cells) = chain(alloc, graph, shapes, first) else {
@@ -100,7 +101,7 @@ fn write_list<S: Serializer>(
     cells: &[Blank],
     out: &mut S,
 ) -> Result<(), S::Error>
-    requires { AreShapes (triples_seen graph.now) shapes.now }
+    requires { PlacesAre (triples_seen graph.now) shapes.now }
     ensures { OnOk result (Writes (list_value (map (item_value (triples_seen graph.now)) (map (λ b. b.0) cells.now))) (S.written out.old) (S.written out.new)) }
 {
     begin_list(out)?;
@@ -138,7 +139,7 @@ fn write_items<S: Serializer>(
     cells: &[Blank],
     out: &mut S,
 ) -> Result<(), S::Error>
-    requires { AreShapes (triples_seen graph.now) shapes.now }
+    requires { PlacesAre (triples_seen graph.now) shapes.now }
     ensures { OnOk result (WritesEach (map (item_value (triples_seen graph.now)) (map (λ b. b.0) cells.now)) (S.written out.old) (S.written out.new)) }
 {
     for cell in cells {
@@ -154,7 +155,7 @@ fn write_item<S: Serializer>(
     cell: Blank,
     out: &mut S,
 ) -> Result<(), S::Error>
-    requires { AreShapes (triples_seen graph.now) shapes.now }
+    requires { PlacesAre (triples_seen graph.now) shapes.now }
     ensures { OnOk result (Writes (item_value (triples_seen graph.now) cell.0) (S.written out.old) (S.written out.new)) }
 {
     match object_at(graph, shapes, cell, Part::Item) {
@@ -176,7 +177,11 @@ fn write_term<S: Serializer>(alloc: Global, term: &Term, out: &mut S) -> Result<
     }
 }
 
-fn write_reference<S: Serializer>(alloc: Global, node: Resource, out: &mut S) -> Result<(), S::Error>
+fn write_reference<S: Serializer>(
+    alloc: Global,
+    node: Resource,
+    out: &mut S,
+) -> Result<(), S::Error>
     ensures { OnOk result (Writes (object_with (codes "@id") (string_of (id_text (resource_seen node.entry)))) (S.written out.old) (S.written out.new)) }
 {
     out.begin_map(None)?;
@@ -217,7 +222,11 @@ fn write_text<S: Serializer>(name: &str, text: &str, out: &mut S) -> Result<(), 
 }
 
 /// Writes the name of a node: its IRI, or `_:b` and its number.
-pub(crate) fn write_id<S: Serializer>(alloc: Global, node: Resource, out: &mut S) -> Result<(), S::Error>
+pub(crate) fn write_id<S: Serializer>(
+    alloc: Global,
+    node: Resource,
+    out: &mut S,
+) -> Result<(), S::Error>
     ensures { OnOk result (Writes (string_of (id_text (resource_seen node.entry))) (S.written out.old) (S.written out.new)) }
 {
     match node {

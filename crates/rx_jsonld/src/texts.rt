@@ -11,7 +11,7 @@ ghost use Rattle.rx_jsonld.specs.Changes.{Writes, WritesEach, WritesUnder};
 ghost use Rattle.rx_jsonld.specs.Groups.{array_at, grouped, grouped_node, value_at, values_at};
 ghost use Rattle.rx_jsonld.specs.Lists.{listed};
 ghost use Rattle.rx_jsonld.specs.Meaning.{JsonLd};
-ghost use Rattle.rx_jsonld.specs.Places.{node_at, nodes_added};
+ghost use Rattle.rx_jsonld.specs.Places.{PlacesAre, node_at, nodes_added};
 ghost use Rattle.rx_jsonld.specs.Value.{jsonld, node_value, nodes_of};
 
 use crate::groups::groups_of;
@@ -34,13 +34,12 @@ struct NodeObjects<'a> {
     graph: &'a Graph,
     shapes: &'a Shapes,
     cells: &'a Nodes<'a>,
-    ghost shaped: { AreShapes (triples_seen graph.now) shapes.now },
+    ghost placed: { PlacesAre (triples_seen graph.now) shapes.now },
     ghost cells_are: { cells.now ≡ nodes_added [] (listed (shape_in shapes.now) (triples_seen graph.now)) },
-    ghost writable: { IsWritable (triples_seen graph.now) },
 }
 
 impl Described for NodeObjects<'_> {
-    ghost writes = { λ nodes old new. Writes (jsonld (triples_seen nodes.graph.now) (shape_in nodes.shapes.now)) old new };
+    ghost writes = { λ nodes old new. IsWritable (triples_seen nodes.graph.now) → Writes (jsonld (triples_seen nodes.graph.now) (shape_in nodes.shapes.now)) old new };
 }
 
 impl Serialize for NodeObjects<'_> {
@@ -63,13 +62,8 @@ pub fn value(alloc: Global, graph: &Graph, shapes: &Shapes) -> Result<Value, NoM
     value
 }
 
-fn made(
-    alloc: Global,
-    graph: &Graph,
-    shapes: &Shapes,
-    cells: &Nodes,
-) -> Result<Value, NoMemory>
-    requires shapes { AreShapes (triples_seen graph.now) shapes.now }
+fn made(alloc: Global, graph: &Graph, shapes: &Shapes, cells: &Nodes) -> Result<Value, NoMemory>
+    requires shapes { PlacesAre (triples_seen graph.now) shapes.now }
     requires listed { cells.now ≡ nodes_added [] (listed (shape_in shapes.now) (triples_seen graph.now)) }
     requires writable { IsWritable (triples_seen graph.now) }
     ensures { IfOk result (λ value. view value ≡ jsonld (triples_seen graph.now) (shape_in shapes.now)) }
@@ -104,7 +98,7 @@ fn spelled(
     shapes: &Shapes,
     cells: &Nodes,
 ) -> Result<Vec<u8>, NoMemory>
-    requires shapes { AreShapes (triples_seen graph.now) shapes.now }
+    requires shapes { PlacesAre (triples_seen graph.now) shapes.now }
     requires listed { cells.now ≡ nodes_added [] (listed (shape_in shapes.now) (triples_seen graph.now)) }
     requires writable { IsWritable (triples_seen graph.now) }
     ensures { IfOk result (λ text. text.items ≡ compact_text (jsonld (triples_seen graph.now) (shape_in shapes.now))) }
@@ -128,10 +122,9 @@ fn write_nodes<S: Serializer>(
     cells: &Nodes,
     out: &mut S,
 ) -> Result<(), S::Error>
-    requires shapes { AreShapes (triples_seen graph.now) shapes.now }
+    requires shapes { PlacesAre (triples_seen graph.now) shapes.now }
     requires listed { cells.now ≡ nodes_added [] (listed (shape_in shapes.now) (triples_seen graph.now)) }
-    requires writable { IsWritable (triples_seen graph.now) }
-    ensures { OnOk result (Writes (jsonld (triples_seen graph.now) (shape_in shapes.now)) (S.written out.old) (S.written out.new)) }
+    ensures { IsWritable (triples_seen graph.now) → OnOk result (Writes (jsonld (triples_seen graph.now) (shape_in shapes.now)) (S.written out.old) (S.written out.new)) }
 {
     out.begin_seq(None)?;
     write_each(alloc, graph, shapes, cells, out)?;
@@ -146,10 +139,9 @@ fn write_each<S: Serializer>(
     cells: &Nodes,
     out: &mut S,
 ) -> Result<(), S::Error>
-    requires shapes { AreShapes (triples_seen graph.now) shapes.now }
+    requires shapes { PlacesAre (triples_seen graph.now) shapes.now }
     requires listed { cells.now ≡ nodes_added [] (listed (shape_in shapes.now) (triples_seen graph.now)) }
-    requires writable { IsWritable (triples_seen graph.now) }
-    ensures { OnOk result (WritesEach (nodes_of (triples_seen graph.now) (shape_in shapes.now)) (S.written out.old) (S.written out.new)) }
+    ensures { IsWritable (triples_seen graph.now) → OnOk result (WritesEach (nodes_of (triples_seen graph.now) (shape_in shapes.now)) (S.written out.old) (S.written out.new)) }
 {
     for i in 0..graph.len() {
         let subject = &graph.at(i).subject;
@@ -168,10 +160,9 @@ fn write_first<S: Serializer>(
     subject: &Node,
     out: &mut S,
 ) -> Result<(), S::Error>
-    requires shapes { AreShapes (triples_seen graph.now) shapes.now }
+    requires shapes { PlacesAre (triples_seen graph.now) shapes.now }
     requires listed { cells.now ≡ nodes_added [] (listed (shape_in shapes.now) (triples_seen graph.now)) }
-    requires writable { IsWritable (triples_seen graph.now) }
-    ensures { OnOk result (WritesEach (node_at (triples_seen graph.now) (shape_in shapes.now) place (node_seen subject.now)) (S.written out.old) (S.written out.new)) }
+    ensures { IsWritable (triples_seen graph.now) → OnOk result (WritesEach (node_at (triples_seen graph.now) (shape_in shapes.now) place (node_seen subject.now)) (S.written out.old) (S.written out.new)) }
 {
     let places = shapes.places(subject);
     if !begins_node(graph, shapes, cells, places, place, subject) {
@@ -191,10 +182,9 @@ fn write_node<S: Serializer>(
     places: &[usize],
     out: &mut S,
 ) -> Result<(), S::Error>
-    requires shapes { AreShapes (triples_seen graph.now) shapes.now }
+    requires shapes { PlacesAre (triples_seen graph.now) shapes.now }
     requires places { places.now ≡ places_of nat_eq (triples_seen graph.now) (node_seen subject.now) }
-    requires writable { IsWritable (triples_seen graph.now) }
-    ensures { OnOk result (Writes (node_value (triples_seen graph.now) (shape_in shapes.now) (node_seen subject.now)) (S.written out.old) (S.written out.new)) }
+    ensures { IsWritable (triples_seen graph.now) → OnOk result (Writes (node_value (triples_seen graph.now) (shape_in shapes.now) (node_seen subject.now)) (S.written out.old) (S.written out.new)) }
 {
     let Ok(groups) = groups_of(alloc, graph, places) else {
         return Err(out.custom(OUT_OF_MEMORY));
@@ -213,7 +203,7 @@ fn write_object<S: Serializer>(
     groups: &BTreeMap<&str, Vec<usize>>,
     out: &mut S,
 ) -> Result<(), S::Error>
-    requires { AreShapes (triples_seen graph.now) shapes.now }
+    requires { PlacesAre (triples_seen graph.now) shapes.now }
     ensures { OnOk result (Writes (grouped_node (triples_seen graph.now) (shape_in shapes.now) (node_seen subject.now) groups.now.entries) (S.written out.old) (S.written out.new)) }
 {
     out.begin_map(None)?;
@@ -230,7 +220,7 @@ fn write_groups<S: Serializer>(
     groups: &BTreeMap<&str, Vec<usize>>,
     out: &mut S,
 ) -> Result<(), S::Error>
-    requires { AreShapes (triples_seen graph.now) shapes.now }
+    requires { PlacesAre (triples_seen graph.now) shapes.now }
     ensures { OnOk result (Grows (S.written out.old) (S.written out.new) (members_events (grouped (triples_seen graph.now) (shape_in shapes.now) groups.now.entries))) }
 {
     for (key, places) in groups.iter() {
@@ -248,7 +238,7 @@ fn write_group<S: Serializer>(
     places: &[usize],
     out: &mut S,
 ) -> Result<(), S::Error>
-    requires { AreShapes (triples_seen graph.now) shapes.now }
+    requires { PlacesAre (triples_seen graph.now) shapes.now }
     ensures { OnOk result (WritesUnder key.now (array_at (triples_seen graph.now) (shape_in shapes.now) places.now) (S.written out.old) (S.written out.new)) }
 {
     out.key(key)?;
@@ -265,7 +255,7 @@ fn write_places<S: Serializer>(
     places: &[usize],
     out: &mut S,
 ) -> Result<(), S::Error>
-    requires { AreShapes (triples_seen graph.now) shapes.now }
+    requires { PlacesAre (triples_seen graph.now) shapes.now }
     ensures { OnOk result (WritesEach (values_at (triples_seen graph.now) (shape_in shapes.now) places.now) (S.written out.old) (S.written out.new)) }
 {
     for place in places {
@@ -281,7 +271,7 @@ fn write_place<S: Serializer>(
     place: usize,
     out: &mut S,
 ) -> Result<(), S::Error>
-    requires { AreShapes (triples_seen graph.now) shapes.now }
+    requires { PlacesAre (triples_seen graph.now) shapes.now }
     ensures { OnOk result (Writes (value_at (triples_seen graph.now) (shape_in shapes.now) place) (S.written out.old) (S.written out.new)) }
 {
     if place >= graph.len() {

@@ -11,4 +11,4 @@ returns c =
     let list = triples_seen c.args.graph.now in
     let shapes = shape_in c.args.shapes.now in
     let flat = value_flat list shapes in
-    c.value_of.ensures (jsonld list shapes) (value_plain list shapes) (omega (arith, flat)) (λ log w. w [] refl)
+    c.value_of.ensures (jsonld list shapes) (value_plain list shapes) (omega (arith, flat)) (λ log w. w c.requires.writable [] refl)

@@ -9,4 +9,4 @@ pub returns : goal.returns
 returns c =
     let list = triples_seen c.args.graph.now in
     let shapes = shape_in c.args.shapes.now in
-    c.text_of.ensures (jsonld list shapes) (value_plain list shapes) (λ log w. w [] refl)
+    c.text_of.ensures (jsonld list shapes) (value_plain list shapes) (λ log w. w c.requires.writable [] refl)

@@ -1,4 +1,4 @@
-use Rattle.std.proofs.Common.{◌∙◌, sym, ap, refl, take}
+use Rattle.std.proofs.Common.{refl, take}
 use Rattle.rx_model.specs.Seen.{node_seen, triples_seen}
 use Rattle.rx_shapes.specs.Table.{shape_in}
 use Rattle.rx_json.proofs.GrowLemmas.{each_turn}
@@ -7,9 +7,9 @@ use Rattle.rx_jsonld.proofs.PlaceLemmas.{nodes_until, node_turn}
 use Rattle.rx_jsonld.proofs.texts.write_each.Goals as goal
 
 pub loop-i-preserved : goal.loop-i-preserved
-loop-i-preserved g c =
+loop-i-preserved g c writable =
     let shapes = shape_in c.args.shapes.now in
     let i = c.loop-i.i in
     let front = nodes_until c.args.graph.now shapes (take i c.args.graph.now) in
     each_turn front (node_at (triples_seen c.args.graph.now) shapes i (node_seen c.at.result.now.subject)) _ (node_turn c.args.graph.now shapes i c.at.result.now front _ c.at.ensures refl refl)
-    c.loop-i.invariant c.in_ok-write_first.ensures
+    (c.loop-i.invariant writable) (c.in_ok-write_first.ensures writable)

@@ -11,10 +11,10 @@ use Rattle.rx_jsonld.proofs.PlaceLemmas.{said_found}
 use Rattle.rx_jsonld.proofs.texts.write_node.Goals as goal
 
 pub returns : goal.returns
-returns g c =
+returns g c writable =
     let list = triples_seen c.args.graph.now in
     let shapes = shape_in c.args.shapes.now in
     let subject = node_seen c.args.subject.now in
     let said = c.in-Ok.ensures shapes ∙ ap (λ places. with_places list shapes places no_members) c.requires.places ∙ said_found list shapes subject no_members in
-    let whole = ap (λ (ms : Members). object (member (codes "@id") (string_of (id_text subject)) ms)) said ∙ node_made list shapes subject c.requires.writable in
+    let whole = ap (λ (ms : Members). object (member (codes "@id") (string_of (id_text subject)) ms)) said ∙ node_made list shapes subject writable in
     then_ok c.write_object-written.result (λ written. told_as _ _ (ap data_events whole) written) c.write_object-written.ensures

@@ -6,9 +6,9 @@ use Rattle.rx_jsonld.specs.Value.{node_value, tops}
 use Rattle.rx_jsonld.proofs.texts.write_nodes.Goals as goal
 
 pub returns : goal.returns
-returns g c =
+returns g c writable =
     let list = triples_seen c.args.graph.now in
     let shapes = shape_in c.args.shapes.now in
     then_ok c.end_seq.result
-    (λ ended. array_made (map (node_value list shapes) (tops list shapes)) c.in_ok-begin_seq.ensures c.in_ok-write_each.ensures ended)
+    (λ ended. array_made (map (node_value list shapes) (tops list shapes)) c.in_ok-begin_seq.ensures (c.in_ok-write_each.ensures writable) ended)
     c.end_seq.ensures
