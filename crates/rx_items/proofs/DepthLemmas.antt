@@ -106,7 +106,7 @@ module _ (of_each : Placed → List Placed) (base : Chars) where
   all_within left [] = omega arith
   all_within left (e ∷ items) = let one = each_within left e in let rest = all_within left items in omega (arith, one, rest)
 
-  json_within : (left : ℕ) (items : List Placed) → depth (json_by of_each base left items) ≤ left * 3 + 2
+  pub json_within : (left : ℕ) (items : List Placed) → depth (json_by of_each base left items) ≤ left * 3 + 2
   json_within left items = let all = all_within left items in omega (arith, all)
 
 -- ---- the value that is given is the JSON

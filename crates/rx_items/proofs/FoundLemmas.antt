@@ -1,21 +1,17 @@
 -- What the visits of a page come to, step by step.
-use Rattle.std.proofs.Common.{◌≡◌, ◌∙◌, ◌+◌, ℕ, suc, Bool, true, false, ◌==◌, ◌||◌, cond, List, [], ◌∷◌, ◌++◌, map, filter, length, Option, Some, None, option_map, refl, sym, ap, subst, arith, nat_lt, encode_utf8_all, append_assoc}
+use Rattle.std.proofs.Common.{◌≡◌, ◌∙◌, ◌+◌, ℕ, suc, Bool, true, false, ◌==◌, ◌||◌, cond, List, [], ◌∷◌, ◌++◌, map, filter, length, Option, Some, None, option_map, refl, sym, ap, subst, arith, nat_lt, append_assoc}
 use Rattle.std.specs.Prelude.{flat_map, nat_le}
 use Rattle.std.specs.List.{list_any}
 use Rattle.std.specs.Option.{option_or}
-use Rattle.std.proofs.lemmas.List.{append-nil, length-append, map-append}
-use Rattle.serde_json.specs.Data.{Data, Members}
+use Rattle.std.proofs.lemmas.List.{length-append}
 use Rattle.rx_terms.specs.Text.{Chars}
 use Rattle.rx_grammar.specs.declared.faults.Fault.{Fault}
 use Rattle.rx_grammar.specs.declared.faults.Kind.{Kind}
 use Rattle.rx_grammar.specs.declared.faults.Kind.TheVariants.{Cycle, ItemsTooNested, ItemsTooMany}
 use Rattle.rx_microdata.specs.Elements.{Placed, is_item, names_of}
 use Rattle.rx_microdata.specs.Visits.{Visit, Bounds, visits_from, standard_bounds, fault_of, first_fault, items_in}
-use Rattle.rx_microdata.specs.Json.{grouped, named}
 use Rattle.rx_item_table.specs.Rows.{properties_in}
-use Rattle.rx_json_text.specs.Members.{with_last}
-use Rattle.rx_items.specs.Expanding.{path_of, kind_of, NoFault, FaultIs, StepsTaken, Step, with_name, steps_of, steps_in, visits_of, visits_in, data_of, pair_of, grouped_in}
-use Rattle.rx_items.proofs.GroupLemmas.{grouped_more}
+use Rattle.rx_items.specs.Expanding.{path_of, kind_of, NoFault, FaultIs, Step, with_name, steps_of, steps_in, visits_of, visits_in}
 
 -- ---- faults in a row
 
@@ -93,42 +89,11 @@ fault_is before above root =
 
 -- ---- steps
 
-abbrev with_value : Data → Chars → Chars × Data
-with_value value name = (name, value)
-
 pub flat_append : {X Y : Type 0} (f : X → List Y) (xs ys : List X) → flat_map f (xs ++ ys) ≡ flat_map f xs ++ flat_map f ys
 flat_append {X} {Y} f [] ys = refl
 flat_append {X} {Y} f (x ∷ xs) ys = ap (λ (l : List Y). f x ++ l) (flat_append f xs ys) ∙ sym (append_assoc (f x) (flat_map f xs) (flat_map f ys))
 
 module _ (rows : List Placed) (base : Chars) (above : Visit) (left : ℕ) where
-  one_visits : (s : Step) → visits_in rows base above left (s ∷ []) ≡ visits_of rows base above left s.element
-  one_visits s = append-nil (visits_of rows base above left s.element)
-
-  visits_more : (done : List Step) (s : Step) → visits_in rows base above left (done ++ s ∷ []) ≡ visits_in rows base above left done ++ visits_of rows base above left s.element
-  visits_more done s =
-      flat_append (λ (s : Step). visits_of rows base above left s.element) done (s ∷ []) ∙ ap (λ (l : List Visit). visits_in rows base above left done ++ l) (one_visits s)
-
-  grouped_step : (done : List Step) (e : Placed) (name : Chars)
-      → grouped_in rows base above left (done ++ with_name e name ∷ []) ≡ with_last (encode_utf8_all name) (data_of rows base above left e) (grouped_in rows base above left done)
-  grouped_step done e name =
-      ap grouped (map-append (pair_of rows base above left) done (with_name e name ∷ [])) ∙ grouped_more (map (pair_of rows base above left) done) name (data_of rows base above left e)
-
-  pub did_more : (start before after : ℕ) (done : List Step) (e : Placed) (name : Chars) (old new : Members) → StepsTaken rows base above left start done before old
-      → NoFault before (visits_of rows base above left e) after → new ≡ with_last (encode_utf8_all name) (data_of rows base above left e) old
-      → StepsTaken rows base above left start (done ++ with_name e name ∷ []) after new
-  did_more start before after done e name old new d n g = record {
-    no_fault = subst (λ (vs : List Visit). NoFault start vs after) (sym (visits_more done (with_name e name))) (none_then start before after (visits_in rows base above left done) (visits_of rows base above left e) d.no_fault n);
-    grouped = g ∙ ap (with_last (encode_utf8_all name) (data_of rows base above left e)) d.grouped ∙ sym (grouped_step done e name);
-  }
-
-  pub fault_more : (start before : ℕ) (done more : List Step) (e : Placed) (name : Chars) (old : Members) (fault : Fault) → StepsTaken rows base above left start done before old
-      → FaultIs before (visits_of rows base above left e) fault → FaultIs start (visits_in rows base above left (done ++ with_name e name ∷ more)) fault
-  fault_more start before done more e name old fault d f =
-      let all = flat_append (λ (s : Step). visits_of rows base above left s.element) done (with_name e name ∷ more) in
-      subst (λ (vs : List Visit). FaultIs start vs fault) (sym all)
-      (then_fault start before (visits_in rows base above left done) (visits_in rows base above left (with_name e name ∷ more)) fault d.no_fault
-      (fault_then before (visits_of rows base above left e) (visits_in rows base above left more) fault f))
-
   pub fault_stays : (start : ℕ) (done more : List Step) (fault : Fault) → FaultIs start (visits_in rows base above left done) fault → FaultIs start (visits_in rows base above left (done ++ more)) fault
   fault_stays start done more fault f =
       subst (λ (vs : List Visit). FaultIs start vs fault) (sym (flat_append (λ (s : Step). visits_of rows base above left s.element) done more))
@@ -163,11 +128,3 @@ module _ (rows : List Placed) (base : Chars) (above : Visit) (left : ℕ) where
           ∙ sym (flat_append (visits_from (properties_in rows) (suc left) above) (map (λ (name : Chars). e) (names_of e)) (items_in es))
           ∙ ap (λ b. flat_map (visits_from (properties_in rows) (suc left) above) (items_when e es b)) (sym item)
       by false plain ih = ap (λ (l : List Visit). l ++ visits_in rows base above left (steps_in es)) (no_visits e (names_of e) plain) ∙ ih ∙ ap (λ b. flat_map (visits_from (properties_in rows) (suc left) above) (items_when e es b)) (sym plain)
-
-  pub steps_pairs : (es : List Placed) → map (pair_of rows base above left) (steps_in es) ≡ flat_map (λ (e : Placed). named e (data_of rows base above left e)) es
-  steps_pairs [] = refl
-  steps_pairs (e ∷ es) = map-append (pair_of rows base above left) (steps_of e) (steps_in es) ∙ (λ i. names (names_of e) i ++ steps_pairs es i)
-    where
-      names : (ns : List Chars) → map (pair_of rows base above left) (map (with_name e) ns) ≡ map (with_value (data_of rows base above left e)) ns
-      names [] = refl
-      names (n ∷ ns) = ap (λ (l : List (Chars × Data)). (n, data_of rows base above left e) ∷ l) (names ns)

@@ -1,4 +1,3 @@
-mod GroupLemmas
 mod ReadingLemmas
 mod FoundLemmas
 mod VisitLemmas

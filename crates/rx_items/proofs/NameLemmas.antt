@@ -8,17 +8,22 @@ use Rattle.std.proofs.lemmas.Cmp.{nat_list_cmp_total, tied_itself}
 use Rattle.std.proofs.lemmas.List.Elements.{filter-append}
 use Rattle.std.proofs.lemmas.Map.Text.{is_eq-slice_cmp}
 use Rattle.std.proofs.lemmas.Slice.Eq.{bytes_eq-Decides}
-use Rattle.json.specs.Token.{Token}
+use Rattle.serde.specs.Event as event
+use Rattle.serde.specs.Event.{Event}
+use Rattle.serde.specs.declared.name.Case.TheVariants.{AsIs}
 use Rattle.serde_json.specs.Data.{Data, array, Items, no_items, item, Members, no_members, member}
-use Rattle.rx_json_text.specs.Tokens.{data_tokens, items_tokens, members_tokens}
+use Rattle.rx_json.specs.Events.{data_events, items_events, members_events}
 use Rattle.rx_terms.specs.Text.{Chars}
 use Rattle.rx_microdata.specs.Elements.{Placed, names_of}
 use Rattle.rx_microdata.specs.Json.{with_value, grouped, named}
 use Rattle.rx_item_properties.specs.Held.{AllStand, places}
 use Rattle.rx_items.specs.Expanding.{data_of}
-use Rattle.rx_items.specs.Named.{Key, keyed, key_at, keys_in, keys_if, keys_at, keys_seen, is_before, ByName, opening, value_if, value_at, grouped_at, tokens_behind}
+use Rattle.rx_items.specs.Named.{Key, keyed, key_at, keys_in, keys_if, keys_at, keys_seen, is_before, ByName, opening, value_if, value_at, grouped_at, events_behind}
 use Rattle.rx_items.specs.declared.named.Named.{Named}
-use Rattle.rx_items.proofs.GroupLemmas.{turned, equal_texts}
+use Rattle.rx_json.proofs.PlainLemmas.{turned}
+
+equal_texts : (a b : List ℕ) → slice_cmp nat_cmp a b ≡ Equal → a ≡ b
+equal_texts a b e = (bytes_eq-Decides a b).0 (sym (is_eq-slice_cmp a b) ∙ ap is_eq e)
 
 abbrev both : Chars → Data → Chars × Data
 both name value = (name, value)
@@ -178,22 +183,22 @@ rises_all : (list : List Named) → IsSortedBy is_before list → RisesAll (keys
 rises_all [] up = tt
 rises_all (x ∷ list) up = rises_from x list up
 
-regroup : (a b c m : List Token) → ((a ++ b) ++ c) ++ m ≡ a ++ (b ++ (c ++ m))
+regroup : (a b c m : List Event) → ((a ++ b) ++ c) ++ m ≡ a ++ (b ++ (c ++ m))
 regroup a b c m = append_assoc (a ++ b) c m ∙ append_assoc a b (c ++ m)
 
-opens : (n m : List ℕ) (o : Ordering) → slice_cmp nat_cmp n m ≡ o → opening (Some n) m ≡ cond (is_eq o) [] (Token.end_array ∷ Token.key m ∷ Token.begin_array ∷ [])
-opens n m o c = ap (λ b. cond b [] (Token.end_array ∷ Token.key m ∷ Token.begin_array ∷ [])) (sym (is_eq-slice_cmp n m) ∙ ap is_eq c)
+opens : (n m : List ℕ) (o : Ordering) → slice_cmp nat_cmp n m ≡ o → opening (Some n) m ≡ cond (is_eq o) [] (event.seq_ends ∷ event.field_key m AsIs ∷ event.seq_begins None ∷ [])
+opens n m o c = ap (λ b. cond b [] (event.seq_ends ∷ event.field_key m AsIs ∷ event.seq_begins None ∷ [])) (sym (is_eq-slice_cmp n m) ∙ ap is_eq c)
 
 module _ (rows : List Placed) (base : Chars) (left : ℕ) where
-  abbrev behind_name : Option (List ℕ) → List Key → List Token
-  behind_name before keys = tokens_behind rows base left before keys
+  abbrev behind_name : Option (List ℕ) → List Key → List Event
+  behind_name before keys = events_behind rows base left before keys
 
   -- the values of the first name, and what is behind them
   record Headed (n : List ℕ) (d : Data) (keys : List Key) : Type 0 where
     values : Items
     more : Members
     is : with_value n d (grouped_at rows base left keys) ≡ member n (array (item d values)) more
-    told : items_tokens values ++ Token.end_array ∷ members_tokens more ≡ behind_name (Some n) keys
+    told : items_events values ++ event.seq_ends ∷ members_events more ≡ behind_name (Some n) keys
 
   headed : (n : List ℕ) (d : Data) (keys : List Key) → RisesFrom n keys → Headed n d keys
   headed n d [] r = record { values = no_items; more = no_members; is = refl; told = refl }
@@ -206,28 +211,28 @@ module _ (rows : List Placed) (base : Chars) (left : ℕ) where
             values = no_items;
             more = m;
             is = ap (with_value n d) h.is ∙ rw c refl;
-            told = ap (λ ts. Token.end_array ∷ Token.key key.0 ∷ Token.begin_array ∷ ts)
-                (regroup (data_tokens (value_at rows base left key.1)) (items_tokens h.values) (Token.end_array ∷ []) (members_tokens h.more)
-                ∙ ap (λ ts. data_tokens (value_at rows base left key.1) ++ ts) h.told)
-                ∙ ap (λ ts. ts ++ (data_tokens (value_at rows base left key.1) ++ behind_name (Some key.0) keys)) (sym (opens n key.0 Less c));
+            told = ap (λ ts. event.seq_ends ∷ event.field_key key.0 AsIs ∷ event.seq_begins None ∷ ts)
+                (regroup (data_events (value_at rows base left key.1)) (items_events h.values) (event.seq_ends ∷ []) (members_events h.more)
+                ∙ ap (λ ts. data_events (value_at rows base left key.1) ++ ts) h.told)
+                ∙ ap (λ ts. ts ++ (data_events (value_at rows base left key.1) ++ behind_name (Some key.0) keys)) (sym (opens n key.0 Less c));
           }
       go Equal c h = record {
         values = item (value_at rows base left key.1) h.values;
         more = h.more;
         is = ap (with_value n d) h.is ∙ rw c (ap (λ (a : List ℕ). member a (array (item d (item (value_at rows base left key.1) h.values))) h.more) (sym (equal_texts n key.0 c)));
-        told = append_assoc (data_tokens (value_at rows base left key.1)) (items_tokens h.values) (Token.end_array ∷ members_tokens h.more)
-            ∙ ap (λ ts. data_tokens (value_at rows base left key.1) ++ ts) h.told
-            ∙ ap (λ ts. ts ++ (data_tokens (value_at rows base left key.1) ++ behind_name (Some key.0) keys)) (sym (opens n key.0 Equal c));
+        told = append_assoc (data_events (value_at rows base left key.1)) (items_events h.values) (event.seq_ends ∷ members_events h.more)
+            ∙ ap (λ ts. data_events (value_at rows base left key.1) ++ ts) h.told
+            ∙ ap (λ ts. ts ++ (data_events (value_at rows base left key.1) ++ behind_name (Some key.0) keys)) (sym (opens n key.0 Equal c));
       }
       go Greater c h = let low : is_lt (slice_cmp nat_cmp key.0 n) ≡ true = ap is_lt (turned n key.0 Greater c) in absurd (true≢false (sym low ∙ r.0))
 
-  rising_told : (keys : List Key) → RisesAll keys → members_tokens (grouped_at rows base left keys) ≡ behind_name None keys
+  rising_told : (keys : List Key) → RisesAll keys → members_events (grouped_at rows base left keys) ≡ behind_name None keys
   rising_told [] r = refl
   rising_told (key ∷ keys) r =
       let h = headed key.0 (value_at rows base left key.1) keys r in
-      ap members_tokens h.is
-      ∙ ap (λ ts. Token.key key.0 ∷ Token.begin_array ∷ ts)
-      (regroup (data_tokens (value_at rows base left key.1)) (items_tokens h.values) (Token.end_array ∷ []) (members_tokens h.more) ∙ ap (λ ts. data_tokens (value_at rows base left key.1) ++ ts) h.told)
+      ap members_events h.is
+      ∙ ap (λ ts. event.field_key key.0 AsIs ∷ event.seq_begins None ∷ ts)
+      (regroup (data_events (value_at rows base left key.1)) (items_events h.values) (event.seq_ends ∷ []) (members_events h.more) ∙ ap (λ ts. data_events (value_at rows base left key.1) ++ ts) h.told)
 
   abbrev name_of : Named → List ℕ
   name_of x = x.name.now
@@ -240,10 +245,10 @@ module _ (rows : List Placed) (base : Chars) (left : ℕ) where
   seen_groups (x ∷ list) = ap (with_value x.name.now (value_at rows base left x.place)) (seen_groups list)
 
   -- keys by name are told where the name changes
-  pub by_name_told : (keys : List Key) (list : List Named) → ByName keys list → members_tokens (grouped_at rows base left keys) ≡ behind_name None (keys_seen list)
+  pub by_name_told : (keys : List Key) (list : List Named) → ByName keys list → members_events (grouped_at rows base left keys) ≡ behind_name None (keys_seen list)
   by_name_told keys list b =
-      ap (λ (ks : List Key). members_tokens (grouped_at rows base left ks)) (sym b.are)
-      ∙ ap members_tokens (sym (seen_groups b.found) ∙ sym (stable_groups name_of value_of b.found list b.keep) ∙ seen_groups list)
+      ap (λ (ks : List Key). members_events (grouped_at rows base left ks)) (sym b.are)
+      ∙ ap members_events (sym (seen_groups b.found) ∙ sym (stable_groups name_of value_of b.found list b.keep) ∙ seen_groups list)
       ∙ rising_told (keys_seen list) (rises_all list b.rise)
 
   -- ---- the keys of properties have their values

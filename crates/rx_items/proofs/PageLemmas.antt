@@ -1,11 +1,9 @@
 -- The top-level items of a page, one after another.
 use Rattle.std.proofs.Common.{◌≡◌, ◌∙◌, ◌+◌, ◌<◌, ◌≤◌, ℕ, zero, suc, Bool, true, false, cond, List, [], ◌∷◌, ◌++◌, map, filter, length, take, drop, get_or, Option, Some, None, refl, sym, ap, subst, arith}
-use Rattle.std.specs.Prelude.{flat_map, slice_get, Result, Err, codes}
-use Rattle.std.proofs.lemmas.List.{append-nil, take_all, map-append}
-use Rattle.serde_json.specs.Data.{Data, Items, array, item, object, member, no_members}
-use Rattle.serde_json.specs.View.{view, items_of, items_view}
+use Rattle.std.specs.Prelude.{flat_map, slice_get, Result, Err}
+use Rattle.std.proofs.lemmas.List.{append-nil, take_all}
+use Rattle.serde_json.specs.Data.{Data}
 use Rattle.serde_json.specs.Written.{compact_text}
-use Rattle.serde_json.specs.declared.value.Value.{Value}
 use Rattle.rx_terms.specs.Text.{Chars}
 use Rattle.rx_grammar.specs.declared.faults.Fault.{Fault}
 use Rattle.rx_grammar.specs.declared.faults.Kind.{Kind}
@@ -13,12 +11,12 @@ use Rattle.rx_grammar.specs.declared.stops.Stop.{Stop}
 use Rattle.rx_grammar.specs.declared.stops.Stop.TheVariants as stop
 use Rattle.rx_microdata.specs.Elements.{Placed, is_item, is_top_level, is_absent}
 use Rattle.rx_microdata.specs.Visits.{Visit, visits_from, visits_by, first_fault, standard_bounds}
-use Rattle.rx_microdata.specs.Json.{Outcome, Given, Refused, json_of_item, json_by, list_of, refused}
+use Rattle.rx_microdata.specs.Json.{Outcome, Given, Refused, json_of_item, json_by, refused}
 use Rattle.rx_microdata.proofs.Lists.{and_parts}
 use Rattle.rx_item_table.specs.Rows.{properties_in, outcome_in}
 use Rattle.rx_item_properties.specs.Held.{HoldsRows}
 use Rattle.rx_items.specs.Expanding.{At, NoFault, FaultIs, HasFault, Finds}
-use Rattle.rx_items.specs.Pages.{TopsDid, top_visits, top_data, IsTextOf, JsonGives, TextGives}
+use Rattle.rx_items.specs.Pages.{top_visits, top_data, IsTextOf, JsonGives, TextGives}
 use Rattle.rx_item_properties.specs.declared.kept.Kept.{Kept}
 use Rattle.rx_items.proofs.FoundLemmas.{none_then, then_fault, fault_then, none_at_all, flat_append}
 use Rattle.rx_item_properties.proofs.HoldLemmas.{as_long as rows_as_long}
@@ -50,21 +48,6 @@ module _ (rows : List Placed) (base : Chars) where
   abbrev data_when : Placed → Bool → List Data
   data_when e b = elim b as (λ top. List Data) [ true ↦ json_of_item (properties_in rows) base 40 e ∷ [] | false ↦ [] ]
 
-  pub not_top : (e : Placed) (visits : ℕ) (values : List Value) → is_top_level e ≡ false → NoFault visits (top_visits rows base e) visits × (map view values ≡ map view values ++ top_data rows base e)
-  not_top e visits values plain =
-      let Found : Bool → Type 0 = λ b. NoFault visits (visits_when e b) visits × (map view values ≡ map view values ++ data_when e b) in
-      subst Found (sym plain) (none_at_all visits, sym (append-nil (map view values)))
-
-  pub top_told : (e : Placed) (visits : ℕ) (why : Stop) → is_top_level e ≡ true → HasFault visits (visits_from (properties_in rows) 41 [] e) why → HasFault visits (top_visits rows base e) why
-  top_told e visits why top f = subst (λ b. HasFault visits (visits_when e b) why) (sym top) f
-
-  pub top_found : (e : Placed) (before after : ℕ) (old new : List Value) (value : Value) → is_top_level e ≡ true → NoFault before (visits_from (properties_in rows) 41 [] e) after
-      → view value ≡ json_of_item (properties_in rows) base 40 e → new ≡ old ++ value ∷ []
-      → NoFault before (top_visits rows base e) after × (map view new ≡ map view old ++ top_data rows base e)
-  top_found e before after old new value top f is pushed =
-      let Found : Bool → Type 0 = λ b. NoFault before (visits_when e b) after × (map view new ≡ map view old ++ data_when e b) in
-      subst Found (sym top) (f, ap (map view) pushed ∙ map-append view old (value ∷ []) ∙ ap (λ (d : Data). map view old ++ d ∷ []) is)
-
   row_visits : (i : ℕ) (e : Placed) → i < length rows → e ≡ get_or rows i e → flat_map (top_visits rows base) (take (i + 1) rows) ≡ flat_map (top_visits rows base) (take i rows) ++ top_visits rows base e
   row_visits i e lt is =
       ap (flat_map (top_visits rows base)) (one_more rows i e lt) ∙ flat_append (top_visits rows base) (take i rows) (get_or rows i e ∷ [])
@@ -76,13 +59,6 @@ module _ (rows : List Placed) (base : Chars) where
       ap (flat_map (top_data rows base)) (one_more rows i e lt) ∙ flat_append (top_data rows base) (take i rows) (get_or rows i e ∷ [])
       ∙ ap (λ (l : List Data). flat_map (top_data rows base) (take i rows) ++ l) (append-nil (top_data rows base (get_or rows i e)))
       ∙ ap (λ (x : Placed). flat_map (top_data rows base) (take i rows) ++ top_data rows base x) (sym is)
-
-  pub top_on : (i before after : ℕ) (e : Placed) (old new : List Value) → i < length rows → e ≡ get_or rows i e → TopsDid rows base i before old
-      → NoFault before (top_visits rows base e) after → map view new ≡ map view old ++ top_data rows base e → TopsDid rows base (i + 1) after new
-  top_on i before after e old new lt is d f g = record {
-    no_fault = subst (λ (vs : List Visit). NoFault 0 vs after) (sym (row_visits i e lt is)) (none_then 0 before after (flat_map (top_visits rows base) (take i rows)) (top_visits rows base e) d.no_fault f);
-    data_is = g ∙ ap (λ (l : List Data). l ++ top_data rows base e) d.data_is ∙ sym (row_data i e lt is);
-  }
 
   all_visits : (ps : List Placed) → flat_map (top_visits rows base) ps ≡ visits_by (properties_in rows) standard_bounds (filter is_top_level ps)
   all_visits [] = refl
@@ -131,15 +107,6 @@ module _ (rows : List Placed) (base : Chars) where
       → Finds before (top_visits rows base e) after (λ done. Unit {0}) r
   top_passed e before after r top f = subst (λ b. Finds {X = Unit {0}} before (visits_when e b) after (λ done. Unit {0}) r) (sym top) f
 
-  pub tops_end : (i visits : ℕ) (values : List Value) → length rows ≤ i → TopsDid rows base i visits values
-      → (first_fault standard_bounds 0 (visits_by (properties_in rows) standard_bounds (filter is_top_level rows)) ≡ None)
-      × (map view values ≡ map (json_of_item (properties_in rows) base 40) (filter is_top_level rows))
-  tops_end i visits values over d =
-      let whole = take_all i rows over in (
-        ap (first_fault standard_bounds 0) (sym (all_visits rows) ∙ sym (ap (flat_map (top_visits rows base)) whole)) ∙ d.no_fault.none,
-        d.data_is ∙ ap (flat_map (top_data rows base)) whole ∙ all_data rows,
-      )
-
   abbrev picked : Option (Kind × Visit) → Data → Outcome
   picked o value = elim o as (λ found. Outcome) [ None ↦ Given value | Some found ↦ refused found.0 found.1 ]
 
@@ -155,17 +122,9 @@ module _ (rows : List Placed) (base : Chars) where
   text_refused stop.NoMemory f = tt
   text_refused (stop.Fault fault) f = fault_given fault f
 
-  same_items : (ds : List Data) → items_of ds ≡ list_of ds
-  same_items [] = refl
-  same_items (d ∷ ds) = ap (item d) (same_items ds)
-
-  pub page_given : (value : Data) (values : List Value) → first_fault standard_bounds 0 (visits_by (properties_in rows) standard_bounds (filter is_top_level rows)) ≡ None
-      → map view values ≡ map (json_of_item (properties_in rows) base 40) (filter is_top_level rows) → value ≡ object (member (codes "items") (array (items_view values)) no_members)
-      → outcome_in standard_bounds base rows ≡ Given value
-  page_given value values none is made =
-      ap (λ o. picked o (json_by (properties_in rows) base 40 (filter is_top_level rows))) none
-      ∙ ap Given (sym (made ∙ ap (λ (ds : List Data). object (member (codes "items") (array (items_of ds)) no_members)) is
-      ∙ ap (λ (is : Items). object (member (codes "items") (array is) no_members)) (same_items (map (json_of_item (properties_in rows) base 40) (filter is_top_level rows)))))
+  pub json_given : (value : Data) → first_fault standard_bounds 0 (visits_by (properties_in rows) standard_bounds (filter is_top_level rows)) ≡ None
+      → value ≡ json_by (properties_in rows) base 40 (filter is_top_level rows) → outcome_in standard_bounds base rows ≡ Given value
+  json_given value none is = ap (λ o. picked o (json_by (properties_in rows) base 40 (filter is_top_level rows))) none ∙ ap Given (sym is)
 
   pub text_given : (text : List ℕ) → first_fault standard_bounds 0 (visits_by (properties_in rows) standard_bounds (filter is_top_level rows)) ≡ None
       → text ≡ compact_text (json_by (properties_in rows) base 40 (filter is_top_level rows)) → IsTextOf (outcome_in standard_bounds base rows) text

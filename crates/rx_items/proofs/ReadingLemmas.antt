@@ -1,20 +1,13 @@
 -- Texts as JSON.
 use Rattle.std.proofs.Common.{◌≡◌, ◌∙◌, ℕ, List, [], refl, sym, ap}
-use Rattle.std.specs.Prelude.{IfOk, Result, Ok, Err, Option, Some, None, slice_get, unwrap_or}
+use Rattle.std.specs.Prelude.{Option, Some, None, slice_get, unwrap_or}
 use Rattle.std.specs.Str.{chars}
 use Rattle.std.proofs.lemmas.Str.{chars-nil}
-use Rattle.serde_json.specs.Data.{Data}
-use Rattle.serde_json.specs.View.{view}
-use Rattle.serde_json.specs.declared.value.Value.{Value}
 use Rattle.rx_terms.specs.Text.{Chars}
 use Rattle.rx_values.specs.Marks.{CutAt}
 use Rattle.rx_microdata.specs.Facts.{Written, said}
 use Rattle.rx_microdata.specs.Facts as facts
 use Rattle.rx_microdata.specs.Json.{string_of}
-
-pub if_same : {E : Type 0} (r : Result Value E) (a b : Data) → a ≡ b → IfOk r (λ json. view json ≡ a) → IfOk r (λ json. view json ≡ b)
-if_same (Ok json) a b e h = h ∙ e
-if_same (Err error) a b e h = h
 
 pub cut_at_start : (text : Chars) → CutAt text 0 [] text
 cut_at_start text = record { whole = refl; size = refl }

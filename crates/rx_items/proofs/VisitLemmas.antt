@@ -1,28 +1,24 @@
 -- The visit of an item, and those of its properties.
-use Rattle.std.proofs.Common.{◌≡◌, ◌∙◌, ◌+◌, ◌<◌, ◌≤◌, ℕ, zero, suc, Bool, true, false, ◌==◌, cond, List, [], ◌∷◌, ◌++◌, map, length, take, drop, get_or, Option, Some, None, option_map, refl, sym, ap, subst, arith, nat_lt, append_assoc}
+use Rattle.std.proofs.Common.{◌≡◌, ◌∙◌, ◌+◌, ◌<◌, ◌≤◌, ℕ, zero, suc, Bool, true, false, ◌==◌, cond, List, [], ◌∷◌, ◌++◌, length, take, drop, get_or, Option, Some, None, option_map, refl, sym, ap, subst, arith, nat_lt, append_assoc}
 use Rattle.std.specs.Prelude.{flat_map, nat_le, slice_get, Result, Ok, Err, IsErrAnd}
 use Rattle.std.specs.List.{list_any}
 use Rattle.std.specs.Option.{option_or}
-use Rattle.std.proofs.lemmas.List.{append-nil, take_all, map-append}
-use Rattle.serde_json.specs.Data.{Data, Members}
-use Rattle.serde_json.specs.View.{view}
-use Rattle.serde_json.specs.declared.value.Value.{Value}
+use Rattle.std.proofs.lemmas.List.{append-nil}
 use Rattle.rx_terms.specs.Text.{Chars}
 use Rattle.rx_grammar.specs.declared.faults.Kind.{Kind}
 use Rattle.rx_grammar.specs.declared.faults.Kind.TheVariants.{Cycle, ItemsTooNested, ItemsTooMany}
 use Rattle.rx_grammar.specs.declared.stops.Stop.{Stop}
 use Rattle.rx_grammar.specs.declared.stops.Stop.TheVariants as stop
-use Rattle.rx_microdata.specs.Facts.{said}
-use Rattle.rx_microdata.specs.Elements.{Placed, is_item, names_of}
+use Rattle.rx_microdata.specs.Elements.{Placed}
 use Rattle.rx_microdata.specs.Visits.{Visit, visits_from, standard_bounds, fault_of, first_fault, is_cycle, items_in}
-use Rattle.rx_microdata.specs.Json.{string_of, item_of, json_of_item, Refused}
+use Rattle.rx_microdata.specs.Json.{Refused}
 use Rattle.rx_item_table.specs.Rows.{properties_in}
 use Rattle.rx_item_properties.specs.Held.{AllStand, places}
-use Rattle.rx_items.specs.Expanding.{At, path_of, kind_of, NoFault, FaultIs, HasFault, Finds, StepsTaken, TakesSteps, Enters, Step, with_name, steps_of, steps_in, visits_of, visits_in, data_of, pair_of, grouped_in}
+use Rattle.rx_items.specs.Expanding.{At, path_of, kind_of, NoFault, FaultIs, HasFault, Finds, Enters, Step, steps_of, steps_in, visits_in}
 use Rattle.rx_item_properties.specs.declared.kept.Element.{Element}
 use Rattle.rx_item_properties.specs.declared.kept.Kept.{Kept}
 use Rattle.rx_items.specs.declared.visits.Trail.{Trail}
-use Rattle.rx_items.proofs.FoundLemmas.{none_at_all, fault_is, path_size, steps_pairs, steps_visits, fault_more, fault_stays}
+use Rattle.rx_items.proofs.FoundLemmas.{fault_is, path_size, steps_visits, fault_stays}
 use Rattle.rx_item_properties.proofs.TakeLemmas.{cut_at, one_more}
 use Rattle.rx_item_properties.proofs.HoldLemmas.{place_is}
 
@@ -39,45 +35,6 @@ no_element rows place e row none = let found : Some e ≡ None = sym row ∙ non
 
 module _ (rows : List Placed) (base : Chars) (above : Visit) (left : ℕ) where
   -- ---- a property under each of its names
-
-  pub named_err : (start before : ℕ) (done : List Step) (e : Placed) (name : Chars) (old : Members) (x : Stop) → StepsTaken rows base above left start done before old
-      → HasFault before (visits_of rows base above left e) x → HasFault start (visits_in rows base above left (done ++ with_name e name ∷ [])) x
-  named_err start before done e name old stop.NoMemory d f = tt
-  named_err start before done e name old (stop.Fault fault) d f = fault_more rows base above left start before done [] e name old fault d f
-
-  pub each_err : (start : ℕ) (done : List Step) (e : Placed) (names : List Chars) (i : ℕ) (name : Chars) (x : Stop) → names ≡ names_of e → i < length names → name ≡ get_or names i name
-      → HasFault start (visits_in rows base above left ((done ++ map (with_name e) (take i names)) ++ with_name e name ∷ [])) x → HasFault start (visits_in rows base above left (done ++ steps_of e)) x
-  each_err start done e names i name stop.NoMemory is lt at f = tt
-  each_err start done e names i name (stop.Fault fault) is lt at f =
-      let front = done ++ map (with_name e) (take i names) in
-      let all : done ++ steps_of e ≡ (front ++ with_name e name ∷ []) ++ map (with_name e) (drop (i + 1) names) =
-      ap (λ (ns : List Chars). done ++ map (with_name e) ns) (sym is ∙ cut_at names i name lt ∙ ap (λ (n : Chars). take i names ++ (n ∷ drop (i + 1) names)) (sym at))
-      ∙ ap (λ (l : List Step). done ++ l) (map-append (with_name e) (take i names) (name ∷ drop (i + 1) names))
-      ∙ sym (append_assoc done (map (with_name e) (take i names)) (with_name e name ∷ map (with_name e) (drop (i + 1) names)))
-      ∙ sym (append_assoc front (with_name e name ∷ []) (map (with_name e) (drop (i + 1) names))) in
-      subst (λ (steps : List Step). FaultIs start (visits_in rows base above left steps) fault) (sym all)
-      (fault_stays rows base above left start (front ++ with_name e name ∷ []) (map (with_name e) (drop (i + 1) names)) fault f)
-
-  pub each_on : (start after : ℕ) (done : List Step) (e : Placed) (names : List Chars) (i : ℕ) (name : Chars) (new : Members) → i < length names → name ≡ get_or names i name
-      → StepsTaken rows base above left start ((done ++ map (with_name e) (take i names)) ++ with_name e name ∷ []) after new
-      → StepsTaken rows base above left start (done ++ map (with_name e) (take (i + 1) names)) after new
-  each_on start after done e names i name new lt is d =
-      let all : (done ++ map (with_name e) (take i names)) ++ with_name e name ∷ [] ≡ done ++ map (with_name e) (take (i + 1) names) =
-      append_assoc done (map (with_name e) (take i names)) (with_name e name ∷ [])
-      ∙ ap (λ (l : List Step). done ++ l) (sym (map-append (with_name e) (take i names) (name ∷ [])))
-      ∙ ap (λ (ns : List Chars). done ++ map (with_name e) ns) (ap (λ (n : Chars). take i names ++ n ∷ []) is ∙ sym (one_more names i name lt)) in
-      subst (λ (steps : List Step). StepsTaken rows base above left start steps after new) all d
-
-  -- the only name
-  pub one_name : (start visits : ℕ) (done : List Step) (e : Placed) (token : Chars) (members : Members) (r : Result (Unit {0}) Stop) → names_of e ≡ token ∷ []
-      → TakesSteps rows base above left start (done ++ with_name e token ∷ []) visits members r → TakesSteps rows base above left start (done ++ steps_of e) visits members r
-  one_name start visits done e token members r names g =
-      subst (λ (steps : List Step). TakesSteps rows base above left start (done ++ steps) visits members r) (sym (ap (map (with_name e)) names)) g
-
-  pub names_end : (start visits : ℕ) (done : List Step) (e : Placed) (names : List Chars) (i : ℕ) (members : Members) → names ≡ names_of e → length names ≤ i
-      → StepsTaken rows base above left start (done ++ map (with_name e) (take i names)) visits members → StepsTaken rows base above left start (done ++ steps_of e) visits members
-  names_end start visits done e names i members is over d =
-      subst (λ (steps : List Step). StepsTaken rows base above left start steps visits members) (ap (λ (ns : List Chars). done ++ map (with_name e) ns) (take_all i names over ∙ is)) d
 
   -- ---- properties in a row
 
@@ -100,34 +57,7 @@ module _ (rows : List Placed) (base : Chars) (above : Visit) (left : ℕ) where
       ∙ ap (λ (x : Placed). (steps_in (take i es) ++ steps_of x) ++ steps_in (drop (i + 1) es)) (sym is) in
       subst (λ (steps : List Step). FaultIs start (visits_in rows base above left steps) fault) (sym all)
       (fault_stays rows base above left start (steps_in (take i es) ++ steps_of e) (steps_in (drop (i + 1) es)) fault f)
-
-  pub property_on : (start after : ℕ) (es : List Placed) (i : ℕ) (e : Placed) (members : Members) → i < length es → e ≡ get_or es i e
-      → StepsTaken rows base above left start (steps_in (take i es) ++ steps_of e) after members → StepsTaken rows base above left start (steps_in (take (i + 1) es)) after members
-  property_on start after es i e members lt is d = subst (λ (steps : List Step). StepsTaken rows base above left start steps after members) (sym (steps_one es i e lt is)) d
-
-  pub properties_end : (start visits : ℕ) (es : List Placed) (i : ℕ) (members : Members) → length es ≤ i → StepsTaken rows base above left start (steps_in (take i es)) visits members
-      → NoFault start (visits_in rows base above left (steps_in es)) visits × (members ≡ grouped_in rows base above left (steps_in es))
-  properties_end start visits es i members over d =
-      let all = subst (λ (xs : List Placed). StepsTaken rows base above left start (steps_in xs) visits members) (take_all i es over) d in (all.no_fault, all.grouped)
-
   -- ---- a value
-
-  pub value_item : (e : Placed) (before after : ℕ) (r : Result Value Stop) → is_item e ≡ true
-      → Finds before (visits_from (properties_in rows) (suc left) above e) after (λ value. view value ≡ json_of_item (properties_in rows) base left e) r
-      → Finds before (visits_of rows base above left e) after (λ value. view value ≡ data_of rows base above left e) r
-  value_item e before after r item f =
-      let Found : Bool → Type 0 = λ b.
-      Finds before (elim b as (λ item. List Visit) [ true ↦ visits_from (properties_in rows) (suc left) above e | false ↦ [] ]) after
-      (λ value. view value ≡ elim b as (λ item. Data) [ true ↦ json_of_item (properties_in rows) base left e | false ↦ string_of (said base e.facts.value) ]) r in
-      subst Found (sym item) f
-
-  pub value_plain : (e : Placed) (before : ℕ) (value : Value) → is_item e ≡ false → view value ≡ string_of (said base e.facts.value)
-      → NoFault before (visits_of rows base above left e) before × (view value ≡ data_of rows base above left e)
-  value_plain e before value plain is =
-      let Found : Bool → Type 0 = λ b.
-      NoFault before (elim b as (λ item. List Visit) [ true ↦ visits_from (properties_in rows) (suc left) above e | false ↦ [] ]) before
-      × (view value ≡ elim b as (λ item. Data) [ true ↦ json_of_item (properties_in rows) base left e | false ↦ string_of (said base e.facts.value) ]) in
-      subst Found (sym plain) (none_at_all before, is)
 
 -- the row that a place of the list stands for
 pub record RowAt (rows es : List Placed) (i place : ℕ) : Type 0 where
@@ -267,9 +197,3 @@ module _ (rows : List Placed) (base : Chars) (above : Visit) (root : Placed) (ro
     where
       sum : (b m a n k : ℕ) → m ≡ b + 1 → a ≡ m + k → n ≡ suc k → a ≡ b + n
       sum b m a n k e f g = omega (arith, e, f, g)
-
-  pub json_is : (value : Data) (own : Chars) → own ≡ base → value ≡ item_of own root.facts (map (pair_of rows base (root ∷ above) room) (steps_in (properties_in rows root)))
-      → value ≡ json_of_item (properties_in rows) base (suc room) root
-  json_is value own same is =
-      is ∙ ap (λ (b : Chars). item_of b root.facts (map (pair_of rows base (root ∷ above) room) (steps_in (properties_in rows root)))) same
-      ∙ ap (item_of base root.facts) (steps_pairs rows base (root ∷ above) room (properties_in rows root))

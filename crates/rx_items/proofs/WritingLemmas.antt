@@ -1,78 +1,66 @@
--- The tokens of an item and of a page, part by part.
-use Rattle.std.proofs.Common.{◌≡◌, ◌∙◌, ◌+◌, ◌-◌, ◌<◌, ◌≤◌, ℕ, zero, suc, Bool, true, false, true≢false, ◌==◌, encode_utf8_all, List, [], ◌∷◌, ◌++◌, map, filter, length, take, get_or, codes, Option, Some, None, refl, sym, ap, subst, arith, append_assoc, append-nil}
+-- The events of an item and of a page, part by part.
+use Rattle.std.proofs.Common.{◌≡◌, ◌∙◌, ◌+◌, ◌-◌, ◌<◌, ◌≤◌, ℕ, zero, suc, Bool, true, false, true≢false, ◌==◌, encode_utf8_all, List, [], ◌∷◌, ◌++◌, map, filter, length, take, drop, drop-cons, drop_of_length-le, get_or, codes, Option, Some, None, refl, sym, ap, arith, append_assoc, append-nil}
 use Rattle.std.specs.Prelude.{flat_map, slice_get, OnOk, Result, Ok, Err}
 use Rattle.std.proofs.lemmas.List.{take_all}
-use Rattle.json.specs.Token.{Token}
+use Rattle.serde.specs.Event as event
+use Rattle.serde.specs.Event.{Event, Log, Logs}
+use Rattle.serde.specs.declared.name.Case.TheVariants.{AsIs}
 use Rattle.serde_json.specs.Data.{Data, array, object, item, Items, Members, no_members, member}
 use Rattle.serde_json.specs.View.{items_of}
-use Rattle.rx_json_text.specs.Tokens.{data_tokens, members_tokens, each_tokens}
-use Rattle.rx_json_text.proofs.TokenLemmas.{each_turn, group_made}
+use Rattle.rx_json.specs.Events.{Grows, data_events, members_events, each_events}
+use Rattle.rx_json.proofs.GrowLemmas.{one, none, both, told_as, each_more, object_made, array_made}
 use Rattle.rx_terms.specs.Text.{Chars}
+use Rattle.rx_refs.specs.Resolve.{resolved}
 use Rattle.rx_microdata.specs.Facts.{Facts, said}
 use Rattle.rx_microdata.specs.Elements.{Placed, is_item, is_top_level}
 use Rattle.rx_microdata.specs.Json.{string_of, list_of, with_id, with_types, item_of, grouped, named, json_of_item}
 use Rattle.rx_item_table.specs.Rows.{properties_in}
-use Rattle.rx_item_properties.specs.Held.{AllStand}
+use Rattle.rx_item_properties.specs.Held.{AllStand, OfRows}
+use Rattle.rx_item_properties.specs.declared.kept.Kept.{Kept}
 use Rattle.rx_items.specs.Expanding.{data_of}
-use Rattle.rx_items.specs.Named.{keys_in, value_if, value_at, grouped_at}
-use Rattle.rx_items.specs.Pages.{top_data}
+use Rattle.rx_items.specs.Named.{keys_in, key_seen, keys_seen, opening, ending, events_behind, value_behind, value_if, value_at, grouped_at}
+use Rattle.rx_items.specs.declared.named.Named.{Named}
+use Rattle.rx_items.specs.Pages.{page_data, top_data}
 use Rattle.rx_items.proofs.NameLemmas.{keys_grouped}
 use Rattle.rx_items.proofs.PageLemmas.{row_data, all_data}
-
-pub then_ok : {X E P Q : Type 0} (r : Result X E) → (P → Q) → OnOk r P → OnOk r Q
-then_ok (Ok x) f p = f p
-then_ok (Err e) f p = p
 
 pub same_list : (ds : List Data) → items_of ds ≡ list_of ds
 same_list [] = refl
 same_list (d ∷ ds) = ap (item d) (same_list ds)
 
--- ---- an object
-
-regroup : (o b t e : List Token) → ((o ++ b) ++ t) ++ e ≡ o ++ (b ++ (t ++ e))
-regroup o b t e = append_assoc (o ++ b) t e ∙ append_assoc o b (t ++ e)
-
-pub object_made : (old begun each new ts : List Token) (ms : Members) → begun ≡ old ++ Token.begin_object ∷ [] → each ≡ begun ++ ts → ts ≡ members_tokens ms → new ≡ each ++ Token.end_object ∷ []
-    → new ≡ old ++ data_tokens (object ms)
-object_made old begun each new ts ms b e is n =
-    n ∙ ap (λ us. us ++ Token.end_object ∷ []) (e ∙ ap (λ us. us ++ ts) b) ∙ regroup old (Token.begin_object ∷ []) ts (Token.end_object ∷ [])
-    ∙ ap (λ us. old ++ Token.begin_object ∷ (us ++ Token.end_object ∷ [])) is
-
 -- ---- an item
 
-id_first : (base : Chars) (id : Option Chars) (more : Members) → members_tokens (with_id base id more) ≡ members_tokens (with_id base id no_members) ++ members_tokens more
+id_first : (base : Chars) (id : Option Chars) (more : Members) → members_events (with_id base id more) ≡ members_events (with_id base id no_members) ++ members_events more
 id_first base None more = refl
 id_first base (Some reference) more = refl
 
-parts : (a k d t : List Token) → ((a ++ k) ++ d) ++ t ≡ a ++ (k ++ (d ++ t))
-parts a k d t = append_assoc (a ++ k) d t ∙ append_assoc a k (d ++ t)
-
--- behind the first bracket: the id, the name of the properties, these, and the types
-pub item_made : (old begun first keyed group last new : List Token) (base : Chars) (root : Facts) (pairs : List (Chars × Data)) (ms : Members) → begun ≡ old ++ Token.begin_object ∷ []
-    → first ≡ begun ++ members_tokens (with_id base root.item_id no_members) → keyed ≡ first ++ Token.key (codes "properties") ∷ []
-    → group ≡ keyed ++ data_tokens (object ms) → ms ≡ grouped pairs → last ≡ group ++ members_tokens (with_types root.types no_members) → new ≡ last ++ Token.end_object ∷ []
-    → new ≡ old ++ data_tokens (item_of base root pairs)
-item_made old begun first keyed group last new base root pairs ms b i k g is t n =
-    let id = members_tokens (with_id base root.item_id no_members) in
-    let types = members_tokens (with_types root.types no_members) in
-    let props = data_tokens (object (grouped pairs)) in
-    let name : List Token = Token.key (codes "properties") ∷ [] in
-    let all : last ≡ begun ++ (id ++ (name ++ (props ++ types))) =
-    t ∙ ap (λ us. us ++ types) (g ∙ (λ j. k j ++ data_tokens (object (is j)))) ∙ parts first name props types ∙ ap (λ us. us ++ (name ++ (props ++ types))) i ∙ append_assoc begun id (name ++ (props ++ types)) in
-    object_made old begun last new (id ++ (name ++ (props ++ types))) (with_id base root.item_id (member (codes "properties") (object (grouped pairs)) (with_types root.types no_members))) b all
-    (sym (id_first base root.item_id (member (codes "properties") (object (grouped pairs)) (with_types root.types no_members)))) n
+-- behind the mark of the object: the id, the name of the properties, these, and the types
+pub item_made : {old begun first keyed group last new : Log} (base : Chars) (root : Facts) (pairs : List (Chars × Data)) (ms : Members) → Logs old begun (event.map_begins None)
+    → Grows begun first (members_events (with_id base root.item_id no_members)) → Logs first keyed (event.field_key (codes "properties") AsIs)
+    → Grows keyed group (data_events (object ms)) → ms ≡ grouped pairs → Grows group last (members_events (with_types root.types no_members)) → Logs last new event.map_ends
+    → Grows old new (data_events (item_of base root pairs))
+item_made {old} {begun} {first} {keyed} {group} {last} {new} base root pairs ms b i k g is t e =
+    let id = members_events (with_id base root.item_id no_members) in
+    let types = members_events (with_types root.types no_members) in
+    let props = data_events (object (grouped pairs)) in
+    let more : Members = member (codes "properties") (object (grouped pairs)) (with_types root.types no_members) in
+    let told : Grows keyed group props = told_as (data_events (object ms)) props (ap (λ (m : Members). data_events (object m)) is) g in
+    let inside = both i (both (one first keyed (event.field_key (codes "properties") AsIs) k) (both told t)) in
+    object_made (id ++ event.field_key (codes "properties") AsIs ∷ (props ++ types)) (with_id base root.item_id more) (sym (id_first base root.item_id more)) b inside e
 
 -- an item that is not too deep
-pub item_told : (rows : List Placed) (base own : Chars) (left : ℕ) (old begun first keyed group last new : List Token) (root : Placed) → (left ≡ 0 → ⊥) → AllStand rows (properties_in rows root)
-    → own ≡ base → begun ≡ old ++ Token.begin_object ∷ [] → first ≡ begun ++ members_tokens (with_id own root.facts.item_id no_members) → keyed ≡ first ++ Token.key (codes "properties") ∷ []
-    → group ≡ keyed ++ data_tokens (object (grouped_at rows base (left - 1) (keys_in (properties_in rows root))))
-    → last ≡ group ++ members_tokens (with_types root.facts.types no_members) → new ≡ last ++ Token.end_object ∷ [] → new ≡ old ++ data_tokens (json_of_item (properties_in rows) base left root)
-item_told rows base own left old begun first keyed group last new root some stand same b i k g t n =
+pub item_told : {old begun first keyed group last new : Log} (rows : List Placed) (base own : Chars) (left : ℕ) (root : Placed) → (left ≡ 0 → ⊥) → AllStand rows (properties_in rows root)
+    → own ≡ base → Logs old begun (event.map_begins None) → Grows begun first (members_events (with_id own root.facts.item_id no_members)) → Logs first keyed (event.field_key (codes "properties") AsIs)
+    → Grows keyed group (data_events (object (grouped_at rows base (left - 1) (keys_in (properties_in rows root)))))
+    → Grows group last (members_events (with_types root.facts.types no_members)) → Logs last new event.map_ends → Grows old new (data_events (json_of_item (properties_in rows) base left root))
+item_told {old} {begun} {first} {keyed} {group} {last} {new} rows base own left root some stand same b i k g t e =
     let next : left ≡ suc (left - 1) = by left some in
-    subst (λ (m : ℕ). new ≡ old ++ data_tokens (json_of_item (properties_in rows) base m root)) (sym next)
-    (item_made old begun first keyed group last new base root.facts (flat_map (λ (e : Placed). named e (data_of rows base [] (left - 1) e)) (properties_in rows root))
-    (grouped_at rows base (left - 1) (keys_in (properties_in rows root))) b (i ∙ ap (λ (o : Chars). begun ++ members_tokens (with_id o root.facts.item_id no_members)) same) k g
-    (keys_grouped rows base (left - 1) (properties_in rows root) stand) t n)
+    let id : Grows begun first (members_events (with_id base root.facts.item_id no_members)) = told_as (members_events (with_id own root.facts.item_id no_members)) _ (ap (λ (o : Chars). members_events (with_id o root.facts.item_id no_members)) same) i in
+    told_as (data_events (json_of_item (properties_in rows) base (suc (left - 1)) root)) (data_events (json_of_item (properties_in rows) base left root))
+    (ap (λ (m : ℕ). data_events (json_of_item (properties_in rows) base m root)) (sym next))
+    (item_made base root.facts (flat_map (λ (e : Placed). named e (data_of rows base [] (left - 1) e)) (properties_in rows root))
+    (grouped_at rows base (left - 1) (keys_in (properties_in rows root))) b id k g
+    (keys_grouped rows base (left - 1) (properties_in rows root) stand) t e)
   where
     by : (n : ℕ) → (n ≡ 0 → ⊥) → n ≡ suc (n - 1)
     by zero some = absurd (some refl)
@@ -81,22 +69,23 @@ item_told rows base own left old begun first keyed group last new root some stan
 -- ---- types
 
 -- where there are some
-pub types_told : (texts : List Chars) → (length texts ≡ 0 → ⊥) → Token.key (codes "type") ∷ data_tokens (array (items_of (map string_of texts))) ≡ members_tokens (with_types texts no_members)
+types_told : (texts : List Chars) → (length texts ≡ 0 → ⊥) → event.field_key (codes "type") AsIs ∷ data_events (array (items_of (map string_of texts))) ≡ members_events (with_types texts no_members)
 types_told [] some = absurd (some refl)
 types_told (text ∷ texts) some =
-    ap (λ (is : Items). Token.key (codes "type") ∷ data_tokens (array is)) (same_list (map string_of (text ∷ texts)))
-    ∙ ap (λ us. Token.key (codes "type") ∷ us) (sym (append-nil (data_tokens (array (list_of (map string_of (text ∷ texts)))))))
+    ap (λ (is : Items). event.field_key (codes "type") AsIs ∷ data_events (array is)) (same_list (map string_of (text ∷ texts)))
+    ∙ ap (λ us. event.field_key (codes "type") AsIs ∷ us) (sym (append-nil (data_events (array (list_of (map string_of (text ∷ texts)))))))
 
-pub several_made : (old keyed begun each new : List Token) (texts : List Chars) → (length texts ≡ 0 → ⊥) → keyed ≡ old ++ Token.key (codes "type") ∷ [] → begun ≡ keyed ++ Token.begin_array ∷ []
-    → each ≡ begun ++ each_tokens (map string_of texts) → new ≡ each ++ Token.end_array ∷ [] → new ≡ old ++ members_tokens (with_types texts no_members)
-several_made old keyed begun each new texts some k b e n =
-    group_made old keyed begun each new (codes "type") (map string_of texts) k b e n ∙ ap (λ us. old ++ us) (types_told texts some)
+pub several_made : {old begun each new : Log} (keyed : Log) (texts : List Chars) → (length texts ≡ 0 → ⊥) → Logs old keyed (event.field_key (codes "type") AsIs) → Logs keyed begun (event.seq_begins None)
+    → Grows begun each (each_events (map string_of texts)) → Logs each new event.seq_ends → Grows old new (members_events (with_types texts no_members))
+several_made {old} {begun} {each} {new} keyed texts some k b g e =
+    told_as (event.field_key (codes "type") AsIs ∷ data_events (array (items_of (map string_of texts)))) (members_events (with_types texts no_members)) (types_told texts some)
+    (both (one old keyed (event.field_key (codes "type") AsIs) k) (array_made (map string_of texts) b g e))
 
 -- ---- a value
 
 module _ (rows : List Placed) (base : Chars) (left place : ℕ) where
-  pub value_none : slice_get rows place ≡ None → data_tokens (value_at rows base left place) ≡ Token.null ∷ []
-  value_none row = ap (λ (o : Option Placed). data_tokens (value_if rows base left o)) row
+  pub value_none : slice_get rows place ≡ None → event.nothing ∷ [] ≡ data_events (value_at rows base left place)
+  value_none row = sym (ap (λ (o : Option Placed). data_events (value_if rows base left o)) row)
 
   abbrev value_when : Placed → Bool → Data
   value_when e b = elim b as (λ item. Data) [ true ↦ json_of_item (properties_in rows) base left e | false ↦ string_of (said base e.facts.value) ]
@@ -107,42 +96,87 @@ module _ (rows : List Placed) (base : Chars) (left place : ℕ) where
   pub value_plain : (e : Placed) → slice_get rows place ≡ Some e → is_item e ≡ false → string_of (said base e.facts.value) ≡ value_at rows base left place
   value_plain e row is = sym (ap (value_if rows base left) row ∙ ap (value_when e) is)
 
-pub data_told : (old new : List Token) (d e : Data) → d ≡ e → new ≡ old ++ data_tokens d → new ≡ old ++ data_tokens e
-data_told old new d e same is = is ∙ ap (λ (x : Data). old ++ data_tokens x) same
+pub data_told : {old new : Log} (d e : Data) → d ≡ e → Grows old new (data_events d) → Grows old new (data_events e)
+data_told d e same is = told_as (data_events d) (data_events e) (ap data_events same) is
 
 -- ---- a page
 
-pub page_made : (old begun keyed opened each closed new : List Token) (ds : List Data) → begun ≡ old ++ Token.begin_object ∷ [] → keyed ≡ begun ++ Token.key (codes "items") ∷ [] → opened ≡ keyed ++ Token.begin_array ∷ []
-    → each ≡ opened ++ each_tokens ds → closed ≡ each ++ Token.end_array ∷ [] → new ≡ closed ++ Token.end_object ∷ [] → new ≡ old ++ data_tokens (object (member (codes "items") (array (list_of ds)) no_members))
-page_made old begun keyed opened each closed new ds b k o e c n =
-    object_made old begun closed new (Token.key (codes "items") ∷ data_tokens (array (items_of ds))) (member (codes "items") (array (list_of ds)) no_members) b
-    (group_made begun keyed opened each closed (codes "items") ds k o e c)
-    (ap (λ (is : Items). Token.key (codes "items") ∷ data_tokens (array is)) (same_list ds) ∙ ap (λ us. Token.key (codes "items") ∷ us) (sym (append-nil (data_tokens (array (list_of ds)))))) n
+pub page_made : {old opened each new : Log} (begun keyed closed : Log) (ds : List Data) → Logs old begun (event.map_begins None) → Logs begun keyed (event.field_key (codes "items") AsIs) → Logs keyed opened (event.seq_begins None)
+    → Grows opened each (each_events ds) → Logs each closed event.seq_ends → Logs closed new event.map_ends → Grows old new (data_events (object (member (codes "items") (array (list_of ds)) no_members)))
+page_made {old} {opened} {each} {new} begun keyed closed ds b k o g c e =
+    object_made (event.field_key (codes "items") AsIs ∷ data_events (array (items_of ds))) (member (codes "items") (array (list_of ds)) no_members)
+    (ap (λ (is : Items). event.field_key (codes "items") AsIs ∷ data_events (array is)) (same_list ds) ∙ ap (λ us. event.field_key (codes "items") AsIs ∷ us) (sym (append-nil (data_events (array (list_of ds))))))
+    b (both (one begun keyed (event.field_key (codes "items") AsIs) k) (array_made ds o g c)) e
 
 module _ (rows : List Placed) (base : Chars) where
   abbrev data_when : Placed → Bool → List Data
   data_when e b = elim b as (λ top. List Data) [ true ↦ json_of_item (properties_in rows) base 40 e ∷ [] | false ↦ [] ]
 
-  pub top_nothing : (e : Placed) (old : List Token) → is_top_level e ≡ false → old ≡ old ++ each_tokens (top_data rows base e)
-  top_nothing e old plain = sym (append-nil old) ∙ ap (λ b. old ++ each_tokens (data_when e b)) (sym plain)
+  pub top_nothing : (e : Placed) (log : Log) → is_top_level e ≡ false → Grows log log (each_events (top_data rows base e))
+  top_nothing e log plain = told_as [] (each_events (top_data rows base e)) (ap (λ b. each_events (data_when e b)) (sym plain)) (none log)
 
-  pub top_told : (e : Placed) (old new : List Token) → is_top_level e ≡ true → new ≡ old ++ data_tokens (json_of_item (properties_in rows) base 40 e) → new ≡ old ++ each_tokens (top_data rows base e)
-  top_told e old new top is =
-      is ∙ ap (λ us. old ++ us) (sym (append-nil (data_tokens (json_of_item (properties_in rows) base 40 e)))) ∙ ap (λ b. old ++ each_tokens (data_when e b)) (sym top)
+  pub top_told : {old new : Log} (e : Placed) → is_top_level e ≡ true → Grows old new (data_events (json_of_item (properties_in rows) base 40 e)) → Grows old new (each_events (top_data rows base e))
+  top_told e top g =
+      told_as (data_events (json_of_item (properties_in rows) base 40 e)) (each_events (top_data rows base e))
+      (sym (append-nil (data_events (json_of_item (properties_in rows) base 40 e))) ∙ ap (λ b. each_events (data_when e b)) (sym top)) g
 
-  pub tops_on : (start old new : List Token) (i : ℕ) (e : Placed) → i < length rows → e ≡ get_or rows i e → old ≡ start ++ each_tokens (flat_map (top_data rows base) (take i rows))
-      → new ≡ old ++ each_tokens (top_data rows base e) → new ≡ start ++ each_tokens (flat_map (top_data rows base) (take (i + 1) rows))
-  tops_on start old new i e lt is was turn =
-      each_turn start old new (flat_map (top_data rows base) (take i rows)) (top_data rows base e) (flat_map (top_data rows base) (take (i + 1) rows)) was turn (sym (row_data rows base i e lt is))
+  pub tops_on : {start old new : Log} (i : ℕ) (e : Placed) → i < length rows → e ≡ get_or rows i e → Grows start old (each_events (flat_map (top_data rows base) (take i rows)))
+      → Grows old new (each_events (top_data rows base e)) → Grows start new (each_events (flat_map (top_data rows base) (take (i + 1) rows)))
+  tops_on i e lt is was turn =
+      told_as (each_events (flat_map (top_data rows base) (take i rows)) ++ each_events (top_data rows base e)) (each_events (flat_map (top_data rows base) (take (i + 1) rows)))
+      (sym (each_more (flat_map (top_data rows base) (take i rows)) (top_data rows base e)) ∙ ap each_events (sym (row_data rows base i e lt is))) (both was turn)
 
-  pub tops_told : (start new : List Token) (i : ℕ) → length rows ≤ i → new ≡ start ++ each_tokens (flat_map (top_data rows base) (take i rows))
-      → new ≡ start ++ each_tokens (map (json_of_item (properties_in rows) base 40) (filter is_top_level rows))
-  tops_told start new i over is = is ∙ ap (λ (ps : List Placed). start ++ each_tokens (flat_map (top_data rows base) ps)) (take_all i rows over) ∙ ap (λ (ds : List Data). start ++ each_tokens ds) (all_data rows base rows)
+  pub tops_told : {start new : Log} (i : ℕ) → length rows ≤ i → Grows start new (each_events (flat_map (top_data rows base) (take i rows)))
+      → Grows start new (each_events (map (json_of_item (properties_in rows) base 40) (filter is_top_level rows)))
+  tops_told i over g =
+      told_as (each_events (flat_map (top_data rows base) (take i rows))) (each_events (map (json_of_item (properties_in rows) base 40) (filter is_top_level rows)))
+      (ap (λ (ps : List Placed). each_events (flat_map (top_data rows base) ps)) (take_all i rows over) ∙ ap each_events (all_data rows base rows)) g
 
 -- ---- texts
 
-pub text_told : (old new : List Token) (text : List ℕ) (chars : Chars) → text ≡ encode_utf8_all chars → new ≡ old ++ Token.string text ∷ [] → new ≡ old ++ data_tokens (string_of chars)
-text_told old new text chars same is = is ∙ ap (λ (t : List ℕ). old ++ Token.string t ∷ []) same
+pub text_told : {old new : Log} (text : List ℕ) (chars : Chars) → text ≡ encode_utf8_all chars → Logs old new (event.text text) → Grows old new (data_events (string_of chars))
+text_told {old} {new} text chars same l = told_as (event.text text ∷ []) (data_events (string_of chars)) (ap (λ (t : List ℕ). event.text t ∷ []) same) (one old new (event.text text) l)
+
+-- what is left of a list, from a place on
+pub cut : {X : Type 0} (xs : List X) (i : ℕ) (x : X) → i < length xs → drop i xs ≡ get_or xs i x ∷ drop (i + 1) xs
+cut xs i x lt = let next : suc i ≡ i + 1 = omega arith in drop-cons xs i x lt ∙ ap (λ (n : ℕ). get_or xs i x ∷ drop n xs) next
+
+-- texts in a row: one more is written, and none is left
+pub texts_turn : (texts : List Chars) (i : ℕ) (text other : Chars) → i < length texts → text ≡ get_or texts i other → data_events (string_of text) ++ each_events (map string_of (drop (i + 1) texts)) ≡ each_events (map string_of (drop i texts))
+texts_turn texts i text other lt is =
+    ap (λ (t : Chars). data_events (string_of t) ++ each_events (map string_of (drop (i + 1) texts))) is ∙ sym (ap (λ (ts : List Chars). each_events (map string_of ts)) (cut texts i other lt))
+
+pub texts_end : (texts : List Chars) (i : ℕ) → length texts ≤ i → each_events (map string_of (drop i texts)) ≡ []
+texts_end texts i over = ap (λ (ts : List Chars). each_events (map string_of ts)) (drop_of_length-le texts over)
 
 pub not_none : {X : Type 0} (xs : List X) (empty : Bool) → empty ≡ (length xs == 0) → empty ≡ false → length xs ≡ 0 → ⊥
 not_none xs empty is full none = true≢false (sym (is ∙ ap (λ n. n == 0) none) ∙ full)
+
+-- ---- the members of an item's properties
+
+module _ (rows : List Placed) (base : Chars) (left : ℕ) (list : List Named) (i : ℕ) where
+  -- one more is written
+  pub member_turn : (d : Named) (before : Option (List ℕ)) → i < length list
+      → value_behind rows base left before (key_seen (get_or list i d)) ++ events_behind rows base left (Some (get_or list i d).name.now) (keys_seen (drop (i + 1) list)) ≡ events_behind rows base left before (keys_seen (drop i list))
+  member_turn d before lt =
+      append_assoc (opening before (get_or list i d).name.now) (data_events (value_at rows base left (get_or list i d).place)) _
+      ∙ sym (ap (λ (l : List Named). events_behind rows base left before (keys_seen l)) (cut list i d lt))
+
+  -- none is left
+  pub member_end : (before : Option (List ℕ)) → length list ≤ i → ending before ≡ events_behind rows base left before (keys_seen (drop i list))
+  member_end before over = sym (ap (λ (l : List Named). events_behind rows base left before (keys_seen l)) (drop_of_length-le list over))
+
+-- ---- what is so of whatever rows are held
+
+pub of_all : {X E : Type 0} (kept : Kept) (old new : Log) (r : Result X E) → OfRows kept (λ rows base. OnOk r (Grows old new (data_events (page_data rows base))))
+    → OnOk r (OfRows kept (λ rows base. Grows old new (data_events (page_data rows base))))
+of_all kept old new (Ok x) all = all
+of_all kept old new (Err e) all = tt
+
+-- ---- an id
+
+pub id_told : {old named new : Log} (base : Chars) (text token : Chars) → text ≡ token → Logs old named (event.field_key (codes "id") AsIs) → Grows named new (data_events (string_of (resolved base text)))
+    → Grows old new (members_events (with_id base (Some token) no_members))
+id_told {old} {named} {new} base text token same k g =
+    told_as (event.field_key (codes "id") AsIs ∷ data_events (string_of (resolved base text))) (members_events (with_id base (Some token) no_members))
+    (ap (λ (t : Chars). event.field_key (codes "id") AsIs ∷ data_events (string_of (resolved base t))) same) (both (one old named (event.field_key (codes "id") AsIs) k) g)

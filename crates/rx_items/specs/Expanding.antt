@@ -1,7 +1,7 @@
 -- The visits of an item's properties, one after another, and the JSON that they come to.
 use Rattle.std.specs.Prelude.{◌≡◌, ⊤, ℕ, zero, suc, ◌+◌, true, false, ◌==◌, nat_le, List, [], ◌∷◌, ◌++◌, map, flat_map, length, Option, Some, None, Result, Ok, Err, if◌then◌else◌}
 use Rattle.std.specs.List.{list_any}
-use Rattle.serde_json.specs.Data.{Data, Members}
+use Rattle.serde_json.specs.Data.{Data}
 use Rattle.rx_terms.specs.Text.{Chars}
 use Rattle.rx_grammar.specs.declared.faults.Fault.{Fault}
 use Rattle.rx_grammar.specs.declared.faults.Kind.{Kind}
@@ -11,7 +11,7 @@ use Rattle.rx_grammar.specs.declared.stops.Stop.TheVariants as stop
 use Rattle.rx_microdata.specs.Facts.{said}
 use Rattle.rx_microdata.specs.Elements.{Placed, is_item, names_of}
 use Rattle.rx_microdata.specs.Visits.{Visit, visits_from, standard_bounds, first_fault}
-use Rattle.rx_microdata.specs.Json.{string_of, json_of_item, grouped, refused, Refused}
+use Rattle.rx_microdata.specs.Json.{string_of, json_of_item, refused, Refused}
 use Rattle.rx_item_table.specs.Rows.{properties_in}
 use Rattle.rx_item_properties.specs.Held.{HoldsRows}
 use Rattle.rx_item_properties.specs.declared.kept.Kept.{Kept}
@@ -94,23 +94,6 @@ module _ (rows : List Placed) (base : Chars) (above : Visit) (left : ℕ) where
 
   abbrev pub visits_in : List Step → List Visit
   visits_in steps = flat_map (λ (s : Step). visits_of s.element) steps
-
-  abbrev pub pair_of : Step → Chars × Data
-  pair_of s = (s.name, data_of s.element)
-
-  abbrev pub grouped_in : List Step → Members
-  grouped_in steps = grouped (map pair_of steps)
-
-module _ (rows : List Placed) (base : Chars) (above : Visit) (left : ℕ) where
-  -- these steps were taken without a fault, and their values stand under their names
-  pub record StepsTaken (start : ℕ) (steps : List Step) (visits : ℕ) (members : Members) : Type 0 where
-    pub no_fault : NoFault start (visits_in rows base above left steps) visits
-    pub grouped : members ≡ grouped_in rows base above left steps
-
-  -- these steps are taken, or the first fault is told
-  abbrev pub TakesSteps : ℕ → List Step → ℕ → Members → Result (Unit {0}) Stop → Type 0
-  TakesSteps start steps visits group (Ok x) = StepsTaken start steps visits group
-  TakesSteps start steps visits group (Err why) = HasFault start (visits_in rows base above left steps) why
 
 -- a visit begins, or is refused
 abbrev pub Enters : Trail → Trail → Element → ℕ → Result (Unit {0}) Stop → Type 0

@@ -1,12 +1,14 @@
--- The properties of an item under each of their names, in tree order and by name, and the tokens that they come to.
+-- The properties of an item under each of their names, in tree order and by name, and the events that they come to.
 use denote.Ref.{Bor}
 use Rattle.std.specs.Prelude.{◌≡◌, ℕ, Bool, true, false, List, [], ◌∷◌, ◌++◌, map, flat_map, slice_get, Option, Some, None, option_map, bytes_eq, encode_utf8_all, if◌then◌else◌}
 use Rattle.std.specs.Ordering.{is_lt, nat_cmp}
 use Rattle.std.specs.Cmp.Lexicographic.{slice_cmp}
 use Rattle.std.specs.List.Sorted.{IsSortedBy, IsStableBy}
-use Rattle.json.specs.Token.{Token}
+use Rattle.serde.specs.Event as event
+use Rattle.serde.specs.Event.{Event}
+use Rattle.serde.specs.declared.name.Case.TheVariants.{AsIs}
 use Rattle.serde_json.specs.Data.{Data, Members, null, no_members, object}
-use Rattle.rx_json_text.specs.Tokens.{data_tokens}
+use Rattle.rx_json.specs.Events.{data_events}
 use Rattle.rx_terms.specs.Text.{Chars}
 use Rattle.rx_microdata.specs.Elements.{Placed, is_item, names_of}
 use Rattle.rx_microdata.specs.Json.{json_of_item, with_value}
@@ -63,13 +65,13 @@ name_seen name = option_map (λ n. n.now) name
 
 -- What stands before a value of this name, behind the values of the name before: nothing where that is the same, else the
 -- end of those values, and the name.
-abbrev pub opening : Option (List ℕ) → List ℕ → List Token
-opening None name = Token.key name ∷ Token.begin_array ∷ []
-opening (Some before) name = if bytes_eq before name then [] else Token.end_array ∷ Token.key name ∷ Token.begin_array ∷ []
+abbrev pub opening : Option (List ℕ) → List ℕ → List Event
+opening None name = event.field_key name AsIs ∷ event.seq_begins None ∷ []
+opening (Some before) name = if bytes_eq before name then [] else event.seq_ends ∷ event.field_key name AsIs ∷ event.seq_begins None ∷ []
 
-abbrev pub ending : Option (List ℕ) → List Token
+abbrev pub ending : Option (List ℕ) → List Event
 ending None = []
-ending (Some before) = Token.end_array ∷ []
+ending (Some before) = event.seq_ends ∷ []
 
 -- what is so of the row at a place
 abbrev pub OfRow : Kept → ℕ → (List Placed → Chars → Placed → Type 0) → Type 0
@@ -107,11 +109,11 @@ module _ (rows : List Placed) (base : Chars) (left : ℕ) where
   abbrev pub properties_data : Placed → Data
   properties_data root = object (grouped_at (keys_in (properties_in rows root)))
 
-  -- the tokens of a value, behind the values of the name before
-  abbrev pub value_behind : Option (List ℕ) → Key → List Token
-  value_behind before key = opening before key.0 ++ data_tokens (value_at key.1)
+  -- the events of a value, behind the values of the name before
+  abbrev pub value_behind : Option (List ℕ) → Key → List Event
+  value_behind before key = opening before key.0 ++ data_events (value_at key.1)
 
-  -- the tokens of values one behind another, behind the values of the name before
-  abbrev pub tokens_behind : Option (List ℕ) → List Key → List Token
-  tokens_behind before [] = ending before
-  tokens_behind before (key ∷ keys) = opening before key.0 ++ (data_tokens (value_at key.1) ++ tokens_behind (Some key.0) keys)
+  -- the events of values one behind another, behind the values of the name before
+  abbrev pub events_behind : Option (List ℕ) → List Key → List Event
+  events_behind before [] = ending before
+  events_behind before (key ∷ keys) = opening before key.0 ++ (data_events (value_at key.1) ++ events_behind (Some key.0) keys)

@@ -1,5 +1,5 @@
 -- The top-level items of a page, one after another, and what they come to.
-use Rattle.std.specs.Prelude.{◌≡◌, ⊤, ℕ, true, false, List, [], ◌∷◌, ◌++◌, map, filter, flat_map, take, slice_get, Some, None, Vec, Result, Ok, Err}
+use Rattle.std.specs.Prelude.{◌≡◌, ⊤, ℕ, true, false, List, [], ◌∷◌, map, filter, slice_get, Some, None, Vec, Result, Ok, Err}
 use Rattle.std.specs.declared.alloc.Global.{Global}
 use Rattle.serde_json.specs.Data.{Data}
 use Rattle.serde_json.specs.View.{view}
@@ -14,7 +14,7 @@ use Rattle.rx_microdata.specs.Json.{Outcome, Given, Refused, json_by, json_of_it
 use Rattle.rx_item_table.specs.Rows.{properties_in}
 use Rattle.rx_item_properties.specs.Held.{HoldsRows}
 use Rattle.rx_item_properties.specs.declared.kept.Kept.{Kept}
-use Rattle.rx_items.specs.Expanding.{Finds, NoFault, HasFault}
+use Rattle.rx_items.specs.Expanding.{HasFault}
 use Rattle.rx_items.specs.declared.visits.Trail.{Trail}
 
 -- what is answered is this outcome, where there is memory
@@ -60,19 +60,3 @@ module _ (rows : List Placed) (base : Chars) where
 
   abbrev pub page_data : Data
   page_data = json_by (properties_in rows) base 40 (filter is_top_level rows)
-
-  -- the first so many rows were visited without a fault
-  pub record TopsDid (count visits : ℕ) (values : List Value) : Type 0 where
-    pub no_fault : NoFault 0 (flat_map top_visits (take count rows)) visits
-    pub data_is : map view values ≡ flat_map top_data (take count rows)
-
-  abbrev pub TopsGive : Result (Vec Value Global) Stop → Type 0
-  TopsGive (Ok values) =
-      (first_fault standard_bounds 0 (visits_by (properties_in rows) standard_bounds (filter is_top_level rows)) ≡ None)
-      × (map view values.items ≡ tops_data)
-  TopsGive (Err why) = HasFault 0 (visits_by (properties_in rows) standard_bounds (filter is_top_level rows)) why
-
--- a top-level item is visited, and its JSON stands behind that of those before
-abbrev pub AddsTop : Trail → List Value → Trail → List Value → Result (Unit {0}) Stop → List Placed → Chars → Placed → Type 0
-AddsTop old had new has result rows base e =
-    Finds old.visits (top_visits rows base e) new.visits (λ done. map view has ≡ map view had ++ top_data rows base e) result

@@ -1,21 +1,14 @@
 -- What is said of the steps of a visit: whatever rows are held, and on whatever path they are reached.
-use Rattle.std.specs.Prelude.{◌≡◌, ⊤, ℕ, suc, true, List, [], ◌∷◌, ◌++◌, slice_get, Some, Result, String, IfOk, encode_utf8_all}
-use Rattle.std.specs.BTreeMap.{BTreeMap}
-use Rattle.std.specs.declared.alloc.Global.{Global}
-use Rattle.serde_json.specs.Data.{Data, no_members}
-use Rattle.serde_json.specs.View.{members_view, view}
-use Rattle.serde_json.specs.declared.value.Value.{Value}
+use Rattle.std.specs.Prelude.{◌≡◌, ⊤, ℕ, suc, true, List, slice_get, Some, Result}
 use Rattle.rx_terms.specs.Text.{Chars}
-use Rattle.rx_terms.specs.declared.texts.NoMemory.{NoMemory}
 use Rattle.rx_grammar.specs.declared.stops.Stop.{Stop}
-use Rattle.rx_microdata.specs.Elements.{Placed, is_item, names_of}
+use Rattle.rx_microdata.specs.Elements.{Placed, is_item}
 use Rattle.rx_microdata.specs.Visits.{Visit, visits_from}
-use Rattle.rx_microdata.specs.Json.{grouped, item_of, json_of_item}
 use Rattle.rx_item_table.specs.Rows.{properties_in}
-use Rattle.rx_item_properties.specs.Held.{AllStand, IsElement, ShowsElement, places}
+use Rattle.rx_item_properties.specs.Held.{AllStand, IsElement, places}
 use Rattle.rx_item_properties.specs.declared.kept.Element.{Element}
 use Rattle.rx_item_properties.specs.declared.kept.Kept.{Kept}
-use Rattle.rx_items.specs.Expanding.{At, Finds, Step, StepsTaken, TakesSteps, again, data_of, grouped_in, steps_in, steps_of, visits_in, visits_of, with_name}
+use Rattle.rx_items.specs.Expanding.{At, Finds, again, steps_in, steps_of, visits_in}
 use Rattle.rx_items.specs.declared.visits.Trail.{Trail}
 
 -- what is so of the row at a place, whatever path the trail has walked
@@ -65,58 +58,3 @@ visits_again times rows base above left root = again times (visits_to rows base 
 abbrev pub Passes : {X : Type 0} → Trail → (List Placed → Chars → Visit → ℕ → X → List Visit) → Trail → Result (Unit {0}) Stop
     → List Placed → Chars → Visit → ℕ → X → Type 0
 Passes old visits new result rows base above left x = Finds old.visits (visits rows base above left x) new.visits (λ done. ⊤) result
-
--- an item is visited, and this is its JSON
-abbrev pub GivesItem : Trail → Trail → Result Value Stop → List Placed → Chars → Visit → ℕ → Placed → Type 0
-GivesItem old new result rows base above left root =
-    Finds old.visits (visits_to rows base above left root) new.visits (λ value. view value ≡ json_of_item (properties_in rows) base left root) result
-
--- the value of a property, which is visited where it is an item
-abbrev pub GivesValue : Trail → Trail → Result Value Stop → List Placed → Chars → Visit → ℕ → Placed → Type 0
-GivesValue old new result rows base above left e =
-    Finds old.visits (visits_of rows base above left e) new.visits (λ value. view value ≡ data_of rows base above left e) result
-
--- values under their names
-abbrev pub Group : Type 0
-Group = BTreeMap (String Global) Value
-
--- the values of an item's properties under their names
-abbrev pub GivesGroup : Trail → Trail → Result Group Stop → List Placed → Chars → Visit → ℕ → Placed → Type 0
-GivesGroup old new result rows base above left root =
-    Finds old.visits (visits_below rows base above left root) new.visits
-    (λ group. members_view group.entries ≡ grouped_in rows base above left (steps_in (properties_in rows root))) result
-
--- they are put into a group that had none
-abbrev pub FillsAll : Trail → Group → Trail → Group → Result (Unit {0}) Stop → List Placed → Chars → Visit → ℕ → List Placed → Type 0
-FillsAll old had new has result rows base above left es =
-    members_view had.entries ≡ no_members
-    → Finds old.visits (visits_among rows base above left es) new.visits
-    (λ done. members_view has.entries ≡ grouped_in rows base above left (steps_in es)) result
-
-abbrev pub FillsItem : Trail → Group → Trail → Group → Result (Unit {0}) Stop → List Placed → Chars → Visit → ℕ → Placed → Type 0
-FillsItem old had new has result rows base above left root = FillsAll old had new has result rows base above left (properties_in rows root)
-
--- values are put behind those of steps that were taken
-abbrev pub AddsSteps : List Step → Trail → Group → Trail → Group → Result (Unit {0}) Stop → List Placed → Chars → Visit → ℕ → Type 0
-AddsSteps steps old had new has result rows base above left =
-    (done : List Step) (start : ℕ) → StepsTaken rows base above left start done old.visits (members_view had.entries)
-    → TakesSteps rows base above left start (done ++ steps) new.visits (members_view has.entries) result
-
--- a property's values are, each under one of its names
-abbrev pub AddsProperty : Trail → Group → Trail → Group → Result (Unit {0}) Stop → List Placed → Chars → Visit → ℕ → Placed → Type 0
-AddsProperty old had new has result rows base above left e = AddsSteps (steps_of e) old had new has result rows base above left
-
--- the same where these are its names
-abbrev pub AddsNames : List Chars → Trail → Group → Trail → Group → Result (Unit {0}) Stop → List Placed → Chars → Visit → ℕ → Placed → Type 0
-AddsNames names old had new has result rows base above left e = names ≡ names_of e → AddsProperty old had new has result rows base above left e
-
--- its value is put under one name, which these bytes spell
-abbrev pub AddsNamed : List ℕ → Trail → Group → Trail → Group → Result (Unit {0}) Stop → List Placed → Chars → Visit → ℕ → Placed → Type 0
-AddsNamed name old had new has result rows base above left e =
-    (token : Chars) → name ≡ encode_utf8_all token → AddsSteps (with_name e token ∷ []) old had new has result rows base above left
-
--- the JSON of an item that an element shows, of values that stand under their names
-abbrev pub MakesItem : Kept → Element → Group → Result Value NoMemory → Type 0
-MakesItem kept element group result =
-    (root : Placed) (pairs : List (Chars × Data)) → ShowsElement kept.words kept.text kept.times.items element root
-    → members_view group.entries ≡ grouped pairs → IfOk result (λ value. view value ≡ item_of kept.base root.facts pairs)

@@ -1,11 +1,10 @@
 //! The items of a whole page.
 ghost use Rattle.rx_grammar.specs.Trees.{Tree};
-ghost use Rattle.rx_microdata.specs.Elements.{Placed, elements_of};
-ghost use Rattle.std.specs.Prelude.{List};
+ghost use Rattle.rx_microdata.specs.Elements.{elements_of};
 ghost use Rattle.rx_terms.specs.Text.{Chars};
 ghost use Rattle.rx_microdata.specs.Json.{outcome_of};
 ghost use Rattle.rx_microdata.specs.Visits.{standard_bounds};
-ghost use Rattle.rx_item_table.specs.Rows.{outcome_in, rows_of};
+ghost use Rattle.rx_item_table.specs.Rows.{rows_of};
 ghost use Rattle.rx_item_properties.specs.Held.{HoldsRows};
 ghost use Rattle.rx_items.specs.Pages.{JsonGives, TextGives};
 
@@ -48,8 +47,7 @@ impl Items {
     /// The JSON of the top-level items, with each item that is the value of a property in its place, or the fault of
     /// the first faulty visit: an item within itself, items nested beyond 40, or more than 100,000 item objects.
     pub fn json(&self, alloc: Global) -> Result<Value, Stop>
-        ensures rows { (rows : List Placed) (base : Chars) → HoldsRows self.now rows base → JsonGives (outcome_in standard_bounds base rows) result }
-        ensures tree { (tree : Tree) (base : Chars) → HoldsRows self.now (rows_of tree) base
+        ensures { (tree : Tree) (base : Chars) → HoldsRows self.now (rows_of tree) base
             → JsonGives (outcome_of standard_bounds (elements_of tree) base) result }
     {
         page_of(alloc, &self.kept)
@@ -58,8 +56,7 @@ impl Items {
     /// The compact text of that JSON, or the same fault. It is written piece by piece, so beside the text no more is in memory
     /// than the names and places of the properties of each item on one path.
     pub fn text(&self, alloc: Global) -> Result<Vec<u8>, Stop>
-        ensures rows { (rows : List Placed) (base : Chars) → HoldsRows self.now rows base → TextGives (outcome_in standard_bounds base rows) result }
-        ensures tree { (tree : Tree) (base : Chars) → HoldsRows self.now (rows_of tree) base
+        ensures { (tree : Tree) (base : Chars) → HoldsRows self.now (rows_of tree) base
             → TextGives (outcome_of standard_bounds (elements_of tree) base) result }
     {
         text_of(alloc, &self.kept)

@@ -1,13 +1,17 @@
 //! The properties of an item under each of their names, by name.
+ghost use Rattle.std.specs.Str.{encode_utf8_all};
 ghost use Rattle.std.specs.Prelude.{◌≡◌, ◌∷◌, ◌++◌, [], map, flat_map, IfOk, OnOk};
 ghost use Rattle.std.specs.List.Sorted.{IsSortedBy, IsStableBy};
+ghost use Rattle.rx_terms.specs.Text.{Chars};
 ghost use Rattle.rx_item_table.specs.Rows.{properties_in};
+ghost use Rattle.rx_item_table.specs.Showing.{ShowsPart};
 ghost use Rattle.rx_item_properties.specs.Held.{OfRows};
 ghost use Rattle.rx_items.specs.Named.{ByName, OfItem, is_before, key_at, keyed, keys_at, keys_in, keys_seen};
 
-use crate::readings::token_at;
 use rx_item_properties::{Element, Kept, Tokens, listed, names_at, properties};
+use rx_item_table::{Span, text_of};
 use rx_terms::{NoMemory, Text};
+use rx_values::TextStore;
 use std::alloc::Global;
 
 /// A property under one of its names.
@@ -112,4 +116,11 @@ fn add_name<'a>(list: &mut Vec<Named<'a>>, name: &'a str, place: usize) -> Resul
 {
     list.push(Named { name, place })?;
     Ok(())
+}
+
+/// The token that stands there in what is kept of tags.
+fn token_at(words: &TextStore, span: Span) -> &str
+    ensures { (token : Chars) → ShowsPart words.now span token → result.now ≡ encode_utf8_all token }
+{
+    text_of(words, span)
 }

@@ -1,8 +1,8 @@
-//! What stands beside an item's properties, and values that are no items, as tokens.
-ghost use Rattle.std.specs.Prelude.{◌≡◌, ◌∷◌, ◌++◌, [], slice_get, unwrap_or, map, OnOk};
+//! What stands beside an item's properties, and values that are no items, as serde writes them.
+ghost use Rattle.std.specs.Prelude.{◌∷◌, [], slice_get, unwrap_or, map, OnOk};
 ghost use Rattle.std.specs.Str.{chars};
 ghost use Rattle.serde_json.specs.Data.{no_members};
-ghost use Rattle.rx_json_text.specs.Tokens.{data_tokens, each_tokens, members_tokens};
+ghost use Rattle.rx_json.specs.Events.{Grows, data_events, each_events, members_events};
 ghost use Rattle.rx_refs.specs.Resolve.{resolved};
 ghost use Rattle.rx_microdata.specs.Facts.{said};
 ghost use Rattle.rx_microdata.specs.Json.{string_of, with_id, with_types};
@@ -11,35 +11,39 @@ ghost use Rattle.rx_items.specs.Objects.{OfTokens, OfValue};
 
 use rx_item_properties::{Kept, Tokens};
 use rx_item_table::{RowValue, Span, text_of};
-use rx_json_text::JsonText;
 use rx_refs::resolve;
-use rx_terms::{Iri, NoMemory, Text};
+use rx_terms::{Iri, Text};
 use rx_values::TextStore;
+use serde::Serializer;
 use std::alloc::Global;
 
+/// What a serializer is told where there is no memory left.
+pub(crate) const OUT_OF_MEMORY: &str = "out of memory";
+
 /// Writes the member of an item's id, where it has one.
-pub(crate) fn write_id(
+pub(crate) fn write_id<S: Serializer>(
     alloc: Global,
     kept: &Kept,
     item_id: Option<Span>,
-    out: &mut JsonText,
-) -> Result<(), NoMemory>
-    ensures { OfWord kept.now.words item_id (λ id. OnOk result (out.new ≡ out.old ++ members_tokens (with_id kept.now.base id no_members))) }
+    out: &mut S,
+) -> Result<(), S::Error>
+    ensures { OfWord kept.now.words item_id (λ id. OnOk result (Grows (S.written out.old) (S.written out.new) (members_events (with_id kept.now.base id no_members)))) }
 {
     let Some(span) = item_id else {
         return Ok(());
     };
     out.key("id")?;
-    write_reference(alloc, &kept.base, text_of(&kept.words, span), out)
+    let reference = text_of(&kept.words, span);
+    write_reference(alloc, &kept.base, reference, out)
 }
 
 /// Writes the member of an item's types, where it has any.
-pub(crate) fn write_types(
+pub(crate) fn write_types<S: Serializer>(
     words: &TextStore,
     types: &Tokens<'_>,
-    out: &mut JsonText,
-) -> Result<(), NoMemory>
-    ensures { OfTokens words.now types.now (λ texts. OnOk result (out.new ≡ out.old ++ members_tokens (with_types texts no_members))) }
+    out: &mut S,
+) -> Result<(), S::Error>
+    ensures { OfTokens words.now types.now (λ texts. OnOk result (Grows (S.written out.old) (S.written out.new) (members_events (with_types texts no_members)))) }
 {
     match types {
         Tokens::One(span) => write_type(text_of(words, *span), out),
@@ -47,30 +51,30 @@ pub(crate) fn write_types(
     }
 }
 
-fn write_type(text: &str, out: &mut JsonText) -> Result<(), NoMemory>
-    ensures { OnOk result (out.new ≡ out.old ++ members_tokens (with_types (chars text.now ∷ []) no_members)) }
+fn write_type<S: Serializer>(text: &str, out: &mut S) -> Result<(), S::Error>
+    ensures { OnOk result (Grows (S.written out.old) (S.written out.new) (members_events (with_types (chars text.now ∷ []) no_members))) }
 {
     out.key("type")?;
-    out.begin_array()?;
+    out.begin_seq(None)?;
     write_text(text, out)?;
-    out.end_array()
+    out.end_seq()
 }
 
-fn write_several(texts: &[Text], out: &mut JsonText) -> Result<(), NoMemory>
-    ensures { OnOk result (out.new ≡ out.old ++ members_tokens (with_types texts.now no_members)) }
+fn write_several<S: Serializer>(texts: &[Text], out: &mut S) -> Result<(), S::Error>
+    ensures { OnOk result (Grows (S.written out.old) (S.written out.new) (members_events (with_types texts.now no_members))) }
 {
     if texts.is_empty() {
         return Ok(());
     }
     out.key("type")?;
-    out.begin_array()?;
+    out.begin_seq(None)?;
     write_texts(texts, out)?;
-    out.end_array()
+    out.end_seq()
 }
 
 /// Writes each text as a string.
-fn write_texts(texts: &[Text], out: &mut JsonText) -> Result<(), NoMemory>
-    ensures { OnOk result (out.new ≡ out.old ++ each_tokens (map string_of texts.now)) }
+fn write_texts<S: Serializer>(texts: &[Text], out: &mut S) -> Result<(), S::Error>
+    ensures { OnOk result (Grows (S.written out.old) (S.written out.new) (each_events (map string_of texts.now))) }
 {
     for text in texts {
         write_text(text.as_str(), out)?;
@@ -79,13 +83,13 @@ fn write_texts(texts: &[Text], out: &mut JsonText) -> Result<(), NoMemory>
 }
 
 /// Writes the value of an element that is no item.
-pub(crate) fn write_plain(
+pub(crate) fn write_plain<S: Serializer>(
     alloc: Global,
     kept: &Kept,
     value: RowValue,
-    out: &mut JsonText,
-) -> Result<(), NoMemory>
-    ensures { OfValue kept.now value (λ v. OnOk result (out.new ≡ out.old ++ data_tokens (string_of (said kept.now.base v)))) }
+    out: &mut S,
+) -> Result<(), S::Error>
+    ensures { OfValue kept.now value (λ v. OnOk result (Grows (S.written out.old) (S.written out.new) (data_events (string_of (said kept.now.base v))))) }
 {
     match value {
         RowValue::Empty => write_text("", out),
@@ -100,8 +104,8 @@ pub(crate) fn write_plain(
 }
 
 /// Writes the child text content of a `time`, by its number.
-fn write_own(times: &[TextStore], number: usize, out: &mut JsonText) -> Result<(), NoMemory>
-    ensures { OnOk result (out.new ≡ out.old ++ data_tokens (string_of (unwrap_or (slice_get times.now number) []))) }
+fn write_own<S: Serializer>(times: &[TextStore], number: usize, out: &mut S) -> Result<(), S::Error>
+    ensures { OnOk result (Grows (S.written out.old) (S.written out.new) (data_events (string_of (unwrap_or (slice_get times.now number) [])))) }
 {
     match times.get(number) {
         Some(time) => write_text(time.since(0), out),
@@ -110,21 +114,23 @@ fn write_own(times: &[TextStore], number: usize, out: &mut JsonText) -> Result<(
 }
 
 /// Writes what a reference is resolved to.
-fn write_reference(
+fn write_reference<S: Serializer>(
     alloc: Global,
     base: &Iri,
     reference: &str,
-    out: &mut JsonText,
-) -> Result<(), NoMemory>
-    ensures { OnOk result (out.new ≡ out.old ++ data_tokens (string_of (resolved base.now (chars reference.now)))) }
+    out: &mut S,
+) -> Result<(), S::Error>
+    ensures { OnOk result (Grows (S.written out.old) (S.written out.new) (data_events (string_of (resolved base.now (chars reference.now))))) }
 {
-    let iri = resolve(alloc, base, reference)?;
-    out.string(iri.as_str())
+    let Ok(iri) = resolve(alloc, base, reference) else {
+        return Err(out.custom(OUT_OF_MEMORY));
+    };
+    write_text(iri.as_str(), out)
 }
 
 /// Writes the text as a string.
-fn write_text(text: &str, out: &mut JsonText) -> Result<(), NoMemory>
-    ensures { OnOk result (out.new ≡ out.old ++ data_tokens (string_of (chars text.now))) }
+fn write_text<S: Serializer>(text: &str, out: &mut S) -> Result<(), S::Error>
+    ensures { OnOk result (Grows (S.written out.old) (S.written out.new) (data_events (string_of (chars text.now)))) }
 {
-    out.string(text)
+    out.str(text)
 }

@@ -21,7 +21,7 @@ use Rattle.rx_shapes.specs.declared.shapes.Shape.{Shape}
 use Rattle.rx_nested.specs.Laws.{HaveShapes}
 use Rattle.rx_jsonld.specs.Lists.{is_cell_by, is_cell, may_list, cell_by, first_cell, cells_at, is_listed}
 use Rattle.rx_jsonld.specs.Value.{string_of, id_text, type_by, type_of, object_value, said_by, with_said}
-use Rattle.rx_json_text.specs.Members.{items_and, behind, with_last}
+use Rattle.rx_jsonld.specs.Members.{items_and, behind, with_last}
 use Rattle.rx_jsonld.specs.Document.{Object, Entry, Id, Types, Says, SpellsEach, SpellsArray, SpellsText, SpellsObject, SpellsEntry, SpellsEntries, id_in, ids}
 use Rattle.rx_jsonld.specs.Meaning.{cells_in, cells_in_all, cells_of, cells_of_all, node_of, object_triples, objects_triples, type_triple, entry_triples, entries_triples, Name, Label, Place}
 use Rattle.rx_jsonld.proofs.OneDocument.{id_is_no_iri, type_is_no_iri}

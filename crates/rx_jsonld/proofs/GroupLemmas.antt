@@ -23,7 +23,7 @@ use Rattle.rx_notation.specs.Laws.{IsWritable}
 use Rattle.rx_jsonld.specs.Groups.{key_by, key_of, value_by, value_said, value_at, values_at, grouped}
 use Rattle.rx_jsonld.specs.Places.{with_found}
 use Rattle.rx_jsonld.specs.Value.{id_text, string_of, type_of, said_by, with_said, with_all, node_value}
-use Rattle.rx_json_text.specs.Members.{items_and, with_last}
+use Rattle.rx_jsonld.specs.Members.{items_and, with_last}
 
 abbrev Group : Type 0
 Group = Bor (List ℕ) × Vec ℕ Global

@@ -6,6 +6,7 @@ pub mod Entries
 pub mod Docs
 pub mod Denotes
 pub mod PlaceLemmas
-pub mod MemberLemmas
-pub mod TokenLemmas
+pub mod LabelLemmas
+pub mod EventLemmas
+pub mod PlainLemmas
 pub mod GroupLemmas

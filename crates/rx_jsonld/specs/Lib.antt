@@ -1,3 +1,4 @@
+pub mod Members
 pub mod Lists
 pub mod Value
 pub mod Places

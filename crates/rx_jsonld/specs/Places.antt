@@ -1,5 +1,5 @@
 -- What the code works out by the places of triples in a list.
-use Rattle.std.specs.Prelude.{ℕ, nat_eq, Bool, false, not, ◌&&◌, List, [], ◌∷◌, bytes_eq, slice_get, Option, Some, None, if◌then◌else◌}
+use Rattle.std.specs.Prelude.{◌≡◌, ℕ, nat_eq, Bool, false, not, ◌&&◌, List, [], ◌∷◌, bytes_eq, slice_get, Option, Some, None, if◌then◌else◌}
 use Rattle.std.specs.Option.{option_or}
 use Rattle.serde_json.specs.Data.{Data, Members}
 use Rattle.rx_terms.specs.Text.{Chars}
@@ -7,6 +7,7 @@ use Rattle.rx_model.specs.Terms.{Node, Blank, Term, Triple}
 use Rattle.rx_graph.specs.Resources.{node_added}
 use Rattle.rx_shapes.specs.Shapes.{rdf_first, rdf_rest}
 use Rattle.rx_shapes.specs.Places.{places_of}
+use Rattle.rx_shapes.specs.Table.{Table, places_in}
 use Rattle.rx_shapes.specs.declared.shapes.Shape.{Shape}
 use Rattle.rx_jsonld.specs.declared.chains.Part.{Part}
 use Rattle.rx_jsonld.specs.declared.chains.Part.TheVariants as part
@@ -56,3 +57,7 @@ module _ (list : List (Triple ℕ)) (shapes : ℕ → Shape) where
   node_at place subject =
       if starts (places_of nat_eq list subject) place && not (is_listed shapes list subject) then node_value list shapes subject ∷ []
       else []
+
+-- the table has of every node the places of its triples
+abbrev pub PlacesAre : List (Triple ℕ) → Table → Type 0
+PlacesAre list table = (node : Node ℕ) → places_in table node ≡ places_of nat_eq list node

@@ -11,7 +11,7 @@ use Rattle.rx_pieces.specs.Writing.{blank_text}
 use Rattle.rx_shapes.specs.Shapes.{rdf_first, rdf_rest, rdf_nil}
 use Rattle.rx_shapes.specs.declared.shapes.Shape.{Shape}
 use Rattle.rx_notation.specs.Layout.{about, subjects}
-use Rattle.rx_json_text.specs.Members.{with_last}
+use Rattle.rx_jsonld.specs.Members.{with_last}
 use Rattle.rx_jsonld.specs.Lists.{object_at, chain, first_cell, cells_at, is_listed}
 
 -- ---- terms

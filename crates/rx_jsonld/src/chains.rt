@@ -3,9 +3,9 @@ ghost use Rattle.std.specs.Prelude.{◌≡◌, length, map, option_map, IfOk, sl
 ghost use Rattle.rx_model.specs.Terms as model;
 ghost use Rattle.rx_model.specs.Seen.{node_seen, term_seen, triple_seen, triples_seen};
 ghost use Rattle.rx_shapes.specs.Shapes.{rdf_rest};
-ghost use Rattle.rx_shapes.specs.Table.{AreShapes, shape_in};
+ghost use Rattle.rx_shapes.specs.Table.{shape_in};
 ghost use Rattle.rx_jsonld.specs.Lists.{blank_in, cell_by, cell_listed, chain, first_cell, is_cell, is_cell_by, may_hold_list, may_list, object_at};
-ghost use Rattle.rx_jsonld.specs.Places.{object_among, object_if, predicate_of};
+ghost use Rattle.rx_jsonld.specs.Places.{PlacesAre, object_among, object_if, predicate_of};
 
 use rx_graph::Graph;
 use rx_shapes::{Shape, Shapes, is_first, is_rest, is_type};
@@ -84,7 +84,7 @@ pub(crate) fn chain(
     shapes: &Shapes,
     first: Blank,
 ) -> Result<Vec<Blank>, NoMemory>
-    requires { AreShapes (triples_seen graph.now) shapes.now }
+    requires { PlacesAre (triples_seen graph.now) shapes.now }
     ensures { IfOk result (λ cells. map (λ b. b.0) cells.items ≡ chain (triples_seen graph.now) (length (triples_seen graph.now)) first.0) }
 {
     let mut cells = Vec::new(alloc);
@@ -100,7 +100,7 @@ pub(crate) fn chain(
 }
 
 fn cell_after(graph: &Graph, shapes: &Shapes, cell: Blank) -> Option<Blank>
-    requires { AreShapes (triples_seen graph.now) shapes.now }
+    requires { PlacesAre (triples_seen graph.now) shapes.now }
     ensures { option_map (λ b. b.0) result ≡ blank_in (object_at (triples_seen graph.now) (model.Blank cell.0) rdf_rest) }
 {
     blank_in(object_at(graph, shapes, cell, Part::Rest))
@@ -124,7 +124,7 @@ pub(crate) fn object_at<'a>(
     cell: Blank,
     part: Part,
 ) -> Option<&'a Term>
-    requires { AreShapes (triples_seen graph.now) shapes.now }
+    requires { PlacesAre (triples_seen graph.now) shapes.now }
     ensures { option_map (λ o. term_seen o.now) result ≡ object_at (triples_seen graph.now) (model.Blank cell.0) (predicate_of part) }
 {
     let node = Node::Blank(cell);

@@ -14,12 +14,9 @@ mod listed;
 mod nodes;
 mod objects;
 mod said;
-mod terms;
 mod texts;
-mod values;
 
-pub use texts::text;
-pub use values::value;
+pub use texts::{text, value};
 
 /// The worked examples hold.
 pub fn rows_hold()

@@ -4,9 +4,9 @@ ghost use Rattle.rx_model.specs.Sets.{distinct};
 ghost use Rattle.rx_model.specs.Terms.{same_triple};
 ghost use Rattle.rx_model.specs.Seen.{node_seen, triple_seen, triples_seen};
 ghost use Rattle.rx_notation.specs.Laws.{IsWritable};
-ghost use Rattle.rx_shapes.specs.Table.{AreShapes, shape_in};
+ghost use Rattle.rx_shapes.specs.Table.{shape_in};
 ghost use Rattle.rx_jsonld.specs.Lists.{cells_at, chain, is_listed, listed};
-ghost use Rattle.rx_jsonld.specs.Places.{nodes_added};
+ghost use Rattle.rx_jsonld.specs.Places.{PlacesAre, nodes_added};
 
 use crate::chains::{chain, first_cell};
 use rx_graph::{Graph, Nodes, Resource};
@@ -21,7 +21,7 @@ pub(crate) fn listed_cells<'a>(
     graph: &'a Graph,
     shapes: &Shapes,
 ) -> Result<Nodes<'a>, NoMemory>
-    requires { AreShapes (triples_seen graph.now) shapes.now }
+    requires { PlacesAre (triples_seen graph.now) shapes.now }
     ensures cells { IfOk result (λ cells. cells ≡ nodes_added [] (listed (shape_in shapes.now) (triples_seen graph.now))) }
     ensures once { IfOk result (λ cells. distinct (same_triple nat_eq) (triples_seen graph.now) ≡ triples_seen graph.now) }
     ensures writable { IfOk result (λ cells. IsWritable (triples_seen graph.now)) }
@@ -43,7 +43,7 @@ fn add_cells_at(
     triple: &Triple,
     cells: &mut Nodes,
 ) -> Result<(), NoMemory>
-    requires { AreShapes (triples_seen graph.now) shapes.now }
+    requires { PlacesAre (triples_seen graph.now) shapes.now }
     ensures { OnOk result (cells.new ≡ nodes_added cells.old (cells_at (shape_in shapes.now) (triples_seen graph.now) (triple_seen triple.now))) }
 {
     match first_cell(shapes, triple) {
@@ -59,7 +59,7 @@ fn add_chain(
     first: Blank,
     cells: &mut Nodes,
 ) -> Result<(), NoMemory>
-    requires { AreShapes (triples_seen graph.now) shapes.now }
+    requires { PlacesAre (triples_seen graph.now) shapes.now }
     ensures { OnOk result (cells.new ≡ nodes_added cells.old (chain (triples_seen graph.now) (length (triples_seen graph.now)) first.0)) }
 {
     let chain = chain(alloc, graph, shapes, first)?;

@@ -1,7 +1,9 @@
-use Rattle.std.proofs.Common.{◌≡◌, ◌++◌, drop, map}
-use Rattle.rx_json_text.specs.Tokens.{each_tokens}
+use Rattle.std.proofs.Common.{drop, map}
+use Rattle.rx_json.specs.Events.{each_events}
+use Rattle.rx_json.proofs.GrowLemmas.{Left}
 use Rattle.rx_microdata.specs.Json.{string_of}
 use Rattle.rx_items.proofs.parts.write_texts.Given as goal
 
 abbrev pub invariant-loop-text : goal.invariant-loop-text
-invariant-loop-text l = l.out ++ each_tokens (map string_of (drop l.text-index l.texts)) ≡ l.fn.out ++ each_tokens (map string_of l.texts)
+invariant-loop-text g l =
+    Left (g.S.Serializer.written l.fn.out) (g.S.Serializer.written l.out) (each_events (map string_of (drop l.text-index l.texts))) (each_events (map string_of l.texts))

@@ -1,6 +1,6 @@
-use Rattle.std.proofs.Common.{◌≡◌, ◌++◌, List, take}
+use Rattle.std.proofs.Common.{List, take}
 use Rattle.std.specs.Prelude.{flat_map}
-use Rattle.rx_json_text.specs.Tokens.{each_tokens}
+use Rattle.rx_json.specs.Events.{Grows, each_events}
 use Rattle.rx_terms.specs.Text.{Chars}
 use Rattle.rx_microdata.specs.Elements.{Placed}
 use Rattle.rx_item_properties.specs.Held.{HoldsRows}
@@ -8,4 +8,6 @@ use Rattle.rx_items.specs.Pages.{top_data}
 use Rattle.rx_items.proofs.writing.write_tops.Given as goal
 
 abbrev pub invariant-loop-place : goal.invariant-loop-place
-invariant-loop-place l = (rows : List Placed) (base : Chars) → HoldsRows l.kept rows base → l.out ≡ l.fn.out ++ each_tokens (flat_map (top_data rows base) (take l.place rows))
+invariant-loop-place g l =
+    (rows : List Placed) (base : Chars) → HoldsRows l.kept rows base
+    → Grows (g.S.Serializer.written l.fn.out) (g.S.Serializer.written l.out) (each_events (flat_map (top_data rows base) (take l.place rows)))

@@ -8,5 +8,5 @@ use Rattle.rx_jsonld.proofs.chains.object_at.Goals as goal
 pub returns : goal.returns
 returns c =
     c.object_among-found.ensures
-    ∙ ap (λ places. object_among (triples_seen c.args.graph.now) places (predicate_of c.args.part)) (c.places.ensures ∙ c.requires.places (model.Blank c.args.cell.0))
+    ∙ ap (λ places. object_among (triples_seen c.args.graph.now) places (predicate_of c.args.part)) (c.places.ensures ∙ c.requires (model.Blank c.args.cell.0))
     ∙ object_found (triples_seen c.args.graph.now) (model.Blank c.args.cell.0) (predicate_of c.args.part)

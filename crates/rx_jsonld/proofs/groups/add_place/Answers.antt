@@ -3,7 +3,7 @@ use Rattle.rx_model.specs.Seen.{triple_seen, triples_seen}
 use Rattle.rx_shapes.proofs.IndexLemmas.{seen_at}
 use Rattle.rx_jsonld.specs.Groups.{grouped}
 use Rattle.rx_jsonld.proofs.GroupLemmas.{found_under}
-use Rattle.rx_json_text.proofs.MemberLemmas.{then_ok}
+use Rattle.rx_json.proofs.GrowLemmas.{then_ok}
 use Rattle.rx_jsonld.proofs.groups.add_place.Goals as goal
 
 pub returns : goal.returns

@@ -1,9 +1,9 @@
 use denote.Ref.{Bor}
 use Rattle.std.proofs.Common.{◌≡◌, ◌∙◌, ℕ, List, Vec, Global, BTreeMap, ap, sym}
 use Rattle.rx_jsonld.specs.Groups.{grouped, places_under, value_at}
-use Rattle.rx_json_text.specs.Members.{with_last}
+use Rattle.rx_jsonld.specs.Members.{with_last}
 use Rattle.rx_jsonld.proofs.GroupLemmas.{put_behind}
-use Rattle.rx_json_text.proofs.MemberLemmas.{then_ok}
+use Rattle.rx_json.proofs.GrowLemmas.{then_ok}
 use Rattle.rx_jsonld.proofs.groups.put_place.Goals as goal
 
 pub returns-in-Some : goal.returns-in-Some

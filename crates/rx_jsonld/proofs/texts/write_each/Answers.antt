@@ -1,15 +1,15 @@
 use Rattle.std.proofs.Common.{refl, take}
 use Rattle.rx_model.specs.Seen.{node_seen, triples_seen}
 use Rattle.rx_shapes.specs.Table.{shape_in}
+use Rattle.rx_json.proofs.GrowLemmas.{each_turn}
 use Rattle.rx_jsonld.specs.Places.{node_at}
 use Rattle.rx_jsonld.proofs.PlaceLemmas.{nodes_until, node_turn}
-use Rattle.rx_json_text.proofs.TokenLemmas.{each_turn}
 use Rattle.rx_jsonld.proofs.texts.write_each.Goals as goal
 
 pub loop-i-preserved : goal.loop-i-preserved
-loop-i-preserved c =
+loop-i-preserved g c writable =
     let shapes = shape_in c.args.shapes.now in
     let i = c.loop-i.i in
     let front = nodes_until c.args.graph.now shapes (take i c.args.graph.now) in
-    each_turn c.args.out.now c.loop-i.out c.write_first.new.out front (node_at (triples_seen c.args.graph.now) shapes i (node_seen c.at.result.now.subject)) _ c.loop-i.invariant
-    c.in_ok-write_first.ensures (node_turn c.args.graph.now shapes i c.at.result.now front _ c.at.ensures refl refl)
+    each_turn front (node_at (triples_seen c.args.graph.now) shapes i (node_seen c.at.result.now.subject)) _ (node_turn c.args.graph.now shapes i c.at.result.now front _ c.at.ensures refl refl)
+    (c.loop-i.invariant writable) (c.in_ok-write_first.ensures writable)

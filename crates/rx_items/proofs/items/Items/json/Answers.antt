@@ -8,7 +8,7 @@ use Rattle.rx_items.specs.Pages.{JsonGives}
 use Rattle.rx_item_table.proofs.RowLaws.{rows_suffice}
 use Rattle.rx_items.proofs.items.Items.json.Goals as goal
 
-pub returns-clause-tree : goal.returns-clause-tree
-returns-clause-tree c tree base holds =
+pub returns : goal.returns
+returns c tree base holds =
     subst (λ (outcome : Outcome). JsonGives outcome c.page_of.result) (rows_suffice standard_bounds base tree)
     (c.page_of.ensures (rows_of tree) base (subst (λ (kept : Kept). HoldsRows kept (rows_of tree) base) (sym c.self.view_is) holds))

@@ -1,6 +1,0 @@
-use Rattle.std.proofs.Common.{◌∙◌, sym, ap, encode_utf8_all}
-use Rattle.std.proofs.lemmas.Str.{encodes-chars}
-use Rattle.rx_items.proofs.readings.token_at.Goals as goal
-
-pub returns : goal.returns
-returns c token stands = sym (encodes-chars c.text_of.result.now c.text_of.utf8) ∙ ap encode_utf8_all (c.text_of.ensures stands.front token stands.rest stands.is_run)

@@ -1,0 +1,13 @@
+use Rattle.std.proofs.Common.{[], filter, refl, arith}
+use Rattle.rx_microdata.specs.Elements.{is_top_level}
+use Rattle.rx_microdata.specs.Json.{json_by}
+use Rattle.rx_item_table.specs.Rows.{properties_in}
+use Rattle.rx_items.proofs.DepthLemmas.{json_within}
+use Rattle.rx_items.proofs.ReadLemmas.{json_plain}
+use Rattle.rx_items.proofs.writing.value.Goals as goal
+
+pub returns : goal.returns
+returns c rows base holds =
+    let top = filter is_top_level rows in
+    let within = json_within (properties_in rows) base 40 top in
+    c.value_of.ensures (json_by (properties_in rows) base 40 top) (json_plain (properties_in rows) base 40 top) (omega (arith, within)) (λ log w. w rows base holds [] refl)

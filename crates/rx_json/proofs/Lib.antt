@@ -1,0 +1,4 @@
+pub mod EventLemmas
+pub mod GrowLemmas
+pub mod PlainLemmas
+pub mod ReadLemmas

@@ -1,0 +1,12 @@
+use Rattle.std.proofs.Common.{[], refl}
+use Rattle.rx_model.specs.Seen.{triples_seen}
+use Rattle.rx_shapes.specs.Table.{shape_in}
+use Rattle.rx_jsonld.specs.Value.{jsonld}
+use Rattle.rx_jsonld.proofs.PlainLemmas.{value_plain}
+use Rattle.rx_jsonld.proofs.texts.spelled.Goals as goal
+
+pub returns : goal.returns
+returns c =
+    let list = triples_seen c.args.graph.now in
+    let shapes = shape_in c.args.shapes.now in
+    c.text_of.ensures (jsonld list shapes) (value_plain list shapes) (λ log w. w c.requires.writable [] refl)
