@@ -97,14 +97,14 @@ impl Key {
     }
 }
 
-/// A number of a few words of fixed size, each of which the hash of a text or a blank node's number makes.
+/// A number for what is hashed in one or two words: an IRI, by the SipHash that it keeps, a blank node, or a node.
 fn quick_hash_of<T: Hash>(part: &T) -> u64 {
     let mut hasher = FoldHasher::default();
     part.hash(&mut hasher);
     hasher.finish()
 }
 
-/// A number of at most eight bytes. Few of them have the same, since it is as long as they are.
+/// A number for at most eight bytes. Few of these have the same, since it is as long as they are.
 fn quick_hash_of_bytes(bytes: &[u8]) -> u64 {
     let mut hasher = FoldHasher::default();
     hasher.write(bytes);
