@@ -13,8 +13,10 @@
  * as many tries as GROUPS / WINDOW * 256.
  *
  * A SHAPE is what is hashed of the text: `label` the text as a label of a blank node; `list` the IRI `v:TEXT` as the
- * predicate of a list; `node` the same as a node; `quad` the same as the type that the subject SUBJECT has in the graph GRAPH,
- * and `triple` without the graph. A text has six characters.
+ * predicate of a list; `node` the same as a node; `quad` the same as the type that the subject SUBJECT has in the graph GRAPH.
+ * `triple` is that without the graph, in a set whose hashes begin with a key: the key of a page that says only that SUBJECT uses
+ * the vocabulary `v:`, and `copied` with that of one that says also that SUBJECT copies `v:none`. So these are the texts that meet
+ * under the key that the page has without them. A text has six characters.
  */
 #include <stdint.h>
 #include <stdio.h>
@@ -24,6 +26,8 @@
 #define GRAPH "http://localhost/"
 #define SUBJECT "http://localhost/"
 #define TYPE "http://www.w3.org/1999/02/22-rdf-syntax-ns#type"
+#define USES "http://www.w3.org/ns/rdfa#usesVocabulary"
+#define COPY "http://www.w3.org/ns/rdfa#copy"
 
 enum { TEXT = 6, TAG = 0x5A, LANES = 12, LOAD = 9 };
 
@@ -80,25 +84,51 @@ static uint64_t sip_of(const void *bytes, size_t length) {
     return ended(s, word, length);
 }
 
+__extension__ typedef unsigned __int128 wide;
+
 /* The quick hash, of eight bytes. */
 static inline uint64_t folded(uint64_t state, uint64_t word) {
-    unsigned __int128 product = (unsigned __int128)(state ^ word) * (0x9e3779b97f4a7c15 ^ 16);
+    wide product = (wide)(state ^ word) * (0x9e3779b97f4a7c15 ^ 16);
     return (uint64_t)product ^ (uint64_t)(product >> 64);
 }
 
-/* What is hashed before the text, for the shapes of triples. */
-static struct sip before_quad, before_triple;
+static const uint64_t quick = 0x243f6a8885a308d3;
 
-static struct sip before(struct sip s) {
-    s = fed(s, 0); /* the subject is an IRI */
-    s = fed(s, sip_of(SUBJECT, strlen(SUBJECT)));
-    s = fed(s, sip_of(TYPE, strlen(TYPE)));
-    return fed(s, 0); /* the object is an IRI */
+static uint64_t iri(const char *text) { return sip_of(text, strlen(text)); }
+
+/* The quick hash of a node or a term that is an IRI, behind what the state has taken. */
+static inline uint64_t resource(uint64_t state, uint64_t number) { return folded(folded(state, 0), number); }
+
+/* The state of a list's key with one more triple of IRIs. */
+static struct sip keyed(struct sip s, const char *subject, const char *predicate, const char *object) {
+    s = fed(s, resource(quick, iri(subject)));
+    s = fed(s, folded(quick, iri(predicate)));
+    return fed(s, folded(quick, iri(object)));
+}
+
+/* The number of a state. */
+static uint64_t key_of(struct sip s) {
+    s.v2 ^= 0xFF;
+    s = turn(turn(turn(s)));
+    return s.v0 ^ s.v1 ^ s.v2 ^ s.v3;
+}
+
+/* What is hashed before the text: of a quad, and of a triple by two keys. */
+static struct sip before_quad;
+static uint64_t before_triple, before_copied;
+
+static uint64_t before(struct sip list) {
+    uint64_t state = resource(folded(quick, key_of(list)), iri(SUBJECT));
+    return folded(folded(state, iri(TYPE)), 0); /* the object is an IRI */
 }
 
 static void prepare(void) {
-    before_quad = before(fed(initial, sip_of(GRAPH, strlen(GRAPH))));
-    before_triple = before(initial);
+    struct sip s = fed(initial, iri(GRAPH)), list = keyed(initial, SUBJECT, USES, "v:");
+    s = fed(s, 0); /* the subject is an IRI */
+    s = fed(fed(s, iri(SUBJECT)), iri(TYPE));
+    before_quad = fed(s, 0); /* the object is an IRI */
+    before_triple = before(list);
+    before_copied = before(keyed(list, SUBJECT, COPY, "v:none"));
 }
 
 /* The text's six bytes as the low ones of a word. */
@@ -111,11 +141,13 @@ static inline uint64_t number(uint64_t text) { return ended(fed(initial, text <<
 
 static inline uint64_t list(uint64_t text) { return ended(fed(initial, number(text)), 0, 8); }
 
-static inline uint64_t node(uint64_t text) { return folded(folded(0x243f6a8885a308d3, 0), number(text)); }
+static inline uint64_t node(uint64_t text) { return resource(quick, number(text)); }
 
 static inline uint64_t quad(uint64_t text) { return ended(fed(before_quad, number(text)), 0, 48); }
 
-static inline uint64_t triple(uint64_t text) { return ended(fed(before_triple, number(text)), 0, 40); }
+static inline uint64_t triple(uint64_t text) { return folded(before_triple, number(text)); }
+
+static inline uint64_t copied(uint64_t text) { return folded(before_copied, number(text)); }
 
 static uint32_t joined(uint64_t hash) { return (uint32_t)(hash ^ hash >> 32); }
 
@@ -123,7 +155,7 @@ static hash_of shape(const char *name) {
     static const struct {
         const char *name;
         hash_of hash;
-    } shapes[] = {{"label", label}, {"list", list}, {"node", node}, {"quad", quad}, {"triple", triple}};
+    } shapes[] = {{"label", label}, {"list", list}, {"node", node}, {"quad", quad}, {"triple", triple}, {"copied", copied}};
     for (size_t i = 0; i < sizeof shapes / sizeof *shapes; i++) {
         if (strcmp(name, shapes[i].name) == 0) return shapes[i].hash;
     }

@@ -6,9 +6,11 @@
     python3 bench/hashes.py --instructions --count 10000    # by callgrind (apt-get install valgrind)
 
 Each shape is a set of keys in the program: `label` has the labels of blank nodes, `list` the predicates of lists, `quad` the
-quads of several pages, `triple` the triples of a page that copies a pattern, `repeated` those of another page, each of which
-stands twice, and `node` the nodes of a text in Turtle or JSON-LD. The program finds them by a tree, so both pages should cost
-the same. bench/hashes.c finds texts that meet in a table like that of the kit's indexmap, and counts what that table would do.
+quads of several pages, and `node` the nodes of a text in Turtle or JSON-LD. The program finds these by a tree, so both pages
+should cost the same. `triple` has the triples of a page, `copied` those of one that copies a pattern, and `repeated` those of
+one where each stands twice. These are found in a table, by a key that hangs on all of them: they are chosen for the key that
+the page has without them, so that they'd meet if it stayed, and both pages should cost the same, too. bench/hashes.c finds
+texts that meet in a table like that of the kit's indexmap, and counts what that table would do.
 """
 
 import argparse
@@ -51,7 +53,8 @@ SHAPES = {
     "label": ("label", EXTRACT, labels, 100_000),
     "list": ("list", EXTRACT, predicates, 100_000),
     "quad": ("quad", ["many", ADDRESS], types, 100_000),
-    "triple": ("triple", EXTRACT, lambda texts: COPY + types(texts), 100_000),
+    "triple": ("triple", EXTRACT, types, 100_000),
+    "copied": ("copied", EXTRACT, lambda texts: COPY + types(texts), 100_000),
     "repeated": ("triple", EXTRACT, lambda texts: types(texts) + types(texts), 70_000),
     "node": ("node", ["extract", "--format", "jsonld", "--base", ADDRESS], nodes, 36_000),
 }

@@ -1,20 +1,15 @@
 -- The code's tests of equality are exact.
-use Rattle.std.proofs.Common.{◌≡◌, ◌↔◌, Bool, true, rules, nat_eq, sym, ap}
+use Rattle.std.proofs.Common.{◌≡◌, ◌↔◌, Bool, true, rules, nat_eq, sym}
 use Rattle.rx_terms.specs.declared.triples.Triple.{Triple as CodeTriple}
 use Rattle.rx_terms.specs.contracts.triples.TriplePartialEq.TheImpl as triple_eq
 use Rattle.rx_terms.specs.declared.triples.Blank.{Blank as CodeBlank}
 use Rattle.rx_terms.specs.contracts.triples.BlankPartialEq.TheImpl as blank_impl
 use Rattle.rx_graph.specs.declared.resources.Resource.{Resource}
 use Rattle.rx_graph.specs.contracts.resources.ResourcePartialEq.TheImpl as resource_impl
-use Rattle.rx_graph.specs.declared.firsts.Lent.{Lent}
-use Rattle.rx_graph.specs.contracts.firsts.LentPartialEq.TheImpl as lent_impl
 use Rattle.rx_graph.specs.Resources.{resource_seen}
-use Rattle.rx_graph.specs.Lent.{lent_seen}
 use Rattle.rx_model.specs.Sets.{IsExact}
-use Rattle.rx_model.specs.Terms.{same_node, same_triple}
-use Rattle.rx_model.proofs.Exact.{exact_numbers, exact_nodes, exact_triples}
-use Rattle.rx_model.proofs.Seen.{triple_tells}
-use Rattle.rx_model.specs.Seen.{triple_seen}
+use Rattle.rx_model.specs.Terms.{same_node}
+use Rattle.rx_model.proofs.Exact.{exact_numbers, exact_nodes}
 use Rattle.rx_terms.proofs.Bools.{same_truth}
 
 abbrev pub code_eq : CodeTriple → CodeTriple → Bool
@@ -39,16 +34,3 @@ pub resources_agree_back : (a b : Resource) → resource_eq a b ≡ same_node na
 resources_agree_back a b =
     let model = exact_nodes nat_eq exact_numbers (resource_seen b) (resource_seen a) in
     same_truth (resource_eq a b) (same_node nat_eq (resource_seen b) (resource_seen a)) (λ h. model.1 (sym ((exact_resource a b).0 h))) (λ h. (exact_resource a b).1 (sym (model.0 h)))
-
-abbrev pub lent_eq : Lent → Lent → Bool
-lent_eq = (lent_impl.ghosts).eq
-
-exact_lent : (a b : Lent) → (lent_eq a b ≡ true) ↔ (a.0.now ≡ b.0.now)
-exact_lent a b = search rules
-
-pub lents_agree_back : (a b : Lent) → lent_eq a b ≡ same_triple nat_eq (lent_seen b) (lent_seen a)
-lents_agree_back a b =
-    let model = exact_triples nat_eq exact_numbers (lent_seen b) (lent_seen a) in
-    same_truth (lent_eq a b) (same_triple nat_eq (lent_seen b) (lent_seen a))
-    (λ h. model.1 (ap triple_seen (sym ((exact_lent a b).0 h))))
-    (λ h. (exact_lent a b).1 (sym (triple_tells b.0.now a.0.now (model.0 h))))

@@ -80,6 +80,12 @@ pub given_once : (list now : List CodeTriple) → distinct (same_triple nat_eq) 
     → distinct (same_triple nat_eq) (triples_seen now) ≡ triples_seen now
 given_once list now once is = rw is (numbered_once (triples_seen list) once)
 
+pub relabelled : (graph set list now new : List CodeTriple) → list ≡ set → set ≡ graph → distinct (same_triple nat_eq) (triples_seen set) ≡ triples_seen set
+    → triples_seen now ≡ numbered nat_eq (triples_seen list) → triples_seen new ≡ distinct (same_triple nat_eq) (triples_seen now) → triples_seen new ≡ numbered nat_eq (triples_seen graph)
+relabelled graph set list now new is from once named made =
+    let here : distinct (same_triple nat_eq) (triples_seen list) ≡ triples_seen list = rw is once in
+    made ∙ given_once list now here named ∙ named ∙ ap (λ (z : List CodeTriple). numbered nat_eq (triples_seen z)) (is ∙ from)
+
 pub renamed_by : {E : Type 0} (list copy : List CodeTriple) (r : Result (List CodeTriple) E) → copy ≡ list → IfOk r (λ g. triples_seen g ≡ numbered nat_eq (triples_seen copy))
     → IfOk r (λ g. Renamed (set_of (triples_seen list)) (set_of (triples_seen g)))
 renamed_by list copy (Ok g) same is = rw (is ∙ ap (λ z. numbered nat_eq (triples_seen z)) same) (numbers_one_to_one nat_eq exact_numbers (triples_seen list))

@@ -1,5 +1,3 @@
-pub mod BitLemmas
-pub mod KeyLemmas
 pub mod SetLemmas
 pub mod CodeEq
 pub mod NumberLemmas
@@ -9,5 +7,5 @@ pub mod PlaceLemmas
 pub mod WayLemmas
 pub mod CopyLemmas
 pub mod NumberedLemmas
-pub mod FirstLemmas
 pub mod GivenLemmas
+pub mod RestLemmas

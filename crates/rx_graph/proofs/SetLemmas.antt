@@ -1,20 +1,20 @@
 -- Lists that grow by what they lack.
-use Rattle.std.proofs.Common.{◌≡◌, Bool, true, false, not, ◌||◌, List, [], ◌∷◌, ◌++◌, map, filter, refl, sym, ap, ap₂, ◌∙◌, inl, inr, true≢false, if◌then◌else◌, nat_eq, ℕ, append-nil, Result, Ok, Err, is_err, is_ok, IfOk, suc, ◌+◌, take, length, slice_get, slice_set, get_or, zero, ◌<◌, Option, None, Some, IfSome, arith}
+use Rattle.std.proofs.Common.{◌≡◌, Bool, true, false, not, ◌||◌, ◌&&◌, ◌≤◌, List, [], ◌∷◌, ◌++◌, map, filter, refl, sym, ap, ap₂, ◌∙◌, inl, inr, true≢false, if◌then◌else◌, nat_eq, ℕ, append-nil, Result, Ok, Err, is_err, is_ok, IfOk, suc, ◌+◌, take, length, slice_get, slice_set, get_or, zero, ◌<◌, Option, None, Some, IfSome, arith}
 use Rattle.std.proofs.Math.Seq.{take-suc}
 use Rattle.std.proofs.lemmas.Option.{slice_get_within, get_or_from_slice_get}
 use Rattle.std.specs.List.{IsDistinct, AllByRecursion, list_any}
 use Rattle.std.proofs.lemmas.List.Elements.{filter-append}
-use Rattle.std.proofs.lemmas.List.{map-append}
+use Rattle.std.proofs.lemmas.List.{map-append, length-map}
 use Rattle.rx_terms.proofs.Bools.{same_truth}
 use Rattle.rx_unique.specs.Unique.{insert_key}
 use Rattle.rx_terms.specs.declared.triples.Triple.{Triple as CodeTriple}
 use Rattle.rx_model.specs.Sets.{Among, IsExact, contains, distinct}
 use Rattle.rx_model.specs.Terms.{Triple, same_triple}
 use Rattle.rx_model.specs.Seen.{triple_seen, triples_seen}
-use Rattle.rx_model.proofs.Sets.{Among_of_distinct}
+use Rattle.rx_model.proofs.Sets.{Among_of_distinct, and_left, and_right}
 use Rattle.rx_model.proofs.Exact.{exact_numbers, exact_triples}
-use Rattle.rx_model.proofs.Seen.{triple_tells}
-use Rattle.rx_graph.specs.Graph.{added}
+use Rattle.rx_model.proofs.Seen.{triple_tells, list_tells}
+use Rattle.rx_graph.specs.Graph.{added, IsNumbered}
 use Rattle.rx_graph.specs.Rows.{pushed}
 
 -- ---- a set of the code and its list in the model
@@ -106,13 +106,6 @@ one_more list i a at =
 pub seen_more : (list : List CodeTriple) (i : ℕ) (t : CodeTriple) → slice_get list i ≡ Some t → triples_seen (take (i + 1) list) ≡ triples_seen (take i list) ++ triple_seen t ∷ []
 seen_more list i t at = ap triples_seen (one_more list i t at) ∙ map-append triple_seen (take i list) (t ∷ [])
 
-pub owned_turn : (list : List CodeTriple) (t : CodeTriple) (old new : List CodeTriple)
-    → triples_seen old ≡ distinct (same_triple nat_eq) (triples_seen list)
-    → triples_seen new ≡ added (triples_seen old) (triple_seen t)
-    → triples_seen new ≡ distinct (same_triple nat_eq) (triples_seen (list ++ t ∷ []))
-owned_turn list t old new before turn =
-    turn ∙ ap (λ z. added z (triple_seen t)) before ∙ graph_grows (triples_seen list) (triple_seen t) ∙ ap (distinct (same_triple nat_eq)) (sym (map-append triple_seen list (t ∷ [])))
-
 -- ---- where each stands once
 
 module _ {A B : Type 0} (seen : A → B) (eq : A → A → Bool) (same : B → B → Bool) (agrees : (a b : A) → eq a b ≡ same (seen a) (seen b)) where
@@ -160,3 +153,52 @@ pub row_grown : {V A E : Type 0} (items : V → List ℕ) (r : Result A E) (old 
     → items new ≡ (if is_ok r then items old ++ number ∷ [] else items old) → old ≡ row → items new ≡ items row ++ number ∷ []
 row_grown items (Ok a) old new row number e h k = h ∙ ap (λ z. items z ++ number ∷ []) k
 row_grown items (Err x) old new row number e h k = absurd (true≢false e)
+
+-- ---- a list that loses none
+
+filter_shorter : {A : Type 0} (p : A → Bool) (list : List A) → length (filter p list) ≤ length list
+filter_shorter p [] = omega arith
+filter_shorter p (x ∷ list) = go (p x) (filter_shorter p list)
+  where
+    go : (b : Bool) → length (filter p list) ≤ length list → length (if b then x ∷ filter p list else filter p list) ≤ suc (length list)
+    go true h = omega (arith, h)
+    go false h = omega (arith, h)
+
+filter_whole : {A : Type 0} (p : A → Bool) (list : List A) → length (filter p list) ≡ length list → filter p list ≡ list
+filter_whole p [] e = refl
+filter_whole p (x ∷ list) e = go (p x) (filter_shorter p list) (λ h. filter_whole p list h) e
+  where
+    go : (b : Bool) → length (filter p list) ≤ length list → (length (filter p list) ≡ length list → filter p list ≡ list)
+        → length (if b then x ∷ filter p list else filter p list) ≡ suc (length list) → (if b then x ∷ filter p list else filter p list) ≡ x ∷ list
+    go true h ih e = ap (λ z. x ∷ z) (ih (omega (arith, e)))
+    go false h ih e = absurd (omega (arith, h, e))
+
+module _ {A : Type 0} (same : A → A → Bool) where
+  distinct_shorter : (list : List A) → length (distinct same list) ≤ length list
+  distinct_shorter [] = omega arith
+  distinct_shorter (x ∷ list) =
+      let first : length (filter (λ y. not (same x y)) (distinct same list)) ≤ length (distinct same list) = filter_shorter (λ y. not (same x y)) (distinct same list) in
+      let rest : length (distinct same list) ≤ length list = distinct_shorter list in
+      omega (arith, first, rest)
+
+  distinct_whole : (list : List A) → length (distinct same list) ≡ length list → distinct same list ≡ list
+  distinct_whole [] e = refl
+  distinct_whole (x ∷ list) e =
+      let first : length (filter (λ y. not (same x y)) (distinct same list)) ≤ length (distinct same list) = filter_shorter (λ y. not (same x y)) (distinct same list) in
+      let rest : length (distinct same list) ≤ length list = distinct_shorter list in
+      let all : suc (length (filter (λ y. not (same x y)) (distinct same list))) ≡ suc (length list) = e in
+      ap (λ z. x ∷ z) (filter_whole (λ y. not (same x y)) (distinct same list) (omega (arith, first, rest, all)) ∙ distinct_whole list (omega (arith, first, rest, all)))
+
+-- where the graph of a list is as long as the list, its blank nodes are numbered if those of the list are
+pub still_numbered : (list set : List CodeTriple) (known whole : Bool) → triples_seen set ≡ distinct (same_triple nat_eq) (triples_seen list)
+    → (whole ≡ true → length set ≡ length list) → (known ≡ true → IsNumbered (triples_seen list)) → (known && whole) ≡ true → IsNumbered (triples_seen set)
+still_numbered list set known whole is long numbered both =
+    let as_long : length (distinct (same_triple nat_eq) (triples_seen list)) ≡ length (triples_seen list) =
+    ap length (sym is) ∙ length-map set triple_seen ∙ long (and_right known whole both) ∙ sym (length-map list triple_seen) in
+    rw (is ∙ distinct_whole (same_triple nat_eq) (triples_seen list) as_long) (numbered (and_left known whole both))
+
+-- ---- a copy
+
+pub copy_is : (list source graph : List CodeTriple) → triples_seen graph ≡ distinct (same_triple nat_eq) (triples_seen source) → source ≡ list
+    → distinct (same_triple nat_eq) (triples_seen list) ≡ triples_seen list → graph ≡ list
+copy_is list source graph is same once = list_tells graph list (is ∙ ap (λ z. distinct (same_triple nat_eq) (triples_seen z)) same ∙ once)

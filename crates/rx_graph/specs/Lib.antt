@@ -1,7 +1,5 @@
-pub mod Bits
 pub mod Graph
-pub mod Keys
-pub mod Lent
+pub mod Keyed
 pub mod Numbering
 pub mod Resources
 pub mod Rows

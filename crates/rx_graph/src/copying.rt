@@ -3,9 +3,11 @@ ghost use Rattle.std.specs.Prelude.{◌≡◌, IfOk, nat_eq};
 ghost use Rattle.rx_model.specs.Copied.{copied};
 ghost use Rattle.rx_model.specs.Seen.{triples_seen};
 
-use crate::gathering::Gathering;
 use crate::graphs::Graph;
+use crate::keyed::Keyed;
+use crate::keys::Key;
 use crate::patterns::Patterns;
+use crate::sets::TripleSet;
 use crate::walked::walk;
 use rx_terms::{NoMemory, TripleList};
 use std::alloc::Global;
@@ -18,19 +20,19 @@ pub fn copy_patterns(alloc: Global, triples: &TripleList) -> Result<Graph, NoMem
     ensures { IfOk result (λ graph. triples_seen graph ≡ copied nat_eq (triples_seen triples.now)) }
 {
     let patterns = Patterns::of(alloc, triples)?;
-    let mut gathering = Gathering::new(alloc);
+    let mut gathering = TripleSet::new(alloc, Keyed::by(Key::of(triples)));
     for i in 0..triples.len() {
         patterns.treat(alloc, triples.at(i), &mut gathering)?;
     }
-    Ok(gathering.into_graph())
+    Ok(Graph::of_set(gathering))
 }
 
 /// The same of a list that is handed over: no triple is copied where none has the predicate rdfa:copy.
 pub fn copy_patterns_owned(alloc: Global, triples: TripleList) -> Result<Graph, NoMemory>
     ensures { IfOk result (λ graph. triples_seen graph ≡ copied nat_eq (triples_seen triples)) }
 {
-    match walk(alloc, &triples)? {
-        Some(walked) => Graph::of_keyed(alloc, triples, &walked.keys, walked.is_numbered),
+    match walk(&triples) {
+        Some(walked) => Graph::of_keyed(alloc, triples, walked.keyed, walked.is_numbered),
         None => copy_patterns(alloc, &triples),
     }
 }

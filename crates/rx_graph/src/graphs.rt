@@ -1,13 +1,13 @@
 //! A graph.
-ghost use Rattle.std.specs.Prelude.{◌≡◌, ◌<◌, [], ◌∷◌, ◌++◌, length, IfOk, OnOk, Some, slice_get, ◌==◌, map, nat_eq, true, if◌then◌else◌};
+ghost use Rattle.std.specs.Prelude.{◌≡◌, ◌<◌, length, IfOk, Some, slice_get, ◌==◌, nat_eq, true};
 ghost use Rattle.rx_model.specs.Sets.{distinct};
 ghost use Rattle.rx_model.specs.Terms.{same_triple};
 ghost use Rattle.rx_model.specs.Seen.{triples_seen};
-ghost use Rattle.rx_graph.specs.Graph.{IsNumbered, first_marks};
-ghost use Rattle.rx_graph.specs.Keys.{key_of};
+ghost use Rattle.rx_graph.specs.Graph.{IsNumbered};
 
-use crate::firsts::first_marks;
-use crate::keys::keys_of;
+use crate::keyed::Keyed;
+use crate::keys::Key;
+use crate::sets::TripleSet;
 use rx_terms::{NoMemory, Triple, TripleList};
 use std::alloc::Global;
 use std::marker::Model;
@@ -16,7 +16,7 @@ use std::marker::Model;
 /// the list of its triples, each once.
 #[derive(Debug, Drop)]
 pub struct Graph {
-    triples: Vec<Triple>,
+    triples: TripleSet,
     /// Whether it is known that the blank nodes are 0, 1, 2 in order of first occurrence.
     is_numbered: bool,
 }
@@ -28,9 +28,9 @@ impl Model for Graph {
 
     ghost Value = { List Triple };
 
-    ghost view = { λ graph. graph.triples.items };
+    ghost view = { λ graph. graph.triples };
 
-    ghost invariant = { λ graph. IsGraph graph.triples.items graph.is_numbered };
+    ghost invariant = { λ graph. IsGraph graph.triples graph.is_numbered };
 }
 
 impl Graph {
@@ -45,37 +45,33 @@ impl Graph {
     pub fn of_owned(alloc: Global, triples: TripleList) -> Result<Graph, NoMemory>
         ensures { IfOk result (λ graph. triples_seen graph ≡ distinct (same_triple nat_eq) (triples_seen triples)) }
     {
-        let keys = keys_of(alloc, &triples)?;
-        Graph::of_keyed(alloc, triples, &keys, false)
+        let keyed = Keyed::by(Key::of(&triples));
+        Graph::of_keyed(alloc, triples, keyed, false)
     }
 
-    /// The same where the keys of the triples are at hand, and maybe that their blank nodes are numbered.
+    /// The same where the triples' key is at hand, and maybe that their blank nodes are numbered.
     pub(crate) fn of_keyed(
         alloc: Global,
         triples: TripleList,
-        keys: &[u64],
+        keyed: Keyed,
         is_numbered: bool,
     ) -> Result<Graph, NoMemory>
-        requires keys { keys.now ≡ map key_of triples }
         requires numbered { is_numbered ≡ true → IsNumbered (triples_seen triples) }
         ensures { IfOk result (λ graph. triples_seen graph ≡ distinct (same_triple nat_eq) (triples_seen triples)) }
     {
-        match first_marks(alloc, &triples, keys)? {
-            None => {
-                let triples = triples.into_vec();
-                Ok(Graph {
-                    triples,
-                    is_numbered,
-                })
-            }
-            Some(marks) => Ok(Graph::of_distinct(marked(alloc, triples, &marks)?)),
-        }
+        let count = triples.len();
+        let triples = TripleSet::of(alloc, triples.into_vec(), keyed)?;
+        // What stands twice has no new blank node, but only where none does it is known without a proof of that.
+        let is_whole = triples.len() == count;
+        Ok(Graph {
+            triples,
+            is_numbered: is_numbered & is_whole,
+        })
     }
 
-    /// The graph of triples of which none are alike.
-    pub(crate) fn of_distinct(triples: Vec<Triple>) -> Graph
-        requires { distinct (same_triple nat_eq) (triples_seen triples.items) ≡ triples_seen triples.items }
-        ensures { result ≡ triples.items }
+    /// The graph of these triples.
+    pub(crate) fn of_set(triples: TripleSet) -> Graph
+        ensures { result ≡ triples }
     {
         Graph {
             triples,
@@ -102,7 +98,7 @@ impl Graph {
     pub fn is_empty(&self) -> bool
         ensures { result ≡ (length self.now == 0) }
     {
-        self.triples.is_empty()
+        self.triples.len() == 0
     }
 
     /// The triple at a place below `len`, from 0.
@@ -110,24 +106,24 @@ impl Graph {
         requires { i < length self.now }
         ensures { slice_get self.now i ≡ Some result.now }
     {
-        &self.triples[i]
+        self.triples.at(i)
     }
 
     /// An equal graph.
     pub fn try_clone(&self, alloc: Global) -> Result<Graph, NoMemory>
         ensures { IfOk result (λ graph. graph ≡ self.now) }
     {
-        let mut triples = Vec::with_capacity(alloc, self.len())?;
+        let mut triples = TripleList::new(alloc);
         for i in 0..self.len() {
             triples.push(self.at(i).try_clone()?)?;
         }
-        Ok(Graph::of_distinct(triples))
+        let graph = Graph::of_owned(alloc, triples)?;
+        Ok(graph)
     }
 
-    /// The triples themselves, in order, without a copy.
-    pub(crate) fn into_vec(self) -> Vec<Triple>
-        ensures items { result.items ≡ self }
-        ensures each_once { distinct (same_triple nat_eq) (triples_seen result.items) ≡ triples_seen result.items }
+    /// The set of its triples.
+    pub(crate) fn into_set(self) -> TripleSet
+        ensures { result ≡ self }
     {
         self.triples
     }
@@ -142,28 +138,4 @@ fn copied(alloc: Global, triples: &TripleList) -> Result<TripleList, NoMemory>
         copied.push(triples.at(i).try_clone()?)?;
     }
     Ok(copied)
-}
-
-/// The triples that are the first of their kind, as the marks tell.
-fn marked(alloc: Global, triples: TripleList, marks: &[bool]) -> Result<Vec<Triple>, NoMemory>
-    requires { marks.now ≡ first_marks (triples_seen triples) }
-    ensures { IfOk result (λ marked. triples_seen marked.items ≡ distinct (same_triple nat_eq) (triples_seen triples)) }
-{
-    let mut marked = Vec::with_capacity(alloc, triples.len())?;
-    let mut place = 0;
-    for triple in triples.into_vec() {
-        push_first(&mut marked, triple, marks[place])?;
-        place += 1;
-    }
-    Ok(marked)
-}
-
-fn push_first(marked: &mut Vec<Triple>, triple: Triple, is_first: bool) -> Result<(), NoMemory>
-    ensures { OnOk result (marked.new.items ≡ (if is_first then marked.old.items ++ triple ∷ [] else marked.old.items)) }
-{
-    if !is_first {
-        return Ok(());
-    }
-    marked.push(triple)?;
-    Ok(())
 }

@@ -1,53 +1,112 @@
-//! Numbers by which alike triples are found.
-ghost use Rattle.std.specs.Prelude.{◌≡◌, map, true, IfOk};
-ghost use Rattle.rx_graph.specs.Bits.{has_bits, Adds};
-ghost use Rattle.rx_graph.specs.Keys.{key_of, Keeps, TellsRepeats};
-
-use crate::bits::Bits;
-use rx_terms::{NoMemory, Triple, TripleList};
-use std::alloc::Global;
+//! A number that hangs on every triple of a list.
+use rx_terms::{LiteralKind, Term, Triple, TripleList};
 use std::hash::{FoldHasher, Hash, Hasher};
 
-/// The key of each triple. Alike triples have one key, and few others have the same.
-pub(crate) fn keys_of(alloc: Global, triples: &TripleList) -> Result<Vec<u64>, NoMemory>
-    ensures { IfOk result (λ keys. keys.items ≡ map key_of triples.now) }
-{
-    let mut keys = Vec::with_capacity(alloc, triples.len())?;
-    for i in 0..triples.len() {
-        keys.push(key_of(triples.at(i)))?;
-    }
-    Ok(keys)
+/// What the triples of a list come to as far as it was walked: the state of SipHash-1-3 with keys 0, which takes a word at a
+/// time. Of an IRI it takes what the IRI keeps, and of a text all bytes, eight at a time. So whoever changes a triple gets
+/// another number, and can't tell which one before it is done.
+#[derive(Clone, Copy)]
+pub(crate) struct Key {
+    v0: u64,
+    v1: u64,
+    v2: u64,
+    v3: u64,
 }
 
-/// The triple's key. The hash is a quick one, which a page can make the same for many triples. They then cost what it
-/// costs to look each up in a set, and no more.
-pub(crate) fn key_of(triple: &Triple) -> u64
-    ensures { result ≡ key_of triple.now }
-{
+impl Key {
+    /// That of no triple.
+    pub(crate) fn new() -> Key {
+        Key {
+            v0: 0x736f_6d65_7073_6575,
+            v1: 0x646f_7261_6e64_6f6d,
+            v2: 0x6c79_6765_6e65_7261,
+            v3: 0x7465_6462_7974_6573,
+        }
+    }
+
+    /// That of the list.
+    pub(crate) fn of(triples: &TripleList) -> Key {
+        let mut key = Key::new();
+        for i in 0..triples.len() {
+            key.take(triples.at(i));
+        }
+        key
+    }
+
+    /// Takes one more triple.
+    pub(crate) fn take(&mut self, triple: &Triple) {
+        self.take_word(quick_hash_of(&triple.subject));
+        self.take_word(quick_hash_of(&triple.predicate));
+        self.take_term(&triple.object);
+    }
+
+    fn take_term(&mut self, term: &Term) {
+        match term {
+            Term::Iri(iri) => self.take_word(quick_hash_of(iri)),
+            Term::Blank(blank) => self.take_word(quick_hash_of(blank)),
+            Term::Literal(literal) => {
+                self.take_text(literal.lexical.as_str());
+                self.take_kind(&literal.kind);
+            }
+        }
+    }
+
+    fn take_kind(&mut self, kind: &LiteralKind) {
+        match kind {
+            LiteralKind::Plain => {}
+            LiteralKind::Tagged(lang) => self.take_text(lang.as_str()),
+            LiteralKind::Typed(iri) => self.take_word(quick_hash_of(iri)),
+        }
+    }
+
+    fn take_text(&mut self, text: &str) {
+        let bytes = text.as_bytes();
+        for eight in bytes.chunks(8) {
+            self.take_word(quick_hash_of_bytes(eight));
+        }
+        self.take_word(bytes.len() as u64);
+    }
+
+    fn take_word(&mut self, word: u64) {
+        self.v3 ^= word;
+        self.round();
+        self.v0 ^= word;
+    }
+
+    fn round(&mut self) {
+        self.v0 = self.v0.wrapping_add(self.v1);
+        self.v2 = self.v2.wrapping_add(self.v3);
+        self.v1 = self.v1.rotate_left(13) ^ self.v0;
+        self.v3 = self.v3.rotate_left(16) ^ self.v2;
+        self.v0 = self.v0.rotate_left(32);
+        self.v2 = self.v2.wrapping_add(self.v1);
+        self.v0 = self.v0.wrapping_add(self.v3);
+        self.v1 = self.v1.rotate_left(17) ^ self.v2;
+        self.v3 = self.v3.rotate_left(21) ^ self.v0;
+        self.v2 = self.v2.rotate_left(32);
+    }
+
+    /// The number.
+    pub(crate) fn number(&self) -> u64 {
+        let mut ended = *self;
+        ended.v2 ^= 0xFF;
+        ended.round();
+        ended.round();
+        ended.round();
+        ended.v0 ^ ended.v1 ^ ended.v2 ^ ended.v3
+    }
+}
+
+/// A number for what is hashed in one or two words: an IRI, by the SipHash that it keeps, a blank node, or a node.
+fn quick_hash_of<T: Hash>(part: &T) -> u64 {
     let mut hasher = FoldHasher::default();
-    triple.hash(&mut hasher);
+    part.hash(&mut hasher);
     hasher.finish()
 }
 
-/// The keys that stand in the list more than once, and a few others.
-pub(crate) fn repeated(alloc: Global, keys: &[u64]) -> Result<Bits, NoMemory>
-    ensures { IfOk result (λ bits. TellsRepeats bits keys.now) }
-{
-    let mut seen = Bits::new(alloc, keys.len())?;
-    // Few come again. Where many do, this set says of more that they do, which costs time and changes no answer.
-    let mut seen_again = Bits::new(alloc, keys.len() / 8)?;
-    for i in 0..keys.len() {
-        see(&mut seen, &mut seen_again, keys[i]);
-    }
-    Ok(seen_again)
-}
-
-fn see(seen: &mut Bits, seen_again: &mut Bits, key: u64)
-    ensures seen { Adds seen.old key seen.new }
-    ensures again { has_bits seen.old key ≡ true → has_bits seen_again.new key ≡ true }
-    ensures keeps { Keeps seen_again.old seen_again.new }
-{
-    if seen.insert(key) {
-        seen_again.insert(key);
-    }
+/// A number for at most eight bytes. Few of these have the same, since it is as long as they are.
+fn quick_hash_of_bytes(bytes: &[u8]) -> u64 {
+    let mut hasher = FoldHasher::default();
+    hasher.write(bytes);
+    hasher.finish()
 }

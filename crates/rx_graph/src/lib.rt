@@ -5,13 +5,11 @@
 //! graph's triples: borrowed nodes by number, and lists of numbers.
 #![tactic(auto)]
 
-mod bits;
 mod copying;
-mod firsts;
-mod gathering;
 mod graphs;
 mod index;
 mod joining;
+mod keyed;
 mod keys;
 mod leading;
 mod links;
@@ -22,6 +20,7 @@ mod patterns;
 mod reached;
 mod resources;
 mod rows;
+mod sets;
 mod vocabulary;
 mod walked;
 

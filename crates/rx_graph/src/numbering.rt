@@ -7,6 +7,7 @@ ghost use Rattle.rx_graph.specs.Graph.{IsNumbered};
 ghost use Rattle.rx_graph.specs.Numbering.{known_one, known, numbers_to};
 
 use crate::graphs::Graph;
+use crate::sets::TripleSet;
 use rx_terms::{Blank, NoMemory, Node, Term, Triple};
 use rx_unique::Unique;
 use std::alloc::Global;
@@ -28,12 +29,15 @@ pub fn relabel_owned(alloc: Global, graph: Graph) -> Result<Graph, NoMemory>
     if is_numbered(&graph) {
         return Ok(graph);
     }
-    let mut triples = graph.into_vec();
+    let set = graph.into_set();
+    let keyed = set.keyed();
+    let mut triples = set.into_vec(alloc)?;
     let mut numbers = Numbers::new(alloc);
     for i in 0..triples.len() {
         numbers.give(&mut triples[i])?;
     }
-    Ok(Graph::of_distinct(triples))
+    let numbered = TripleSet::of(alloc, triples, keyed)?;
+    Ok(Graph::of_set(numbered))
 }
 
 /// Whether the blank nodes are 0, 1, 2 in order of first occurrence.

@@ -7,10 +7,10 @@ ghost use Rattle.rx_graph.specs.Resources.{resource_seen};
 ghost use Rattle.rx_graph.specs.Patterns.{ArePatterns, AreReferenced, edges_by, given_one};
 ghost use Rattle.rx_graph.specs.Copying.{given_all, given_at, stands_for};
 
-use crate::gathering::Gathering;
 use crate::index::Index;
 use crate::resources::{Nodes, Resource};
 use crate::rows::Rows;
+use crate::sets::TripleSet;
 use crate::vocabulary::says_pattern;
 use rx_terms::{NoMemory, Node, Triple, TripleList};
 use std::alloc::Global;
@@ -61,7 +61,7 @@ impl<'a> Patterns<'a> {
         &self,
         alloc: Global,
         triple: &'a Triple,
-        gathering: &mut Gathering,
+        gathering: &mut TripleSet,
     ) -> Result<(), NoMemory>
         ensures { OnOk result (Adds (stands_for (triples_seen self.now) (triple_seen triple.now)) gathering.old gathering.new) }
     {
@@ -80,7 +80,7 @@ impl<'a> Patterns<'a> {
         alloc: Global,
         subject: &Node,
         pattern: Resource<'a>,
-        gathering: &mut Gathering,
+        gathering: &mut TripleSet,
     ) -> Result<(), NoMemory>
         requires { is_pattern nat_eq (triples_seen self.now) (resource_seen pattern) ≡ true }
         ensures { OnOk result (Adds (given_all (triples_seen self.now) (node_seen subject.now) (resource_seen pattern.entry)) gathering.old gathering.new) }
@@ -101,7 +101,7 @@ impl<'a> Patterns<'a> {
         &self,
         subject: &Node,
         places: &[usize],
-        gathering: &mut Gathering,
+        gathering: &mut TripleSet,
     ) -> Result<(), NoMemory>
         ensures { OnOk result (Adds (filter_map (given_at (triples_seen self.now) (node_seen subject.now)) places.now) gathering.old gathering.new) }
     {
@@ -116,7 +116,7 @@ impl<'a> Patterns<'a> {
         &self,
         subject: &Node,
         place: usize,
-        gathering: &mut Gathering,
+        gathering: &mut TripleSet,
     ) -> Result<(), NoMemory>
         ensures { OnOk result (Adds (option_to_list (given_at (triples_seen self.now) (node_seen subject.now) place)) gathering.old gathering.new) }
     {
@@ -131,7 +131,7 @@ impl<'a> Patterns<'a> {
         &self,
         subject: &Node,
         triple: &'a Triple,
-        gathering: &mut Gathering,
+        gathering: &mut TripleSet,
     ) -> Result<(), NoMemory>
         ensures { OnOk result (Adds (option_to_list (given_one (triples_seen self.now) (node_seen subject.now) (triple_seen triple.now))) gathering.old gathering.new) }
     {

@@ -34,7 +34,7 @@ enum Shape {
     Repeats,
     /// Numbers that cross.
     Crossed,
-    /// So many that some that aren't alike share their keys' bits.
+    /// So many that many begin their search in the same place of the set.
     Many,
     /// A chain from 0, or from 1.
     Chain(u64),

@@ -12,4 +12,4 @@ loop-i-preserved c = treated_turn c.args.triples.now c.loop-i.i c.at.result.now 
     c.loop-i.invariant
 
 pub returns : goal.returns
-returns c = ap triples_seen c.into_graph.ensures ∙ (treated_end c.args.triples.now c.loop-i.i _ (omega (arith, c.loop-i-test.false, c.len-i-end.ensures)) c.loop-i.invariant)
+returns c = ap triples_seen c.of_set.ensures ∙ (treated_end c.args.triples.now c.loop-i.i _ (omega (arith, c.loop-i-test.false, c.len-i-end.ensures)) c.loop-i.invariant)

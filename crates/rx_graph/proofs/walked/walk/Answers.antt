@@ -1,12 +1,10 @@
 use Rattle.std.proofs.Common.{◌∙◌, sym, arith}
-use Rattle.rx_graph.proofs.KeyLemmas.{keys_turn}
 use Rattle.rx_graph.proofs.PatternLemmas.{none_more}
 use Rattle.rx_graph.proofs.NumberedLemmas.{next_turn, next_end}
 use Rattle.rx_graph.proofs.walked.walk.Goals as goal
 
 pub loop-i-preserved : goal.loop-i-preserved
 loop-i-preserved c = record {
-  keys = keys_turn c.args.triples.now c.loop-i.i c.at-triple.result.now _ _ c.key_of.result c.at-triple.ensures c.loop-i.invariant.keys c.key_of.ensures c.in_ok-push.ensures.items;
   none = none_more c.args.triples.now c.loop-i.i c.at-triple.result.now c.at-triple.ensures (sym c.copies.ensures ∙ c.if-copies.false) c.loop-i.invariant.none;
   next = next_turn c.args.triples.now c.loop-i.i c.at-triple.result.now c.at-triple.ensures c.loop-i.next _ c.loop-i.invariant.next c.next_behind-next.ensures;
 }

@@ -2,8 +2,8 @@ use Rattle.std.proofs.Common.{◌∙◌, ap}
 use Rattle.rx_model.specs.Seen.{triples_seen}
 use Rattle.rx_graph.proofs.SetLemmas.{added_seen}
 use Rattle.rx_graph.proofs.CodeEq.{code_eq, exact_code}
-use Rattle.rx_graph.proofs.gathering.Gathering.add.Goals as goal
+use Rattle.rx_graph.proofs.sets.TripleSet.add.Goals as goal
 
 pub returns : goal.returns
 returns c = ap triples_seen c.in_ok-insert.ensures.keys
-    ∙ rw (← c.self.view_is) (added_seen code_eq exact_code c.self.inside.triples c.args.triple)
+    ∙ rw (← c.self.view_is) (added_seen code_eq exact_code c.self.inside.triples.keys c.args.triple)
