@@ -1,5 +1,5 @@
 -- From what a session's call answers to what the call of a page does.
-use Rattle.std.proofs.Common.{◌≡◌, ◌≤◌, ℕ, true, false, List, length, subst, inl, inr, arith, Option, Some, None, Result, Err}
+use Rattle.std.proofs.Common.{◌≡◌, ℕ, true, List, subst, inl, inr, Option, Some, Result, Err}
 use Rattle.rx_quads.specs.Listed.{ShowsOne, quads_of}
 use Rattle.rx_quads.specs.declared.terms.ShownQuad.{ShownQuad}
 use Rattle.rx_session.specs.Requests.{Opens}
@@ -36,30 +36,3 @@ lends_shown (state.Gave (given.Quads q nodes)) number (state.Refused fault) quad
 lends_shown (state.Gave (given.Quads q nodes)) number state.Spent quad out shows is told = absurd shows
 lends_shown (state.Refused fault) number new quad out shows is told = absurd (cc)
 lends_shown state.Spent number new quad out shows is told = absurd (cc)
-
--- where a quad was shown there is one to lend
-pub is_shown : (old : State) (number : ℕ) (new : State) → ShowsQuad old number true new → shown_in new ≡ None → ⊥
-is_shown (state.Reads work) number new shows is = absurd (cc)
-is_shown (state.Gave (given.Text text nodes)) number (state.Gave other) shows is = absurd (cc)
-is_shown (state.Gave (given.Text text nodes)) number (state.Reads work) shows is = absurd shows
-is_shown (state.Gave (given.Text text nodes)) number (state.Refused fault) shows is = absurd shows
-is_shown (state.Gave (given.Text text nodes)) number state.Spent shows is = absurd shows
-is_shown (state.Gave (given.Quads q nodes)) number (state.Gave (given.Text text others)) shows is = absurd shows
-is_shown (state.Gave (given.Quads q nodes)) number (state.Gave (given.Quads r others)) shows is = absurd (cc)
-is_shown (state.Gave (given.Quads q nodes)) number (state.Reads work) shows is = absurd shows
-is_shown (state.Gave (given.Quads q nodes)) number (state.Refused fault) shows is = absurd shows
-is_shown (state.Gave (given.Quads q nodes)) number state.Spent shows is = absurd shows
-is_shown (state.Refused fault) number new shows is = absurd (cc)
-is_shown state.Spent number new shows is = absurd (cc)
-
--- where none was shown there is none
-pub none_there : (old : State) (number : ℕ) (new : State) → ShowsQuad old number false new → length (quads_in old) ≤ number
-none_there (state.Reads work) number new shows = omega arith
-none_there (state.Gave (given.Text text nodes)) number new shows = omega arith
-none_there (state.Gave (given.Quads q nodes)) number (state.Gave (given.Text text others)) shows = absurd shows
-none_there (state.Gave (given.Quads q nodes)) number (state.Gave (given.Quads r others)) shows = shows
-none_there (state.Gave (given.Quads q nodes)) number (state.Reads work) shows = absurd shows
-none_there (state.Gave (given.Quads q nodes)) number (state.Refused fault) shows = absurd shows
-none_there (state.Gave (given.Quads q nodes)) number state.Spent shows = absurd shows
-none_there (state.Refused fault) number new shows = omega arith
-none_there state.Spent number new shows = omega arith
