@@ -62,6 +62,9 @@ def of_a_page(program, path, *words):
 
 def main():
     count = int(sys.argv[1]) if len(sys.argv) > 1 else 1_000
+    if not (os.path.exists(PROGRAM) and os.path.exists(LIBRARY)):
+        print("bench/embed.py: no program and library is built; ./build proves and builds them", file=sys.stderr)
+        sys.exit(70)
     with tempfile.TemporaryDirectory() as folder:
         ours, theirs = build(folder)
         path = os.path.join(folder, "page.html")

@@ -57,7 +57,8 @@ const char *rdfax_version(void);
 enum {
     RDFAX_DONE = 0,        /* it was done: the page is open, the piece was taken, the text is there */
     RDFAX_REFUSED = 1,     /* the page has a fault, which rdfax_fault tells */
-    RDFAX_USAGE = 2,       /* nothing that rdfax does was asked for, or no page is open, or it was finished before */
+    RDFAX_USAGE = 2,       /* nothing that rdfax does was asked for, or no page is open, or it was finished before, or there
+                              is no such quad */
     RDFAX_NO_MEMORY = 5,   /* there was no memory */
     RDFAX_BAD_CONTEXT = 6, /* the context file has another shape, or it is too long */
     RDFAX_READING = 8      /* the page is being read (rdfax_status alone) */
@@ -208,10 +209,10 @@ typedef struct {
 } rdfax_terms;
 
 /* The quads of a page that was finished with RDFAX_QUADS: how many there are (0 of any other page), each once and in order
- * of first appearance; and that of a number, from 0. Where there is none of that number, or no memory to tell it, the answer
- * is false, and `*terms` stays. */
+ * of first appearance; and that of a number, from 0. DONE; USAGE, where the number isn't below the count, and only there; or
+ * NO_MEMORY, after which the call may be made again. `*terms` stays but for DONE. */
 size_t rdfax_quad_count(rdfax_page *page);
-bool rdfax_quad(rdfax_page *page, size_t number, rdfax_terms *terms);
+uint32_t rdfax_quad(rdfax_page *page, size_t number, rdfax_terms *terms);
 
 /* Close the page, and free what is kept of it. It may be opened again. Closing a page that isn't open does nothing. */
 void rdfax_close(rdfax_page *page);

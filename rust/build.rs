@@ -5,7 +5,7 @@
 
 use std::env;
 use std::path::Path;
-use std::process::Command;
+use std::process::{self, Command};
 
 /// The first version that has the calls of this crate.
 const LIBRARY: &str = "rdfax >= 0.1";
@@ -30,7 +30,7 @@ fn link_folder(folder: &Path) {
     } else if folder.join("librdfax.so").is_file() {
         "dylib"
     } else {
-        panic!("RDFAX_LIB_DIR is {}, where neither librdfax.a nor librdfax.so is; {HOW}", folder.display());
+        fail(&format!("RDFAX_LIB_DIR is {}, where neither librdfax.a nor librdfax.so is", folder.display()));
     };
     println!("cargo:rerun-if-changed={}", folder.display());
     println!("cargo:rustc-link-search=native={}", folder.display());
@@ -53,9 +53,15 @@ fn link_installed() {
 /// What `pkg-config` answers to these words.
 fn pkg_config(words: &[&str]) -> String {
     let program = env::var("PKG_CONFIG").unwrap_or_else(|_| "pkg-config".into());
-    let answer = Command::new(&program).args(words).output().unwrap_or_else(|error| panic!("{program}: {error}; {HOW}"));
+    let answer = Command::new(&program).args(words).output().unwrap_or_else(|error| fail(&format!("{program}: {error}")));
     if !answer.status.success() {
-        panic!("{}\n{HOW}", String::from_utf8_lossy(&answer.stderr).trim());
+        fail(&format!("{program} finds no {LIBRARY}"));
     }
     String::from_utf8_lossy(&answer.stdout).into_owned()
+}
+
+/// Ends the build with one line.
+fn fail(why: &str) -> ! {
+    eprintln!("{why}; {HOW}");
+    process::exit(70)
 }

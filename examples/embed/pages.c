@@ -24,7 +24,8 @@ typedef struct {
     bytes file, context;
     size_t from;
     uint32_t status;
-    bool opened, lacks_memory;
+    bool opened;
+    uint32_t told;
     rdfax_page page;
 } job;
 
@@ -103,7 +104,7 @@ static bool begin(job *job, FILE *list) {
     job->file = read_file(job->words[PAGE]);
     job->context = given(job->words[CONTEXT]) ? read_file(job->words[CONTEXT]) : (bytes){NULL, 0};
     job->from = 0;
-    job->lacks_memory = false;
+    job->told = RDFAX_DONE;
     job->status = open_page(job);
     job->opened = job->status == RDFAX_DONE;
     return true;
@@ -134,16 +135,14 @@ static FILE *stream_to(bytes *text) {
     return out;
 }
 
-/* Writes the quads of a page; where one can't be told, there is no memory. */
+/* Writes the quads of a page, or nothing where one wasn't told. */
 static bytes written_quads(job *job) {
     bytes text;
     FILE *out = stream_to(&text);
-    bool all = print_quads(out, &job->page);
+    job->told = print_quads(out, &job->page);
     fclose(out);
-    if (!all) {
-        job->lacks_memory = true;
+    if (job->told != RDFAX_DONE)
         text.length = 0;
-    }
     return text;
 }
 
@@ -178,7 +177,7 @@ static void see_that_it_stays(job *job) {
 static void end(job *job) {
     rdfax_page *page = &job->page;
     bytes text = rdfax_quad_count(page) != 0 ? written_quads(job) : copied_text(page);
-    uint32_t status = job->lacks_memory ? RDFAX_NO_MEMORY : job->status;
+    uint32_t status = job->told != RDFAX_DONE ? job->told : job->status;
     printf("%u %zu", (unsigned)status, text.length);
     if (status == RDFAX_DONE)
         printf(" %llu", (unsigned long long)rdfax_nodes(page));

@@ -18,8 +18,8 @@ static uint32_t read_page(rdfax_page *page, const char *base, const char *graph)
 int main(int count, char **words) {
     rdfax_page page = RDFAX_NO_PAGE;
     uint32_t status = read_page(&page, count > 1 ? words[1] : "", count > 2 ? words[2] : NULL);
-    if (!print_quads(stdout, &page))
-        status = RDFAX_NO_MEMORY;
+    if (status == RDFAX_DONE)
+        status = print_quads(stdout, &page);
     rdfax_close(&page);
     return (int)status;
 }

@@ -37,17 +37,18 @@ static void print_term(FILE *out, const rdfax_term *term) {
     fputs("]\n", out);
 }
 
-/* Prints all quads of a finished page, four terms each. Whether each could be told. */
-static bool print_quads(FILE *out, rdfax_page *page) {
+/* Prints all quads of a finished page, four terms each. RDFAX_DONE, or the answer where one wasn't told. */
+static uint32_t print_quads(FILE *out, rdfax_page *page) {
     rdfax_terms terms;
     size_t count = rdfax_quad_count(page);
     for (size_t number = 0; number < count; number++) {
-        if (!rdfax_quad(page, number, &terms))
-            return false;
+        uint32_t status = rdfax_quad(page, number, &terms);
+        if (status != RDFAX_DONE)
+            return status;
         print_term(out, &terms.subject);
         print_term(out, &terms.predicate);
         print_term(out, &terms.object);
         print_term(out, &terms.graph);
     }
-    return true;
+    return RDFAX_DONE;
 }

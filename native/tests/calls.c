@@ -97,7 +97,7 @@ static void no_page(void) {
     CHECK(!rdfax_fault(&page, &fault) && fault.kind == 99 && fault.token == 98 && fault.at == 97);
     CHECK(rdfax_fault_name(&page, room, sizeof room) == 0);
     CHECK(rdfax_nodes(&page) == 0 && rdfax_quad_count(&page) == 0);
-    CHECK(!rdfax_quad(&page, 0, &terms) && terms.subject.kind == 99);
+    CHECK(rdfax_quad(&page, 0, &terms) == RDFAX_USAGE && terms.subject.kind == 99);
     rdfax_close(&page);
 }
 
@@ -117,7 +117,9 @@ static void a_text(void) {
     CHECK(rdfax_text(&page, 0, NONE) == 0);
     CHECK(rdfax_text(&page, length - 2, room, sizeof room) == 2 && memcmp(room, ".\n", 2) == 0);
     CHECK(rdfax_text(&page, length, room, sizeof room) == 0 && rdfax_text(&page, SIZE_MAX, room, sizeof room) == 0);
+    rdfax_terms terms = {.subject = {.kind = 99}};
     CHECK(rdfax_quad_count(&page) == 0 && rdfax_nodes(&page) == 0);
+    CHECK(rdfax_quad(&page, 0, &terms) == RDFAX_USAGE && terms.subject.kind == 99);
     CHECK(rdfax_items(RDFAX_HTML, TEXT(BASE), &page) == RDFAX_DONE && rdfax_status(&page) == RDFAX_READING);
     rdfax_close(&page);
     rdfax_close(&page);
@@ -135,6 +137,8 @@ static void a_fault(void) {
     CHECK(rdfax_fault_name(&page, NONE) == 8 && rdfax_fault_name(&page, room, 3) == 8 && memcmp(room, "Mis----", 7) == 0);
     CHECK(rdfax_fault_name(&page, room, sizeof room) == 8 && memcmp(room, "Mismatch", 8) == 0);
     CHECK(rdfax_text_length(&page) == 0 && rdfax_quad_count(&page) == 0 && rdfax_nodes(&page) == 0);
+    rdfax_terms terms = {.subject = {.kind = 99}};
+    CHECK(rdfax_quad(&page, 0, &terms) == RDFAX_USAGE && terms.subject.kind == 99);
     rdfax_close(&page);
 }
 
@@ -176,10 +180,11 @@ static void quads(void) {
     rdfax_page page = RDFAX_NO_PAGE;
     rdfax_terms terms = {.subject = {.kind = 99}};
     CHECK(extraction(RDFAX_QUADS, 0, &page) == RDFAX_DONE);
-    CHECK(rdfax_feed(&page, TEXT(ANVIL)) == RDFAX_DONE && rdfax_quad_count(&page) == 0 && rdfax_finish(&page) == RDFAX_DONE);
-    CHECK(rdfax_quad_count(&page) == 1 && rdfax_text_length(&page) == 0);
-    CHECK(!rdfax_quad(&page, 1, &terms) && !rdfax_quad(&page, SIZE_MAX, &terms) && terms.subject.kind == 99);
-    CHECK(rdfax_quad(&page, 0, &terms));
+    CHECK(rdfax_feed(&page, TEXT(ANVIL)) == RDFAX_DONE && rdfax_quad_count(&page) == 0 && rdfax_quad(&page, 0, &terms) == RDFAX_USAGE);
+    CHECK(rdfax_finish(&page) == RDFAX_DONE && rdfax_quad_count(&page) == 1 && rdfax_text_length(&page) == 0);
+    CHECK(rdfax_quad(&page, 1, &terms) == RDFAX_USAGE && rdfax_quad(&page, SIZE_MAX, &terms) == RDFAX_USAGE);
+    CHECK(terms.subject.kind == 99 && rdfax_status(&page) == RDFAX_DONE);
+    CHECK(rdfax_quad(&page, 0, &terms) == RDFAX_DONE);
     CHECK(terms.subject.kind == RDFAX_IRI && is(terms.subject.text, BASE));
     CHECK(terms.predicate.kind == RDFAX_IRI && is(terms.predicate.text, "http://purl.org/dc/terms/title"));
     CHECK(terms.object.kind == RDFAX_LITERAL && is(terms.object.text, "Anvil"));
@@ -196,7 +201,7 @@ static void nodes(void) {
         rdfax_terms terms;
         CHECK(extraction(RDFAX_QUADS, first, &page) == RDFAX_DONE && rdfax_nodes(&page) == 0);
         CHECK(rdfax_feed(&page, TEXT(BLANK)) == RDFAX_DONE && rdfax_finish(&page) == RDFAX_DONE);
-        CHECK(rdfax_quad(&page, 0, &terms) && terms.subject.kind == RDFAX_BLANK && is(terms.subject.text, labels[i]));
+        CHECK(rdfax_quad(&page, 0, &terms) == RDFAX_DONE && terms.subject.kind == RDFAX_BLANK && is(terms.subject.text, labels[i]));
         CHECK(rdfax_nodes(&page) == 1);
         first += rdfax_nodes(&page);
         rdfax_close(&page);

@@ -66,7 +66,7 @@ _CALLS = {
     "rdfax_fault_name": ([_PAGE, _ROOM, _SIZE], _SIZE),
     "rdfax_nodes": ([_PAGE], ctypes.c_uint64),
     "rdfax_quad_count": ([_PAGE], _SIZE),
-    "rdfax_quad": ([_PAGE, _SIZE, ctypes.POINTER(Terms)], ctypes.c_bool),
+    "rdfax_quad": ([_PAGE, _SIZE, ctypes.POINTER(Terms)], _NUMBER),
     "rdfax_close": ([_PAGE], None),
 }
 

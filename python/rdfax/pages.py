@@ -200,10 +200,9 @@ class Page:
             self._lock.release()
 
     def _quad(self, number: int, lent: Terms, make: _Make) -> tuple[Any, Any, Any, Any]:
-        if not library().rdfax_quad(self._handle, number, lent):
-            if number >= library().rdfax_quad_count(self._handle):
-                raise Usage("the page was closed while its quads were read")
-            raise MemoryError("rdfax: there was no memory")
+        status = library().rdfax_quad(self._handle, number, lent)
+        if status:
+            self._answered(status, "the page was closed while its quads were read")
         kind, text, length, predicate, predicate_length, object_kind, *value, graph_kind, graph, graph_length = _TERMS.unpack_from(lent)
         return (
             make(kind, string_at(text, length), b"", b""),
@@ -212,11 +211,11 @@ class Page:
             make(graph_kind, string_at(graph, graph_length), b"", b"") if graph_kind else None,
         )
 
-    def _answered(self, status: int) -> None:
+    def _answered(self, status: int, usage: str = "no page is open, or it was finished before") -> None:
         if status == _library.REFUSED:
             raise self._refused()
         if status == _library.USAGE:
-            raise Usage("no page is open, or it was finished before")
+            raise Usage(usage)
         if status == _library.NO_MEMORY:
             raise MemoryError("rdfax: there was no memory")
         if status == _library.BAD_CONTEXT:

@@ -8,7 +8,7 @@ import sys
 import pytest
 
 import rdfax
-from rdfax._library import library
+from rdfax._library import NO_MEMORY, library
 
 SCRIPT = """
 import resource, rdfax
@@ -33,10 +33,10 @@ def test_want_of_memory_is_a_memory_error() -> None:
     assert done.stdout.splitlines() == ["MemoryError"] * 3 + ['<http://h.example/d> <http://schema.org/name> "Anvil" .']
 
 
-def test_a_quad_that_is_there_but_not_told_is_a_memory_error(monkeypatch: pytest.MonkeyPatch) -> None:
+def test_want_of_memory_for_a_quad_is_a_memory_error(monkeypatch: pytest.MonkeyPatch) -> None:
     with rdfax.Page("quads", "http://h.example/d") as page:
         page.feed('<html><p property="schema:name">Anvil</p></html>')
         page.finish()
-        monkeypatch.setattr(library(), "rdfax_quad", lambda *_: False)
+        monkeypatch.setattr(library(), "rdfax_quad", lambda *_: NO_MEMORY)
         with pytest.raises(MemoryError):
             next(page.quads())

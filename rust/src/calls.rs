@@ -5,6 +5,7 @@ use std::os::raw::c_char;
 
 pub(crate) const DONE: u32 = 0;
 pub(crate) const REFUSED: u32 = 1;
+pub(crate) const USAGE: u32 = 2;
 pub(crate) const NO_MEMORY: u32 = 5;
 pub(crate) const BAD_CONTEXT: u32 = 6;
 
@@ -80,7 +81,7 @@ extern "C" {
     pub(crate) fn rdfax_fault(page: *mut RawPage, fault: *mut RawFault) -> bool;
     pub(crate) fn rdfax_nodes(page: *mut RawPage) -> u64;
     pub(crate) fn rdfax_quad_count(page: *mut RawPage) -> usize;
-    pub(crate) fn rdfax_quad(page: *mut RawPage, number: usize, terms: *mut RawTerms) -> bool;
+    pub(crate) fn rdfax_quad(page: *mut RawPage, number: usize, terms: *mut RawTerms) -> u32;
     pub(crate) fn rdfax_close(page: *mut RawPage);
     fn rdfax_kind_sentence(kind: u32) -> *const c_char;
     fn rdfax_version() -> *const c_char;

@@ -166,16 +166,14 @@ impl Finished {
     /// # Ok::<(), rdfax::Error>(())
     /// ```
     pub fn quad(&mut self, number: usize) -> Result<Option<Quad<&str>>, Error> {
-        if number >= self.quad_count() {
-            return Ok(None);
-        }
         let mut terms = MaybeUninit::<RawTerms>::uninit();
-        // SAFETY: the page is open, and where the answer is true the terms were written.
+        // SAFETY: the page is open, and where the answer is DONE the terms were written.
         let terms = unsafe {
-            if !calls::rdfax_quad(&mut self.0 .0, number, terms.as_mut_ptr()) {
-                return Err(Error::NoMemory);
+            match calls::rdfax_quad(&mut self.0 .0, number, terms.as_mut_ptr()) {
+                calls::DONE => terms.assume_init(),
+                calls::USAGE => return Ok(None),
+                _ => return Err(Error::NoMemory),
             }
-            terms.assume_init()
         };
         // SAFETY: the terms stay until the next call, for which `self` is borrowed.
         Ok(Some(unsafe { quad_of(&terms) }))

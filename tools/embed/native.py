@@ -137,11 +137,12 @@ def memory_holds(native: Native, wanted: list[rows.Wanted]) -> bool:
     """Whether each refused request is an answer, for each task and format, where a program's own allocator takes the library's place."""
     done = [each for each in wanted if each.line.startswith("0 ") and (each.job.task == "check" or len(each.text) > 60) and each.job.context == "-"]
     firsts = {(each.job.task, each.job.format): replace(each.job, piece=rows.WHOLE) for each in reversed(done)}
-    counts = {}
+    counts, goes_on = {}, True
     for kind in ("a", "so"):
+        goes_on = subprocess.run([native.make("no_memory", test("no_memory.c"), kind=kind)], check=False).returncode == 0 and goes_on
         program = native.make("refused", example("pages.c"), test("refusing_heap.c"), kind=kind)
         counts[kind] = [refuse_each(program, native.folder, job) for job in firsts.values()]
-    right = None not in counts["a"] and counts["a"] == counts["so"] and all(counts["a"])
+    right = goes_on and None not in counts["a"] and counts["a"] == counts["so"] and all(counts["a"])
     total, told = sum(count or 0 for kind in counts.values() for count in kind), "status 5 each, or the answer that was asked for"
-    print(f"memory: {total} requests of {len(firsts)} jobs refused, one at a time, with both libraries: {told if right else 'WRONG'}")
+    print(f"memory: {total} requests of {len(firsts)} jobs refused, one at a time, and all of a call, with both libraries: {told if right else 'WRONG'}")
     return right

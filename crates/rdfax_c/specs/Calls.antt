@@ -1,5 +1,5 @@
 -- What the calls answer, and what is kept.
-use Rattle.std.specs.Prelude.{◌≡◌, ◌⊎◌, ℕ, Bool, true, false, List, [], ◌++◌, length, min, take, drop, Option, Some, None, option_map, option_and_then, Result, Ok, Err}
+use Rattle.std.specs.Prelude.{◌≡◌, ◌≢◌, ◌⊎◌, ℕ, Bool, true, false, List, [], ◌++◌, length, min, take, drop, Option, Some, None, option_map, option_and_then, Result, Ok, Err}
 use Rattle.rx_grammar.specs.declared.faults.Fault.{Fault}
 use Rattle.rx_rdfa.specs.Names.{Context}
 use Rattle.rx_nquads.specs.Quads.{Quad}
@@ -117,17 +117,21 @@ pub record LendsQuad (old : State) (number : ℕ) (new : State) (out : Terms) : 
   pub shown : ShowsOne (quads_in old) number quad
   pub told : out ≡ quad_lent quad
 
-abbrev pub LendsWhere : State → ℕ → Bool → State → Terms → Terms → Type 0
-LendsWhere old number true now before after = LendsQuad old number now after
-LendsWhere old number false now before after = after ≡ before
+-- The answer is 0, and the quad of this number is lent; or 2, and nothing is changed; or 5, where there was no memory. Nothing
+-- is told at any answer but 0. When 2 comes is a clause of its own: where there is no quad of this number, and only there.
+pub record LendsWhere (old : State) (number result : ℕ) (new : State) (before after : Terms) : Type 0 where
+  pub answers : (result ≡ 0) ⊎ (result ≡ 2) ⊎ (result ≡ 5)
+  pub lends : result ≡ 0 → LendsQuad old number new after
+  pub kept : result ≡ 2 → new ≡ old
+  pub untold : result ≢ 0 → after ≡ before
 
 -- the session lends a quad or none, and nothing is changed but which quad is shown
-pub record TellsSession (old : State) (number : ℕ) (result : Bool) (new : Option State) (before after : Terms) : Type 0 where
+pub record TellsSession (old : State) (number result : ℕ) (new : Option State) (before after : Terms) : Type 0 where
   pub now : State
   pub kept : new ≡ Some now
   pub keeps : KeepsQuads old now
   pub lends : LendsWhere old number result now before after
 
-abbrev pub TellsQuad : Option State → ℕ → Bool → Option State → Terms → Terms → Type 0
-TellsQuad None number result new before after = (result ≡ false) × (new ≡ None) × (after ≡ before)
+abbrev pub TellsQuad : Option State → ℕ → ℕ → Option State → Terms → Terms → Type 0
+TellsQuad None number result new before after = (result ≡ 2) × (new ≡ None) × (after ≡ before)
 TellsQuad (Some old) number result new before after = TellsSession old number result new before after

@@ -1,8 +1,8 @@
 //! The calls. Those whose names end with `_given` take no null pointer, and are told whether a name or a file is given: the
 //! calls of the header stand above them.
-ghost use Rattle.std.specs.Prelude.{◌≡◌, ◌++◌, None, length, min, take, drop};
+ghost use Rattle.std.specs.Prelude.{◌≡◌, ◌↔◌, ◌≤◌, ◌++◌, None, length, min, take, drop};
 ghost use Rattle.rx_session.specs.Requests.{items_in, check_in};
-ghost use Rattle.rx_session.specs.Sessions.{KeepsQuads};
+ghost use Rattle.rx_session.specs.Sessions.{KeepsQuads, quads_in};
 ghost use Rattle.rdfax_c.specs.Calls.{given, extraction_by, KeepsPage, OpensPage, FeedsPage, FinishesPage, page_code, page_text, page_nodes, page_quads, page_fault, fault_name, filled, TellsFault, TellsQuad, LendsWhere};
 
 use crate::options::{Options, PageFault, fault_seen, given};
@@ -240,36 +240,41 @@ pub extern "C" fn rdfax_quad_count(alloc: Global, page: &mut Page) -> usize
     count
 }
 
-/// Lends the terms of the quad of this number, from 0, until the next call with the page, and answers whether there is one.
-/// Nothing is told where there is none, or no memory for it.
+/// Lends the terms of the quad of this number, from 0, until the next call with the page. Nothing is told where there is none,
+/// or no memory for it.
 #[unsafe(no_mangle)]
-pub extern "C" fn rdfax_quad(alloc: Global, page: &mut Page, number: usize, out: &mut Terms) -> bool
-    ensures { TellsQuad page.old.handle.session number result page.new.handle.session out.old out.new }
+pub extern "C" fn rdfax_quad(alloc: Global, page: &mut Page, number: usize, out: &mut Terms) -> u32
+    ensures usage { (result ≡ 2) ↔ (length (page_quads page.old.handle.session) ≤ number) }
+    ensures tells { TellsQuad page.old.handle.session number result page.new.handle.session out.old out.new }
 {
     let Some(mut session) = page.take(alloc) else {
-        return false;
+        return USAGE;
     };
-    let is_lent = lend_quad(alloc, session.as_mut(), number, out);
+    let code = lend_quad(alloc, session.as_mut(), number, out);
     page.put(session);
-    is_lent
+    code
 }
 
 /// Shows the quad of this number, and lends its terms.
-fn lend_quad(alloc: Global, session: &mut Session, number: usize, out: &mut Terms) -> bool
+fn lend_quad(alloc: Global, session: &mut Session, number: usize, out: &mut Terms) -> u32
+    ensures usage { (result ≡ 2) ↔ (length (quads_in session.old) ≤ number) }
     ensures keeps { KeepsQuads session.old session.new }
     ensures lends { LendsWhere session.old number result session.new out.old out.new }
 {
+    if number >= session.quad_count() {
+        return USAGE;
+    }
     let Ok(is_there) = session.show(alloc, number) else {
-        return false;
+        return NO_MEMORY;
     };
     if !is_there {
-        return false;
+        return USAGE;
     }
     let Some(quad) = session.shown() else {
-        return false;
+        return USAGE;
     };
     *out = quad_lent(quad);
-    true
+    DONE
 }
 
 /// Closes the page. It may be opened again.
