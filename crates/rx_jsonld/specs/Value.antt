@@ -1,5 +1,5 @@
 -- The JSON-LD of a list of triples: expanded and flattened form (JSON-LD 1.1, 9; JSON-LD 1.1 Processing Algorithms and API,
--- 4.1 and 4.3). The order, which cells are listed, and the names of blank nodes are our own choice.
+-- 5.1 and 7.1). The order, which cells are listed, and the names of blank nodes are our own choice.
 use Rattle.std.specs.Prelude.{ℕ, Bool, false, not, ◌&&◌, List, [], ◌∷◌, map, filter, length, codes, bytes_eq, encode_utf8_all, Option, Some, None, if◌then◌else◌}
 use Rattle.serde_json.specs.Data.{Data, Members, null, string, array, object, no_members, member}
 use Rattle.serde_json.specs.View.{items_of}
@@ -23,7 +23,7 @@ string_of text = string (encode_utf8_all text)
 abbrev pub object_with : List ℕ → Data → Data
 object_with key value = object (member key value no_members)
 
--- 3.2, 4.5: a node is named by its IRI, or by `_:` and a label
+-- 3.3, 4.5.1: a node is named by its IRI, or by `_:` and a label
 abbrev pub id_text : Node ℕ → Chars
 id_text (Iri iri) = iri
 id_text (Blank b) = blank_text b
@@ -33,7 +33,7 @@ literal_members text Plain = member (codes "@value") (string_of text) no_members
 literal_members text (Tagged tag) = member (codes "@language") (string_of tag) (member (codes "@value") (string_of text) no_members)
 literal_members text (Typed datatype) = member (codes "@type") (string_of datatype) (member (codes "@value") (string_of text) no_members)
 
--- 9.4, 9.5: a node object with an `@id` alone, or a value object
+-- 9.2, 9.5: a node object with an `@id` alone, or a value object
 abbrev pub term_value : Term ℕ → Data
 term_value (Resource node) = object_with (codes "@id") (string_of (id_text node))
 term_value (Literal text kind) = object (literal_members text kind)
