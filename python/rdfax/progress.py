@@ -25,7 +25,8 @@ def progress(steps: Iterable[Step], total: int, unit: str) -> Iterator[Step]:
         from tqdm import tqdm
     except ImportError:
         return iter(steps)
-    return iter(tqdm(steps, total=total, unit=unit, file=sys.stderr, disable=None if total >= _MANY else True, leave=False))
+    is_shown = total >= _MANY and sys.stderr.isatty()
+    return iter(tqdm(steps, total=total, unit=unit, file=sys.stderr, disable=not is_shown, leave=False))
 
 
 def write(text: str, out: TextIO) -> None:

@@ -3,6 +3,7 @@
 from __future__ import annotations
 
 import http.server
+import importlib.metadata
 import io
 import json
 import subprocess
@@ -160,6 +161,12 @@ def _environment(folder: Path, names: tuple[str, ...]) -> Path:
     return python
 
 
+def _pyrdfa_has_the_name() -> bool:
+    """Whether the pyRdfa that is there has a parser of that name: 3.5 has, and 3.6 hasn't."""
+    found = importlib.metadata.distributions(name="pyRdfa3", path=[str(Path(rdflib.__file__).parents[1])])
+    return any(entry.group == "rdf.plugins.parser" and entry.name == "rdfa" for each in found for entry in each.entry_points)
+
+
 @pytest.mark.parametrize("beside", [False, True], ids=["without pyRdfa", "with pyRdfa"])
 def test_the_format_rdfa_is_ours_where_no_other_has_the_name(tmp_path: Path, beside: bool) -> None:
     python = _environment(tmp_path, NEEDED + (("pyRdfa", "pyRdfa3-*") if beside else ()))
@@ -170,8 +177,9 @@ found = [triple for triple in rdflib.Graph().parse(data={PAGE!r}, format="rdfax"
 print(json.dumps([type(parser).__module__, len(found)]))
 """
     done = subprocess.run([python, "-I", "-c", script], capture_output=True, text=True, check=True)
-    assert json.loads(done.stdout) == ["pyRdfa.rdflibparsers" if beside else "rdfax.rdflib_parser", 1]
-    if not beside:
+    is_theirs = beside and _pyrdfa_has_the_name()
+    assert json.loads(done.stdout) == ["pyRdfa.rdflibparsers" if is_theirs else "rdfax.rdflib_parser", 1]
+    if not is_theirs:
         script = script.replace('format="rdfax"', 'format="rdfa"')
         assert json.loads(subprocess.run([python, "-I", "-c", script], capture_output=True, text=True, check=True).stdout)[1] == 1
 

@@ -1,7 +1,7 @@
 //! RDFa and Microdata of HTML pages, read by an exact grammar.
 //!
 //! A page goes in as bytes of UTF-8, at once or in pieces; its data comes out as a text ([`extract`], [`items`]) or as quads
-//! ([`quads`]). A page that isn't one by rdfax's grammar is refused at its first faulty byte, with a [`Fault`].
+//! ([`quads()`]). A page that isn't one by rdfax's grammar is refused at its first faulty byte, with a [`Fault`].
 //!
 //! ```
 //! let page = r#"<html><p property="dc:title">Anvil</p></html>"#;

@@ -9,6 +9,7 @@ from __future__ import annotations
 import argparse
 import logging
 import sys
+from typing import Any
 
 from rdfax.errors import Usage
 
@@ -57,7 +58,8 @@ def run(arguments: argparse.Namespace) -> int:
     app = create_app(Settings(private=arguments.private, public=arguments.public, limits=limits), pool)
     logging.getLogger("waitress").setLevel(logging.ERROR)
     host = "0.0.0.0" if arguments.public else "127.0.0.1"
-    server = waitress.create_server(app, host=host, port=arguments.port, ident="rdfax", threads=16, max_request_body_size=4 * arguments.bytes)
+    # (types of waitress that are there have no effective_port)
+    server: Any = waitress.create_server(app, host=host, port=arguments.port, ident="rdfax", threads=16, max_request_body_size=4 * arguments.bytes)
     address = f"http://127.0.0.1:{server.effective_port}/"
     if arguments.public:
         print(_PUBLIC, file=sys.stderr)
