@@ -52,7 +52,7 @@ def add_arguments(parser: argparse.ArgumentParser) -> None:
     parser.add_argument("--bytes", type=_positive, metavar="N", default=defaults.bytes, help="the most bytes of a page (%(default)s)")
     parser.add_argument("--seconds", type=_positive, metavar="N", default=defaults.seconds, help="the most processor time of a page (%(default)s)")
     parser.add_argument("--mebibytes", type=_positive, metavar="N", default=defaults.mebibytes, help="the most memory of a page (%(default)s)")
-    parser.add_argument("--reader", choices=READERS, default="own", help="what cuts archives into records (%(default)s)")
+    parser.add_argument("--reader", choices=READERS, default=Options.reader, help="what cuts archives into records: warcio where it is installed, or one of the two")
 
 
 def run(arguments: argparse.Namespace) -> int:

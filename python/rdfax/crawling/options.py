@@ -35,7 +35,7 @@ class Options:
     items: bool = True
     mend: bool = False
     compression: Compression = "gzip"
-    reader: Reader = "own"
+    reader: Reader = "installed"
     records: int = 1000
     limits: Limits = Limits()
 
