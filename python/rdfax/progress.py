@@ -25,7 +25,7 @@ def progress(steps: Iterable[Step], total: int, unit: str) -> Iterator[Step]:
         from tqdm import tqdm
     except ImportError:
         return iter(steps)
-    return iter(tqdm(steps, total=total, unit=unit, file=sys.stderr, disable=None if total >= _MANY else True, leave=False))
+    return iter(tqdm(steps, total=total, unit=unit, file=sys.stderr, disable=total < _MANY or not sys.stderr.isatty(), leave=False))
 
 
 def write(text: str, out: TextIO) -> None:

@@ -346,5 +346,11 @@ def test_mended(tmp_path: Path) -> None:
         broken = number % 5 == 4
         assert (row["status"], bool(row["mended"]), row["triples"]) == ("read", broken, "1" if broken or number % 2 == 0 else "4")
     quads = gzip.decompress(next(out.glob("shards/*/quads.nq.gz")).read_bytes()).decode()
-    assert quads.count("# mended: ") == 4
+    assert quads.count("# mended: ") == 4 and "# places" not in quads
+    crawl(tmp_path / "placed", tmp_path / "a.warc.gz", "--workers", 0, "--mend", "--places")
+    placed = gzip.decompress(next((tmp_path / "placed").glob("shards/*/quads.nq.gz")).read_bytes()).decode()
+    places = re.findall(r"# mended: .*\n# places: (\d+)\n", placed)
+    assert [body(number)[int(place) :][:12] for number, place in zip((4, 9, 14, 19), places, strict=True)] == [b"<p property="] * 4
+    assert re.sub(r"# places: .*\n", "", placed) == quads
+    crawl(tmp_path / "wrong", tmp_path / "a.warc.gz", "--workers", 0, "--places", status=2)
     assert json.loads((out / "report.json").read_text())["outcomes"] == {"read": 16, "read, mended": 4}

@@ -9,6 +9,8 @@ from __future__ import annotations
 import argparse
 import logging
 import sys
+import typing
+from typing import Any
 
 from rdfax.errors import Usage
 
@@ -58,7 +60,8 @@ def run(arguments: argparse.Namespace) -> int:
     logging.getLogger("waitress").setLevel(logging.ERROR)
     host = "0.0.0.0" if arguments.public else "127.0.0.1"
     server = waitress.create_server(app, host=host, port=arguments.port, ident="rdfax", threads=16, max_request_body_size=4 * arguments.bytes)
-    address = f"http://127.0.0.1:{server.effective_port}/"
+    # (where one socket is listened on, as here, it tells its port)
+    address = f"http://127.0.0.1:{typing.cast(Any, server).effective_port}/"
     if arguments.public:
         print(_PUBLIC, file=sys.stderr)
     print(f"rdfax: {address} (Ctrl-C ends it)", flush=True)

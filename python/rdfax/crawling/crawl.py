@@ -100,7 +100,7 @@ class _Bar:
                 from tqdm import tqdm
             except ImportError:
                 return
-            self._bar = tqdm(total=total, unit=unit, file=sys.stderr, disable=None, leave=False, unit_scale=True)
+            self._bar = tqdm(total=total, unit=unit, file=sys.stderr, disable=not sys.stderr.isatty(), leave=False, unit_scale=True)
 
     def __enter__(self) -> Self:
         return self

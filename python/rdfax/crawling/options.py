@@ -34,6 +34,7 @@ class Options:
     rdfa: bool = True
     items: bool = True
     mend: bool = False
+    places: bool = False
     compression: Compression = "gzip"
     reader: Reader = "installed"
     records: int = 1000

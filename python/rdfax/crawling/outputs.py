@@ -77,7 +77,7 @@ class Outputs:
             told = f"{found.status}: {found.kind} at byte {found.at} in token {found.token}"
             self._quads.write(f"# {told} of {_plain(given.address)}\n".encode())
         elif found.mended:
-            self._quads.write(f"# {found.mended} of {_plain(given.address)}\n".encode())
+            self._quads.write(f"# {found.mended} of {_plain(given.address)}\n{found.places}".encode())
         self._quads.write(found.quads)
         for number, item in enumerate(items):
             self._items.write(self._item(record, given, found, number, item))

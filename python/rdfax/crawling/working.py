@@ -61,6 +61,8 @@ def _add(batch: list[_Entry], reader: Reader, nodes: int, outputs: Outputs) -> i
         outputs.sums.spend("write", time.thread_time() - began)
         outputs.sums.spend("mend", found.mending)
         outputs.sums.spend("extract", found.reading)
+        if found.placing:
+            outputs.sums.spend("place", found.placing)
     return made
 
 

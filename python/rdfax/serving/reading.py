@@ -9,6 +9,7 @@ import importlib
 import itertools
 import json
 import time
+import typing
 from collections.abc import Callable, Iterable
 from typing import Any
 
@@ -16,13 +17,17 @@ from rdfax import pages
 from rdfax.errors import Refused, Usage
 from rdfax.kinds import KINDS
 from rdfax.places import printable, to_line
-from rdfax.serving import origins
+from rdfax.serving import item_elements, origins
 from rdfax.serving.drawing import drawing
+from rdfax.serving.item_elements import Item
 from rdfax.serving.markup import Span
 from rdfax.serving.names import STANDARD, Name
 from rdfax.serving.positions import positions
 from rdfax.serving.triples import How, Origin
 from rdfax.terms import Iri, Literal, Object
+
+if typing.TYPE_CHECKING:
+    from rdfax.mending import Mended
 
 __all__ = ["PLACED_BYTES", "VIEWS", "mended", "places", "read", "text", "whole"]
 
@@ -32,6 +37,8 @@ SHOWN_TEXT = 1_000_000
 # Of a longer page no places are told: the second reading would take too long.
 PLACED_BYTES = 1_000_000
 _DRAWN_TRIPLES = 300
+# Of a longer token the begin is marked.
+_LONGEST_TOKEN = 10_000
 
 Told = dict[str, Any]
 
@@ -125,7 +132,7 @@ def text(page: bytes, base: str, syntax: pages.Syntax, view: str) -> bytes:
 
 
 def places(page: bytes, base: str, syntax: pages.Syntax) -> Told:
-    """Where each triple that is shown comes from, and how many elements and levels the page has."""
+    """Where each triple that is shown and each item comes from, and how many elements and levels the page has."""
     if len(page) > PLACED_BYTES:
         return {"none": f"The page has more than {PLACED_BYTES:,} bytes: no places are told."}
     try:
@@ -133,12 +140,24 @@ def places(page: bytes, base: str, syntax: pages.Syntax) -> Told:
     except (Refused, Usage):
         return {"none": "The page is refused: it has no triples."}
     started = time.perf_counter()
-    found = origins.find(page, base, syntax=syntax)
-    told: Told = {"elements": found.elements, "depth": found.depth, "milliseconds": _since(started)}
+    spans, found = _Spans(page), origins.find(page, base, syntax=syntax)
+    items = _placed_items(page, base, syntax, spans)
+    told: Told = {"elements": found.elements, "depth": found.depth, "milliseconds": _since(started), "items": items}
     agreed = origins.places_of(found, quads)
     if agreed is None:
-        return {**told, "none": "The second reading, which tells places, gives other triples than the library. The library's are shown, without places."}
-    return {**told, **_Spans(page).told(agreed[:SHOWN_TRIPLES])}
+        none = "The second reading, which tells places, gives other triples than the library. The library's are shown, without places."
+        return {**told, "none": none, **spans.told([])}
+    return {**told, **spans.told(agreed[:SHOWN_TRIPLES])}
+
+
+def _placed_items(page: bytes, base: str, syntax: pages.Syntax, spans: _Spans) -> list[Told] | None:
+    """The places of the items, where the second reading of them agrees with the library's."""
+    try:
+        items = pages.items(page, base, syntax=syntax)["items"]
+    except Refused:
+        return None
+    found = item_elements.find(page, syntax)
+    return [spans.item(item) for item in found] if item_elements.agrees(found, items) else None
 
 
 class _Spans:
@@ -172,6 +191,11 @@ class _Spans:
             "copied": None if origin.copied is None else self._number(origin.copied.span),
         }
 
+    def item(self, item: Item) -> Told:
+        """An item's place, and those of the items among its properties' values."""
+        inner = {name: [None if value is None else self.item(value) for value in values] for name, values in item.properties.items()}
+        return {"span": self._number(item.span), "properties": inner}
+
     def told(self, agreed: Iterable[Origin]) -> Told:
         """The origins, and each place as first byte, byte behind it, line and character of both."""
         rows = [self._origin(origin) for origin in agreed]
@@ -191,7 +215,17 @@ def mended(page: bytes, charset: str | None, syntax: pages.Syntax) -> Told:
     except ValueError as error:
         return {"none": f"The page isn't mended: {error}"}
     changes = {kind.replace("_", " "): count for kind, count in made.changes.items()}
-    return {"page": bytes(made.page).decode("utf-8", "replace"), "charset": made.charset, "changes": changes}
+    return {"page": bytes(made.page).decode("utf-8", "replace"), "charset": made.charset, "changes": changes, "places": _originals(page, made)}
+
+
+def _originals(page: bytes, made: Mended) -> list[list[int]]:
+    """Of each start tag of a mended page its first byte, and the place in the original of the token that made its element:
+    line and character of its begin and of its end."""
+    if len(page) > PLACED_BYTES:
+        return []
+    ends = [page.find(b">", origin, origin + _LONGEST_TOKEN) + 1 or origin + 1 for origin in made.origins]
+    told = positions(page, [*made.origins, *ends])
+    return [[start, *told[number], *told[len(ends) + number]] for number, start in enumerate(made.starts)]
 
 
 def whole(page: bytes, base: str, syntax: pages.Syntax) -> Told:

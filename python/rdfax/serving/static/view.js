@@ -206,13 +206,24 @@ const rdfax = {};
       if (ticket !== this.ticket || told === null) return;
       this.told = told;
       this.show(view);
+      this.showAwaited();
       this.busy(false);
       if (told.bytes > LONG && this.provider.isEmpty) await new Promise((done) => setTimeout(done, QUIET));
       if (ticket !== this.ticket) return;
-      const places = "count" in told ? await this.provider.places() : {};
+      const places = "count" in told || told.items?.length ? await this.provider.places() : {};
       if (ticket !== this.ticket || places === null) return;
       this.showPlaces(places);
       this.panel.dataset.placed = "true";
+    }
+
+    // A place of the source that was asked for before the source was there.
+    showAwaited() {
+      if (!this.awaited) return;
+      const [from, to] = this.awaited;
+      this.awaited = null;
+      this.source.clear();
+      this.source.mark(from, to, "said");
+      this.source.show(from, true);
     }
 
     busy(on) {
@@ -362,7 +373,8 @@ const rdfax = {};
 
     showPlaces(places) {
       this.places = places;
-      this.origins = places.origins ? places : null;
+      if (this.tab === "items" && places.items) return this.showItems(places);
+      this.origins = places.origins?.length ? places : null;
       if (!("count" in this.told)) return;
       if (this.tab === "statistics") return this.showStatistics(places);
       if (places.none && this.tab === "triples") {
@@ -402,6 +414,8 @@ const rdfax = {};
       const roles = ["Subject", "Predicate", "Object", "Datatype"];
       const rows = origin.terms.flatMap((term, at) => (term ? [make("dt", {}, roles[at]), make("dd", {}, ...this.howOf(term))] : []));
       const list = make("dl", {}, make("dt", {}, "Element"), make("dd", {}, make("code", {}, `<${origin.element}>`), " ", this.jump(origin.span)), ...rows);
+      const copyOf = this.provider.original?.(this.origins.spans[origin.span][0]);
+      if (copyOf) list.append(make("dt", {}, "In the original"), make("dd", {}, this.leap(copyOf)));
       if (origin.copied !== null) list.append(make("dt", {}, "Copied"), make("dd", {}, "from a pattern, as ", this.jump(origin.copied), " asks"));
       this.origin.replaceChildren(
         make("h2", {}, "Where it comes from"),
@@ -430,6 +444,15 @@ const rdfax = {};
       const span = this.origins.spans[number];
       const act = () => this.source.show(span.slice(2, 4), true);
       return button(`${span[2] + 1}:${span[3] + 1}`, act, { class: "jump", title: `Bytes ${span[0]} to ${span[1] - 1}`, "aria-label": `Go to line ${span[2] + 1}, column ${span[3] + 1}` });
+    }
+
+    // From a mended copy to the page that was mended, at this place.
+    leap([, line, ch, endLine, endCh]) {
+      const act = () => {
+        this.awaited = [[line, ch], [endLine, endCh]];
+        this.provider.unmend();
+      };
+      return button(`${line + 1}:${ch + 1}`, act, { class: "jump original", "aria-label": `Go back to the page, to line ${line + 1}, column ${ch + 1}` });
     }
 
     // The other way: the triples that are said where the cursor stands.
@@ -467,19 +490,37 @@ const rdfax = {};
       if (this.tab === "graph") this.markEdges(origins, span);
     }
 
-    showItems() {
+    // Once their places are known, each item leads to its start tag.
+    showItems(places = null) {
       const items = this.told.items ?? [];
-      const list = items.length ? make("ul", {}, ...items.map((item) => make("li", {}, this.itemElement(item)))) : make("p", {}, "The page has no items.");
+      const placed = (at) => (places ? [places.items[at], places.spans] : []);
+      const list = items.length ? make("ul", {}, ...items.map((item, at) => make("li", {}, this.itemElement(item, ...placed(at))))) : make("p", {}, "The page has no items.");
       this.panel.replaceChildren(this.tools("items"), make("div", { class: "items" }, list));
     }
 
-    itemElement(item) {
+    itemElement(item, place = null, spans = null) {
       const name = (item.type ?? []).join(" ") || "an item";
+      const inner = (key, at) => (place ? [place.properties[key][at], spans] : []);
       const lines = Object.entries(item.properties).flatMap(([key, values]) =>
-        values.map((value) => make("li", {}, make("strong", {}, key), ": ", typeof value === "string" ? make("span", { class: "literal" }, value) : this.itemElement(value))),
+        values.map((value, at) =>
+          make("li", {}, make("strong", {}, key), ": ", typeof value === "string" ? make("span", { class: "literal" }, value) : this.itemElement(value, ...inner(key, at))),
+        ),
       );
       const id = item.id ? [make("p", {}, make("span", { class: "iri" }, item.id))] : [];
-      return make("details", { open: true }, make("summary", {}, name), ...id, make("ul", {}, ...lines));
+      const summary = make("summary", {}, name);
+      if (place) summary.append(...this.itemPlaces(spans[place.span]));
+      return make("details", { open: true }, summary, ...id, make("ul", {}, ...lines));
+    }
+
+    itemPlaces(span) {
+      const act = () => {
+        this.source.clear();
+        this.source.mark(span.slice(2, 4), span.slice(4, 6), "said");
+        this.source.show(span.slice(2, 4), true);
+      };
+      const here = button(`${span[2] + 1}:${span[3] + 1}`, act, { class: "jump", "aria-label": `Go to line ${span[2] + 1}, column ${span[3] + 1}` });
+      const copyOf = this.provider.original?.(span[0]);
+      return copyOf ? [" ", here, " in the original ", this.leap(copyOf)] : [" ", here];
     }
 
     showGraph() {
