@@ -53,7 +53,10 @@ def test_what_each_tab_shows(page: Page) -> None:
     assert len(page.all(".drawing .edge")) == 9
     page.example("items.html")
     page.tab("items")
-    assert [element.text for element in page.all("#panel summary")] == ["http://schema.org/Product", "http://schema.org/Offer"]
+    page.settled(places=True)
+    assert [element.text for element in page.all("#panel summary")] == ["http://schema.org/Product 2:1", "http://schema.org/Offer 5:1"]
+    page.all("#panel summary .jump")[1].click()
+    assert page.marked("said") == '<p itemprop="offers" itemscope itemtype="http://schema.org/Offer">'
 
 
 def test_a_refusal_is_marked_and_told(page: Page) -> None:
@@ -81,6 +84,25 @@ def test_what_a_browser_s_reading_gives(page: Page) -> None:
     page.one(".copy button").click()
     page.settled()
     assert "Mismatch" in page.text(".refusal") and not page.one(".copy").is_displayed()
+
+
+def test_a_mended_copy_leads_to_the_places_of_the_page(page: Page) -> None:
+    """From a triple, and from an item, of the mended copy back to the tag of the page that its author wrote."""
+    source = '<p>Such\n<table><td property="schema:name">Anvil\n<p itemscope itemtype="http://schema.org/Offer">one'
+    for tab, chosen, tag in (("triples", "tbody tr[data-row]", '<td property="schema:name">'), ("items", "summary", '<p itemscope itemtype="http://schema.org/Offer">')):
+        page.source(source)
+        page.tab(tab)
+        page.one(".refusal .tools button:nth-child(2)").click()
+        page.wait("document.querySelector('[role=note]:not([hidden])')")
+        if "The mender isn't there" in page.text("#panel"):
+            pytest.skip("the mender isn't there")
+        page.settled(places=True)
+        page.one(f"#panel {chosen}").click()
+        page.wait("document.querySelector('.original')")
+        page.one(".original").click()
+        page.wait("rdfax.live.workbench.refusal.hidden === false")
+        page.wait("rdfax.live.workbench.source.marks.some((mark) => mark.className === 'said')")
+        assert page.source() == source and page.marked("said") == tag
 
 
 def test_marks_both_ways(page: Page) -> None:

@@ -51,6 +51,17 @@ class _Here:
             yield task, work(*task)
 
 
+# A task whose worker ends is given back at once. What Dask watches and keeps of itself a hundred times a second takes much of
+# a processor, and more memory the longer it runs. (A scheduler and workers that run already have their own configuration.)
+_CONFIGURATION = {
+    "distributed.scheduler.allowed-failures": 0,
+    "distributed.comm.timeouts.connect": "10s",
+    "distributed.worker.profile.enabled": False,
+    "distributed.admin.tick.interval": "500ms",
+    "distributed.admin.system-monitor.interval": "5s",
+}
+
+
 class _Dask:
     """Has tasks done by the workers of a scheduler that runs, or of a cluster on this machine."""
 
@@ -61,8 +72,7 @@ class _Dask:
         # What the scheduler's and a worker's end come to is told by who calls.
         for name in ("distributed", "distributed.client"):
             logging.getLogger(name).setLevel(logging.CRITICAL)
-        # A task whose worker ends is given back at once; a scheduler that runs already has its own number.
-        dask.config.set({"distributed.scheduler.allowed-failures": 0, "distributed.comm.timeouts.connect": "10s"})
+        dask.config.set(_CONFIGURATION)
         if scheduler:
             self._client = Client(scheduler)
         else:
