@@ -89,7 +89,10 @@ def test_what_a_browser_s_reading_gives(page: Page) -> None:
 def test_a_mended_copy_leads_to_the_places_of_the_page(page: Page) -> None:
     """From a triple, and from an item, of the mended copy back to the tag of the page that its author wrote."""
     source = '<p>Such\n<table><td property="schema:name">Anvil\n<p itemscope itemtype="http://schema.org/Offer">one'
-    for tab, chosen, tag in (("triples", "tbody tr[data-row]", '<td property="schema:name">'), ("items", "summary", '<p itemscope itemtype="http://schema.org/Offer">')):
+    for tab, chosen, tag in (
+        ("triples", "tbody tr[data-row]", '<td property="schema:name">'),
+        ("items", "summary", '<p itemscope itemtype="http://schema.org/Offer">'),
+    ):
         page.source(source)
         page.tab(tab)
         page.one(".refusal .tools button:nth-child(2)").click()

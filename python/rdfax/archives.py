@@ -10,7 +10,6 @@ one of the two.
 
 from __future__ import annotations
 
-import base64
 import functools
 import hashlib
 import http.client
@@ -52,10 +51,15 @@ PAGE_TYPES: Mapping[str, typing.Literal["html", "xhtml"]] = {"text/html": "html"
 LONGEST = 64 << 20
 
 _PIECE = 1 << 16
+# So much is read of a compressed file at once: most records have less.
+_PACKED = 1 << 14
 # As much is kept of a block that is too long: its type is told there.
 _HEAD = 1 << 16
 _BEGIN = b"WARC/"
 _ARC_BEGIN = b"filedesc:"
+_BASE32, _DIGITS = re.compile("[A-Z2-7]+"), str.maketrans("ABCDEFGHIJKLMNOPQRSTUVWXYZ234567", "0123456789ABCDEFGHIJKLMNOPQRSTUV")
+# Headers that take a line each, and the empty line behind them. (Of HTTP, http.client takes no more than 100.)
+_HEADERS = re.compile(rb"(?:[!-9;-~]+[ \t]*:[^\r\n]*\r?\n){0,100}\r?\n")
 _PLAIN_BEGIN = re.compile(rb"\n(?=WARC/[0-9.]+\r?\n)")
 
 
@@ -114,7 +118,7 @@ class _Member(io.RawIOBase):
 
     def readinto(self, room: memoryview) -> int:  # type: ignore[override]
         while not self._inflater.eof:
-            piece = self._left or self._file.read(_PIECE)
+            piece = self._left or self._file.read(_PACKED)
             if not piece:
                 raise Damaged("Cut")
             try:
@@ -200,8 +204,8 @@ def _members(file: BinaryIO, start: int, size: int, longest: int) -> Iterator[Re
 
 def _drained(stream: io.BufferedReader) -> None:
     """Reads what stands between two records, so that the member's end and its checksum come to light."""
-    while (blank := stream.peek(1)[:1]) and blank in b"\r\n":
-        stream.read(1)
+    while count := len(held := stream.peek(1)) - len(held.lstrip(b"\r\n")):
+        stream.read(count)
 
 
 def _next_member(file: BinaryIO, at: int, size: int) -> int:
@@ -294,6 +298,26 @@ def _record(stream: typing.IO[bytes], offset: int, longest: int, known: _Known) 
 
 def _headers(stream: typing.IO[bytes]) -> dict[str, str]:
     """The headers of a record by their names in small letters; the first one of a name counts."""
+    assert isinstance(stream, io.BufferedReader)
+    held = stream.peek(1)
+    # (most often all stand there already, a line each)
+    found = _HEADERS.match(held)
+    if found:
+        stream.read(found.end())
+        return _by_name(found[0].decode("utf-8", "replace"))
+    return _headers_by_line(stream)
+
+
+def _by_name(text: str) -> dict[str, str]:
+    headers: dict[str, str] = {}
+    for line in text.split("\n"):
+        name, colon, value = line.partition(":")
+        if colon:
+            headers.setdefault(name.strip().lower(), value.strip())
+    return headers
+
+
+def _headers_by_line(stream: typing.IO[bytes]) -> dict[str, str]:
     headers: dict[str, str] = {}
     name = ""
     while (line := stream.readline(_PIECE)) not in (b"\r\n", b"\n"):
@@ -320,9 +344,12 @@ class _Digest:
         self.update = self._of.update
 
     def right(self) -> bool:
-        digest = self._of.digest()
-        spelled = base64.b32encode(digest).decode("ascii").rstrip("=").lower()
-        return self._told.rstrip("=").lower() in (spelled, digest.hex())
+        """Whether they are the same, in base 16 or base 32."""
+        digest, told = self._of.digest(), self._told.rstrip("=").upper()
+        spare = 5 * len(told) - 8 * len(digest)
+        if not 0 <= spare < 5:
+            return told == digest.hex().upper()
+        return _BASE32.fullmatch(told) is not None and int(told.translate(_DIGITS), 32) == int.from_bytes(digest) << spare
 
 
 def _block(stream: typing.IO[bytes], length: int, longest: int, told: str) -> tuple[bytes, _Digest | None]:
@@ -380,19 +407,32 @@ def fetched(record: Record, longest: int = LONGEST) -> Fetched | None:
         return Fetched(200, media_type, charset, b"" if record.fault else record.block, record.fault)
     if record.kind != "response" or not record.address.lower().startswith(("http:", "https:")):
         return None
-    stream = io.BytesIO(record.block)
     try:
-        status = _status(stream.readline(_PIECE))
-        headers = http.client.parse_headers(stream)
+        status, headers, begin = _head(record.block)
     except (http.client.HTTPException, ValueError):
         return Fetched(0, "", None, b"", record.fault or "BadHttp")
     media_type, charset = _media_type(headers.get("content-type", ""))
     if record.fault or media_type not in PAGE_TYPES:
         return Fetched(status, media_type, charset, b"", record.fault)
     try:
-        return Fetched(status, media_type, charset, body_of(headers, stream.read(), longest))
+        return Fetched(status, media_type, charset, body_of(headers, record.block[begin:], longest))
     except Damaged as damaged:
         return Fetched(status, media_type, charset, b"", str(damaged))
+
+
+def _head(block: bytes) -> tuple[int, Mapping[str, str], int]:
+    """The status of a response, its headers by their names in small letters, and where its body begins."""
+    line = block[: block.find(b"\n", 0, _PIECE) + 1]
+    status, found = _status(line), _HEADERS.match(block, len(line))
+    if found:
+        return status, _by_name(found[0].decode("latin-1")), found.end()
+    stream = io.BytesIO(block)
+    stream.seek(len(line))
+    message = http.client.parse_headers(stream)
+    headers: dict[str, str] = {}
+    for name, value in message.items():
+        headers.setdefault(name.lower(), value)
+    return status, headers, stream.tell()
 
 
 def _status(line: bytes) -> int:
@@ -402,6 +442,7 @@ def _status(line: bytes) -> int:
     return int(found[1])
 
 
+@functools.lru_cache(1024)
 def _media_type(value: str) -> tuple[str, str | None]:
     """The media type in small letters, and its charset.
 

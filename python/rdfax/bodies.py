@@ -4,8 +4,7 @@ from __future__ import annotations
 
 import re
 import zlib
-from collections.abc import Callable
-from email.message import Message
+from collections.abc import Callable, Mapping
 
 __all__ = ["GZIP", "Damaged", "body_of"]
 
@@ -22,8 +21,8 @@ class Damaged(Exception):
     """What is read is damaged; the name of the fault."""
 
 
-def body_of(headers: Message, body: bytes, longest: int) -> bytes:
-    """The body without its chunks and its compression."""
+def body_of(headers: Mapping[str, str], body: bytes, longest: int) -> bytes:
+    """The body without its chunks and its compression, of which the headers tell by their names in small letters."""
     if "chunked" in headers.get("transfer-encoding", "").lower():
         body = _joined(body)
     codings = [coding.strip().lower() for coding in headers.get("content-encoding", "").split(",")]
