@@ -144,9 +144,13 @@ class Page:
         """The page's end: its text in UTF-8, which is empty where the task is `quads`."""
         with self._alone():
             self._answered(library().rdfax_finish(self._handle))
-            room = (ctypes.c_char * library().rdfax_text_length(self._handle))()
-            library().rdfax_text(self._handle, 0, room, len(room))
-        return bytes(room.raw)
+            length = library().rdfax_text_length(self._handle)
+            if not length:
+                return b""
+            room = bytearray(length)
+            # (an array of this length would be a class of its own, which takes longer to make than most texts to copy)
+            library().rdfax_text(self._handle, 0, ctypes.byref(ctypes.c_char.from_buffer(room)), length)
+        return bytes(room)
 
     @property
     def nodes(self) -> int:

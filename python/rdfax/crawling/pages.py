@@ -97,8 +97,8 @@ class _Reading:
                 page.feed(body)
                 quads = page.finish()
                 self.nodes = page.nodes if b"_:b" in quads else 0
-        # Where the page is one of the grammar and has no such letters, it has no item.
-        if self._options.items and (not self._options.rdfa or b"itemscope" in body.lower()):
+        # Where the page is one of the grammar and has no such letters (of `itemscope`), it has no item.
+        if self._options.items and (not self._options.rdfa or b"mscop" in body.lower()):
             items = items_text(body, self._given.address, syntax=self._given.syntax).encode()
         return quads, items
 
