@@ -158,6 +158,12 @@ class Page:
         with self._alone():
             return int(library().rdfax_nodes(self._handle))
 
+    @property
+    def count(self) -> int:
+        """How many quads a finished page has, where the task is `quads`."""
+        with self._alone():
+            return int(library().rdfax_quad_count(self._handle))
+
     def quads(self) -> Iterator[Quad]:
         """The quads of a page that was finished, one after another, in order of first appearance.
 

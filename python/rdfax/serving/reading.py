@@ -5,6 +5,7 @@ Each function answers what `json.dumps` takes.
 
 from __future__ import annotations
 
+import functools
 import importlib
 import itertools
 import json
@@ -49,13 +50,13 @@ def _term(term: Object) -> Told:
     return {"iri": term} if isinstance(term, Iri) else {"blank": term}
 
 
-def _triples(page: bytes, base: str, syntax: pages.Syntax) -> Told:
+def _triples(page: bytes, base: str, syntax: pages.Syntax, most: int) -> Told:
+    """The first triples, as many as are asked for, and how many may be; how many there are in all."""
     with pages.Page("quads", base, syntax=syntax) as opened:
         _feed(opened, page)
-        quads = opened.quads()
-        shown = [[_term(quad.subject), _term(quad.predicate), _term(quad.object)] for quad in itertools.islice(quads, SHOWN_TRIPLES)]
-        count = len(shown) + sum(1 for _ in quads)
-    return {"triples": shown, "count": count, "prefixes": STANDARD.prefixes}
+        count = opened.count
+        told = [[_term(quad.subject), _term(quad.predicate), _term(quad.object)] for quad in itertools.islice(opened.quads(), min(max(most, 0), SHOWN_TRIPLES))]
+    return {"triples": told, "shown": min(count, SHOWN_TRIPLES), "count": count, "prefixes": STANDARD.prefixes}
 
 
 def _feed(opened: pages.Page, page: bytes) -> None:
@@ -83,18 +84,18 @@ def _text_view(form: pages.Format) -> Callable[[bytes, str, pages.Syntax], Told]
 
 
 VIEWS: dict[str, Callable[[bytes, str, pages.Syntax], Told]] = {
-    "triples": _triples,
+    "triples": functools.partial(_triples, most=SHOWN_TRIPLES),
     **{form: _text_view(form) for form in pages.FORMATS},
     "items": _items,
     "graph": _graph,
 }
 
 
-def read(page: bytes, base: str, syntax: pages.Syntax, view: str) -> Told:
-    """One view of the page; or why the page is refused, or the base is none."""
+def read(page: bytes, base: str, syntax: pages.Syntax, view: str, most: int | None = None) -> Told:
+    """One view of the page, of triples the first ones; or why the page is refused, or the base is none."""
     started = time.perf_counter()
     try:
-        told = VIEWS[view](page, base, syntax)
+        told = VIEWS[view](page, base, syntax) if view != "triples" or most is None else _triples(page, base, syntax, most)
     except Refused as refused:
         told = {"refused": _refusal(page, refused)}
     except Usage as usage:

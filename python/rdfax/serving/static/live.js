@@ -67,10 +67,14 @@
       }
     }
 
-    ask(view) {
+    ask(view, most) {
       this.asking?.abort();
       this.asking = new AbortController();
-      return this.json("read", this.words({ view }), this.bytes());
+      return this.json("read", this.words({ view, most }), this.bytes());
+    }
+
+    whole() {
+      return this.json("read", this.words({ view: "triples" }), this.bytes());
     }
 
     places() {

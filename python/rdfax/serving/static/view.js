@@ -129,7 +129,8 @@ const rdfax = {};
     }
   }
 
-  // The source at the left, the tabs at the right. `provider.ask(view)` answers what is told of the page.
+  // The source at the left, the tabs at the right. `provider.ask(view, most)` answers what is told of
+  // the page, of its triples the first ones; `provider.whole()`, where it is there, all triples that are shown.
   class Workbench {
     constructor(root, provider, { readOnly = false } = {}) {
       this.provider = provider;
@@ -202,7 +203,7 @@ const rdfax = {};
       this.origins = null;
       if (this.provider.isEmpty?.()) return this.showEmpty();
       const view = this.tab === "statistics" ? "triples" : this.tab;
-      const told = await this.provider.ask(view);
+      const told = await this.provider.ask(view, ROWS);
       if (ticket !== this.ticket || told === null) return;
       this.told = told;
       this.show(view);
@@ -328,11 +329,11 @@ const rdfax = {};
     }
 
     showTriples() {
-      const { triples, count: all } = this.told;
+      const { triples, shown: most, count: all } = this.told;
       this.rows = [];
       if (!triples.length) return this.panel.replaceChildren(make("p", {}, "The page has no triples. Look at the items, too: Microdata is shown there."));
       this.body = make("tbody", { onkeydown: (event) => this.rowKeys(event) });
-      const shown = all > triples.length ? `The first ${triples.length.toLocaleString("en")} of ${count(all, "triple")}` : count(all, "triple");
+      const shown = all > most ? `The first ${most.toLocaleString("en")} of ${count(all, "triple")}` : count(all, "triple");
       const heads = ["Place", "Subject", "Predicate", "Object"].map((name) => make("th", { scope: "col", class: name.toLowerCase() }, name));
       const table = make("table", { role: "grid" }, make("caption", {}, `${shown}. Choose a row to see where it is said.`), make("thead", {}, make("tr", {}, ...heads)), this.body);
       this.origin = make("div", { class: "origin", "aria-live": "polite", hidden: true });
@@ -340,8 +341,22 @@ const rdfax = {};
       this.addRows(ROWS);
     }
 
+    // The triples that are shown beyond the first ones, once they are wanted. Whether they are there.
+    async hasAll() {
+      const told = this.told;
+      if (told.triples.length < told.shown && this.provider.whole) {
+        const whole = await this.provider.whole();
+        if (whole?.triples && this.told === told) told.triples = whole.triples;
+      }
+      return this.told === told && Boolean(told.triples);
+    }
+
+    async addAllRows(to) {
+      if (await this.hasAll()) this.addRows(to);
+    }
+
     addRows(to) {
-      const { triples, prefixes } = this.told;
+      const { triples, prefixes, shown } = this.told;
       for (const [number, triple] of triples.slice(0, to).entries()) {
         if (number < this.rows.length) continue;
         const cells = triple.map((term) => make("td", {}, termElement(term, prefixes)));
@@ -349,7 +364,7 @@ const rdfax = {};
         row.addEventListener("click", () => this.choose(number));
         this.rows.push(row);
       }
-      const more = triples.length > to ? [make("tr", {}, make("td", { colspan: "4" }, button(`Show all ${triples.length.toLocaleString("en")}`, () => this.addRows(triples.length))))] : [];
+      const more = shown > to ? [make("tr", {}, make("td", { colspan: "4" }, button(`Show all ${shown.toLocaleString("en")}`, () => this.addAllRows(shown))))] : [];
       this.body.replaceChildren(...this.rows, ...more);
     }
 
@@ -456,7 +471,7 @@ const rdfax = {};
     }
 
     // The other way: the triples that are said where the cursor stands.
-    chooseAt(cursor) {
+    async chooseAt(cursor) {
       if (!this.origins || this.told?.refused) return;
       const { origins, spans } = this.origins;
       const before = (span) => span[2] < cursor.line || (span[2] === cursor.line && span[3] <= cursor.ch);
@@ -466,7 +481,8 @@ const rdfax = {};
         if (before(span) && (best < 0 || span[0] > spans[origins[best].span][0])) best = number;
       }
       if (best < 0 || !this.reaches(spans[origins[best].span], cursor)) return;
-      if (this.tab === "triples" && best >= this.rows.length) this.addRows(best + 1);
+      if (this.tab === "triples" && best >= this.rows.length) await this.addAllRows(best + 1);
+      if (this.origins?.origins !== origins) return;
       this.markOrigin(best, false);
       this.markRows(origins, origins[best].span);
     }
@@ -587,12 +603,14 @@ const rdfax = {};
       this.selectTab("triples");
       this.provider.opened?.("triples");
       await this.refresh();
+      if (!this.told.triples || !(await this.hasAll())) return;
       const label = words.replace(/\u2026$/, "");
-      const found = this.rows.find((row) => [...row.cells].slice(1).some((cell) => cell.textContent.startsWith(label)));
-      if (found) {
-        this.choose(Number(found.dataset.row), true);
-        found.scrollIntoView({ block: "nearest" });
-      }
+      const { triples, prefixes } = this.told;
+      const found = triples.findIndex((triple) => triple.some((term) => termElement(term, prefixes).textContent.startsWith(label)));
+      if (found < 0) return;
+      if (found >= this.rows.length) this.addRows(found + 1);
+      this.choose(found, true);
+      this.rows[found].scrollIntoView({ block: "nearest" });
     }
 
     showStatistics(places) {
