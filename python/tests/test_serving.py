@@ -13,6 +13,7 @@ import time
 from collections import Counter
 from collections.abc import Iterator
 from concurrent.futures import ThreadPoolExecutor
+from pathlib import Path
 from typing import Any
 
 import pytest
@@ -131,6 +132,24 @@ def test_private_and_odd_addresses_are_not_fetched(server: Server, address: str)
 def test_what_is_open_to_all_fetches_nothing_private() -> None:
     done = subprocess.run([sys.executable, "-m", "rdfax", "serve", "--public", "--private"], capture_output=True, check=False)
     assert done.returncode == 2 and b"can't go together" in done.stderr
+
+
+def test_who_serves_to_all_is_told_what_that_means() -> None:
+    command = [sys.executable, "-m", "rdfax", "serve", "--public", "--port", "0"]
+    with subprocess.Popen(command, stdout=subprocess.PIPE, stderr=subprocess.PIPE, text=True) as process:
+        assert process.stdout is not None and process.stderr is not None
+        said = process.stderr.readline()
+        process.terminate()
+    assert said.startswith("rdfax: --public: everyone who reaches this machine can have pages read here")
+
+
+def test_no_page_is_kept(tmp_path: Path) -> None:
+    """Neither a short page nor a long one, which lies in a file while it comes in, is in any file afterwards."""
+    with serving(TMPDIR=str(tmp_path)) as started:
+        for size in (1, 100_000):
+            assert started.read("<html>" + "<p>secret</p>" * size + "</html>")["count"] == 0
+        left = [path for path in tmp_path.rglob("*") if path.is_file() and b"secret" in path.read_bytes()]
+    assert left == []
 
 
 def test_a_page_is_fetched_and_its_redirects_are_told(small: Server, site: str) -> None:
