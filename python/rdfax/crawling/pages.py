@@ -10,7 +10,7 @@ from typing import NamedTuple
 
 from rdfax.crawling.options import Options
 from rdfax.errors import Refused, Usage
-from rdfax.pages import Page, Syntax, items_text
+from rdfax.pages import SYNTAXES, Request, Syntax, text_and_nodes
 
 if typing.TYPE_CHECKING:
     from rdfax.mending import Mended
@@ -90,16 +90,14 @@ class _Reading:
 
     def texts(self, body: bytes) -> tuple[bytes, bytes]:
         """The page's quads and items."""
-        quads, items = b"", b""
+        quads, items, address = b"", b"", self._given.address
+        syntax = SYNTAXES.index(self._given.syntax)
         if self._options.rdfa:
-            graph = self._given.address.partition("#")[0]
-            with Page("extract", self._given.address, syntax=self._given.syntax, graph=graph, first_node=self._first) as page:
-                page.feed(body)
-                quads = page.finish()
-                self.nodes = page.nodes if b"_:b" in quads else 0
+            quads, nodes = text_and_nodes(Request("extract", syntax, address, 0, address.partition("#")[0], None, self._first), body)
+            self.nodes = nodes if b"_:b" in quads else 0
         # Where the page is one of the grammar and has no such letters (of `itemscope`), it has no item.
         if self._options.items and (not self._options.rdfa or b"mscop" in body.lower()):
-            items = items_text(body, self._given.address, syntax=self._given.syntax).encode()
+            items, _ = text_and_nodes(Request("items", syntax, address, 0, None, None, 0), body)
         return quads, items
 
 
