@@ -157,9 +157,13 @@ def test_again(archive: Path, single: Path, tmp_path: Path) -> None:
 
 @needs_dask
 @pytest.mark.parametrize("workers", [1, 2])
-def test_workers(archive: Path, single: Path, tmp_path: Path, workers: int) -> None:
+def test_workers(archive: Path, single: Path, tmp_path: Path, workers: int, monkeypatch: pytest.MonkeyPatch) -> None:
+    """Workers write what one process writes, and nothing where the command is begun."""
+    (tmp_path / "here").mkdir()
+    monkeypatch.chdir(tmp_path / "here")
     crawl(tmp_path / "out", archive, "--workers", workers, "--records", 20)
     assert texts(tmp_path / "out") == texts(single)
+    assert list((tmp_path / "here").iterdir()) == []
 
 
 @pytest.mark.parametrize("compression", ["none", "zstd"])

@@ -4,6 +4,7 @@ from __future__ import annotations
 
 import itertools
 import logging
+import tempfile
 import typing
 from collections.abc import Callable, Iterable, Iterator
 from typing import Any, Protocol, Self
@@ -73,17 +74,22 @@ class _Dask:
         for name in ("distributed", "distributed.client"):
             logging.getLogger(name).setLevel(logging.CRITICAL)
         dask.config.set(_CONFIGURATION)
+        self._room: tempfile.TemporaryDirectory[str] | None = None
         if scheduler:
             self._client = Client(scheduler)
         else:
+            # (without a folder of their own the workers would make one where the command was begun)
+            self._room = tempfile.TemporaryDirectory(prefix="rdfax-crawl.", ignore_cleanup_errors=True)
             words = {"n_workers": workers, "threads_per_worker": 1, "processes": True, "memory_limit": None, "dashboard_address": None}
-            self._client = Client(**words, silence_logs=logging.CRITICAL)
+            self._client = Client(**words, silence_logs=logging.CRITICAL, local_directory=self._room.name)
 
     def __enter__(self) -> Self:
         return self
 
     def __exit__(self, *_: object) -> None:
         self._client.close()
+        if self._room:
+            self._room.cleanup()
 
     def do(self, work: Callable[..., Any], tasks: Iterable[tuple[Any, ...]]) -> Iterator[Done]:
         """What a worker's end lost is done once more, one task at a time: then one that ends its worker takes no other along."""
