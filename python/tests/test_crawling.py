@@ -255,7 +255,9 @@ def slow_archive(folder: Path) -> Path:
 @contextlib.contextmanager
 def running(*words: str, **environment: str) -> Iterator[subprocess.Popen[str]]:
     """A process that is ended at the end."""
-    process = subprocess.Popen(words, text=True, stdout=subprocess.PIPE, stderr=subprocess.PIPE, env=surroundings(**environment), start_new_session=True)
+    # (what a shell runs in the background passes interrupts over, and so would what is begun here)
+    asked = ["env", "--default-signal=INT", *words]
+    process = subprocess.Popen(asked, text=True, stdout=subprocess.PIPE, stderr=subprocess.PIPE, env=surroundings(**environment), start_new_session=True)
     try:
         yield process
     finally:
