@@ -10,7 +10,8 @@ Each folder in FOLDER holds pages of one maker: a package. Of each at most so ma
 spread over all its pages in order of their names: files that end in .html, .htm or .xhtml, links to others left out. A page
 that ends in .xhtml is read as XHTML, all others as HTML, as servers tell it; of those that are refused it is told how many
 are read as XHTML. Of each kind of fault it tells on how many pages it is the first fault, in how many packages, what stands
-there most often, and an example. With --tidy (Debian's tidy) it tells how many of them are read once tidy has mended the page.
+there most often, and an example. With --mend it tells how many of them are read once rdfax-mend (`make -C mend`) has mended
+them.
 """
 
 import argparse
@@ -25,7 +26,7 @@ from measure import BUILT
 
 SUFFIXES = (".html", ".htm", ".xhtml")
 SHOWN = 60
-TIDY = ["tidy", "-q", "-utf8", "--force-output", "yes", "--show-warnings", "no"]
+MENDER = os.path.join(os.path.dirname(os.path.abspath(__file__)), "..", "mend", "out", "rdfax-mend")
 
 
 def pages(package, most):
@@ -63,9 +64,10 @@ class Refusal:
         return re.sub(r"\s+", " ", token)[:20]
 
     def is_mended(self, given):
-        """Whether the page is read once tidy has mended it."""
+        """Whether the page is read once it is mended."""
         with tempfile.NamedTemporaryFile(suffix=".html") as mended:
-            subprocess.run(TIDY + ["-o", mended.name, self.path], stdout=subprocess.DEVNULL, stderr=subprocess.DEVNULL, check=False)
+            if subprocess.run([MENDER], input=self.page, stdout=mended, stderr=subprocess.DEVNULL, check=False).returncode != 0:
+                return False
             return not checked(given, mended.name, "html").is_refusal()
 
     def place(self):
@@ -96,7 +98,7 @@ def print_kinds(given, refusals):
         by_kind[refusal.answer.kind].append(refusal)
     for kind, those in sorted(by_kind.items(), key=lambda entry: -len(entry[1])):
         packages = {refusal.package for refusal in those}
-        mended = f", {sum(refusal.is_mended(given) for refusal in those)} read once tidy mended them" if given.tidy else ""
+        mended = f", {sum(refusal.is_mended(given) for refusal in those)} read once they are mended" if given.mend else ""
         print(f"\n{kind}: {len(those)} pages of {len(packages)} packages{mended}")
         for thing, count in collections.Counter(refusal.thing() for refusal in those).most_common(given.things):
             example = next(refusal for refusal in those if refusal.thing() == thing)
@@ -109,7 +111,7 @@ def arguments():
     parser.add_argument("--program", default=BUILT, help="the built program")
     parser.add_argument("--most", type=int, default=100, help="of a package so many pages at the most")
     parser.add_argument("--things", type=int, default=6, help="of each kind so many things that stand at the fault")
-    parser.add_argument("--tidy", action="store_true", help="mend the pages that are refused by tidy, and check them again")
+    parser.add_argument("--mend", action="store_true", help="mend the pages that are refused, and check them again")
     return parser.parse_args()
 
 

@@ -66,6 +66,13 @@ def primer(folder: Path) -> Iterator[Known]:
         yield Known(path.stem, path.read_bytes(), PRIMER_BASE, plain(rdflib.Graph().parse(data=told, format="json-ld")))
 
 
+def without_places(told: Any) -> Any:
+    """Items without the members that tell their places in the original."""
+    if isinstance(told, list):
+        return [without_places(value) for value in told]
+    return {name: without_places(value) for name, value in told.items() if name != "place"} if isinstance(told, dict) else told
+
+
 class Items(NamedTuple):
     """A page whose items extruct's tests tell: in lists, as the standard has them, where `is_strict`, else in extruct's own shape."""
 

@@ -2,14 +2,17 @@
 
 from __future__ import annotations
 
+import http.server
 import statistics
 import subprocess
 import sys
+import threading
 from pathlib import Path
 
 import pytest
 from looking import DOWN, END, ENTER, ESCAPE, RIGHT, TABS, Page
 from selenium.webdriver.common.keys import Keys
+from selenium.webdriver.support.ui import WebDriverWait
 from served import serving
 
 TOP = Path(__file__).resolve().parents[2]
@@ -53,7 +56,10 @@ def test_what_each_tab_shows(page: Page) -> None:
     assert len(page.all(".drawing .edge")) == 9
     page.example("items.html")
     page.tab("items")
-    assert [element.text for element in page.all("#panel summary")] == ["http://schema.org/Product", "http://schema.org/Offer"]
+    page.settled(places=True)
+    assert [element.text for element in page.all("#panel summary")] == ["http://schema.org/Product 2:1", "http://schema.org/Offer 5:1"]
+    page.all("#panel summary .jump")[1].click()
+    assert page.marked("said") == '<p itemprop="offers" itemscope itemtype="http://schema.org/Offer">'
 
 
 def test_a_refusal_is_marked_and_told(page: Page) -> None:
@@ -81,6 +87,28 @@ def test_what_a_browser_s_reading_gives(page: Page) -> None:
     page.one(".copy button").click()
     page.settled()
     assert "Mismatch" in page.text(".refusal") and not page.one(".copy").is_displayed()
+
+
+def test_a_mended_copy_leads_to_the_places_of_the_page(page: Page) -> None:
+    """From a triple, and from an item, of the mended copy back to the tag of the page that its author wrote."""
+    source = '<p>Such\n<table><td property="schema:name">Anvil\n<p itemscope itemtype="http://schema.org/Offer">one'
+    for tab, chosen, tag in (
+        ("triples", "tbody tr[data-row]", '<td property="schema:name">'),
+        ("items", "summary", '<p itemscope itemtype="http://schema.org/Offer">'),
+    ):
+        page.source(source)
+        page.tab(tab)
+        page.one(".refusal .tools button:nth-child(2)").click()
+        page.wait("document.querySelector('[role=note]:not([hidden])')")
+        if "The mender isn't there" in page.text("#panel"):
+            pytest.skip("the mender isn't there")
+        page.settled(places=True)
+        page.one(f"#panel {chosen}").click()
+        page.wait("document.querySelector('.original')")
+        page.one(".original").click()
+        page.wait("rdfax.live.workbench.refusal.hidden === false")
+        page.wait("rdfax.live.workbench.source.marks.some((mark) => mark.className === 'said')")
+        assert page.source() == source and page.marked("said") == tag
 
 
 def test_marks_both_ways(page: Page) -> None:
@@ -214,6 +242,81 @@ def test_an_address_is_fetched(page: Page) -> None:
         assert page.one("#base").get_attribute("value") == f"{site.address}static/page.html"
         page.settled(places=True)
         page.driver.get("about:blank")
+
+
+def test_redirects_are_told(page: Page) -> None:
+    class Redirecting(http.server.BaseHTTPRequestHandler):
+        def do_GET(self) -> None:
+            self.send_response(302 if self.path == "/to" else 200)
+            self.send_header("Location" if self.path == "/to" else "Content-Type", "/page" if self.path == "/to" else "text/html")
+            self.end_headers()
+            self.wfile.write(b"" if self.path == "/to" else RECIPE.encode())
+
+        def log_message(self, *_: object) -> None:
+            pass
+
+    with http.server.ThreadingHTTPServer(("127.0.0.1", 0), Redirecting) as site, serving("--private") as fetching:
+        threading.Thread(target=site.serve_forever, daemon=True).start()
+        address = f"http://127.0.0.1:{site.server_port}"
+        page.driver.get("about:blank")
+        page.driver.get(fetching.address)
+        page.wait("typeof rdfax === 'object' && rdfax.live && rdfax.live.examples")
+        page.one("#address").send_keys(f"{address}/to")
+        page.one("#fetch").click()
+        page.wait("document.getElementById('redirects')")
+        assert page.text("#redirects") == f"Redirected: {address}/to \u2192 {address}/page"
+        page.settled()
+        assert page.source() == RECIPE and page.one("#base").get_attribute("value") == f"{address}/page"
+        page.driver.get("about:blank")
+        site.shutdown()
+
+
+def test_texts_are_copied_and_downloaded(page: Page, tmp_path: Path) -> None:
+    page.driver.execute_cdp_cmd(
+        "Browser.grantPermissions", {"origin": page.address.rstrip("/"), "permissions": ["clipboardReadWrite", "clipboardSanitizedWrite"]}
+    )
+    page.driver.execute_cdp_cmd("Browser.setDownloadBehavior", {"behavior": "allow", "downloadPath": str(tmp_path)})
+    page.example("product.html")
+    texts = {"triples": "page.nq", "turtle": "page.ttl", "nested": "page.ttl", "jsonld": "page.jsonld", "nquads": "page.nq", "items": "page.json"}
+    for tab, name in texts.items():
+        page.tab(tab)
+        view = "nquads" if tab == "triples" else tab
+        written = page.driver.execute_async_script("rdfax.live.text(arguments[0]).then(arguments[1])", view)
+        page.one("#panel .tools button:nth-child(1)").click()
+        page.wait("document.querySelector('.status').textContent === 'Copied.'")
+        assert page.driver.execute_async_script("navigator.clipboard.readText().then(arguments[0])") == written
+        page.one("#panel .tools button:nth-child(2)").click()
+        WebDriverWait(page.driver, 30).until(lambda _, path=tmp_path / name: path.exists() and path.read_text("utf-8"))
+        assert (tmp_path / name).read_text("utf-8") == written and written
+        (tmp_path / name).unlink()
+
+
+def test_colours_are_the_system_s(page: Page) -> None:
+    found = {}
+    for dark in (True, False):
+        page.dark(dark)
+        colours = "const style = getComputedStyle(document.querySelector(arguments[0])); return [style.color, style.backgroundColor]"
+        found[dark] = [page.driver.execute_script(colours, name) for name in ("body", ".CodeMirror")]
+    assert all(bright != dark for bright, dark in zip(found[False], found[True], strict=True))
+
+
+def test_a_row_beyond_the_first_ones_is_found(page: Page) -> None:
+    """The other rows come once they are wanted: by the button, by the cursor, and from a node of the drawing."""
+    text = "<html>" + "\n".join(f'<p about="#s{number}" property="schema:name">Anvil {number}</p>' for number in range(250)) + "</html>"
+    page.source(text)
+    page.settled(places=True)
+    assert len(page.all("tbody tr[data-row]")) == 100
+    page.driver.execute_script("rdfax.live.editor.setCursor({line: 180, ch: 10})")
+    page.wait("document.querySelector('tbody tr[data-row=\"180\"][aria-selected=true]')")
+    assert page.text("tbody tr[data-row='180'] .place") == "181:1"
+    page.source(text)
+    page.one("tbody button").click()
+    page.wait("document.querySelectorAll('tbody tr[data-row]').length === 250")
+    page.tab("graph")
+    page.settled(places=True)
+    node = page.driver.execute_script("return [...document.querySelectorAll('.drawing .node')].find((node) => node.textContent.includes('#s200')).id")
+    page.driver.execute_script("document.getElementById(arguments[0]).dispatchEvent(new MouseEvent('click', {bubbles: true}))", node)
+    page.wait("document.activeElement.dataset.row === '200'")
 
 
 def test_a_phone_s_width(page: Page) -> None:

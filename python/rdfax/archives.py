@@ -4,37 +4,46 @@
 the reading goes on behind it: nothing is lost without a word. `fetched` makes of a record what a browser would have got:
 the status, the media type, the charset of the header, and the body without chunks and compression.
 
-The reader is of this module. Where warcio is installed, `reader="warcio"` has that one cut the file into records.
+Where warcio is installed it cuts a file into records, else a reader of this module does. Both give the same; `reader` names
+one of the two.
 """
 
 from __future__ import annotations
 
-import base64
+import functools
 import hashlib
 import http.client
+import importlib.util
 import io
+import itertools
 import re
 import typing
 import zlib
 from collections.abc import Generator, Iterator, Mapping
 from email.message import Message
 from pathlib import Path
-from typing import BinaryIO, NamedTuple
+from typing import Any, BinaryIO, NamedTuple
+
+from rdfax.bodies import GZIP, Damaged, body_of
 
 __all__ = ["FAULTS", "LONGEST", "PAGE_TYPES", "READERS", "Fetched", "Reader", "Record", "fetched", "records"]
 
-Reader = typing.Literal["own", "warcio"]
+Reader = typing.Literal["installed", "own", "warcio"]
 READERS: tuple[Reader, ...] = typing.get_args(Reader)
 
 FAULTS = {
     "BadGzip": "the compressed bytes are damaged",
     "BadHeader": "no record begins here",
+    "ArcFile": "it is an ARC file, which came before WARC and isn't read",
     "Cut": "the archive ends within the record",
     "BadDigest": "the record hasn't the digest that it tells",
     "TooLong": "the record or what it holds is longer than is read",
     "BadHttp": "what was fetched is no response of HTTP",
     "BadChunks": "the chunks of the body are damaged",
-    "BadEncoding": "the body is damaged, or compressed in a way that isn't known here",
+    "BadEncoding": "the compressed body is damaged",
+    "NoBrotli": "the body is compressed by Brotli, and Python's module brotli isn't installed",
+    "NoZstandard": "the body is compressed by Zstandard, and Python's module zstandard isn't installed",
+    "UnknownEncoding": "the body is compressed in a way that isn't known here",
 }
 # The media types of pages, and the syntax of each.
 PAGE_TYPES: Mapping[str, typing.Literal["html", "xhtml"]] = {"text/html": "html", "application/xhtml+xml": "xhtml"}
@@ -42,12 +51,16 @@ PAGE_TYPES: Mapping[str, typing.Literal["html", "xhtml"]] = {"text/html": "html"
 LONGEST = 64 << 20
 
 _PIECE = 1 << 16
+# So much is read of a compressed file at once: most records have less.
+_PACKED = 1 << 14
 # As much is kept of a block that is too long: its type is told there.
 _HEAD = 1 << 16
-_GZIP = b"\x1f\x8b\x08"
 _BEGIN = b"WARC/"
+_ARC_BEGIN = b"filedesc:"
+_BASE32, _DIGITS = re.compile("[A-Z2-7]+"), str.maketrans("ABCDEFGHIJKLMNOPQRSTUVWXYZ234567", "0123456789ABCDEFGHIJKLMNOPQRSTUV")
+# Headers that take a line each, and the empty line behind them. (Of HTTP, http.client takes no more than 100.)
+_HEADERS = re.compile(rb"(?:[!-9;-~]+[ \t]*:[^\r\n]*\r?\n){0,100}\r?\n")
 _PLAIN_BEGIN = re.compile(rb"\n(?=WARC/[0-9.]+\r?\n)")
-_CHUNK = re.compile(rb"\s*([0-9A-Fa-f]{1,8})[ \t]*(?:;[^\r\n]*)?\r?\n")
 
 
 class Record(NamedTuple):
@@ -91,10 +104,6 @@ class Fetched(NamedTuple):
     fault: str = ""
 
 
-class _Damaged(Exception):
-    """What is read is damaged; the name of the fault."""
-
-
 class _Member(io.RawIOBase):
     """What one member of a gzip file holds. At its end `end` is where the next one begins."""
 
@@ -109,13 +118,13 @@ class _Member(io.RawIOBase):
 
     def readinto(self, room: memoryview) -> int:  # type: ignore[override]
         while not self._inflater.eof:
-            piece = self._left or self._file.read(_PIECE)
+            piece = self._left or self._file.read(_PACKED)
             if not piece:
-                raise _Damaged("Cut")
+                raise Damaged("Cut")
             try:
                 made = self._inflater.decompress(piece, len(room))
             except zlib.error:
-                raise _Damaged("BadGzip") from None
+                raise Damaged("BadGzip") from None
             self._left = self._inflater.unconsumed_tail
             if made:
                 room[: len(made)] = made
@@ -127,7 +136,7 @@ class _Member(io.RawIOBase):
         return self._file.tell() - len(self._inflater.unused_data)
 
 
-def records(path: str | Path, start: int = 0, end: int | None = None, *, longest: int = LONGEST, reader: Reader = "own") -> Iterator[Record]:
+def records(path: str | Path, start: int = 0, end: int | None = None, *, longest: int = LONGEST, reader: Reader = "installed") -> Iterator[Record]:
     """The records of a WARC file that begin from `start` to before `end`; a record begins at `start`.
 
     A block of more than `longest` bytes is kept as far as its head, and the record's fault is `TooLong`. Where `longest` is
@@ -140,17 +149,39 @@ def records(path: str | Path, start: int = 0, end: int | None = None, *, longest
             yield record
 
 
+@functools.cache
+def _has_warcio() -> bool:
+    return importlib.util.find_spec("warcio") is not None
+
+
 def _from(file: BinaryIO, start: int, longest: int, reader: Reader) -> Iterator[Record]:
-    if reader == "warcio":
-        start = yield from _by_warcio(file, start, longest)
     size = file.seek(0, io.SEEK_END)
-    if start >= size:
+    if _is_arc(file):
+        yield Record(0, size, {}, b"", "ArcFile")
         return
+    known = 0
+    if reader == "warcio" or (reader == "installed" and _has_warcio()):
+        start, known = yield from _by_warcio(file, start, longest)
+    if start < size:
+        yield from itertools.islice(_by_own(file, start, size, longest), known, None)
+
+
+def _by_own(file: BinaryIO, start: int, size: int, longest: int) -> Iterator[Record]:
     file.seek(0)
-    if file.read(len(_GZIP)) == _GZIP:
-        yield from _members(file, start, size, longest)
-    else:
-        yield from _plain(file, start, size, longest)
+    packed = file.read(len(GZIP)) == GZIP
+    return (_members if packed else _plain)(file, start, size, longest)
+
+
+def _is_arc(file: BinaryIO) -> bool:
+    """Whether the file is an ARC file, compressed or not."""
+    file.seek(0)
+    begin = file.read(len(_ARC_BEGIN))
+    if begin.startswith(GZIP):
+        try:
+            begin = io.BufferedReader(_Member(file, 0), _PIECE).peek(len(_ARC_BEGIN))
+        except Damaged:
+            return False
+    return begin.startswith(_ARC_BEGIN)
 
 
 def _members(file: BinaryIO, start: int, size: int, longest: int) -> Iterator[Record]:
@@ -164,7 +195,7 @@ def _members(file: BinaryIO, start: int, size: int, longest: int) -> Iterator[Re
                 yield record._replace(end=member.end)
                 known = _Known()
             start = member.end
-        except _Damaged as damaged:
+        except Damaged as damaged:
             fault = str(damaged)
             behind = size if fault == "Cut" else _next_member(file, start + 1, size)
             yield Record(start, behind, known.headers, known.block, fault)
@@ -173,17 +204,17 @@ def _members(file: BinaryIO, start: int, size: int, longest: int) -> Iterator[Re
 
 def _drained(stream: io.BufferedReader) -> None:
     """Reads what stands between two records, so that the member's end and its checksum come to light."""
-    while (blank := stream.peek(1)[:1]) and blank in b"\r\n":
-        stream.read(1)
+    while count := len(held := stream.peek(1)) - len(held.lstrip(b"\r\n")):
+        stream.read(count)
 
 
 def _next_member(file: BinaryIO, at: int, size: int) -> int:
     """Where the next member begins that holds a record, or the file's end."""
-    while (at := _find(file, _GZIP, at)) != -1:
+    while (at := _find(file, GZIP, at)) != -1:
         try:
             if io.BufferedReader(_Member(file, at), _PIECE).peek(len(_BEGIN)).startswith(_BEGIN):
                 return at
-        except _Damaged:
+        except Damaged:
             pass
         at += 1
     return size
@@ -214,7 +245,7 @@ def _plain(file: BinaryIO, start: int, size: int, longest: int) -> Iterator[Reco
                 return
             yield record._replace(end=file.tell())
             start = _past_blanks(file, file.tell())
-        except _Damaged as damaged:
+        except Damaged as damaged:
             fault = str(damaged)
             behind = size if fault == "Cut" else _next_plain(file, start, size)
             yield Record(start, behind, known.headers, known.block, fault)
@@ -253,11 +284,11 @@ def _record(stream: typing.IO[bytes], offset: int, longest: int, known: _Known) 
     if not line:
         return None
     if not line.startswith(_BEGIN):
-        raise _Damaged("BadHeader")
+        raise Damaged("BadHeader")
     known.headers = _headers(stream)
     length = known.headers.get("content-length", "")
     if not re.fullmatch("[0-9]{1,18}", length):
-        raise _Damaged("BadHeader")
+        raise Damaged("BadHeader")
     known.block, digest = _block(stream, int(length), longest, known.headers.get("warc-block-digest", "") if longest else "")
     fault = "" if digest is None or digest.right() else "BadDigest"
     if int(length) > longest:
@@ -267,18 +298,38 @@ def _record(stream: typing.IO[bytes], offset: int, longest: int, known: _Known) 
 
 def _headers(stream: typing.IO[bytes]) -> dict[str, str]:
     """The headers of a record by their names in small letters; the first one of a name counts."""
+    assert isinstance(stream, io.BufferedReader)
+    held = stream.peek(1)
+    # (most often all stand there already, a line each)
+    found = _HEADERS.match(held)
+    if found:
+        stream.read(found.end())
+        return _by_name(found[0].decode("utf-8", "replace"))
+    return _headers_by_line(stream)
+
+
+def _by_name(text: str) -> dict[str, str]:
+    headers: dict[str, str] = {}
+    for line in text.split("\n"):
+        name, colon, value = line.partition(":")
+        if colon:
+            headers.setdefault(name.strip().lower(), value.strip())
+    return headers
+
+
+def _headers_by_line(stream: typing.IO[bytes]) -> dict[str, str]:
     headers: dict[str, str] = {}
     name = ""
     while (line := stream.readline(_PIECE)) not in (b"\r\n", b"\n"):
         if not line.endswith(b"\n"):
-            raise _Damaged("Cut" if len(line) < _PIECE else "BadHeader")
+            raise Damaged("Cut" if len(line) < _PIECE else "BadHeader")
         text = line.decode("utf-8", "replace")
         if text[0] in " \t" and name:
             headers[name] += " " + text.strip()
             continue
         name, colon, value = text.partition(":")
         if not colon:
-            raise _Damaged("BadHeader")
+            raise Damaged("BadHeader")
         name = name.strip().lower()
         headers.setdefault(name, value.strip())
     return headers
@@ -293,9 +344,12 @@ class _Digest:
         self.update = self._of.update
 
     def right(self) -> bool:
-        digest = self._of.digest()
-        spelled = base64.b32encode(digest).decode("ascii").rstrip("=").lower()
-        return self._told.rstrip("=").lower() in (spelled, digest.hex())
+        """Whether they are the same, in base 16 or base 32."""
+        digest, told = self._of.digest(), self._told.rstrip("=").upper()
+        spare = 5 * len(told) - 8 * len(digest)
+        if not 0 <= spare < 5:
+            return told == digest.hex().upper()
+        return _BASE32.fullmatch(told) is not None and int(told.translate(_DIGITS), 32) == int.from_bytes(digest) << spare
 
 
 def _block(stream: typing.IO[bytes], length: int, longest: int, told: str) -> tuple[bytes, _Digest | None]:
@@ -309,7 +363,7 @@ def _block(stream: typing.IO[bytes], length: int, longest: int, told: str) -> tu
     while size < length:
         piece = stream.read(min(_PIECE, length - size))
         if not piece:
-            raise _Damaged("Cut")
+            raise Damaged("Cut")
         if digest:
             digest.update(piece)
         if size < most:
@@ -318,26 +372,32 @@ def _block(stream: typing.IO[bytes], length: int, longest: int, told: str) -> tu
     return b"".join(kept)[:most], digest
 
 
-def _by_warcio(file: BinaryIO, start: int, longest: int) -> Generator[Record, None, int]:
-    """The records as warcio cuts them. Answers where it ended; where that is damage, the reader of this module goes on."""
+def _by_warcio(file: BinaryIO, start: int, longest: int) -> Generator[Record, None, tuple[int, int]]:
+    """The records as warcio cuts them. Answers where the reader of this module goes on, for warcio ends at what is damaged or
+    cut; and how many records from there on have been given."""
     from warcio.archiveiterator import ArchiveIterator
     from warcio.exceptions import ArchiveLoadFailed
 
     file.seek(start)
-    iterator = ArchiveIterator(file, no_record_parse=True)
+    iterator, end, given = ArchiveIterator(file, no_record_parse=True), start, 0
     try:
         for found in iterator:
-            known = _Known()
-            known.headers = {name.lower(): value for name, value in reversed(found.rec_headers.headers)}
-            length = int(known.headers["content-length"])
-            known.block, digest = _block(found.raw_stream, length, longest, known.headers.get("warc-block-digest", ""))
-            fault = "BadDigest" if digest and not digest.right() else "TooLong" if length > longest else ""
-            offset = iterator.get_record_offset()
-            start = offset + iterator.get_record_length()
-            yield Record(offset, start, known.headers, known.block, fault)
-    except (ArchiveLoadFailed, _Damaged, zlib.error, KeyError, ValueError):
-        pass
-    return start
+            record = _of_warcio(found, longest)
+            start, given = iterator.get_record_offset(), 1
+            end = start + iterator.get_record_length()
+            yield record._replace(offset=start, end=end)
+    except (ArchiveLoadFailed, Damaged, zlib.error, EOFError, LookupError, ValueError):
+        return start, given
+    return end, 0
+
+
+def _of_warcio(found: Any, longest: int) -> Record:
+    """A record that warcio has begun to read."""
+    headers = {name.lower(): value for name, value in reversed(found.rec_headers.headers)}
+    length = int(headers["content-length"])
+    block, digest = _block(found.raw_stream, length, longest, headers.get("warc-block-digest", "") if longest else "")
+    fault = "BadDigest" if digest and not digest.right() else "TooLong" if length > longest else ""
+    return Record(0, 0, headers, block, fault)
 
 
 def fetched(record: Record, longest: int = LONGEST) -> Fetched | None:
@@ -347,19 +407,32 @@ def fetched(record: Record, longest: int = LONGEST) -> Fetched | None:
         return Fetched(200, media_type, charset, b"" if record.fault else record.block, record.fault)
     if record.kind != "response" or not record.address.lower().startswith(("http:", "https:")):
         return None
-    stream = io.BytesIO(record.block)
     try:
-        status = _status(stream.readline(_PIECE))
-        headers = http.client.parse_headers(stream)
+        status, headers, begin = _head(record.block)
     except (http.client.HTTPException, ValueError):
         return Fetched(0, "", None, b"", record.fault or "BadHttp")
     media_type, charset = _media_type(headers.get("content-type", ""))
     if record.fault or media_type not in PAGE_TYPES:
         return Fetched(status, media_type, charset, b"", record.fault)
     try:
-        return Fetched(status, media_type, charset, _body(headers, stream.read(), longest))
-    except _Damaged as damaged:
+        return Fetched(status, media_type, charset, body_of(headers, record.block[begin:], longest))
+    except Damaged as damaged:
         return Fetched(status, media_type, charset, b"", str(damaged))
+
+
+def _head(block: bytes) -> tuple[int, Mapping[str, str], int]:
+    """The status of a response, its headers by their names in small letters, and where its body begins."""
+    line = block[: block.find(b"\n", 0, _PIECE) + 1]
+    status, found = _status(line), _HEADERS.match(block, len(line))
+    if found:
+        return status, _by_name(found[0].decode("latin-1")), found.end()
+    stream = io.BytesIO(block)
+    stream.seek(len(line))
+    message = http.client.parse_headers(stream)
+    headers: dict[str, str] = {}
+    for name, value in message.items():
+        headers.setdefault(name.lower(), value)
+    return status, headers, stream.tell()
 
 
 def _status(line: bytes) -> int:
@@ -369,6 +442,7 @@ def _status(line: bytes) -> int:
     return int(found[1])
 
 
+@functools.lru_cache(1024)
 def _media_type(value: str) -> tuple[str, str | None]:
     """The media type in small letters, and its charset.
 
@@ -379,59 +453,3 @@ def _media_type(value: str) -> tuple[str, str | None]:
     header["content-type"] = value
     charset = header.get_param("charset")
     return value.partition(";")[0].strip().lower(), charset.strip() if isinstance(charset, str) and charset.strip() else None
-
-
-def _body(headers: Message, body: bytes, longest: int) -> bytes:
-    """The body without its chunks and its compression."""
-    if "chunked" in headers.get("transfer-encoding", "").lower():
-        body = _joined(body)
-    codings = [coding.strip().lower() for coding in headers.get("content-encoding", "").split(",")]
-    for coding in reversed(codings):
-        body = _unpacked(coding, body, longest)
-    if len(body) > longest:
-        raise _Damaged("TooLong")
-    return body
-
-
-def _joined(body: bytes) -> bytes:
-    """The chunks of a body. Where it doesn't begin with one, it was joined by who wrote the archive."""
-    chunk = _CHUNK.match(body)
-    if chunk is None:
-        return body
-    parts, at = [], 0
-    while chunk and (size := int(chunk[1], 16)):
-        at = chunk.end() + size
-        parts.append(body[chunk.end() : at])
-        chunk = _CHUNK.match(body, at)
-    if chunk is None:
-        raise _Damaged("BadChunks")
-    return b"".join(parts)
-
-
-def _unpacked(coding: str, body: bytes, longest: int) -> bytes:
-    """The body without a coding. Where it isn't in that coding, it was unpacked by who wrote the archive."""
-    if coding in ("", "identity"):
-        return body
-    if coding in ("gzip", "x-gzip"):
-        return _inflated(body, 31, longest) if body.startswith(_GZIP) else body
-    if coding == "deflate":
-        zlibbed = len(body) > 1 and body[0] & 15 == 8 and (body[0] << 8 | body[1]) % 31 == 0
-        return _inflated(body, 15 if zlibbed else -15, longest)
-    raise _Damaged("BadEncoding")
-
-
-def _inflated(body: bytes, wbits: int, longest: int) -> bytes:
-    made, size = [], 0
-    while body:
-        inflater = zlib.decompressobj(wbits)
-        try:
-            made.append(inflater.decompress(body, longest + 1 - size))
-        except zlib.error:
-            raise _Damaged("BadEncoding") from None
-        size += len(made[-1])
-        if size > longest:
-            raise _Damaged("TooLong")
-        if not inflater.eof:
-            raise _Damaged("BadEncoding")
-        body = inflater.unused_data if inflater.unused_data.startswith(_GZIP) else b""
-    return b"".join(made)

@@ -22,7 +22,7 @@ from rdfax.errors import Error, Refused, Usage
 from rdfax.pages import SYNTAXES, Format, Mend, Source, Syntax, check, extract, items_text, quads, to_bytes
 from rdfax.terms import Quad
 
-__all__ = ["Mended", "MendedQuads", "MendedText", "NotMended", "checked", "extracted", "items_told", "mend", "quads_told"]
+__all__ = ["Mended", "MendedQuads", "MendedText", "NotMended", "checked", "extracted", "items_told", "mend", "places_comment", "quads_told"]
 
 SONAME = "librdfax_mend.so.0"
 
@@ -119,12 +119,20 @@ class MendedText(str):
 class MendedQuads(Iterator[Quad]):
     """The quads of a page that was mended, as `mended` tells."""
 
-    def __init__(self, found: Iterator[Quad], mended: Mended) -> None:
-        self._found = found
+    def __init__(self, found: Iterator[Quad], mended: Mended, places: Callable[[], list[int] | None]) -> None:
+        self._found, self._places = found, places
         self.mended = mended
 
     def __next__(self) -> Quad:
         return next(self._found)
+
+    @functools.cached_property
+    def places(self) -> list[int] | None:
+        """Of each quad the place in the original of the element that said it: the first byte of the token that made that.
+
+        It is found when it is asked for, by a second reading (docs/MENDING.md). None where it can't be told.
+        """
+        return self._places()
 
 
 def _candidates() -> list[str]:
@@ -213,7 +221,7 @@ def _read(read: Callable[[Source], Any], page: Source, mend_when: Mend, charset:
 def extracted(page: Source, base: str, mend: Mend, *, charset: str | None = None, syntax: Syntax = "html", format: Format = "nquads", **options: Any) -> str:
     """`rdfax.extract` with mending: the text of a page that was mended begins with a comment that says so, but for JSON-LD.
 
-    In any format it is a `MendedText`.
+    In any format it is a `MendedText`. N-Quads have a second comment, with the place in the original of each line's element.
     """
 
     def read(source: Source) -> str:
@@ -222,23 +230,42 @@ def extracted(page: Source, base: str, mend: Mend, *, charset: str | None = None
     text, mended = _read(read, page, mend, charset, syntax)
     if mended is None:
         return str(text)
-    told = MendedText(text if format == "jsonld" else f"# {mended}\n{text}")
+    places = _quad_places(mended, base, options) if format == "nquads" else None
+    told = MendedText(text if format == "jsonld" else f"# {mended}\n{places_comment(places)}{text}")
     told.mended = mended
     return told
+
+
+def _quad_places(mended: Mended, base: str, options: dict[str, Any]) -> list[int] | None:
+    from rdfax.tracing import places_of_quads
+
+    return places_of_quads(mended, base, context=options.get("context"))
+
+
+def places_comment(places: list[int] | None) -> str:
+    """The comment of N-Quads that tells the place of each line's element, where that is known."""
+    return f"# places: {' '.join(map(str, places))}\n" if places else ""
 
 
 def quads_told(page: Source, base: str, mend: Mend, *, charset: str | None = None, syntax: Syntax = "html", **options: Any) -> Iterator[Quad]:
     """`rdfax.quads` with mending: the quads of a page that was mended are a `MendedQuads`."""
     found, mended = _read(lambda source: quads(source, base, syntax=syntax, **options), page, mend, charset, syntax)
-    return typing.cast("Iterator[Quad]", found if mended is None else MendedQuads(found, mended))
+    if mended is None:
+        return typing.cast("Iterator[Quad]", found)
+    return MendedQuads(found, mended, functools.partial(_quad_places, mended, base, options))
 
 
 def items_told(page: Source, base: str, mend: Mend, *, charset: str | None = None, syntax: Syntax = "html") -> str:
-    """`rdfax.items_text` with mending: the object of a page that was mended has a member `mended` more."""
+    """`rdfax.items_text` with mending: the object of a page that was mended has a member `mended` more, and each item a
+    member `place`: the first byte of the token in the original that made its element."""
+    from rdfax.tracing import place_items
+
     text, mended = _read(lambda source: items_text(source, base, syntax=syntax), page, mend, charset, syntax)
     if mended is None:
         return str(text)
-    told = MendedText(text.removesuffix("}\n") + f',"mended":{json.dumps(mended.told(), separators=(",", ":"))}}}\n')
+    object_told = json.loads(text)
+    place_items(mended, object_told["items"])
+    told = MendedText(json.dumps({**object_told, "mended": mended.told()}, ensure_ascii=False, separators=(",", ":")) + "\n")
     told.mended = mended
     return told
 

@@ -53,6 +53,9 @@ _TERMS = struct.Struct("@I4xPN32x 8xPN32x I4xPNPNPN I4xPN32x")
 _Make = Callable[[int, bytes, bytes, bytes], Any]
 
 
+_NOT_OPEN = "no page is open, or it was finished before"
+
+
 def to_bytes(page: Source) -> bytes:
     """The bytes of a page: a text is taken as UTF-8."""
     if isinstance(page, bytes):
@@ -144,15 +147,19 @@ class Page:
         """The page's end: its text in UTF-8, which is empty where the task is `quads`."""
         with self._alone():
             self._answered(library().rdfax_finish(self._handle))
-            room = (ctypes.c_char * library().rdfax_text_length(self._handle))()
-            library().rdfax_text(self._handle, 0, room, len(room))
-        return bytes(room.raw)
+            return _text_of(self._handle)
 
     @property
     def nodes(self) -> int:
         """How many blank nodes the graph of a finished page has: their labels go on from `first_node`."""
         with self._alone():
             return int(library().rdfax_nodes(self._handle))
+
+    @property
+    def count(self) -> int:
+        """How many quads a finished page has, where the task is `quads`."""
+        with self._alone():
+            return int(library().rdfax_quad_count(self._handle))
 
     def quads(self) -> Iterator[Quad]:
         """The quads of a page that was finished, one after another, in order of first appearance.
@@ -211,22 +218,39 @@ class Page:
             make(graph_kind, string_at(graph, graph_length), b"", b"") if graph_kind else None,
         )
 
-    def _answered(self, status: int, usage: str = "no page is open, or it was finished before") -> None:
-        if status == _library.REFUSED:
-            raise self._refused()
-        if status == _library.USAGE:
-            raise Usage(usage)
-        if status == _library.NO_MEMORY:
-            raise MemoryError("rdfax: there was no memory")
-        if status == _library.BAD_CONTEXT:
-            raise BadContext("the context file has another shape, or it is too long")
+    def _answered(self, status: int, usage: str = _NOT_OPEN) -> None:
+        _check_status(status, self._handle, usage)
 
-    def _refused(self) -> Refused:
-        fault = Fault()
-        library().rdfax_fault(self._handle, fault)
-        room = (ctypes.c_char * library().rdfax_fault_name(self._handle, None, 0))()
-        library().rdfax_fault_name(self._handle, room, len(room))
-        return Refused(room.raw.decode("ascii"), int(fault.at), int(fault.token))
+
+def _check_status(status: int, handle: PageHandle, usage: str = _NOT_OPEN) -> None:
+    """Raises what the status of a call says."""
+    if status == _library.REFUSED:
+        raise _refusal(handle)
+    if status == _library.USAGE:
+        raise Usage(usage)
+    if status == _library.NO_MEMORY:
+        raise MemoryError("rdfax: there was no memory")
+    if status == _library.BAD_CONTEXT:
+        raise BadContext("the context file has another shape, or it is too long")
+
+
+def _refusal(handle: PageHandle) -> Refused:
+    fault = Fault()
+    library().rdfax_fault(handle, fault)
+    room = (ctypes.c_char * library().rdfax_fault_name(handle, None, 0))()
+    library().rdfax_fault_name(handle, room, len(room))
+    return Refused(room.raw.decode("ascii"), int(fault.at), int(fault.token))
+
+
+def _text_of(handle: PageHandle) -> bytes:
+    """The text of a finished page."""
+    length = library().rdfax_text_length(handle)
+    if not length:
+        return b""
+    room = bytearray(length)
+    # (an array of this length would be a class of its own, which takes longer to make than most texts to copy)
+    library().rdfax_text(handle, 0, ctypes.byref(ctypes.c_char.from_buffer(room)), length)
+    return bytes(room)
 
 
 class Request(NamedTuple):
@@ -258,6 +282,23 @@ class Request(NamedTuple):
         if FORMATS[self.format] != "nquads":
             return f"a text in the format {FORMATS[self.format]} can name no graph"
         return f"the base {self.base!r} or the graph's name {self.graph!r} is no IRI"
+
+
+def text_and_nodes(request: Request, page: bytes) -> tuple[bytes, int]:
+    """The text of a whole page, and how many blank nodes its graph has: what a `Page` does, in fewer steps, for many pages.
+
+    >>> text_and_nodes(Request("extract", 0, "http://h.example/d", 0, None, None, 0), b'<html><p property="schema:name">Anvil</p></html>')
+    (b'<http://h.example/d> <http://schema.org/name> "Anvil" .\\n', 0)
+    """
+    handle, calls = PageHandle(), library()
+    try:
+        status = request.open(handle)
+        if status == _library.USAGE:
+            raise Usage(request.wrong())
+        _check_status(status or calls.rdfax_feed(handle, page, len(page)) or calls.rdfax_finish(handle), handle)
+        return _text_of(handle), int(calls.rdfax_nodes(handle))
+    finally:
+        calls.rdfax_close(handle)
 
 
 def _check_options(task: Task, given: dict[str, Any]) -> None:

@@ -6,7 +6,7 @@ import html
 import random
 from collections.abc import Iterator
 
-__all__ = ["made_pages"]
+__all__ = ["made_items", "made_pages"]
 
 _NAMES = ["div", "span", "a", "b", "time", "section", "svg", "pre", "ul", "li", "td", "title", "script", "math", "desc", "template"]
 _TOKENS = [
@@ -111,3 +111,35 @@ def made_pages(seed: int, number: int) -> Iterator[str]:
     """So many pages, which are the same for the same seed."""
     maker = _Maker(seed)
     return (maker.page() for _ in range(number))
+
+
+def _item_tag(chance: random.Random) -> str:
+    words = []
+    if chance.random() < 0.4:
+        words.append("itemscope")
+        if chance.random() < 0.5:
+            words.append(f'itemtype="{chance.choice(["http://schema.org/Thing", "http://a.example/ http://b.example/ http://a.example/", " "])}"')
+        if chance.random() < 0.3:
+            words.append(f'itemref="{chance.choice(["a", "b", "a b", "c none", "d d"])}"')
+    if chance.random() < 0.5:
+        words.append(f'itemprop="{chance.choice(["name", "a b a", "", "http://v.example/p", "name price"])}"')
+    if chance.random() < 0.3:
+        words.append(f'id="{chance.choice("abcd")}"')
+    return " ".join(words)
+
+
+def made_items(seed: int, number: int) -> Iterator[str]:
+    """Pages that are made by chance, of what Microdata has rules for."""
+    chance = random.Random(seed)
+    for _ in range(number):
+        parts, opened = ["<html>"], list[str]()
+        for _ in range(chance.randrange(5, 25)):
+            if opened and chance.random() < 0.4:
+                parts.append(f"</{opened.pop()}>")
+                continue
+            name = chance.choice(["div", "span", "b", "section", "template", "meta"])
+            parts.append(f"<{name} {_item_tag(chance)}>x" if name != "meta" else f"<meta {_item_tag(chance)} content='x'>")
+            if name != "meta":
+                opened.append(name)
+        parts += [f"</{name}>" for name in reversed(opened)]
+        yield "".join([*parts, "</html>"])

@@ -3,6 +3,7 @@
 from __future__ import annotations
 
 import json
+import os
 import re
 import subprocess
 import sys
@@ -58,10 +59,10 @@ class Server:
 
 
 @contextmanager
-def serving(*words: str) -> Iterator[Server]:
+def serving(*words: str, **environment: str) -> Iterator[Server]:
     """A server that is there for a while."""
     command = [sys.executable, "-m", "rdfax", "serve", "--port", "0", *words]
-    with subprocess.Popen(command, stdout=subprocess.PIPE, text=True) as process:
+    with subprocess.Popen(command, stdout=subprocess.PIPE, text=True, env={**os.environ, **environment}) as process:
         try:
             assert process.stdout is not None
             found = re.search(r"http://127\.0\.0\.1:\d+/", process.stdout.readline())

@@ -7,6 +7,7 @@ import gzip
 import hashlib
 import importlib.util
 import shutil
+import sys
 import tracemalloc
 import zlib
 from collections.abc import Callable
@@ -16,11 +17,20 @@ from urllib.parse import urlsplit
 import pytest
 import web
 
-from rdfax.archives import Fetched, fetched, records
+from rdfax import archives
+from rdfax.archives import Fetched, Record, fetched, records
 
 needs_wget = pytest.mark.skipif(shutil.which("wget") is None, reason="wget isn't installed")
-READERS = ["own", pytest.param("warcio", marks=pytest.mark.skipif(importlib.util.find_spec("warcio") is None, reason="warcio isn't installed"))]
+READERS = ["own", "warcio"]
+STANDIN = Path(__file__).resolve().parent / "standin"
 PACKINGS = {"compressed": (), "plain": ("--no-warc-compression",)}
+
+
+@pytest.fixture(autouse=True)
+def _warcio(monkeypatch: pytest.MonkeyPatch) -> None:
+    """warcio, or where it isn't installed what stands in its stead."""
+    if importlib.util.find_spec("warcio") is None:
+        monkeypatch.syspath_prepend(STANDIN)
 
 
 def record(address: str, block: bytes, kind: str = "response", digest: str = "", **headers: str) -> bytes:
@@ -73,10 +83,66 @@ def test_wget(tmp_path: Path, packing: str, reader: str) -> None:
 
 @needs_wget
 def test_readers_agree(tmp_path: Path) -> None:
-    pytest.importorskip("warcio")
     for packing, words in PACKINGS.items():
         path = web.archive(tmp_path, packing, web.ANSWERS, *words)
-        assert list(records(path, reader="warcio")) == list(records(path, reader="own"))
+        own = list(records(path, reader="own"))
+        assert len(own) > 2 * len(web.ANSWERS) and list(records(path, reader="warcio")) == own
+        middle = own[len(own) // 2].offset
+        assert list(records(path, middle, reader="warcio")) == own[len(own) // 2 :]
+
+
+def test_warcio_where_it_is_installed(tmp_path: Path, monkeypatch: pytest.MonkeyPatch) -> None:
+    """Without a word the reader is warcio where there is one, and else our own."""
+    written(tmp_path / "a", [response(1)])
+    archives._has_warcio.cache_clear()
+    iterator = importlib.import_module("warcio.archiveiterator")
+    begun = []
+    monkeypatch.setattr(iterator, "ArchiveIterator", lambda *words, known=iterator.ArchiveIterator, **more: begun.append(1) or known(*words, **more))
+    assert len(list(records(tmp_path / "a"))) == len(begun) == 1
+    monkeypatch.setattr(importlib.util, "find_spec", lambda _: None)
+    archives._has_warcio.cache_clear()
+    assert len(list(records(tmp_path / "a"))) == len(begun) == 1
+    archives._has_warcio.cache_clear()
+
+
+@pytest.mark.parametrize("packed", [True, False])
+@pytest.mark.parametrize("reader", READERS)
+def test_arc(tmp_path: Path, packed: bool, reader: str) -> None:
+    """A file of the older format is refused by its name."""
+    arc = b"filedesc://a.arc 0.0.0.0 20080101000000 text/plain 76\n1 0 Alexa Internet\nURL IP-address Archive-date Content-type Archive-length\n\n"
+    (tmp_path / "a.arc").write_bytes(gzip.compress(arc) if packed else arc)
+    assert [(each.offset, each.fault) for each in records(tmp_path / "a.arc", reader=reader)] == [(0, "ArcFile")]  # type: ignore[arg-type]
+
+
+CODED = {
+    "br": ("brotli", "NoBrotli", lambda module, body: module.compress(body, quality=2)),
+    "zstd": ("zstandard", "NoZstandard", lambda module, body: module.ZstdCompressor().compress(body)),
+}
+
+
+def coded(coding: str, sent: bytes) -> Fetched | None:
+    """What is read of a body that was sent in a coding."""
+    block = HEAD + f"Content-Encoding: {coding}\r\n\r\n".encode() + sent
+    return fetched(Record(0, 0, {"warc-type": "response", "warc-target-uri": "http://h.example/"}, block))
+
+
+@pytest.mark.parametrize("coding", CODED)
+def test_codings_of_other_packages(coding: str, monkeypatch: pytest.MonkeyPatch) -> None:
+    """Brotli and Zstandard, where their packages are; what is damaged, too long, or already unpacked; and without the package."""
+    name, missing, pack = CODED[coding]
+    body = web.page(1) * 300
+    monkeypatch.setitem(sys.modules, name, None)
+    assert coded(coding, b"\x28\xb5\x2f\xfd") == Fetched(200, "text/html", None, b"", missing)
+    monkeypatch.undo()
+    sent = pack(pytest.importorskip(name), body)
+    assert coded(coding, sent) == Fetched(200, "text/html", None, body)
+    assert coded(coding, body) == Fetched(200, "text/html", None, body)
+    assert coded(f"gzip, {coding}", pack(importlib.import_module(name), gzip.compress(body))) == Fetched(200, "text/html", None, body)
+    assert coded(coding, sent[:-3]) == Fetched(200, "text/html", None, b"", "BadEncoding")
+    assert coded(coding, pack(importlib.import_module(name), bytes(100 << 20))) == Fetched(200, "text/html", None, b"", "TooLong")
+    if coding == "zstd":
+        assert coded(coding, sent + sent) == Fetched(200, "text/html", None, body + body)
+        assert coded(coding, sent + b"more") == Fetched(200, "text/html", None, b"", "BadEncoding")
 
 
 @pytest.mark.parametrize("packed", [True, False])
@@ -100,7 +166,7 @@ DAMAGES: dict[str, tuple[bytes, str]] = {
     "a chunk's size": (HEAD + b"Transfer-Encoding: chunked\r\n\r\n5\r\n<html\r\nzz\r\n", "BadChunks"),
     "gzip cut": (HEAD + b"Content-Encoding: gzip\r\n\r\n" + gzip.compress(web.page(1))[:-9], "BadEncoding"),
     "gzip damaged": (HEAD + b"Content-Encoding: gzip\r\n\r\n" + gzip.compress(web.page(1))[:-8] + b"12345678", "BadEncoding"),
-    "an unknown coding": (HEAD + b"Content-Encoding: lzma\r\n\r\n<html>", "BadEncoding"),
+    "an unknown coding": (HEAD + b"Content-Encoding: lzma\r\n\r\n<html>", "UnknownEncoding"),
     "a bomb": (HEAD + b"Content-Encoding: gzip\r\n\r\n" + gzip.compress(bytes(80 << 20)), "TooLong"),
     "a bomb of members": (HEAD + b"Content-Encoding: gzip\r\n\r\n" + gzip.compress(bytes(9 << 20)) * 9, "TooLong"),
     "a bomb of deflate": (HEAD + b"Content-Encoding: deflate\r\n\r\n" + zlib.compress(bytes(80 << 20)), "TooLong"),
@@ -161,12 +227,14 @@ def test_damaged_archives(
     assert [each.offset for each in found[1:]] == [each.end for each in found[:-1]] or not packed
 
 
-def test_one_member(tmp_path: Path) -> None:
+@pytest.mark.parametrize("reader", READERS)
+def test_one_member(tmp_path: Path, reader: str) -> None:
     """An archive that was compressed as a whole is read too."""
     path = tmp_path / "a.warc.gz"
     path.write_bytes(gzip.compress(b"".join(response(number) for number in range(5))))
-    assert [each.address[-1] for each in records(path)] == list("01234")
-    assert {each.offset for each in records(path)} == {0}
+    found = list(records(path, reader=reader))  # type: ignore[arg-type]
+    assert [each.address[-1] for each in found] == list("01234")
+    assert {each.offset for each in found} == {0}
 
 
 def test_headers(tmp_path: Path) -> None:
@@ -195,7 +263,7 @@ def test_memory(tmp_path: Path) -> None:
         for number in range(300):
             file.write(gzip.compress(response(number, web.page(number) * 300)))
     tracemalloc.start()
-    found = [(each.kind, each.fault, len(each.block)) for each in records(path, longest=1 << 20)]
+    found = [(each.kind, each.fault, len(each.block)) for each in records(path, longest=1 << 20, reader="own")]
     _, most = tracemalloc.get_traced_memory()
     tracemalloc.stop()
     assert found[0] == ("response", "TooLong", 1 << 16)

@@ -25,6 +25,9 @@ import web
 from test_archives import record, response, written
 
 import rdfax
+from rdfax.crawling import child
+from rdfax.crawling.options import Options
+from rdfax.crawling.pages import Given
 
 HERE = Path(__file__).resolve().parent
 needs_dask = pytest.mark.skipif(importlib.util.find_spec("distributed") is None, reason="distributed isn't installed")
@@ -154,9 +157,13 @@ def test_again(archive: Path, single: Path, tmp_path: Path) -> None:
 
 @needs_dask
 @pytest.mark.parametrize("workers", [1, 2])
-def test_workers(archive: Path, single: Path, tmp_path: Path, workers: int) -> None:
+def test_workers(archive: Path, single: Path, tmp_path: Path, workers: int, monkeypatch: pytest.MonkeyPatch) -> None:
+    """Workers write what one process writes, and nothing where the command is begun."""
+    (tmp_path / "here").mkdir()
+    monkeypatch.chdir(tmp_path / "here")
     crawl(tmp_path / "out", archive, "--workers", workers, "--records", 20)
     assert texts(tmp_path / "out") == texts(single)
+    assert list((tmp_path / "here").iterdir()) == []
 
 
 @pytest.mark.parametrize("compression", ["none", "zstd"])
@@ -207,6 +214,20 @@ def test_damaged(tmp_path: Path) -> None:
     assert json.loads((tmp_path / "out" / "report.json").read_text())["kinds"] == {"failed: BadGzip": 1, "failed: Cut": 1}
 
 
+def test_what_can_not_be_unpacked(tmp_path: Path) -> None:
+    """Bodies whose package isn't installed, and files of the older format, are rows of the table, with the reason."""
+    head = b"HTTP/1.1 200 OK\r\nContent-Type: text/html\r\nContent-Encoding: "
+    written(tmp_path / "a.warc.gz", [record(f"http://h.example/{name}", head + name.encode() + b"\r\n\r\n\x28\xb5\x2f\xfd") for name in ("br", "zstd", "lzma")])
+    (tmp_path / "b.arc.gz").write_bytes(gzip.compress(b"filedesc://b.arc 0.0.0.0 20080101000000 text/plain 76\n"))
+    hidden = tmp_path / "hidden"
+    hidden.mkdir()
+    for name in ("brotli", "zstandard"):
+        (hidden / f"{name}.py").write_text("raise ImportError")
+    crawl(tmp_path / "out", tmp_path / "a.warc.gz", tmp_path / "b.arc.gz", "--workers", 0, PYTHONPATH=f"{hidden}:{os.environ.get('PYTHONPATH', '')}")
+    rows = {(row["address"].rpartition("/")[2], row["status"], row["kind"]) for row in table(tmp_path / "out")}
+    assert rows == {("br", "failed", "NoBrotli"), ("zstd", "failed", "NoZstandard"), ("lzma", "failed", "UnknownEncoding"), ("", "failed", "ArcFile")}
+
+
 @pytest.mark.skipif(os.geteuid() != 0, reason="a small disk needs root")
 def test_full_disk(archive: Path, single: Path, tmp_path: Path) -> None:
     disk = tmp_path / "disk"
@@ -234,7 +255,9 @@ def slow_archive(folder: Path) -> Path:
 @contextlib.contextmanager
 def running(*words: str, **environment: str) -> Iterator[subprocess.Popen[str]]:
     """A process that is ended at the end."""
-    process = subprocess.Popen(words, text=True, stdout=subprocess.PIPE, stderr=subprocess.PIPE, env=surroundings(**environment), start_new_session=True)
+    # (what a shell runs in the background passes interrupts over, and so would what is begun here)
+    asked = ["env", "--default-signal=INT", *words]
+    process = subprocess.Popen(asked, text=True, stdout=subprocess.PIPE, stderr=subprocess.PIPE, env=surroundings(**environment), start_new_session=True)
     try:
         yield process
     finally:
@@ -332,6 +355,23 @@ def scheduler() -> Iterator[tuple[str, subprocess.Popen[str]]]:
         yield address, process
 
 
+def test_a_child_goes_on_from_shard_to_shard(monkeypatch: pytest.MonkeyPatch) -> None:
+    """Until something goes wrong in a shard, for then answers may be on their way; or until it has read many pages."""
+    pages = [Given(f"http://h.example/{number}", "html", None, web.page(number)) for number in range(3)]
+    processes = []
+    for most in (100, 100, 1):
+        monkeypatch.setattr(child, "_MOST_PAGES", most)
+        with child.reader(Options()) as reader:
+            assert [found.status for found in reader.read(pages, 0)] == ["read"] * 3
+            processes.append(reader._process)
+    assert processes[0] is processes[1] is processes[2] and reader._process is None
+    with contextlib.suppress(OSError), child.reader(Options()) as reader:
+        next(reader.read(pages, 0))
+        raise OSError("no space is left")
+    assert reader._process is None
+    assert child.reader(Options(items=False)) is not reader
+
+
 def test_mended(tmp_path: Path) -> None:
     """With `--mend` what is refused is mended, and said to be."""
     mending = pytest.importorskip("rdfax.mending")
@@ -346,5 +386,11 @@ def test_mended(tmp_path: Path) -> None:
         broken = number % 5 == 4
         assert (row["status"], bool(row["mended"]), row["triples"]) == ("read", broken, "1" if broken or number % 2 == 0 else "4")
     quads = gzip.decompress(next(out.glob("shards/*/quads.nq.gz")).read_bytes()).decode()
-    assert quads.count("# mended: ") == 4
+    assert quads.count("# mended: ") == 4 and "# places" not in quads
+    crawl(tmp_path / "placed", tmp_path / "a.warc.gz", "--workers", 0, "--mend", "--places")
+    placed = gzip.decompress(next((tmp_path / "placed").glob("shards/*/quads.nq.gz")).read_bytes()).decode()
+    places = re.findall(r"# mended: .*\n# places: (\d+)\n", placed)
+    assert [body(number)[int(place) :][:12] for number, place in zip((4, 9, 14, 19), places, strict=True)] == [b"<p property="] * 4
+    assert re.sub(r"# places: .*\n", "", placed) == quads
+    crawl(tmp_path / "wrong", tmp_path / "a.warc.gz", "--workers", 0, "--places", status=2)
     assert json.loads((out / "report.json").read_text())["outcomes"] == {"read": 16, "read, mended": 4}

@@ -11,6 +11,7 @@ from typing import Any
 import pytest
 
 import rdfax
+from rdfax import tracing
 from rdfax._library import LibraryMissing
 from rdfax.mending import MendedQuads, MendedText
 
@@ -62,12 +63,12 @@ def test_an_accepted_page_is_read_as_it_is() -> None:
 def test_what_was_mended_says_so() -> None:
     text = rdfax.extract(BROKEN, BASE, mend=True)
     assert isinstance(text, MendedText)
-    assert text == f"# {text.mended}\n{TRIPLE}"
+    assert text == f"# {text.mended}\n# places: 0\n{TRIPLE}"
     quads = rdfax.quads(BROKEN, BASE, mend=True)
     assert isinstance(quads, MendedQuads)
     assert (quads.mended.found, next(quads).object) == ("validity", rdfax.Literal("Anvil", None, None))
     told = rdfax.items(BROKEN, BASE, mend=True)
-    assert (told["items"], told["mended"]["found"]) == ([{"properties": {"name": ["Anvil"]}}], "validity")
+    assert (told["items"], told["mended"]["found"]) == ([{"properties": {"name": ["Anvil"]}, "place": 31}], "validity")
     assert rdfax.check(BROKEN, mend=True) == rdfax.mend(BROKEN)
     assert json.loads(rdfax.extract(BROKEN, BASE, format="jsonld", mend=True))
 
@@ -75,7 +76,7 @@ def test_what_was_mended_says_so() -> None:
 def test_always_mends_an_accepted_page() -> None:
     text = rdfax.extract(GOOD, BASE, mend="always")
     assert isinstance(text, MendedText)
-    assert text.split("\n", 1)[1] == TRIPLE
+    assert text.split("\n", 2)[2] == TRIPLE
 
 
 def test_a_fault_is_told_at_its_place_in_the_original() -> None:
@@ -83,6 +84,36 @@ def test_a_fault_is_told_at_its_place_in_the_original() -> None:
     with pytest.raises(rdfax.Refused) as caught:
         rdfax.check(page, mend=True)
     assert (caught.value.kind, caught.value.token) == ("RelativeVocab", 4)
+
+
+def test_quads_and_items_are_told_at_their_places_in_the_original() -> None:
+    page = """<p>caf\xe9<table vocab=http://schema.org/><td property=name>Anvil<tr typeof=Offer><td property=price>1
+        <li itemscope itemtype=http://schema.org/Offer><b itemprop="seller buyer" itemscope id=s></li></b><i itemprop=name>x""".encode("latin-1")
+    quads = rdfax.quads(page, BASE, mend=True, charset="latin-1")
+    assert isinstance(quads, MendedQuads) and quads.places is not None
+    said = {(quad.predicate.rpartition("/")[2], page[place : page.index(b">", place) + 1]) for quad, place in zip(quads, quads.places, strict=True)}
+    assert said >= {("name", b"<td property=name>"), ("price", b"<td property=price>"), ("22-rdf-syntax-ns#type", b"<tr typeof=Offer>")}
+    (item,) = rdfax.items(page, BASE, mend=True, charset="latin-1")["items"]
+    assert page[item["place"] :].startswith(b"<li itemscope")
+    inner = [item["properties"][name][0]["place"] for name in ("seller", "buyer")]
+    assert [page[place : place + 12] for place in inner] == [b"<b itemprop="] * 2
+
+
+def test_where_the_readings_differ_or_the_page_is_long_no_places_are_told(monkeypatch: pytest.MonkeyPatch) -> None:
+    quads = rdfax.quads(BROKEN, BASE, mend=True)
+    monkeypatch.setattr(tracing.origins, "places_of", lambda *_: None)
+    monkeypatch.setattr(tracing.item_elements, "agrees", lambda *_: False)
+    assert isinstance(quads, MendedQuads) and quads.places is None
+    assert rdfax.items(BROKEN, BASE, mend=True)["items"] == [{"properties": {"name": ["Anvil"]}}]
+    monkeypatch.undo()
+    monkeypatch.setattr(tracing, "LONGEST", 100)
+    assert "# places" not in rdfax.extract(BROKEN, BASE, mend=True)
+
+
+def test_places_go_by_the_context_file() -> None:
+    context = b'{"prefixes":{"e":"http://v.example/"}}'
+    quads = rdfax.quads(b"<p><b property=e:p>Anvil", BASE, mend=True, context=context)
+    assert isinstance(quads, MendedQuads) and quads.places == [3]
 
 
 def test_a_page_past_a_limit_is_not_mended() -> None:
@@ -107,7 +138,7 @@ def command(*words: str) -> tuple[int, bytes, bytes]:
     [
         (["mend"], rdfax.mend(BROKEN).page, str(rdfax.mend(BROKEN))),
         (["extract", "--mend", "--base", BASE], b"# mended: charset UTF-8 by validity; ", str(rdfax.mend(BROKEN))),
-        (["items", "--mend", "--base", BASE], b'{"items":[{"properties":{"name":["Anvil"]}}],"mended":{', str(rdfax.mend(BROKEN))),
+        (["items", "--mend", "--base", BASE], b'{"items":[{"properties":{"name":["Anvil"]},"place":31}],"mended":{', str(rdfax.mend(BROKEN))),
     ],
 )
 def test_commands(words: list[str], begins: bytes, says: str) -> None:

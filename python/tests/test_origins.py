@@ -5,10 +5,11 @@ from __future__ import annotations
 import doctest
 
 import pytest
-from made_pages import made_pages
+from made_pages import made_items, made_pages
 from rows import TOP, Row, rows
 
 import rdfax
+from rdfax.serving import item_elements
 from rdfax.serving.names import STANDARD, context_of
 from rdfax.serving.origins import find, places_of
 from rdfax.serving.triples import Origin
@@ -49,6 +50,21 @@ def test_the_two_readings_agree_on_pages_that_are_made_by_chance() -> None:
         read += 1
     print(f"{read} of 1000 pages that are made by chance are read: the two readings agree on {read - len(differing)}")
     assert not differing and read > 500
+
+
+def test_the_two_readings_of_items_agree() -> None:
+    """On the worked rows, and on pages that are made by chance."""
+    read = 0
+    made = [(page.encode(), "html") for page in made_items(seed=44, number=1000)]
+    for page, syntax in [*((row.page, row.words.get("syntax", "html")) for row in READ), *made]:
+        try:
+            items = rdfax.items(page, BASE, syntax=syntax)["items"]
+        except rdfax.Refused:
+            continue
+        assert item_elements.agrees(item_elements.find(page, syntax), items), page
+        read += bool(items)
+    print(f"{read} pages with items: the two readings agree")
+    assert read > 500
 
 
 def test_the_example_of_the_documentation() -> None:

@@ -4,6 +4,7 @@ from __future__ import annotations
 
 import base64
 import http.server
+import shutil
 import socket
 import subprocess
 import sys
@@ -12,9 +13,11 @@ import time
 from collections import Counter
 from collections.abc import Iterator
 from concurrent.futures import ThreadPoolExecutor
+from pathlib import Path
 from typing import Any
 
 import pytest
+from secure import CERTIFICATES, Authority, secured
 from served import Server, serving
 
 for needed in ("flask", "waitress"):
@@ -131,6 +134,24 @@ def test_what_is_open_to_all_fetches_nothing_private() -> None:
     assert done.returncode == 2 and b"can't go together" in done.stderr
 
 
+def test_who_serves_to_all_is_told_what_that_means() -> None:
+    command = [sys.executable, "-m", "rdfax", "serve", "--public", "--port", "0"]
+    with subprocess.Popen(command, stdout=subprocess.PIPE, stderr=subprocess.PIPE, text=True) as process:
+        assert process.stdout is not None and process.stderr is not None
+        said = process.stderr.readline()
+        process.terminate()
+    assert said.startswith("rdfax: --public: everyone who reaches this machine can have pages read here")
+
+
+def test_no_page_is_kept(tmp_path: Path) -> None:
+    """Neither a short page nor a long one, which lies in a file while it comes in, is in any file afterwards."""
+    with serving(TMPDIR=str(tmp_path)) as started:
+        for size in (1, 100_000):
+            assert started.read("<html>" + "<p>secret</p>" * size + "</html>")["count"] == 0
+        left = [path for path in tmp_path.rglob("*") if path.is_file() and b"secret" in path.read_bytes()]
+    assert left == []
+
+
 def test_a_page_is_fetched_and_its_redirects_are_told(small: Server, site: str) -> None:
     told = small.post("api/fetch", address=f"{site}/to").json
     assert base64.b64decode(told["page"]) == ANVIL.encode()
@@ -166,6 +187,60 @@ def test_the_connection_goes_to_the_address_that_was_looked_at(site: str, monkey
     monkeypatch.setattr(fetching, "is_public", lambda _: True)
     came = fetching.fetch(f"http://rebinding.example:{site.rpartition(':')[2]}/page", seconds=5, longest=1000)
     assert came.page == ANVIL.encode() and asked["rebinding.example"] == 1
+
+
+@pytest.fixture(scope="module")
+def authority(tmp_path_factory: pytest.TempPathFactory) -> Authority:
+    if shutil.which("openssl") is None:
+        pytest.skip("there is no openssl")
+    return Authority.made(tmp_path_factory.mktemp("certificates"))
+
+
+@pytest.fixture(scope="module")
+def trusting(authority: Authority) -> Iterator[Server]:
+    """A server that trusts the authority of the test as users have theirs trusted."""
+    with serving("--private", SSL_CERT_FILE=authority.trusted) as started:
+        yield started
+
+
+def test_a_page_is_fetched_by_https(trusting: Server, authority: Authority) -> None:
+    with secured(authority, "right", _Site) as site:
+        told = trusting.post("api/fetch", address=f"{site}/to").json
+    assert base64.b64decode(told["page"]) == ANVIL.encode()
+    assert (told["address"], told["redirects"], told["syntax"]) == (f"{site}/page", [f"{site}/to"], "xhtml")
+
+
+def test_redirects_lead_from_http_to_https_and_back(trusting: Server, authority: Authority, site: str) -> None:
+    with secured(authority, "right", _Site) as secure:
+        for start, end in ((site, secure), (secure, site)):
+            told = trusting.post("api/fetch", address=f"{start}/to{end}/page").json
+            assert (told["address"], told["redirects"]) == (f"{end}/page", [f"{start}/to{end}/page"])
+            assert base64.b64decode(told["page"]) == ANVIL.encode()
+
+
+@pytest.mark.parametrize(("name", "says"), [("another", "IP address mismatch"), ("expired", "certificate has expired")])
+def test_a_wrong_certificate_is_told(trusting: Server, authority: Authority, site: str, name: str, says: str) -> None:
+    assert name in CERTIFICATES
+    with secured(authority, name, _Site) as secure:
+        for address in (f"{secure}/page", f"{site}/to{secure}/page"):
+            told = trusting.post("api/fetch", address=address).json
+            assert told["none"].startswith("The certificate of 127.0.0.1 is not accepted: ") and says in told["none"]
+
+
+def test_an_authority_that_is_not_trusted_is_told(small: Server, authority: Authority) -> None:
+    with secured(authority, "right", _Site) as secure:
+        told = small.post("api/fetch", address=f"{secure}/page").json
+    assert told == {"none": "The certificate of 127.0.0.1 is not accepted: unable to get local issuer certificate."}
+
+
+def test_no_tls_behind_https_is_told(trusting: Server, site: str) -> None:
+    told = trusting.post("api/fetch", address=site.replace("http:", "https:") + "/page").json
+    assert told.keys() == {"none"} and "SSL" in told["none"]
+
+
+def test_a_handshake_has_a_time_limit(authority: Authority) -> None:
+    with socket.create_server(("127.0.0.1", 0)) as silent, pytest.raises(fetching.NotFetched):
+        fetching.fetch(f"https://127.0.0.1:{silent.getsockname()[1]}/", seconds=1, longest=1000, private=True)
 
 
 def test_a_page_that_takes_too_much_ends_its_own_process_alone(small: Server) -> None:

@@ -17,6 +17,7 @@ from rdfax.archives import READERS
 from rdfax.crawling.crawl import Crawl
 from rdfax.crawling.options import COMPRESSIONS, Limits, Options
 from rdfax.crawling.scheduling import SchedulerLost, engine
+from rdfax.errors import Usage
 
 __all__ = ["add_arguments", "run"]
 
@@ -42,6 +43,7 @@ def add_arguments(parser: argparse.ArgumentParser) -> None:
     parser.add_argument("archives", nargs="+", metavar="ARCHIVE", help="a WARC file, compressed record by record or not at all")
     parser.add_argument("--out", required=True, metavar="DIR", type=Path, help="the folder of what is written")
     parser.add_argument("--mend", action="store_true", help="mend the pages that are refused, and say so")
+    parser.add_argument("--places", action="store_true", help="with --mend: say where the original says each triple and item; it takes long")
     parser.add_argument("--rdfa", action="store_true", help="write RDFa, and Microdata only with --items; both where neither is named")
     parser.add_argument("--items", action="store_true", help="write Microdata, and RDFa only with --rdfa")
     where = parser.add_mutually_exclusive_group()
@@ -52,14 +54,27 @@ def add_arguments(parser: argparse.ArgumentParser) -> None:
     parser.add_argument("--bytes", type=_positive, metavar="N", default=defaults.bytes, help="the most bytes of a page (%(default)s)")
     parser.add_argument("--seconds", type=_positive, metavar="N", default=defaults.seconds, help="the most processor time of a page (%(default)s)")
     parser.add_argument("--mebibytes", type=_positive, metavar="N", default=defaults.mebibytes, help="the most memory of a page (%(default)s)")
-    parser.add_argument("--reader", choices=READERS, default="own", help="what cuts archives into records (%(default)s)")
+    parser.add_argument(
+        "--reader", choices=READERS, default=Options.reader, help="what cuts archives into records: warcio where it is installed, or one of the two"
+    )
 
 
 def run(arguments: argparse.Namespace) -> int:
     """Crawls, says what came of it, and answers the status."""
     both = not (arguments.rdfa or arguments.items)
     limits = Limits(arguments.bytes, arguments.seconds, arguments.mebibytes)
-    options = Options(arguments.rdfa or both, arguments.items or both, arguments.mend, arguments.compress, arguments.reader, arguments.records, limits)
+    if arguments.places and not arguments.mend:
+        raise Usage("--places goes with --mend: of a page that isn't mended nothing has two places")
+    options = Options(
+        rdfa=arguments.rdfa or both,
+        items=arguments.items or both,
+        mend=arguments.mend,
+        places=arguments.places,
+        compression=arguments.compress,
+        reader=arguments.reader,
+        records=arguments.records,
+        limits=limits,
+    )
     try:
         with engine(arguments.scheduler, arguments.workers) as workers:
             report = Crawl(arguments.out, options).run(arguments.archives, workers)

@@ -1,7 +1,8 @@
 """The child that reads pages in a worker's stead, bounded in time and memory: a page that takes more ends the child.
 
 A batch of pages is handed over from memory, and an answer comes for each. Where the child ends, its page is tried once
-more in a new one, and told as failed where it ends that too; the others of the batch aren't lost.
+more in a new one, and told as failed where it ends that too; the others of the batch aren't lost. A child goes on from
+shard to shard, since its start takes as long as many pages.
 """
 
 from __future__ import annotations
@@ -10,9 +11,11 @@ import contextlib
 import multiprocessing
 import os
 import resource
+import select
 import signal
 import subprocess
 import sys
+import threading
 import time
 from collections.abc import Iterator
 from multiprocessing.connection import Connection
@@ -21,27 +24,34 @@ from typing import Any, Self
 from rdfax.crawling.options import Options
 from rdfax.crawling.pages import Found, Given, read
 
-__all__ = ["Reader", "main"]
+__all__ = ["Reader", "main", "reader"]
 
 # Beside the seconds of processor time that a page may take, so many times as many of the clock's.
 _PATIENCE = 20
 # So many children may end before they have begun.
 _STARTS = 3
+# After so many pages a child makes place for a new one, whatever its memory has come to.
+_MOST_PAGES = 100_000
+_kept = threading.local()
 
 
 class Reader:
-    """Reads pages in a child, which is begun anew where a page ended it."""
+    """Reads pages in a child, which is begun anew where a page ended it, and goes on where none did."""
 
     def __init__(self, options: Options) -> None:
-        self._options = options
+        self.options = options
         self._process: subprocess.Popen[bytes] | None = None
         self._link: Any = None
+        self._ready = select.poll()
+        self._pages = 0
 
     def __enter__(self) -> Self:
         return self
 
-    def __exit__(self, *_: object) -> None:
-        self._end()
+    def __exit__(self, kind: object, *_: object) -> None:
+        # (where something went wrong, answers may be on their way still)
+        if kind is not None or self._pages > _MOST_PAGES:
+            self.end()
 
     def read(self, pages: list[Given], first_node: int) -> Iterator[Found]:
         """What came of each page."""
@@ -64,13 +74,14 @@ class Reader:
             self._begin()
         try:
             self._link.send((pages, first_node))
+            self._pages += len(pages)
             for _ in pages:
-                if not self._link.poll(self._options.limits.seconds * _PATIENCE):
+                if not self._ready.poll(self.options.limits.seconds * _PATIENCE * 1000):
                     yield self._ended("TooSlow")
                     return
                 found = self._link.recv()
                 if found.kind == "NoMemory":
-                    self._end()
+                    self.end()
                 yield found
                 if self._process is None:
                     return
@@ -81,7 +92,7 @@ class Reader:
         for _ in range(_STARTS):
             with contextlib.suppress(EOFError, ConnectionError):
                 return self._start()
-            self._end()
+            self.end()
         raise ChildProcessError("the children of the crawl end at their start")
 
     def _start(self) -> None:
@@ -91,8 +102,10 @@ class Reader:
         path = os.pathsep.join([package, *filter(None, [os.environ.get("PYTHONPATH")])])
         self._process = subprocess.Popen(words, pass_fds=[its.fileno()], stdin=subprocess.DEVNULL, env={**os.environ, "PYTHONPATH": path})
         its.close()
-        self._link.send(self._options)
-        if not self._link.poll(_PATIENCE * self._options.limits.seconds):
+        self._ready, self._pages = select.poll(), 0
+        self._ready.register(self._link, select.POLLIN)
+        self._link.send(self.options)
+        if not self._link.poll(_PATIENCE * self.options.limits.seconds):
             raise TimeoutError("a child of the crawl doesn't begin")
         fault = self._link.recv()
         if fault is not None:
@@ -107,16 +120,27 @@ class Reader:
                 process.wait(1)
             except subprocess.TimeoutExpired:
                 process.kill()
-        self._end()
+        self.end()
         number = -process.returncode
         return Found("failed", kind or ("TooSlow" if number == signal.SIGXCPU else "Ended"))
 
-    def _end(self) -> None:
+    def end(self) -> None:
+        """Ends the child."""
         if self._process is not None:
             self._process.kill()
             self._process.wait()
             self._link.close()
         self._process = None
+
+
+def reader(options: Options) -> Reader:
+    """The reader of this thread, whose child may have read other shards by the same options."""
+    known: Reader | None = getattr(_kept, "reader", None)
+    if known is None or known.options != options:
+        if known is not None:
+            known.end()
+        known = _kept.reader = Reader(options)
+    return known
 
 
 # Failures of a child, and not of a page that it read.

@@ -34,8 +34,9 @@ class Options:
     rdfa: bool = True
     items: bool = True
     mend: bool = False
+    places: bool = False
     compression: Compression = "gzip"
-    reader: Reader = "own"
+    reader: Reader = "installed"
     records: int = 1000
     limits: Limits = Limits()
 

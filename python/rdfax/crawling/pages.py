@@ -3,13 +3,17 @@
 from __future__ import annotations
 
 import codecs
+import json
 import time
 import typing
 from typing import NamedTuple
 
 from rdfax.crawling.options import Options
 from rdfax.errors import Refused, Usage
-from rdfax.pages import Page, Syntax, items_text
+from rdfax.pages import SYNTAXES, Request, Syntax, text_and_nodes
+
+if typing.TYPE_CHECKING:
+    from rdfax.mending import Mended
 
 __all__ = ["Found", "Given", "Status", "read"]
 
@@ -30,7 +34,10 @@ class Given(NamedTuple):
 
 
 class Found(NamedTuple):
-    """What came of a page: its triples and items as texts, or why there are none."""
+    """What came of a page: its triples and items as texts, or why there are none.
+
+    `places` is a comment of N-Quads, with the place in the original of each triple's element.
+    """
 
     status: Status
     kind: str = ""
@@ -42,6 +49,8 @@ class Found(NamedTuple):
     nodes: int = 0
     mending: float = 0.0
     reading: float = 0.0
+    places: str = ""
+    placing: float = 0.0
 
 
 class _Text(NamedTuple):
@@ -74,18 +83,21 @@ class _Reading:
         self._given, self._first, self._options = given, first_node, options
         self.nodes = 0
 
+    @property
+    def is_placed(self) -> bool:
+        """Whether the places of what is said are wanted."""
+        return self._options.places
+
     def texts(self, body: bytes) -> tuple[bytes, bytes]:
         """The page's quads and items."""
-        quads, items = b"", b""
+        quads, items, address = b"", b"", self._given.address
+        syntax = SYNTAXES.index(self._given.syntax)
         if self._options.rdfa:
-            graph = self._given.address.partition("#")[0]
-            with Page("extract", self._given.address, syntax=self._given.syntax, graph=graph, first_node=self._first) as page:
-                page.feed(body)
-                quads = page.finish()
-                self.nodes = page.nodes if b"_:b" in quads else 0
-        # Where the page is one of the grammar and has no such letters, it has no item.
-        if self._options.items and (not self._options.rdfa or b"itemscope" in body.lower()):
-            items = items_text(body, self._given.address, syntax=self._given.syntax).encode()
+            quads, nodes = text_and_nodes(Request("extract", syntax, address, 0, address.partition("#")[0], None, self._first), body)
+            self.nodes = nodes if b"_:b" in quads else 0
+        # Where the page is one of the grammar and has no such letters (of `itemscope`), it has no item.
+        if self._options.items and (not self._options.rdfa or b"mscop" in body.lower()):
+            items, _ = text_and_nodes(Request("items", syntax, address, 0, None, None, 0), body)
         return quads, items
 
 
@@ -121,4 +133,20 @@ def _mended(reading: _Reading, given: Given, refused: Refused, began: float) -> 
     except Refused as again:
         place = mended.refused(again)
         told = told._replace(status="refused", kind=place.kind, token=place.token, at=place.at)
-    return told._replace(reading=refused_by - began + time.thread_time() - mended_by)
+    told = told._replace(reading=refused_by - began + time.thread_time() - mended_by)
+    return _placed(told, mended, given.address) if reading.is_placed else told
+
+
+def _placed(told: Found, mended: Mended, base: str) -> Found:
+    """The same with the places of the triples' and items' elements in the original."""
+    from rdfax.mending import places_comment
+    from rdfax.tracing import place_items, places_of_quads
+
+    began = time.thread_time()
+    if told.quads:
+        told = told._replace(places=places_comment(places_of_quads(mended, base)))
+    if told.items:
+        found = json.loads(told.items)
+        place_items(mended, found["items"])
+        told = told._replace(items=json.dumps(found, ensure_ascii=False, separators=(",", ":")).encode())
+    return told._replace(placing=time.thread_time() - began)

@@ -4,6 +4,7 @@ from __future__ import annotations
 
 import itertools
 import logging
+import tempfile
 import typing
 from collections.abc import Callable, Iterable, Iterator
 from typing import Any, Protocol, Self
@@ -51,6 +52,17 @@ class _Here:
             yield task, work(*task)
 
 
+# A task whose worker ends is given back at once. What Dask watches and keeps of itself a hundred times a second takes much of
+# a processor, and more memory the longer it runs. (A scheduler and workers that run already have their own configuration.)
+_CONFIGURATION = {
+    "distributed.scheduler.allowed-failures": 0,
+    "distributed.comm.timeouts.connect": "10s",
+    "distributed.worker.profile.enabled": False,
+    "distributed.admin.tick.interval": "500ms",
+    "distributed.admin.system-monitor.interval": "5s",
+}
+
+
 class _Dask:
     """Has tasks done by the workers of a scheduler that runs, or of a cluster on this machine."""
 
@@ -61,19 +73,23 @@ class _Dask:
         # What the scheduler's and a worker's end come to is told by who calls.
         for name in ("distributed", "distributed.client"):
             logging.getLogger(name).setLevel(logging.CRITICAL)
-        # A task whose worker ends is given back at once; a scheduler that runs already has its own number.
-        dask.config.set({"distributed.scheduler.allowed-failures": 0, "distributed.comm.timeouts.connect": "10s"})
+        dask.config.set(_CONFIGURATION)
+        self._room: tempfile.TemporaryDirectory[str] | None = None
         if scheduler:
             self._client = Client(scheduler)
         else:
+            # (without a folder of their own the workers would make one where the command was begun)
+            self._room = tempfile.TemporaryDirectory(prefix="rdfax-crawl.", ignore_cleanup_errors=True)
             words = {"n_workers": workers, "threads_per_worker": 1, "processes": True, "memory_limit": None, "dashboard_address": None}
-            self._client = Client(**words, silence_logs=logging.CRITICAL)
+            self._client = Client(**words, silence_logs=logging.CRITICAL, local_directory=self._room.name)
 
     def __enter__(self) -> Self:
         return self
 
     def __exit__(self, *_: object) -> None:
         self._client.close()
+        if self._room:
+            self._room.cleanup()
 
     def do(self, work: Callable[..., Any], tasks: Iterable[tuple[Any, ...]]) -> Iterator[Done]:
         """What a worker's end lost is done once more, one task at a time: then one that ends its worker takes no other along."""

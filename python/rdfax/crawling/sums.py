@@ -29,8 +29,9 @@ TABLES = {
     "item_sites": "Items by site",
     "page_sites": "Pages by site",
 }
-_TYPE = b"http://www.w3.org/1999/02/22-rdf-syntax-ns#type"
-_QUAD = re.compile(rb"^(?:<[^>]*>|_:\w+) <([^>]*)> (?:<([^>]*)>)?", re.MULTILINE)
+# Of each line of N-Quads its property, and of those with rdf:type their class.
+_PROPERTY = re.compile(rb"^[^ ]+ <([^>]*)>", re.MULTILINE)
+_CLASS = re.compile(rb"^[^ ]+ <http://www\.w3\.org/1999/02/22-rdf-syntax-ns#type> <([^>]*)>", re.MULTILINE)
 
 
 class Sums:
@@ -74,12 +75,10 @@ class Sums:
                 self._item(item)
 
     def _quads(self, quads: bytes, site: str) -> None:
-        quad_list = _QUAD.findall(quads)
-        count = len(quad_list)
+        properties, classes = Counter(_PROPERTY.findall(quads)), Counter(_CLASS.findall(quads))
+        count = properties.total()
         self.tables["totals"].update({"triples": count, "pages with triples": 1})
         self.tables["triple_sites"][site] += count
-        properties = Counter(name for name, _ in quad_list)
-        classes = Counter(value for name, value in quad_list if name == _TYPE)
         for name, times in properties.items():
             self.tables["triple_properties"][text := name.decode()] += times
             self.tables["triple_vocabularies"][vocabulary(text)] += times

@@ -8,7 +8,7 @@ from pathlib import Path
 from typing import NamedTuple
 
 from rdfax.archives import PAGE_TYPES, Fetched, Record, fetched, records
-from rdfax.crawling.child import Reader
+from rdfax.crawling.child import Reader, reader
 from rdfax.crawling.options import Options
 from rdfax.crawling.outputs import Outputs, place_of
 from rdfax.crawling.pages import Found, Given
@@ -38,10 +38,10 @@ def work(out: str, shard: Shard, options: Options) -> int:
     if place_of(folder, shard).is_dir():
         return shard.records
     began = time.thread_time()
-    with Outputs(folder, shard, options.compression) as outputs, Reader(options) as reader:
+    with Outputs(folder, shard, options.compression) as outputs, reader(options) as child:
         nodes = 0
         for batch in _batches(_entries(shard, options, outputs.sums)):
-            nodes += _add(batch, reader, nodes, outputs)
+            nodes += _add(batch, child, nodes, outputs)
         spent = outputs.sums.tables["seconds"]
         own = time.thread_time() - began
         outputs.sums.spend("hand over", own - spent["read"] - spent["write"])
@@ -49,9 +49,9 @@ def work(out: str, shard: Shard, options: Options) -> int:
     return shard.records
 
 
-def _add(batch: list[_Entry], reader: Reader, nodes: int, outputs: Outputs) -> int:
+def _add(batch: list[_Entry], child: Reader, nodes: int, outputs: Outputs) -> int:
     """Has a batch read, and adds what it gives. Answers how many blank nodes that has."""
-    answers = reader.read([entry.given for entry in batch if entry.found is None], nodes)
+    answers = child.read([entry.given for entry in batch if entry.found is None], nodes)
     made = 0
     for record, given, told in batch:
         found = told or next(answers)
@@ -61,6 +61,8 @@ def _add(batch: list[_Entry], reader: Reader, nodes: int, outputs: Outputs) -> i
         outputs.sums.spend("write", time.thread_time() - began)
         outputs.sums.spend("mend", found.mending)
         outputs.sums.spend("extract", found.reading)
+        if found.placing:
+            outputs.sums.spend("place", found.placing)
     return made
 
 

@@ -116,7 +116,7 @@ def _tasks(app: Flask, settings: Settings, pool: Pool) -> None:
 
     @app.post("/api/read")
     def read() -> Response:
-        return _json(pool.ask("read", *_asked(settings.limits), _word("view", views, "triples")))
+        return _json(pool.ask("read", *_asked(settings.limits), _word("view", views, "triples"), request.args.get("most", None, int)))
 
     @app.post("/api/places")
     def places() -> Response:

@@ -98,7 +98,15 @@ class _Connection(http.client.HTTPConnection):
         """Connects, and wraps the socket for https; the certificate has to be the name's."""
         self.sock = socket.create_connection((self._checked, self.port), self.timeout)
         if self._secure:
-            self.sock = ssl.create_default_context().wrap_socket(self.sock, server_hostname=self.host)
+            self.sock = _encrypted(self.sock, self.host)
+
+
+def _encrypted(plain: socket.socket, host: str) -> ssl.SSLSocket:
+    """The connection by TLS, where the certificate is the host's, by authorities that the system trusts, or SSL_CERT_FILE."""
+    try:
+        return ssl.create_default_context().wrap_socket(plain, server_hostname=host)
+    except ssl.SSLCertVerificationError as error:
+        raise NotFetched(f"The certificate of {host} is not accepted: {error.verify_message.rstrip('.')}.") from None
 
 
 def _body(response: http.client.HTTPResponse, connection: _Connection, limits: _Limits) -> bytes:

@@ -5,10 +5,12 @@ Each function answers what `json.dumps` takes.
 
 from __future__ import annotations
 
+import functools
 import importlib
 import itertools
 import json
 import time
+import typing
 from collections.abc import Callable, Iterable
 from typing import Any
 
@@ -16,13 +18,17 @@ from rdfax import pages
 from rdfax.errors import Refused, Usage
 from rdfax.kinds import KINDS
 from rdfax.places import printable, to_line
-from rdfax.serving import origins
+from rdfax.serving import item_elements, origins
 from rdfax.serving.drawing import drawing
+from rdfax.serving.item_elements import Item
 from rdfax.serving.markup import Span
 from rdfax.serving.names import STANDARD, Name
 from rdfax.serving.positions import positions
 from rdfax.serving.triples import How, Origin
 from rdfax.terms import Iri, Literal, Object
+
+if typing.TYPE_CHECKING:
+    from rdfax.mending import Mended
 
 __all__ = ["PLACED_BYTES", "VIEWS", "mended", "places", "read", "text", "whole"]
 
@@ -32,6 +38,8 @@ SHOWN_TEXT = 1_000_000
 # Of a longer page no places are told: the second reading would take too long.
 PLACED_BYTES = 1_000_000
 _DRAWN_TRIPLES = 300
+# Of a longer token the begin is marked.
+_LONGEST_TOKEN = 10_000
 
 Told = dict[str, Any]
 
@@ -42,13 +50,13 @@ def _term(term: Object) -> Told:
     return {"iri": term} if isinstance(term, Iri) else {"blank": term}
 
 
-def _triples(page: bytes, base: str, syntax: pages.Syntax) -> Told:
+def _triples(page: bytes, base: str, syntax: pages.Syntax, most: int) -> Told:
+    """The first triples, as many as are asked for, and how many may be; how many there are in all."""
     with pages.Page("quads", base, syntax=syntax) as opened:
         _feed(opened, page)
-        quads = opened.quads()
-        shown = [[_term(quad.subject), _term(quad.predicate), _term(quad.object)] for quad in itertools.islice(quads, SHOWN_TRIPLES)]
-        count = len(shown) + sum(1 for _ in quads)
-    return {"triples": shown, "count": count, "prefixes": STANDARD.prefixes}
+        count = opened.count
+        told = [[_term(quad.subject), _term(quad.predicate), _term(quad.object)] for quad in itertools.islice(opened.quads(), min(max(most, 0), SHOWN_TRIPLES))]
+    return {"triples": told, "shown": min(count, SHOWN_TRIPLES), "count": count, "prefixes": STANDARD.prefixes}
 
 
 def _feed(opened: pages.Page, page: bytes) -> None:
@@ -76,18 +84,18 @@ def _text_view(form: pages.Format) -> Callable[[bytes, str, pages.Syntax], Told]
 
 
 VIEWS: dict[str, Callable[[bytes, str, pages.Syntax], Told]] = {
-    "triples": _triples,
+    "triples": functools.partial(_triples, most=SHOWN_TRIPLES),
     **{form: _text_view(form) for form in pages.FORMATS},
     "items": _items,
     "graph": _graph,
 }
 
 
-def read(page: bytes, base: str, syntax: pages.Syntax, view: str) -> Told:
-    """One view of the page; or why the page is refused, or the base is none."""
+def read(page: bytes, base: str, syntax: pages.Syntax, view: str, most: int | None = None) -> Told:
+    """One view of the page, of triples the first ones; or why the page is refused, or the base is none."""
     started = time.perf_counter()
     try:
-        told = VIEWS[view](page, base, syntax)
+        told = VIEWS[view](page, base, syntax) if view != "triples" or most is None else _triples(page, base, syntax, most)
     except Refused as refused:
         told = {"refused": _refusal(page, refused)}
     except Usage as usage:
@@ -125,7 +133,7 @@ def text(page: bytes, base: str, syntax: pages.Syntax, view: str) -> bytes:
 
 
 def places(page: bytes, base: str, syntax: pages.Syntax) -> Told:
-    """Where each triple that is shown comes from, and how many elements and levels the page has."""
+    """Where each triple that is shown and each item comes from, and how many elements and levels the page has."""
     if len(page) > PLACED_BYTES:
         return {"none": f"The page has more than {PLACED_BYTES:,} bytes: no places are told."}
     try:
@@ -133,12 +141,24 @@ def places(page: bytes, base: str, syntax: pages.Syntax) -> Told:
     except (Refused, Usage):
         return {"none": "The page is refused: it has no triples."}
     started = time.perf_counter()
-    found = origins.find(page, base, syntax=syntax)
-    told: Told = {"elements": found.elements, "depth": found.depth, "milliseconds": _since(started)}
+    spans, found = _Spans(page), origins.find(page, base, syntax=syntax)
+    items = _placed_items(page, base, syntax, spans)
+    told: Told = {"elements": found.elements, "depth": found.depth, "milliseconds": _since(started), "items": items}
     agreed = origins.places_of(found, quads)
     if agreed is None:
-        return {**told, "none": "The second reading, which tells places, gives other triples than the library. The library's are shown, without places."}
-    return {**told, **_Spans(page).told(agreed[:SHOWN_TRIPLES])}
+        none = "The second reading, which tells places, gives other triples than the library. The library's are shown, without places."
+        return {**told, "none": none, **spans.told([])}
+    return {**told, **spans.told(agreed[:SHOWN_TRIPLES])}
+
+
+def _placed_items(page: bytes, base: str, syntax: pages.Syntax, spans: _Spans) -> list[Told] | None:
+    """The places of the items, where the second reading of them agrees with the library's."""
+    try:
+        items = pages.items(page, base, syntax=syntax)["items"]
+    except Refused:
+        return None
+    found = item_elements.find(page, syntax)
+    return [spans.item(item) for item in found] if item_elements.agrees(found, items) else None
 
 
 class _Spans:
@@ -172,6 +192,11 @@ class _Spans:
             "copied": None if origin.copied is None else self._number(origin.copied.span),
         }
 
+    def item(self, item: Item) -> Told:
+        """An item's place, and those of the items among its properties' values."""
+        inner = {name: [None if value is None else self.item(value) for value in values] for name, values in item.properties.items()}
+        return {"span": self._number(item.span), "properties": inner}
+
     def told(self, agreed: Iterable[Origin]) -> Told:
         """The origins, and each place as first byte, byte behind it, line and character of both."""
         rows = [self._origin(origin) for origin in agreed]
@@ -191,7 +216,17 @@ def mended(page: bytes, charset: str | None, syntax: pages.Syntax) -> Told:
     except ValueError as error:
         return {"none": f"The page isn't mended: {error}"}
     changes = {kind.replace("_", " "): count for kind, count in made.changes.items()}
-    return {"page": bytes(made.page).decode("utf-8", "replace"), "charset": made.charset, "changes": changes}
+    return {"page": bytes(made.page).decode("utf-8", "replace"), "charset": made.charset, "changes": changes, "places": _originals(page, made)}
+
+
+def _originals(page: bytes, made: Mended) -> list[list[int]]:
+    """Of each start tag of a mended page its first byte, and the place in the original of the token that made its element:
+    line and character of its begin and of its end."""
+    if len(page) > PLACED_BYTES:
+        return []
+    ends = [page.find(b">", origin, origin + _LONGEST_TOKEN) + 1 or origin + 1 for origin in made.origins]
+    told = positions(page, [*made.origins, *ends])
+    return [[start, *told[number], *told[len(ends) + number]] for number, start in enumerate(made.starts)]
 
 
 def whole(page: bytes, base: str, syntax: pages.Syntax) -> Told:

@@ -67,10 +67,14 @@
       }
     }
 
-    ask(view) {
+    ask(view, most) {
       this.asking?.abort();
       this.asking = new AbortController();
-      return this.json("read", this.words({ view }), this.bytes());
+      return this.json("read", this.words({ view, most }), this.bytes());
+    }
+
+    whole() {
+      return this.json("read", this.words({ view: "triples" }), this.bytes());
     }
 
     places() {
@@ -110,8 +114,20 @@
         this.workbench.panel.prepend(make("p", { role: "note" }, told.none ?? told.failed));
         return;
       }
-      this.mendedOf = { raw: this.raw, text: this.editor.getValue(), charset: told.charset, changes: told.changes };
+      this.mendedOf = { raw: this.raw, text: this.editor.getValue(), charset: told.charset, changes: told.changes, places: told.places };
       this.setSource(told.page, null, true);
+    }
+
+    // Where the page that was mended has what made the element whose start tag begins at this byte of the copy.
+    original(start) {
+      const places = this.mendedOf?.places ?? [];
+      let [low, high] = [0, places.length];
+      while (low < high) {
+        const middle = (low + high) >> 1;
+        if (places[middle][0] <= start) low = middle + 1;
+        else high = middle;
+      }
+      return low ? places[low - 1] : null;
     }
 
     unmend() {

@@ -129,7 +129,8 @@ const rdfax = {};
     }
   }
 
-  // The source at the left, the tabs at the right. `provider.ask(view)` answers what is told of the page.
+  // The source at the left, the tabs at the right. `provider.ask(view, most)` answers what is told of
+  // the page, of its triples the first ones; `provider.whole()`, where it is there, all triples that are shown.
   class Workbench {
     constructor(root, provider, { readOnly = false } = {}) {
       this.provider = provider;
@@ -202,17 +203,28 @@ const rdfax = {};
       this.origins = null;
       if (this.provider.isEmpty?.()) return this.showEmpty();
       const view = this.tab === "statistics" ? "triples" : this.tab;
-      const told = await this.provider.ask(view);
+      const told = await this.provider.ask(view, ROWS);
       if (ticket !== this.ticket || told === null) return;
       this.told = told;
       this.show(view);
+      this.showAwaited();
       this.busy(false);
       if (told.bytes > LONG && this.provider.isEmpty) await new Promise((done) => setTimeout(done, QUIET));
       if (ticket !== this.ticket) return;
-      const places = "count" in told ? await this.provider.places() : {};
+      const places = "count" in told || told.items?.length ? await this.provider.places() : {};
       if (ticket !== this.ticket || places === null) return;
       this.showPlaces(places);
       this.panel.dataset.placed = "true";
+    }
+
+    // A place of the source that was asked for before the source was there.
+    showAwaited() {
+      if (!this.awaited) return;
+      const [from, to] = this.awaited;
+      this.awaited = null;
+      this.source.clear();
+      this.source.mark(from, to, "said");
+      this.source.show(from, true);
     }
 
     busy(on) {
@@ -317,11 +329,11 @@ const rdfax = {};
     }
 
     showTriples() {
-      const { triples, count: all } = this.told;
+      const { triples, shown: most, count: all } = this.told;
       this.rows = [];
       if (!triples.length) return this.panel.replaceChildren(make("p", {}, "The page has no triples. Look at the items, too: Microdata is shown there."));
       this.body = make("tbody", { onkeydown: (event) => this.rowKeys(event) });
-      const shown = all > triples.length ? `The first ${triples.length.toLocaleString("en")} of ${count(all, "triple")}` : count(all, "triple");
+      const shown = all > most ? `The first ${most.toLocaleString("en")} of ${count(all, "triple")}` : count(all, "triple");
       const heads = ["Place", "Subject", "Predicate", "Object"].map((name) => make("th", { scope: "col", class: name.toLowerCase() }, name));
       const table = make("table", { role: "grid" }, make("caption", {}, `${shown}. Choose a row to see where it is said.`), make("thead", {}, make("tr", {}, ...heads)), this.body);
       this.origin = make("div", { class: "origin", "aria-live": "polite", hidden: true });
@@ -329,8 +341,22 @@ const rdfax = {};
       this.addRows(ROWS);
     }
 
+    // The triples that are shown beyond the first ones, once they are wanted. Whether they are there.
+    async hasAll() {
+      const told = this.told;
+      if (told.triples.length < told.shown && this.provider.whole) {
+        const whole = await this.provider.whole();
+        if (whole?.triples && this.told === told) told.triples = whole.triples;
+      }
+      return this.told === told && Boolean(told.triples);
+    }
+
+    async addAllRows(to) {
+      if (await this.hasAll()) this.addRows(to);
+    }
+
     addRows(to) {
-      const { triples, prefixes } = this.told;
+      const { triples, prefixes, shown } = this.told;
       for (const [number, triple] of triples.slice(0, to).entries()) {
         if (number < this.rows.length) continue;
         const cells = triple.map((term) => make("td", {}, termElement(term, prefixes)));
@@ -338,7 +364,7 @@ const rdfax = {};
         row.addEventListener("click", () => this.choose(number));
         this.rows.push(row);
       }
-      const more = triples.length > to ? [make("tr", {}, make("td", { colspan: "4" }, button(`Show all ${triples.length.toLocaleString("en")}`, () => this.addRows(triples.length))))] : [];
+      const more = shown > to ? [make("tr", {}, make("td", { colspan: "4" }, button(`Show all ${shown.toLocaleString("en")}`, () => this.addAllRows(shown))))] : [];
       this.body.replaceChildren(...this.rows, ...more);
     }
 
@@ -362,7 +388,8 @@ const rdfax = {};
 
     showPlaces(places) {
       this.places = places;
-      this.origins = places.origins ? places : null;
+      if (this.tab === "items" && places.items) return this.showItems(places);
+      this.origins = places.origins?.length ? places : null;
       if (!("count" in this.told)) return;
       if (this.tab === "statistics") return this.showStatistics(places);
       if (places.none && this.tab === "triples") {
@@ -402,6 +429,8 @@ const rdfax = {};
       const roles = ["Subject", "Predicate", "Object", "Datatype"];
       const rows = origin.terms.flatMap((term, at) => (term ? [make("dt", {}, roles[at]), make("dd", {}, ...this.howOf(term))] : []));
       const list = make("dl", {}, make("dt", {}, "Element"), make("dd", {}, make("code", {}, `<${origin.element}>`), " ", this.jump(origin.span)), ...rows);
+      const copyOf = this.provider.original?.(this.origins.spans[origin.span][0]);
+      if (copyOf) list.append(make("dt", {}, "In the original"), make("dd", {}, this.leap(copyOf)));
       if (origin.copied !== null) list.append(make("dt", {}, "Copied"), make("dd", {}, "from a pattern, as ", this.jump(origin.copied), " asks"));
       this.origin.replaceChildren(
         make("h2", {}, "Where it comes from"),
@@ -432,8 +461,17 @@ const rdfax = {};
       return button(`${span[2] + 1}:${span[3] + 1}`, act, { class: "jump", title: `Bytes ${span[0]} to ${span[1] - 1}`, "aria-label": `Go to line ${span[2] + 1}, column ${span[3] + 1}` });
     }
 
+    // From a mended copy to the page that was mended, at this place.
+    leap([, line, ch, endLine, endCh]) {
+      const act = () => {
+        this.awaited = [[line, ch], [endLine, endCh]];
+        this.provider.unmend();
+      };
+      return button(`${line + 1}:${ch + 1}`, act, { class: "jump original", "aria-label": `Go back to the page, to line ${line + 1}, column ${ch + 1}` });
+    }
+
     // The other way: the triples that are said where the cursor stands.
-    chooseAt(cursor) {
+    async chooseAt(cursor) {
       if (!this.origins || this.told?.refused) return;
       const { origins, spans } = this.origins;
       const before = (span) => span[2] < cursor.line || (span[2] === cursor.line && span[3] <= cursor.ch);
@@ -443,7 +481,8 @@ const rdfax = {};
         if (before(span) && (best < 0 || span[0] > spans[origins[best].span][0])) best = number;
       }
       if (best < 0 || !this.reaches(spans[origins[best].span], cursor)) return;
-      if (this.tab === "triples" && best >= this.rows.length) this.addRows(best + 1);
+      if (this.tab === "triples" && best >= this.rows.length) await this.addAllRows(best + 1);
+      if (this.origins?.origins !== origins) return;
       this.markOrigin(best, false);
       this.markRows(origins, origins[best].span);
     }
@@ -467,19 +506,37 @@ const rdfax = {};
       if (this.tab === "graph") this.markEdges(origins, span);
     }
 
-    showItems() {
+    // Once their places are known, each item leads to its start tag.
+    showItems(places = null) {
       const items = this.told.items ?? [];
-      const list = items.length ? make("ul", {}, ...items.map((item) => make("li", {}, this.itemElement(item)))) : make("p", {}, "The page has no items.");
+      const placed = (at) => (places ? [places.items[at], places.spans] : []);
+      const list = items.length ? make("ul", {}, ...items.map((item, at) => make("li", {}, this.itemElement(item, ...placed(at))))) : make("p", {}, "The page has no items.");
       this.panel.replaceChildren(this.tools("items"), make("div", { class: "items" }, list));
     }
 
-    itemElement(item) {
+    itemElement(item, place = null, spans = null) {
       const name = (item.type ?? []).join(" ") || "an item";
+      const inner = (key, at) => (place ? [place.properties[key][at], spans] : []);
       const lines = Object.entries(item.properties).flatMap(([key, values]) =>
-        values.map((value) => make("li", {}, make("strong", {}, key), ": ", typeof value === "string" ? make("span", { class: "literal" }, value) : this.itemElement(value))),
+        values.map((value, at) =>
+          make("li", {}, make("strong", {}, key), ": ", typeof value === "string" ? make("span", { class: "literal" }, value) : this.itemElement(value, ...inner(key, at))),
+        ),
       );
       const id = item.id ? [make("p", {}, make("span", { class: "iri" }, item.id))] : [];
-      return make("details", { open: true }, make("summary", {}, name), ...id, make("ul", {}, ...lines));
+      const summary = make("summary", {}, name);
+      if (place) summary.append(...this.itemPlaces(spans[place.span]));
+      return make("details", { open: true }, summary, ...id, make("ul", {}, ...lines));
+    }
+
+    itemPlaces(span) {
+      const act = () => {
+        this.source.clear();
+        this.source.mark(span.slice(2, 4), span.slice(4, 6), "said");
+        this.source.show(span.slice(2, 4), true);
+      };
+      const here = button(`${span[2] + 1}:${span[3] + 1}`, act, { class: "jump", "aria-label": `Go to line ${span[2] + 1}, column ${span[3] + 1}` });
+      const copyOf = this.provider.original?.(span[0]);
+      return copyOf ? [" ", here, " in the original ", this.leap(copyOf)] : [" ", here];
     }
 
     showGraph() {
@@ -546,12 +603,14 @@ const rdfax = {};
       this.selectTab("triples");
       this.provider.opened?.("triples");
       await this.refresh();
+      if (!this.told.triples || !(await this.hasAll())) return;
       const label = words.replace(/\u2026$/, "");
-      const found = this.rows.find((row) => [...row.cells].slice(1).some((cell) => cell.textContent.startsWith(label)));
-      if (found) {
-        this.choose(Number(found.dataset.row), true);
-        found.scrollIntoView({ block: "nearest" });
-      }
+      const { triples, prefixes } = this.told;
+      const found = triples.findIndex((triple) => triple.some((term) => termElement(term, prefixes).textContent.startsWith(label)));
+      if (found < 0) return;
+      if (found >= this.rows.length) this.addRows(found + 1);
+      this.choose(found, true);
+      this.rows[found].scrollIntoView({ block: "nearest" });
     }
 
     showStatistics(places) {
