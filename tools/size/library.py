@@ -18,10 +18,15 @@ STATUSES = {DONE: "done", REFUSED: "refused", USAGE: "usage", NO_MEMORY: "want o
 LARGEST_FIRST, LARGEST_CONTEXT = 1 << 63, 65_536
 QUADS = 4
 FORBIDDEN = [*range(0x21), *b'<>"{}|\\^`']
-NO_IRIS = [b"", b"d", b"/d", b"//h/d", b"#f", b":a", b"1a:b", b"a b:c", "é:a".encode(), b"\xff", b"http://h.example/\x80", b"http://h.example/\xc3", b"http://h.example/\xed\xa0\x80"]
+NO_IRIS = [
+    b"", b"d", b"/d", b"//h/d", b"#f", b":a", b"1a:b", b"a b:c", "é:a".encode(), b"\xff",
+    b"http://h.example/\x80", b"http://h.example/\xc3", b"http://h.example/\xed\xa0\x80",
+]
 BAD_CONTEXTS = [
-    b"", b" ", b"[]", b"7", b'"a"', b"null", b"{", b"{}}", b'{"prefixes":[]}', b'{"prefixes":{"e":1}}', b'{"terms":{"e":null}}', b'{"others":{}}', b'{"prefixes":{},"x":1}',
-    b'{"prefixes":{"e":"v"}}', b'{"prefixes":{"e":"http://v.example/ a"}}', b'{"prefixes":{"_":"http://v.example/"}}', b'{"prefixes":{"1":"http://v.example/"}}',
+    b"", b" ", b"[]", b"7", b'"a"', b"null", b"{", b"{}}", b'{"prefixes":[]}',
+    b'{"prefixes":{"e":1}}', b'{"terms":{"e":null}}', b'{"others":{}}', b'{"prefixes":{},"x":1}',
+    b'{"prefixes":{"e":"v"}}', b'{"prefixes":{"e":"http://v.example/ a"}}',
+    b'{"prefixes":{"_":"http://v.example/"}}', b'{"prefixes":{"1":"http://v.example/"}}',
     b'{"prefixes":{"":"http://v.example/"}}', b'{"prefixes":{"e":"http://v.example/","E":"http://w.example/"}}', b'{"terms":{"a b":"http://v.example/"}}',
     b"{'prefixes':{}}", b'{"prefixes":{},}', b'\xff{}', b'{"prefixes":{"e":"http://v.example/\xff"}}', b"\xef\xbb\xbf{}",
 ]
@@ -41,7 +46,9 @@ class Calls:
     def page(self) -> Any:
         return self.low.PageHandle()
 
-    def extract(self, page: Any, *, syntax: int = 0, form: int = 0, first: int = 0, base: bytes = ADDRESS.encode(), graph: bytes | None = None, context: bytes | None = None) -> int:
+    def extract(
+        self, page: Any, *, syntax: int = 0, form: int = 0, first: int = 0, base: bytes = ADDRESS.encode(), graph: bytes | None = None, context: bytes | None = None
+    ) -> int:
         options = self.low.Options(syntax, form, first)
         words = [ctypes.byref(options), base, len(base), graph, len(graph or b""), context, len(context or b""), ctypes.byref(page)]
         return int(self.library.rdfax_extract(*words))
@@ -115,7 +122,10 @@ def addresses(calls: Calls) -> Cases:
     for form in (1, 2, 3):
         yield _opening(calls, f"a graph's name with format {form}", partial(calls.extract, graph=b"http://h.example/g", form=form), USAGE)
     allowed = [byte for byte in range(0x21, 0x80) if byte not in FORBIDDEN]
-    right = [b"a:", b"http://h.example/" + "é😀".encode(), *(b"http://h.example/a" + bytes([byte]) + b"z" for byte in allowed), b"http://h.example/" + b"a" * 100_000]
+    right = [
+        b"a:", b"http://h.example/" + "é😀".encode(), b"http://h.example/" + b"a" * 100_000,
+        *(b"http://h.example/a" + bytes([byte]) + b"z" for byte in allowed),
+    ]
     for name, base in _each(right, "address"):
         yield _opening(calls, f"{name}, extract", partial(calls.extract, base=base), DONE)
         yield _opening(calls, f"{name}, items", partial(calls.items, base=base), DONE)
@@ -166,7 +176,8 @@ def faults_at_the_end(calls: Calls) -> Cases:
     deep = b'<html><body><p itemscope>' + b'<b itemprop="n" itemscope>' * 40 + b"</b>" * 40 + b"</p></body></html>"
     last = deep.rindex(b"<b itemprop")
     yield _ends(calls, "ItemsTooNested, items", calls.items, deep, ("ItemsTooNested", deep.index(b">", last), last))
-    cells = b"".join(b'<b id="i%d" itemprop="n" itemscope itemref="i%d j%d"></b><b id="j%d" itemprop="m" itemscope itemref="i%d j%d"></b>' % (n, n + 1, n + 1, n, n + 1, n + 1) for n in range(17))
+    cell = '<b id="{0}{1}" itemprop="{0}" itemscope itemref="i{2} j{2}"></b>'
+    cells = "".join(cell.format(front, number, number + 1) for number in range(17) for front in "ij").encode()
     many = b'<html><body><p itemscope itemref="i0 j0"></p>' + cells + b"</body></html>"
     yield _too_many(calls, many)
 

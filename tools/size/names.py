@@ -15,7 +15,8 @@ BESIDE = [b"a", b"z", b"az", b"a z", b"a_z", b" z", b"a ", b"a%20z", b"a?z"]
 WORDS = [
     b"a#z", b"#", b"##", b"a#", b"#z", b"a%z", b"%", b"%41", b"%2F", b"a%23z", b"a%00z", b"'", b'"', b"'a'", b'"a"', b"a\nz", b"\n", b"a\n", b"\na", b"a\r\nz",
     b"a?b=c&d", b"a;b", b"a|b", b"a\\b", b"\\", b"~", b"~root", b"$HOME", b"`a`", b"*", b"<a>", b"{a}", b"[a]", b"http:", b"file:a", b"a:b", b"=", b"@a", b"+a",
-    b"...", b".a", b"a.", b" ", b"  ", b"\t", b"\x7f", b"\x01", "é".encode(), "e\u0301".encode(), "\u202ea".encode(), "\ufeffa".encode(), "😀".encode(), "\U0010fffd".encode(),
+    b"...", b".a", b"a.", b" ", b"  ", b"\t", b"\x7f", b"\x01",
+    "é".encode(), "e\u0301".encode(), "\u202ea".encode(), "\ufeffa".encode(), "😀".encode(), "\U0010fffd".encode(),
     b"a" * 255, b"#" * 255, "é".encode() * 127,
 ]
 

@@ -21,7 +21,8 @@ def _subject(number: int) -> tuple[str, list[Triple]]:
     subject, near, far = (iri(f"http://s.example/{number}"), iri(f"http://o.example/{number}#it"), iri(f"{SCHEMA}Thing_{number}"))
     verb = iri(f"{V}p{number % 20}")
     html = (
-        f'<div about="{subject[1]}" typeof="schema:Thing_{number}"><a rel="schema:url" href="{near[1]}"></a><a rel="{verb[1]}" href="{far[1]}"></a>'
+        f'<div about="{subject[1]}" typeof="schema:Thing_{number}">'
+        f'<a rel="schema:url" href="{near[1]}"></a><a rel="{verb[1]}" href="{far[1]}"></a>'
         f'<b property="schema:name" lang="en-GB">Nº {number} &amp; "more"</b><i property="schema:price" datatype="xsd:decimal" content="{number}.50"></i></div>\n'
     )
     said = [
