@@ -152,7 +152,7 @@ def _ends(calls: Calls, name: str, opens: Opens, content: bytes, wanted: tuple[s
     kind = calls.package.KINDS[wanted[0]].number
     if opens(page) != DONE:
         return name, "the page isn't opened"
-    fed = [int(calls.library.rdfax_feed(ctypes.byref(page), content[at : at + 7], len(content[at : at + 7]))) for at in range(0, len(content), 7)]
+    fed = [int(calls.library.rdfax_feed(ctypes.byref(page), content[at : at + 7], len(content[at : at + 7]))) for at in range(0, max(len(content), 1), 7)]
     ends = [int(calls.library.rdfax_finish(ctypes.byref(page))) for _ in range(2)]
     again = int(calls.library.rdfax_feed(ctypes.byref(page), b"", 0))
     fault, text = calls.fault(page), calls.text(page)
