@@ -3,7 +3,7 @@
 from __future__ import annotations
 
 from size.cases import ADDRESS, Cases, Group, Tries, differs, graph_cases, items_case
-from size.graphs import XSD, Graph, iri, literal
+from size.graphs import Graph, iri, literal
 from size.triples import HERE, V, page_of
 
 DEPTH, TAG = 512, 1_048_576
@@ -62,15 +62,16 @@ def long_tags(tries: Tries) -> Cases:
 
 
 def long_parts(tries: Tries) -> Cases:
-    """Five million characters, each in a part that is one token, or in one text."""
-    long = "a - b " * 800_000
+    """More than a million characters in a part that is one token, or in one text."""
+    long = "a - b " * 200_000
     graph = _one_value("t")
     value = f'<p property="{V}p">t</p>'
-    for name, part in (("comment", f"<!--{long}-->"), ("script", f"<script>{long}</script>"), ("section", f"<svg><![CDATA[{long}]]></svg>"), ("run", f"&{'a' * 5_000_000}")):
+    parts = {"comment": f"<!--{long}-->", "script": f"<script>{long}</script>", "section": f"<svg><![CDATA[{long}]]></svg>", "run": f"&{'a' * 5_000_000}"}
+    for name, part in parts.items():
         yield from graph_cases(tries, f"a long {name}", page_of(f"{part} {value}"), graph, ("nquads",))
     yield from graph_cases(tries, "a long text", page_of(f'<p property="{V}p">{long}</p>'), _one_value(long))
-    yield from graph_cases(tries, "a long text with a datatype", page_of(f'<p property="{V}p" datatype="xsd:token">{long}</p>'), _one_value(long, f"{XSD}token"))
-    yield from graph_cases(tries, "5,000,000 characters that are escaped", page_of(f'<p property="{V}p">{chr(34) * 5_000_000}</p>'), _one_value('"' * 5_000_000))
+    yield from graph_cases(tries, "a long text with a datatype", page_of(f'<p property="{V}p" datatype="{V}D">{long}</p>'), _one_value(long, f"{V}D"))
+    yield from graph_cases(tries, "500,000 characters that are escaped", page_of(f'<p property="{V}p">{chr(34) * 500_000}</p>'), _one_value('"' * 500_000))
     page = page_of(f'<div itemscope><p itemprop="n">{long}</p><p itemprop="n">{chr(1) * 1_000_000}</p></div>')
     yield items_case(tries, "a long text", page, {"items": [{"properties": {"n": [long, "\x01" * 1_000_000]}}]})
     address = f"http://o.example/{'a' * 1_000_000}"
