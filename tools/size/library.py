@@ -47,7 +47,8 @@ class Calls:
         return self.low.PageHandle()
 
     def extract(
-        self, page: Any, *, syntax: int = 0, form: int = 0, first: int = 0, base: bytes = ADDRESS.encode(), graph: bytes | None = None, context: bytes | None = None
+        self, page: Any, *, syntax: int = 0, form: int = 0, first: int = 0,
+        base: bytes = ADDRESS.encode(), graph: bytes | None = None, context: bytes | None = None,
     ) -> int:
         options = self.low.Options(syntax, form, first)
         words = [ctypes.byref(options), base, len(base), graph, len(graph or b""), context, len(context or b""), ctypes.byref(page)]

@@ -23,7 +23,8 @@ def _subject(number: int) -> tuple[str, list[Triple]]:
     html = (
         f'<div about="{subject[1]}" typeof="schema:Thing_{number}">'
         f'<a rel="schema:url" href="{near[1]}"></a><a rel="{verb[1]}" href="{far[1]}"></a>'
-        f'<b property="schema:name" lang="en-GB">Nº {number} &amp; "more"</b><i property="schema:price" datatype="xsd:decimal" content="{number}.50"></i></div>\n'
+        f'<b property="schema:name" lang="en-GB">Nº {number} &amp; "more"</b>'
+        f'<i property="schema:price" datatype="xsd:decimal" content="{number}.50"></i></div>\n'
     )
     said = [
         (subject, iri(f"{RDF}type"), far),
