@@ -3,7 +3,7 @@
 from __future__ import annotations
 
 from size.cases import ADDRESS, Cases, Group, Tries, differs, graph_cases, items_case, status_differs
-from size.graphs import Unreadable, iri, literal, quads_in
+from size.graphs import RDF, Triple, Unreadable, blank, difference, iri, literal, quads_in
 from size.triples import HERE, LEGAL, V
 
 MEGABYTE = 1_000_000
@@ -82,4 +82,34 @@ def many_pages(tries: Tries) -> Cases:
     yield "many, 1,000 addresses and a page less", differs(tries.answer("many", *words[:-1]), (2, b"", usage))
 
 
-GROUPS: list[Group] = [pages_above_2_mb, dense_page, pages_of_30_mb, many_pages]
+def many_pages_with_nodes(tries: Tries) -> Cases:
+    """1,000 pages, each with the same three blank nodes and a list: none of the nodes is in two pages."""
+    body = f'<p about="_:a" rel="{V}q" resource="_:b"></p><p about="_:b" property="{V}n">1</p><p inlist property="{V}l">x</p>'
+    path = tries.file("page.html", f"<html><body>{body}</body></html>".encode())
+    addresses = [f"http://h.example/{number}" for number in range(1000)]
+    answer = tries.answer("many", *(word for address in addresses for word in (address, path)))
+    yield "many, 1,000 pages with three blank nodes each", status_differs(answer) or _nodes_differ(answer.written.decode(), addresses)
+
+
+def _nodes_differ(text: str, addresses: list[str]) -> str | None:
+    """What is wrong with the graphs of these pages, if anything is."""
+    try:
+        found: dict[str | None, set[Triple]] = {}
+        for triple, name in quads_in(text):
+            found.setdefault(name, set()).add(triple)
+        nodes = [{term for triple in graph for term in triple if term[0] == "blank"} for graph in found.values()]
+        if list(found) != addresses or sum(map(len, nodes)) != len(set().union(*nodes)) or set(map(len, nodes)) != {3}:
+            return f"{len(found)} graphs with {len(set().union(*nodes))} blank nodes"
+        one, two, cell = blank("a"), blank("b"), blank("c")
+        for address, graph in found.items():
+            said: set[Triple] = {(one, iri(f"{V}q"), two), (two, iri(f"{V}n"), literal("1")), (iri(str(address)), iri(f"{V}l"), cell)}
+            said |= {(cell, iri(f"{RDF}first"), literal("x")), (cell, iri(f"{RDF}rest"), iri(f"{RDF}nil"))}
+            wrong = difference(frozenset(graph), frozenset(said))
+            if wrong:
+                return f"{address}: {wrong}"
+        return None
+    except Unreadable as error:
+        return str(error)
+
+
+GROUPS: list[Group] = [pages_above_2_mb, dense_page, pages_of_30_mb, many_pages, many_pages_with_nodes]
