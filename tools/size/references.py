@@ -14,7 +14,8 @@ from size.triples import V
 # RFC 3986, Appendix B, with the form of a scheme
 PARTS = re.compile(r"(?:([A-Za-z][A-Za-z0-9+.-]*):)?(?://([^/?#]*))?([^?#]*)(?:\?([^#]*))?(?:#(.*))?", re.DOTALL)
 BASES = [
-    "http://a/b/c/d;p?q", "http://h", "http://h/", "http://h/a", "http://h?q", "http://h/a//b/../c", "file:///a/b", "urn:a:b", "x:", "x:/", "x:a/b", "x://", "a:b?q",
+    "http://a/b/c/d;p?q", "http://h", "http://h/", "http://h/a", "http://h?q", "http://h/a//b/../c", "file:///a/b",
+    "urn:a:b", "x:", "x:/", "x:a/b", "x://", "a:b?q",
 ]
 SEGMENTS = ["", "a", "..", ".", "...", "b:c", "%2e", "%2F", "é", "a;b", "@", "..a", ".b", "1", "a.", "~", "g;x=1/./y"]
 NAMES = {name: chr(number) for name, number in name2codepoint.items()} | {"apos": "'", "lang": "\u27e8", "rang": "\u27e9"}
