@@ -231,13 +231,18 @@ def test_an_address_that_is_private_is_told(page: Page) -> None:
     assert "private network" in page.text("#panel [role=alert]")
 
 
+def fetch(page: Page, at: str, address: str) -> None:
+    """Opens the page that is served there anew, and has it fetch an address."""
+    page.driver.get("about:blank")
+    page.driver.get(at)
+    page.wait("typeof rdfax === 'object' && rdfax.live && rdfax.live.examples")
+    page.one("#address").send_keys(address)
+    page.one("#fetch").click()
+
+
 def test_an_address_is_fetched(page: Page) -> None:
     with serving("--private") as fetching, serving() as site:
-        page.driver.get("about:blank")
-        page.driver.get(fetching.address)
-        page.wait("typeof rdfax === 'object' && rdfax.live && rdfax.live.examples")
-        page.one("#address").send_keys(f"{site.address}static/page.html")
-        page.one("#fetch").click()
+        fetch(page, fetching.address, f"{site.address}static/page.html")
         page.wait("rdfax.live.editor.getValue().includes('workbench')")
         assert page.one("#base").get_attribute("value") == f"{site.address}static/page.html"
         page.settled(places=True)
@@ -258,11 +263,7 @@ def test_redirects_are_told(page: Page) -> None:
     with http.server.ThreadingHTTPServer(("127.0.0.1", 0), Redirecting) as site, serving("--private") as fetching:
         threading.Thread(target=site.serve_forever, daemon=True).start()
         address = f"http://127.0.0.1:{site.server_port}"
-        page.driver.get("about:blank")
-        page.driver.get(fetching.address)
-        page.wait("typeof rdfax === 'object' && rdfax.live && rdfax.live.examples")
-        page.one("#address").send_keys(f"{address}/to")
-        page.one("#fetch").click()
+        fetch(page, fetching.address, f"{address}/to")
         page.wait("document.getElementById('redirects')")
         assert page.text("#redirects") == f"Redirected: {address}/to \u2192 {address}/page"
         page.settled()

@@ -16,9 +16,9 @@ use Rattle.rx_nest.proofs.Sizes.{within_so}
 use Rattle.rx_pages.proofs.Sizes.{read_size}
 use Rattle.rx_nest.proofs.TagPlaces.{shows_more}
 use Rattle.rx_nest.proofs.TreeSeen.{whole}
-use Rattle.rx_reading.specs.Faults.{MeaningAt, Refuses, for_form, for_meaning}
-use Rattle.rx_reading.specs.Ways.{Way, IsRefusal}
-use Rattle.rx_reading.proofs.Refusing.{at_from}
+use Rattle.rx_nest.specs.Faults.{MeaningAt, Refuses, for_form, for_meaning}
+use Rattle.rx_nest.specs.Ways.{Way, IsRefusal}
+use Rattle.rx_nest.proofs.Refusing.{at_from}
 
 -- of two fronts of a list one is a front of the other
 pub fronts : (a b c d : List ℕ) → a ++ b ≡ c ++ d → ((m : List ℕ) × (c ≡ a ++ m)) ⊎ ((m : List ℕ) × (a ≡ c ++ m))

@@ -18,7 +18,7 @@ use Rattle.rx_rdfa.specs.Whole.{graph_of}
 use Rattle.rx_rdfa.proofs.Whole.{written_denotes}
 use Rattle.rx_many.specs.Pages.{Page, Judgement, refused, accepted, refused_page, accepted_page}
 use Rattle.rx_job.specs.Words.{Gathering, Listed}
-use Rattle.rx_reading.specs.Ways.{Way}
+use Rattle.rx_nest.specs.Ways.{Way}
 use Rattle.rx_command.specs.declared.pages.Approach.{Approach}
 use Rattle.rx_command.specs.Reading.{HasFirst, GivesList, ReadsWhole, Finds, TakesToFirst}
 use Rattle.rx_command.specs.Files.{TakesOf, size_of}

@@ -22,7 +22,7 @@ use Rattle.rx_rdfa.specs.Standard.{standard}
 use Rattle.rx_job.specs.declared.formats.Format.{Format}
 use Rattle.rx_job.specs.declared.formats.Format.TheVariants as format
 use Rattle.rx_job.specs.Words.{Asked, Task, Extraction, Itemization, extracts, itemizes, checks}
-use Rattle.rx_reading.specs.Ways.{Way}
+use Rattle.rx_nest.specs.Ways.{Way}
 use Rattle.rx_command.specs.declared.errors.InputError.{InputError}
 use Rattle.rx_command.specs.declared.errors.InputError.TheVariants as error
 use Rattle.rx_command.specs.Reading.{largest_piece, page_limit, HasFirst, GivesList, GivesRight, ReadsWhole, Finds, ReadsClean, IsClean, PageFails}

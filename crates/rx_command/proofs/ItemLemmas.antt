@@ -17,7 +17,7 @@ use Rattle.rx_microdata.specs.Json.{Outcome, Given, Refused, json_by, refused, o
 use Rattle.rx_microdata.specs.Properties.{properties}
 use Rattle.rx_microdata.specs.Visits.{Bounds, Visit, standard_bounds, is_cycle, fault_of, first_fault, visits_by}
 use Rattle.rx_items.specs.Pages.{IsTextOf, TextGives}
-use Rattle.rx_item_properties.specs.declared.kept.Kept.{Kept}
+use Rattle.rx_items.specs.declared.kept.Kept.{Kept}
 use Rattle.rx_command.specs.JsonTexts.{AreItems, JsonTextGives}
 use Rattle.rx_ports.specs.Files.{file_of}
 use Rattle.rx_ports.specs.Shelves.{ShelfContent}

@@ -23,7 +23,7 @@ use Rattle.rx_rdfa.specs.Names.{Context}
 use Rattle.rx_rdfa.specs.Refusals.{Refusal, RelativeVocab, XmlLiteral, HtmlLiteral, refusal}
 use Rattle.rx_rdfa.specs.Tree as tree
 use Rattle.rx_walk.specs.Refused.{refused_in}
-use Rattle.rx_command.specs.Headline.{is_of_meaning}
+use Rattle.rx_grammar.specs.Kinds.{is_of_meaning}
 use Rattle.rx_command.specs.Outcome.{is_of_items}
 
 -- a kind of a page's form is neither of items nor of meaning

@@ -15,16 +15,17 @@ use Rattle.rx_pages.proofs.ScanSteps.{page_append}
 use Rattle.rx_pages.proofs.Trees.{one_tree}
 use Rattle.rx_nest.specs.Signs.{Sign, sees, nothing_seen, signs_of}
 use Rattle.rx_nest.proofs.TreeSeen.{whole}
-use Rattle.rx_reading.specs.Faults.{MeaningAt, Refuses, for_form, for_meaning}
-use Rattle.rx_reading.specs.Ways.{Way, IsRefusal}
-use Rattle.rx_reading.proofs.Firsts.{meaning_first}
+use Rattle.rx_nest.specs.Faults.{MeaningAt, Refuses, for_form, for_meaning}
+use Rattle.rx_nest.specs.Ways.{Way, IsRefusal}
+use Rattle.rx_nest.proofs.Firsts.{meaning_first}
 use Rattle.rx_rdfa.specs.Names.{Context}
 use Rattle.rx_microdata.specs.Json.{Outcome, Given, Refused, outcome}
 use Rattle.rx_microdata.specs.Visits.{standard_bounds}
 use Rattle.rx_job.specs.Words.{Task, Itemization, extracts, itemizes, checks}
 use Rattle.rx_command.specs.Reading.{standard, Aim, refused_for, way_for}
 use Rattle.rx_command.specs.Outcome.{TaskRefuses, aim_in, syntax_in, way_in, is_of_items}
-use Rattle.rx_command.specs.Headline.{TaskAccepts, IsTheTree, IsTheFault, OneOutcome, is_of_meaning, may_refuse}
+use Rattle.rx_command.specs.Headline.{TaskAccepts, IsTheTree, IsTheFault, OneOutcome, may_refuse}
+use Rattle.rx_grammar.specs.Kinds.{is_of_meaning}
 use Rattle.rx_command.proofs.FaultLemmas.{fronts, no_meaning_in, page_has_none}
 use Rattle.rx_command.proofs.ItemLemmas.{item_kind}
 use Rattle.rx_command.proofs.KindLemmas.{form_kind, meaning_kind}

@@ -12,13 +12,13 @@ use Rattle.rx_nest.specs.Nests as nests
 use Rattle.rx_nest.specs.Nests.{Nested}
 use Rattle.rx_nest.specs.Signs.{Sign, Sight, sees, nothing_seen}
 use Rattle.rx_pages.proofs.Sizes.{read_size}
-use Rattle.rx_reading.specs.Faults.{for_form, Stops}
-use Rattle.rx_reading.specs.Ways.{Way, IsRefusal, none_refuses}
+use Rattle.rx_nest.specs.Faults.{for_form, Stops}
+use Rattle.rx_nest.specs.Ways.{Way, IsRefusal, none_refuses}
 use Rattle.rx_rdfa.specs.Names.{Context}
 use Rattle.rx_walk.specs.Walks as walks
 use Rattle.rx_walk.specs.Walks.{Walked}
 use Rattle.rx_walk.specs.RefusalLaws.{refusal_laws}
-use Rattle.rx_reading.specs.Readings.{OwesNone}
+use Rattle.rx_nest.specs.Readings.{OwesNone}
 use Rattle.rx_items.specs.Walks as item
 use Rattle.rx_walk.specs.Checks as checks
 use Rattle.rx_walk.specs.Checks.{Checked}
@@ -92,7 +92,7 @@ pub record IsRead (way : Way) (bytes : List ℕ) : Type 0 where
   pub read : page_read way.syntax way.limits bytes ≡ Ok now
   pub accepted : way.refused (sees nothing_seen now.told).signs ≡ None
 
-shown_read : (way : Way) (bytes : List ℕ) (nest : Nested) (signs : List Sign) → nests.NestStands way.syntax way.limits nest bytes signs → OwesNone nest → way.refused signs ≡ None → IsRead way bytes
+pub shown_read : (way : Way) (bytes : List ℕ) (nest : Nested) (signs : List Sign) → nests.NestStands way.syntax way.limits nest bytes signs → OwesNone nest → way.refused signs ≡ None → IsRead way bytes
 shown_read way bytes nest signs shown paid accepted =
     let signs_are : (sees nothing_seen shown.told).signs ≡ signs = ap (λ (x : Sight). x.signs) shown.sight ∙ (ap (λ x. signs ++ x) paid ∙ append-nil signs) in
     record { now = record { now = shown.at.now; told = shown.told }; read = shown.at.read; accepted = ap way.refused signs_are ∙ accepted }

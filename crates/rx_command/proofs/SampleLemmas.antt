@@ -15,11 +15,11 @@ use Rattle.rx_rdfa.specs.Standard as names
 use Rattle.rx_nest.specs.Signs.{sees, nothing_seen}
 use Rattle.rx_base.specs.Lines.{line_of}
 use Rattle.rx_walk.specs.Walks.{Walked, WalkStands, Ended, open_line}
-use Rattle.rx_reading.specs.Ways.{Way}
+use Rattle.rx_nest.specs.Ways.{Way}
 use Rattle.rx_command.specs.Reading.{standard, Aim, for_triples, setting_for, way_for}
 use Rattle.rx_job.specs.Words.{most_items}
 use Rattle.rx_command.specs.Samples.{head, item_before, item_behind, items_to, cut_in, sample_page, tail, depth_at, open_after, larger, deepest, deepest_in, sample_setting, sample_address, triples_in, line_with, line_for, IsSample}
-use Rattle.rx_reading.specs.Faults.{Refuses, Stops}
+use Rattle.rx_nest.specs.Faults.{Refuses, Stops}
 use Rattle.rx_command.specs.declared.passes.Pass.TheVariants as reader
 use Rattle.rx_command.specs.Feeding.{Fed, FedTo, FedWhole, IsDue, TakesPiece}
 use Rattle.rx_command.specs.declared.samples.Feeding.{Feeding}

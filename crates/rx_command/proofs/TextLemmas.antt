@@ -3,11 +3,10 @@ use Rattle.std.proofs.Common.{◌≡◌, ◌∙◌, ℕ, List, ◌++◌, refl, s
 use Rattle.std.specs.Prelude.{codes, Option}
 use Rattle.rx_terms.specs.Text.{Chars}
 use Rattle.rx_model.specs.Terms.{Triple, Graph, set_of}
-use Rattle.rx_shapes.specs.Shapes.{Inner, Cell, last_cell, next_cell, IsShape}
+use Rattle.rx_shapes.specs.Shapes.{Inner, Cell, last_cell, next_cell, IsShape, HaveShapes}
 use Rattle.rx_shapes.specs.declared.shapes.Shape.{Shape}
 use Rattle.rx_shapes.specs.declared.shapes.Shape.TheVariants as shape
-use Rattle.rx_nested.specs.Laws.{HaveShapes}
-use Rattle.rx_nested.specs.Nesting.{nested}
+use Rattle.rx_notation.specs.Nesting.{nested}
 use Rattle.rx_jsonld.specs.Value.{jsonld}
 use Rattle.rx_grammar.specs.Trees.{Tree}
 use Rattle.rx_pages.proofs.Trees.{one_tree}
@@ -26,11 +25,11 @@ use Rattle.rx_command.proofs.OutcomeLemmas.{the_tree}
 
 -- ---- a node has one shape
 
-cell_inner : (g : Graph ℕ) (b : ℕ) → Cell g b → Inner g b
+pub cell_inner : (g : Graph ℕ) (b : ℕ) → Cell g b → Inner g b
 cell_inner g b (last_cell inner pair) = inner
 cell_inner g b (next_cell inner pair more) = inner
 
-one_shape : (g : Graph ℕ) (b : ℕ) (s t : Shape) → IsShape g b s → IsShape g b t → s ≡ t
+pub one_shape : (g : Graph ℕ) (b : ℕ) (s t : Shape) → IsShape g b s → IsShape g b t → s ≡ t
 one_shape g b shape.Cell shape.Cell p q = refl
 one_shape g b shape.Cell shape.Inside p q = absurd (q.1 p)
 one_shape g b shape.Cell shape.Labelled p q = absurd (q (cell_inner g b p))
@@ -41,12 +40,12 @@ one_shape g b shape.Labelled shape.Cell p q = absurd (p (cell_inner g b q))
 one_shape g b shape.Labelled shape.Inside p q = absurd (p q.0)
 one_shape g b shape.Labelled shape.Labelled p q = refl
 
-same_shapes : (list : List (Triple ℕ)) (s t : ℕ → Shape) → HaveShapes list s → HaveShapes list t → s ≡ t
+pub same_shapes : (list : List (Triple ℕ)) (s t : ℕ → Shape) → HaveShapes list s → HaveShapes list t → s ≡ t
 same_shapes list s t p q = λ i n. one_shape (set_of list) n (s n) (t n) (p n) (q n) i
 
 -- ---- a list has one text in a format
 
-one_text_as : (f : Format) (graph : Option Chars) (context : Context) (list : List (Triple ℕ)) (a b : List ℕ) → IsTextAs f graph context list a → IsTextAs f graph context list b → a ≡ b
+pub one_text_as : (f : Format) (graph : Option Chars) (context : Context) (list : List (Triple ℕ)) (a b : List ℕ) → IsTextAs f graph context list a → IsTextAs f graph context list b → a ≡ b
 one_text_as format.Nquads graph context list a b p q = p ∙ sym q
 one_text_as format.Turtle graph context list a b p q = p ∙ sym q
 one_text_as format.Nested graph context list a b p q =

@@ -8,7 +8,7 @@ use Rattle.rx_command.specs.declared.errors.InputError.{InputError}
 use Rattle.rx_command.specs.declared.errors.InputError.TheVariants as error
 use Rattle.rx_rdfa.specs.Names.{Context}
 use Rattle.rx_job.specs.Words.{Task}
-use Rattle.rx_reading.specs.Ways.{Way}
+use Rattle.rx_nest.specs.Ways.{Way}
 use Rattle.rx_command.specs.Reading.{ReadsClean}
 use Rattle.rx_command.specs.Inputs.{PageText, PageRefused, TellsThat}
 use Rattle.rx_command.specs.declared.outcomes.Outcome.{Outcome}

@@ -15,7 +15,7 @@ use Rattle.rx_many.specs.Pages.{Page, Judgement, refused, accepted}
 use Rattle.rx_many.specs.Writing.{gathered}
 use Rattle.rx_many.specs.Dataset.{DenotesPages}
 use Rattle.rx_job.specs.Words.{Gathering, Listed, gathering_asked}
-use Rattle.rx_reading.specs.Ways.{Way}
+use Rattle.rx_nest.specs.Ways.{Way}
 use Rattle.rx_command.specs.Reading.{largest_piece, page_limit, for_triples, way_for, HasFirst}
 use Rattle.rx_command.specs.Files.{size_of}
 use Rattle.rx_command.specs.Contexts.{IsContext, HasContext, context_size, context_limit}

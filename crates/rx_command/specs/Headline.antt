@@ -1,12 +1,12 @@
 -- The one outcome of a page, and how a run that reads it ends.
-use Rattle.std.specs.Prelude.{◌≡◌, ◌⊎◌, ℕ, Bool, true, false, not, List, [], Option}
+use Rattle.std.specs.Prelude.{◌≡◌, ◌⊎◌, ℕ, Bool, true, not, List, [], Option}
 use Rattle.rx_ports.specs.Counts.{Rose}
 use Rattle.rx_ports.specs.Shelves.{ShelfContent, Moves, GrowsBy, GrowsByPart, Stays}
 use Rattle.rx_terms.specs.Text.{Chars}
 use Rattle.rx_rdfa.specs.Names.{Context}
 use Rattle.rx_grammar.specs.declared.faults.Fault.{Fault}
+use Rattle.rx_grammar.specs.Kinds.{is_of_meaning}
 use Rattle.rx_grammar.specs.declared.faults.Kind.{Kind}
-use Rattle.rx_grammar.specs.declared.faults.Kind.TheVariants.{RelativeVocab, XmlLiteral, HtmlLiteral}
 use Rattle.rx_grammar.specs.Trees.{Tree}
 use Rattle.rx_grammar.specs.Pages.{Page}
 use Rattle.rx_microdata.specs.Json.{Given, outcome}
@@ -31,13 +31,6 @@ abbrev pub TaskAccepts : Task → Context → List ℕ → Tree → Type 0
 TaskAccepts (extracts e) context bytes tree = IsAccepted e.syntax context bytes tree
 TaskAccepts (itemizes i) context bytes tree = HasItemTree i bytes tree
 TaskAccepts (checks syntax) context bytes tree = IsAccepted syntax context bytes tree
-
--- faults of what a start tag says to RDFa
-abbrev pub is_of_meaning : Kind → Bool
-is_of_meaning RelativeVocab = true
-is_of_meaning XmlLiteral = true
-is_of_meaning HtmlLiteral = true
-is_of_meaning kind = false
 
 -- The kinds for which a task refuses a page: those of its form, and beside them those of RDFa, or those of items.
 abbrev pub may_refuse : Task → Kind → Bool

@@ -7,9 +7,9 @@ use Rattle.rx_grammar.specs.declared.stops.Stop.TheVariants as stop
 use Rattle.rx_microdata.specs.Base.{base_in}
 use Rattle.rx_microdata.specs.Json.{Refused, outcome}
 use Rattle.rx_microdata.specs.Visits.{standard_bounds}
-use Rattle.rx_item_properties.specs.Held.{HoldsRows}
-use Rattle.rx_item_table.specs.Rows.{rows_of}
-use Rattle.rx_item_properties.specs.declared.kept.Kept.{Kept}
+use Rattle.rx_items.specs.Held.{HoldsRows}
+use Rattle.rx_items.specs.Rows.{rows_of}
+use Rattle.rx_items.specs.declared.kept.Kept.{Kept}
 use Rattle.rx_command.specs.Outcome.{JsonText}
 
 -- these are the items of a tree that was read from an address

@@ -20,15 +20,14 @@ use Rattle.rx_grammar.specs.Pages.{Page}
 use Rattle.rx_nest.specs.Signs.{signs_of}
 use Rattle.rx_base.specs.Lines.{tags_of}
 use Rattle.rx_walk.specs.Refused.{refused_in}
-use Rattle.rx_nquads.specs.Quads.{quads}
+use Rattle.rx_nquads.specs.Quads.{quads, proper_triple}
 use Rattle.rx_nquads.specs.Document.{Nquads}
 use Rattle.rx_nquads.specs.Writing.{nquads}
-use Rattle.rx_notation.specs.Laws.{proper_triple}
 use Rattle.rx_notation.specs.Layout.{turtle}
 use Rattle.rx_notation.specs.Meaning.{Turtle, NestedTurtle}
 use Rattle.rx_shapes.specs.declared.shapes.Shape.{Shape}
-use Rattle.rx_nested.specs.Laws.{HaveShapes}
-use Rattle.rx_nested.specs.Nesting.{nested}
+use Rattle.rx_shapes.specs.Shapes.{HaveShapes}
+use Rattle.rx_notation.specs.Nesting.{nested}
 use Rattle.rx_jsonld.specs.Value.{jsonld}
 use Rattle.rx_jsonld.specs.Meaning.{JsonLd}
 use Rattle.rx_microdata.specs.Json.{Given, Refused, outcome}
@@ -39,7 +38,7 @@ use Rattle.rx_job.specs.declared.formats.Format.{Format}
 use Rattle.rx_job.specs.declared.formats.Format.TheVariants as format
 use Rattle.rx_job.specs.Words.{Job, Asked, Task, Extraction, Itemization, Gathering, Listed, reads, gathers, samples, extracts, itemizes, checks, job, page_asked}
 use Rattle.rx_command.specs.Contexts.{IsContext, HasContext, HasOther, LacksContext, context_in}
-use Rattle.rx_reading.specs.Ways.{Way}
+use Rattle.rx_nest.specs.Ways.{Way}
 use Rattle.rx_command.specs.Reading.{standard, largest_piece, Aim, for_triples, for_faults, for_items, way_for, HasFirst}
 
 -- the bytes are a page with this tree, and none of its start tags is refused

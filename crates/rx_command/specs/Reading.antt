@@ -9,15 +9,15 @@ use Rattle.rx_grammar.specs.declared.limits.Limits.{Limits}
 use Rattle.rx_rdfa.specs.Names.{Context}
 use Rattle.rx_grammar.specs.declared.stops.Stop.{Stop}
 use Rattle.rx_nest.specs.Signs.{Sign}
-use Rattle.rx_reading.specs.Faults.{Refuses, StopGives}
-use Rattle.rx_reading.specs.Ways.{Way, refuses_none}
+use Rattle.rx_nest.specs.Faults.{Refuses, StopGives}
+use Rattle.rx_nest.specs.Ways.{Way, refuses_none}
 use Rattle.rx_walk.specs.Refused.{refused_in}
 use Rattle.rx_walk.specs.Settings.{Setting}
 use Rattle.rx_walk.specs.Walks as walk
 use Rattle.rx_walk.specs.Walks.{Ended}
 use Rattle.rx_items.specs.Collecting.{Setting as ItemSetting}
 use Rattle.rx_items.specs.Walks as item
-use Rattle.rx_item_properties.specs.declared.kept.Kept.{Kept}
+use Rattle.rx_items.specs.declared.kept.Kept.{Kept}
 use Rattle.rx_walk.specs.Checks as check
 use Rattle.rx_walk.specs.Checks.{Accepted}
 use Rattle.rx_ports.specs.Files.{file_of}

@@ -6,7 +6,7 @@ use Rattle.rx_ports.specs.Files.{file_of}
 use Rattle.rx_ports.specs.Shelves.{ShelfContent, Moves, GrowsBy, GrowsByPart, Stays}
 use Rattle.rx_terms.specs.Text.{Chars}
 use Rattle.rx_job.specs.Words.{Job, Asked, Gathering, reads, gathers, samples, job}
-use Rattle.rx_many.specs.Writing.{kind_name}
+use Rattle.rx_grammar.specs.Kinds.{kind_name}
 use Rattle.rx_command.specs.Files.{size_of}
 use Rattle.rx_command.specs.Contexts.{HasOther, TakesContext, context_size, context_limit}
 use Rattle.rx_command.specs.Outcome.{LacksFile, LacksOne, ReadsTo}

@@ -9,13 +9,12 @@ use Rattle.rx_model.specs.Seen.{triples_seen}
 use Rattle.rx_model.specs.Terms.{Triple}
 use Rattle.rx_rdfa.specs.Names.{Context}
 use Rattle.rx_nquads.specs.Document.{Nquads}
-use Rattle.rx_nquads.specs.Quads.{quads}
+use Rattle.rx_nquads.specs.Quads.{quads, proper_triple}
 use Rattle.rx_nquads.specs.Writing.{nquads}
-use Rattle.rx_notation.specs.Laws.{proper_triple}
 use Rattle.rx_notation.specs.Layout.{turtle}
 use Rattle.rx_notation.specs.Meaning.{Turtle, NestedTurtle}
 use Rattle.rx_shapes.specs.Table.{shape_in}
-use Rattle.rx_nested.specs.Nesting.{nested}
+use Rattle.rx_notation.specs.Nesting.{nested}
 use Rattle.rx_job.specs.declared.formats.Format.{Format}
 use Rattle.rx_job.specs.declared.formats.Format.TheVariants as format
 use Rattle.rx_command.specs.Outcome.{IsNestedText, IsJsonldText, JsonDenotes, ok_line}

@@ -5,7 +5,7 @@ ghost use Rattle.rx_ports.specs.Counts.{Rose};
 ghost use Rattle.rx_ports.specs.Shelves.{Moves, GrowsBy, GrowsByPart};
 ghost use Rattle.rx_model.specs.Seen.{triples_seen};
 ghost use Rattle.rx_shapes.specs.Table.{AreShapes};
-ghost use Rattle.rx_notation.specs.Laws.{proper_triple};
+ghost use Rattle.rx_nquads.specs.Quads.{proper_triple};
 ghost use Rattle.rx_notation.specs.Meaning.{NestedTurtle};
 ghost use Rattle.rx_command.specs.Written.{nested_text};
 

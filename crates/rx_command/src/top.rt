@@ -18,13 +18,14 @@ use crate::inputs::outcome_of_job;
 use crate::outcomes::Outcome;
 use crate::samples::sample;
 use crate::statuses::Status;
+use rx_grammar::name_of;
 use rx_job::{Asking, Job, JobError, Several};
-use rx_many::name_of;
 use rx_nquads::WriteError;
 use rx_ports::{Shelf, Sink, put_all};
 use rx_terms::{NoMemory, Text};
 use rx_walk::Fault;
 use std::alloc::{AllocError, Global};
+use std::mem::ManuallyDrop;
 
 const USAGE: &[u8] = b"usage: rdfax extract|items|check|sample\n";
 
@@ -181,7 +182,7 @@ pub fn run<F: Shelf, O: Sink, E: Sink>(
     }
 }
 
-/// Writes the outcome's text.
+/// Writes the outcome's text, and doesn't let go of what it takes.
 fn write<O: Sink>(alloc: Global, outcome: Outcome, out: &mut O) -> Result<(), WriteError>
     ensures ok { OnOk result (Moves (GrowsBy (text_of outcome)) (O.held out.old) (O.held out.new)) }
     ensures denoted { OnOk result (Denoted outcome) }
@@ -190,7 +191,8 @@ fn write<O: Sink>(alloc: Global, outcome: Outcome, out: &mut O) -> Result<(), Wr
     ensures untouched { IsErrOf result WriteError.NoMemory → out.new ≡ out.old }
 {
     let written = outcome.write(alloc, out);
-    drop(outcome);
+    // The program ends behind this, and what it has goes with it as a whole.
+    let _kept = ManuallyDrop::new(outcome);
     written
 }
 

@@ -106,6 +106,11 @@ absolute-line tag above own other = go (attribute tag (codes "vocab")) own other
   go None e h = h
   go (Some value) e h = e
 
+-- where that from above isn't relative, one that is relative is the tag's own
+pub own-relative : (tag : Tag) (above : List Tag) → is_relative (vocabulary_from above tag) ≡ false → is_relative (vocab (tag ∷ above)) ≡ true → is_relative (own_vocabulary tag) ≡ true
+own-relative tag above other here =
+    by_test (is_relative (own_vocabulary tag)) (λ t. t) (λ t. let both : true ≡ false = sym here ∙ absolute-line tag above t other in absurd (cc both))
+
 some-mapped : {A B : Type 0} (f : A → B) (o : Option A) → is_some (option_map f o) ≡ is_some o
 some-mapped f None = refl
 some-mapped f (Some x) = refl

@@ -9,6 +9,7 @@ use Rattle.rx_rdfa.specs.Refusals.{Refusal, RelativeVocab, XmlLiteral, HtmlLiter
 use Rattle.rx_names.specs.Lines.{NamesStand}
 use Rattle.rx_names.specs.Views.{names_seen}
 use Rattle.rx_names.specs.declared.names.NamesView.{NamesView}
+use Rattle.rx_grammar.specs.Kinds.{is_of_meaning}
 use Rattle.rx_grammar.specs.declared.faults.Kind.{Kind}
 use Rattle.rx_grammar.specs.declared.faults.Kind.TheVariants as kind
 use Rattle.rx_curie.specs.declared.facts.Facts.{Facts as CodeFacts}
@@ -86,13 +87,6 @@ no_facts = record {
   lang = None;
 }
 
--- the error's kind is that of a refusal
-abbrev pub is_refusal_kind : Kind → Bool
-is_refusal_kind kind.RelativeVocab = true
-is_refusal_kind kind.XmlLiteral = true
-is_refusal_kind kind.HtmlLiteral = true
-is_refusal_kind _ = false
-
 abbrev pub is_for_meaning : FactsError → Bool
-is_for_meaning (error.Meaning k) = is_refusal_kind k
+is_for_meaning (error.Meaning k) = is_of_meaning k
 is_for_meaning error.NoMemory = true

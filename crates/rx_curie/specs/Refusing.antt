@@ -8,7 +8,7 @@ use Rattle.rx_rdfa.specs.Names.{Context}
 use Rattle.rx_rdfa.specs.Facts.{predicate}
 use Rattle.rx_rdfa.specs.Refusals.{Refusal, XmlLiteral, HtmlLiteral, rdf_xml_literal, rdf_html}
 use Rattle.rx_grammar.specs.declared.faults.Kind.{Kind}
-use Rattle.rx_curie.specs.Given.{is_refusal_kind}
+use Rattle.rx_grammar.specs.Kinds.{is_of_meaning}
 
 abbrev pub is_iri : Option Chars → Chars → Bool
 is_iri None word = false
@@ -27,4 +27,4 @@ markup_of context line value = option_and_then (λ text. markup (predicate conte
 
 abbrev pub kind_or_none : Option Kind → Bool
 kind_or_none None = true
-kind_or_none (Some kind) = is_refusal_kind kind
+kind_or_none (Some kind) = is_of_meaning kind

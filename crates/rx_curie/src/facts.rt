@@ -167,26 +167,25 @@ impl Facts {
         if let Some(kind) = refusal_by(&attributes, names) {
             return Err(FactsError::Meaning(kind));
         }
-        self.read(maker, tag.name(), &attributes, names)?;
+        self.read(maker, &attributes, names)?;
         Ok(())
     }
 
-    /// Reads what a tag of this name says, which has these attributes.
-    fn read(
+    /// Reads what the tag with these attributes says into these facts, in place of what they were, where neither the tag nor
+    /// an element around declares a vocabulary without a scheme. After want of memory nothing is said of the facts.
+    pub fn read(
         &mut self,
         maker: &mut IriMaker,
-        name: &str,
         tag: &Attributes<'_>,
         names: &NamesView<'_>,
     ) -> Result<(), NoMemory>
-        requires name { chars name.now ≡ tag.now.name }
         requires own { is_relative (own_vocabulary tag.now) ≡ false }
         requires vocabulary { is_relative (vocabulary_of (names_seen names.now)) ≡ false }
         ensures { OnOk result (Along names.now (λ context line. facts_seen self.new ≡ the.facts_of context line tag.now)) }
     {
         let property = tag.value("property");
         let beside = property.is_some();
-        self.element = kind_of(name);
+        self.element = kind_of(tag.name());
         put_resource(&mut self.about, maker, names, tag.value("about"))?;
         put_resource(&mut self.resource, maker, names, tag.value("resource"))?;
         put_reference(&mut self.href, maker.alloc, tag.value("href"))?;

@@ -1,5 +1,5 @@
 //! What says how a literal is meant: datatype, vocabulary and language.
-ghost use Rattle.std.specs.Prelude.{◌≡◌, ◌++◌, false, OnOk, option_map, bytes_eq, true};
+ghost use Rattle.std.specs.Prelude.{◌≡◌, ◌++◌, false, OnOk, Some, option_map, bytes_eq, true};
 ghost use Rattle.std.specs.List.{list_all};
 ghost use Rattle.std.specs.Str.{chars};
 ghost use Rattle.rx_terms.specs.Ascii.{is_ascii};
@@ -14,6 +14,7 @@ ghost use Rattle.rx_names.specs.Views.{names_seen, Along};
 ghost use Rattle.rx_curie.specs.Given.{own_vocabulary, datatype_in};
 ghost use Rattle.rx_curie.specs.Seen.{datatype_seen};
 
+use crate::comparisons::is_same;
 use crate::facts::Datatype;
 use crate::fields::empty;
 use crate::makers::IriMaker;
@@ -146,6 +147,20 @@ pub(crate) fn put_language(
         empty(field);
         return Ok(());
     };
+    // mostly it is that of the tag before
+    if is_language(field, language) {
+        return Ok(());
+    }
     *field = Lang::of(alloc, language)?;
     Ok(())
+}
+
+/// Whether the field has this language.
+fn is_language(field: &Option<Lang>, language: &str) -> bool
+    ensures { result ≡ true → field.now ≡ Some (chars language.now) }
+{
+    match field {
+        Some(lang) => is_same(lang.as_str(), language),
+        None => false,
+    }
 }

@@ -179,5 +179,6 @@ fn joined(alloc: Global, iri: &str, more: &str) -> Result<Iri, NoMemory>
     let mut text = String::with_capacity(alloc, iri.len().saturating_add(more.len()))?;
     push_clean(&mut text, iri)?;
     push_clean(&mut text, more)?;
-    Iri::of_text(alloc, Text::of_string(text))
+    let made = Text::of_string(alloc, text)?;
+    Iri::of_text(alloc, made)
 }

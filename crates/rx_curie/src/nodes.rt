@@ -7,22 +7,24 @@ use rx_terms::NoMemory;
 use std::alloc::Global;
 use std::marker::Model;
 
-/// A list of IRIs and authors' blank nodes that only grows, in the order of its pushes. A contract sees the list.
+/// A list of IRIs and authors' blank nodes that only grows, in the order of its pushes. Most lists have one node, which takes
+/// no memory. A contract sees the list.
 #[derive(Debug, Drop)]
 pub struct TypeList {
-    nodes: Vec<Ref>,
+    first: Option<Ref>,
+    others: Vec<Ref>,
 }
 
 impl Model for TypeList {
-    ghost use Rattle.std.specs.Prelude.{◌≡◌, List, true};
+    ghost use Rattle.std.specs.Prelude.{List};
     ghost use Rattle.rx_curie.specs.declared.refs.Ref.{Ref};
-    ghost use Rattle.rx_curie.specs.Nodes.{are_nodes};
+    ghost use Rattle.rx_curie.specs.Nodes.{first_with, IsFilled};
 
     ghost Value = { List Ref };
 
-    ghost view = { λ list. list.nodes.items };
+    ghost view = { λ list. first_with list.first list.others.items };
 
-    ghost invariant = { λ list. are_nodes list.nodes.items ≡ true };
+    ghost invariant = { λ list. IsFilled list.first list.others.items };
 }
 
 impl TypeList {
@@ -31,7 +33,8 @@ impl TypeList {
         ensures empty { result ≡ [] }
     {
         TypeList {
-            nodes: Vec::new(alloc),
+            first: None,
+            others: Vec::new(alloc),
         }
     }
 
@@ -41,7 +44,11 @@ impl TypeList {
         ensures ok { OnOk result (self.new ≡ self.old ++ node ∷ []) }
         ensures err { OnErr result (self.new ≡ self.old) }
     {
-        self.nodes.push(node)?;
+        if self.first.is_none() {
+            self.first = Some(node);
+            return Ok(());
+        }
+        self.others.push(node)?;
         Ok(())
     }
 
@@ -49,14 +56,17 @@ impl TypeList {
     pub fn len(&self) -> usize
         ensures length { result ≡ length self.now }
     {
-        self.nodes.len()
+        match self.first {
+            Some(_) => 1 + self.others.len(),
+            None => 0,
+        }
     }
 
     /// Whether there is none.
     pub fn is_empty(&self) -> bool
         ensures none { result ≡ (length self.now == 0) }
     {
-        self.nodes.is_empty()
+        self.first.is_none()
     }
 
     /// The node at a place below `len`, from 0.
@@ -65,6 +75,9 @@ impl TypeList {
         ensures node { slice_get self.now i ≡ Some result.now }
         ensures kind { are_nodes self.now ≡ true }
     {
-        &self.nodes[i]
+        match &self.first {
+            Some(node) if i == 0 => node,
+            _ => &self.others[i - 1],
+        }
     }
 }

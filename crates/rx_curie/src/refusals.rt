@@ -35,6 +35,22 @@ pub fn refusal_of(tag: &Tag<'_>, names: &NamesView<'_>) -> Option<Kind>
     refusal_by(&Attributes::of(tag), names)
 }
 
+/// The same by the tag's attributes, where no element around declares a vocabulary without a scheme.
+#[inline]
+pub fn refusal_below(attributes: &Attributes<'_>, names: &NamesView<'_>) -> Option<Kind>
+    ensures line { OnFacts names.now attributes.now (λ facts. result ≡ option_map kind_of (refusal facts)) }
+    ensures own { result ≡ None → is_relative (own_vocabulary attributes.now) ≡ false }
+    ensures kinds { kind_or_none result ≡ true }
+{
+    if is_relative(own_vocabulary(attributes)) {
+        return Some(Kind::RelativeVocab);
+    }
+    match attributes.value("property") {
+        Some(_property) => markup_of(names, attributes.value("datatype")),
+        None => None,
+    }
+}
+
 /// The same by the tag's attributes.
 pub(crate) fn refusal_by(attributes: &Attributes<'_>, names: &NamesView<'_>) -> Option<Kind>
     ensures line { OnFacts names.now attributes.now (λ facts. result ≡ option_map kind_of (refusal facts)) }
@@ -43,16 +59,10 @@ pub(crate) fn refusal_by(attributes: &Attributes<'_>, names: &NamesView<'_>) -> 
     ensures absolute { result ≡ None → is_relative (vocabulary_of (names_seen names.now)) ≡ false }
     ensures kinds { kind_or_none result ≡ true }
 {
-    if is_relative(own_vocabulary(attributes)) {
-        return Some(Kind::RelativeVocab);
-    }
     if is_relative(names.vocab()) {
         return Some(Kind::RelativeVocab);
     }
-    match attributes.value("property") {
-        Some(_property) => markup_of(names, attributes.value("datatype")),
-        None => None,
-    }
+    refusal_below(attributes, names)
 }
 
 /// The kind of markup that a literal with this attribute `datatype` is, if it is any.

@@ -4,7 +4,7 @@ use Rattle.std.specs.Prelude.{OnOk}
 use Rattle.rx_terms.specs.Text.{Chars}
 use Rattle.rx_model.specs.Terms.{Node, Term, Triple}
 use Rattle.rx_model.specs.Copied.{spo}
-use Rattle.rx_rdfa.specs.Iris.{rdf_type}
+use Rattle.rx_model.specs.Vocabulary.{rdf_type}
 use Rattle.rx_rdfa.specs.Element.{to_node}
 use Rattle.rx_rdfa.specs.Facts.{Ref, IriRef, LabelRef, RelativeRef}
 use Rattle.rx_rdfa.specs.Resources.{resource_named}

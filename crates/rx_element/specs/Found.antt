@@ -1,5 +1,5 @@
 -- What the code finds of an element, as the resources of the rules.
-use Rattle.std.specs.Prelude.{ℕ, Option, option_map, unwrap_or}
+use Rattle.std.specs.Prelude.{ℕ, Bool, ◌&&◌, Option, option_map, is_none, unwrap_or}
 use Rattle.std.specs.Option.{option_or}
 use Rattle.rx_terms.specs.Text.{Chars}
 use Rattle.rx_model.specs.Terms.{Node, Iri, Blank}
@@ -13,6 +13,16 @@ use Rattle.rx_element.specs.declared.places.Surroundings.{Surroundings}
 -- the first present of resource, href and src
 abbrev pub linked_ref : Facts → Option Ref
 linked_ref facts = option_or facts.resource (option_or facts.href facts.src)
+
+-- no attribute names a resource
+abbrev pub names_nothing : Facts → Bool
+names_nothing facts = is_none facts.about && (is_none facts.resource && (is_none facts.href && is_none facts.src))
+
+-- of an element with these facts nothing is said
+abbrev pub says_nothing : Facts → Bool
+says_nothing facts =
+    is_none facts.rel
+    && (is_none facts.rev && (is_none facts.property && (is_none facts.types && (is_none facts.vocab && names_nothing facts))))
 
 -- the new node of the element
 abbrev pub fresh_node : Surroundings → Node ℕ

@@ -1,12 +1,13 @@
 -- The triples of an element's start, part by part.
-use Rattle.std.specs.Prelude.{ℕ, List, [], ◌∷◌, ◌++◌, map, filter_map, Option, Some, None, if◌then◌else◌}
+use Rattle.std.specs.Prelude.{ℕ, List, [], ◌∷◌, ◌++◌, map, filter_map, Option, Some, None, is_some, if◌then◌else◌}
 use Rattle.rx_terms.specs.Text.{Chars}
 use Rattle.rx_model.specs.Terms.{Node, Iri, Term, Triple}
 use Rattle.rx_model.specs.Copied.{spo}
-use Rattle.rx_rdfa.specs.Iris.{rdf_type, uses_vocabulary}
+use Rattle.rx_rdfa.specs.Iris.{uses_vocabulary}
+use Rattle.rx_model.specs.Vocabulary.{rdf_type}
 use Rattle.rx_rdfa.specs.Naming.{Naming}
 use Rattle.rx_rdfa.specs.Facts.{Facts, Ref}
-use Rattle.rx_rdfa.specs.Resources.{Resources, resource_named}
+use Rattle.rx_rdfa.specs.Resources.{Resources, resource_named, only}
 use Rattle.rx_rdfa.specs.Inherited.{listed}
 use Rattle.rx_rdfa.specs.Element.{to_node}
 use Rattle.rx_model.specs.Seen.{node_seen}
@@ -60,9 +61,9 @@ abbrev pub start_here : Surroundings → Facts → Resources ℕ → Option (Ter
 start_here at facts here value =
     start_by (naming at) at.base.now facts here value (node_seen at.around.now.subject) at.around.now.hanging
 
--- the value of an element at a place, none where it is the element's text
+-- the value of an element's property at a place, none where there is no property, and where it is the element's text
 abbrev pub value_here : Surroundings → Facts → Resources ℕ → Option (Term ℕ)
-value_here at facts here = value_by (naming at) at.base.now facts here
+value_here at facts here = only (is_some facts.property) (value_by (naming at) at.base.now facts here)
 
 -- that a node is of a type
 abbrev pub type_of : Surroundings → Node ℕ → Ref → Triple ℕ

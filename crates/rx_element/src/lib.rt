@@ -28,7 +28,7 @@ pub use iris::OwnIris;
 pub use labels::Labels;
 pub use placed::{Placed, value_of};
 pub use places::{Level, Surroundings, level_at};
-pub use resources::{Found, clone_option};
+pub use resources::{Found, clone_option, says_nothing};
 pub use starts::Started;
 pub use triples::push_each;
 pub use values::{TextRule, node_term};

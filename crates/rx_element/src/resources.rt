@@ -3,7 +3,7 @@ ghost use Rattle.std.specs.Prelude.{◌≡◌, ◌&&◌, IfOk, option_map, optio
 ghost use Rattle.rx_model.specs.Seen.{node_seen};
 ghost use Rattle.rx_rdfa.specs.Resources.{has_link, is_plain_property, resource_named, linked_resource, default_subject, of_link, of_property, of_no_link, resources, is_root_child, is_head_or_body};
 ghost use Rattle.rx_curie.specs.Seen.{ref_seen, facts_seen};
-ghost use Rattle.rx_element.specs.Found.{linked_ref, fresh_node, page_node, property_type, found_seen};
+ghost use Rattle.rx_element.specs.Found.{names_nothing, says_nothing, linked_ref, fresh_node, page_node, property_type, found_seen};
 ghost use Rattle.rx_element.specs.Places.{path_at, naming, ruled};
 
 use crate::places::{Level, Surroundings, named};
@@ -45,6 +45,27 @@ fn is_plain_property(facts: &Facts) -> bool
     ensures { result ≡ is_plain_property (facts_seen facts.now) }
 {
     facts.property.is_some() && facts.content.is_none() && facts.datatype.is_none()
+}
+
+/// Whether no attribute names a resource.
+#[inline(always)]
+fn names_nothing(facts: &Facts) -> bool
+    ensures { result ≡ names_nothing (facts_seen facts.now) }
+{
+    facts.about.is_none() && facts.resource.is_none() && facts.href.is_none() && facts.src.is_none()
+}
+
+/// Whether an element with these facts says nothing. Below the root such a one is skipped, adds no triple and has no label.
+#[inline(always)]
+pub fn says_nothing(facts: &Facts) -> bool
+    ensures { result ≡ says_nothing (facts_seen facts.now) }
+{
+    facts.rel.is_none()
+        && facts.rev.is_none()
+        && facts.property.is_none()
+        && facts.types.is_none()
+        && facts.vocab.is_none()
+        && names_nothing(facts)
 }
 
 /// The first present of `resource`, `href` and `src`.

@@ -122,9 +122,20 @@ impl<'a> Surroundings<'a> {
         ensures value { IfOk result (λ started. option_map term_seen started.value ≡ value_here self.now (facts_seen facts.now) (found_seen started.found)) }
     {
         let found = self.find(facts)?;
-        let value = value_now(self.alloc, self.base, self.labels, facts, &found)?;
+        let value = self.value(facts, &found)?;
         self.push_start(out, iris, facts, &found, &value)?;
         Ok(Started { found, value })
+    }
+
+    /// The value of the element's property. None is there without `property`, where nobody asks for it, and where the
+    /// value is the element's text.
+    fn value(&self, facts: &Facts, found: &Found) -> Result<Option<Term>, NoMemory>
+        ensures { IfOk result (λ value. option_map term_seen value ≡ value_here self.now (facts_seen facts.now) (found_seen found.now)) }
+    {
+        if facts.property.is_none() {
+            return Ok(None);
+        }
+        value_now(self.alloc, self.base, self.labels, facts, found)
     }
 
     /// Adds the triples of the element's start, with its resources and its value.

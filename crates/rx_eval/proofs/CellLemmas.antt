@@ -10,7 +10,7 @@ use Rattle.rx_model.specs.Numbered.{rename_node, rename_term, rename}
 use Rattle.rx_model.specs.Copied.{spo}
 use Rattle.rx_model.proofs.Sets.{Among_of_filter, false_unless}
 use Rattle.rx_model.proofs.Exact.{exact_texts}
-use Rattle.rx_rdfa.specs.Iris.{rdf_first, rdf_rest}
+use Rattle.rx_model.specs.Vocabulary.{rdf_first, rdf_rest}
 use Rattle.rx_rdfa.specs.Blanks.{Bnode, Author, Made, Cell, Owner, same_owner, model}
 use Rattle.rx_rdfa.specs.Element.{to_node}
 use Rattle.rx_rdfa.specs.Lists.{Entry, map_entry, of_owner, lists, items, cell_or_nil, chain, list_of, cells_from, cells}

@@ -9,7 +9,7 @@ use Rattle.rx_model.specs.Terms.{Node, Term, same_node}
 use Rattle.rx_model.specs.Seen.{node_seen, term_seen}
 use Rattle.rx_rdfa.specs.Naming.{Naming}
 use Rattle.rx_rdfa.specs.Facts.{Facts}
-use Rattle.rx_rdfa.specs.Resources.{Hanging, Forward, Reverse, InList, Inherited, Standing, Resources, resources}
+use Rattle.rx_rdfa.specs.Resources.{Hanging, Forward, Reverse, InList, Inherited, Standing, Resources, resources, only}
 use Rattle.rx_rdfa.specs.Inherited.{listed, hangs, object_below, own_owner, owner_below, handed, below}
 use Rattle.rx_rdfa.specs.Value.{rule, value_now, gathers}
 use Rattle.rx_rdfa.specs.Lists.{entry, entries_by, linked, awaited}
@@ -168,6 +168,16 @@ module _ (N : Naming ℕ ℕ) (S : Standing ℕ ℕ) (H : Resources ℕ) (v : Op
       V : Entries
       V = map (entry (own_owner N S H) (Some v)) (listed S.facts.property)
 
+-- without property a value is no entry
+no_value : (owner : ℕ) (facts : Facts) (here : Resources ℕ) (hanging : List (Hanging ℕ)) (p : Option (List Chars)) → facts.property ≡ p → (v : Option (Term ℕ))
+    → entries_in owner facts here (only (is_some p) v) hanging ≡ entries_in owner facts here v hanging
+no_value owner facts here hanging (Some ps) e v = refl
+no_value owner facts here hanging None e v = rw e refl
+
+none_of : (b : Bool) (v : Option (Term ℕ)) → (b && is_none (only b v)) ≡ (b && is_none v)
+none_of true v = refl
+none_of false v = refl
+
 module _ (labels : Numbered) (fresh : ℕ) (base : Chars) (at : Standing ℕ ℕ) (here : Resources ℕ) (r : here ≡ resources (moment labels fresh 0 0) base at) where
   -- the owners after the element's start, by its resources
   abbrev lists_with : ℕ → List (Option Owning) → Resources ℕ → List (Option Owning)
@@ -187,15 +197,20 @@ module _ (labels : Numbered) (fresh : ℕ) (base : Chars) (at : Standing ℕ ℕ
       skips false g = absurd (cc)
 
   pub lists_entered : (value : Option (Term ℕ)) (old new : List (Option Owning)) (n : ℕ) → n ≡ length old → here.skipped ≡ false
-      → value ≡ value_now (rule (moment labels fresh 0 0) base at.facts here) at.facts
+      → value ≡ only (is_some at.facts.property) (value_now (rule (moment labels fresh 0 0) base at.facts here) at.facts)
       → new ≡ put_entries (entries_in (own_number at here n) at.facts here value at.around.hanging) (owners_begun (moment labels fresh 0 0) at here old)
       → new ≡ lists_with (length old) old (resources (moment labels fresh 0 0) base at)
   lists_entered value old new n z k e h =
       h ∙ ap (λ (m : ℕ). put_entries (entries_in (own_number at here m) at.facts here value at.around.hanging) (owners_begun (moment labels fresh 0 0) at here old)) z
-      ∙ ap (λ (x : Entries). put_entries x (owners_begun (moment labels fresh 0 0) at here old)) (entries_are (naming_by labels fresh at here (length old)) at here value k)
-      ∙ ap (λ (x : Option (Term ℕ)). put_entries (entries_by (naming_by labels fresh at here (length old)) Some x at here) (owners_begun (moment labels fresh 0 0) at here old)) e
+      ∙ ap (λ (x : Entries). put_entries x (owners_begun (moment labels fresh 0 0) at here old))
+      (ap (λ (x : Option (Term ℕ)). entries_in (own_number at here (length old)) at.facts here x at.around.hanging) e
+      ∙ no_value (own_number at here (length old)) at.facts here at.around.hanging at.facts.property refl V
+      ∙ entries_are (naming_by labels fresh at here (length old)) at here V k)
       ∙ skips here.skipped k ∙ ap (lists_with (length old) old) r
     where
+      V : Option (Term ℕ)
+      V = value_now (rule (moment labels fresh 0 0) base at.facts here) at.facts
+
       E : List (Option Owning)
       E = put_entries
           (entries_by (naming_by labels fresh at here (length old)) Some (value_now (rule (moment labels fresh 0 0) base at.facts here) at.facts) at here)
@@ -207,11 +222,12 @@ module _ (labels : Numbered) (fresh : ℕ) (base : Chars) (at : Standing ℕ ℕ
 
   -- ---- the text
 
-  pub gathers_entered : (value : Option (Term ℕ)) → here.skipped ≡ false → value ≡ value_now (rule (moment labels fresh 0 0) base at.facts here) at.facts
+  pub gathers_entered : (value : Option (Term ℕ)) → here.skipped ≡ false → value ≡ only (is_some at.facts.property) (value_now (rule (moment labels fresh 0 0) base at.facts here) at.facts)
       → (is_some at.facts.property && is_none value)
       ≡ (not (resources (moment labels fresh 0 0) base at).skipped && gathers (moment labels fresh 0 0) base at.facts (resources (moment labels fresh 0 0) base at))
   gathers_entered value k e =
-      ap (λ (x : Option (Term ℕ)). is_some at.facts.property && is_none x) e ∙ not_skipped here.skipped k
+      ap (λ (x : Option (Term ℕ)). is_some at.facts.property && is_none x) e
+      ∙ none_of (is_some at.facts.property) (value_now (rule (moment labels fresh 0 0) base at.facts here) at.facts) ∙ not_skipped here.skipped k
       ∙ ap (λ (h : Resources ℕ). not h.skipped && gathers (moment labels fresh 0 0) base at.facts h) r
     where
       not_skipped : (b : Bool) → b ≡ false → gathers (moment labels fresh 0 0) base at.facts here ≡ (not b && gathers (moment labels fresh 0 0) base at.facts here)

@@ -1,5 +1,5 @@
 -- Which text is kept.
-use Rattle.std.proofs.Common.{◌≡◌, ◌∙◌, ℕ, suc, ◌<◌, Bool, true, false, List, [], ◌∷◌, ◌++◌, map, length, Option, Some, None, option_map, is_some, refl, sym, ap, arith, length-append}
+use Rattle.std.proofs.Common.{◌≡◌, ◌∙◌, ℕ, suc, ◌<◌, ◌-◌, ◌+◌, Bool, true, false, List, [], ◌∷◌, ◌++◌, map, length, Option, Some, None, option_map, is_some, refl, sym, ap, subst, arith, length-append}
 use Rattle.std.specs.Prelude.{◌||◌, ◌==◌, if◌then◌else◌}
 use Rattle.std.proofs.lemmas.Bool.Decides.{nat_tests}
 use Rattle.rx_terms.specs.Text.{Chars}
@@ -7,7 +7,11 @@ use Rattle.rx_terms.proofs.Bools.{by_test}
 use Rattle.rx_eval.specs.declared.frames.Frame.{Frame as CodeFrame}
 use Rattle.rx_eval.specs.declared.frames.Gathered.{Gathered}
 use Rattle.rx_eval.specs.States.{frame_seen, text_seen}
+use Rattle.rx_rdfa.specs.Resources.{Inherited}
+use Rattle.rx_element.specs.Contexts.{context_seen}
+use Rattle.rx_eval.specs.Skipping.{all_frames, IsRooted}
 use Rattle.rx_eval.specs.Keeping.{gathers_some, first_gathering, first_of, is_place, IsSound}
+use Rattle.rx_eval.proofs.SkippedLemmas.{framed_more, one_longer, skipped_fit, rooted_more, rooted_less, rooted_in, none_gathers, others_gather}
 
 -- one more frame
 pub first_more : (fs : List CodeFrame) (f : CodeFrame) → first_gathering (fs ++ f ∷ []) ≡ first_of (first_gathering fs) (is_some f.gathered) (length fs)
@@ -38,21 +42,19 @@ first_less fs f old e = ap (λ (o : Option ℕ). if is_place o (length fs) then 
     back None e false = refl
     back (Some m) e b = let l = bounded fs m e in let z : (m == length fs) ≡ false = grind (arith, nat_tests) in rw z refl
 
-pub some_gathers : (fs : List CodeFrame) → gathers_some (map frame_seen fs) ≡ is_some (first_gathering fs)
-some_gathers [] = refl
-some_gathers (x ∷ fs) = case x.gathered (some_gathers fs)
+pub some_gathers : (a : Inherited ℕ ℕ) (fs : List CodeFrame) (n : ℕ) → gathers_some (all_frames a fs n) ≡ is_some (first_gathering fs)
+some_gathers a [] n = none_gathers a n
+some_gathers a (x ∷ fs) n =
+    others_gather a x.skipped (frame_seen x ∷ all_frames (context_seen x.context) fs n) ∙ case x.gathered (some_gathers (context_seen x.context) fs n)
   where
     past : (r : Option ℕ) → is_some r ≡ is_some (option_map suc r)
     past None = refl
     past (Some m) = refl
 
-    case : (g : Option Gathered) → gathers_some (map frame_seen fs) ≡ is_some (first_gathering fs)
-        → (is_some (option_map text_seen g) || gathers_some (map frame_seen fs)) ≡ is_some (if is_some g then Some 0 else option_map suc (first_gathering fs))
+    case : (g : Option Gathered) → gathers_some (all_frames (context_seen x.context) fs n) ≡ is_some (first_gathering fs)
+        → (is_some (option_map text_seen g) || gathers_some (all_frames (context_seen x.context) fs n)) ≡ is_some (if is_some g then Some 0 else option_map suc (first_gathering fs))
     case None h = h ∙ past (first_gathering fs)
     case (Some g) h = refl
-
-pub gathers_is : (levels : ℕ) (fs : List CodeFrame) (outermost : Option ℕ) (kept : Chars) → IsSound levels fs outermost kept → gathers_some (map frame_seen fs) ≡ is_some outermost
-gathers_is levels fs outermost kept s = some_gathers fs ∙ ap (λ (o : Option ℕ). is_some o) (sym s.first)
 
 kept_by : (b : Bool) (old r : Option ℕ) (kept : Chars) → (if b then None else old) ≡ r → (old ≡ None → kept ≡ []) → (if b then [] else kept) ≡ (if is_some r then kept else [])
 kept_by true old r kept e q = ap (λ (o : Option ℕ). if is_some o then kept else []) e
@@ -63,43 +65,94 @@ quiet_by : (b : Bool) (old : Option ℕ) (kept : Chars) → (old ≡ None → ke
 quiet_by true old kept q e = refl
 quiet_by false old kept q e = q e
 
--- the last frame f was taken from the old ones
-module _ (levels n : ℕ) (old fs : List CodeFrame) (f : CodeFrame) (place : Option ℕ) (kept : Chars) (was : Bool) (s : IsSound levels old place kept) (e : old ≡ fs ++ f ∷ []) (l : n ≡ length fs) (w : was ≡ is_place place n) where
-  first_left : (if was then None else place) ≡ first_gathering fs
-  first_left =
-      ap (λ (b : Bool). if b then None else place) (w ∙ ap (is_place place) l) ∙ first_less fs f place (s.first ∙ ap first_gathering e)
-
-  -- text that nothing gathers any more is dropped
-  pub kept_left : (now : Chars) → now ≡ (if was then [] else kept) → now ≡ (if gathers_some (map frame_seen fs) then kept else [])
-  kept_left now h =
-      let text : Bool → Chars = λ b. if b then kept else [] in
-      h ∙ kept_by was place (first_gathering fs) kept first_left s.quiet ∙ ap text (sym (some_gathers fs))
-
-  pub sound_left : (after : Option ℕ) (now : Chars) → after ≡ (if was then None else place) → now ≡ (if was then [] else kept) → IsSound levels fs after now
-  sound_left after now o h = record {
-    room = let c : length old ≡ length (fs ++ f ∷ []) = ap length e in omega (arith, s.room, c, length-append fs (f ∷ []));
-    first = o ∙ first_left;
-    quiet = λ z. h ∙ quiet_by was place kept s.quiet (sym o ∙ z);
-  }
-
 was_none : (old : Option ℕ) (b : Bool) (n : ℕ) → first_of old b n ≡ None → old ≡ None
 was_none None b n e = refl
 was_none (Some m) b n e = e
 
--- a frame more
-pub sound_more : (levels n : ℕ) (fs more : List CodeFrame) (f : CodeFrame) (place after : Option ℕ) (kept : Chars) → IsSound levels fs place kept → length fs < levels → more ≡ fs ++ f ∷ [] → n ≡ length fs
-    → after ≡ first_of place (is_some f.gathered) n → IsSound levels more after kept
-sound_more levels n fs more f place after kept s r e l h = record {
-  room = let c : length more ≡ length (fs ++ f ∷ []) = ap length e in omega (arith, r, c, length-append fs (f ∷ []));
-  first =
-      h ∙ ap (first_of place (is_some f.gathered)) l ∙ ap (λ (o : Option ℕ). first_of o (is_some f.gathered) (length fs)) s.first ∙ sym (first_more fs f)
-      ∙ ap first_gathering (sym e);
-  quiet = λ z. s.quiet (was_none place (is_some f.gathered) n (sym h ∙ z));
-}
+not_none : (p : Option ℕ) → p ≡ None → true ≡ is_some p → ⊥
+not_none None z e = cc
+not_none (Some m) z e = cc
 
--- text is pushed where some frame gathers
-pub sound_grown : (levels : ℕ) (fs : List CodeFrame) (place : Option ℕ) (kept now : Chars) (b : Bool) → IsSound levels fs place kept → b ≡ gathers_some (map frame_seen fs) → b ≡ true → IsSound levels fs place now
-sound_grown levels fs place kept now b s g t = record { room = s.room; first = s.first; quiet = λ z. absurd (not_none place z (sym t ∙ g ∙ gathers_is levels fs place kept s)) } where
-  not_none : (p : Option ℕ) → p ≡ None → true ≡ is_some p → ⊥
-  not_none None z e = cc
-  not_none (Some m) z e = cc
+module _ (levels depth : ℕ) (a : Inherited ℕ ℕ) (fs : List CodeFrame) (skipped : ℕ) (place : Option ℕ) (kept : Chars) (s : IsSound levels depth a fs skipped place kept) where
+  pub gathers_is : gathers_some (all_frames a fs skipped) ≡ is_some place
+  gathers_is = some_gathers a fs skipped ∙ ap (λ (o : Option ℕ). is_some o) (sym s.first)
+
+  -- where nothing gathers, nothing is kept
+  pub kept_is : (n : ℕ) → kept ≡ (if gathers_some (all_frames a fs n) then kept else [])
+  kept_is n =
+      let text : Bool → Chars = λ b. if b then kept else [] in
+      kept_by false place (first_gathering fs) kept s.first s.quiet ∙ ap text (sym (some_gathers a fs n))
+
+  -- text is pushed where some frame gathers
+  pub sound_grown : (now : Chars) (b : Bool) → b ≡ gathers_some (all_frames a fs skipped) → b ≡ true → IsSound levels depth a fs skipped place now
+  sound_grown now b g t = record { room = s.room; deep = s.deep; within = s.within; rooted = s.rooted; first = s.first; quiet = λ z. absurd (not_none place z (sym t ∙ g ∙ gathers_is)) }
+
+  -- a frame more
+  pub sound_more : (n : ℕ) (more : List CodeFrame) (f : CodeFrame) (after : Option ℕ) → depth < levels → f.skipped ≡ skipped → more ≡ fs ++ f ∷ [] → n ≡ length fs
+      → after ≡ first_of place (is_some f.gathered) n → IsSound levels (depth + 1) a more 0 after kept
+  sound_more n more f after r k e l h = record {
+    room = omega (arith, r);
+    deep =
+        let c : length (all_frames a more 0) ≡ length (all_frames a fs skipped ++ frame_seen f ∷ []) =
+        ap length (ap (λ (x : List CodeFrame). all_frames a x 0) e ∙ framed_more a fs f ∙ ap (λ (x : ℕ). all_frames a fs x ++ frame_seen f ∷ []) k) in
+        omega (arith, c, s.deep, length-append (all_frames a fs skipped) (frame_seen f ∷ []));
+    within = omega arith;
+    rooted = subst (λ (x : List CodeFrame). IsRooted x 0) (sym e) (rooted_more fs f (subst (IsRooted fs) (sym k) s.rooted));
+    first =
+        h ∙ ap (first_of place (is_some f.gathered)) l ∙ ap (λ (o : Option ℕ). first_of o (is_some f.gathered) (length fs)) s.first ∙ sym (first_more fs f)
+        ∙ ap first_gathering (sym e);
+    quiet = λ z. s.quiet (was_none place (is_some f.gathered) n (sym h ∙ z));
+  }
+
+  -- a skipped element more
+  pub sound_counted : depth < levels → 0 < depth → IsSound levels (depth + 1) a fs (skipped + 1) place kept
+  sound_counted r h = record {
+    room = omega (arith, r);
+    deep = omega (arith, s.deep, one_longer a fs (skipped + 1) skipped (omega arith));
+    within = omega (arith, s.within);
+    rooted = rooted_in a fs skipped (skipped + 1) s.rooted (omega (arith, h, s.deep));
+    first = s.first;
+    quiet = s.quiet;
+  }
+
+  -- a skipped element is gone
+  pub sound_uncounted : 0 < skipped → IsSound levels (depth - 1) a fs (skipped - 1) place kept
+  sound_uncounted h = record {
+    room = omega (arith, s.room);
+    deep = omega (arith, s.deep, one_longer a fs skipped (skipped - 1) (omega (arith, h)));
+    within = omega (arith, s.within);
+    rooted = rooted_in a fs skipped (skipped - 1) s.rooted (omega (arith, h, skipped_fit a fs skipped));
+    first = s.first;
+    quiet = s.quiet;
+  }
+
+-- the last frame f was taken from the old ones
+module _ (levels depth : ℕ) (a : Inherited ℕ ℕ) (old : List CodeFrame) (skipped : ℕ) (place : Option ℕ) (kept : Chars) (s : IsSound levels depth a old skipped place kept) (k : skipped ≡ 0)
+    (n : ℕ) (fs : List CodeFrame) (f : CodeFrame) (was : Bool) (e : old ≡ fs ++ f ∷ []) (l : n ≡ length fs) (w : was ≡ is_place place n) where
+  first_left : (if was then None else place) ≡ first_gathering fs
+  first_left =
+      ap (λ (b : Bool). if b then None else place) (w ∙ ap (is_place place) l) ∙ first_less fs f place (s.first ∙ ap first_gathering e)
+
+  pub frames_left : all_frames a old skipped ≡ all_frames a fs f.skipped ++ frame_seen f ∷ []
+  frames_left = ap (all_frames a old) k ∙ ap (λ (x : List CodeFrame). all_frames a x 0) e ∙ framed_more a fs f
+
+  -- text that nothing gathers any more is dropped
+  pub kept_left : (now : Chars) → now ≡ (if was then [] else kept) → now ≡ (if gathers_some (all_frames a fs f.skipped) then kept else [])
+  kept_left now h =
+      let text : Bool → Chars = λ b. if b then kept else [] in
+      h ∙ kept_by was place (first_gathering fs) kept first_left s.quiet ∙ ap text (sym (some_gathers a fs f.skipped))
+
+  pub depth_left : depth - 1 ≡ length (all_frames a fs f.skipped)
+  depth_left =
+      let c : length (all_frames a old skipped) ≡ length (all_frames a fs f.skipped ++ frame_seen f ∷ []) = ap length frames_left in
+      omega (arith, c, s.deep, length-append (all_frames a fs f.skipped) (frame_seen f ∷ []))
+
+  pub sound_left : (after : Option ℕ) (now : Chars) → after ≡ (if was then None else place) → now ≡ (if was then [] else kept) → IsSound levels (depth - 1) a fs f.skipped after now
+  sound_left after now o h = record {
+    room = omega (arith, s.room);
+    deep = depth_left;
+    within = omega (arith, depth_left, skipped_fit a fs f.skipped);
+    rooted = rooted_less fs f skipped (subst (λ (x : List CodeFrame). IsRooted x skipped) e s.rooted);
+    first = o ∙ first_left;
+    quiet = λ z. h ∙ quiet_by was place kept s.quiet (sym o ∙ z);
+  }

@@ -7,7 +7,9 @@ pub mod FrameLemmas
 pub mod OpenLemmas
 pub mod GatherLemmas
 pub mod PlaceLemmas
+pub mod SkippedLemmas
 pub mod KeepLemmas
+pub mod SilentLemmas
 pub mod CountLemmas
 pub mod NameLemmas
 pub mod NumberLemmas

@@ -1,5 +1,5 @@
 -- The start of an element on the stack.
-use Rattle.std.proofs.Common.{◌≡◌, ◌∙◌, ℕ, ◌+◌, ◌<◌, ◌≤◌, ◌^◌, List, [], ◌∷◌, map, length, Option, Some, None, is_some, option_map, refl, ap, subst, arith}
+use Rattle.std.proofs.Common.{◌≡◌, ◌∙◌, ℕ, ◌+◌, ◌<◌, ◌≤◌, ◌^◌, List, [], ◌∷◌, map, length, Option, Some, None, is_some, option_map, refl, sym, ap, subst, arith}
 use Rattle.std.specs.Prelude.{IfSome}
 use Rattle.rx_terms.specs.Text.{Chars}
 use Rattle.rx_rdfa.specs.Facts.{Facts}
@@ -10,8 +10,9 @@ use Rattle.rx_eval.specs.Entering.{Gathers, resources_by, places_at}
 use Rattle.rx_element.specs.Labels.{Numbered, Drawn}
 use Rattle.rx_element.specs.Contexts.{context_seen, waiting_seen}
 use Rattle.rx_eval.specs.Opening.{around_in}
+use Rattle.rx_eval.specs.Skipping.{all_frames}
 use Rattle.rx_eval.specs.Opened.{handed_on}
-use Rattle.rx_eval.specs.States.{frame_seen, text_seen}
+use Rattle.rx_eval.specs.States.{text_seen}
 use Rattle.rx_element.specs.declared.contexts.Context.{Context}
 use Rattle.rx_eval.specs.declared.frames.Frame.{Frame as CodeFrame}
 use Rattle.rx_eval.specs.declared.frames.Gathered.{Gathered}
@@ -19,13 +20,11 @@ use Rattle.rx_element.specs.declared.contexts.Waiting.{Waiting}
 use Rattle.rx_element.specs.declared.contexts.Waiting.TheVariants as code
 use Rattle.rx_eval.specs.Waits.{Wait, wait_seen, wait_by}
 use Rattle.rx_element.proofs.DrawLemmas.{drawn_most}
+use Rattle.rx_eval.proofs.SkippedLemmas.{handed_all}
 
-handed_seen : (page : Context) (frames : List CodeFrame) → context_seen (around_in page frames) ≡ handed_on (context_seen page) (map frame_seen frames)
-handed_seen page [] = refl
-handed_seen page (frame ∷ frames) = handed_seen frame.context frames
-
-pub around_is : (page around : Context) (frames items : List CodeFrame) → around ≡ around_in page frames → frames ≡ items → context_seen around ≡ handed_on (context_seen page) (map frame_seen items)
-around_is page around frames items e f = ap context_seen (e ∙ ap (around_in page) f) ∙ handed_seen page items
+pub around_is : (page around : Context) (frames items : List CodeFrame) (n : ℕ) → around ≡ around_in page frames → frames ≡ items
+    → context_seen around ≡ handed_on (context_seen page) (all_frames (context_seen page) items n)
+around_is page around frames items n e f = ap context_seen (e ∙ ap (around_in page) f) ∙ sym (handed_all page items n)
 
 pub text_is : (g : Option Gathered) → is_some (option_map text_seen g) ≡ is_some g
 text_is None = refl

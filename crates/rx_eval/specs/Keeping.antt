@@ -2,7 +2,9 @@
 use Rattle.std.specs.Prelude.{◌≡◌, ◌≤◌, ◌==◌, ℕ, suc, Bool, false, List, [], ◌∷◌, length, Option, Some, None, is_some, option_map, if◌then◌else◌}
 use Rattle.std.specs.List.{list_any}
 use Rattle.rx_terms.specs.Text.{Chars}
+use Rattle.rx_rdfa.specs.Resources.{Inherited}
 use Rattle.rx_eval.specs.States.{Frame}
+use Rattle.rx_eval.specs.Skipping.{all_frames, IsRooted}
 use Rattle.rx_eval.specs.declared.frames.Frame.{Frame as CodeFrame}
 
 -- some open element gathers its text
@@ -23,8 +25,13 @@ abbrev pub is_place : Option ℕ → ℕ → Bool
 is_place None n = false
 is_place (Some m) n = m == n
 
--- the frames have their levels; the place of the outermost frame that gathers is known; where none gathers, nothing is kept
-pub record IsSound (levels : ℕ) (frames : List CodeFrame) (outermost : Option ℕ) (kept : Chars) : Type 0 where
-  pub room : length frames ≤ levels
+-- it is known how many elements are open, and they have their levels; the root isn't skipped; the place of the outermost
+-- frame that gathers is known; where none gathers, nothing is kept
+pub record IsSound (levels depth : ℕ) (page : Inherited ℕ ℕ) (frames : List CodeFrame) (skipped : ℕ) (outermost : Option ℕ) (kept : Chars)
+    : Type 0 where
+  pub room : depth ≤ levels
+  pub deep : depth ≡ length (all_frames page frames skipped)
+  pub within : skipped ≤ depth
+  pub rooted : IsRooted frames skipped
   pub first : outermost ≡ first_gathering frames
   pub quiet : outermost ≡ None → kept ≡ []

@@ -1,11 +1,12 @@
 -- Which frames keep text, by the rules.
-use Rattle.std.specs.Prelude.{◌≡◌, Bool, true, false, List, [], ◌∷◌, ◌++◌, map, Some, None, is_some, codes}
+use Rattle.std.specs.Prelude.{◌≡◌, Bool, true, false, List, [], ◌∷◌, ◌++◌, map, Some, is_some, codes}
 use Rattle.rx_terms.specs.Text.{Chars}
 use Rattle.rx_rdfa.specs.Naming.{Path}
-use Rattle.rx_rdfa.specs.Facts.{Facts, Other}
+use Rattle.rx_rdfa.specs.Facts.{Facts}
 use Rattle.rx_rdfa.specs.Blanks.{model}
 use Rattle.rx_rdfa.specs.Inherited.{inherited, up}
 use Rattle.rx_rdfa.specs.Calls.{Call, line_after, no_line}
+use Rattle.rx_curie.specs.Given.{no_facts}
 use Rattle.rx_eval.specs.States.{State}
 use Rattle.rx_eval.specs.Numbering.{Numbering}
 use Rattle.rx_eval.specs.Standing.{gathers_text, EvaluatorStands}
@@ -28,28 +29,9 @@ abbrev pub KeepsWhereGathered : Type 0
 KeepsWhereGathered = (to : Numbering) (list : List Call) (state : State) → EvaluatorStands to list state
     → map (λ f. is_some f.text) state.frames ≡ gathering_after state.base list
 
--- the facts of an element that says nothing, of one with property, and of one with content beside it
-abbrev pub silent : Facts
-silent = record {
-  kind = Other;
-  about = None;
-  resource = None;
-  href = None;
-  src = None;
-  rel = None;
-  rev = None;
-  property = None;
-  types = None;
-  content = None;
-  datetime = None;
-  datatype = None;
-  inlist = false;
-  vocab = None;
-  lang = None;
-}
-
+-- the facts of an element with property, and of one with content beside it; `no_facts` are those of one that says nothing
 abbrev pub saying : Facts
-saying = record silent { property = Some (codes "name" ∷ []) }
+saying = record no_facts { property = Some (codes "name" ∷ []) }
 
 abbrev pub quoting : Facts
 quoting = record saying { content = Some (codes "given") }
@@ -57,8 +39,8 @@ quoting = record saying { content = Some (codes "given") }
 -- law: worked lines of open elements, the innermost first. An element with property gathers its text, one with content
 -- beside that doesn't, and neither changes what those around it gather.
 pub record KeptTextsHold : Type 0 where
-  pub property : gathering_along (codes "http://b.example/") (saying ∷ silent ∷ []) (0 ∷ 0 ∷ []) ≡ false ∷ true ∷ []
-  pub property_and_content : gathering_along (codes "http://b.example/") (quoting ∷ silent ∷ []) (0 ∷ 0 ∷ []) ≡ false ∷ false ∷ []
+  pub property : gathering_along (codes "http://b.example/") (saying ∷ no_facts ∷ []) (0 ∷ 0 ∷ []) ≡ false ∷ true ∷ []
+  pub property_and_content : gathering_along (codes "http://b.example/") (quoting ∷ no_facts ∷ []) (0 ∷ 0 ∷ []) ≡ false ∷ false ∷ []
   pub nested :
-      gathering_along (codes "http://b.example/") (saying ∷ quoting ∷ saying ∷ silent ∷ []) (0 ∷ 0 ∷ 0 ∷ 0 ∷ [])
+      gathering_along (codes "http://b.example/") (saying ∷ quoting ∷ saying ∷ no_facts ∷ []) (0 ∷ 0 ∷ 0 ∷ 0 ∷ [])
       ≡ false ∷ true ∷ false ∷ true ∷ []

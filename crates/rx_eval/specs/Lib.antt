@@ -9,6 +9,7 @@ pub mod Entering
 pub mod Opening
 pub mod Closing
 pub mod States
+pub mod Skipping
 pub mod Keeping
 pub mod Opened
 pub mod Ending

@@ -12,6 +12,7 @@ use Rattle.rx_eval.specs.OwnersSeen.{owning}
 use Rattle.rx_eval.specs.Entering.{Gathers, resources_by, start_at, below_at, gathers_at, own_at, below_own_at, places_at, lists_at}
 use Rattle.rx_eval.specs.Opening.{drawn_after}
 use Rattle.rx_eval.specs.States.{State, Frame}
+use Rattle.rx_eval.specs.Skipping.{skipped_frame}
 use Rattle.rx_eval.specs.Keeping.{gathers_some}
 
 -- what a child of the last frame inherits
@@ -44,6 +45,13 @@ pub record Opens (old : State) (facts : Facts) (new : State) : Type 0 where
   pub rest :
       (new.base ≡ old.base) × (new.levels ≡ old.levels) × (new.page ≡ old.page)
       × (new.cells ≡ old.cells) × (new.kept ≡ old.kept) × (new.ended ≡ old.ended) × (new.spent ≡ old.spent)
+
+-- an element that is skipped and adds nothing was opened
+abbrev pub skipped_state : State → State
+skipped_state old = record old {
+  frames = old.frames ++ skipped_frame (handed_on old.page old.frames) ∷ [];
+  drawn = drawn_after (handed_on old.page old.frames) old.drawn;
+}
 
 -- one more may be opened
 pub record MayOpen (old : State) (facts : Facts) : Type 0 where

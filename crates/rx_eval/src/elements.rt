@@ -101,6 +101,7 @@ fn skipped(around: &Context) -> Result<Frame, NoMemory>
         own: None,
         below: None,
         gathered: None,
+        skipped: 0,
     })
 }
 
@@ -168,6 +169,7 @@ fn enter_found(
         own,
         below,
         gathered,
+        skipped: 0,
     })
 }
 

@@ -6,7 +6,7 @@ ghost use Rattle.rx_rdfa.specs.Calls.{Call, Enter, Read, Leave, line_after, no_l
 ghost use Rattle.rx_rdfa.specs.Renaming.{labels as labels_of};
 ghost use Rattle.rx_curie.specs.Seen.{facts_seen};
 ghost use Rattle.rx_eval.specs.Keeping.{gathers_some, first_of, is_place};
-ghost use Rattle.rx_eval.specs.Opened.{handed_on, Opens, MayOpen, begun_state, read_text};
+ghost use Rattle.rx_eval.specs.Opened.{handed_on, Opens, MayOpen, begun_state, read_text, skipped_state};
 ghost use Rattle.rx_eval.specs.Waits.{Shows};
 ghost use Rattle.rx_eval.specs.Numbering.{Numbering};
 ghost use Rattle.rx_eval.specs.Standing.{EvaluatorStands, Takes, TakesOn, no_numbers};
@@ -21,7 +21,9 @@ use crate::inherited::Inherited;
 use crate::numbers::label_count;
 use crate::opening::{around, next_number};
 use rx_curie::Facts;
-use rx_element::{Context, Hangings, Labels, OwnIris, Surroundings, draw_labels, level_at};
+use rx_element::{
+    Context, Hangings, Labels, OwnIris, Surroundings, draw_labels, level_at, says_nothing,
+};
 use rx_lists::{Lists, Owner};
 use rx_terms::{Iri, NoMemory, Node, TripleList};
 use rx_values::TextStore;
@@ -43,7 +45,12 @@ pub struct Eval {
     iris: OwnIris,
     levels: u32,
     page: Context,
+    /// How many elements are open.
+    depth: u32,
+    /// The open elements, but for those of which nothing is said: each frame counts those around it.
     frames: Vec<Frame>,
+    /// How many of those are open inside the last frame.
+    skipped: u32,
     labels: Labels,
     drawn: u64,
     cells: u64,
@@ -57,9 +64,9 @@ pub struct Eval {
 }
 
 impl Model for Eval {
-    ghost use Rattle.std.specs.Prelude.{map};
     ghost use Rattle.rx_model.specs.Seen.{triples_seen};
-    ghost use Rattle.rx_eval.specs.States.{State, frame_seen};
+    ghost use Rattle.rx_eval.specs.States.{State};
+    ghost use Rattle.rx_eval.specs.Skipping.{all_frames};
     ghost use Rattle.rx_eval.specs.Keeping.{IsSound};
     ghost use Rattle.rx_element.specs.Contexts.{context_seen};
     ghost use Rattle.rx_eval.specs.OwnersSeen.{owners_seen};
@@ -70,7 +77,7 @@ impl Model for Eval {
       base = e.base;
       levels = e.levels;
       page = context_seen e.page;
-      frames = map frame_seen e.frames.items;
+      frames = all_frames (context_seen e.page) e.frames.items e.skipped;
       labels = e.labels;
       drawn = e.drawn;
       cells = e.cells;
@@ -81,7 +88,7 @@ impl Model for Eval {
       spent = e.spent;
     } };
 
-    ghost invariant = { λ e. IsSound e.levels e.frames.items e.outermost e.text };
+    ghost invariant = { λ e. IsSound e.levels e.depth (context_seen e.page) e.frames.items e.skipped e.outermost e.text };
 }
 
 impl Eval {
@@ -90,8 +97,7 @@ impl Eval {
         ensures frames { result ≡ length self.now.frames }
         ensures stands { (to : Numbering) (list : List Call) → EvaluatorStands to list self.now → result ≡ length (line_after list no_line).facts }
     {
-        let _levels = self.levels;
-        self.frames.as_slice().len() as u32
+        self.depth
     }
 
     /// The context in which a child of the innermost open element would stand: the rules' own, with the numbers of the
@@ -128,7 +134,9 @@ impl Eval {
             iris: OwnIris::new(alloc)?,
             levels,
             page,
+            depth: 0,
             frames: Vec::with_capacity(alloc, levels as usize)?,
+            skipped: 0,
             labels: Labels::new(alloc)?,
             drawn: 0,
             cells: CELLS,
@@ -234,12 +242,19 @@ impl Eval {
         requires { 0 < length self.old.frames }
         ensures { OnOk result (Closes self.old self.new) }
     {
+        if self.skipped > 0 {
+            self.skipped -= 1;
+            self.depth -= 1;
+            return Ok(());
+        }
         let Some(frame) = self.frames.pop() else {
             unreachable!();
         };
-        let depth = self.frames.as_slice().len();
-        let was_outermost = is_place(self.outermost, depth);
+        let place = self.frames.as_slice().len();
+        let was_outermost = is_place(self.outermost, place);
         self.outermost = without(self.outermost, was_outermost);
+        self.skipped = frame.skipped;
+        self.depth -= 1;
         let cells = end_frame(
             self.alloc,
             &mut self.out,
@@ -250,33 +265,64 @@ impl Eval {
         );
         drop(frame);
         forget(&mut self.text, was_outermost);
-        let page = page_owner(depth, self.page.owner);
+        let page = page_owner(self.depth, self.page.owner);
         self.cells = end_owner(&mut self.out, &mut self.lists, page, cells?)?;
-        self.ended = is_ended(self.ended, depth);
+        self.ended = is_ended(self.ended, self.depth);
         Ok(())
     }
 
     /// Opens an element: the same, but for want of memory.
+    #[inline(always)]
     fn open(&mut self, facts: &Facts) -> Result<(), NoMemory>
         requires drawn { self.old.drawn + 1 + length (labels_of (facts_seen facts.now)) ≤ 2 ^ 61 }
         requires level { length self.old.frames < self.old.levels }
         ensures { OnOk result (Opens self.old (facts_seen facts.now) self.new) }
     {
+        if self.depth > 0 && says_nothing(facts) {
+            self.skip();
+            return Ok(());
+        }
+        self.open_framed(facts)
+    }
+
+    /// Opens an element of which nothing is said, which isn't the root: it is counted.
+    #[inline(always)]
+    fn skip(&mut self)
+        requires inside { 0 < length self.old.frames }
+        requires drawn { self.old.drawn + 1 ≤ 2 ^ 61 }
+        requires level { length self.old.frames < self.old.levels }
+        ensures { self.new ≡ skipped_state self.old }
+    {
+        let _levels = self.levels;
+        let context = around(&self.page, self.frames.as_slice());
+        self.drawn = next_number(context, self.drawn);
+        self.skipped += 1;
+        self.depth += 1;
+    }
+
+    /// Opens an element with a frame of its own.
+    #[inline(never)]
+    fn open_framed(&mut self, facts: &Facts) -> Result<(), NoMemory>
+        requires drawn { self.old.drawn + 1 + length (labels_of (facts_seen facts.now)) ≤ 2 ^ 61 }
+        requires level { length self.old.frames < self.old.levels }
+        ensures { OnOk result (Opens self.old (facts_seen facts.now) self.new) }
+    {
+        let _levels = self.levels;
         let fresh = draw_labels(&mut self.labels, facts, self.drawn)?;
         let frames = self.frames.as_slice();
-        let depth = frames.len();
+        let place = frames.len();
         let around = around(&self.page, frames);
-        let place = Surroundings {
+        let surroundings = Surroundings {
             alloc: self.alloc,
             base: &self.base,
             around,
-            level: level_at(depth),
+            level: level_at(self.depth as usize),
             labels: &self.labels,
             fresh,
         };
         let mark = self.text.mark();
-        let frame = enter(
-            &place,
+        let mut frame = enter(
+            &surroundings,
             facts,
             &self.iris,
             &mut self.lists,
@@ -285,9 +331,12 @@ impl Eval {
         )?;
         let drawn = next_number(&frame.context, fresh);
         let gathers = frame.gathered.is_some();
+        frame.skipped = self.skipped;
         self.frames.push(frame)?;
+        self.skipped = 0;
+        self.depth += 1;
         self.drawn = drawn;
-        self.outermost = first_of(self.outermost, gathers, depth);
+        self.outermost = first_of(self.outermost, gathers, place);
         Ok(())
     }
 }
@@ -308,7 +357,7 @@ fn first_of(outermost: Option<usize>, gathers: bool, depth: usize) -> Option<usi
 }
 
 /// The page's owner, where no element is open any more.
-fn page_owner(depth: usize, owner: Owner) -> Option<Owner>
+fn page_owner(depth: u32, owner: Owner) -> Option<Owner>
     ensures { option_map owner_seen result ≡ (if depth == 0 then Some owner.0 else None) }
 {
     if depth == 0 {
@@ -317,7 +366,7 @@ fn page_owner(depth: usize, owner: Owner) -> Option<Owner>
     None
 }
 
-fn is_ended(ended: bool, depth: usize) -> bool
+fn is_ended(ended: bool, depth: u32) -> bool
     ensures { result ≡ (if depth == 0 then true else ended) }
 {
     depth == 0 || ended

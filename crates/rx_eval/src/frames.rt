@@ -29,13 +29,15 @@ pub(crate) struct Gathered {
     pub(crate) mark: usize,
 }
 
-/// An open element: what it hands on, the owners that it began, and its text where that is wanted.
+/// An open element: what it hands on, the owners that it began, its text where that is wanted, and how many elements of
+/// which nothing is said are open around it, inside the next frame.
 #[derive(Drop)]
 pub(crate) struct Frame {
     pub(crate) context: Context,
     pub(crate) own: Option<Owner>,
     pub(crate) below: Option<Owner>,
     pub(crate) gathered: Option<Gathered>,
+    pub(crate) skipped: u32,
 }
 
 /// The list again.

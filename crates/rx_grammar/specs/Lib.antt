@@ -13,3 +13,4 @@ pub mod Pages
 pub mod Begun
 pub mod PageFaults
 pub mod Laws
+pub mod Kinds

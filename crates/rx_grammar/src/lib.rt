@@ -6,10 +6,12 @@
 
 mod contents;
 mod faults;
+mod kinds;
 mod limits;
 mod stops;
 
 pub use contents::{Content, RawName};
 pub use faults::{Fault, Kind};
+pub use kinds::name_of;
 pub use limits::Limits;
 pub use stops::Stop;

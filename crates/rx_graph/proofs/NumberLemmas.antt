@@ -130,7 +130,7 @@ subject_stays old mid new more n e f = same_node_by (place_in nat_eq mid) (place
 pub renamed_triple : (p : ℕ → ℕ) (t u : Triple ℕ) → u.subject ≡ rename_node p t.subject → u.predicate ≡ t.predicate → u.object ≡ rename_term p t.object → u ≡ rename p t
 renamed_triple p t u a b c = λ i. record { subject = a i; predicate = b i; object = c i }
 
-blanks_more : (list : List (Triple ℕ)) (t : Triple ℕ) → blanks (list ++ t ∷ []) ≡ blanks list ++ blanks_of t
+pub blanks_more : (list : List (Triple ℕ)) (t : Triple ℕ) → blanks (list ++ t ∷ []) ≡ blanks list ++ blanks_of t
 blanks_more [] t = append-nil (blanks_of t)
 blanks_more (u ∷ list) t = ap (λ z. blanks_of u ++ z) (blanks_more list t) ∙ sym (append_assoc (blanks_of u) (blanks list) (blanks_of t))
 

@@ -8,7 +8,8 @@ use Rattle.std.specs.List.{cons_option, list_any}
 use Rattle.rx_terms.specs.declared.triples.Triple.{Triple as CodeTriple}
 use Rattle.rx_model.specs.Sets.{contains, distinct}
 use Rattle.rx_model.specs.Terms.{Node, Iri, Term, Resource, Literal, Triple, same_node, same_term, same_triple}
-use Rattle.rx_model.specs.Copied.{rdf_type, rdfa_copy, rdfa_pattern, type_pattern, is_pattern, pattern_object, live, edge, says_pattern, is_referenced, replaced, treated, copied}
+use Rattle.rx_model.specs.Copied.{rdfa_copy, rdfa_pattern, type_pattern, is_pattern, pattern_object, live, edge, says_pattern, is_referenced, replaced, treated, copied}
+use Rattle.rx_model.specs.Vocabulary.{rdf_type}
 use Rattle.rx_model.specs.Seen.{triple_seen, triples_seen}
 use Rattle.rx_model.proofs.Exact.{exact_numbers, exact_nodes}
 use Rattle.rx_graph.specs.Resources.{node_added, number_in, object_by, live_by}
@@ -154,7 +155,7 @@ length_so_far (t ∷ list) (suc i) u at = let rest = length_so_far list i u at i
 
 -- ---- a node is found by its number
 
-none_there : (nodes : List (Node ℕ)) (s : Node ℕ) → number_in nodes s ≡ None → contains (same_node nat_eq) nodes s ≡ false
+pub none_there : (nodes : List (Node ℕ)) (s : Node ℕ) → number_in nodes s ≡ None → contains (same_node nat_eq) nodes s ≡ false
 none_there [] s h = refl
 none_there (t ∷ nodes) s h = go (same_node nat_eq t s) refl (number_in nodes s) refl h (none_there nodes s)
   where

@@ -1,10 +1,11 @@
 //! A number that hangs on every triple of a list.
-use rx_terms::{LiteralKind, Term, Triple, TripleList};
+use rx_terms::{Literal, LiteralKind, Term, Triple, TripleList};
 use std::hash::{FoldHasher, Hash, Hasher};
 
 /// What the triples of a list come to as far as it was walked: the state of SipHash-1-3 with keys 0, which takes a word at a
-/// time. Of an IRI it takes what the IRI keeps, and of a text all bytes, eight at a time. So whoever changes a triple gets
-/// another number, and can't tell which one before it is done.
+/// time. It takes the bytes of a text as they are, eight to a word, then their number and the literal's kind; of an IRI a number
+/// that is made of the SipHash that it keeps, so two IRIs of one number can be found in 2^32 trials, but not many. So whoever
+/// changes a triple gets another number, and can't tell which one before it is done.
 #[derive(Clone, Copy)]
 pub(crate) struct Key {
     v0: u64,
@@ -44,27 +45,31 @@ impl Key {
         match term {
             Term::Iri(iri) => self.take_word(quick_hash_of(iri)),
             Term::Blank(blank) => self.take_word(quick_hash_of(blank)),
-            Term::Literal(literal) => {
-                self.take_text(literal.lexical.as_str());
-                self.take_kind(&literal.kind);
+            Term::Literal(literal) => self.take_literal(literal),
+        }
+    }
+
+    fn take_literal(&mut self, literal: &Literal) {
+        let text = literal.lexical.as_str();
+        match &literal.kind {
+            LiteralKind::Plain => self.take_text(text, 0),
+            LiteralKind::Tagged(lang) => {
+                self.take_text(text, 1);
+                self.take_text(lang.as_str(), 1);
+            }
+            LiteralKind::Typed(iri) => {
+                self.take_text(text, 2);
+                self.take_word(quick_hash_of(iri));
             }
         }
     }
 
-    fn take_kind(&mut self, kind: &LiteralKind) {
-        match kind {
-            LiteralKind::Plain => {}
-            LiteralKind::Tagged(lang) => self.take_text(lang.as_str()),
-            LiteralKind::Typed(iri) => self.take_word(quick_hash_of(iri)),
-        }
-    }
-
-    fn take_text(&mut self, text: &str) {
+    fn take_text(&mut self, text: &str, kind: u64) {
         let bytes = text.as_bytes();
         for eight in bytes.chunks(8) {
-            self.take_word(quick_hash_of_bytes(eight));
+            self.take_word(word_of(eight));
         }
-        self.take_word(bytes.len() as u64);
+        self.take_word((bytes.len() as u64) << 2 | kind);
     }
 
     fn take_word(&mut self, word: u64) {
@@ -104,9 +109,18 @@ fn quick_hash_of<T: Hash>(part: &T) -> u64 {
     hasher.finish()
 }
 
-/// A number for at most eight bytes. Few of these have the same, since it is as long as they are.
-fn quick_hash_of_bytes(bytes: &[u8]) -> u64 {
-    let mut hasher = FoldHasher::default();
-    hasher.write(bytes);
-    hasher.finish()
+/// At most eight bytes as one word.
+fn word_of(bytes: &[u8]) -> u64 {
+    match bytes {
+        [a, b, c, d, e, f, g, h] => u64::from_le_bytes([*a, *b, *c, *d, *e, *f, *g, *h]),
+        _ => short_word_of(bytes),
+    }
+}
+
+fn short_word_of(bytes: &[u8]) -> u64 {
+    let mut word = 0;
+    for byte in bytes {
+        word = word << 8 | *byte as u64;
+    }
+    word
 }

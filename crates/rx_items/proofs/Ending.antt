@@ -12,22 +12,22 @@ use Rattle.rx_microdata.specs.Base as microdata
 use Rattle.rx_microdata.specs.Base.{base_in}
 use Rattle.rx_grammar.specs.declared.stops.Stop.{Stop}
 use Rattle.rx_grammar.specs.declared.stops.Stop.TheVariants as stop
-use Rattle.rx_reading.specs.Readings.{IsWhole, Whole, Unfinished}
+use Rattle.rx_nest.specs.Readings.{IsWhole, Whole, Unfinished}
 use Rattle.rx_base.specs.Lines as lines
 use Rattle.rx_base.specs.Seekings.{known, sought}
 use Rattle.rx_base.specs.Sought.{sought_seen}
 use Rattle.rx_base.specs.declared.seeking.Sought.{Sought}
 use Rattle.rx_base.specs.declared.seeking.Sought.TheVariants as looks
 use Rattle.rx_base.proofs.Found.{base_found}
-use Rattle.rx_item_table.specs.Rows.{rows_of}
-use Rattle.rx_item_table.specs.Growing.{Growing}
-use Rattle.rx_item_table.specs.Showing.{ShowsRows, after, nothing_read}
+use Rattle.rx_items.specs.Rows.{rows_of}
+use Rattle.rx_items.specs.Growing.{Growing}
+use Rattle.rx_items.specs.Showing.{ShowsRows, after, nothing_read}
 use Rattle.rx_items.specs.Collecting.{Setting, way_of, Collects, BaseIs}
 use Rattle.rx_items.specs.declared.collectors.Base.{Base}
 use Rattle.rx_items.specs.declared.collectors.Base.TheVariants as base
 use Rattle.rx_items.specs.declared.collectors.Collector.{Collector}
 use Rattle.rx_items.specs.Walks.{EndGives}
-use Rattle.rx_item_table.proofs.TableLaws.{show}
+use Rattle.rx_items.proofs.TableLaws.{show}
 use Rattle.rx_items.proofs.Telling.{told_tree}
 
 -- the base of a page, once all of it is read

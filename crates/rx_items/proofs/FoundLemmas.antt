@@ -10,7 +10,7 @@ use Rattle.rx_grammar.specs.declared.faults.Kind.{Kind}
 use Rattle.rx_grammar.specs.declared.faults.Kind.TheVariants.{Cycle, ItemsTooNested, ItemsTooMany}
 use Rattle.rx_microdata.specs.Elements.{Placed, is_item, names_of}
 use Rattle.rx_microdata.specs.Visits.{Visit, Bounds, visits_from, standard_bounds, fault_of, first_fault, items_in}
-use Rattle.rx_item_table.specs.Rows.{properties_in}
+use Rattle.rx_items.specs.Rows.{properties_in}
 use Rattle.rx_items.specs.Expanding.{path_of, kind_of, NoFault, FaultIs, Step, with_name, steps_of, steps_in, visits_of, visits_in}
 
 -- ---- faults in a row

@@ -9,3 +9,31 @@ pub mod Telling
 pub mod Ending
 mod DepthLemmas
 mod ReadLemmas
+mod DistinctLemmas
+mod TokenLemmas
+mod RisingLemmas
+mod ListedLemmas
+pub mod TakeLemmas
+pub mod HoldLemmas
+mod NestLemmas
+mod IdLemmas
+mod MemberLemmas
+mod StartLemmas
+mod ReferenceLemmas
+mod ReachLemmas
+mod AroundLemmas
+mod PropertyLemmas
+mod BuildLemmas
+mod WalkLemmas
+mod DisjointLemmas
+pub mod Alike
+pub mod RankLemmas
+pub mod RowLaws
+mod AttributeLemmas
+mod SpanLemmas
+mod RuleLemmas
+pub mod ListLemmas
+pub mod SaidLemmas
+mod ShowLemmas
+mod TakenLemmas
+pub mod TableLaws

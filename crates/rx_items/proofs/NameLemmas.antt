@@ -16,17 +16,15 @@ use Rattle.rx_json.specs.Events.{data_events, items_events, members_events}
 use Rattle.rx_terms.specs.Text.{Chars}
 use Rattle.rx_microdata.specs.Elements.{Placed, names_of}
 use Rattle.rx_microdata.specs.Json.{with_value, grouped, named}
-use Rattle.rx_item_properties.specs.Held.{AllStand, places}
+use Rattle.rx_items.specs.Held.{AllStand, places}
 use Rattle.rx_items.specs.Expanding.{data_of}
 use Rattle.rx_items.specs.Named.{Key, keyed, key_at, keys_in, keys_if, keys_at, keys_seen, is_before, ByName, opening, value_if, value_at, grouped_at, events_behind}
 use Rattle.rx_items.specs.declared.named.Named.{Named}
 use Rattle.rx_json.proofs.PlainLemmas.{turned}
+use Rattle.rx_items.proofs.ReadLemmas.{both}
 
 equal_texts : (a b : List ℕ) → slice_cmp nat_cmp a b ≡ Equal → a ≡ b
 equal_texts a b e = (bytes_eq-Decides a b).0 (sym (is_eq-slice_cmp a b) ∙ ap is_eq e)
-
-abbrev both : Chars → Data → Chars × Data
-both name value = (name, value)
 
 -- ---- values of different names
 

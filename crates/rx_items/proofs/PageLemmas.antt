@@ -13,14 +13,14 @@ use Rattle.rx_microdata.specs.Elements.{Placed, is_item, is_top_level, is_absent
 use Rattle.rx_microdata.specs.Visits.{Visit, visits_from, visits_by, first_fault, standard_bounds}
 use Rattle.rx_microdata.specs.Json.{Outcome, Given, Refused, json_of_item, json_by, refused}
 use Rattle.rx_microdata.proofs.Lists.{and_parts}
-use Rattle.rx_item_table.specs.Rows.{properties_in, outcome_in}
-use Rattle.rx_item_properties.specs.Held.{HoldsRows}
+use Rattle.rx_items.specs.Rows.{properties_in, outcome_in}
+use Rattle.rx_items.specs.Held.{HoldsRows}
 use Rattle.rx_items.specs.Expanding.{At, NoFault, FaultIs, HasFault, Finds}
 use Rattle.rx_items.specs.Pages.{top_visits, top_data, IsTextOf, JsonGives, TextGives}
-use Rattle.rx_item_properties.specs.declared.kept.Kept.{Kept}
+use Rattle.rx_items.specs.declared.kept.Kept.{Kept}
 use Rattle.rx_items.proofs.FoundLemmas.{none_then, then_fault, fault_then, none_at_all, flat_append}
-use Rattle.rx_item_properties.proofs.HoldLemmas.{as_long as rows_as_long}
-use Rattle.rx_item_properties.proofs.TakeLemmas.{one_more, cut_at}
+use Rattle.rx_items.proofs.HoldLemmas.{as_long as rows_as_long}
+use Rattle.rx_items.proofs.TakeLemmas.{one_more, cut_at}
 
 pub tops_at : {kept : Kept} {rows : List Placed} {base : Chars} (path : List ℕ) → HoldsRows kept rows base → path ≡ [] → At kept rows base path [] 40
 tops_at path h e = record { holds = h; path_is = e; deep = omega arith }

@@ -7,10 +7,10 @@ use Rattle.rx_grammar.specs.declared.stops.Stop.{Stop}
 use Rattle.rx_grammar.specs.declared.stops.Stop.TheVariants as stop
 use Rattle.rx_microdata.specs.Elements.{Placed, is_item, names_of}
 use Rattle.rx_microdata.specs.Visits.{Visit, visits_from}
-use Rattle.rx_item_table.specs.Rows.{properties_in}
-use Rattle.rx_item_properties.specs.Held.{ShowsTokens}
-use Rattle.rx_item_properties.specs.declared.kept.Tokens.{Tokens}
-use Rattle.rx_item_properties.specs.declared.kept.Tokens.TheVariants as tokens
+use Rattle.rx_items.specs.Rows.{properties_in}
+use Rattle.rx_items.specs.Held.{ShowsTokens}
+use Rattle.rx_items.specs.declared.kept.Tokens.{Tokens}
+use Rattle.rx_items.specs.declared.kept.Tokens.TheVariants as tokens
 use Rattle.rx_items.specs.Expanding.{NoFault, FaultIs, HasFault, Finds, Step, with_name, steps_of, steps_in, visits_of, visits_in, again, count_of}
 use Rattle.rx_items.proofs.FoundLemmas.{none_then, then_fault, fault_then, none_at_all, flat_append, no_visits}
 use Rattle.rx_items.proofs.VisitLemmas.{steps_one, property_err}

@@ -75,7 +75,7 @@ id_plain base (Some reference) types group p = (tt, (refl, leads_types (codes "i
 item_plain : (base : Chars) (root : Facts) (pairs : List (Chars × Data)) → AllPlain pairs → IsPlain (item_of base root pairs)
 item_plain base root pairs p = id_plain base root.item_id root.types (grouped pairs) (grouped_plain pairs p)
 
-abbrev both : Chars → Data → Chars × Data
+abbrev pub both : Chars → Data → Chars × Data
 both name value = (name, value)
 
 named_plain : (names : List Chars) (value : Data) → IsPlain value → AllPlain (map (λ name. both name value) names)

@@ -12,16 +12,16 @@ use Rattle.rx_nest.specs.Signs.{Sign, signs_of}
 use Rattle.rx_base.specs.Lines.{line_of, line_on}
 use Rattle.rx_base.specs.Seekings.{seek, sought, first_child}
 use Rattle.rx_base.proofs.Lines.{seeks_append, said_seeks}
-use Rattle.rx_item_table.specs.Words.{is_marked, text_of_words}
-use Rattle.rx_item_table.specs.Values.{taken_of, text_taken}
-use Rattle.rx_item_table.specs.Growing.{Growing, innermost, with_said, said, finished, begun, added, passed, head_of}
-use Rattle.rx_item_table.specs.Showing.{tag_in, after, nothing_read}
+use Rattle.rx_items.specs.Words.{is_marked, text_of_words}
+use Rattle.rx_items.specs.Values.{taken_of, text_taken}
+use Rattle.rx_items.specs.Growing.{Growing, innermost, with_said, said, finished, begun, added, passed, head_of}
+use Rattle.rx_items.specs.Showing.{tag_in, after, nothing_read}
 use Rattle.rx_items.specs.Collecting.{Setting, told, told_all, BaseIs, BaseMoves, Collects}
 use Rattle.rx_items.specs.declared.collectors.Base.{Base}
 use Rattle.rx_items.specs.declared.collectors.Collector.{Collector}
-use Rattle.rx_item_table.specs.declared.rows.Open.{Open}
-use Rattle.rx_item_table.proofs.ListLemmas.{append_nil, append_assoc}
-use Rattle.rx_item_table.proofs.SaidLemmas.{said_nothing, said_twice}
+use Rattle.rx_items.specs.declared.rows.Open.{Open}
+use Rattle.rx_items.proofs.ListLemmas.{append_nil, append_assoc}
+use Rattle.rx_items.proofs.SaidLemmas.{said_nothing, said_twice}
 
 -- ---- text in pieces
 

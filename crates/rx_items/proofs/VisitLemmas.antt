@@ -12,15 +12,15 @@ use Rattle.rx_grammar.specs.declared.stops.Stop.TheVariants as stop
 use Rattle.rx_microdata.specs.Elements.{Placed}
 use Rattle.rx_microdata.specs.Visits.{Visit, visits_from, standard_bounds, fault_of, first_fault, is_cycle, items_in}
 use Rattle.rx_microdata.specs.Json.{Refused}
-use Rattle.rx_item_table.specs.Rows.{properties_in}
-use Rattle.rx_item_properties.specs.Held.{AllStand, places}
+use Rattle.rx_items.specs.Rows.{properties_in}
+use Rattle.rx_items.specs.Held.{AllStand, places}
 use Rattle.rx_items.specs.Expanding.{At, path_of, kind_of, NoFault, FaultIs, HasFault, Finds, Enters, Step, steps_of, steps_in, visits_in}
-use Rattle.rx_item_properties.specs.declared.kept.Element.{Element}
-use Rattle.rx_item_properties.specs.declared.kept.Kept.{Kept}
+use Rattle.rx_items.specs.declared.kept.Element.{Element}
+use Rattle.rx_items.specs.declared.kept.Kept.{Kept}
 use Rattle.rx_items.specs.declared.visits.Trail.{Trail}
 use Rattle.rx_items.proofs.FoundLemmas.{fault_is, path_size, steps_visits, fault_stays}
-use Rattle.rx_item_properties.proofs.TakeLemmas.{cut_at, one_more}
-use Rattle.rx_item_properties.proofs.HoldLemmas.{place_is}
+use Rattle.rx_items.proofs.TakeLemmas.{cut_at, one_more}
+use Rattle.rx_items.proofs.HoldLemmas.{place_is}
 
 -- what `?` hands on
 pub err_told : {X E : Type 0} (P : Result X E → Type 0) (r : Result X E) (x : E) → IsErrAnd r (λ y. y ≡ x) → P (Err x) → P r

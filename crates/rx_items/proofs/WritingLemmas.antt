@@ -8,15 +8,15 @@ use Rattle.serde.specs.declared.name.Case.TheVariants.{AsIs}
 use Rattle.serde_json.specs.Data.{Data, array, object, item, Items, Members, no_members, member}
 use Rattle.serde_json.specs.View.{items_of}
 use Rattle.rx_json.specs.Events.{Grows, data_events, members_events, each_events}
-use Rattle.rx_json.proofs.GrowLemmas.{one, none, both, told_as, each_more, object_made, array_made}
+use Rattle.rx_json.proofs.GrowLemmas.{one, none, both, told_as, each_more, object_made, array_made, cut, row_turn}
 use Rattle.rx_terms.specs.Text.{Chars}
 use Rattle.rx_refs.specs.Resolve.{resolved}
 use Rattle.rx_microdata.specs.Facts.{Facts, said}
 use Rattle.rx_microdata.specs.Elements.{Placed, is_item, is_top_level}
 use Rattle.rx_microdata.specs.Json.{string_of, list_of, with_id, with_types, item_of, grouped, named, json_of_item}
-use Rattle.rx_item_table.specs.Rows.{properties_in}
-use Rattle.rx_item_properties.specs.Held.{AllStand, OfRows}
-use Rattle.rx_item_properties.specs.declared.kept.Kept.{Kept}
+use Rattle.rx_items.specs.Rows.{properties_in}
+use Rattle.rx_items.specs.Held.{AllStand, OfRows}
+use Rattle.rx_items.specs.declared.kept.Kept.{Kept}
 use Rattle.rx_items.specs.Expanding.{data_of}
 use Rattle.rx_items.specs.Named.{keys_in, key_seen, keys_seen, opening, ending, events_behind, value_behind, value_if, value_at, grouped_at}
 use Rattle.rx_items.specs.declared.named.Named.{Named}
@@ -137,17 +137,10 @@ module _ (rows : List Placed) (base : Chars) where
 pub text_told : {old new : Log} (text : List ℕ) (chars : Chars) → text ≡ encode_utf8_all chars → Logs old new (event.text text) → Grows old new (data_events (string_of chars))
 text_told {old} {new} text chars same l = told_as (event.text text ∷ []) (data_events (string_of chars)) (ap (λ (t : List ℕ). event.text t ∷ []) same) (one old new (event.text text) l)
 
--- what is left of a list, from a place on
-pub cut : {X : Type 0} (xs : List X) (i : ℕ) (x : X) → i < length xs → drop i xs ≡ get_or xs i x ∷ drop (i + 1) xs
-cut xs i x lt = let next : suc i ≡ i + 1 = omega arith in drop-cons xs i x lt ∙ ap (λ (n : ℕ). get_or xs i x ∷ drop n xs) next
-
--- texts in a row: one more is written, and none is left
-pub texts_turn : (texts : List Chars) (i : ℕ) (text other : Chars) → i < length texts → text ≡ get_or texts i other → data_events (string_of text) ++ each_events (map string_of (drop (i + 1) texts)) ≡ each_events (map string_of (drop i texts))
-texts_turn texts i text other lt is =
-    ap (λ (t : Chars). data_events (string_of t) ++ each_events (map string_of (drop (i + 1) texts))) is ∙ sym (ap (λ (ts : List Chars). each_events (map string_of ts)) (cut texts i other lt))
-
-pub texts_end : (texts : List Chars) (i : ℕ) → length texts ≤ i → each_events (map string_of (drop i texts)) ≡ []
-texts_end texts i over = ap (λ (ts : List Chars). each_events (map string_of ts)) (drop_of_length-le texts over)
+-- texts in a row: one more is written
+pub text_turn : (texts : List Chars) (i : ℕ) (text other : Chars) → i < length texts → text ≡ get_or texts i other → data_events (string_of text) ++ each_events (map string_of (drop (i + 1) texts)) ≡ each_events (map string_of (drop i texts))
+text_turn texts i text other lt is =
+    ap (λ (t : Chars). data_events (string_of t) ++ each_events (map string_of (drop (i + 1) texts))) is ∙ row_turn string_of texts i other lt
 
 pub not_none : {X : Type 0} (xs : List X) (empty : Bool) → empty ≡ (length xs == 0) → empty ≡ false → length xs ≡ 0 → ⊥
 not_none xs empty is full none = true≢false (sym (is ∙ ap (λ n. n == 0) none) ∙ full)

@@ -7,15 +7,15 @@ use Rattle.rx_grammar.specs.declared.stops.Stop.{Stop}
 use Rattle.rx_rdfa.specs.Base.{base_by}
 use Rattle.rx_nest.specs.Signs as sign
 use Rattle.rx_nest.specs.Signs.{Sign}
-use Rattle.rx_reading.specs.Listening.{Hears}
-use Rattle.rx_reading.specs.Ways.{Way, refuses_none}
+use Rattle.rx_nest.specs.Listening.{Hears}
+use Rattle.rx_nest.specs.Ways.{Way, refuses_none}
 use Rattle.rx_base.specs.Seekings.{Seeking, known, sought}
 use Rattle.rx_base.specs.Sought.{sought_seen}
 use Rattle.rx_items.specs.declared.collectors.Base.{Base}
 use Rattle.rx_items.specs.declared.collectors.Base.TheVariants as base
 use Rattle.rx_items.specs.declared.collectors.Collector.{Collector}
-use Rattle.rx_item_table.specs.Growing.{Growing, begun, said, finished}
-use Rattle.rx_item_table.specs.Showing.{tag_in, nothing_read}
+use Rattle.rx_items.specs.Growing.{Growing, begun, said, finished}
+use Rattle.rx_items.specs.Showing.{tag_in, nothing_read}
 
 -- how a page is read by Microdata's rules: its syntax and limits, and its address
 pub record Setting : Type 0 where

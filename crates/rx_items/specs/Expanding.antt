@@ -12,12 +12,12 @@ use Rattle.rx_microdata.specs.Facts.{said}
 use Rattle.rx_microdata.specs.Elements.{Placed, is_item, names_of}
 use Rattle.rx_microdata.specs.Visits.{Visit, visits_from, standard_bounds, first_fault}
 use Rattle.rx_microdata.specs.Json.{string_of, json_of_item, refused, Refused}
-use Rattle.rx_item_table.specs.Rows.{properties_in}
-use Rattle.rx_item_properties.specs.Held.{HoldsRows}
-use Rattle.rx_item_properties.specs.declared.kept.Kept.{Kept}
-use Rattle.rx_item_properties.specs.declared.kept.Element.{Element}
-use Rattle.rx_item_properties.specs.declared.kept.Tokens.{Tokens}
-use Rattle.rx_item_properties.specs.declared.kept.Tokens.TheVariants as tokens
+use Rattle.rx_items.specs.Rows.{properties_in}
+use Rattle.rx_items.specs.Held.{HoldsRows}
+use Rattle.rx_items.specs.declared.kept.Kept.{Kept}
+use Rattle.rx_items.specs.declared.kept.Element.{Element}
+use Rattle.rx_items.specs.declared.kept.Tokens.{Tokens}
+use Rattle.rx_items.specs.declared.kept.Tokens.TheVariants as tokens
 use Rattle.rx_items.specs.declared.visits.Trail.{Trail}
 
 -- the places of the items on a path, the outermost first

@@ -12,10 +12,10 @@ use Rattle.rx_json.specs.Events.{data_events}
 use Rattle.rx_terms.specs.Text.{Chars}
 use Rattle.rx_microdata.specs.Elements.{Placed, is_item, names_of}
 use Rattle.rx_microdata.specs.Json.{json_of_item, with_value}
-use Rattle.rx_item_table.specs.Rows.{properties_in}
-use Rattle.rx_item_properties.specs.Held.{HoldsRows, IsElement, is_there}
-use Rattle.rx_item_properties.specs.declared.kept.Element.{Element}
-use Rattle.rx_item_properties.specs.declared.kept.Kept.{Kept}
+use Rattle.rx_items.specs.Rows.{properties_in}
+use Rattle.rx_items.specs.Held.{HoldsRows, IsElement, is_there}
+use Rattle.rx_items.specs.declared.kept.Element.{Element}
+use Rattle.rx_items.specs.declared.kept.Kept.{Kept}
 use Rattle.rx_items.specs.Expanding.{data_of}
 use Rattle.rx_items.specs.declared.named.Named.{Named}
 

@@ -2,11 +2,11 @@
 use Rattle.std.specs.Prelude.{List}
 use Rattle.rx_terms.specs.Text.{Chars}
 use Rattle.rx_microdata.specs.Facts as facts
-use Rattle.rx_item_table.specs.Showing.{ShowsValue}
-use Rattle.rx_item_table.specs.declared.rows.RowValue.{RowValue}
-use Rattle.rx_item_properties.specs.Held.{ShowsTokens}
-use Rattle.rx_item_properties.specs.declared.kept.Kept.{Kept}
-use Rattle.rx_item_properties.specs.declared.kept.Tokens.{Tokens}
+use Rattle.rx_items.specs.Showing.{ShowsValue}
+use Rattle.rx_items.specs.declared.rows.RowValue.{RowValue}
+use Rattle.rx_items.specs.Held.{ShowsTokens}
+use Rattle.rx_items.specs.declared.kept.Kept.{Kept}
+use Rattle.rx_items.specs.declared.kept.Tokens.{Tokens}
 
 -- what is so of each list of texts that these tokens show
 abbrev pub OfTokens : Chars → Tokens → (List Chars → Type 0) → Type 0

@@ -11,9 +11,9 @@ use Rattle.rx_grammar.specs.declared.stops.Stop.TheVariants as stop
 use Rattle.rx_microdata.specs.Elements.{Placed, is_top_level}
 use Rattle.rx_microdata.specs.Visits.{Visit, visits_from, visits_by, first_fault, standard_bounds}
 use Rattle.rx_microdata.specs.Json.{Outcome, Given, Refused, json_by, json_of_item}
-use Rattle.rx_item_table.specs.Rows.{properties_in}
-use Rattle.rx_item_properties.specs.Held.{HoldsRows}
-use Rattle.rx_item_properties.specs.declared.kept.Kept.{Kept}
+use Rattle.rx_items.specs.Rows.{properties_in}
+use Rattle.rx_items.specs.Held.{HoldsRows}
+use Rattle.rx_items.specs.declared.kept.Kept.{Kept}
 use Rattle.rx_items.specs.Expanding.{HasFault}
 use Rattle.rx_items.specs.declared.visits.Trail.{Trail}
 

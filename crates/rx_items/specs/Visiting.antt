@@ -4,10 +4,10 @@ use Rattle.rx_terms.specs.Text.{Chars}
 use Rattle.rx_grammar.specs.declared.stops.Stop.{Stop}
 use Rattle.rx_microdata.specs.Elements.{Placed, is_item}
 use Rattle.rx_microdata.specs.Visits.{Visit, visits_from}
-use Rattle.rx_item_table.specs.Rows.{properties_in}
-use Rattle.rx_item_properties.specs.Held.{AllStand, IsElement, places}
-use Rattle.rx_item_properties.specs.declared.kept.Element.{Element}
-use Rattle.rx_item_properties.specs.declared.kept.Kept.{Kept}
+use Rattle.rx_items.specs.Rows.{properties_in}
+use Rattle.rx_items.specs.Held.{AllStand, IsElement, places}
+use Rattle.rx_items.specs.declared.kept.Element.{Element}
+use Rattle.rx_items.specs.declared.kept.Kept.{Kept}
 use Rattle.rx_items.specs.Expanding.{At, Finds, again, steps_in, steps_of, visits_in}
 use Rattle.rx_items.specs.declared.visits.Trail.{Trail}
 

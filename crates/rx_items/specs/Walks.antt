@@ -10,15 +10,15 @@ use Rattle.rx_grammar.specs.declared.stops.Stop.TheVariants as stop
 use Rattle.rx_scan.specs.Entries.{IsNoMemory}
 use Rattle.rx_scan.specs.Steps.{is_quiet}
 use Rattle.rx_nest.specs.Nests.{IsBetween}
-use Rattle.rx_reading.specs.Readings as readings
-use Rattle.rx_reading.specs.Readings.{Read, Whole}
+use Rattle.rx_nest.specs.Readings as readings
+use Rattle.rx_nest.specs.Readings.{Read, Whole}
 use Rattle.rx_microdata.specs.Base.{base_in}
-use Rattle.rx_item_table.specs.Growing.{IsIdle}
-use Rattle.rx_item_table.specs.Rows.{rows_of}
-use Rattle.rx_item_properties.specs.Held.{HoldsRows}
+use Rattle.rx_items.specs.Growing.{IsIdle}
+use Rattle.rx_items.specs.Rows.{rows_of}
+use Rattle.rx_items.specs.Held.{HoldsRows}
 use Rattle.rx_items.specs.Collecting.{Setting, way_of, Collects}
 use Rattle.rx_items.specs.declared.collectors.Collector.{Collector}
-use Rattle.rx_item_properties.specs.declared.kept.Kept.{Kept}
+use Rattle.rx_items.specs.declared.kept.Kept.{Kept}
 
 -- the page's elements as they are read, what is kept of them, the fault that was answered, and want of memory
 abbrev pub Walked : Type 0

@@ -6,16 +6,15 @@ ghost use Rattle.rx_rdfa.specs.Base.{base_by};
 ghost use Rattle.rx_terms.specs.Text.{seen_slice};
 ghost use Rattle.rx_nest.specs.Nests.{tag_shown};
 ghost use Rattle.rx_nest.specs.Signs.{begun, said, finished};
-ghost use Rattle.rx_reading.specs.Ways.{none_refuses};
+ghost use Rattle.rx_nest.specs.Ways.{none_refuses};
 ghost use Rattle.rx_base.specs.Seekings.{known, seek_begun, seek_finished};
 ghost use Rattle.rx_base.specs.Tags.{tag_of};
 ghost use Rattle.rx_items.specs.Collecting.{BaseIs, BaseMoves, Collects, CollectsMore, Setting, way_of};
-ghost use Rattle.rx_item_table.specs.Growing.{IsIdle};
+ghost use Rattle.rx_items.specs.Growing.{IsIdle};
 
+use crate::tables::Table;
 use rx_base::{Clue, Sought, base};
-use rx_item_table::Table;
-use rx_nest::{Event, Stop, Tag};
-use rx_reading::Listener;
+use rx_nest::{Event, Listener, Stop, Tag};
 use rx_terms::{Iri, NoMemory};
 use std::alloc::Global;
 

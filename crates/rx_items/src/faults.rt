@@ -1,14 +1,14 @@
 //! The first faulty visit of a page's items. No JSON is made.
 ghost use Rattle.std.specs.Prelude.{◌≡◌, ⊤, OnOk};
-ghost use Rattle.rx_item_properties.specs.Held.{OfRows};
+ghost use Rattle.rx_items.specs.Held.{OfRows};
 ghost use Rattle.rx_items.specs.Expanding.{Finds, count_of};
 ghost use Rattle.rx_items.specs.Pages.{AtTop, VisitsGive, top_visits};
 ghost use Rattle.rx_items.specs.Visiting.{AtItem, AtRow, AtRows, Passes, visits_again, visits_among, visits_below, visits_by_name, visits_to};
 
+use crate::elements::{element_at, is_item_at, is_top_at};
+use crate::gathering::{listed, properties};
+use crate::kept::{Element, Kept, Tokens};
 use crate::visits::{Trail, enter, leave};
-use rx_item_properties::{
-    Element, Kept, Tokens, element_at, is_item_at, is_top_at, listed, properties,
-};
 use rx_tags::Stop;
 use std::alloc::Global;
 

@@ -4,13 +4,14 @@ ghost use Rattle.rx_microdata.specs.Elements.{elements_of};
 ghost use Rattle.rx_terms.specs.Text.{Chars};
 ghost use Rattle.rx_microdata.specs.Json.{outcome_of};
 ghost use Rattle.rx_microdata.specs.Visits.{standard_bounds};
-ghost use Rattle.rx_item_table.specs.Rows.{rows_of};
-ghost use Rattle.rx_item_properties.specs.Held.{HoldsRows};
+ghost use Rattle.rx_items.specs.Rows.{rows_of};
+ghost use Rattle.rx_items.specs.Held.{HoldsRows};
 ghost use Rattle.rx_items.specs.Pages.{JsonGives, TextGives};
 
+use crate::keeping::kept_of;
+use crate::kept::Kept;
 use crate::pages::{page_of, text_of};
-use rx_item_properties::{Kept, kept_of};
-use rx_item_table::Table;
+use crate::tables::Table;
 use rx_tags::Stop;
 use rx_terms::{Iri, NoMemory};
 use serde_json::Value;
@@ -24,7 +25,7 @@ pub struct Items {
 }
 
 impl Model for Items {
-    ghost use Rattle.rx_item_properties.specs.declared.kept.Kept.{Kept};
+    ghost use Rattle.rx_items.specs.declared.kept.Kept.{Kept};
 
     ghost Value = { Kept };
 
@@ -33,7 +34,7 @@ impl Model for Items {
 
 impl Items {
     ghost use Rattle.std.specs.Prelude.{IfOk};
-    ghost use Rattle.rx_item_table.specs.Showing.{ShowsRows};
+    ghost use Rattle.rx_items.specs.Showing.{ShowsRows};
 
     /// The items of a page that has ended with this table, whose references are resolved against this base.
     pub(crate) fn of_table(alloc: Global, table: Table, base: Iri) -> Result<Items, NoMemory>

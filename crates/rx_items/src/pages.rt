@@ -1,13 +1,13 @@
 //! The JSON of a page's top-level items. Faults are found before anything is written, since they come in tree order, and
 //! what is written goes by names.
 ghost use Rattle.rx_microdata.specs.Visits.{standard_bounds};
-ghost use Rattle.rx_item_table.specs.Rows.{outcome_in};
-ghost use Rattle.rx_item_properties.specs.Held.{OfRows};
+ghost use Rattle.rx_items.specs.Rows.{outcome_in};
+ghost use Rattle.rx_items.specs.Held.{OfRows};
 ghost use Rattle.rx_items.specs.Pages.{JsonGives, TextGives};
 
 use crate::faults::visit_all;
+use crate::kept::Kept;
 use crate::writing::{value, written};
-use rx_item_properties::Kept;
 use rx_tags::Stop;
 use serde_json::Value;
 use std::alloc::Global;

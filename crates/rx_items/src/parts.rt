@@ -6,19 +6,18 @@ ghost use Rattle.rx_json.specs.Events.{Grows, data_events, each_events, members_
 ghost use Rattle.rx_refs.specs.Resolve.{resolved};
 ghost use Rattle.rx_microdata.specs.Facts.{said};
 ghost use Rattle.rx_microdata.specs.Json.{string_of, with_id, with_types};
-ghost use Rattle.rx_item_properties.specs.Held.{OfWord};
+ghost use Rattle.rx_items.specs.Held.{OfWord};
 ghost use Rattle.rx_items.specs.Objects.{OfTokens, OfValue};
 
-use rx_item_properties::{Kept, Tokens};
-use rx_item_table::{RowValue, Span, text_of};
+use crate::kept::{Kept, Tokens};
+use crate::rows::RowValue;
+use crate::spans::{Span, text_of};
+use rx_json::OUT_OF_MEMORY;
 use rx_refs::resolve;
 use rx_terms::{Iri, Text};
 use rx_values::TextStore;
 use serde::Serializer;
 use std::alloc::Global;
-
-/// What a serializer is told where there is no memory left.
-pub(crate) const OUT_OF_MEMORY: &str = "out of memory";
 
 /// Writes the member of an item's id, where it has one.
 pub(crate) fn write_id<S: Serializer>(

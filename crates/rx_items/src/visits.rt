@@ -3,8 +3,8 @@ ghost use Rattle.std.specs.Prelude.{◌≡◌, ◌++◌, ◌∷◌, [], ℕ, Lis
 ghost use Rattle.std.specs.List.{list_any};
 ghost use Rattle.rx_items.specs.Expanding.{Enters, kind_of};
 
+use crate::kept::Element;
 use rx_grammar::{Fault, Kind};
-use rx_item_properties::Element;
 use rx_tags::Stop;
 
 /// How many items may stand on a path.

@@ -1,15 +1,14 @@
 //! The items of a page that is read in pieces.
 ghost use Rattle.std.specs.Prelude.{◌≡◌, ℕ, List, [], IfOk};
-ghost use Rattle.rx_reading.specs.Falling.{Answered, MayAnswer};
-ghost use Rattle.rx_reading.specs.FaultPlaces.{PlaceGives};
-ghost use Rattle.rx_reading.specs.Readings.{IsWhole};
+ghost use Rattle.rx_nest.specs.Falling.{Answered, MayAnswer};
+ghost use Rattle.rx_nest.specs.FaultPlaces.{PlaceGives};
+ghost use Rattle.rx_nest.specs.Readings.{IsWhole};
 ghost use Rattle.rx_items.specs.Collecting.{Collects, Setting, way_of};
 ghost use Rattle.rx_items.specs.Walks as walks;
 
 use crate::collectors::{Base, Collector};
 use crate::items::Items;
-use rx_nest::{Limits, Stop, Syntax};
-use rx_reading::Reading;
+use rx_nest::{Limits, Reading, Stop, Syntax};
 use rx_terms::{Iri, NoMemory};
 use std::alloc::Global;
 use std::marker::Model;

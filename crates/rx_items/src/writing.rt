@@ -3,15 +3,16 @@ ghost use Rattle.std.specs.Prelude.{◌≡◌, ◌++◌, None, Some, IfOk, OnOk}
 ghost use Rattle.serde_json.specs.View.{view};
 ghost use Rattle.serde_json.specs.Written.{compact_text};
 ghost use Rattle.rx_json.specs.Events.{Grows, data_events, each_events};
-ghost use Rattle.rx_item_properties.specs.Held.{OfRows};
+ghost use Rattle.rx_items.specs.Held.{OfRows};
 ghost use Rattle.rx_items.specs.Named.{OfItem, OfPlain, OfRow, ending, events_behind, item_data, key_seen, keys_seen, name_seen, opening, properties_data, value_at, value_behind};
 ghost use Rattle.rx_items.specs.Pages.{page_data, top_data, tops_data};
 
+use crate::elements::{element_at, is_item_at, is_top_at, value_at};
+use crate::kept::{Element, Kept};
 use crate::named::{Named, by_name};
-use crate::parts::{OUT_OF_MEMORY, write_id, write_plain, write_types};
+use crate::parts::{write_id, write_plain, write_types};
 use crate::visits::NESTED;
-use rx_item_properties::{Element, Kept, element_at, is_item_at, is_top_at, value_at};
-use rx_json::{text_of, value_of};
+use rx_json::{OUT_OF_MEMORY, text_of, value_of};
 use rx_terms::NoMemory;
 use serde::{Described, Serialize, Serializer};
 use serde_json::Value;

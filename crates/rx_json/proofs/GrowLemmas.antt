@@ -1,5 +1,5 @@
 -- Events one behind another.
-use Rattle.std.proofs.Common.{◌≡◌, ◌∙◌, List, [], ◌∷◌, ◌++◌, refl, sym, ap, append_assoc, append-nil, Some, None}
+use Rattle.std.proofs.Common.{◌≡◌, ◌∙◌, ◌+◌, ◌<◌, ◌≤◌, suc, List, [], ◌∷◌, ◌++◌, length, map, drop, drop-cons, drop_of_length-le, get_or, refl, sym, ap, arith, append_assoc, append-nil, Some, None}
 use Rattle.std.specs.Prelude.{ℕ, OnOk, Result, Ok, Err}
 use Rattle.serde.specs.Event as event
 use Rattle.serde.specs.Event.{Event, Log, Logs}
@@ -71,3 +71,15 @@ group_made {old} {begun} {each} {new} keyed name ds k b g e = both (one old keye
 pub then_ok : {X E P Q : Type 0} (r : Result X E) → (P → Q) → OnOk r P → OnOk r Q
 then_ok (Ok x) f p = f p
 then_ok (Err e) f p = p
+
+-- ---- values in a row: one more is written, and none is left
+
+pub cut : {A : Type 0} (xs : List A) (i : ℕ) (x : A) → i < length xs → drop i xs ≡ get_or xs i x ∷ drop (i + 1) xs
+cut xs i x lt = let next : suc i ≡ i + 1 = omega arith in drop-cons xs i x lt ∙ ap (λ (n : ℕ). get_or xs i x ∷ drop n xs) next
+
+pub row_turn : {A : Type 0} (f : A → Data) (xs : List A) (i : ℕ) (x : A) → i < length xs
+    → data_events (f (get_or xs i x)) ++ each_events (map f (drop (i + 1) xs)) ≡ each_events (map f (drop i xs))
+row_turn {A} f xs i x lt = sym (ap (λ (ys : List A). each_events (map f ys)) (cut xs i x lt))
+
+pub row_end : {A : Type 0} (f : A → Data) (xs : List A) (i : ℕ) → length xs ≤ i → each_events (map f (drop i xs)) ≡ []
+row_end {A} f xs i done = ap (λ (ys : List A). each_events (map f ys)) (drop_of_length-le xs done)

@@ -6,4 +6,4 @@
 mod texts;
 
 pub use rx_terms::NoMemory;
-pub use texts::{text_of, value_of};
+pub use texts::{OUT_OF_MEMORY, text_of, value_of};

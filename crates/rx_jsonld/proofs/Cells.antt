@@ -3,25 +3,22 @@ use Rattle.std.proofs.Common.{◌≡◌, ◌↔◌, ◌∙◌, ◌⊎◌, ◌<�
 use Rattle.rx_terms.specs.Text.{Chars}
 use Rattle.rx_model.specs.Sets.{Among}
 use Rattle.rx_model.specs.Terms.{Node, Iri, Blank, Term, Resource, Literal, Triple, set_of}
-use Rattle.rx_model.specs.Copied.{rdf_type, spo}
+use Rattle.rx_model.specs.Copied.{spo}
+use Rattle.rx_model.specs.Vocabulary.{rdf_type, rdf_first, rdf_rest, rdf_nil}
 use Rattle.rx_model.proofs.Sets.{Among_flat_map, Among_of_flat_map, Among-contains, Among_by_contains, false_unless, and_left, and_right, and_both}
 use Rattle.rx_model.proofs.Exact.{exact_numbers, exact_texts}
-use Rattle.rx_shapes.specs.Shapes.{rdf_first, rdf_rest, rdf_nil, Ends, onward, Cell, IsShape}
+use Rattle.rx_shapes.specs.Shapes.{Ends, onward, Cell, IsShape, HaveShapes}
 use Rattle.rx_shapes.specs.declared.shapes.Shape.{Shape}
 use Rattle.rx_shapes.specs.declared.shapes.Shape.TheVariants as shape
-use Rattle.rx_notation.specs.Layout.{objects_of}
-use Rattle.rx_nested.specs.Laws.{HaveShapes}
-use Rattle.rx_nested.proofs.Heights.{Differ, height, height_once, heights_alike}
-use Rattle.rx_nested.proofs.Nodes.{CellOf, cell_of, cell_inner, first_some, first_each, rest_some, rest_each, Enough, none_left, child_enough, first_enough}
+use Rattle.rx_shapes.specs.Subjects.{objects_of}
+use Rattle.rx_shapes.proofs.Heights.{Differ, height, height_once, heights_alike}
+use Rattle.rx_shapes.proofs.CellLemmas.{CellOf, cell_of, cell_inner, first_some, first_each, rest_some, rest_each, Enough, none_left, child_enough, first_enough, first_is_not_rest}
 use Rattle.rx_jsonld.specs.Laws.{ListsCells}
 use Rattle.rx_jsonld.specs.Lists.{GoesOn, IsListed, first_one, later_one, first_of, object_at, blank_in, numbers_from, chain, is_cell_by, is_cell, may_list, cell_by, first_cell, cells_at, listed, is_listed}
 
 only_one : {A : Type 0} (xs : List A) (x : A) → Among xs x → ((y : A) → Among xs y → y ≡ x) → first_of xs ≡ Some x
 only_one [] x m h = absurd m
 only_one (y ∷ xs) x m h = ap Some (h y (inl refl))
-
-first_is_not_rest : rdf_first ≡ rdf_rest → ⊥
-first_is_not_rest e = true≢false (ap (bytes_eq rdf_first) e)
 
 -- what comes after a cell that is followed by these
 abbrev pub node_after : List ℕ → Node ℕ

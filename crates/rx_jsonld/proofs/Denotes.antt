@@ -12,23 +12,23 @@ use Rattle.rx_model.specs.Copied.{spo}
 use Rattle.rx_model.specs.Numbered.{rename_node, rename_term, rename, blank_of_node, blank_of_term, blanks_of, place_in, Has, Renamed}
 use Rattle.rx_model.proofs.Sets.{Among_right, Among_cases, Among_map, Among_of_map, Among_filter, Among_of_filter, Among_flat_map, Among_of_flat_map, Among_by_contains, Among-contains, Among_of_distinct, false_unless, not_true}
 use Rattle.rx_model.proofs.Exact.{exact_numbers, exact_triples}
-use Rattle.rx_nquads.specs.Quads.{proper_term}
-use Rattle.rx_pieces.specs.Writable.{WritableNode, WritableTerm}
-use Rattle.rx_shapes.specs.Shapes.{rdf_first, rdf_rest}
+use Rattle.rx_nquads.specs.Quads.{proper_term, proper_triple}
+use Rattle.rx_pieces.specs.Writable.{WritableNode, WritableTerm, IsWritable}
+use Rattle.rx_model.specs.Vocabulary.{rdf_first, rdf_rest}
 use Rattle.rx_shapes.specs.declared.shapes.Shape.{Shape}
-use Rattle.rx_notation.specs.Layout.{has_subject, about, subjects}
-use Rattle.rx_notation.specs.Laws.{IsWritable, proper_triple}
-use Rattle.rx_notation.proofs.Grouped.{same_nodes, subject_there}
-use Rattle.rx_nested.specs.Laws.{HaveShapes}
-use Rattle.rx_nested.proofs.Heights.{Differ}
-use Rattle.rx_nested.proofs.Once.{times, one_if, once_differ, differ_filter, distinct_differ}
+use Rattle.rx_shapes.specs.Subjects.{has_subject, about, subjects}
+use Rattle.rx_shapes.proofs.Grouped.{same_nodes, subject_there}
+use Rattle.rx_shapes.specs.Shapes.{HaveShapes}
+use Rattle.rx_shapes.proofs.Heights.{Differ}
+use Rattle.rx_shapes.proofs.Times.{times, one_if, once_differ, differ_filter, distinct_differ}
 use Rattle.rx_jsonld.specs.Lists.{cells_at, listed, is_listed}
 use Rattle.rx_jsonld.specs.Value.{node_value, tops, jsonld}
 use Rattle.rx_jsonld.specs.Meaning.{all_triples, Name, Label, Place, JsonLd}
 use Rattle.rx_jsonld.specs.Laws.{ValueDenotes}
 use Rattle.rx_jsonld.proofs.Cells.{IsChain, cells_chain, chain_differs, one_root, of_listed, to_listed, listed_there, there_listed, root_subject}
 use Rattle.rx_jsonld.proofs.Parts.{PartStands, Naming, FreeNode, label_of, item_is, cell_triples, told}
-use Rattle.rx_jsonld.proofs.Docs.{times_both, Docs, docs}
+use Rattle.rx_jsonld.proofs.Docs.{Docs, docs}
+use Rattle.rx_shapes.proofs.Times.{times_append}
 
 -- ---- counts
 
@@ -70,7 +70,7 @@ once_in_all f b [] d one root = omega arith
 once_in_all {A} f b (x ∷ xs) d one root = go (contains nat_eq (f x) b) refl (once_in_all f b xs d.1 (λ y m. one y (inr m)) (λ y z m n. root y z (inr m) (inr n)))
   where
     both : times b (f x ++ flat_map f xs) ≡ times b (f x) + times b (flat_map f xs)
-    both = times_both b (f x) (flat_map f xs)
+    both = times_append b (f x) (flat_map f xs)
 
     go : (t : Bool) → contains nat_eq (f x) b ≡ t → times b (flat_map f xs) ≤ 1 → times b (f x ++ flat_map f xs) ≤ 1
     go true e rest =

@@ -10,9 +10,9 @@ use Rattle.rx_model.specs.Terms.{Node, Iri, Resource, Triple}
 use Rattle.rx_model.specs.Numbered.{rename}
 use Rattle.rx_model.proofs.Sets.{Among_left, Among_right, Among_cases}
 use Rattle.rx_shapes.specs.declared.shapes.Shape.{Shape}
-use Rattle.rx_notation.specs.Layout.{about}
-use Rattle.rx_nested.specs.Laws.{HaveShapes}
-use Rattle.rx_nested.proofs.Once.{times}
+use Rattle.rx_shapes.specs.Subjects.{about}
+use Rattle.rx_shapes.specs.Shapes.{HaveShapes}
+use Rattle.rx_shapes.proofs.Times.{times, times_append}
 use Rattle.rx_jsonld.specs.Lists.{cells_at, is_listed}
 use Rattle.rx_jsonld.specs.Value.{string_of, id_text, with_said, with_all, node_value}
 use Rattle.rx_jsonld.specs.Document.{Id, NodeObject, Document, SpellsEach, SpellsNode, ids}
@@ -22,15 +22,11 @@ use Rattle.rx_jsonld.proofs.Entries.{Part, part_cells, part_triples, part_entrie
 
 -- ---- counts
 
-pub times_both : (b : ℕ) (xs ys : List ℕ) → times b (xs ++ ys) ≡ times b xs + times b ys
-times_both b [] ys = omega arith
-times_both b (x ∷ xs) ys = let e = times_both b xs ys in omega (arith, e)
-
 times_put : (b : ℕ) (middle old new : List ℕ) → Inserted middle old new → times b new ≡ times b old + times b middle
 times_put b middle old new i =
-    let was : times b old ≡ times b i.front + times b i.behind = ap (times b) i.was ∙ times_both b i.front i.behind in
-    let inner = times_both b middle i.behind in
-    let is : times b new ≡ times b i.front + times b (middle ++ i.behind) = ap (times b) i.is ∙ times_both b i.front (middle ++ i.behind) in
+    let was : times b old ≡ times b i.front + times b i.behind = ap (times b) i.was ∙ times_append b i.front i.behind in
+    let inner = times_append b middle i.behind in
+    let is : times b new ≡ times b i.front + times b (middle ++ i.behind) = ap (times b) i.is ∙ times_append b i.front (middle ++ i.behind) in
     omega (arith, was, inner, is)
 
 module _ {A : Type 0} (middle old new : List A) (i : Inserted middle old new) (a : A) where
@@ -85,7 +81,7 @@ module _ (list : List (Triple ℕ)) (shapes : ℕ → Shape) (have : HaveShapes 
           count = λ b.
               let a = rest.count b in
               let c = times_put b (cells_at shapes list t) (part_cells parts) (part_cells step.now) step.cells_put in
-              let d = times_both b (cells_at shapes list t) (cells_by ts) in
+              let d = times_append b (cells_at shapes list t) (cells_by ts) in
               omega (arith, a, c, d);
           from = λ u m. elim (rest.from u m) [
             | inl k ↦ elim (from_put (told list shapes t) (part_triples parts) (part_triples step.now) step.triples_put u k) [
@@ -177,8 +173,8 @@ module _ (list : List (Triple ℕ)) (shapes : ℕ → Shape) (have : HaveShapes 
             ap₂ (λ a b. a ++ b) (first.named names naming n (stands_front names n first.cells rest.cells k)) (rest.named names naming (n + cells_of_all first.node) behind_it)
             ∙ sym (map-append (rename names) first.triples rest.triples);
         count = λ b.
-            times_both b first.cells rest.cells ∙ ap₂ (λ x y. x + y) (first.count b) (rest.count b)
-            ∙ sym (times_both b (cells_by (about list s)) (flat_map (λ (r : Node ℕ). cells_by (about list r)) ss));
+            times_append b first.cells rest.cells ∙ ap₂ (λ x y. x + y) (first.count b) (rest.count b)
+            ∙ sym (times_append b (cells_by (about list s)) (flat_map (λ (r : Node ℕ). cells_by (about list r)) ss));
         from = λ u m. elim (Among_cases first.triples rest.triples u m) [
           | inl k ↦ (s, inl refl, first.from u k)
           | inr k ↦ let f = rest.from u k in (f.0, inr f.1, f.2)

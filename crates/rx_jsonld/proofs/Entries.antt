@@ -11,18 +11,18 @@ use Rattle.rx_terms.specs.Iri.{IsIri}
 use Rattle.rx_terms.specs.Text.{Chars}
 use Rattle.rx_model.specs.Sets.{Among}
 use Rattle.rx_model.specs.Terms.{Node, Iri, Blank, Term, Resource, Literal, Triple}
-use Rattle.rx_model.specs.Copied.{rdf_type, spo}
+use Rattle.rx_model.specs.Copied.{spo}
+use Rattle.rx_model.specs.Vocabulary.{rdf_type, rdf_first, rdf_rest}
 use Rattle.rx_model.specs.Numbered.{rename_node, rename_term, rename}
 use Rattle.rx_model.proofs.Exact.{exact_texts}
 use Rattle.rx_graph.specs.Resources.{resource_of}
 use Rattle.rx_nquads.specs.Quads.{proper_term}
-use Rattle.rx_shapes.specs.Shapes.{rdf_first, rdf_rest}
 use Rattle.rx_shapes.specs.declared.shapes.Shape.{Shape}
-use Rattle.rx_nested.specs.Laws.{HaveShapes}
+use Rattle.rx_shapes.specs.Shapes.{HaveShapes}
 use Rattle.rx_jsonld.specs.Lists.{is_cell_by, is_cell, may_list, cell_by, first_cell, cells_at, is_listed}
 use Rattle.rx_jsonld.specs.Value.{string_of, id_text, type_by, type_of, object_value, said_by, with_said}
 use Rattle.rx_jsonld.specs.Members.{items_and, behind, with_last}
-use Rattle.rx_jsonld.specs.Document.{Object, Entry, Id, Types, Says, SpellsEach, SpellsArray, SpellsText, SpellsObject, SpellsEntry, SpellsEntries, id_in, ids}
+use Rattle.rx_jsonld.specs.Document.{Object, Entry, Id, Types, Property, SpellsEach, SpellsArray, SpellsText, SpellsObject, SpellsEntry, SpellsEntries, id_in, ids}
 use Rattle.rx_jsonld.specs.Meaning.{cells_in, cells_in_all, cells_of, cells_of_all, node_of, object_triples, objects_triples, type_triple, entry_triples, entries_triples, Name, Label, Place}
 use Rattle.rx_jsonld.proofs.OneDocument.{id_is_no_iri, type_is_no_iri}
 use Rattle.rx_jsonld.proofs.Cells.{cells_none}
@@ -231,7 +231,7 @@ module _ (list : List (Triple ℕ)) (shapes : ℕ → Shape) (s : Node ℕ) wher
 
     says_fresh : Fresh (encode_utf8_all t.predicate) (object_value list shapes t) (cells_at shapes list t) (told list shapes t)
     says_fresh = record {
-      part = record { entry = Says t.predicate (the_object.object ∷ []); cells = cells_at shapes list t; triples = told list shapes t };
+      part = record { entry = Property t.predicate (the_object.object ∷ []); cells = cells_at shapes list t; triples = told list shapes t };
       fine = record {
         spelled = (refl, predicates t m, (item (object_value list shapes t) no_items, refl, (the_object.spelled, tt)));
         size = let size : cells_in the_object.object ≡ length (cells_at shapes list t) = the_object.size in omega (arith, size);
@@ -245,12 +245,12 @@ module _ (list : List (Triple ℕ)) (shapes : ℕ → Shape) (s : Node ℕ) wher
     says_extends : (old : Data) (part : Part) → Fine (encode_utf8_all t.predicate) old part → Extended (encode_utf8_all t.predicate) (object_value list shapes t) (cells_at shapes list t) (told list shapes t) old part
     says_extends old part fine = go part.entry refl
       where
-        says : (q : Chars) (objects : List Object) → part.entry ≡ Says q objects → SpellsEntry (encode_utf8_all t.predicate) old (Says q objects) → Extended (encode_utf8_all t.predicate) (object_value list shapes t) (cells_at shapes list t) (told list shapes t) old part
+        says : (q : Chars) (objects : List Object) → part.entry ≡ Property q objects → SpellsEntry (encode_utf8_all t.predicate) old (Property q objects) → Extended (encode_utf8_all t.predicate) (object_value list shapes t) (cells_at shapes list t) (told list shapes t) old part
         says q objects e spelled =
             let same : q ≡ t.predicate = sym (encodes_same t.predicate q spelled.0) in
             let size : cells_in_all objects ≡ length part.cells = sym (ap cells_of e) ∙ fine.size in
             record {
-              now = record { entry = Says q (objects ++ the_object.object ∷ []); cells = part.cells ++ cells_at shapes list t; triples = part.triples ++ told list shapes t };
+              now = record { entry = Property q (objects ++ the_object.object ∷ []); cells = part.cells ++ cells_at shapes list t; triples = part.triples ++ told list shapes t };
               fine = record {
                 spelled = (spelled.0, spelled.1, array_more SpellsObject old (object_value list shapes t) objects the_object.object spelled.2 the_object.spelled);
                 size = cells_more objects the_object.object ∙ ap₂ (λ a b. a + b) size the_object.size ∙ sym (length-append part.cells (cells_at shapes list t));
@@ -270,7 +270,7 @@ module _ (list : List (Triple ℕ)) (shapes : ℕ → Shape) (s : Node ℕ) wher
         go : (entry : Entry) → part.entry ≡ entry → Extended (encode_utf8_all t.predicate) (object_value list shapes t) (cells_at shapes list t) (told list shapes t) old part
         go (Id id) e = id_is_no_iri t.predicate (predicates t m) (sym (subst (SpellsEntry (encode_utf8_all t.predicate) old) e fine.spelled).0)
         go (Types types) e = type_is_no_iri t.predicate (predicates t m) (sym (subst (SpellsEntry (encode_utf8_all t.predicate) old) e fine.spelled).0)
-        go (Says q objects) e = says q objects e (subst (SpellsEntry (encode_utf8_all t.predicate) old) e fine.spelled)
+        go (Property q objects) e = says q objects e (subst (SpellsEntry (encode_utf8_all t.predicate) old) e fine.spelled)
 
     -- ---- a type
 
@@ -324,7 +324,7 @@ module _ (list : List (Triple ℕ)) (shapes : ℕ → Shape) (s : Node ℕ) wher
           go : (entry : Entry) → part.entry ≡ entry → Extended (codes "@type") (string_of (id_text node)) (cells_at shapes list t) (told list shapes t) old part
           go (Id id) e = absurd (true≢false (ap (bytes_eq (codes "@type")) ((subst (SpellsEntry (codes "@type") old) e fine.spelled).0)))
           go (Types types) e = types_more types e (subst (SpellsEntry (codes "@type") old) e fine.spelled)
-          go (Says q objects) e = let spelled = subst (SpellsEntry (codes "@type") old) e fine.spelled in type_is_no_iri q spelled.1 spelled.0
+          go (Property q objects) e = let spelled = subst (SpellsEntry (codes "@type") old) e fine.spelled in type_is_no_iri q spelled.1 spelled.0
 
     -- ---- either
 

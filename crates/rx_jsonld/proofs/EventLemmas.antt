@@ -1,16 +1,16 @@
 -- The events of lists, of values in a row, of literals, and of what a triple says.
-use Rattle.std.proofs.Common.{◌≡◌, ◌∙◌, ◌+◌, ◌<◌, ◌≤◌, ℕ, suc, Bool, true, if◌then◌else◌, List, [], ◌∷◌, ◌++◌, length, map, drop, drop-cons, drop_of_length-le, get_or, codes, encode_utf8_all, Option, Some, None, refl, sym, ap, arith, append_assoc, append-nil}
+use Rattle.std.proofs.Common.{◌≡◌, ◌∙◌, ◌+◌, ◌<◌, ◌≤◌, ℕ, suc, Bool, true, if◌then◌else◌, List, [], ◌∷◌, ◌++◌, length, map, drop, drop_of_length-le, get_or, codes, encode_utf8_all, Option, Some, None, refl, sym, ap, arith, append_assoc, append-nil}
 use Rattle.std.specs.Prelude.{IfOk, OnOk, Result, Ok, Err}
 use Rattle.serde.specs.Event as event
 use Rattle.serde.specs.Event.{Event, Log}
 use Rattle.serde.specs.declared.name.Case.TheVariants.{AsIs}
 use Rattle.serde_json.specs.Data.{Data}
 use Rattle.rx_json.specs.Events.{Grows, data_events, each_events, members_events}
-use Rattle.rx_json.proofs.GrowLemmas.{both, told_as, each_items}
+use Rattle.rx_json.proofs.GrowLemmas.{both, told_as, each_items, cut}
 use Rattle.rx_terms.specs.Text.{Chars}
 use Rattle.rx_model.specs.Terms.{Kind, Tagged, Typed, Node, Triple}
 use Rattle.rx_shapes.specs.declared.shapes.Shape.{Shape}
-use Rattle.rx_notation.specs.Laws.{IsWritable}
+use Rattle.rx_pieces.specs.Writable.{IsWritable}
 use Rattle.rx_jsonld.specs.Groups.{value_by, value_said}
 use Rattle.rx_jsonld.specs.Lists.{chain, first_cell, numbers_from}
 use Rattle.rx_jsonld.specs.Value.{item_value, list_from, list_value, literal_members, node_value, object_by, object_value, plain_value, type_of}
@@ -42,16 +42,6 @@ if_ok (Ok x) f p = f x p
 if_ok (Err e) f p = p
 
 -- ---- values in a row
-
-cut : {A : Type 0} (xs : List A) (i : ℕ) (x : A) → i < length xs → drop i xs ≡ get_or xs i x ∷ drop (i + 1) xs
-cut xs i x lt = let next : suc i ≡ i + 1 = omega arith in drop-cons xs i x lt ∙ ap (λ (n : ℕ). get_or xs i x ∷ drop n xs) next
-
-pub row_turn : {A : Type 0} (f : A → Data) (xs : List A) (i : ℕ) (x : A) → i < length xs
-    → data_events (f (get_or xs i x)) ++ each_events (map f (drop (i + 1) xs)) ≡ each_events (map f (drop i xs))
-row_turn {A} f xs i x lt = sym (ap (λ (ys : List A). each_events (map f ys)) (cut xs i x lt))
-
-pub row_end : {A : Type 0} (f : A → Data) (xs : List A) (i : ℕ) → length xs ≤ i → each_events (map f (drop i xs)) ≡ []
-row_end {A} f xs i done = ap (λ (ys : List A). each_events (map f ys)) (drop_of_length-le xs done)
 
 pub cells_turn : {A : Type 0} (f : ℕ → Data) (g : A → ℕ) (xs : List A) (i : ℕ) (x : A) → i < length xs
     → data_events (f (g (get_or xs i x))) ++ each_events (map f (map g (drop (i + 1) xs))) ≡ each_events (map f (map g (drop i xs)))

@@ -18,8 +18,8 @@ use Rattle.rx_model.specs.Sets.{Among}
 use Rattle.rx_model.specs.Terms.{Node, Triple}
 use Rattle.rx_model.proofs.Sets.{Among_of_filter}
 use Rattle.rx_shapes.specs.declared.shapes.Shape.{Shape}
-use Rattle.rx_notation.specs.Layout.{has_subject, about}
-use Rattle.rx_notation.specs.Laws.{IsWritable}
+use Rattle.rx_shapes.specs.Subjects.{has_subject, about}
+use Rattle.rx_pieces.specs.Writable.{IsWritable}
 use Rattle.rx_jsonld.specs.Groups.{key_by, key_of, value_by, value_said, value_at, values_at, grouped}
 use Rattle.rx_jsonld.specs.Places.{with_found}
 use Rattle.rx_jsonld.specs.Value.{id_text, string_of, type_of, said_by, with_said, with_all, node_value}

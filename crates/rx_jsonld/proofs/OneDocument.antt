@@ -8,8 +8,8 @@ use Rattle.rx_terms.specs.Iri.{IsIri, begins_with_scheme}
 use Rattle.rx_terms.specs.Ascii.{is_letter}
 use Rattle.rx_model.specs.Terms.{Kind, Plain, Tagged, Typed, set_of}
 use Rattle.rx_model.specs.Numbered.{Renamed}
-use Rattle.rx_notation.proofs.Renamings.{renamed_across}
-use Rattle.rx_jsonld.specs.Document.{Item, Reference, Value, Single, Several, Entry, Id, Types, Says, Document, SpellsEach, SpellsArray, SpellsText, SpellsItem, SpellsObject, SpellsValue, SpellsEntry, SpellsEntries, SpellsNode, AreTwo, one, SpellsOne}
+use Rattle.rx_model.proofs.Renamings.{renamed_across}
+use Rattle.rx_jsonld.specs.Document.{Item, Reference, Value, Single, ListObject, Entry, Id, Types, Property, Document, SpellsEach, SpellsArray, SpellsText, SpellsItem, SpellsObject, SpellsValue, SpellsEntry, SpellsEntries, SpellsNode, AreTwo, one, SpellsOne}
 use Rattle.rx_jsonld.specs.Meaning.{named_triples, DenotesOne}
 
 -- ---- arrays
@@ -137,11 +137,11 @@ list_is_no_item value d (Value a k) e (ms, h, s) = list_is_no_value d ms a k (sy
 
 object_once : AtMostOne SpellsObject
 object_once value (Single x) (Single y) h g = ap Single (item_once value x y h g)
-object_once value (Single x) (Several ys) h (d, e, g) = list_is_no_item value d x e h
-object_once value (Several xs) (Single y) (d, e, h) g = list_is_no_item value d y e g
-object_once value (Several xs) (Several ys) (d, e, h) (c, f, g) =
+object_once value (Single x) (ListObject ys) h (d, e, g) = list_is_no_item value d x e h
+object_once value (ListObject xs) (Single y) (d, e, h) g = list_is_no_item value d y e g
+object_once value (ListObject xs) (ListObject ys) (d, e, h) (c, f, g) =
     let same : c ≡ d = (one_of_members _ _ _ _ _ _ (object_same _ _ (sym f ∙ e))).1 in
-    ap Several (array_once SpellsItem item_once d xs ys h (subst (λ (z : Data). SpellsArray SpellsItem z ys) same g))
+    ap ListObject (array_once SpellsItem item_once d xs ys h (subst (λ (z : Data). SpellsArray SpellsItem z ys) same g))
 
 -- ---- members of node objects
 
@@ -156,13 +156,13 @@ type_is_no_iri p is e = keyword_is_no_iri (codes "type") (subst IsIri (sym (enco
 entry_once : (key : List ℕ) (value : Data) (a b : Entry) → SpellsEntry key value a → SpellsEntry key value b → a ≡ b
 entry_once key value (Id a) (Id b) h g = ap Id (text_once value a b h.1 g.1)
 entry_once key value (Id a) (Types b) h g = absurd (true≢false (ap (bytes_eq (codes "@id")) (sym h.0 ∙ g.0)))
-entry_once key value (Id a) (Says p b) h g = id_is_no_iri p g.1 (sym h.0 ∙ g.0)
+entry_once key value (Id a) (Property p b) h g = id_is_no_iri p g.1 (sym h.0 ∙ g.0)
 entry_once key value (Types a) (Id b) h g = absurd (true≢false (ap (bytes_eq (codes "@type")) (sym h.0 ∙ g.0)))
 entry_once key value (Types a) (Types b) h g = ap Types (array_once SpellsText text_once value a b h.1 g.1)
-entry_once key value (Types a) (Says p b) h g = type_is_no_iri p g.1 (sym h.0 ∙ g.0)
-entry_once key value (Says p a) (Id b) h g = id_is_no_iri p h.1 (sym g.0 ∙ h.0)
-entry_once key value (Says p a) (Types b) h g = type_is_no_iri p h.1 (sym g.0 ∙ h.0)
-entry_once key value (Says p a) (Says q b) h g = ap₂ Says (encodes_same p q (sym h.0 ∙ g.0)) (array_once SpellsObject object_once value a b h.2 g.2)
+entry_once key value (Types a) (Property p b) h g = type_is_no_iri p g.1 (sym h.0 ∙ g.0)
+entry_once key value (Property p a) (Id b) h g = id_is_no_iri p h.1 (sym g.0 ∙ h.0)
+entry_once key value (Property p a) (Types b) h g = type_is_no_iri p h.1 (sym g.0 ∙ h.0)
+entry_once key value (Property p a) (Property q b) h g = ap₂ Property (encodes_same p q (sym h.0 ∙ g.0)) (array_once SpellsObject object_once value a b h.2 g.2)
 
 entries_once : (ms : Members) (xs ys : List Entry) → SpellsEntries ms xs → SpellsEntries ms ys → xs ≡ ys
 entries_once no_members [] [] h g = refl

@@ -14,15 +14,14 @@ use Rattle.rx_model.specs.Copied.{spo}
 use Rattle.rx_model.specs.Numbered.{rename_node, rename_term, rename}
 use Rattle.rx_model.proofs.Sets.{and_right}
 use Rattle.rx_model.proofs.Exact.{exact_texts}
-use Rattle.rx_nquads.specs.Quads.{proper_term}
-use Rattle.rx_shapes.specs.Shapes.{rdf_first, rdf_rest, rdf_nil}
+use Rattle.rx_nquads.specs.Quads.{proper_term, proper_triple}
+use Rattle.rx_model.specs.Vocabulary.{rdf_first, rdf_rest, rdf_nil}
 use Rattle.rx_shapes.specs.declared.shapes.Shape.{Shape}
-use Rattle.rx_notation.specs.Laws.{proper_triple}
-use Rattle.rx_nested.specs.Laws.{HaveShapes}
+use Rattle.rx_shapes.specs.Shapes.{HaveShapes}
 use Rattle.rx_jsonld.specs.Lists.{object_at, first_cell, cells_at, is_listed}
 use Rattle.rx_jsonld.specs.Value.{id_text, literal_members, term_value, list_value, item_by, item_value, is_empty_list, may_be_empty, object_by, object_value}
 use Rattle.rx_jsonld.specs.Document as doc
-use Rattle.rx_jsonld.specs.Document.{Item, Reference, Object, Single, Several, Entry, Id, Types, Says, SpellsEach, SpellsArray, SpellsText, SpellsItem, SpellsObject, SpellsEntry, SpellsEntries, id_in, ids}
+use Rattle.rx_jsonld.specs.Document.{Item, Reference, Object, Single, ListObject, Entry, Id, Types, Property, SpellsEach, SpellsArray, SpellsText, SpellsItem, SpellsObject, SpellsEntry, SpellsEntries, id_in, ids}
 use Rattle.rx_jsonld.specs.Meaning.{label_in, cells_in, node_by, node_of, term_of, list_node, list_triples, object_triples, Name, Label, Place}
 use Rattle.rx_jsonld.proofs.OneDocument.{label_is_no_iri}
 use Rattle.rx_jsonld.proofs.Cells.{node_after, item_found, Link, IsChain, cells_chain, cells_none, cells_begin, item_free, object_free}
@@ -118,7 +117,7 @@ module _ (list : List (Triple ℕ)) (shapes : ℕ → Shape) where
       let same : item_value list b ≡ term_value (item_at b) = ap item_by (item_found list b links.0.of) ∙ ap term_value (sym (item_is b more links.0)) in
       (subst (λ (d : Data). SpellsItem d (item_doc (item_at b))) (sym same) (item_spelled (item_at b)), items_spelled more links.1)
 
-  list_spelled : (cells : List ℕ) → IsChain list cells → SpellsObject (list_value (map (item_value list) cells)) (Several (items_doc cells))
+  list_spelled : (cells : List ℕ) → IsChain list cells → SpellsObject (list_value (map (item_value list) cells)) (ListObject (items_doc cells))
   list_spelled cells links = (array (items_of (map (item_value list) cells)), refl, (items_of (map (item_value list) cells), refl, items_spelled cells links))
 
   triple_path : {B : Type 0} (s s' : Node B) (p : Chars) (o o' : Term B) → s ≡ s' → o ≡ o' → spo s p o ≡ spo s' p o'
@@ -172,8 +171,8 @@ module _ (list : List (Triple ℕ)) (shapes : ℕ → Shape) where
         let cells : List ℕ = cells_at shapes list t in
         let links : IsChain list cells = cells_chain list shapes have t in
         record {
-          object = Several (items_doc cells);
-          spelled = subst (λ (d : Data). SpellsObject d (Several (items_doc cells))) (sym (ap (object_by list shapes t) e)) (list_spelled cells links);
+          object = ListObject (items_doc cells);
+          spelled = subst (λ (d : Data). SpellsObject d (ListObject (items_doc cells))) (sym (ap (object_by list shapes t) e)) (list_spelled cells links);
           size = length-map cells (λ b. item_doc (item_at b));
           named = λ names naming s p n h'.
               let begins : Resource (list_node Label Place (items_doc cells) n) ≡ rename_term names (proper_term t.object) =
@@ -194,10 +193,10 @@ module _ (list : List (Triple ℕ)) (shapes : ℕ → Shape) where
 
         go : (b : Bool) → is_empty_list t.predicate t.object ≡ b → ObjectDoc t
         go true e = record {
-          object = Several [];
+          object = ListObject [];
           spelled =
               let is : object_value list shapes t ≡ list_value [] = ap (object_by list shapes t) none ∙ ap (λ b. cond b (list_value []) (term_value t.object)) e in
-              subst (λ (d : Data). SpellsObject d (Several [])) (sym is) (array no_items, refl, (no_items, refl, tt));
+              subst (λ (d : Data). SpellsObject d (ListObject [])) (sym is) (array no_items, refl, (no_items, refl, tt));
           size = sym (ap length no_cells);
           named = λ names naming s p n h.
               let object : Resource (Iri rdf_nil) ≡ rename_term names (proper_term t.object) = sym (ap (λ o. rename_term names (proper_term o)) (empty_is_nil t.predicate t.object e)) in

@@ -16,13 +16,13 @@ use Rattle.rx_graph.specs.Resources.{node_added}
 use Rattle.rx_terms.proofs.Bools.{same_truth}
 use Rattle.rx_graph.proofs.SetLemmas.{distinct_grows, seen_more}
 use Rattle.rx_pieces.specs.Writable.{WritableTriple}
-use Rattle.rx_shapes.specs.Shapes.{rdf_rest}
+use Rattle.rx_model.specs.Vocabulary.{rdf_rest}
 use Rattle.rx_shapes.specs.Rows.{positions}
 use Rattle.rx_shapes.specs.Places.{places_of}
 use Rattle.rx_shapes.specs.declared.shapes.Shape.{Shape}
 use Rattle.rx_shapes.proofs.IndexLemmas.{seen_at}
-use Rattle.rx_notation.specs.Layout.{has_subject, has_predicate, about, subjects}
-use Rattle.rx_notation.proofs.Grouped.{same_nodes}
+use Rattle.rx_shapes.specs.Subjects.{has_subject, has_predicate, about, subjects}
+use Rattle.rx_shapes.proofs.Grouped.{same_nodes}
 use Rattle.rx_jsonld.specs.Lists.{first_of, object_at, blank_in, numbers_from, chain, cells_at, listed, is_listed}
 use Rattle.rx_jsonld.specs.Value.{with_said, with_all, node_value}
 use Rattle.rx_jsonld.specs.Places.{object_if, object_among, nodes_added, with_found, with_places, starts, node_at}

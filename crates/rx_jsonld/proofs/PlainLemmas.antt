@@ -6,9 +6,9 @@ use Rattle.serde_json.specs.Data.{Data, null, boolean, number, string, array, ob
 use Rattle.serde_json.specs.View.{items_of}
 use Rattle.rx_terms.specs.Text.{Chars}
 use Rattle.rx_model.specs.Terms.{Kind, Plain, Tagged, Typed, Node, Blank, Term, Resource, Literal, Triple}
-use Rattle.rx_shapes.specs.Shapes.{rdf_first}
+use Rattle.rx_model.specs.Vocabulary.{rdf_first}
 use Rattle.rx_shapes.specs.declared.shapes.Shape.{Shape}
-use Rattle.rx_notation.specs.Layout.{about}
+use Rattle.rx_shapes.specs.Subjects.{about}
 use Rattle.rx_json.specs.Plain.{Leads, IsPlain, ArePlain, MembersArePlain}
 use Rattle.rx_json.proofs.PlainLemmas.{turned, leads_one, leads_through}
 use Rattle.rx_jsonld.specs.Lists.{object_at, first_cell, cells_at}

@@ -16,13 +16,13 @@ pub data Item : Type 0 where
 -- 9.7: what stands under a key: an item, or a list object
 pub data Object : Type 0 where
   Single : Item → Object
-  Several : List Item → Object
+  ListObject : List Item → Object
 
 -- 9.2: the members of a node object
 pub data Entry : Type 0 where
   Id : Chars → Entry
   Types : List Chars → Entry
-  Says : Chars → List Object → Entry
+  Property : Chars → List Object → Entry
 
 -- a node object, and an array of them
 abbrev pub NodeObject : Type 0
@@ -68,12 +68,12 @@ SpellsItem value (Value text kind) = (members : Members) × (value ≡ object me
 
 abbrev pub SpellsObject : Data → Object → Type 0
 SpellsObject value (Single x) = SpellsItem value x
-SpellsObject value (Several xs) = (list : Data) × (value ≡ object (member (codes "@list") list no_members)) × SpellsArray SpellsItem list xs
+SpellsObject value (ListObject xs) = (list : Data) × (value ≡ object (member (codes "@list") list no_members)) × SpellsArray SpellsItem list xs
 
 abbrev pub SpellsEntry : List ℕ → Data → Entry → Type 0
 SpellsEntry key value (Id id) = (key ≡ codes "@id") × SpellsText value id
 SpellsEntry key value (Types types) = (key ≡ codes "@type") × SpellsArray SpellsText value types
-SpellsEntry key value (Says predicate objects) = (key ≡ encode_utf8_all predicate) × IsIri predicate × SpellsArray SpellsObject value objects
+SpellsEntry key value (Property predicate objects) = (key ≡ encode_utf8_all predicate) × IsIri predicate × SpellsArray SpellsObject value objects
 
 abbrev pub SpellsEntries : Members → List Entry → Type 0
 SpellsEntries no_members [] = Unit {0}
@@ -84,7 +84,7 @@ SpellsEntries (member key value rest) (entry ∷ more) = SpellsEntry key value e
 abbrev pub id_in : Entry → List Chars
 id_in (Id id) = id ∷ []
 id_in (Types types) = []
-id_in (Says predicate objects) = []
+id_in (Property predicate objects) = []
 
 abbrev pub ids : List Entry → List Chars
 ids [] = []

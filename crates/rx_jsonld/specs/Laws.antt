@@ -5,8 +5,9 @@ use Rattle.serde_json.specs.Written.{has_float}
 use Rattle.rx_model.specs.Sets.{Among, distinct}
 use Rattle.rx_model.specs.Terms.{Triple, same_triple, set_of}
 use Rattle.rx_shapes.specs.declared.shapes.Shape.{Shape}
-use Rattle.rx_notation.specs.Laws.{IsWritable, proper_triple}
-use Rattle.rx_nested.specs.Laws.{HaveShapes}
+use Rattle.rx_pieces.specs.Writable.{IsWritable}
+use Rattle.rx_nquads.specs.Quads.{proper_triple}
+use Rattle.rx_shapes.specs.Shapes.{HaveShapes}
 use Rattle.rx_jsonld.specs.Lists.{IsListed, listed}
 use Rattle.rx_jsonld.specs.Value.{jsonld}
 use Rattle.rx_jsonld.specs.Meaning.{JsonLd}

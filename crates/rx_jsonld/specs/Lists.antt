@@ -4,11 +4,12 @@ use Rattle.std.specs.Prelude.{◌≡◌, ℕ, zero, suc, nat_eq, Bool, true, fal
 use Rattle.rx_terms.specs.Text.{Chars}
 use Rattle.rx_model.specs.Sets.{contains}
 use Rattle.rx_model.specs.Terms.{Node, Iri, Blank, Term, Resource, Literal, Triple, Graph}
-use Rattle.rx_model.specs.Copied.{rdf_type, spo}
-use Rattle.rx_shapes.specs.Shapes.{rdf_first, rdf_rest, Cell}
+use Rattle.rx_model.specs.Copied.{spo}
+use Rattle.rx_model.specs.Vocabulary.{rdf_type, rdf_first, rdf_rest}
+use Rattle.rx_shapes.specs.Shapes.{Cell}
 use Rattle.rx_shapes.specs.declared.shapes.Shape.{Shape}
 use Rattle.rx_shapes.specs.declared.shapes.Shape.TheVariants as shape
-use Rattle.rx_notation.specs.Layout.{objects_of}
+use Rattle.rx_shapes.specs.Subjects.{objects_of}
 
 -- ---- listed cells, in words
 

@@ -5,11 +5,11 @@ use Rattle.serde_json.specs.Data.{Data}
 use Rattle.rx_terms.specs.Ascii.{colon, low_line}
 use Rattle.rx_terms.specs.Text.{Chars}
 use Rattle.rx_model.specs.Terms.{Node, Iri, Blank, Term, Resource, Literal, Triple, set_of}
-use Rattle.rx_model.specs.Copied.{rdf_type, spo}
+use Rattle.rx_model.specs.Copied.{spo}
+use Rattle.rx_model.specs.Vocabulary.{rdf_type, rdf_first, rdf_rest, rdf_nil}
 use Rattle.rx_model.specs.Numbered.{Renamed}
 use Rattle.rx_nquads.specs.Quads.{proper_kind}
-use Rattle.rx_shapes.specs.Shapes.{rdf_first, rdf_rest, rdf_nil}
-use Rattle.rx_jsonld.specs.Document.{Item, Reference, Value, Object, Single, Several, Entry, Id, Types, Says, NodeObject, Document, Spells, ids}
+use Rattle.rx_jsonld.specs.Document.{Item, Reference, Value, Object, Single, ListObject, Entry, Id, Types, Property, NodeObject, Document, Spells, ids}
 
 -- the label of a blank node: what stands behind `_:`
 abbrev pub label_in : Chars → Option Chars
@@ -20,7 +20,7 @@ label_in (c ∷ d ∷ text) = if c == low_line && d == colon then Some text else
 -- how many cells of lists stand in it
 abbrev pub cells_in : Object → ℕ
 cells_in (Single x) = 0
-cells_in (Several xs) = length xs
+cells_in (ListObject xs) = length xs
 
 abbrev pub cells_in_all : List Object → ℕ
 cells_in_all [] = 0
@@ -29,7 +29,7 @@ cells_in_all (o ∷ more) = cells_in o + cells_in_all more
 abbrev pub cells_of : Entry → ℕ
 cells_of (Id id) = 0
 cells_of (Types types) = 0
-cells_of (Says predicate objects) = cells_in_all objects
+cells_of (Property predicate objects) = cells_in_all objects
 
 abbrev pub cells_of_all : List Entry → ℕ
 cells_of_all [] = 0
@@ -64,7 +64,7 @@ module _ {B : Type 0} (label : Chars → B) (place : ℕ → B) where
   module _ (subject : Node B) where
     abbrev pub object_triples : Chars → Object → ℕ → List (Triple B)
     object_triples predicate (Single x) n = spo subject predicate (term_of x) ∷ []
-    object_triples predicate (Several xs) n = spo subject predicate (Resource (list_node xs n)) ∷ list_triples xs n
+    object_triples predicate (ListObject xs) n = spo subject predicate (Resource (list_node xs n)) ∷ list_triples xs n
 
     abbrev pub objects_triples : Chars → List Object → ℕ → List (Triple B)
     objects_triples predicate [] n = []
@@ -76,7 +76,7 @@ module _ {B : Type 0} (label : Chars → B) (place : ℕ → B) where
     abbrev pub entry_triples : Entry → ℕ → List (Triple B)
     entry_triples (Id id) n = []
     entry_triples (Types types) n = map type_triple types
-    entry_triples (Says predicate objects) n = objects_triples predicate objects n
+    entry_triples (Property predicate objects) n = objects_triples predicate objects n
 
     abbrev pub entries_triples : List Entry → ℕ → List (Triple B)
     entries_triples [] n = []

@@ -5,7 +5,7 @@ use Rattle.serde_json.specs.Data.{Data, Members}
 use Rattle.rx_terms.specs.Text.{Chars}
 use Rattle.rx_model.specs.Terms.{Node, Blank, Term, Triple}
 use Rattle.rx_graph.specs.Resources.{node_added}
-use Rattle.rx_shapes.specs.Shapes.{rdf_first, rdf_rest}
+use Rattle.rx_model.specs.Vocabulary.{rdf_first, rdf_rest}
 use Rattle.rx_shapes.specs.Places.{places_of}
 use Rattle.rx_shapes.specs.Table.{Table, places_in}
 use Rattle.rx_shapes.specs.declared.shapes.Shape.{Shape}

@@ -4,8 +4,8 @@ use Rattle.serde_json.specs.Data.{Data, Members, string, array, object, no_membe
 use Rattle.serde_json.specs.View.{items_of}
 use Rattle.rx_terms.specs.Text.{Chars}
 use Rattle.rx_model.specs.Terms.{Plain, Tagged, Typed, Node, Iri, Blank, Term, Resource, Literal, Triple}
-use Rattle.rx_model.specs.Copied.{rdf_type, spo}
-use Rattle.rx_shapes.specs.Shapes.{rdf_first, rdf_rest, rdf_nil}
+use Rattle.rx_model.specs.Copied.{spo}
+use Rattle.rx_model.specs.Vocabulary.{rdf_type, rdf_first, rdf_rest, rdf_nil}
 use Rattle.rx_shapes.specs.declared.shapes.Shape.{Shape}
 use Rattle.rx_shapes.specs.declared.shapes.Shape.TheVariants.{Labelled, Inside, Cell}
 use Rattle.rx_jsonld.specs.Value.{jsonld}

@@ -5,12 +5,11 @@ use Rattle.serde_json.specs.Data.{Data, Members, null, string, array, object, no
 use Rattle.serde_json.specs.View.{items_of}
 use Rattle.rx_terms.specs.Text.{Chars}
 use Rattle.rx_model.specs.Terms.{Kind, Plain, Tagged, Typed, Node, Iri, Blank, Term, Resource, Literal, Triple}
-use Rattle.rx_model.specs.Copied.{rdf_type}
+use Rattle.rx_model.specs.Vocabulary.{rdf_type, rdf_first, rdf_rest, rdf_nil}
 use Rattle.rx_graph.specs.Resources.{resource_of}
 use Rattle.rx_pieces.specs.Writing.{blank_text}
-use Rattle.rx_shapes.specs.Shapes.{rdf_first, rdf_rest, rdf_nil}
 use Rattle.rx_shapes.specs.declared.shapes.Shape.{Shape}
-use Rattle.rx_notation.specs.Layout.{about, subjects}
+use Rattle.rx_shapes.specs.Subjects.{about, subjects}
 use Rattle.rx_jsonld.specs.Members.{with_last}
 use Rattle.rx_jsonld.specs.Lists.{object_at, chain, first_cell, cells_at, is_listed}
 

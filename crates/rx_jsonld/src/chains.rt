@@ -2,7 +2,7 @@
 ghost use Rattle.std.specs.Prelude.{◌≡◌, length, map, option_map, IfOk, slice_get, bytes_eq};
 ghost use Rattle.rx_model.specs.Terms as model;
 ghost use Rattle.rx_model.specs.Seen.{node_seen, term_seen, triple_seen, triples_seen};
-ghost use Rattle.rx_shapes.specs.Shapes.{rdf_rest};
+ghost use Rattle.rx_model.specs.Vocabulary.{rdf_rest};
 ghost use Rattle.rx_shapes.specs.Table.{shape_in};
 ghost use Rattle.rx_jsonld.specs.Lists.{blank_in, cell_by, cell_listed, chain, first_cell, is_cell, is_cell_by, may_hold_list, may_list, object_at};
 ghost use Rattle.rx_jsonld.specs.Places.{PlacesAre, object_among, object_if, predicate_of};

@@ -3,7 +3,7 @@ ghost use Rattle.std.specs.Prelude.{◌≡◌, length, map, nat_eq, IfOk, OnOk, 
 ghost use Rattle.rx_model.specs.Sets.{distinct};
 ghost use Rattle.rx_model.specs.Terms.{same_triple};
 ghost use Rattle.rx_model.specs.Seen.{node_seen, triple_seen, triples_seen};
-ghost use Rattle.rx_notation.specs.Laws.{IsWritable};
+ghost use Rattle.rx_pieces.specs.Writable.{IsWritable};
 ghost use Rattle.rx_shapes.specs.Table.{shape_in};
 ghost use Rattle.rx_jsonld.specs.Lists.{cells_at, chain, is_listed, listed};
 ghost use Rattle.rx_jsonld.specs.Places.{PlacesAre, nodes_added};

@@ -16,13 +16,11 @@ ghost use Rattle.rx_jsonld.specs.Value.{id_text, item_value, list_from, list_val
 use crate::chains::{Part, chain, first_cell, object_at};
 use crate::objects::{is_empty_list, type_of};
 use rx_graph::{Graph, Resource};
+use rx_json::OUT_OF_MEMORY;
 use rx_shapes::Shapes;
 use rx_terms::{Blank, Iri, Literal, LiteralKind, NoMemory, Term, Triple};
 use serde::Serializer;
 use std::alloc::Global;
-
-/// What a serializer is told where there is no memory left.
-pub(crate) const OUT_OF_MEMORY: &str = "out of memory";
 
 /// Writes the value that a triple puts under its key: a type's name, or its object's value.
 pub(crate) fn write_said<S: Serializer>(

@@ -5,7 +5,7 @@ use Rattle.rx_terms.specs.Text.{Chars}
 use Rattle.rx_model.specs.Terms.{Node, Iri, Blank, Term, Triple}
 use Rattle.rx_model.specs.Seen.{term_seen}
 use Rattle.rx_model.specs.Copied.{spo}
-use Rattle.rx_rdfa.specs.Iris.{rdf_first, rdf_rest, rdf_nil}
+use Rattle.rx_model.specs.Vocabulary.{rdf_first, rdf_rest, rdf_nil}
 use Rattle.rx_rdfa.specs.Element.{to_node}
 use Rattle.rx_rdfa.specs.Lists.{list_of, chain, cell_or_nil}
 use Rattle.rx_lists.specs.Owners.{itself}

@@ -5,7 +5,7 @@ use Rattle.rx_terms.specs.declared.triples.Term.{Term as CodeTerm}
 use Rattle.rx_model.specs.Terms.{Node, Iri, Blank, Term, Triple}
 use Rattle.rx_model.specs.Seen.{node_seen, term_seen}
 use Rattle.rx_model.specs.Copied.{spo}
-use Rattle.rx_rdfa.specs.Iris.{rdf_first, rdf_rest, rdf_nil}
+use Rattle.rx_model.specs.Vocabulary.{rdf_first, rdf_rest, rdf_nil}
 use Rattle.rx_rdfa.specs.Element.{to_node}
 use Rattle.rx_rdfa.specs.Tables.{Table}
 use Rattle.rx_rdfa.specs.Lists.{list_of}

@@ -3,3 +3,4 @@ pub mod Gains
 pub mod Cells
 pub mod Rows
 pub mod SlotIds
+pub mod CellIris

@@ -4,6 +4,7 @@
 //! by one item or touch at a time.
 #![tactic(auto)]
 
+mod cell_iris;
 mod cells;
 mod lists;
 mod owner_lists;

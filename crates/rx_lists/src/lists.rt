@@ -6,6 +6,7 @@ ghost use Rattle.rx_lists.specs.Cells.{finished_cells, items_seen, size};
 ghost use Rattle.rx_lists.specs.Owners.{is_finished, forgotten, owned, changed, lists_of, open_at, trimmed, with_term};
 ghost use Rattle.rx_lists.specs.SlotIds.{slot_in};
 
+use crate::cell_iris::CellIris;
 use crate::owner_lists::OwnerLists;
 use rx_terms::{Iri, NoMemory, Node, Term, TripleList};
 use std::alloc::Global;
@@ -35,6 +36,7 @@ pub struct Finished {
 #[derive(Drop)]
 pub struct Lists {
     alloc: Global,
+    iris: CellIris,
     owners: Vec<Option<OwnerLists>>,
 }
 
@@ -52,8 +54,10 @@ impl Lists {
     pub fn new(alloc: Global) -> Result<Lists, NoMemory>
         ensures { IfOk result (λ lists. lists ≡ []) }
     {
+        let iris = CellIris::new(alloc)?;
         Ok(Lists {
             alloc,
+            iris,
             owners: Vec::new(alloc),
         })
     }
@@ -156,7 +160,7 @@ impl Lists {
             return Ok(nothing(self.alloc, next_blank));
         }
         match &self.owners[owner.0] {
-            Some(lists) => lists.finished(self.alloc, next_blank),
+            Some(lists) => lists.finished(self.alloc, &self.iris, next_blank),
             None => Ok(nothing(self.alloc, next_blank)),
         }
     }

@@ -6,6 +6,7 @@ ghost use Rattle.rx_lists.specs.Cells.{cells_of, items_seen, size};
 ghost use Rattle.rx_lists.specs.Rows.{FoundAt, first_slots};
 ghost use Rattle.rx_lists.specs.Owners.{owned, with_slot, predicates_of, with_lists, with_term, place_of, slots_of, slots_at};
 
+use crate::cell_iris::CellIris;
 use crate::cells::push_list;
 use crate::lists::Finished;
 use crate::slot_rows::SlotRows;
@@ -102,7 +103,12 @@ impl OwnerLists {
     }
 
     /// The triples of all lists, their cells numbered from `next_blank` on, and the number after the last cell's.
-    pub(crate) fn finished(&self, alloc: Global, next_blank: u64) -> Result<Finished, NoMemory>
+    pub(crate) fn finished(
+        &self,
+        alloc: Global,
+        iris: &CellIris,
+        next_blank: u64,
+    ) -> Result<Finished, NoMemory>
         requires { next_blank + size self.now.lists < 2 ^ 64 }
         ensures triples { IfOk result (λ f. triples_seen f.triples ≡ cells_of next_blank (node_seen self.now.subject) (items_seen self.now.lists)) }
         ensures next { IfOk result (λ f. f.next_blank ≡ next_blank + size (items_seen self.now.lists)) }
@@ -112,7 +118,7 @@ impl OwnerLists {
         for list in 0..self.len() {
             let slots = self.row(list);
             let predicate = self.predicate(list);
-            next = push_list(alloc, &mut triples, &self.subject, predicate, slots, next)?;
+            next = push_list(iris, &mut triples, &self.subject, predicate, slots, next)?;
         }
         Ok(Finished {
             triples,

@@ -12,7 +12,8 @@ use Rattle.rx_grammar.specs.declared.faults.Kind.{Kind}
 use Rattle.rx_grammar.specs.declared.faults.Kind.TheVariants as kind
 use Rattle.rx_pieces.proofs.Adding.{all_ascii}
 use Rattle.rx_nquads.proofs.Cuts.{lacks}
-use Rattle.rx_many.specs.Writing.{kind_name, comment_with}
+use Rattle.rx_many.specs.Writing.{comment_with}
+use Rattle.rx_grammar.specs.Kinds.{kind_name}
 
 -- the names are of ASCII, and have no line feed
 pub names : (k : Kind) → (list_all is_ascii (kind_name k) ≡ true) × (lacks line_feed (kind_name k) ≡ true)

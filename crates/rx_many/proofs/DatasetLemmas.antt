@@ -26,7 +26,8 @@ use Rattle.rx_many.specs.Dataset.{Gives, HasBlank, GivesQuad, DenotesPages}
 use Rattle.rx_many.specs.Lines.{Line, PageBlank, comment, statement, statement_at, at_place, lines_by, lines_of, lines_from, line_blanks, same_blank, table, rename_line, numbered_lines, same_line, kept_after, kept}
 use Rattle.rx_many.specs.Pages.{Page, Judgement, refused, accepted, accepted_page}
 use Rattle.rx_many.specs.Standing.{WritableComment, WritableLine, Keeps}
-use Rattle.rx_many.specs.Writing.{kind_name, comment_text, line_text}
+use Rattle.rx_many.specs.Writing.{comment_text, line_text}
+use Rattle.rx_grammar.specs.Kinds.{kind_name}
 use Rattle.rx_many.proofs.CommentLemmas.{names, ascii_decimal}
 use Rattle.rx_many.proofs.KeyLemmas.{exact_blanks, alike}
 

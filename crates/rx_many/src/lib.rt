@@ -9,13 +9,11 @@ ghost use Rattle.rx_many.specs.Rows.{RowsHold};
 
 mod blanks;
 mod documents;
-mod kinds;
 mod many;
 mod pages;
 mod refusals;
 mod statements;
 
-pub use kinds::name_of;
 pub use many::Many;
 pub use rx_grammar::{Fault, Kind};
 

@@ -4,8 +4,7 @@ ghost use Rattle.rx_many.specs.Lines.{comment};
 ghost use Rattle.rx_many.specs.Writing.{comment_with, line_text};
 ghost use Rattle.rx_many.specs.Standing.{WritableComment};
 
-use crate::kinds::name_of;
-use rx_grammar::Fault;
+use rx_grammar::{Fault, name_of};
 use rx_terms::{Iri, NoMemory};
 use std::alloc::{AllocError, Global};
 

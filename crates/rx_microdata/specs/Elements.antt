@@ -5,7 +5,7 @@ use Rattle.rx_grammar.specs.Trees.{StartTag, Tree, end, element, text}
 use Rattle.rx_microdata.specs.Facts.{Facts, begins_item, facts_of}
 
 -- an element: its place in document order, the place past all that is in it, the place of the nearest item around it, and
--- what is read of it. Laws alone speak of `scope`; no definition rests on it.
+-- what is read of it. Properties, visits and JSON don't rest on `scope`: laws speak of it, and the tables of a page's rows.
 pub record Placed : Type 0 where
   pub place : ℕ
   pub past : ℕ

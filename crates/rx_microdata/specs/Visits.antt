@@ -24,7 +24,8 @@ abbrev pub is_cycle : Visit → Bool
 is_cycle [] = false
 is_cycle (last ∷ above) = list_any (λ e. e.place == last.place) above
 
--- HTML, 5.4.1: the items that are values of an item's properties, once for each name
+-- The items that are values of an item's properties, once for each name: a rule of our own, where HTML, 5.4.1, takes each
+-- element once
 abbrev pub items_in : List Placed → List Placed
 items_in properties = flat_map (λ e. map (λ name. e) (names_of e)) (filter is_item properties)
 

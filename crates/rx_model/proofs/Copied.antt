@@ -3,7 +3,8 @@ use Rattle.std.proofs.Common.{◌≡◌, ◌≢◌, ◌⊎◌, Bool, true, false
 use Rattle.rx_model.specs.Sets.{Among, IsExact}
 use Rattle.rx_terms.specs.Text.{Chars}
 use Rattle.rx_model.specs.Terms.{Node, Iri, Term, Resource, Literal, Triple, same_node, same_term, same_triple}
-use Rattle.rx_model.specs.Copied.{rdf_type, rdfa_copy, rdfa_pattern, spo, type_pattern, copy, SaysPattern, Closed, held, copied_from, Referenced, SaysLive, patterned, is_pattern, pattern_object, live, edge, edges, leads, says_pattern, is_referenced, given, replaced, treated, copied, CopiesPatterns}
+use Rattle.rx_model.specs.Copied.{rdfa_copy, rdfa_pattern, spo, type_pattern, copy, SaysPattern, Closed, held, copied_from, Referenced, SaysLive, patterned, is_pattern, pattern_object, live, edge, edges, leads, says_pattern, is_referenced, given, replaced, treated, copied, CopiesPatterns}
+use Rattle.rx_model.specs.Vocabulary.{rdf_type}
 use Rattle.rx_model.proofs.Sets.{or_cases, or_left, or_right, and_left, and_right, and_both, not_true, false_unless, Among-contains, Among_by_contains, Among_of_distinct, Among_distinct, Among_flat_map, Among_of_flat_map, Among_filter_map, Among_of_filter_map}
 use Rattle.rx_model.proofs.Leads.{leads_self, leads_on, leads_pair, leads_keep}
 use Rattle.rx_model.proofs.Exact.{exact_texts, exact_nodes, exact_terms, exact_triples}

@@ -6,3 +6,4 @@ pub mod Numbered
 pub mod Renaming
 pub mod Names
 pub mod Seen
+pub mod Renamings

@@ -3,9 +3,7 @@ use Rattle.std.specs.Prelude.{◌≡◌, ◌↔◌, Bool, true, false, not, ◌&
 use Rattle.rx_terms.specs.Text.{Chars}
 use Rattle.rx_model.specs.Terms.{Node, Iri, Term, Resource, Literal, Triple, Graph, set_of, same_node, same_term, same_triple}
 use Rattle.rx_model.specs.Sets.{distinct, contains, Among}
-
-abbrev pub rdf_type : Chars
-rdf_type = codes "http://www.w3.org/1999/02/22-rdf-syntax-ns#type"
+use Rattle.rx_model.specs.Vocabulary.{rdf_type}
 
 abbrev pub rdfa_copy : Chars
 rdfa_copy = codes "http://www.w3.org/ns/rdfa#copy"

@@ -1,5 +1,6 @@
 pub mod Sets
 pub mod Terms
+pub mod Vocabulary
 pub mod Numbered
 pub mod Copied
 pub mod Renaming

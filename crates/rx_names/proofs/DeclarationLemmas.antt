@@ -49,7 +49,7 @@ sound-mapping name low iri b e f t =
 
 -- Attributes `xmlns:NAME`
 
-xmlns-chars : chars (codes "xmlns:") ≡ codes "xmlns:"
+pub xmlns-chars : chars (codes "xmlns:") ≡ codes "xmlns:"
 xmlns-chars = ascii-chars (codes "xmlns:") refl
 
 pub no-namespace : (name value : Chars) → begins_with (chars (codes "xmlns:")) name ≡ false → mapping_rows (xmlns_of (name, value)) ≡ []

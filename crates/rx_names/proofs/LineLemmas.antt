@@ -1,5 +1,5 @@
 -- What is kept of a line says what the rules say of it.
-use Rattle.std.proofs.Common.{◌≡◌, ◌∙◌, suc, ◌≤◌, Bool, List, [], ◌∷◌, ◌++◌, map, reverse, filter, length, Option, Some, None, option_map, bytes_eq, codes, sym, ap, refl, arith, length-append}
+use Rattle.std.proofs.Common.{◌≡◌, ◌∙◌, suc, ◌≤◌, Bool, List, [], ◌∷◌, ◌++◌, map, reverse, filter, length, Option, Some, None, Result, Ok, Err, OnOk, option_map, bytes_eq, codes, sym, ap, subst, refl, arith, length-append, append-nil}
 use Rattle.std.specs.List.{flat_map}
 use Rattle.std.specs.Option.{option_or}
 use Rattle.std.proofs.lemmas.List.{reverse-append, length-map}
@@ -9,7 +9,8 @@ use Rattle.rx_terms.proofs.Bools.{by_test}
 use Rattle.rx_rdfa.specs.Tree.{Tag, attribute}
 use Rattle.rx_rdfa.specs.Names.{Context, Table, value_at, counts, xmlns_of, of_prefix, declarations, declared_or, unless_empty, as_lang, prefix, vocab, language}
 use Rattle.rx_names.specs.Rows.{prefix_row, vocabulary_rows, language_rows, language_attribute, rows_of, last_of, prefix_in, vocabulary_in, language_in, flattened, declared, one_if_some}
-use Rattle.rx_names.specs.Lines.{Kept, kept_of, NamesStand, prefix_of, vocabulary_of, language_of, declared_along}
+use Rattle.rx_names.specs.declared.rows.Declaration.{Declaration}
+use Rattle.rx_names.specs.Lines.{Kept, kept_of, pushed, NamesStand, prefix_of, vocabulary_of, language_of, declared_along}
 use Rattle.rx_names.proofs.RowLemmas.{last-append, or-none, or-assoc}
 
 -- Prefixes
@@ -86,6 +87,22 @@ vocabulary-kept context (tag ∷ above) =
 
 pub vocabulary-line : (kept : Kept) (line : List Tag) → NamesStand kept line → vocabulary_of kept ≡ vocab line
 vocabulary-line kept line s = ap vocabulary_of s.is ∙ vocabulary-kept kept.context line
+
+-- A tag that declares nothing
+
+none_pushed : (kept : Kept) (tag : Tag) → rows_of tag ≡ [] → pushed kept tag ≡ record { context = kept.context; rows = kept.rows; marks = kept.marks ++ length kept.rows ∷ [] }
+none_pushed kept tag e =
+    ap (λ (r : List Declaration). record { context = kept.context; rows = r; marks = kept.marks ++ length kept.rows ∷ [] }) (ap (λ (r : List Declaration). kept.rows ++ r) e ∙ append-nil kept.rows)
+
+pub none_is_pushed : {E : Type 0} (r : Result (Unit {0}) E) (old new : Kept) (tag : Tag) → rows_of tag ≡ []
+    → OnOk r (new ≡ record { context = old.context; rows = old.rows; marks = old.marks ++ length old.rows ∷ [] }) → OnOk r (new ≡ pushed old tag)
+none_is_pushed (Ok done) old new tag e h = h ∙ sym (none_pushed old tag e)
+none_is_pushed (Err error) old new tag e h = tt
+
+pub pushed_stands : {E : Type 0} (r : Result (Unit {0}) E) (old new : Kept) (tag : Tag) → OnOk r (new ≡ pushed old tag)
+    → OnOk r ((line : List Tag) → NamesStand old line → NamesStand new (tag ∷ line))
+pushed_stands (Ok done) old new tag e = λ line s. subst (λ (k : Kept). NamesStand k (tag ∷ line)) (sym e) (record { is = ap (λ (k : Kept). pushed k tag) s.is })
+pushed_stands (Err error) old new tag e = tt
 
 -- The language
 

@@ -1,16 +1,22 @@
 -- Marks of names.
-use Rattle.std.proofs.Common.{◌≡◌, ◌∙◌, ℕ, ◌/◌, ◌==◌, true, false, Bool, List, [], ◌∷◌, ◌++◌, Option, Some, None, take, length, get_or, ◌+◌, ◌<◌, bit_and, bit_or, bytes_eq, cond, sym, ap, subst, refl, arith}
+use Rattle.std.proofs.Common.{◌≡◌, ◌∙◌, ℕ, ◌/◌, ◌==◌, ◌||◌, true, false, Bool, List, [], ◌∷◌, ◌++◌, map, filter, Option, Some, None, MatchOption, Bor, is_some, take, drop, length, get_or, codes, ◌+◌, ◌<◌, bit_and, bit_or, bytes_eq, cond, sym, ap, subst, refl, arith}
+use Rattle.std.specs.List.{flat_map}
+use Rattle.std.specs.Option.{option_or}
 use Rattle.std.specs.Str.{chars, IsUtf8}
 use Rattle.std.proofs.lemmas.Bool.Decides.{nat_tests}
-use Rattle.std.proofs.lemmas.List.{take_more}
+use Rattle.std.proofs.lemmas.Grind.{flat_map-append}
+use Rattle.std.proofs.lemmas.List.{take_more, append-nil}
 use Rattle.std.proofs.lemmas.Nat.{and_or_self, or_shr}
 use Rattle.std.proofs.lemmas.Slice.Eq.{bytes_eq-Decides}
 use Rattle.std.proofs.lemmas.Str.{encodes-chars}
 use Rattle.std.proofs.Math.Arith.{bin_ind}
 use Rattle.std.specs.Int.Bits.{and_zero_r, and_step, or_step}
-use Rattle.rx_terms.specs.Text.{Chars}
-use Rattle.rx_rdfa.specs.Tree.{value_of_first}
+use Rattle.rx_terms.specs.Text.{Chars, trimmed, lowered, begins_with}
+use Rattle.rx_rdfa.specs.Tree.{Tag, attribute, value_of_first}
+use Rattle.rx_rdfa.specs.Names.{Table, counts, xmlns_of, of_prefix}
 use Rattle.rx_names.specs.Marks.{mark_of, name_mark, has_mark, Marked}
+use Rattle.rx_names.specs.Rows.{prefix_row, vocabulary_rows, language_rows, rows_of}
+use Rattle.rx_names.proofs.DeclarationLemmas.{xmlns-chars}
 
 -- bits that are set stay so where others are set
 stay_set : (mask word more : ℕ) → bit_and word mask ≡ mask → bit_and (bit_or word more) mask ≡ mask
@@ -66,3 +72,43 @@ pub one_taken : (attributes : List (Chars × Chars)) (i marks mark : ℕ) (a : C
 one_taken attributes i marks mark a within at is m =
     let more : take (i + 1) attributes ≡ take i attributes ++ a ∷ [] = take_more attributes i a within ∙ ap (λ x. take i attributes ++ x ∷ []) at in
     subst (λ n. Marked (bit_or marks n) (take (i + 1) attributes)) (sym is) (subst (λ l. Marked (bit_or marks (name_mark a.0)) l) (sym more) (one_more marks (take i attributes) a.0 a.1 m))
+
+-- Attributes `xmlns:NAME`
+
+-- whether the text begins so is told by what stands behind
+pub begins : (text : Chars) (rest : Option (Bor (List ℕ))) → MatchOption rest (begins_with (chars (codes "xmlns:")) text ≡ false) (λ more. text ≡ chars (codes "xmlns:") ++ chars more.now)
+    → is_some rest ≡ begins_with (codes "xmlns:") text
+begins text None h = sym h ∙ ap (λ (x : Chars). begins_with x text) xmlns-chars
+begins text (Some more) h = sym (ap (begins_with (codes "xmlns:")) (h ∙ ap (λ (x : Chars). x ++ chars more.now) xmlns-chars))
+
+no_more : (attributes : List (Chars × Chars)) (a : Chars × Chars) → flat_map xmlns_of attributes ≡ [] → begins_with (codes "xmlns:") a.0 ≡ false → flat_map xmlns_of (attributes ++ a ∷ []) ≡ []
+no_more attributes a h t =
+    flat_map-append xmlns_of attributes (a ∷ []) ∙ ap (λ (x : Table). x ++ flat_map xmlns_of (a ∷ [])) h ∙ append-nil (xmlns_of a) ∙ ap (λ b. cond b ((lowered (drop 6 a.0), trimmed a.1) ∷ []) []) t
+
+neither : (a b : Bool) → (a || b) ≡ false → (a ≡ false) × (b ≡ false)
+neither true b e = absurd (cc e)
+neither false b e = (refl, e)
+
+-- one attribute more
+pub namespaces_taken : (attributes : List (Chars × Chars)) (i : ℕ) (told new : Bool) (a : Chars × Chars) → i < length attributes → get_or attributes i a ≡ a → new ≡ (told || begins_with (codes "xmlns:") a.0)
+    → (told ≡ false → flat_map xmlns_of (take i attributes) ≡ []) → new ≡ false → flat_map xmlns_of (take (i + 1) attributes) ≡ []
+namespaces_taken attributes i told new a within at is before none =
+    let more : take (i + 1) attributes ≡ take i attributes ++ a ∷ [] = take_more attributes i a within ∙ ap (λ x. take i attributes ++ x ∷ []) at in
+    let both = neither told (begins_with (codes "xmlns:") a.0) (sym is ∙ none) in
+    ap (flat_map xmlns_of) more ∙ no_more (take i attributes) a (before both.0) both.1
+
+-- a tag that has none of the names by which names are declared
+pub declares_none : (tag : Tag) (namespaces prefix vocab xml_lang lang : Bool)
+    → (namespaces ≡ false → flat_map xmlns_of tag.attributes ≡ []) → (prefix ≡ false → attribute tag (codes "prefix") ≡ None) → (vocab ≡ false → attribute tag (codes "vocab") ≡ None)
+    → (xml_lang ≡ false → attribute tag (codes "xml:lang") ≡ None) → (lang ≡ false → attribute tag (codes "lang") ≡ None)
+    → (namespaces || prefix || vocab || xml_lang || lang) ≡ false → rows_of tag ≡ []
+declares_none tag false false false false false n p v x l e =
+    none_of (flat_map xmlns_of tag.attributes) (attribute tag (codes "prefix")) (attribute tag (codes "vocab")) (attribute tag (codes "xml:lang")) (attribute tag (codes "lang")) (n refl) (p refl) (v refl) (x refl) (l refl) where
+      none_of : (table : Table) (prefix vocab xml_lang lang : Option Chars) → table ≡ [] → prefix ≡ None → vocab ≡ None → xml_lang ≡ None → lang ≡ None
+          → map prefix_row (filter counts (table ++ of_prefix prefix)) ++ (vocabulary_rows vocab ++ language_rows (option_or xml_lang lang)) ≡ []
+      none_of table prefix vocab xml_lang lang a b c d e = rw (a, b, c, d, e) refl
+declares_none tag false false false false true n p v x l e = absurd (cc e)
+declares_none tag false false false true lang n p v x l e = absurd (cc e)
+declares_none tag false false true xml_lang lang n p v x l e = absurd (cc e)
+declares_none tag false true vocab xml_lang lang n p v x l e = absurd (cc e)
+declares_none tag true prefix vocab xml_lang lang n p v x l e = absurd (cc e)

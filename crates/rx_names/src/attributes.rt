@@ -1,14 +1,16 @@
 //! Attributes by their names.
-ghost use Rattle.std.specs.Prelude.{◌≡◌, true, get_or};
+ghost use Rattle.std.specs.Prelude.{◌≡◌, ◌||◌, [], None, true, false, codes, get_or};
 ghost use Rattle.std.specs.List.{list_all};
 ghost use Rattle.std.specs.Str.{chars};
 ghost use Rattle.rx_terms.specs.Ascii.{is_ascii};
 ghost use Rattle.rx_rdfa.specs.Tree.{attribute};
-ghost use Rattle.rx_terms.specs.Text.{seen_slice};
+ghost use Rattle.rx_terms.specs.Text.{seen_slice, begins_with};
 ghost use Rattle.rx_names.specs.Marks.{mark_of, name_mark, has_mark};
+ghost use Rattle.rx_names.specs.Rows.{rows_of};
 ghost use Rattle.rx_names.specs.Tags.{tag_of};
 
 use rx_tags::Tag;
+use rx_words::behind;
 use std::marker::Model;
 
 /// The value of the tag's first attribute of that name, which is ASCII.
@@ -20,24 +22,26 @@ pub fn attribute<'a>(tag: &Tag<'a>, name: &str) -> Option<&'a str>
 }
 
 /// A tag's attributes, for looking up many names. Most of the names that are looked up aren't there, and nearly all of these
-/// are told without going over the attributes. A contract sees the tag.
+/// are told without going over the attributes. It is made once a tag. A contract sees the tag.
 #[derive(Drop)]
 pub struct Attributes<'a> {
     tag: Tag<'a>,
     /// The marks of the names that are there.
     marks: u64,
+    /// Whether there is an attribute `xmlns:NAME`.
+    namespaces: bool,
 }
 
 impl<'a> Model for Attributes<'a> {
     ghost use Rattle.rx_rdfa.specs.Tree.{Tag};
-    ghost use Rattle.rx_names.specs.Marks.{Marked};
+    ghost use Rattle.rx_names.specs.Marks.{AreMarked};
     ghost use Rattle.rx_names.specs.Tags.{tag_of};
 
     ghost Value = { Tag };
 
     ghost view = { λ those. tag_of those.tag };
 
-    ghost invariant = { λ those. Marked those.marks (tag_of those.tag).attributes };
+    ghost invariant = { λ those. AreMarked those.marks those.namespaces (tag_of those.tag).attributes };
 }
 
 impl<'a> Attributes<'a> {
@@ -46,11 +50,50 @@ impl<'a> Attributes<'a> {
         ensures { result ≡ tag_of tag.now }
     {
         let mut marks = 0;
+        let mut namespaces = false;
         for i in 0..tag.count() {
             let (name, _value) = tag.attr_at(i);
             marks |= mark_of(name);
+            namespaces = has_namespace(namespaces, name);
         }
-        Attributes { tag: *tag, marks }
+        Attributes {
+            tag: *tag,
+            marks,
+            namespaces,
+        }
+    }
+
+    /// The tag's name, in HTML in lower case.
+    pub fn name(&self) -> &'a str
+        ensures { chars result.now ≡ self.now.name }
+    {
+        self.tag.name()
+    }
+
+    /// Whether the tag may declare names. Of nearly all tags that declare none that is told by the marks alone.
+    pub(crate) fn may_declare(&self) -> bool
+        ensures { result ≡ false → rows_of self.now ≡ [] }
+    {
+        let prefix = self.may_have("prefix");
+        let vocab = self.may_have("vocab");
+        let xml_lang = self.may_have("xml:lang");
+        let lang = self.may_have("lang");
+        is_any(self.namespaces, prefix, vocab, xml_lang, lang)
+    }
+
+    /// Whether there may be an attribute of that name, which is ASCII.
+    fn may_have(&self, name: &str) -> bool
+        requires { list_all is_ascii name.now ≡ true }
+        ensures { result ≡ false → attribute self.now name.now ≡ None }
+    {
+        has_mark(self.marks, name)
+    }
+
+    /// The tag itself.
+    pub(crate) fn tag(&self) -> &Tag<'a>
+        ensures { tag_of result.now ≡ self.now }
+    {
+        &self.tag
     }
 
     /// The value of the first attribute of that name, which is ASCII.
@@ -58,19 +101,40 @@ impl<'a> Attributes<'a> {
         requires { list_all is_ascii name.now ≡ true }
         ensures { seen_slice result ≡ attribute self.now name.now }
     {
-        if !has_mark(self.marks, name) {
+        if !self.may_have(name) {
             return None;
         }
         attribute(&self.tag, name)
     }
 }
 
-/// The mark of a name: one of 64 bits, by its length and its first byte. The names that RDFa reads have few marks in common.
+/// Whether one of these is so.
+fn is_any(namespaces: bool, prefix: bool, vocab: bool, xml_lang: bool, lang: bool) -> bool
+    ensures { result ≡ (namespaces || prefix || vocab || xml_lang || lang) }
+{
+    namespaces || prefix || vocab || xml_lang || lang
+}
+
+/// Whether an attribute `xmlns:NAME` was there before, or the name is that of one.
+fn has_namespace(before: bool, name: &str) -> bool
+    ensures { result ≡ (before || begins_with (codes "xmlns:") (chars name.now)) }
+{
+    before || is_namespace(name)
+}
+
+fn is_namespace(name: &str) -> bool
+    ensures { result ≡ begins_with (codes "xmlns:") (chars name.now) }
+{
+    behind(name, "xmlns:").is_some()
+}
+
+/// The mark of a name: one of 64 bits, by its length and its first byte. The names that RDFa reads have few marks in common,
+/// and none with `class`, `id`, `name`, `style` and `title`, which most tags have.
 fn mark_of(name: &str) -> u64
     ensures bytes { result ≡ mark_of name.now }
     ensures characters { result ≡ name_mark (chars name.now) }
 {
-    1 << ((u64::from(first_byte(name)) + name.len() as u64 % 64 * 5) % 64)
+    1 << ((u64::from(first_byte(name)) + name.len() as u64 % 64 * 37) % 64)
 }
 
 fn first_byte(name: &str) -> u8

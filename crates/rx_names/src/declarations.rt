@@ -16,19 +16,18 @@ use rx_terms::{Lang, NoMemory, Text, has_scheme};
 use rx_words::{behind, first_token, is_empty, lower, split_last, trim};
 use std::alloc::Global;
 
-/// Adds what the tag declares. After want of memory some of it may stand there.
+/// Adds what the tag with these attributes declares. After want of memory some of it may stand there.
 pub(crate) fn push_declarations(
     alloc: Global,
     rows: &mut Rows,
-    tag: &Tag<'_>,
+    attributes: &Attributes<'_>,
 ) -> Result<(), NoMemory>
-    ensures ok { OnOk result (rows.new ≡ rows.old ++ rows_of (tag_of tag.now)) }
+    ensures ok { OnOk result (rows.new ≡ rows.old ++ rows_of attributes.now) }
 {
-    let attributes = Attributes::of(tag);
-    push_namespaces(alloc, rows, tag)?;
+    push_namespaces(alloc, rows, attributes.tag())?;
     push_prefixes(alloc, rows, attributes.value("prefix"))?;
     push_vocabulary(alloc, rows, attributes.value("vocab"))?;
-    push_language(alloc, rows, language_attribute(&attributes))
+    push_language(alloc, rows, language_attribute(attributes))
 }
 
 /// The attribute that says the language: `xml:lang`, or else `lang`.

@@ -1,5 +1,5 @@
 //! The names in force along the open elements.
-ghost use Rattle.std.specs.Prelude.{◌≡◌, ◌<◌, ◌≤◌, [], ◌∷◌, List, length, true, OnOk, OnErr, IfOk, IfSome};
+ghost use Rattle.std.specs.Prelude.{◌≡◌, ◌<◌, ◌≤◌, [], ◌∷◌, ◌++◌, List, length, true, OnOk, OnErr, IfOk, IfSome};
 ghost use Rattle.std.specs.Str.{chars};
 ghost use Rattle.rx_terms.specs.Iri.{has_scheme};
 ghost use Rattle.rx_terms.specs.Text.{lowered, seen_slice};
@@ -9,6 +9,7 @@ ghost use Rattle.rx_names.specs.Tags.{tag_of};
 ghost use Rattle.rx_names.specs.Lines.{no_tags, pushed, popped, NamesStand, prefix_of, vocabulary_of, language_of, declared_along};
 ghost use Rattle.rx_names.specs.Views.{names_seen, Along};
 
+use crate::attributes::Attributes;
 use crate::contexts::Context;
 use crate::declarations::push_declarations;
 use crate::kept_rows::KeptRows;
@@ -56,8 +57,41 @@ impl Names {
         ensures line { OnOk result ((line : List StartTag) → NamesStand self.old line → NamesStand self.new (tag_of tag.now ∷ line)) }
         ensures err { OnErr result (self.new ≡ self.old) }
     {
+        self.push_of(&Attributes::of(tag))
+    }
+
+    /// The same by the tag's attributes. Most tags declare nothing, and then nothing is gone over.
+    #[inline]
+    pub fn push_of(&mut self, attributes: &Attributes<'_>) -> Result<(), NoMemory>
+        ensures ok { OnOk result (self.new ≡ pushed self.old attributes.now) }
+        ensures line { OnOk result ((line : List StartTag) → NamesStand self.old line → NamesStand self.new (attributes.now ∷ line)) }
+        ensures err { OnErr result (self.new ≡ self.old) }
+    {
+        if attributes.may_declare() {
+            return self.push_declared(attributes);
+        }
+        self.push_none()
+    }
+
+    /// The same of a tag that declares nothing.
+    #[inline(always)]
+    fn push_none(&mut self) -> Result<(), NoMemory>
+        ensures ok { OnOk result (self.new ≡ record { context = self.old.context; rows = self.old.rows; marks = self.old.marks ++ length self.old.rows ∷ [] }) }
+        ensures err { OnErr result (self.new ≡ self.old) }
+    {
+        self.marks.push(self.rows.len())?;
+        Ok(())
+    }
+
+    /// The same of a tag that declares something, or may do so.
+    #[inline(never)]
+    fn push_declared(&mut self, attributes: &Attributes<'_>) -> Result<(), NoMemory>
+        ensures ok { OnOk result (self.new ≡ pushed self.old attributes.now) }
+        ensures line { OnOk result ((line : List StartTag) → NamesStand self.old line → NamesStand self.new (attributes.now ∷ line)) }
+        ensures err { OnErr result (self.new ≡ self.old) }
+    {
         let mut added = Rows::new(self.alloc);
-        push_declarations(self.alloc, &mut added, tag)?;
+        push_declarations(self.alloc, &mut added, attributes)?;
         self.marks.reserve(1)?;
         let mark = self.rows.len();
         self.rows.append(added)?;

@@ -15,3 +15,15 @@ pub mod Sizes
 pub mod Fronts
 pub mod TagPlaces
 pub mod OpenElements
+pub mod Pieces
+pub mod Refusing
+pub mod Placing
+pub mod TokenPlacing
+pub mod Firsts
+pub mod FaultPlacing
+pub mod PlaceLaws
+pub mod RefusedTags
+pub mod Stopping
+pub mod Turning
+pub mod QuietReading
+pub mod Quieting

@@ -24,6 +24,7 @@ use Rattle.rx_nest.specs.Lines.{Lines, start_refusals, is_none_open, is_named, k
 use Rattle.rx_nest.specs.Signs.{Sign, begun, finished, Flags, Sight, sees, finishing, is_hidden}
 use Rattle.rx_nest.specs.Follows.{AreLevels, Follows, flags_of, phase_at, own_signs, own_tag, tag_by}
 use Rattle.rx_nest.proofs.LineLemmas.{place_is, name_is, length_is, none_is, named_is, under_kept, under_seen, end_kept, end_seen}
+use Rattle.rx_nest.proofs.TreeSeen.{over_line}
 
 rows_none : (rows : Rows) (row : Bool × Kind) → first_row rows ≡ None → first_row (rows ++ row ∷ []) ≡ first_row (row ∷ [])
 rows_none [] row h = refl
@@ -102,10 +103,6 @@ over_phase syntax [] [] stood h = refl
 over_phase syntax [] (t ∷ above) stood h = elim h [ ]
 over_phase syntax (level ∷ levels) [] stood h = elim h [ ]
 over_phase syntax (level ∷ levels) (t ∷ above) stood h = refl
-
-over_line : (line : Line) → (over line).line ≡ line
-over_line [] = refl
-over_line (t ∷ above) = refl
 
 over_drops : (line : Line) → (over line).drops ≡ false
 over_drops [] = refl

@@ -28,7 +28,7 @@ use Rattle.rx_nest.proofs.SeenTrees.{Ends, tree_is_seen}
 abbrev Sound : Nesting → Type 0
 Sound n = (stood : Bool) → n.phase ≡ before stood → n.line ≡ []
 
-over_line : (line : Line) → (over line).line ≡ line
+pub over_line : (line : Line) → (over line).line ≡ line
 over_line [] = refl
 over_line (t ∷ above) = refl
 

@@ -8,3 +8,13 @@ pub mod TreeTokens
 pub mod Nests
 pub mod Fronts
 pub mod OpenElements
+pub mod Ways
+pub mod TagPlaces
+pub mod Faults
+pub mod FaultPlaces
+pub mod RefusedTags
+pub mod Falling
+pub mod Listening
+pub mod Turns
+pub mod Readings
+pub mod Quiets

@@ -1,19 +1,25 @@
-//! The elements of a page in pieces.
+//! The elements of a page in pieces, and whoever listens to them.
 #![tactic(auto)]
 
 ghost use Rattle.rx_nest.specs.Fronts.{ShowsOneElement, TagsLieInTheirBytes};
 ghost use Rattle.rx_nest.specs.OpenElements.{HasOpenOfFronts, HasOpenUnderway};
+ghost use Rattle.rx_nest.specs.RefusedTags.{RefusedTagsAreLast};
 
 mod element_names;
 mod levels;
 mod lines;
+mod listener;
 mod nests;
 mod places;
+mod readings;
 mod reads;
 mod tables;
 mod tree_tokens;
+mod turns;
 
+pub use listener::Listener;
 pub use nests::{Event, Nest};
+pub use readings::Reading;
 pub use rx_grammar::{Content, Fault, Kind, Limits, RawName};
 pub use rx_scan::Syntax;
 pub use rx_tags::{Stop, Tag};
@@ -37,4 +43,10 @@ pub fn depth_is_of_the_front()
 /// Where something is unfinished they are those of the front before it.
 pub fn depth_is_of_what_is_underway()
     ensures { HasOpenUnderway }
+{}
+
+/// Where a start tag is refused for what it means, the bytes through its place are the front of a page with that tag last,
+/// and those before its token are one of which no start tag is refused.
+pub fn refused_tags_are_last()
+    ensures { RefusedTagsAreLast }
 {}

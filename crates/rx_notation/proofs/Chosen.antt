@@ -54,7 +54,7 @@ abbrev pub Apart : Prefixes → Type 0
 Apart [] = Unit {0}
 Apart (p ∷ ps) = ((q : Prefix) → Among ps q → p.0 ≡ q.0 → ⊥) × Apart ps
 
-abbrev name_of : Prefix → Chars
+abbrev pub name_of : Prefix → Chars
 name_of p = p.0
 
 pub names_apart : (ps : Prefixes) → names_differ (map (λ (p : Prefix). p.0) ps) ≡ true → Apart ps

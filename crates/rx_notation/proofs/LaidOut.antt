@@ -7,13 +7,14 @@ use Rattle.rx_terms.specs.Iri.{IsIri}
 use Rattle.rx_terms.specs.Lang.{is_lang}
 use Rattle.rx_model.specs.Sets.{Among}
 use Rattle.rx_model.specs.Terms.{Kind, Plain, Tagged, Typed, Node, Iri, Blank, Term, Resource, Literal, Triple}
-use Rattle.rx_model.specs.Copied.{rdf_type}
+use Rattle.rx_model.specs.Vocabulary.{rdf_type}
 use Rattle.rx_pieces.specs.Writing.{escaped_text, iri_text}
 use Rattle.rx_nquads.proofs.Denoting.{label_spelled, string_spelled}
 use Rattle.rx_notation.specs.Short.{Prefix, Prefixes, is_prefix_name, local_name, prefix_of}
-use Rattle.rx_notation.specs.Layout.{iri_by, short_iri, resource_text, verb_text, suffix_text, object_text, objects_of, predicates_of, separated, predicate_text, statement_text, prefix_text, prefixes_text}
-use Rattle.rx_notation.specs.Syntax.{Reference, Full, Short, Subject, Named, Labelled, Verb, By, Type_of, Suffix, Bare, Language, Datatype, Object, Objects, Predicates, Part, Noun, Quoted, Anonymous, Single, Comma, Predicate, Done, Also, Statement, is_flat}
-use Rattle.rx_notation.specs.Grammar.{At_prefix, Full_stop, Semicolon_sign, Comma_sign, Token, sign, declared, noun, quoted, verb_token, tokens, statement_tokens, prefix_tokens}
+use Rattle.rx_notation.specs.Layout.{iri_by, short_iri, resource_text, verb_text, suffix_text, object_text, separated, predicate_text, statement_text, prefix_text, prefixes_text}
+use Rattle.rx_shapes.specs.Subjects.{objects_of, predicates_of}
+use Rattle.rx_notation.specs.Syntax.{Reference, Full, Short, Subject, Named, Labelled, Verb, By, Type_of, Suffix, Bare, Language, Datatype, Object, Objects, Predicates, Part, IriOrLabel, Quoted, Anonymous, Single, Comma, Predicate, Done, Also, Statement, is_flat}
+use Rattle.rx_notation.specs.Grammar.{At_prefix, Full_stop, Semicolon_sign, Comma_sign, Token, terminal, declared, iri_or_label, quoted, verb_token, tokens, statement_tokens, prefix_tokens}
 use Rattle.rx_notation.specs.Spelling.{SpellsReference, SpellsSubject, SpellsSuffix, SpellsToken, SpellsBehind, SpellsTokens}
 use Rattle.rx_notation.proofs.Chosen.{prefix_fits}
 use Rattle.rx_notation.proofs.Joining.{Opens, Puts, all_tokens, behind_gap, puts_token, puts_then, adds_gap, adds_nothing, adds_by}
@@ -41,7 +42,7 @@ module _ (context : Prefixes) where
   suffix_for (Typed datatype) = Datatype (reference_for datatype)
 
   abbrev pub object_for : Term ℕ → Part Object
-  object_for (Resource node) = Noun (subject_for node)
+  object_for (Resource node) = IriOrLabel (subject_for node)
   object_for (Literal text kind) = Quoted text (suffix_for kind)
 
   abbrev pub objects_after : Term ℕ → List (Term ℕ) → Part Objects
@@ -132,8 +133,8 @@ module _ (context : Prefixes) where
   suffix_spelled (Tagged tag) h = (h, refl)
   suffix_spelled (Typed datatype) h = (short_iri context datatype, reference_spelled context datatype h, refl)
 
-  puts_subject : (node : Node ℕ) → GoodNode node → Puts (resource_text context node) (λ ts. noun (subject_for context node) ∷ ts)
-  puts_subject node h = puts_token (resource_text context node) (noun (subject_for context node)) (subject_spelled node h)
+  puts_subject : (node : Node ℕ) → GoodNode node → Puts (resource_text context node) (λ ts. iri_or_label (subject_for context node) ∷ ts)
+  puts_subject node h = puts_token (resource_text context node) (iri_or_label (subject_for context node)) (subject_spelled node h)
 
   puts_object : (object : Term ℕ) → GoodTerm object → Puts (object_text context object) (tokens (object_for context object))
   puts_object (Resource node) h = puts_subject node h
@@ -157,7 +158,7 @@ module _ (context : Prefixes) where
   objects_put object [] good = puts_then (puts_object object (good object (inl refl))) adds_nothing
   objects_put object (next ∷ more) good =
       puts_then (puts_object object (good object (inl refl))) (adds_by (comma_first next more)
-      (adds_gap (codes " ") refl (puts_then (puts_token (codes ",") (sign Comma_sign) refl) (adds_gap (codes " ") refl (objects_put next more (λ o m. good o (inr m)))))))
+      (adds_gap (codes " ") refl (puts_then (puts_token (codes ",") (terminal Comma_sign) refl) (adds_gap (codes " ") refl (objects_put next more (λ o m. good o (inr m)))))))
 
   some_objects_put : (objects : List (Term ℕ)) → (o : Term ℕ) → Among objects o → ((o : Term ℕ) → Among objects o → GoodTerm o) → Puts (separated (codes " , ") (map (object_text context) objects)) (tokens (objects_for context objects))
   some_objects_put [] o h good = absurd h
@@ -190,7 +191,7 @@ module _ (context : Prefixes) where
     predicates_put p [] good = puts_then (line_puts p (good p (inl refl))) adds_nothing
     predicates_put p (next ∷ more) good =
         puts_then (line_puts p (good p (inl refl))) (adds_by (semicolon_first next more)
-        (adds_gap (codes " ") refl (puts_then (puts_token (codes ";") (sign Semicolon_sign) refl) (adds_gap (codes "\n    ") refl (predicates_put next more (λ q m. good q (inr m)))))))
+        (adds_gap (codes " ") refl (puts_then (puts_token (codes ";") (terminal Semicolon_sign) refl) (adds_gap (codes "\n    ") refl (predicates_put next more (λ q m. good q (inr m)))))))
 
     some_predicates_put : (ps : List Chars) → (p : Chars) → Among ps p → ((q : Chars) → Among ps q → GoodPredicate q) → Puts (separated (codes " ;\n    ") (map line ps)) (tokens (predicates_for context objects ps))
     some_predicates_put [] p h good = absurd h
@@ -219,11 +220,11 @@ module _ (context : Prefixes) (list : List (Triple ℕ)) where
   abbrev body : Node ℕ → Chars
   body node = resource_text context node ++ (codes " " ++ (said node ++ codes " ."))
 
-  body_puts : (node : Node ℕ) → GoodSubject node → Puts (body node) (λ ts. noun (subject_for context node) ∷ tokens (statement_for context list node).predicates (sign Full_stop ∷ ts))
+  body_puts : (node : Node ℕ) → GoodSubject node → Puts (body node) (λ ts. iri_or_label (subject_for context node) ∷ tokens (statement_for context list node).predicates (terminal Full_stop ∷ ts))
   body_puts node good =
       puts_then (puts_subject context node good.is_good) (adds_gap (codes " ") refl
       (puts_then (some_predicates_put context (objects_of list node) (predicates_of list node) good.some good.there good.predicates)
-      (adds_gap (codes " ") refl (puts_token (codes ".") (sign Full_stop) refl))))
+      (adds_gap (codes " ") refl (puts_token (codes ".") (terminal Full_stop) refl))))
 
   abbrev statements_text : List (Node ℕ) → Chars
   statements_text nodes = flat_map (statement_text context list) nodes
@@ -255,12 +256,12 @@ pub record GoodPrefix (p : Prefix) : Type 0 where
 abbrev prefix_body : Prefix → Chars
 prefix_body p = codes "@prefix" ++ (codes " " ++ ((p.0 ++ codes ":") ++ (codes " " ++ (iri_text p.1 ++ (codes " " ++ codes ".")))))
 
-prefix_puts : (p : Prefix) → GoodPrefix p → Puts (prefix_body p) (λ ts. sign At_prefix ∷ declared p.0 ∷ noun (Named (Full p.1)) ∷ sign Full_stop ∷ ts)
+prefix_puts : (p : Prefix) → GoodPrefix p → Puts (prefix_body p) (λ ts. terminal At_prefix ∷ declared p.0 ∷ iri_or_label (Named (Full p.1)) ∷ terminal Full_stop ∷ ts)
 prefix_puts p good =
-    puts_then (puts_token (codes "@prefix") (sign At_prefix) refl) (adds_gap (codes " ") refl
+    puts_then (puts_token (codes "@prefix") (terminal At_prefix) refl) (adds_gap (codes " ") refl
     (puts_then (puts_token (p.0 ++ codes ":") (declared p.0) (record { is_name = good.is_name; spelled = refl })) (adds_gap (codes " ") refl
-    (puts_then (puts_token (iri_text p.1) (noun (Named (Full p.1))) (record { is_iri = good.is_iri; spelled = refl })) (adds_gap (codes " ") refl
-    (puts_token (codes ".") (sign Full_stop) refl))))))
+    (puts_then (puts_token (iri_text p.1) (iri_or_label (Named (Full p.1))) (record { is_iri = good.is_iri; spelled = refl })) (adds_gap (codes " ") refl
+    (puts_token (codes ".") (terminal Full_stop) refl))))))
 
 prefix_moved : (name iri rest : Chars) → (codes "@prefix" ++ (codes " " ++ ((name ++ codes ":") ++ (codes " " ++ (iri ++ (codes " " ++ codes ".")))))) ++ (codes "\n" ++ rest)
     ≡ (codes "@prefix " ++ (name ++ (codes ": " ++ (iri ++ codes " .\n")))) ++ rest

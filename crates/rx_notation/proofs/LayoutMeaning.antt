@@ -6,22 +6,24 @@ use Rattle.rx_terms.specs.Text.{Chars}
 use Rattle.rx_terms.specs.Iri.{IsIri}
 use Rattle.rx_model.specs.Sets.{Among}
 use Rattle.rx_model.specs.Terms.{Kind, Plain, Tagged, Typed, Node, Iri, Blank, Term, Resource, Literal, Triple}
-use Rattle.rx_model.specs.Copied.{rdf_type, spo}
+use Rattle.rx_model.specs.Copied.{spo}
+use Rattle.rx_model.specs.Vocabulary.{rdf_type}
 use Rattle.rx_model.proofs.Sets.{Among_left, Among_right, Among_flat_map, Among_map, Among_of_map}
 use Rattle.rx_model.proofs.Exact.{exact_texts}
-use Rattle.rx_nquads.specs.Quads.{kind_of, proper_kind, proper_term, IsProper}
-use Rattle.rx_pieces.specs.Writable.{WritableNode, WritableKind, WritableTerm}
+use Rattle.rx_nquads.specs.Quads.{kind_of, proper_kind, proper_term, IsProper, proper_triple}
+use Rattle.rx_pieces.specs.Writable.{WritableNode, WritableKind, WritableTerm, IsWritable}
 use Rattle.rx_nquads.proofs.Proper.{proper_stays}
 use Rattle.rx_notation.specs.Short.{Prefix, Prefixes, local_name, prefix_of}
-use Rattle.rx_notation.specs.Layout.{iris_of_node, iris_of_term, iris_of_predicate, iris_of, prefixes_used, prefixes_text, subjects, predicates_of, objects_of, statement_text, turtle}
+use Rattle.rx_notation.specs.Layout.{iris_of_node, iris_of_term, iris_of_predicate, iris_of, prefixes_used, prefixes_text, statement_text, turtle}
+use Rattle.rx_shapes.specs.Subjects.{subjects, predicates_of, objects_of}
 use Rattle.rx_notation.specs.Syntax.{By, Type_of, Document, are_flat}
 use Rattle.rx_notation.specs.Grammar.{statement_tokens, prefix_tokens}
 use Rattle.rx_notation.specs.Spelling.{SpellsTokens, Spells}
 use Rattle.rx_notation.specs.Meaning.{Turtle, iri_of, is_known, is_known_subject, is_known_verb, is_known_suffix, all_known, are_known, predicate_of, kind_by, unlabelled, node_of, term_of, triples, all_triples}
-use Rattle.rx_notation.specs.Laws.{proper_triple, IsContext, IsWritable, LayoutDenotes}
+use Rattle.rx_notation.specs.Laws.{IsContext, LayoutDenotes}
 use Rattle.rx_notation.proofs.Chosen.{Apart, prefix_fits, front_and_rest, names_apart, apart_names, used_apart, used_of, used_fits, used_there, none_used, iri_found, known_there}
 use Rattle.rx_notation.proofs.LaidOut.{reference_by, reference_for, subject_for, verb_for, suffix_for, object_for, objects_after, objects_for, predicates_after, predicates_for, statement_for, some_predicates_flat, GoodNode, GoodKind, GoodTerm, GoodPredicate, GoodSubject, GoodPrefix, statements_open, prefixes_spelled}
-use Rattle.rx_notation.proofs.Grouped.{subject_says, predicate_says, object_says, said_of, grouped, grouped_same}
+use Rattle.rx_shapes.proofs.Grouped.{subject_says, predicate_says, object_says, said_of, grouped, grouped_same}
 
 -- ---- references are resolved
 

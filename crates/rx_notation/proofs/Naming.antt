@@ -10,7 +10,7 @@ use Rattle.rx_model.specs.Copied.{spo}
 use Rattle.rx_model.specs.Numbered.{rename_node, rename_term, rename, blank_of_node, blank_of_term, blanks_of, Has, Renamed}
 use Rattle.rx_model.proofs.Sets.{Among_map, Among_of_map, Among_cases}
 use Rattle.rx_notation.specs.Short.{Prefixes}
-use Rattle.rx_notation.specs.Syntax.{Full, Short, Subject, Named, Labelled, Sort, Object, Objects, Items, Predicates, Further, Part, Noun, Quoted, Anonymous, Nil, Bracketed, Collection, Single, Comma, Last, Item, Predicate, Done, Semicolon, Also, Statement, Document, is_flat, are_flat}
+use Rattle.rx_notation.specs.Syntax.{Full, Short, Subject, Named, Labelled, Sort, Object, Objects, Items, Predicates, Further, Part, IriOrLabel, Quoted, Anonymous, Nil, Bracketed, Collection, Single, Comma, Last, Item, Predicate, Done, Semicolon, Also, Statement, Document, is_flat, are_flat}
 use Rattle.rx_notation.specs.Meaning.{rdf_first, rdf_rest, rdf_nil, predicate_of, unlabelled, Of, node_of, term_of, triples, all_triples, Turtle, Name, Label, Place, NestedTurtle, FlatIsNested}
 
 triple_path : {B : Type 0} (p : Chars) {s r : Node B} {o q : Term B} → s ≡ r → o ≡ q → spo s p o ≡ spo r p q
@@ -35,7 +35,7 @@ module _ {A B : Type 0} (to : A → B) (prefixes : Prefixes) (label place : ℕ 
   node_renamed (Labelled number) = refl
 
   term_renamed : (o : Part Object) (n : ℕ) → rename_term to (term_of prefixes label place o n) ≡ term_of prefixes label_to place_to o n
-  term_renamed (Noun s) n = ap Resource (node_renamed s)
+  term_renamed (IriOrLabel s) n = ap Resource (node_renamed s)
   term_renamed (Quoted text suffix) n = refl
   term_renamed Anonymous n = refl
   term_renamed Nil n = refl
@@ -43,7 +43,7 @@ module _ {A B : Type 0} (to : A → B) (prefixes : Prefixes) (label place : ℕ 
   term_renamed (Collection items) n = refl
 
   part_renamed : {sort : Sort} (p : Part sort) (of : Of A sort) (n : ℕ) → map (rename to) (triples prefixes label place p of n) ≡ triples prefixes label_to place_to p (rename_of sort of) n
-  part_renamed (Noun s) of n = refl
+  part_renamed (IriOrLabel s) of n = refl
   part_renamed (Quoted text suffix) of n = refl
   part_renamed Anonymous of n = refl
   part_renamed Nil of n = refl
@@ -106,7 +106,7 @@ module _ (prefixes : Prefixes) where
   node_label (Labelled number) = tt
 
   term_label : (o : Part Object) (n : ℕ) → is_flat o ≡ true → TermHasLabel (term_of prefixes Label Place o n)
-  term_label (Noun s) n h = node_label s
+  term_label (IriOrLabel s) n h = node_label s
   term_label (Quoted text suffix) n h = tt
   term_label Anonymous n h = absurd (true≢false (sym h))
   term_label Nil n h = tt
@@ -114,7 +114,7 @@ module _ (prefixes : Prefixes) where
   term_label (Collection items) n h = absurd (true≢false (sym h))
 
   part_labels : {sort : Sort} (p : Part sort) (of : Of Name sort) (n : ℕ) → is_flat p ≡ true → OfLabel sort of → (t : Triple Name) → Among (triples prefixes Label Place p of n) t → AllLabels t
-  part_labels (Noun s) of n h k t m = absurd m
+  part_labels (IriOrLabel s) of n h k t m = absurd m
   part_labels (Quoted text suffix) of n h k t m = absurd m
   part_labels Anonymous of n h k t m = absurd m
   part_labels Nil of n h k t m = absurd m

@@ -1,28 +1,28 @@
 -- A list of tokens is that of at most one document.
 use Rattle.std.proofs.Common.{◌≡◌, ◌∙◌, Bool, true, false, List, [], ◌∷◌, refl, sym, ap, ap₂, true≢false}
 use Rattle.rx_notation.specs.Short.{Prefix, Prefixes}
-use Rattle.rx_notation.specs.Syntax.{Verb, By, Type_of, Sort, Object, Objects, Items, Predicates, Further, Part, Noun, Quoted, Anonymous, Nil, Bracketed, Collection, Single, Comma, Last, Item, Predicate, Done, Semicolon, Also, Statement}
-use Rattle.rx_notation.specs.Grammar.{Sign, At_prefix, Full_stop, Semicolon_sign, Comma_sign, Right_bracket, Right_parenthesis, Token, sign, verb_token, tokens, statement_tokens, prefix_tokens, TokensOfOne}
+use Rattle.rx_notation.specs.Syntax.{Verb, By, Type_of, Sort, Object, Objects, Items, Predicates, Further, Part, IriOrLabel, Quoted, Anonymous, Nil, Bracketed, Collection, Single, Comma, Last, Item, Predicate, Done, Semicolon, Also, Statement}
+use Rattle.rx_notation.specs.Grammar.{Terminal, At_prefix, Full_stop, Semicolon_sign, Comma_sign, Right_bracket, Right_parenthesis, Token, terminal, verb_token, tokens, statement_tokens, prefix_tokens, TokensOfOne}
 
 -- ---- what may follow a part
 
-ends_items : Sign → Bool
+ends_items : Terminal → Bool
 ends_items Right_parenthesis = true
 ends_items _ = false
 
-ends_predicates : Sign → Bool
+ends_predicates : Terminal → Bool
 ends_predicates Right_bracket = true
 ends_predicates Full_stop = true
 ends_predicates _ = false
 
-ends_objects : Sign → Bool
+ends_objects : Terminal → Bool
 ends_objects Right_bracket = true
 ends_objects Full_stop = true
 ends_objects Semicolon_sign = true
 ends_objects _ = false
 
-begins : (Sign → Bool) → List Token → Bool
-begins test (sign s ∷ rest) = test s
+begins : (Terminal → Bool) → List Token → Bool
+begins test (terminal s ∷ rest) = test s
 begins test _ = false
 
 abbrev Ends : Sort → List Token → Type 0
@@ -32,11 +32,11 @@ Ends Items rest = begins ends_items rest ≡ true
 Ends Predicates rest = begins ends_predicates rest ≡ true
 Ends Further rest = begins ends_predicates rest ≡ true
 
-not_comma : (rest more : List Token) → begins ends_objects rest ≡ true → rest ≡ sign Comma_sign ∷ more → ⊥
+not_comma : (rest more : List Token) → begins ends_objects rest ≡ true → rest ≡ terminal Comma_sign ∷ more → ⊥
 unfolding begins ends_objects
 not_comma rest more h e = true≢false (sym h ∙ ap (begins ends_objects) e)
 
-not_semicolon : (rest more : List Token) → begins ends_predicates rest ≡ true → rest ≡ sign Semicolon_sign ∷ more → ⊥
+not_semicolon : (rest more : List Token) → begins ends_predicates rest ≡ true → rest ≡ terminal Semicolon_sign ∷ more → ⊥
 unfolding begins ends_predicates
 not_semicolon rest more h e = true≢false (sym h ∙ ap (begins ends_predicates) e)
 
@@ -48,7 +48,7 @@ not_verb Type_of rest more h e = true≢false (sym h ∙ ap (begins ends_predica
 -- an object begins with no closing parenthesis
 object_opens : (object : Part Object) (rest : List Token) → begins ends_items (tokens object rest) ≡ false
 unfolding begins ends_items
-object_opens (Noun subject) rest = refl
+object_opens (IriOrLabel subject) rest = refl
 object_opens (Quoted text suffix) rest = refl
 object_opens Anonymous rest = refl
 object_opens Nil rest = refl
@@ -65,8 +65,8 @@ not_items items rest more h e = true≢false (sym h ∙ ap (begins ends_items) e
 -- what follows the objects of a predicate ends them
 further_ends : (further : Part Further) (rest : List Token) → begins ends_predicates rest ≡ true → begins ends_objects (tokens further rest) ≡ true
 unfolding begins ends_predicates ends_objects
-further_ends Done (sign Right_bracket ∷ rest) h = refl
-further_ends Done (sign Full_stop ∷ rest) h = refl
+further_ends Done (terminal Right_bracket ∷ rest) h = refl
+further_ends Done (terminal Full_stop ∷ rest) h = refl
 further_ends Done _ h = absurd (true≢false (sym h))
 further_ends (Semicolon further) rest h = refl
 further_ends (Also predicates) rest h = refl
@@ -85,32 +85,32 @@ one_verb Type_of Type_of x y e = (refl, cc)
 one_verb (By r) Type_of x y e = absurd (cc)
 one_verb Type_of (By q) x y e = absurd (cc)
 
-closes_brackets : (rest : List Token) → begins ends_predicates (sign Right_bracket ∷ rest) ≡ true
+closes_brackets : (rest : List Token) → begins ends_predicates (terminal Right_bracket ∷ rest) ≡ true
 unfolding begins ends_predicates
 closes_brackets rest = refl
 
-closes_parentheses : (rest : List Token) → begins ends_items (sign Right_parenthesis ∷ rest) ≡ true
+closes_parentheses : (rest : List Token) → begins ends_items (terminal Right_parenthesis ∷ rest) ≡ true
 unfolding begins ends_items
 closes_parentheses rest = refl
 
 -- ---- parts
 
 one_part : {sort : Sort} (a b : Part sort) (x y : List Token) → Ends sort x → Ends sort y → tokens a x ≡ tokens b y → (a ≡ b) × (x ≡ y)
-one_part (Noun s) (Noun r) x y h k e = (ap Noun (cc), cc)
+one_part (IriOrLabel s) (IriOrLabel r) x y h k e = (ap IriOrLabel (cc), cc)
 one_part (Quoted text suffix) (Quoted text' suffix') x y h k e = (ap₂ Quoted (cc) (cc), cc)
 one_part Anonymous Anonymous x y h k e = (refl, cc)
 one_part Nil Nil x y h k e = (refl, cc)
 one_part (Bracketed a) (Bracketed b) x y h k e =
-    let parts = one_part a b (sign Right_bracket ∷ x) (sign Right_bracket ∷ y) (closes_brackets x) (closes_brackets y) (cc) in
+    let parts = one_part a b (terminal Right_bracket ∷ x) (terminal Right_bracket ∷ y) (closes_brackets x) (closes_brackets y) (cc) in
     let rest = parts.1 in (ap Bracketed parts.0, cc)
 one_part (Collection a) (Collection b) x y h k e =
-    let parts = one_part a b (sign Right_parenthesis ∷ x) (sign Right_parenthesis ∷ y) (closes_parentheses x) (closes_parentheses y) (cc) in
+    let parts = one_part a b (terminal Right_parenthesis ∷ x) (terminal Right_parenthesis ∷ y) (closes_parentheses x) (closes_parentheses y) (cc) in
     let rest = parts.1 in (ap Collection parts.0, cc)
 one_part (Single a) (Single b) x y h k e = let parts = one_part a b x y tt tt e in (ap Single parts.0, parts.1)
-one_part (Single a) (Comma b bs) x y h k e = absurd (not_comma x (tokens bs y) h (one_part a b x (sign Comma_sign ∷ tokens bs y) tt tt e).1)
-one_part (Comma a as_) (Single b) x y h k e = absurd (not_comma y (tokens as_ x) k (sym (one_part a b (sign Comma_sign ∷ tokens as_ x) y tt tt e).1))
+one_part (Single a) (Comma b bs) x y h k e = absurd (not_comma x (tokens bs y) h (one_part a b x (terminal Comma_sign ∷ tokens bs y) tt tt e).1)
+one_part (Comma a as_) (Single b) x y h k e = absurd (not_comma y (tokens as_ x) k (sym (one_part a b (terminal Comma_sign ∷ tokens as_ x) y tt tt e).1))
 one_part (Comma a as_) (Comma b bs) x y h k e =
-    let first = one_part a b (sign Comma_sign ∷ tokens as_ x) (sign Comma_sign ∷ tokens bs y) tt tt e in
+    let first = one_part a b (terminal Comma_sign ∷ tokens as_ x) (terminal Comma_sign ∷ tokens bs y) tt tt e in
     let behind = first.1 in
     let rest = one_part as_ bs x y h k (cc) in
     (ap₂ Comma first.0 rest.0, rest.1)
@@ -139,7 +139,7 @@ one_part _ _ x y h k e = absurd (cc)
 
 -- ---- documents
 
-ends_statement : (rest : List Token) → begins ends_predicates (sign Full_stop ∷ rest) ≡ true
+ends_statement : (rest : List Token) → begins ends_predicates (terminal Full_stop ∷ rest) ≡ true
 unfolding begins ends_predicates
 ends_statement rest = refl
 
@@ -152,11 +152,11 @@ one_statements [] (t ∷ ts) e = absurd (cc)
 one_statements (s ∷ ss) [] e = absurd (cc)
 one_statements (s ∷ ss) (t ∷ ts) e =
     let subject : s.subject ≡ t.subject = cc in
-    let parts = one_part s.predicates t.predicates (sign Full_stop ∷ statement_tokens ss) (sign Full_stop ∷ statement_tokens ts) (ends_statement (statement_tokens ss)) (ends_statement (statement_tokens ts)) (cc) in
+    let parts = one_part s.predicates t.predicates (terminal Full_stop ∷ statement_tokens ss) (terminal Full_stop ∷ statement_tokens ts) (ends_statement (statement_tokens ss)) (ends_statement (statement_tokens ts)) (cc) in
     let behind = parts.1 in
     ap₂ ◌∷◌ (statement_path s t subject parts.0) (one_statements ss ts (cc))
 
-no_prefix : (ss : List Statement) (rest : List Token) → statement_tokens ss ≡ sign At_prefix ∷ rest → ⊥
+no_prefix : (ss : List Statement) (rest : List Token) → statement_tokens ss ≡ terminal At_prefix ∷ rest → ⊥
 no_prefix [] rest e = cc
 no_prefix (s ∷ ss) rest e = cc
 

@@ -6,7 +6,7 @@ use Rattle.rx_model.specs.Numbered.{Renamed}
 use Rattle.rx_notation.specs.Syntax.{Document}
 use Rattle.rx_notation.specs.Meaning.{all_triples, Name, Label, Place, DenotesOne, NestedDenotesOne}
 use Rattle.rx_notation.proofs.OneText.{spells_one}
-use Rattle.rx_notation.proofs.Renamings.{renamed_across}
+use Rattle.rx_model.proofs.Renamings.{renamed_across}
 
 abbrev flat_triples : Document → List (Triple ℕ)
 flat_triples d = all_triples d.prefixes (λ number. number) (λ n. n) d.statements 0

@@ -11,8 +11,8 @@ use Rattle.rx_nquads.proofs.Cuts.{lacks, differs, cut, lacks_append, lacks_where
 use Rattle.rx_nquads.proofs.OneMeaning.{space_marks, line_feed_marks, iri_lacks, label_lacks, kind_lacks, one_iri, one_label, one_string}
 use Rattle.rx_notation.specs.Short.{is_name_char, is_prefix_name, is_local_name}
 use Rattle.rx_notation.specs.Syntax.{Reference, Full, Short, Subject, Named, Labelled, Suffix, Bare, Language, Datatype}
-use Rattle.rx_notation.specs.Grammar.{Sign, At_prefix, Small_a, Full_stop, Semicolon_sign, Comma_sign, Left_bracket, Right_bracket, Brackets, Left_parenthesis, Right_parenthesis, Parentheses, Token, sign, declared, noun, quoted, document_tokens}
-use Rattle.rx_notation.specs.Spelling.{sign_text, SpellsReference, SpellsSubject, SpellsSuffix, SpellsQuoted, SpellsToken, is_separator, is_gap, SpellsBehind, SpellsTokens, SpellsOne}
+use Rattle.rx_notation.specs.Grammar.{Terminal, At_prefix, Small_a, Full_stop, Semicolon_sign, Comma_sign, Left_bracket, Right_bracket, Brackets, Left_parenthesis, Right_parenthesis, Parentheses, Token, terminal, declared, iri_or_label, quoted, document_tokens}
+use Rattle.rx_notation.specs.Spelling.{terminal_text, SpellsReference, SpellsSubject, SpellsSuffix, SpellsQuoted, SpellsToken, is_separator, is_gap, SpellsBehind, SpellsTokens, SpellsOne}
 use Rattle.rx_notation.proofs.OneDocument.{one_document}
 
 -- ---- lists cut where a test fails
@@ -112,7 +112,7 @@ suffix_inked spelling Bare h = ap inked h
 suffix_inked spelling (Language tag) h = ap inked h.1 ∙ inked_by (commercial_at ∷ tag) (kind_lacks space space_marks _ _ (tagged tag h.0)) (kind_lacks line_feed line_feed_marks _ _ (tagged tag h.0))
 suffix_inked spelling (Datatype r) h = ap inked h.2 ∙ reference_inked h.0 r h.1
 
-sign_inked : (s : Sign) → inked (sign_text s) ≡ true
+sign_inked : (s : Terminal) → inked (terminal_text s) ≡ true
 sign_inked At_prefix = refl
 sign_inked Small_a = refl
 sign_inked Full_stop = refl
@@ -130,20 +130,20 @@ sign_inked Parentheses = refl
 has_colon : Chars → Bool
 has_colon text = list_any (λ c. c == colon) text
 
--- 1 for an IRI in full, 2 for a label, 4 for a literal, 3 where there is a colon, 0 for a sign
+-- 1 for an IRI in full, 2 for a label, 4 for a literal, 3 where there is a colon, 0 for a terminal
 kind : Chars → ℕ
 kind [] = 9
 kind (c ∷ text) = if c == less_than_sign then 1 else if c == low_line then 2 else if c == quotation_mark then 4 else if has_colon (c ∷ text) then 3 else 0
 
 token_kind : Token → ℕ
-token_kind (sign s) = 0
+token_kind (terminal s) = 0
 token_kind (declared name) = 3
-token_kind (noun (Named (Full iri))) = 1
-token_kind (noun (Named (Short name local))) = 3
-token_kind (noun (Labelled number)) = 2
+token_kind (iri_or_label (Named (Full iri))) = 1
+token_kind (iri_or_label (Named (Short name local))) = 3
+token_kind (iri_or_label (Labelled number)) = 2
 token_kind (quoted text suffix) = 4
 
-sign_kind : (s : Sign) → kind (sign_text s) ≡ 0
+sign_kind : (s : Terminal) → kind (terminal_text s) ≡ 0
 unfolding kind has_colon
 sign_kind At_prefix = refl
 sign_kind Small_a = refl
@@ -171,16 +171,16 @@ by_colon (c ∷ name) rest h =
 
 kind_spelled : (spelling : Chars) (t : Token) → SpellsToken spelling t → kind spelling ≡ token_kind t
 unfolding kind token_kind
-kind_spelled spelling (sign s) h = ap kind h ∙ sign_kind s
+kind_spelled spelling (terminal s) h = ap kind h ∙ sign_kind s
 kind_spelled spelling (declared name) h = ap kind h.spelled ∙ by_colon name [] h.is_name
-kind_spelled spelling (noun (Named (Full iri))) h = ap kind h.spelled
-kind_spelled spelling (noun (Named (Short name local))) h = ap kind h.spelled ∙ by_colon name local h.is_name
-kind_spelled spelling (noun (Labelled number)) h = ap kind h.spelled
+kind_spelled spelling (iri_or_label (Named (Full iri))) h = ap kind h.spelled
+kind_spelled spelling (iri_or_label (Named (Short name local))) h = ap kind h.spelled ∙ by_colon name local h.is_name
+kind_spelled spelling (iri_or_label (Labelled number)) h = ap kind h.spelled
 kind_spelled spelling (quoted text suffix) h = ap kind h.spelled
 
 -- ---- a spelling is of one token
 
-sign_in : Chars → Sign
+sign_in : Chars → Terminal
 sign_in text =
     if bytes_eq text (codes "@prefix") then At_prefix
     else if bytes_eq text (codes "a") then Small_a
@@ -194,7 +194,7 @@ sign_in text =
     else if bytes_eq text (codes ")") then Right_parenthesis
     else Parentheses
 
-read_back : (s : Sign) → sign_in (sign_text s) ≡ s
+read_back : (s : Terminal) → sign_in (terminal_text s) ≡ s
 unfolding sign_in
 read_back At_prefix = refl
 read_back Small_a = refl
@@ -208,7 +208,7 @@ read_back Left_parenthesis = refl
 read_back Right_parenthesis = refl
 read_back Parentheses = refl
 
-one_sign : (s r : Sign) → sign_text s ≡ sign_text r → s ≡ r
+one_sign : (s r : Terminal) → terminal_text s ≡ terminal_text r → s ≡ r
 one_sign s r e = sym (read_back s) ∙ ap sign_in e ∙ read_back r
 
 -- names before a colon
@@ -254,28 +254,28 @@ no_kind s r t u e h k differ = differ (sym (kind_spelled s t h) ∙ ap kind e �
 
 one_token : (s r : Chars) (t u : Token) → s ≡ r → is_quoted t ≡ false → SpellsToken s t → SpellsToken r u → t ≡ u
 unfolding token_kind is_quoted
-one_token s r (sign a) (sign b) e n h k = ap sign (one_sign a b (sym h ∙ e ∙ k))
+one_token s r (terminal a) (terminal b) e n h k = ap terminal (one_sign a b (sym h ∙ e ∙ k))
 one_token s r (declared a) (declared b) e n h k = ap declared (before_colon a b [] [] h.is_name k.is_name (sym h.spelled ∙ e ∙ k.spelled)).0
-one_token s r (noun (Named (Full a))) (noun (Named (Full b))) e n h k = ap (λ z. noun (Named z)) (one_reference s r (Full a) (Full b) e h k)
-one_token s r (noun (Named (Short a x))) (noun (Named (Short b y))) e n h k = ap (λ z. noun (Named z)) (one_reference s r (Short a x) (Short b y) e h k)
-one_token s r (noun (Labelled a)) (noun (Labelled b)) e n h k = ap (λ z. noun (Labelled z)) (one_label s r a b e h k)
-one_token s r (declared a) (noun (Named (Short b y))) e n h k = absurd (no_local y k.is_local (before_colon a b [] y h.is_name k.is_name (sym h.spelled ∙ e ∙ k.spelled)).1)
-one_token s r (noun (Named (Short a x))) (declared b) e n h k = absurd (no_local x h.is_local (sym (before_colon a b x [] h.is_name k.is_name (sym h.spelled ∙ e ∙ k.spelled)).1))
+one_token s r (iri_or_label (Named (Full a))) (iri_or_label (Named (Full b))) e n h k = ap (λ z. iri_or_label (Named z)) (one_reference s r (Full a) (Full b) e h k)
+one_token s r (iri_or_label (Named (Short a x))) (iri_or_label (Named (Short b y))) e n h k = ap (λ z. iri_or_label (Named z)) (one_reference s r (Short a x) (Short b y) e h k)
+one_token s r (iri_or_label (Labelled a)) (iri_or_label (Labelled b)) e n h k = ap (λ z. iri_or_label (Labelled z)) (one_label s r a b e h k)
+one_token s r (declared a) (iri_or_label (Named (Short b y))) e n h k = absurd (no_local y k.is_local (before_colon a b [] y h.is_name k.is_name (sym h.spelled ∙ e ∙ k.spelled)).1)
+one_token s r (iri_or_label (Named (Short a x))) (declared b) e n h k = absurd (no_local x h.is_local (sym (before_colon a b x [] h.is_name k.is_name (sym h.spelled ∙ e ∙ k.spelled)).1))
 one_token s r (quoted text suffix) _ e n h k = absurd (true≢false n)
-one_token s r (sign a) (noun (Labelled b)) e n h k = absurd (no_kind s r (sign a) (noun (Labelled b)) e h k (λ z. omega (arith, z)))
-one_token s r (sign a) (noun (Named (Full b))) e n h k = absurd (no_kind s r (sign a) (noun (Named (Full b))) e h k (λ z. omega (arith, z)))
-one_token s r (sign a) (noun (Named (Short b y))) e n h k = absurd (no_kind s r (sign a) (noun (Named (Short b y))) e h k (λ z. omega (arith, z)))
-one_token s r (noun (Labelled a)) (noun (Named (Full b))) e n h k = absurd (no_kind s r (noun (Labelled a)) (noun (Named (Full b))) e h k (λ z. omega (arith, z)))
-one_token s r (noun (Labelled a)) (noun (Named (Short b y))) e n h k = absurd (no_kind s r (noun (Labelled a)) (noun (Named (Short b y))) e h k (λ z. omega (arith, z)))
+one_token s r (terminal a) (iri_or_label (Labelled b)) e n h k = absurd (no_kind s r (terminal a) (iri_or_label (Labelled b)) e h k (λ z. omega (arith, z)))
+one_token s r (terminal a) (iri_or_label (Named (Full b))) e n h k = absurd (no_kind s r (terminal a) (iri_or_label (Named (Full b))) e h k (λ z. omega (arith, z)))
+one_token s r (terminal a) (iri_or_label (Named (Short b y))) e n h k = absurd (no_kind s r (terminal a) (iri_or_label (Named (Short b y))) e h k (λ z. omega (arith, z)))
+one_token s r (iri_or_label (Labelled a)) (iri_or_label (Named (Full b))) e n h k = absurd (no_kind s r (iri_or_label (Labelled a)) (iri_or_label (Named (Full b))) e h k (λ z. omega (arith, z)))
+one_token s r (iri_or_label (Labelled a)) (iri_or_label (Named (Short b y))) e n h k = absurd (no_kind s r (iri_or_label (Labelled a)) (iri_or_label (Named (Short b y))) e h k (λ z. omega (arith, z)))
 one_token s r t u e n h k = absurd (no_kind s r t u e h k (λ z. omega (arith, z)))
 
 -- ---- a token at the front of a text
 
 plain_inked : (spelling : Chars) (t : Token) → is_quoted t ≡ false → SpellsToken spelling t → inked spelling ≡ true
 unfolding is_quoted
-plain_inked spelling (sign s) n h = ap inked h ∙ sign_inked s
+plain_inked spelling (terminal s) n h = ap inked h ∙ sign_inked s
 plain_inked spelling (declared name) n h = ap inked h.spelled ∙ inked_by (name ++ colon ∷ []) (declared_lacks space refl refl name h.is_name) (declared_lacks line_feed refl refl name h.is_name)
-plain_inked spelling (noun subject) n h = subject_inked spelling subject h
+plain_inked spelling (iri_or_label subject) n h = subject_inked spelling subject h
 plain_inked spelling (quoted text suffix) n h = absurd (true≢false n)
 
 -- only a literal begins with a quotation mark
@@ -289,11 +289,11 @@ no_quote (c ∷ spelling) x y n h small e =
 
 plain_small : (t : Token) → is_quoted t ≡ false → token_kind t < 4
 unfolding is_quoted token_kind
-plain_small (sign s) n = omega arith
+plain_small (terminal s) n = omega arith
 plain_small (declared name) n = omega arith
-plain_small (noun (Named (Full iri))) n = omega arith
-plain_small (noun (Named (Short name local))) n = omega arith
-plain_small (noun (Labelled number)) n = omega arith
+plain_small (iri_or_label (Named (Full iri))) n = omega arith
+plain_small (iri_or_label (Named (Short name local))) n = omega arith
+plain_small (iri_or_label (Labelled number)) n = omega arith
 plain_small (quoted text suffix) n = absurd (true≢false n)
 
 moved : (inside behind x : Chars) → (quotation_mark ∷ (inside ++ quotation_mark ∷ behind)) ++ x ≡ quotation_mark ∷ (inside ++ quotation_mark ∷ (behind ++ x))
@@ -320,18 +320,18 @@ mixed_front s r x y text suffix u n h k e =
 token_front : (s r x y : Chars) (t u : Token) → SpellsToken s t → SpellsToken r u → stops is_ink x ≡ true → stops is_ink y ≡ true → s ++ x ≡ r ++ y → (t ≡ u) × (x ≡ y)
 unfolding is_quoted
 token_front s r x y (quoted text suffix) (quoted text' suffix') h k p q e = quoted_front s r x y text text' suffix suffix' h k p q e
-token_front s r x y (quoted text suffix) (sign u) h k p q e = absurd (mixed_front s r x y text suffix (sign u) refl h k e)
+token_front s r x y (quoted text suffix) (terminal u) h k p q e = absurd (mixed_front s r x y text suffix (terminal u) refl h k e)
 token_front s r x y (quoted text suffix) (declared u) h k p q e = absurd (mixed_front s r x y text suffix (declared u) refl h k e)
-token_front s r x y (quoted text suffix) (noun u) h k p q e = absurd (mixed_front s r x y text suffix (noun u) refl h k e)
-token_front s r x y (sign t) (quoted text suffix) h k p q e = absurd (mixed_front r s y x text suffix (sign t) refl k h (sym e))
+token_front s r x y (quoted text suffix) (iri_or_label u) h k p q e = absurd (mixed_front s r x y text suffix (iri_or_label u) refl h k e)
+token_front s r x y (terminal t) (quoted text suffix) h k p q e = absurd (mixed_front r s y x text suffix (terminal t) refl k h (sym e))
 token_front s r x y (declared t) (quoted text suffix) h k p q e = absurd (mixed_front r s y x text suffix (declared t) refl k h (sym e))
-token_front s r x y (noun t) (quoted text suffix) h k p q e = absurd (mixed_front r s y x text suffix (noun t) refl k h (sym e))
+token_front s r x y (iri_or_label t) (quoted text suffix) h k p q e = absurd (mixed_front r s y x text suffix (iri_or_label t) refl k h (sym e))
 token_front s r x y t u h k p q e = plain_front s r x y t u refl refl h k p q e
 
 -- ---- texts
 
 -- a token begins with no separator
-sign_opens : (s : Sign) (x : Chars) → stops is_separator (sign_text s ++ x) ≡ true
+sign_opens : (s : Terminal) (x : Chars) → stops is_separator (terminal_text s ++ x) ≡ true
 sign_opens At_prefix x = refl
 sign_opens Small_a x = refl
 sign_opens Full_stop x = refl
@@ -355,7 +355,7 @@ some_kind spelling n h small e = let nine : 9 ≡ n = ap kind (sym e) ∙ h in a
 token_opens : (spelling x : Chars) (t : Token) → SpellsToken spelling t → stops is_separator (spelling ++ x) ≡ true
 unfolding is_quoted
 token_opens spelling x (quoted text suffix) h = ap (λ z. stops is_separator (z ++ x)) h.spelled
-token_opens spelling x (sign s) h = ap (λ z. stops is_separator (z ++ x)) h ∙ sign_opens s x
+token_opens spelling x (terminal s) h = ap (λ z. stops is_separator (z ++ x)) h ∙ sign_opens s x
 token_opens spelling x t h =
     opens_by spelling x (plain_inked spelling t refl h) (some_kind spelling (token_kind t) (kind_spelled spelling t h) (below_nine t refl))
   where

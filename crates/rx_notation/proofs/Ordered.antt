@@ -14,6 +14,7 @@ use Rattle.rx_notation.specs.Short.{Prefix, Prefixes, is_before, names_rise}
 use Rattle.rx_notation.specs.Layout.{used, same_prefix, those_among, placed, in_byte_order}
 use Rattle.rx_notation.specs.Spelling.{names_differ}
 use Rattle.rx_notation.specs.Laws.{RisingContexts}
+use Rattle.rx_notation.proofs.Chosen.{name_of}
 
 pub not_after : (a b : Chars) → is_before a b ≡ true → is_before b a ≡ false
 not_after a b h = ap is_lt (nat_list_cmp_total.antisymm (encode_utf8_all b) (encode_utf8_all a)) ∙ reversed (slice_cmp nat_cmp (encode_utf8_all a) (encode_utf8_all b)) h
@@ -50,9 +51,6 @@ filter_rises keep (p ∷ ps) h = go (keep p) (filter_rises keep ps (and_parts _ 
     go : (b : Bool) → names_rise (filter keep ps) ≡ true → names_rise (cond b (p ∷ filter keep ps) (filter keep ps)) ≡ true
     go true k = and_from _ _ (filter_passes (λ (later : Prefix). is_before p.0 later.0) keep ps (and_parts _ _ h).0) k
     go false k = k
-
-abbrev name_of : Prefix → Chars
-name_of p = p.0
 
 pub passes : (p q : Prefix) (ps : Prefixes) → before_all p ps ≡ true → Among ps q → is_before p.0 q.0 ≡ true
 passes p q [] h m = absurd m

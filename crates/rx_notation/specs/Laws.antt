@@ -1,10 +1,10 @@
 -- Laws of the layout, and those that join it with what a text denotes.
-use Rattle.std.specs.Prelude.{◌≡◌, ℕ, true, List, map, None}
+use Rattle.std.specs.Prelude.{◌≡◌, ℕ, true, List, map}
 use Rattle.rx_terms.specs.Iri.{IsIri}
 use Rattle.rx_model.specs.Sets.{Among}
 use Rattle.rx_model.specs.Terms.{Triple}
-use Rattle.rx_nquads.specs.Quads.{proper_term, IsProper}
-use Rattle.rx_pieces.specs.Writable.{WritableTriple}
+use Rattle.rx_nquads.specs.Quads.{proper_triple, IsProper}
+use Rattle.rx_pieces.specs.Writable.{IsWritable}
 use Rattle.rx_notation.specs.Short.{Prefix, Prefixes, names_rise}
 use Rattle.rx_notation.specs.Layout.{used, those_among, prefixes_used, turtle}
 use Rattle.rx_notation.specs.Spelling.{names_differ}
@@ -14,14 +14,6 @@ use Rattle.rx_notation.specs.Meaning.{Turtle}
 pub record IsContext (context : Prefixes) : Type 0 where
   pub iris : (prefix : Prefix) → Among context prefix → IsIri prefix.1
   pub once : names_differ (map (λ (prefix : Prefix). prefix.0) context) ≡ true
-
--- what a list of the code's triples is: its parts are what such values are
-pub record IsWritable (list : List (Triple ℕ)) : Type 0 where
-  pub parts : (t : Triple ℕ) → Among list t → WritableTriple None t
-
--- the triple as it is read: a literal that is typed xsd:string is the plain one (RDF 1.1 Concepts, 3.3)
-abbrev pub proper_triple : Triple ℕ → Triple ℕ
-proper_triple t = record { subject = t.subject; predicate = t.predicate; object = proper_term t.object }
 
 -- law: the text of a list denotes the list's set, its triples as they are read; where no literal is typed xsd:string, they
 -- are the list's

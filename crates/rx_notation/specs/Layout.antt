@@ -4,7 +4,8 @@ use Rattle.std.specs.Prelude.{ℕ, nat_eq, Bool, ◌&&◌, List, [], ◌∷◌, 
 use Rattle.rx_terms.specs.Text.{Chars}
 use Rattle.rx_model.specs.Sets.{contains, distinct}
 use Rattle.rx_model.specs.Terms.{Kind, Plain, Tagged, Typed, Node, Iri, Blank, Term, Resource, Literal, Triple, same_node}
-use Rattle.rx_model.specs.Copied.{rdf_type}
+use Rattle.rx_model.specs.Vocabulary.{rdf_type}
+use Rattle.rx_shapes.specs.Subjects.{subjects, about, predicates_of, objects_of}
 use Rattle.rx_pieces.specs.Writing.{string_text, iri_text, blank_text}
 use Rattle.rx_notation.specs.Short.{Prefix, Prefixes, is_before, prefix_of, short_text}
 
@@ -36,28 +37,6 @@ object_text context (Resource node) = resource_text context node
 object_text context (Literal text kind) = string_text text ++ suffix_text context kind
 
 -- ---- what is said of a subject
-
-abbrev pub has_subject : Node ℕ → Triple ℕ → Bool
-has_subject node t = same_node nat_eq t.subject node
-
-abbrev pub has_predicate : Chars → Triple ℕ → Bool
-has_predicate predicate t = bytes_eq t.predicate predicate
-
--- the subjects, in order of first occurrence as a subject
-abbrev pub subjects : List (Triple ℕ) → List (Node ℕ)
-subjects list = distinct (same_node nat_eq) (map (λ (t : Triple ℕ). t.subject) list)
-
--- the triples of a subject, in their order
-abbrev pub about : List (Triple ℕ) → Node ℕ → List (Triple ℕ)
-about list node = filter (has_subject node) list
-
--- a subject's predicates, in order of first occurrence
-abbrev pub predicates_of : List (Triple ℕ) → Node ℕ → List Chars
-predicates_of list node = distinct bytes_eq (map (λ (t : Triple ℕ). t.predicate) (about list node))
-
--- the objects of a subject's predicate, in their order
-abbrev pub objects_of : List (Triple ℕ) → Node ℕ → Chars → List (Term ℕ)
-objects_of list node predicate = map (λ (t : Triple ℕ). t.object) (filter (has_predicate predicate) (about list node))
 
 -- the texts, with another between neighbours
 abbrev pub separated : Chars → List Chars → Chars

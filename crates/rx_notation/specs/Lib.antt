@@ -7,3 +7,9 @@ pub mod Spelling
 pub mod Meaning
 pub mod Laws
 pub mod Texts
+pub mod Writing
+pub mod Nesting
+pub mod NestedLaws
+pub mod NestedRows
+pub mod Pieces
+pub mod Steps

@@ -4,11 +4,12 @@ use Rattle.std.specs.List.{list_all, list_any}
 use Rattle.rx_terms.specs.Text.{Chars}
 use Rattle.rx_model.specs.Sets.{Among}
 use Rattle.rx_model.specs.Terms.{Kind, Plain, Tagged, Node, Iri, Blank, Term, Resource, Literal, Triple, set_of}
-use Rattle.rx_model.specs.Copied.{rdf_type, spo}
+use Rattle.rx_model.specs.Copied.{spo}
+use Rattle.rx_model.specs.Vocabulary.{rdf_type}
 use Rattle.rx_model.specs.Numbered.{Renamed}
 use Rattle.rx_nquads.specs.Quads.{kind_of}
 use Rattle.rx_notation.specs.Short.{Prefix, Prefixes}
-use Rattle.rx_notation.specs.Syntax.{Reference, Full, Short, Subject, Named, Labelled, Verb, By, Type_of, Suffix, Bare, Language, Datatype, Sort, Object, Objects, Items, Predicates, Further, Part, Noun, Quoted, Anonymous, Nil, Bracketed, Collection, Single, Comma, Last, Item, Predicate, Done, Semicolon, Also, Statement, Document, are_flat}
+use Rattle.rx_notation.specs.Syntax.{Reference, Full, Short, Subject, Named, Labelled, Verb, By, Type_of, Suffix, Bare, Language, Datatype, Sort, Object, Objects, Items, Predicates, Further, Part, IriOrLabel, Quoted, Anonymous, Nil, Bracketed, Collection, Single, Comma, Last, Item, Predicate, Done, Semicolon, Also, Statement, Document, are_flat}
 use Rattle.rx_notation.specs.Spelling.{Spells}
 
 abbrev pub rdf_first : Chars
@@ -53,7 +54,7 @@ module _ (prefixes : Prefixes) where
 
   -- the name of each prefix in the part is declared
   abbrev pub all_known : {sort : Sort} → Part sort → Bool
-  all_known (Noun subject) = is_known_subject subject
+  all_known (IriOrLabel subject) = is_known_subject subject
   all_known (Quoted text suffix) = is_known_suffix suffix
   all_known Anonymous = true
   all_known Nil = true
@@ -84,7 +85,7 @@ module _ (prefixes : Prefixes) where
 
 -- how many blank nodes without a label the part has: `[]`, brackets, and a cell for each item of a collection
 abbrev pub unlabelled : {sort : Sort} → Part sort → ℕ
-unlabelled (Noun subject) = 0
+unlabelled (IriOrLabel subject) = 0
 unlabelled (Quoted text suffix) = 0
 unlabelled Anonymous = 1
 unlabelled Nil = 0
@@ -117,7 +118,7 @@ module _ {B : Type 0} (prefixes : Prefixes) (label place : ℕ → B) where
   -- what the object is, where its first blank node without a label has the place `n`: brackets are a blank node, a
   -- collection is its first cell, and an empty one rdf:nil
   abbrev pub term_of : Part Object → ℕ → Term B
-  term_of (Noun subject) n = Resource (node_of subject)
+  term_of (IriOrLabel subject) n = Resource (node_of subject)
   term_of (Quoted text suffix) n = Literal text (kind_by prefixes suffix)
   term_of Anonymous n = Resource (Blank (place n))
   term_of Nil n = Resource (Iri rdf_nil)
@@ -126,7 +127,7 @@ module _ {B : Type 0} (prefixes : Prefixes) (label place : ℕ → B) where
 
   -- the triples of a part whose first blank node without a label has the place `n`
   abbrev pub triples : {sort : Sort} → Part sort → Of B sort → ℕ → List (Triple B)
-  triples (Noun subject) of n = []
+  triples (IriOrLabel subject) of n = []
   triples (Quoted text suffix) of n = []
   triples Anonymous of n = []
   triples Nil of n = []

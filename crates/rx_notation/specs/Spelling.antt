@@ -9,22 +9,22 @@ use Rattle.rx_model.specs.Sets.{contains}
 use Rattle.rx_nquads.specs.Spelling.{SpellsIri, SpellsLabel, SpellsString}
 use Rattle.rx_notation.specs.Short.{Prefix, is_prefix_name, is_local_name}
 use Rattle.rx_notation.specs.Syntax.{Reference, Full, Short, Subject, Named, Labelled, Suffix, Bare, Language, Datatype, Document}
-use Rattle.rx_notation.specs.Grammar.{Sign, At_prefix, Small_a, Full_stop, Semicolon_sign, Comma_sign, Left_bracket, Right_bracket, Brackets, Left_parenthesis, Right_parenthesis, Parentheses, Token, sign, declared, noun, quoted, document_tokens}
+use Rattle.rx_notation.specs.Grammar.{Terminal, At_prefix, Small_a, Full_stop, Semicolon_sign, Comma_sign, Left_bracket, Right_bracket, Brackets, Left_parenthesis, Right_parenthesis, Parentheses, Token, terminal, declared, iri_or_label, quoted, document_tokens}
 
 -- ---- tokens
 
-abbrev pub sign_text : Sign → Chars
-sign_text At_prefix = codes "@prefix"
-sign_text Small_a = codes "a"
-sign_text Full_stop = codes "."
-sign_text Semicolon_sign = codes ";"
-sign_text Comma_sign = codes ","
-sign_text Left_bracket = codes "["
-sign_text Right_bracket = codes "]"
-sign_text Brackets = codes "[]"
-sign_text Left_parenthesis = codes "("
-sign_text Right_parenthesis = codes ")"
-sign_text Parentheses = codes "()"
+abbrev pub terminal_text : Terminal → Chars
+terminal_text At_prefix = codes "@prefix"
+terminal_text Small_a = codes "a"
+terminal_text Full_stop = codes "."
+terminal_text Semicolon_sign = codes ";"
+terminal_text Comma_sign = codes ","
+terminal_text Left_bracket = codes "["
+terminal_text Right_bracket = codes "]"
+terminal_text Brackets = codes "[]"
+terminal_text Left_parenthesis = codes "("
+terminal_text Right_parenthesis = codes ")"
+terminal_text Parentheses = codes "()"
 
 -- PNAME_NS
 pub record SpellsName (spelling name : Chars) : Type 0 where
@@ -60,9 +60,9 @@ pub record SpellsQuoted (spelling text : Chars) (suffix : Suffix) : Type 0 where
   pub spelled : spelling ≡ quotation_mark ∷ (inside ++ quotation_mark ∷ behind)
 
 abbrev pub SpellsToken : Chars → Token → Type 0
-SpellsToken spelling (sign s) = spelling ≡ sign_text s
+SpellsToken spelling (terminal s) = spelling ≡ terminal_text s
 SpellsToken spelling (declared name) = SpellsName spelling name
-SpellsToken spelling (noun subject) = SpellsSubject spelling subject
+SpellsToken spelling (iri_or_label subject) = SpellsSubject spelling subject
 SpellsToken spelling (quoted text suffix) = SpellsQuoted spelling text suffix
 
 -- ---- texts

@@ -37,7 +37,7 @@ pub data Sort : Type 0 where
 
 pub data Part : Sort → Type 0 where
   -- [12] object: what may be a subject, a literal, `[]`, `()`, predicates in brackets, or items in parentheses
-  Noun : Subject → Part Object
+  IriOrLabel : Subject → Part Object
   Quoted : Chars → Suffix → Part Object
   Anonymous : Part Object
   Nil : Part Object
@@ -68,7 +68,7 @@ pub record Document : Type 0 where
 
 -- no brackets and no parentheses
 abbrev pub is_flat : {sort : Sort} → Part sort → Bool
-is_flat (Noun subject) = true
+is_flat (IriOrLabel subject) = true
 is_flat (Quoted text suffix) = true
 is_flat Anonymous = false
 is_flat Nil = false

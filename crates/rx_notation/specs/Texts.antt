@@ -2,8 +2,9 @@
 use Rattle.std.specs.Prelude.{◌≡◌, ℕ, true, List, [], ◌∷◌, ◌++◌, codes}
 use Rattle.rx_terms.specs.Text.{Chars}
 use Rattle.rx_model.specs.Terms.{Plain, Tagged, Typed, Node, Iri, Blank, Term, Resource, Literal, Triple}
-use Rattle.rx_model.specs.Copied.{rdf_type, spo}
-use Rattle.rx_notation.specs.Syntax.{Full, Short, Subject, Named, Labelled, By, Type_of, Bare, Language, Datatype, Part, Object, Noun, Quoted, Anonymous, Nil, Bracketed, Collection, Single, Comma, Last, Item, Predicate, Done, Semicolon, Also, Document}
+use Rattle.rx_model.specs.Copied.{spo}
+use Rattle.rx_model.specs.Vocabulary.{rdf_type}
+use Rattle.rx_notation.specs.Syntax.{Full, Short, Subject, Named, Labelled, By, Type_of, Bare, Language, Datatype, Part, Object, IriOrLabel, Quoted, Anonymous, Nil, Bracketed, Collection, Single, Comma, Last, Item, Predicate, Done, Semicolon, Also, Document}
 use Rattle.rx_notation.specs.Spelling.{Spells}
 use Rattle.rx_notation.specs.Meaning.{rdf_first, rdf_rest, rdf_nil, are_known, all_triples, Turtle, Name, Label, Place, NestedTurtle}
 use Rattle.rx_notation.specs.Rows.{v, schema}
@@ -53,7 +54,7 @@ wide = record {
         record {
           subject = short (codes "p") (codes "s");
           predicates =
-              Predicate Type_of (Comma (Noun (short (codes "p") (codes "T"))) (Single (Noun (Labelled 7))))
+              Predicate Type_of (Comma (IriOrLabel (short (codes "p") (codes "T"))) (Single (IriOrLabel (Labelled 7))))
               (Semicolon (Also (Predicate (By (Short (codes "q-1") (codes "_x"))) (Single (Quoted (codes "a\"b\n") (Datatype (Short (codes "p") (codes "d"))))) (Semicolon Done))));
         }
         ∷ record { subject = Labelled 0; predicates = Predicate (By (Full (v (codes "p")))) (Single (Quoted (codes "x") (Language (codes "en-US")))) Done }
@@ -113,7 +114,7 @@ offer = record {
           subject = Named (Full (codes "http://shop.example/anvil"));
           predicates =
               Predicate (By (Short (codes "schema") (codes "offers")))
-              (Single (Bracketed (Predicate Type_of (Single (Noun (short (codes "schema") (codes "Offer")))) (Also (Predicate (By (Short (codes "schema") (codes "priceCurrency"))) (Single (english (codes "USD"))) Done)))))
+              (Single (Bracketed (Predicate Type_of (Single (IriOrLabel (short (codes "schema") (codes "Offer")))) (Also (Predicate (By (Short (codes "schema") (codes "priceCurrency"))) (Single (english (codes "USD"))) Done)))))
               Done;
         }
         ∷ [];
@@ -136,7 +137,7 @@ nested = record {
           subject = Labelled 0;
           predicates =
               Predicate (By (Full (v (codes "p"))))
-              (Comma Anonymous (Comma (Bracketed (Predicate (By (Full (v (codes "q")))) (Single (Collection (Item Anonymous (Last (Collection (Last (Noun (Labelled 0)))))))) Done)) (Single Anonymous)))
+              (Comma Anonymous (Comma (Bracketed (Predicate (By (Full (v (codes "q")))) (Single (Collection (Item Anonymous (Last (Collection (Last (IriOrLabel (Labelled 0)))))))) Done)) (Single Anonymous)))
               Done;
         }
         ∷ [];

@@ -1,4 +1,5 @@
-//! Turtle: the text of a list of triples under a table of prefixes, and what such a text denotes.
+//! Turtle: the text of a list of triples under a table of prefixes, flat and with blank nodes written where they are used, and
+//! what such a text denotes.
 //!
 //! Definitions are in `specs/`. Each function here is a law about them, and does nothing when it is called.
 #![tactic(auto)]
@@ -6,8 +7,12 @@
 ghost use Rattle.rx_notation.specs.Grammar.{TokensOfOne};
 ghost use Rattle.rx_notation.specs.Laws.{LayoutDenotes, RisingContexts};
 ghost use Rattle.rx_notation.specs.Meaning.{DenotesOne, FlatIsNested, NestedDenotesOne};
+ghost use Rattle.rx_notation.specs.NestedLaws.{NestedDenotes};
+ghost use Rattle.rx_notation.specs.NestedRows.{NestedRowsHold};
+ghost use Rattle.rx_notation.specs.Pieces.{PiecesAreText};
 ghost use Rattle.rx_notation.specs.Rows.{RowsHold};
 ghost use Rattle.rx_notation.specs.Spelling.{SpellsOne};
+ghost use Rattle.rx_notation.specs.Steps.{StepsArePieces};
 ghost use Rattle.rx_notation.specs.Texts.{TextsHold};
 
 /// The worked examples of the layout hold.
@@ -53,4 +58,25 @@ pub fn a_layout_denotes_its_triples()
 /// In a context whose names rise in byte order each name stands once, and the prefixes that a text uses are in its order.
 pub fn contexts_rise()
     ensures { RisingContexts }
+{}
+
+/// The worked examples of the nested layout hold.
+pub fn nested_rows_hold()
+    ensures { NestedRowsHold }
+{}
+
+/// The nested text of a list of triples denotes the list's set up to the names of blank nodes, but that a literal that is
+/// typed xsd:string is read as the plain one.
+pub fn a_nested_layout_denotes_its_triples()
+    ensures { NestedDenotes }
+{}
+
+/// The text of a document's statements, and the prefixes that they use, are those of their pieces.
+pub fn pieces_are_text()
+    ensures { PiecesAreText }
+{}
+
+/// An object, the cells behind an item, and a statement come to what their steps come to.
+pub fn steps_are_pieces()
+    ensures { StepsArePieces }
 {}

@@ -22,10 +22,14 @@ abbrev pub proper_term : Term ℕ → Term ℕ
 proper_term (Resource node) = Resource node
 proper_term (Literal text kind) = Literal text (proper_kind kind)
 
+-- the triple as it is read: a literal that is typed xsd:string is the plain one
+abbrev pub proper_triple : Triple ℕ → Triple ℕ
+proper_triple t = record { subject = t.subject; predicate = t.predicate; object = proper_term t.object }
+
 -- the quad of a triple, its literal plain where it is an xsd:string
 abbrev pub quad_of : Option Chars → Triple ℕ → Quad
 quad_of name t = record {
-  triple = record { subject = t.subject; predicate = t.predicate; object = proper_term t.object };
+  triple = proper_triple t;
   graph = option_map (λ iri. Iri iri) name;
 }
 

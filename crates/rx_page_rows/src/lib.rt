@@ -1,4 +1,5 @@
-//! Worked rows and first calls of the layers of pages, as tests: tags, tokens and elements, each page whole and in pieces.
+//! Worked rows and first calls of the layers from a page's bytes to its triples and items, as tests: tags, tokens, elements,
+//! names, facts, the placing of elements, the evaluator, and walks, each page whole and in pieces.
 #![tactic(auto)]
 
 #[cfg(test)]

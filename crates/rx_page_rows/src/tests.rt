@@ -1,3 +1,9 @@
 mod elements;
+mod evaluator;
+mod facts;
+mod items;
+mod names;
+mod placed;
 mod tags;
 mod tokens;
+mod walks;

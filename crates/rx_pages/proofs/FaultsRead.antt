@@ -34,11 +34,12 @@ use Rattle.rx_pages.proofs.Spellings.{reads_each}
 use Rattle.rx_pages.proofs.EntrySteps.{Stood, scanning_of, stood_by, nested_by, entry_step}
 use Rattle.rx_pages.proofs.ByteSteps.{not_long, is_le}
 use Rattle.rx_pages.proofs.TokenWalk.{stood}
-use Rattle.rx_pages.proofs.TokensWalk.{flags_behind}
+use Rattle.rx_pages.proofs.TokensWalk.{flags_behind, two_lasts}
 use Rattle.rx_pages.proofs.HitsRead.{decided_is_read}
 use Rattle.rx_pages.proofs.KnownTags.{known_more}
 use Rattle.rx_pages.proofs.Tokens.{values_append}
 use Rattle.rx_pages.proofs.FaultRead.{stands_there, scan_there, byte_fault, page_too_long, not_utf8, nul, tag_too_long, page_ends}
+use Rattle.rx_pages.proofs.LastToken.{token_of_item}
 
 -- what begins a token goes on
 pub pending_goes : (s : Syntax) (i : Content) (run : Chars) → IsPending s i run → GoesOn s i [] run
@@ -54,14 +55,6 @@ pending_goes s i run p = ⊎_elim (λ e. subst (λ x. GoesOn s i [] x) (sym e) t
 strict_runs : (line : Line) → keeps_runs (inside_of Xhtml line).content ≡ false
 strict_runs [] = refl
 strict_runs (t ∷ above) = refl
-
-two_lasts : (a b : Chars) (x y : ℕ) → a ++ x ∷ [] ≡ b ++ y ∷ [] → (a ≡ b) × (x ≡ y)
-two_lasts [] [] x y e = (refl, cc)
-two_lasts [] (c ∷ []) x y e = absurd (cc)
-two_lasts [] (c ∷ d ∷ b) x y e = absurd (cc)
-two_lasts (c ∷ []) [] x y e = absurd (cc)
-two_lasts (c ∷ d ∷ a) [] x y e = absurd (cc)
-two_lasts (c ∷ a) (d ∷ b) x y e = let r = two_lasts a b x y (cc) in let h : c ≡ d = cc in (ap (λ z. z ∷ a) h ∙ ap (λ z. d ∷ z) r.0, r.1)
 
 -- a whole token that needs no next character is read at its last one
 whole_verdict : (s : Syntax) (i : Content) (front : Chars) (c : ℕ) (chars : Chars) (token : Token) → Spells s i chars None token → chars ≡ front ++ c ∷ [] → verdict s i front c ≡ whole token
@@ -103,10 +96,6 @@ no_lead (before false) n = absurd (n refl)
 no_lead within n = refl
 no_lead after n = refl
 
-pub item_token : (i : Content) (token : Token) (run : List Entry) → (item_of i token run).token ≡ token
-item_token i token [] = refl
-item_token i token (e ∷ run) = refl
-
 pub item_content : (i : Content) (token : Token) (run : List Entry) (e : Entry) → (item_of i token (run ++ e ∷ [])).content ≡ i
 item_content i token [] e = refl
 item_content i token (d ∷ run) e = refl
@@ -135,24 +124,24 @@ module _ (syntax : Syntax) (limits : Limits) (m : Nesting) (events : List Event)
       ap reads h
       ∙ (ap (λ b. nested_by syntax limits.depth st (if b && is_literal greater_than_sign (item (character 62)) then Err kind.StrictText else if is_doctype (item (character 62)).token && not (may_lead m.phase) then Err kind.BadDoctype else Ok (done (character 62)))) t
       ∙ ap (λ b. nested_by syntax limits.depth st (if b then Err kind.StrictText else if is_doctype (item (character 62)).token && not (may_lead m.phase) then Err kind.BadDoctype else Ok (done (character 62))))
-      (ap (λ token. is_strict_literal 62 (item (character 62)).content token) (item_token inside (character 62) (run ++ c ∷ [])) ∙ ap (λ x. is_strict_literal 62 x (character 62)) (item_content inside (character 62) run c ∙ i)))
+      (ap (λ token. is_strict_literal 62 (item (character 62)).content token) (token_of_item inside (character 62) (run ++ c ∷ [])) ∙ ap (λ x. is_strict_literal 62 x (character 62)) (item_content inside (character 62) run c ∙ i)))
 
   no_bracket : (token : Token) → ((d : ℕ) → token ≢ character d) → (two && is_literal greater_than_sign (item token)) ≡ false
-  no_bracket token n = ap (λ b. two && b) (ap (λ t. is_strict_literal 62 (item token).content t) (item_token inside token (run ++ c ∷ [])) ∙ no_literal 62 (item token).content token n) ∙ and_false two
+  no_bracket token n = ap (λ b. two && b) (ap (λ t. is_strict_literal 62 (item token).content t) (token_of_item inside token (run ++ c ∷ [])) ∙ no_literal 62 (item token).content token n) ∙ and_false two
 
   by_doctype : m.phase ≢ before false → verdict syntax inside (values run) c.value ≡ whole doctype → entry_step syntax limits st c ≡ Err kind.BadDoctype
   by_doctype n h =
       ap reads h
       ∙ (ap (λ b. nested_by syntax limits.depth st (if b then Err kind.StrictText else if is_doctype (item doctype).token && not (may_lead m.phase) then Err kind.BadDoctype else Ok (done doctype))) (no_bracket doctype (λ d e. cc))
-      ∙ (ap (λ token. nested_by syntax limits.depth st (if is_doctype token && not (may_lead m.phase) then Err kind.BadDoctype else Ok (done doctype))) (item_token inside doctype (run ++ c ∷ []))
+      ∙ (ap (λ token. nested_by syntax limits.depth st (if is_doctype token && not (may_lead m.phase) then Err kind.BadDoctype else Ok (done doctype))) (token_of_item inside doctype (run ++ c ∷ []))
       ∙ ap (λ b. nested_by syntax limits.depth st (if not b then Err kind.BadDoctype else Ok (done doctype))) (no_lead m.phase n)))
 
   by_tag : (t : Tag) (found : Kind) → first_row (tag_rows syntax limits.depth m.line m.phase t) ≡ Some found → verdict syntax inside (values run) c.value ≡ whole (tag t) → entry_step syntax limits st c ≡ Err found
   by_tag t found r h =
       ap reads h
       ∙ (ap (λ b. nested_by syntax limits.depth st (if b then Err kind.StrictText else if is_doctype (item (tag t)).token && not (may_lead m.phase) then Err kind.BadDoctype else Ok (done (tag t)))) (no_bracket (tag t) (λ d e. cc))
-      ∙ (ap (λ token. nested_by syntax limits.depth st (if is_doctype token && not (may_lead m.phase) then Err kind.BadDoctype else Ok (done (tag t)))) (item_token inside (tag t) (run ++ c ∷ []))
-      ∙ (ap (λ token. stood_by (done (tag t)).next events (with_events [] (step_by syntax limits.depth m (item (tag t)) token))) (item_token inside (tag t) (run ++ c ∷ []))
+      ∙ (ap (λ token. nested_by syntax limits.depth st (if is_doctype token && not (may_lead m.phase) then Err kind.BadDoctype else Ok (done (tag t)))) (token_of_item inside (tag t) (run ++ c ∷ []))
+      ∙ (ap (λ token. stood_by (done (tag t)).next events (with_events [] (step_by syntax limits.depth m (item (tag t)) token))) (token_of_item inside (tag t) (run ++ c ∷ []))
       ∙ ap (λ row. stood_by (done (tag t)).next events (with_events [] (unless_refused row (tag_passes syntax m.line (item (tag t)) t)))) r)))
 
 -- a fault of a token is the reader's

@@ -11,6 +11,7 @@ use Rattle.rx_chars.specs.Characters.{Entry, IsRead, byte_order_mark, line_feed,
 use Rattle.rx_grammar.specs.PageFaults.{token_of}
 use Rattle.rx_terms.proofs.Bools.{by_test}
 use Rattle.rx_pages.proofs.CharWalk.{len_positive}
+use Rattle.rx_pages.proofs.OnlyPages.{take_front}
 
 -- the first characters of some, which enter the first entries
 record Parted (after_return : Bool) (start : ℕ) (cs : List ℕ) (front : List Entry) (e : Entry) (rest : List Entry) : Type 0 where
@@ -138,13 +139,6 @@ page_parted (c ∷ cs) front e rest h =
       at = omega arith;
       order = subst (λ es. From e.first es) p.others (all_from e.first p.returned e.first p.behind (omega arith));
     })
-
-take_front : (front rest : List ℕ) (n : ℕ) → n ≡ length front → take n (front ++ rest) ≡ front
-take_front front rest n h = ap (λ m. take m (front ++ rest)) h ∙ front_is front
-  where
-    front_is : (front : List ℕ) → take (length front) (front ++ rest) ≡ front
-    front_is [] = refl
-    front_is (x ∷ front) = ap (λ xs. x ∷ xs) (front_is front)
 
 scalars_front : (a b : List ℕ) → all_scalars (a ++ b) ≡ true → all_scalars a ≡ true
 scalars_front [] b h = refl

@@ -38,7 +38,8 @@ use Rattle.rx_pages.proofs.TokensWalk.{flags_behind}
 use Rattle.rx_pages.proofs.TokenWalk.{IsKept, is_kept}
 use Rattle.rx_pages.proofs.EndedRuns.{ended_kept}
 use Rattle.rx_pages.proofs.KnownSpelled.{spelled_known}
-use Rattle.rx_pages.proofs.FaultsRead.{no_literal, item_token, item_content}
+use Rattle.rx_pages.proofs.FaultsRead.{no_literal, item_content}
+use Rattle.rx_pages.proofs.LastToken.{token_of_item}
 
 -- what may go on
 pub goes_more : (s : Syntax) (i : Content) (before a : Chars) (c : ℕ) → GoesOn s i before a → verdict s i (before ++ a) c ≡ goes_on → GoesOn s i before (a ++ c ∷ [])
@@ -291,9 +292,9 @@ module _ (syntax : Syntax) (limits : Limits) where
                   scalars = scalars;
                   no_nul = subst (λ es. has_no_nul es ≡ true) (sym (append-nil (h.front ++ (run ++ e ∷ [])))) none_more;
                   spelled = spelled_more;
-                  fit = fit_snoc limits.tag items item h.fit (fits item.token (sym (item_token inside token (run ++ e ∷ []))));
+                  fit = fit_snoc limits.tag items item h.fit (fits item.token (sym (token_of_item inside token (run ++ e ∷ []))));
                   sections = sections_snoc items item false false h.sections b;
-                  stands = one_more syntax limits.depth item (λ o. spelled_outside syntax inside (values (run ++ e ∷ [])) None item.token (subst (λ t. Spells syntax inside (values (run ++ e ∷ [])) None t) (sym (item_token inside token (run ++ e ∷ []))) (sp None)) (sym (item_content inside token run e) ∙ o)) items line phase false h.stands (item_content inside token run e) step n;
+                  stands = one_more syntax limits.depth item (λ o. spelled_outside syntax inside (values (run ++ e ∷ [])) None item.token (subst (λ t. Spells syntax inside (values (run ++ e ∷ [])) None t) (sym (token_of_item inside token (run ++ e ∷ []))) (sp None)) (sym (item_content inside token run e) ∙ o)) items line phase false h.stands (item_content inside token run e) step n;
                   goes = tt;
                 };
                 short = λ k. absurd (cc);
@@ -302,10 +303,10 @@ module _ (syntax : Syntax) (limits : Limits) where
           nests : (flags_behind items false false).0 && is_literal greater_than_sign item ≡ false → (r : Result Step Kind) → nest_step syntax limits.depth (record { line = line; phase = phase; drops = false }) item ≡ r → Answer
           nests b (Ok step) n = steps b step n
           nests b (Err found) n =
-              decides found (as_values ((faults_are_decided syntax limits.depth items line phase found (values run ++ e.value ∷ [])).1 (by_token (values run) e.value (record { line = line; phase = phase; drops = false }) item h.goes (v ∙ ap whole (sym (item_token inside token (run ++ e ∷ [])))) (record { line_is = refl; phase_is = refl }) n)))
+              decides found (as_values ((faults_are_decided syntax limits.depth items line phase found (values run ++ e.value ∷ [])).1 (by_token (values run) e.value (record { line = line; phase = phase; drops = false }) item h.goes (v ∙ ap whole (sym (token_of_item inside token (run ++ e ∷ [])))) (record { line_is = refl; phase_is = refl }) n)))
 
           literal : is_literal greater_than_sign item ≡ true → Literal inside token
-          literal l = literal_by inside token (sym (ap (λ i. is_strict_literal greater_than_sign i item.token) (item_content inside token run e) ∙ ap (λ t. is_strict_literal greater_than_sign inside t) (item_token inside token (run ++ e ∷ []))) ∙ l)
+          literal l = literal_by inside token (sym (ap (λ i. is_strict_literal greater_than_sign i item.token) (item_content inside token run e) ∙ ap (λ t. is_strict_literal greater_than_sign inside t) (token_of_item inside token (run ++ e ∷ []))) ∙ l)
 
           ends : (flags_behind items false false).0 ≡ true → Literal inside token → Answer
           ends b l =

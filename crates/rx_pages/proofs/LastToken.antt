@@ -17,7 +17,7 @@ nothing [] h = refl
 nothing (b ∷ bytes) h = absurd (cc)
 
 -- a run that is told has a first character
-token_of_item : (i : Content) (token : Token) (run : List Entry) → (item_of i token run).token ≡ token
+pub token_of_item : (i : Content) (token : Token) (run : List Entry) → (item_of i token run).token ≡ token
 token_of_item i token [] = refl
 token_of_item i token (e ∷ run) = refl
 

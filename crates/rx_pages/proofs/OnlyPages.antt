@@ -45,7 +45,7 @@ reads_only_pages syntax limits bytes final h = read_page syntax limits bytes fin
 pub finds_only_faults : FindsOnlyFaults
 finds_only_faults syntax limits bytes fault h = found_fault syntax limits bytes fault h
 
-take_front : (front rest : List ℕ) (n : ℕ) → n ≡ length front → take n (front ++ rest) ≡ front
+pub take_front : (front rest : List ℕ) (n : ℕ) → n ≡ length front → take n (front ++ rest) ≡ front
 take_front front rest n h = ap (λ m. take m (front ++ rest)) h ∙ front_is front
   where
     front_is : (front : List ℕ) → take (length front) (front ++ rest) ≡ front

@@ -65,7 +65,7 @@ end_of (e ∷ es) = by (end_of es)
     by (no_end h) = an_end [] e (ap (λ x. e ∷ x) h)
     by (an_end front d h) = an_end (e ∷ front) d (ap (λ x. e ∷ x) h)
 
-two_lasts : (a b : Chars) (x y : ℕ) → a ++ x ∷ [] ≡ b ++ y ∷ [] → (a ≡ b) × (x ≡ y)
+pub two_lasts : (a b : Chars) (x y : ℕ) → a ++ x ∷ [] ≡ b ++ y ∷ [] → (a ≡ b) × (x ≡ y)
 two_lasts [] [] x y e = (refl, cc)
 two_lasts [] (c ∷ []) x y e = absurd (cc)
 two_lasts [] (c ∷ d ∷ b) x y e = absurd (cc)

@@ -6,6 +6,7 @@ use Rattle.rx_terms.specs.Text.{Chars}
 use Rattle.rx_terms.specs.Iri.{IsIri}
 use Rattle.rx_terms.specs.Lang.{is_lang}
 use Rattle.rx_pieces.specs.Underway.{Underway, Delivery, delivery, AddsBytes}
+use Rattle.rx_model.specs.Sets.{Among}
 use Rattle.rx_model.specs.Terms.{Kind, Plain, Tagged, Typed, Node, Iri, Blank, Term, Resource, Literal, Triple}
 
 -- the characters were handed over, whatever was before
@@ -50,3 +51,7 @@ pub record WritableTriple (name : Option Chars) (t : Triple ℕ) : Type 0 where
   pub predicate : WritableIri t.predicate
   pub object : WritableTerm t.object
   pub graph : WritableName name
+
+-- what a list of the code's triples is: its parts are what such values are
+pub record IsWritable (list : List (Triple ℕ)) : Type 0 where
+  pub parts : (t : Triple ℕ) → Among list t → WritableTriple None t

@@ -1,5 +1,5 @@
 -- How many blank nodes a list has that was numbered.
-use Rattle.std.proofs.Common.{◌≡◌, ◌∙◌, ◌↔◌, ◌⊎◌, ℕ, zero, suc, ◌+◌, ◌<◌, ◌≤◌, Bool, true, false, not, cond, List, [], ◌∷◌, ◌++◌, map, filter, length, take, slice_get, Some, refl, sym, ap, ap₂, subst, inl, inr, true≢false, nat_lt, if◌then◌else◌, arith, append_assoc, append-nil, take_all}
+use Rattle.std.proofs.Common.{◌≡◌, ◌∙◌, ◌↔◌, ◌⊎◌, ℕ, zero, suc, ◌+◌, ◌<◌, ◌≤◌, Bool, true, false, not, cond, List, [], ◌∷◌, ◌++◌, map, filter, length, take, slice_get, Some, refl, sym, ap, ap₂, subst, inl, inr, true≢false, nat_lt, if◌then◌else◌, arith, take_all}
 use Rattle.std.proofs.lemmas.List.{map-append}
 use Rattle.std.proofs.lemmas.Bool.Decides.{nat_tests}
 use Rattle.rx_terms.specs.declared.triples.Triple.{Triple as CodeTriple}
@@ -10,6 +10,7 @@ use Rattle.rx_model.specs.Seen.{triple_seen, triples_seen}
 use Rattle.rx_model.proofs.Sets.{Among_map, Among_of_map, Among_of_filter, Among_distinct, Among_of_distinct, not_true}
 use Rattle.rx_graph.proofs.SetLemmas.{seen_more}
 use Rattle.rx_quads.specs.Raised.{raised, AreFrom, past_one, past_all, past, NumbersWithoutGaps}
+use Rattle.rx_graph.proofs.NumberLemmas.{blanks_more}
 
 -- ---- one more than the largest
 
@@ -51,10 +52,6 @@ largest count (x ∷ bs) b e = go (largest (past_one count x) bs b e) (past_is c
 pub past_append : (count : ℕ) (xs ys : List ℕ) → past_all count (xs ++ ys) ≡ past_all (past_all count xs) ys
 past_append count [] ys = refl
 past_append count (x ∷ xs) ys = past_append (past_one count x) xs ys
-
-blanks_more : (list : List (Triple ℕ)) (t : Triple ℕ) → blanks (list ++ t ∷ []) ≡ blanks list ++ blanks_of t
-blanks_more [] t = append-nil (blanks_of t)
-blanks_more (u ∷ list) t = ap (λ z. blanks_of u ++ z) (blanks_more list t) ∙ sym (append_assoc (blanks_of u) (blanks list) (blanks_of t))
 
 pub past_turn : (list : List CodeTriple) (i : ℕ) (t : CodeTriple) (count new : ℕ) → slice_get list i ≡ Some t → count ≡ past (triples_seen (take i list))
     → new ≡ past_all count (blanks_of (triple_seen t)) → new ≡ past (triples_seen (take (i + 1) list))

@@ -9,7 +9,8 @@ use Rattle.rx_model.specs.Copied.{spo, live, edges, says_pattern, leads, given, 
 use Rattle.rx_model.specs.Numbered.{rename_term, rename, blanks, place_in, numbered}
 use Rattle.rx_model.proofs.Exact.{exact_texts}
 use Rattle.rx_model.proofs.Sets.{Among_cases, Among_of_map, Among_of_filter, Among_of_filter_map, Among_of_flat_map, Among_of_distinct}
-use Rattle.rx_rdfa.specs.Iris.{xsd, xsd_string, uses_vocabulary, rdf_type, rdf_first, rdf_rest}
+use Rattle.rx_rdfa.specs.Iris.{xsd, xsd_string, uses_vocabulary}
+use Rattle.rx_model.specs.Vocabulary.{rdf_type, rdf_first, rdf_rest}
 use Rattle.rx_rdfa.specs.Times.{◌andThen◌, follows, is_zone, after_char, after_year, after_month, after_date, after_clock, is_duration, time_kind}
 use Rattle.rx_rdfa.specs.Naming.{Naming}
 use Rattle.rx_rdfa.specs.Blanks.{same_bnode, model}

@@ -6,7 +6,8 @@ use Rattle.rx_terms.specs.Text.{Chars}
 use Rattle.rx_model.specs.Terms.{Node, Iri, Term}
 use Rattle.rx_model.specs.Copied.{spo}
 use Rattle.rx_model.specs.Numbered.{rename_node, rename_term, rename}
-use Rattle.rx_rdfa.specs.Iris.{rdf_type, uses_vocabulary}
+use Rattle.rx_rdfa.specs.Iris.{uses_vocabulary}
+use Rattle.rx_model.specs.Vocabulary.{rdf_type}
 use Rattle.rx_rdfa.specs.Naming.{Naming}
 use Rattle.rx_rdfa.specs.Facts.{Facts, Datatype, Empty, Is, Ref}
 use Rattle.rx_rdfa.specs.Resources.{Hanging, Forward, Reverse, InList, Standing, Resources, resource_attribute, has_link, only, resource_named, resources}

@@ -5,7 +5,7 @@ use Rattle.rx_model.specs.Sets.{Among, distinct}
 use Rattle.rx_model.specs.Copied.{spo}
 use Rattle.rx_model.specs.Terms.{Node, Blank, Term, Resource}
 use Rattle.rx_model.specs.Numbered.{rename_node, rename_term, rename}
-use Rattle.rx_rdfa.specs.Iris.{rdf_first, rdf_rest}
+use Rattle.rx_model.specs.Vocabulary.{rdf_first, rdf_rest}
 use Rattle.rx_rdfa.specs.Naming.{Naming}
 use Rattle.rx_rdfa.specs.Resources.{Hanging, Forward, Reverse, InList, Standing, Resources, resources}
 use Rattle.rx_rdfa.specs.Inherited.{listed, hangs, own_owner}

@@ -1,17 +1,7 @@
 -- The IRIs that RDFa's triples have of their own.
 use Rattle.std.specs.Prelude.{codes}
 use Rattle.rx_terms.specs.Text.{Chars}
-pub use Rattle.rx_model.specs.Copied.{rdf_type}
 pub use Rattle.rx_terms.specs.Literal.{xsd_string}
-
-abbrev pub rdf_first : Chars
-rdf_first = codes "http://www.w3.org/1999/02/22-rdf-syntax-ns#first"
-
-abbrev pub rdf_rest : Chars
-rdf_rest = codes "http://www.w3.org/1999/02/22-rdf-syntax-ns#rest"
-
-abbrev pub rdf_nil : Chars
-rdf_nil = codes "http://www.w3.org/1999/02/22-rdf-syntax-ns#nil"
 
 abbrev pub uses_vocabulary : Chars
 uses_vocabulary = codes "http://www.w3.org/ns/rdfa#usesVocabulary"

@@ -4,7 +4,7 @@ use Rattle.rx_terms.specs.Text.{Chars}
 use Rattle.rx_model.specs.Sets.{distinct}
 use Rattle.rx_model.specs.Terms.{Node, Iri, Blank, Term, Resource, Triple}
 use Rattle.rx_model.specs.Copied.{spo}
-use Rattle.rx_rdfa.specs.Iris.{rdf_first, rdf_rest, rdf_nil}
+use Rattle.rx_model.specs.Vocabulary.{rdf_first, rdf_rest, rdf_nil}
 use Rattle.rx_rdfa.specs.Naming.{Naming}
 use Rattle.rx_rdfa.specs.Tree.{Nodes, all_text}
 use Rattle.rx_rdfa.specs.Facts.{Facts}

@@ -14,7 +14,7 @@ pub fn clean(alloc: Global, text: &str) -> Result<Text, NoMemory>
 {
     let mut out = String::new(alloc);
     push_clean(&mut out, text)?;
-    Ok(Text::of_string(out))
+    Text::of_string(alloc, out)
 }
 
 /// The same of a text that is owned, which is copied only where something is to be escaped.
@@ -24,7 +24,7 @@ pub fn clean_string(alloc: Global, text: String) -> Result<Text, NoMemory>
     if has_forbidden(text.as_str()) {
         return clean(alloc, text.as_str());
     }
-    Ok(Text::of_string(text))
+    Text::of_string(alloc, text)
 }
 
 fn has_forbidden(text: &str) -> bool

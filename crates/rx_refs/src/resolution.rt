@@ -50,8 +50,9 @@ fn behind_front(alloc: Global, base: &Iri, front: usize, reference: &str) -> Res
     ensures meaning { IfOk result (λ iri. iri ≡ resolved base.now (chars reference.now)) }
     ensures iri { IfOk result (λ iri. IsIri iri) }
 {
-    let text = joined(alloc, &base.as_str()[..front], reference)?;
-    Iri::of_text(alloc, Text::of_string(text))
+    let whole = joined(alloc, &base.as_str()[..front], reference)?;
+    let text = Text::of_string(alloc, whole)?;
+    Iri::of_text(alloc, text)
 }
 
 /// The base up to a place and then the reference from a place on, where that is what it means.
@@ -68,8 +69,9 @@ fn behind_climbs(
     ensures meaning { IfOk result (λ iri. iri ≡ resolved base.now (chars reference.now)) }
     ensures iri { IfOk result (λ iri. IsIri iri) }
 {
-    let text = joined(alloc, &base.as_str()[..front], &reference[left_out..])?;
-    Iri::of_text(alloc, Text::of_string(text))
+    let whole = joined(alloc, &base.as_str()[..front], &reference[left_out..])?;
+    let text = Text::of_string(alloc, whole)?;
+    Iri::of_text(alloc, text)
 }
 
 /// The one text behind the other.

@@ -1,6 +1,6 @@
 -- Lists.
 use Rattle.std.specs.Prelude.{[], ◌∷◌}
-use Rattle.rx_rdfa.specs.Iris.{rdf_first, rdf_rest}
+use Rattle.rx_model.specs.Vocabulary.{rdf_first, rdf_rest}
 use Rattle.rx_rows.specs.Pages.{Example, here, body, tag, chars, says, v, iri, nil, blank, at, plain}
 
 abbrev pub text_at_its_start : Example

@@ -7,7 +7,7 @@ use Rattle.rx_refs.specs.Dots.{step, without_dots}
 use Rattle.rx_refs.specs.Resolve.{target, resolved}
 use Rattle.rx_model.specs.Terms.{Node, Iri, Blank, Term, Resource, Literal, Plain, Tagged, Typed, Triple}
 use Rattle.rx_model.specs.Copied.{spo}
-use Rattle.rx_rdfa.specs.Iris.{rdf_nil}
+use Rattle.rx_model.specs.Vocabulary.{rdf_nil}
 use Rattle.rx_rdfa.specs.Standard.{standard, row_of}
 use Rattle.rx_rdfa.specs.Tree.{Tag, Nodes, end, element, text}
 use Rattle.rx_rdfa.specs.Facts.{with_facts}

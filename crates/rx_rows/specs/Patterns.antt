@@ -1,7 +1,7 @@
 -- Property copying.
 use Rattle.std.specs.Prelude.{[], ◌∷◌}
 use Rattle.rx_model.specs.Copied.{rdfa_copy}
-use Rattle.rx_rdfa.specs.Iris.{rdf_type}
+use Rattle.rx_model.specs.Vocabulary.{rdf_type}
 use Rattle.rx_rows.specs.Pages.{Example, here, body, tag, chars, says, v, iri, at, plain}
 
 abbrev pub two_levels : Example

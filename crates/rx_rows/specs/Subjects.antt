@@ -1,6 +1,7 @@
 -- Subjects: about, references, the base.
 use Rattle.std.specs.Prelude.{[], ◌∷◌, codes}
-use Rattle.rx_rdfa.specs.Iris.{rdf_type, uses_vocabulary}
+use Rattle.rx_rdfa.specs.Iris.{uses_vocabulary}
+use Rattle.rx_model.specs.Vocabulary.{rdf_type}
 use Rattle.rx_rows.specs.Pages.{Example, here, body, page, tag, chars, says, v, iri, blank, at, plain}
 
 abbrev pub one_paragraph : Example

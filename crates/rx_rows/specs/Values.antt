@@ -1,6 +1,6 @@
 -- Values of property: content, datatypes, times, languages.
 use Rattle.std.specs.Prelude.{[], ◌∷◌}
-use Rattle.rx_rdfa.specs.Iris.{rdf_type}
+use Rattle.rx_model.specs.Vocabulary.{rdf_type}
 use Rattle.rx_rows.specs.Pages.{Example, here, body, tag, chars, says, v, iri, blank, at, plain, tagged, typed}
 
 abbrev pub times : Example

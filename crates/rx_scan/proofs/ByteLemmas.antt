@@ -23,17 +23,17 @@ use Rattle.rx_grammar.specs.declared.stops.Stop.TheVariants as stop
 use Rattle.rx_tags.specs.TagBufs.{TagSoFar}
 use Rattle.rx_scan.specs.declared.answers.What.{What}
 use Rattle.rx_scan.specs.declared.answers.What.TheVariants as what
-use Rattle.rx_marks.specs.declared.marks.Mark.{Mark}
-use Rattle.rx_marks.specs.declared.marks.Mark.TheVariants as mark
+use Rattle.rx_scan.specs.declared.marks.Mark.{Mark}
+use Rattle.rx_scan.specs.declared.marks.Mark.TheVariants as mark
 use Rattle.rx_scan.specs.declared.places.Position.{Position}
 use Rattle.rx_scan.specs.Places.{entered, holding}
-use Rattle.rx_marks.specs.KnownTags as known_tags
-use Rattle.rx_marks.specs.Pending.{PendsAs}
+use Rattle.rx_scan.specs.KnownTags as known_tags
+use Rattle.rx_scan.specs.Pending.{PendsAs}
 use Rattle.rx_scan.specs.Scanner.{Reading, spot_of}
 use Rattle.rx_scan.specs.Entries as entries
 use Rattle.rx_scan.specs.Steps.{ReadsAs, mark_bytes}
 use Rattle.rx_scan.proofs.Standing.{some_mark, values_snoc, no_values}
-use Rattle.rx_marks.proofs.Simulation.{known, known_with}
+use Rattle.rx_scan.proofs.Simulation.{known, known_with}
 use Rattle.rx_scan.proofs.GivesLemmas.{Gives, GivesOk, GivesErr, gives_at, gives_by, refuses, nothing_told}
 use Rattle.rx_scan.proofs.MarkLemmas.{mark_is}
 use Rattle.rx_scan.proofs.EntryLemmas.{enters}

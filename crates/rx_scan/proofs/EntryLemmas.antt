@@ -14,17 +14,17 @@ use Rattle.rx_pages.specs.Scanner as verdicts
 use Rattle.rx_pages.specs.PageReader as reader
 use Rattle.rx_grammar.specs.declared.stops.Stop.{Stop}
 use Rattle.rx_scan.specs.declared.answers.What.{What}
-use Rattle.rx_marks.specs.declared.marks.Mark.TheVariants as mark
-use Rattle.rx_marks.specs.declared.marks.Brackets.TheVariants as brackets
-use Rattle.rx_marks.specs.declared.marks.Move.{Move}
-use Rattle.rx_marks.specs.declared.marks.Move.TheVariants as move
-use Rattle.rx_marks.specs.declared.marks.Whole.TheVariants as whole_mark
-use Rattle.rx_marks.specs.Marks as marks
-use Rattle.rx_marks.specs.Pending.{bracket_text}
+use Rattle.rx_scan.specs.declared.marks.Mark.TheVariants as mark
+use Rattle.rx_scan.specs.declared.marks.Brackets.TheVariants as brackets
+use Rattle.rx_scan.specs.declared.marks.Move.{Move}
+use Rattle.rx_scan.specs.declared.marks.Move.TheVariants as move
+use Rattle.rx_scan.specs.declared.marks.Whole.TheVariants as whole_mark
+use Rattle.rx_scan.specs.Marks as marks
+use Rattle.rx_scan.specs.Pending.{bracket_text}
 use Rattle.rx_scan.specs.Scanner.{Reading}
 use Rattle.rx_scan.specs.Entries as entries
 use Rattle.rx_scan.specs.Steps.{ReadsAs}
-use Rattle.rx_marks.specs.Meant as meant
+use Rattle.rx_scan.specs.Meant as meant
 use Rattle.rx_scan.proofs.GivesLemmas.{Gives, refuses, verdict_at, read_at}
 use Rattle.rx_scan.proofs.GoingLemmas.{gives_went, gives_begins, went_as}
 use Rattle.rx_scan.proofs.WholeLemmas.{is_item, literal_is, unliteral}
@@ -32,7 +32,7 @@ use Rattle.rx_scan.proofs.SayLemmas.{gives_says, gives_closes}
 use Rattle.rx_scan.proofs.EndLemmas.{gives_comment, gives_doctype, gives_section}
 use Rattle.rx_scan.proofs.TagLemmas.{gives_tags, gives_keeps_tag}
 use Rattle.rx_scan.proofs.StopLemmas.{gives_stops}
-use Rattle.rx_marks.proofs.Simulation.{simulates}
+use Rattle.rx_scan.proofs.Simulation.{simulates}
 
 module _ (v : Reading) (s : reader.Scanning) (h : ReadsAs v s) (ar : Bool) (c : ℕ) where
   abbrev sy : Syntax

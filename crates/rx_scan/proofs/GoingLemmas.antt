@@ -13,13 +13,13 @@ use Rattle.rx_grammar.specs.declared.stops.Stop.TheVariants as stop
 use Rattle.rx_tags.specs.TagBufs.{no_tag}
 use Rattle.rx_scan.specs.declared.answers.What.{What}
 use Rattle.rx_scan.specs.declared.answers.What.TheVariants as what
-use Rattle.rx_marks.specs.declared.marks.Mark.{Mark}
+use Rattle.rx_scan.specs.declared.marks.Mark.{Mark}
 use Rattle.rx_scan.specs.Places.{begun}
-use Rattle.rx_marks.specs.Pending.{Pending, PendsAs}
+use Rattle.rx_scan.specs.Pending.{Pending, PendsAs}
 use Rattle.rx_scan.specs.Scanner.{Reading}
 use Rattle.rx_scan.specs.Entries as entries
 use Rattle.rx_scan.specs.Steps.{ReadsAs}
-use Rattle.rx_marks.specs.Meant as meant
+use Rattle.rx_scan.specs.Meant as meant
 use Rattle.rx_scan.proofs.GivesLemmas.{Gives, gives_at, nothing_told, entry_at, verdict_at, read_at}
 use Rattle.rx_scan.proofs.Standing.{some_mark, no_values, went, begins}
 

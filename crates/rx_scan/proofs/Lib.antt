@@ -20,3 +20,13 @@ pub mod SaidLemmas
 pub mod FrontLemmas
 pub mod LoopLemmas
 pub mod SpelledLemmas
+pub mod MarkFronts
+pub mod Snoc
+pub mod Behinds
+pub mod Doctype
+pub mod OpeningWords
+pub mod Openings
+pub mod Markup
+pub mod References
+pub mod RawEnds
+pub mod Simulation

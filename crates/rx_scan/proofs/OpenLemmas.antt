@@ -7,13 +7,13 @@ use Rattle.rx_chars.specs.Utf8.{answer_of}
 use Rattle.rx_chars.specs.declared.utf8.Utf8Step.{Utf8Step}
 use Rattle.rx_chars.specs.declared.utf8.Utf8Step.TheVariants.{Char}
 use Rattle.rx_chars.proofs.Utf8Answers.{first_whole}
-use Rattle.rx_marks.specs.declared.marks.Mark.{Mark}
-use Rattle.rx_marks.specs.declared.marks.Mark.TheVariants as mark
-use Rattle.rx_marks.specs.declared.marks.Move.{Move}
-use Rattle.rx_marks.specs.declared.marks.Move.TheVariants as move
-use Rattle.rx_marks.specs.KnownTags as known_tags
-use Rattle.rx_marks.specs.Pending.{Pending}
-use Rattle.rx_marks.proofs.Snoc.{and_false}
+use Rattle.rx_scan.specs.declared.marks.Mark.{Mark}
+use Rattle.rx_scan.specs.declared.marks.Mark.TheVariants as mark
+use Rattle.rx_scan.specs.declared.marks.Move.{Move}
+use Rattle.rx_scan.specs.declared.marks.Move.TheVariants as move
+use Rattle.rx_scan.specs.KnownTags as known_tags
+use Rattle.rx_scan.specs.Pending.{Pending}
+use Rattle.rx_scan.proofs.Snoc.{and_false}
 use Rattle.rx_pages.specs.PageReader as reader
 use Rattle.rx_reader.specs.TagReader.{TagState}
 use Rattle.rx_tags.specs.Fronts.{is_printed, GoesTo}

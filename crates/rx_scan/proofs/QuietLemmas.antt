@@ -20,12 +20,12 @@ use Rattle.rx_grammar.specs.declared.stops.Stop.{Stop}
 use Rattle.rx_grammar.specs.declared.stops.Stop.TheVariants as stop
 use Rattle.rx_scan.specs.declared.answers.What.{What}
 use Rattle.rx_scan.specs.declared.answers.What.TheVariants as what
-use Rattle.rx_marks.specs.declared.marks.First.{First}
-use Rattle.rx_marks.specs.declared.marks.Mark.{Mark}
-use Rattle.rx_marks.specs.declared.marks.Mark.TheVariants as mark
-use Rattle.rx_marks.specs.declared.marks.Move.TheVariants as move
-use Rattle.rx_marks.specs.KnownTags as known_tags
-use Rattle.rx_marks.specs.Marks as marks
+use Rattle.rx_scan.specs.declared.marks.First.{First}
+use Rattle.rx_scan.specs.declared.marks.Mark.{Mark}
+use Rattle.rx_scan.specs.declared.marks.Mark.TheVariants as mark
+use Rattle.rx_scan.specs.declared.marks.Move.TheVariants as move
+use Rattle.rx_scan.specs.KnownTags as known_tags
+use Rattle.rx_scan.specs.Marks as marks
 use Rattle.rx_scan.specs.declared.places.Position.{Position}
 use Rattle.rx_scan.specs.Places.{ended}
 use Rattle.rx_scan.specs.Scanner.{Reading}
@@ -42,7 +42,7 @@ pub data Does (l : Reading) (byte : ℕ) (answer : What) (new : Reading) : Type 
   is_a_mark : l.place.started ≡ false → answer ≡ what.Skipped → new.pending.mark ≡ mark.Nothing → Does l byte answer new
 
 -- a character of ASCII is its last byte
-last_byte : (held : List ℕ) (byte c : ℕ) → answer_of (held ++ byte ∷ []) ≡ Char c → c < 128 → byte ≡ c
+pub last_byte : (held : List ℕ) (byte c : ℕ) → answer_of (held ++ byte ∷ []) ≡ Char c → c < 128 → byte ≡ c
 last_byte held byte c e h =
     let a = answers_from (held ++ byte ∷ []) (Char c) (sym e) in
     let k = ((tables_agree (held ++ byte ∷ []) c).0 a).1 in
@@ -54,7 +54,7 @@ last_byte held byte c e h =
     last_same (x ∷ y ∷ held) byte c e = absurd (cc)
 
 -- what a line end stands for begins nothing
-begins_line : (c d : ℕ) → as_line_end c ≡ d → (10 == d) ≡ false → c ≡ d
+pub begins_line : (c d : ℕ) → as_line_end c ≡ d → (10 == d) ≡ false → c ≡ d
 begins_line c d e n = by_test {G = c ≡ d} (c == carriage_return) (λ h. absurd (let q : 10 ≡ d = sym (cond-true _ _ _ h) ∙ e in let z : true ≡ false = ap (λ (x : ℕ). 10 == x) q ∙ n in cc)) (λ h. sym (cond-false _ _ _ h) ∙ e)
 
 module _ (l new : Reading) (byte : ℕ) (answer : What) (m : l.pending.mark ≡ mark.Nothing) where

@@ -18,14 +18,14 @@ use Rattle.rx_grammar.specs.declared.contents.Content.TheVariants as content
 use Rattle.rx_grammar.specs.Items.{is_strict_literal}
 use Rattle.rx_grammar.specs.Spelling.{has_references, is_text}
 use Rattle.rx_grammar.specs.Tokens.{character}
-use Rattle.rx_marks.specs.declared.marks.Mark.{Mark}
-use Rattle.rx_marks.specs.declared.marks.Mark.TheVariants as mark
-use Rattle.rx_marks.specs.declared.marks.Move.{Move}
-use Rattle.rx_marks.specs.declared.marks.Move.TheVariants as move
-use Rattle.rx_marks.specs.KnownTags as known_tags
-use Rattle.rx_marks.specs.Marks as marks
-use Rattle.rx_marks.specs.Pending.{Pending}
-use Rattle.rx_marks.proofs.Snoc.{and_false, either_way}
+use Rattle.rx_scan.specs.declared.marks.Mark.{Mark}
+use Rattle.rx_scan.specs.declared.marks.Mark.TheVariants as mark
+use Rattle.rx_scan.specs.declared.marks.Move.{Move}
+use Rattle.rx_scan.specs.declared.marks.Move.TheVariants as move
+use Rattle.rx_scan.specs.KnownTags as known_tags
+use Rattle.rx_scan.specs.Marks as marks
+use Rattle.rx_scan.specs.Pending.{Pending}
+use Rattle.rx_scan.proofs.Snoc.{and_false, either_way}
 use Rattle.rx_pages.specs.PageReader as reader
 use Rattle.rx_scan.specs.declared.answers.What.TheVariants as what
 use Rattle.rx_scan.specs.declared.places.Position.{Position}

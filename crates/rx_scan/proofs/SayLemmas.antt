@@ -19,14 +19,14 @@ use Rattle.rx_grammar.specs.References.{meaning}
 use Rattle.rx_reader.specs.Values.{no_meaning}
 use Rattle.rx_scan.specs.declared.answers.What.{What}
 use Rattle.rx_scan.specs.declared.answers.What.TheVariants as what
-use Rattle.rx_marks.specs.declared.marks.Mark.TheVariants as mark
-use Rattle.rx_marks.specs.declared.marks.Move.TheVariants as move
+use Rattle.rx_scan.specs.declared.marks.Mark.TheVariants as mark
+use Rattle.rx_scan.specs.declared.marks.Move.TheVariants as move
 use Rattle.rx_scan.specs.Places.{ended}
-use Rattle.rx_marks.specs.Pending.{phase_of}
+use Rattle.rx_scan.specs.Pending.{phase_of}
 use Rattle.rx_scan.specs.Scanner.{Reading}
 use Rattle.rx_scan.specs.Entries as entries
 use Rattle.rx_scan.specs.Steps.{ReadsAs, a_line_feed, joined}
-use Rattle.rx_marks.specs.Meant as meant
+use Rattle.rx_scan.specs.Meant as meant
 use Rattle.rx_scan.proofs.GivesLemmas.{Gives, gives_at, refuses, verdict_at, read_at}
 use Rattle.rx_scan.proofs.WholeLemmas.{item, is_item, literal_is, behind, completes, ends_as, unliteral}
 use Rattle.rx_scan.proofs.Standing.{no_literal}

@@ -36,7 +36,8 @@ use Rattle.rx_pages.proofs.Prefix.{any_next}
 use Rattle.rx_pages.proofs.Pends.{occurs}
 use Rattle.rx_pages.proofs.PendsOn.{spells_read, faulty_read, pends, unfinished}
 use Rattle.rx_pages.proofs.FrontOn.{goes_more}
-use Rattle.rx_pages.proofs.FaultsRead.{item_token, item_content}
+use Rattle.rx_pages.proofs.FaultsRead.{item_content}
+use Rattle.rx_pages.proofs.LastToken.{token_of_item}
 use Rattle.rx_pages.proofs.CharSteps.{passes, entry_at}
 use Rattle.rx_pages.proofs.CharWalk.{is_started, ends_return, no_return, no_mark}
 use Rattle.rx_pages.proofs.BytesOn.{encodes_more, scalars_more, some_entered}
@@ -586,7 +587,7 @@ module _ (syntax : Syntax) (limits : Limits) (spot : Spot) (o : occurs syntax sp
       spelled_now token v = spells_read syntax inside o (values next.run ++ value ∷ []) None token (at_last (values next.run) value token g v)
 
       literal_is : (token : Token) → is_literal greater_than_sign (item_of inside token (next.run ++ entry ∷ [])) ≡ true → is_strict_literal greater_than_sign inside token ≡ true
-      literal_is token l = sym (ap (λ i. is_strict_literal greater_than_sign i (item_of inside token (next.run ++ entry ∷ [])).token) (item_content inside token next.run entry) ∙ ap (λ t. is_strict_literal greater_than_sign inside t) (item_token inside token (next.run ++ entry ∷ []))) ∙ l
+      literal_is token l = sym (ap (λ i. is_strict_literal greater_than_sign i (item_of inside token (next.run ++ entry ∷ [])).token) (item_content inside token next.run entry) ∙ ap (λ t. is_strict_literal greater_than_sign inside t) (token_of_item inside token (next.run ++ entry ∷ []))) ∙ l
 
       doctype_is : (token : Token) → is_doctype token ≡ true → token ≡ doctype
       doctype_is doctype d = refl
@@ -612,7 +613,7 @@ module _ (syntax : Syntax) (limits : Limits) (spot : Spot) (o : occurs syntax sp
           by true p b q = let w = and_parts next.two (is_literal greater_than_sign (item_of inside token (next.run ++ entry ∷ []))) p in if_fault StrictText (section_end c token is (spelled_now token v) (literal_is token w.1) w.0)
           by false p true q =
               let w = and_parts (is_doctype (item_of inside token (next.run ++ entry ∷ [])).token) (not spot.leads) q in
-              if_fault BadDoctype (on_doctype (doctype_is token (ap is_doctype (sym (item_token inside token (next.run ++ entry ∷ []))) ∙ w.0)) (unled spot.leads w.1))
+              if_fault BadDoctype (on_doctype (doctype_is token (ap is_doctype (sym (token_of_item inside token (next.run ++ entry ∷ []))) ∙ w.0)) (unled spot.leads w.1))
           by false p false q = no_fault (record { next = entering (c == carriage_return) [] (next.last && is_literal right_bracket (item_of inside token (next.run ++ entry ∷ []))) (is_literal right_bracket (item_of inside token (next.run ++ entry ∷ []))) next; items = item_of inside token (next.run ++ entry ∷ []) ∷ [] })
 
       -- a token ended before the entry, and what the entry says then

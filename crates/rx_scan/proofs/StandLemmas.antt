@@ -11,9 +11,9 @@ use Rattle.rx_grammar.specs.declared.contents.Content.{Content}
 use Rattle.rx_grammar.specs.Items.{values}
 use Rattle.rx_pages.specs.PageReader.{Scanning, scan_from, read_byte}
 use Rattle.rx_scan.specs.declared.answers.What.{What}
-use Rattle.rx_marks.specs.declared.marks.Mark.{Mark}
-use Rattle.rx_marks.specs.declared.marks.Mark.TheVariants as mark
-use Rattle.rx_marks.specs.Pending.{PendsAs}
+use Rattle.rx_scan.specs.declared.marks.Mark.{Mark}
+use Rattle.rx_scan.specs.declared.marks.Mark.TheVariants as mark
+use Rattle.rx_scan.specs.Pending.{PendsAs}
 use Rattle.rx_scan.specs.declared.places.Position.{Position}
 use Rattle.rx_scan.specs.declared.places.Setting.{Setting}
 use Rattle.rx_scan.specs.Scanner.{Reading, Scanner, spot_of}

@@ -10,13 +10,13 @@ use Rattle.rx_grammar.specs.Tokens.{Token, tag, character, reference, kept, sect
 use Rattle.rx_grammar.specs.Items.{Item, values, last_from, is_strict_literal}
 use Rattle.rx_pages.specs.PageReader.{Scanning, first_of, starts_at, entering, item_of}
 use Rattle.rx_tags.specs.TagBufs.{TagSoFar}
-use Rattle.rx_marks.specs.declared.marks.Mark.{Mark}
-use Rattle.rx_marks.specs.declared.marks.Mark.TheVariants as mark
+use Rattle.rx_scan.specs.declared.marks.Mark.{Mark}
+use Rattle.rx_scan.specs.declared.marks.Mark.TheVariants as mark
 use Rattle.rx_scan.specs.declared.places.Position.{Position}
 use Rattle.rx_scan.specs.declared.places.Setting.{Setting}
 use Rattle.rx_scan.specs.Buffers.{Buffered}
 use Rattle.rx_scan.specs.Places.{entered}
-use Rattle.rx_marks.specs.Pending.{Pending, PendsAs}
+use Rattle.rx_scan.specs.Pending.{Pending, PendsAs}
 use Rattle.rx_scan.specs.Scanner.{Reading}
 use Rattle.rx_scan.specs.Entries.{token_from, with_parts}
 use Rattle.rx_scan.specs.Steps.{ReadsAs}

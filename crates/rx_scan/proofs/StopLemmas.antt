@@ -17,20 +17,20 @@ use Rattle.rx_grammar.specs.declared.stops.Stop.TheVariants as stop
 use Rattle.rx_tags.specs.TagBufs.{no_tag}
 use Rattle.rx_scan.specs.declared.answers.What.{What}
 use Rattle.rx_scan.specs.declared.answers.What.TheVariants as what
-use Rattle.rx_marks.specs.declared.marks.Mark.TheVariants as mark
-use Rattle.rx_marks.specs.declared.marks.First.{First}
-use Rattle.rx_marks.specs.declared.marks.First.TheVariants as first
-use Rattle.rx_marks.specs.Marks as marks
+use Rattle.rx_scan.specs.declared.marks.Mark.TheVariants as mark
+use Rattle.rx_scan.specs.declared.marks.First.{First}
+use Rattle.rx_scan.specs.declared.marks.First.TheVariants as first
+use Rattle.rx_scan.specs.Marks as marks
 use Rattle.rx_scan.specs.Places.{begun, ended, cut}
-use Rattle.rx_marks.specs.Pending.{Pending, first_char}
+use Rattle.rx_scan.specs.Pending.{Pending, first_char}
 use Rattle.rx_scan.specs.Scanner.{Reading, spot_of}
 use Rattle.rx_scan.specs.Entries as entries
 use Rattle.rx_scan.specs.Steps.{ReadsAs, joined, keeps_first}
-use Rattle.rx_marks.specs.Meant as meant
+use Rattle.rx_scan.specs.Meant as meant
 use Rattle.rx_scan.proofs.GivesLemmas.{Gives, gives_at, refuses, entry_at, verdict_at, read_at}
 use Rattle.rx_scan.proofs.Standing.{begins, whole}
-use Rattle.rx_marks.proofs.Snoc.{and_false}
-use Rattle.rx_marks.proofs.Simulation.{simulates}
+use Rattle.rx_scan.proofs.Snoc.{and_false}
+use Rattle.rx_scan.proofs.Simulation.{simulates}
 
 module _ (v : Reading) (s : reader.Scanning) (h : ReadsAs v s) (ar : Bool) (c : ℕ) where
   abbrev sy : Syntax

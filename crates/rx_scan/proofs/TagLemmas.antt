@@ -23,17 +23,17 @@ use Rattle.rx_reader.specs.TagReader.{TagState, fresh, tag_on, tag_step, tag_of,
 use Rattle.rx_reader.proofs.TagLaws.{tag_on-append}
 use Rattle.rx_scan.specs.declared.answers.What.{What}
 use Rattle.rx_scan.specs.declared.answers.What.TheVariants as what
-use Rattle.rx_marks.specs.declared.marks.Mark.TheVariants as mark
+use Rattle.rx_scan.specs.declared.marks.Mark.TheVariants as mark
 use Rattle.rx_scan.specs.Places.{ended}
 use Rattle.rx_scan.specs.Scanner.{Reading}
 use Rattle.rx_scan.specs.Entries as entries
 use Rattle.rx_scan.specs.Steps.{ReadsAs}
-use Rattle.rx_marks.specs.Meant as meant
+use Rattle.rx_scan.specs.Meant as meant
 use Rattle.rx_scan.proofs.GivesLemmas.{Gives, gives_at, fault_is, entry_at, verdict_at, read_at}
 use Rattle.rx_scan.proofs.GoingLemmas.{gives_went}
 use Rattle.rx_scan.proofs.WholeLemmas.{item, is_item, behind, completes, ends_as, unliteral}
 use Rattle.rx_scan.proofs.Standing.{some_mark, no_literal}
-use Rattle.rx_marks.proofs.Snoc.{and_false, and_true}
+use Rattle.rx_scan.proofs.Snoc.{and_false, and_true}
 
 abbrev ok_state : TagState → Result TagState Kind
 ok_state a = Ok a

@@ -12,16 +12,16 @@ use Rattle.rx_grammar.specs.Tokens.{Token}
 use Rattle.rx_grammar.specs.Items.{Item, values, is_literal, is_strict_literal}
 use Rattle.rx_pages.specs.Scanner as verdicts
 use Rattle.rx_pages.specs.PageReader as reader
-use Rattle.rx_marks.specs.declared.marks.Mark.TheVariants as mark
+use Rattle.rx_scan.specs.declared.marks.Mark.TheVariants as mark
 use Rattle.rx_scan.specs.declared.places.Setting.{Setting}
 use Rattle.rx_scan.specs.Places.{ended}
-use Rattle.rx_marks.specs.Pending.{Pending}
+use Rattle.rx_scan.specs.Pending.{Pending}
 use Rattle.rx_scan.specs.Scanner.{Reading}
 use Rattle.rx_scan.specs.Steps.{ReadsAs}
 use Rattle.rx_scan.specs.Buffers.{Buffered}
 use Rattle.rx_scan.proofs.GivesLemmas.{entry_at, verdict_at, read_at}
 use Rattle.rx_scan.proofs.Standing.{whole, IsItem, item_snoc, is_character, no_literal}
-use Rattle.rx_marks.proofs.Snoc.{and_false}
+use Rattle.rx_scan.proofs.Snoc.{and_false}
 
 module _ (v : Reading) (s : reader.Scanning) (h : ReadsAs v s) (ar : Bool) (c : ℕ) where
   abbrev sy : Syntax

@@ -2,10 +2,10 @@
 use Rattle.std.specs.Prelude.{◌≡◌, ℕ, true, false, ◌==◌}
 use Rattle.rx_chars.specs.Characters.{byte_order_mark, carriage_return}
 use Rattle.rx_terms.specs.Ascii.{line_feed}
-use Rattle.rx_marks.specs.declared.marks.Mark.{Mark}
-use Rattle.rx_marks.specs.declared.marks.Move.TheVariants as move
-use Rattle.rx_marks.specs.KnownTags.{is_tag_with}
-use Rattle.rx_marks.specs.Marks.{move_of}
+use Rattle.rx_scan.specs.declared.marks.Mark.{Mark}
+use Rattle.rx_scan.specs.declared.marks.Move.TheVariants as move
+use Rattle.rx_scan.specs.KnownTags.{is_tag_with}
+use Rattle.rx_scan.specs.Marks.{move_of}
 use Rattle.rx_scan.specs.declared.places.Setting.{Setting}
 
 -- Behind the mark the character goes on with a tag. It is no NUL, no byte order mark and ends no line.

@@ -22,21 +22,21 @@ use Rattle.rx_tags.specs.declared.pairs.TagError.TheVariants as tag_error
 use Rattle.rx_tags.specs.TagBufs.{TagSoFar, no_tag, MayStep, StepGives}
 use Rattle.rx_scan.specs.declared.answers.What.{What}
 use Rattle.rx_scan.specs.declared.answers.What.TheVariants as what
-use Rattle.rx_marks.specs.declared.marks.Brackets.TheVariants as brackets
-use Rattle.rx_marks.specs.declared.marks.Mark.{Mark}
-use Rattle.rx_marks.specs.declared.marks.Mark.TheVariants as mark
-use Rattle.rx_marks.specs.declared.marks.Whole.{Whole}
-use Rattle.rx_marks.specs.declared.marks.Whole.TheVariants as whole
-use Rattle.rx_marks.specs.declared.marks.First.{First}
-use Rattle.rx_marks.specs.declared.marks.First.TheVariants as first
-use Rattle.rx_marks.specs.declared.marks.Move.{Move}
-use Rattle.rx_marks.specs.declared.marks.Move.TheVariants as move
+use Rattle.rx_scan.specs.declared.marks.Brackets.TheVariants as brackets
+use Rattle.rx_scan.specs.declared.marks.Mark.{Mark}
+use Rattle.rx_scan.specs.declared.marks.Mark.TheVariants as mark
+use Rattle.rx_scan.specs.declared.marks.Whole.{Whole}
+use Rattle.rx_scan.specs.declared.marks.Whole.TheVariants as whole
+use Rattle.rx_scan.specs.declared.marks.First.{First}
+use Rattle.rx_scan.specs.declared.marks.First.TheVariants as first
+use Rattle.rx_scan.specs.declared.marks.Move.{Move}
+use Rattle.rx_scan.specs.declared.marks.Move.TheVariants as move
 use Rattle.rx_scan.specs.declared.places.Position.{Position}
 use Rattle.rx_scan.specs.declared.places.Setting.{Setting}
 use Rattle.rx_scan.specs.Buffers.{Buffered}
-use Rattle.rx_marks.specs.KnownTags.{is_tag, is_tag_with}
-use Rattle.rx_marks.specs.Marks.{at_first, move_of}
-use Rattle.rx_marks.specs.Pending.{Pending, bracket_text, first_char, phase_of}
+use Rattle.rx_scan.specs.KnownTags.{is_tag, is_tag_with}
+use Rattle.rx_scan.specs.Marks.{at_first, move_of}
+use Rattle.rx_scan.specs.Pending.{Pending, bracket_text, first_char, phase_of}
 use Rattle.rx_scan.specs.Places.{holding, entered, begun, ended, cut}
 use Rattle.rx_scan.specs.Scanner.{Reading}
 

@@ -8,3 +8,8 @@ pub mod Fronts
 pub mod Openings
 pub mod Steps
 pub mod Spelled
+pub mod Marks
+pub mod KnownTags
+pub mod Pending
+pub mod Meant
+pub mod Laws

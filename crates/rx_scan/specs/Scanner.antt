@@ -6,7 +6,7 @@ use Rattle.rx_scan.specs.declared.places.Position.{Position}
 use Rattle.rx_scan.specs.declared.places.Setting.{Setting}
 use Rattle.rx_scan.specs.declared.answers.What.{What}
 use Rattle.rx_scan.specs.Buffers.{Buffered}
-use Rattle.rx_marks.specs.Pending.{Pending}
+use Rattle.rx_scan.specs.Pending.{Pending}
 
 -- What is read and how; where it stands; the bytes of a character that isn't whole; what is kept of the characters since the last token;
 -- the text that was read since the step began; and where the last tag ended.

@@ -25,9 +25,9 @@ use Rattle.rx_scan.specs.declared.answers.What.{What}
 use Rattle.rx_scan.specs.declared.answers.What.TheVariants as what
 use Rattle.rx_scan.specs.declared.answers.Token as shown
 use Rattle.rx_scan.specs.declared.answers.Token.TheVariants as token
-use Rattle.rx_marks.specs.declared.marks.Mark.TheVariants as mark
+use Rattle.rx_scan.specs.declared.marks.Mark.TheVariants as mark
 use Rattle.rx_scan.specs.declared.places.Setting.{Setting}
-use Rattle.rx_marks.specs.Pending.{Pends}
+use Rattle.rx_scan.specs.Pending.{Pends}
 use Rattle.rx_scan.specs.Scanner.{Reading, Scanner, spot_of}
 use Rattle.rx_scan.specs.Entries.{IsNoMemory, token_from, undropped}
 

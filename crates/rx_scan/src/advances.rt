@@ -4,9 +4,9 @@ ghost use Rattle.rx_scan.specs.Entries as entries;
 ghost use Rattle.rx_tags.specs.TagBufs.{MayStep};
 
 use crate::answers::What;
+use crate::marks::{Brackets, Mark, Move};
 use crate::readers::Reader;
 use rx_chars::Utf8;
-use rx_marks::{Brackets, Mark, Move};
 use rx_tags::Stop;
 
 impl Reader {

@@ -8,11 +8,12 @@ ghost use Rattle.rx_scan.specs.declared.places.Setting.{Setting};
 ghost use Rattle.rx_tags.specs.TagBufs.{MayStep};
 
 use crate::answers::What;
+use crate::known_tags::{is_tag, is_tag_with};
+use crate::marks::Mark;
 use crate::places::{Position, reaches};
 use crate::readers::Reader;
 use rx_chars::{Utf8, Utf8Step};
 use rx_grammar::Kind;
-use rx_marks::{Mark, is_tag, is_tag_with};
 use rx_tags::{Stop, is_letter};
 
 fn is_passed(place: Position, c: char) -> bool

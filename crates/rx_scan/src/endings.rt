@@ -4,9 +4,9 @@ ghost use Rattle.rx_scan.specs.Entries as entries;
 ghost use Rattle.rx_tags.specs.TagBufs.{MayStep};
 
 use crate::answers::What;
+use crate::marks::{Mark, Whole};
 use crate::readers::Reader;
 use rx_chars::Utf8;
-use rx_marks::{Mark, Whole};
 use rx_tags::Stop;
 
 impl Reader {

@@ -4,9 +4,9 @@ ghost use Rattle.rx_scan.specs.Entries as entries;
 ghost use Rattle.rx_tags.specs.TagBufs.{MayStep};
 
 use crate::answers::What;
+use crate::marks::{First, Mark, Move};
 use crate::readers::Reader;
 use crate::settings::is_bracket;
-use rx_marks::{First, Mark, Move};
 use rx_tags::Stop;
 
 impl Reader {

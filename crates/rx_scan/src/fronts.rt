@@ -6,11 +6,11 @@ ghost use Rattle.rx_scan.specs.Openings.{OpensFront, OpensTag, TakesFront};
 ghost use Rattle.rx_scan.specs.declared.places.Setting.{Setting};
 
 use crate::bytes::is_of_tag;
+use crate::marks::Mark;
 use crate::plain::plain_text;
 use crate::readers::Reader;
 use crate::runs::ROOM;
 use rx_grammar::Content;
-use rx_marks::Mark;
 
 // Outside the root white space alone is text.
 fn has_text(inside: Content) -> bool

@@ -4,11 +4,11 @@ ghost use Rattle.rx_reader.specs.Tables.{is_last};
 ghost use Rattle.rx_reader.specs.TagReader.{parts_of, is_closing};
 ghost use Rattle.rx_tags.specs.Seen.{tag_seen};
 ghost use Rattle.rx_tags.specs.TagBufs.{no_tag, MayStep, StepGives, TakesMore};
-ghost use Rattle.rx_marks.specs.Pending.{bracket_text, in_section};
+ghost use Rattle.rx_scan.specs.Pending.{bracket_text, in_section};
 
 use crate::buffers::Buffer;
+use crate::marks::{Brackets, Mark};
 use rx_chars::Syntax;
-use rx_marks::{Brackets, Mark};
 use rx_tags::{Tag, TagBuf, TagError, TagStep};
 use rx_terms::NoMemory;
 use std::alloc::Global;
@@ -24,7 +24,7 @@ pub(crate) struct Unfinished {
 }
 
 impl Model for Unfinished {
-    ghost use Rattle.rx_marks.specs.Pending.{Pending};
+    ghost use Rattle.rx_scan.specs.Pending.{Pending};
 
     ghost Value = { Pending };
 

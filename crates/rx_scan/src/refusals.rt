@@ -1,12 +1,13 @@
 //! What a character does with regard to what stands before its token, and where a fault is.
 ghost use Rattle.std.specs.Prelude.{◌≡◌};
-ghost use Rattle.rx_marks.specs.Marks as marks;
+ghost use Rattle.rx_scan.specs.Marks as marks;
 ghost use Rattle.rx_scan.specs.Entries as entries;
 
+use crate::marks::{First, Mark, Move, Whole};
+use crate::moves::{at_first, move_of};
 use crate::places::{Position, Setting};
 use crate::readers::Reader;
 use rx_grammar::{Content, Fault, Kind};
-use rx_marks::{First, Mark, Move, Whole, at_first, move_of};
 
 // What stands before the token may refuse it: `]]` before `>` in text of XHTML, and all before a document type that
 // isn't the first.

@@ -6,8 +6,8 @@ ghost use Rattle.rx_scan.specs.Entries.{IsNoMemory, LiesAt};
 ghost use Rattle.rx_scan.specs.Steps.{ReadsAs, Runs, RunsReady, RunsTake, is_quiet, is_tag, is_token, stopped_at};
 
 use crate::answers::What;
+use crate::marks::Mark;
 use crate::readers::Reader;
-use rx_marks::Mark;
 use rx_tags::Stop;
 
 /// The bytes that the text of one step may have, and the last character's.

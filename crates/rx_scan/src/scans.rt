@@ -3,13 +3,13 @@ ghost use Rattle.std.specs.Prelude.{◌≡◌, true, false, IfOk};
 
 use crate::answers::{Token, What};
 use crate::buffers::Buffer;
+use crate::marks::Mark;
 use crate::pending::Unfinished;
 use crate::places::{Position, Setting};
 use crate::readers::Reader;
 use crate::runs::ROOM;
 use rx_chars::{Syntax, Utf8};
 use rx_grammar::{Content, Fault, Kind, Limits};
-use rx_marks::Mark;
 use rx_tags::{Stop, Tag};
 use rx_terms::NoMemory;
 use std::alloc::Global;

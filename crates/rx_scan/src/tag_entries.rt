@@ -5,10 +5,10 @@ ghost use Rattle.rx_scan.specs.Entries as entries;
 ghost use Rattle.rx_tags.specs.TagBufs.{MayStep};
 
 use crate::answers::What;
+use crate::marks::Mark;
 use crate::readers::Reader;
 use rx_chars::Utf8;
 use rx_grammar::{Fault, Kind};
-use rx_marks::Mark;
 use rx_tags::{Stop, TagError, TagStep};
 
 impl Reader {

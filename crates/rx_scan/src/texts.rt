@@ -4,11 +4,13 @@ ghost use Rattle.rx_scan.specs.Entries as entries;
 ghost use Rattle.rx_tags.specs.TagBufs.{MayStep};
 
 use crate::answers::What;
+use crate::marks::{First, Mark, Move};
+use crate::moves::at_first;
+use crate::phases::{first_char, phase_of};
 use crate::places::Position;
 use crate::readers::Reader;
 use crate::settings::{is_bracket, is_dropped};
 use rx_chars::Utf8;
-use rx_marks::{First, Mark, Move, at_first, first_char, phase_of};
 use rx_tags::{Stop, meaning, no_meaning};
 use rx_terms::NoMemory;
 

@@ -1,9 +1,9 @@
 -- What is made of the triples of a page that was read.
-use Rattle.std.proofs.Common.{◌≡◌, ◌∙◌, ℕ, zero, suc, Bool, true, false, List, ◌++◌, refl, sym, ap, subst, encode_utf8_all}
-use Rattle.std.specs.Prelude.{codes, Option, Vec}
+use Rattle.std.proofs.Common.{◌≡◌, ◌∙◌, ℕ, zero, suc, Bool, true, false, List, sym, ap, subst}
+use Rattle.std.specs.Prelude.{Option, Vec}
 use Rattle.rx_terms.specs.Text.{Chars}
 use Rattle.rx_terms.specs.declared.triples.Triple.{Triple as CodeTriple}
-use Rattle.rx_model.specs.Terms.{Triple, Graph, set_of}
+use Rattle.rx_model.specs.Terms.{Triple, set_of}
 use Rattle.rx_model.specs.Numbered.{Renamed}
 use Rattle.rx_rdfa.specs.Blanks.{same_bnode, model}
 use Rattle.rx_rdfa.specs.Made.{made}
@@ -12,25 +12,16 @@ use Rattle.rx_rdfa.specs.Whole.{written, graph_of}
 use Rattle.rx_rdfa.proofs.Exact.{exact_bnodes}
 use Rattle.rx_rdfa.proofs.Whole.{written_denotes}
 use Rattle.rx_model.specs.Copied.{copied}
-use Rattle.rx_grammar.specs.Trees.{Tree}
 use Rattle.rx_pages.proofs.Trees.{one_tree}
 use Rattle.rx_nquads.specs.Quads.{Quad, quads}
 use Rattle.rx_job.specs.declared.formats.Format.{Format}
 use Rattle.rx_job.specs.declared.formats.Format.TheVariants as format
 use Rattle.rx_job.specs.Words.{Extraction, extracts}
-use Rattle.rx_command.specs.Headline.{IsTheText}
-use Rattle.rx_command.specs.Outcome.{IsAccepted, IsTextAs, DenotesAs, HasText, Denotes, base_in, facts_in}
+use Rattle.rx_command.specs.Outcome.{IsAccepted, IsTextAs, DenotesAs, base_in, facts_in}
 use Rattle.rx_command.specs.Reading.{standard, GivesList}
 use Rattle.rx_command.specs.Written.{form_in, IsFormText, FormDenotes, graph_made}
 use Rattle.rx_command.proofs.MadeLemmas.{list_written}
 use Rattle.rx_command.proofs.OutcomeLemmas.{the_tree}
-use Rattle.rx_shapes.specs.Shapes.{Inner, Cell, last_cell, next_cell, IsShape}
-use Rattle.rx_shapes.specs.declared.shapes.Shape.{Shape}
-use Rattle.rx_shapes.specs.declared.shapes.Shape.TheVariants as shape
-use Rattle.rx_nested.specs.Laws.{HaveShapes}
-use Rattle.rx_nested.specs.Nesting.{nested}
-use Rattle.rx_jsonld.specs.Value.{jsonld}
-use Rattle.serde_json.specs.Written.{compact_text}
 use Rattle.rx_quads.specs.Raised.{raised, AreFrom, past}
 use Rattle.rx_quads.specs.Listed.{Listed, quads_of}
 use Rattle.rx_quads.proofs.CountLemmas.{numbers_without_gaps, renamed_then}
@@ -43,34 +34,7 @@ use Rattle.rx_session.specs.declared.outputs.Plan.{Plan}
 use Rattle.rx_session.specs.declared.outputs.Plan.TheVariants as plans
 use Rattle.rx_command.specs.declared.forms.Form.{Form}
 use Rattle.std.specs.declared.alloc.Global.{Global}
-
--- ---- a node has one shape, and a list one text in a format
-
-cell_inner : (g : Graph ℕ) (b : ℕ) → Cell g b → Inner g b
-cell_inner g b (last_cell inner pair) = inner
-cell_inner g b (next_cell inner pair more) = inner
-
-one_shape : (g : Graph ℕ) (b : ℕ) (s t : Shape) → IsShape g b s → IsShape g b t → s ≡ t
-one_shape g b shape.Cell shape.Cell p q = refl
-one_shape g b shape.Cell shape.Inside p q = absurd (q.1 p)
-one_shape g b shape.Cell shape.Labelled p q = absurd (q (cell_inner g b p))
-one_shape g b shape.Inside shape.Cell p q = absurd (p.1 q)
-one_shape g b shape.Inside shape.Inside p q = refl
-one_shape g b shape.Inside shape.Labelled p q = absurd (q p.0)
-one_shape g b shape.Labelled shape.Cell p q = absurd (p (cell_inner g b q))
-one_shape g b shape.Labelled shape.Inside p q = absurd (p q.0)
-one_shape g b shape.Labelled shape.Labelled p q = refl
-
-same_shapes : (list : List (Triple ℕ)) (s t : ℕ → Shape) → HaveShapes list s → HaveShapes list t → s ≡ t
-same_shapes list s t p q = λ i n. one_shape (set_of list) n (s n) (t n) (p n) (q n) i
-
-one_text_as : (f : Format) (graph : Option Chars) (context : Context) (list : List (Triple ℕ)) (a b : List ℕ) → IsTextAs f graph context list a → IsTextAs f graph context list b → a ≡ b
-one_text_as format.Nquads graph context list a b p q = p ∙ sym q
-one_text_as format.Turtle graph context list a b p q = p ∙ sym q
-one_text_as format.Nested graph context list a b p q =
-    p.spelled ∙ (ap (λ (s : ℕ → Shape). encode_utf8_all (nested context.prefixes list s)) (same_shapes list p.shapes q.shapes p.have q.have) ∙ sym q.spelled)
-one_text_as format.Jsonld graph context list a b p q =
-    p.spelled ∙ (ap (λ (s : ℕ → Shape). compact_text (jsonld list s) ++ codes "\n") (same_shapes list p.shapes q.shapes p.have q.have) ∙ sym q.spelled)
+use Rattle.rx_command.proofs.TextLemmas.{one_text_as}
 
 -- ---- a form writes what its format does
 

@@ -1,36 +1,32 @@
 -- A page that is being read, and what its calls answer.
-use Rattle.std.proofs.Common.{◌≡◌, ◌∙◌, ℕ, List, ◌++◌, refl, sym, ap, subst, inl, inr, None, Result, Ok, Err, append-nil}
+use Rattle.std.proofs.Common.{◌≡◌, ℕ, List, ◌++◌, refl, sym, subst, inl, inr, Result, Ok, Err}
 use Rattle.std.specs.Prelude.{Bool, Vec}
 use Rattle.std.specs.declared.alloc.Global.{Global}
 use Rattle.rx_terms.specs.Text.{Chars}
 use Rattle.rx_chars.specs.declared.syntax.Syntax.{Syntax}
 use Rattle.rx_grammar.specs.declared.faults.Fault.{Fault}
-use Rattle.rx_grammar.specs.declared.limits.Limits.{Limits}
 use Rattle.rx_grammar.specs.Trees.{Tree}
 use Rattle.rx_rdfa.specs.Names.{Context}
 use Rattle.rx_grammar.specs.declared.stops.Stop.{Stop}
 use Rattle.rx_grammar.specs.declared.stops.Stop.TheVariants as stop
 use Rattle.rx_grammar.specs.PageFaults.{FaultAt}
 use Rattle.rx_nest.specs.Nests as nests
-use Rattle.rx_nest.specs.Nests.{Nested}
-use Rattle.rx_nest.specs.Signs.{Sign, Sight, sees, nothing_seen}
-use Rattle.rx_reading.specs.Faults.{for_form}
-use Rattle.rx_reading.specs.Readings.{Unfinished, OwesNone}
-use Rattle.rx_reading.specs.Ways.{Way}
+use Rattle.rx_nest.specs.Faults.{for_form}
+use Rattle.rx_nest.specs.Readings.{Unfinished}
 use Rattle.rx_walk.specs.Settings.{Setting, way_of}
 use Rattle.rx_walk.specs.Walks as walks
 use Rattle.rx_walk.specs.Checks as check
 use Rattle.rx_items.specs.Collecting.{Setting as ItemSetting}
 use Rattle.rx_items.specs.Walks as items
-use Rattle.rx_item_properties.specs.declared.kept.Kept.{Kept}
+use Rattle.rx_items.specs.declared.kept.Kept.{Kept}
 use Rattle.rx_job.specs.Words.{Task, Extraction, Itemization, extracts, itemizes, checks}
-use Rattle.rx_command.specs.Headline.{IsTheText, IsTheFault}
+use Rattle.rx_command.specs.Headline.{IsTheText}
 use Rattle.rx_command.specs.JsonTexts.{AreItems, JsonTextGives}
 use Rattle.rx_command.specs.Outcome.{HasItems, IsRight, ok_line}
 use Rattle.rx_command.specs.Reading.{standard, setting_for, item_setting_for, for_triples, for_items, for_faults, Aim, way_for, HasFirst}
 use Rattle.rx_command.proofs.OutcomeLemmas.{the_fault}
 use Rattle.rx_command.proofs.FaultLemmas.{no_meaning_in}
-use Rattle.rx_command.proofs.ReadLemmas.{IsRead, refuses_so}
+use Rattle.rx_command.proofs.ReadLemmas.{IsRead, refuses_so, shown_read}
 use Rattle.rx_command.proofs.TextLemmas.{the_text}
 use Rattle.rx_session.specs.Wants.{plan_for}
 use Rattle.rx_session.specs.Works.{Reads, Takes, Ends}
@@ -72,12 +68,6 @@ feeds_check (checks syntax) first singly context old new bytes piece (Err (stop.
 feeds_check (checks syntax) first singly context old new bytes piece (Err stop.NoMemory) gives at = tt
 
 -- ---- the page's end
-
--- bytes that were read without a fault
-shown_read : (way : Way) (bytes : List ℕ) (nest : Nested) (signs : List Sign) → nests.NestStands way.syntax way.limits nest bytes signs → OwesNone nest → way.refused signs ≡ None → IsRead way bytes
-shown_read way bytes nest signs shown paid accepted =
-    let signs_are : (sees nothing_seen shown.told).signs ≡ signs = ap (λ (x : Sight). x.signs) shown.sight ∙ (ap (λ x. signs ++ x) paid ∙ append-nil signs) in
-    record { now = record { now = shown.at.now; told = shown.told }; read = shown.at.read; accepted = ap way.refused signs_are ∙ accepted }
 
 -- that they are no page is their first fault
 end_first : (syntax : Syntax) (aim : Aim) (bytes : List ℕ) (fault : Fault) → IsRead (way_for syntax aim) bytes → FaultAt syntax standard bytes fault → HasFirst (way_for syntax aim) bytes fault

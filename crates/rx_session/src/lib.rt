@@ -24,6 +24,6 @@ pub use kinds::kind_number;
 pub use outputs::Output;
 pub use requests::{open_check, open_extraction, open_items};
 pub use rx_command::{Fault, Format, Kind};
-pub use rx_many::name_of;
+pub use rx_grammar::name_of;
 pub use rx_quads::{ShownQuad, ShownTerm, TermKind};
 pub use sessions::{Extraction, Session};

@@ -6,7 +6,8 @@ use Rattle.rx_model.specs.Terms.{Node, Iri, Blank, Term, Resource, Triple, set_o
 use Rattle.rx_model.specs.Copied.{spo}
 use Rattle.rx_model.proofs.Exact.{exact_numbers, exact_nodes, exact_terms, exact_triples}
 use Rattle.rx_model.proofs.Sets.{Among_filter, Among_of_filter}
-use Rattle.rx_shapes.specs.Shapes.{rdf_first, rdf_rest, rdf_nil, Parent, Ends, at_iri, at_top, onward, Inner, Pair, Cell, last_cell, next_cell}
+use Rattle.rx_shapes.specs.Shapes.{Parent, Ends, at_iri, at_top, onward, Inner, Pair, Cell, last_cell, next_cell}
+use Rattle.rx_model.specs.Vocabulary.{rdf_first, rdf_rest, rdf_nil}
 use Rattle.rx_shapes.specs.Examples.{page, knows, likes, nil, nested, below_top, two_parents, self_loop, cycle, list_of_two, third_triple, list_in_list, no_end, nil_as_subject, list_alone, ExamplesHold}
 
 -- the triples with an object, and those with a subject

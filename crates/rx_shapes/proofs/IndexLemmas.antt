@@ -1,5 +1,5 @@
 -- Nodes by number.
-use Rattle.std.proofs.Common.{◌≡◌, ℕ, suc, zero, ◌+◌, ◌<◌, ◌≤◌, Bool, true, false, ◌||◌, nat_eq, nat_lt, List, [], ◌∷◌, ◌++◌, map, length, take, position, slice_get, Option, Some, None, option_map, refl, sym, ap, subst, ◌∙◌, inl, inr, true≢false, arith, rules, if◌then◌else◌, ◌↔◌}
+use Rattle.std.proofs.Common.{◌≡◌, ℕ, suc, zero, ◌+◌, ◌<◌, ◌≤◌, Bool, true, false, nat_eq, nat_lt, List, [], ◌∷◌, ◌++◌, map, length, take, position, slice_get, Option, Some, None, option_map, refl, sym, ap, subst, ◌∙◌, inl, inr, true≢false, arith, rules, if◌then◌else◌, ◌↔◌}
 use Rattle.std.specs.List.{position_or_len}
 use Rattle.std.proofs.lemmas.Bool.Decides.{nat_tests}
 use Rattle.std.proofs.lemmas.Option.{slice_get_within}
@@ -17,7 +17,7 @@ use Rattle.rx_model.proofs.Sets.{false_unless, or_left, or_right, Among_cases}
 use Rattle.rx_graph.specs.Resources.{node_added, number_in}
 use Rattle.rx_terms.proofs.Bools.{same_truth}
 use Rattle.rx_graph.proofs.SetLemmas.{insert_seen, seen_more}
-use Rattle.rx_graph.proofs.PatternLemmas.{contains_added}
+use Rattle.rx_graph.proofs.PatternLemmas.{contains_added, none_there}
 use Rattle.rx_shapes.specs.Rows.{is_number}
 use Rattle.rx_shapes.specs.Links.{object_number, object_added, triple_added, HasNodes}
 use Rattle.rx_shapes.proofs.RowLemmas.{is_number_true, true_number, same_some}
@@ -76,15 +76,6 @@ number_within nodes s k h = slice_get_within nodes k s (number_get nodes s k h)
 -- one number is that of one node
 pub number_one : (nodes : List (Node ℕ)) (s t : Node ℕ) (k : ℕ) → number_in nodes s ≡ Some k → number_in nodes t ≡ Some k → s ≡ t
 number_one nodes s t k h i = same_some (slice_get nodes k) s t (number_get nodes s k h) (number_get nodes t k i)
-
-none_there : (nodes : List (Node ℕ)) (s : Node ℕ) → number_in nodes s ≡ None → contains (same_node nat_eq) nodes s ≡ false
-none_there [] s h = refl
-none_there (t ∷ nodes) s h = go (same_node nat_eq t s) refl (number_in nodes s) refl h (none_there nodes s)
-  where
-    go : (b : Bool) → same_node nat_eq t s ≡ b → (o : Option ℕ) → number_in nodes s ≡ o → (if b then Some 0 else option_map suc o) ≡ None → (number_in nodes s ≡ None → contains (same_node nat_eq) nodes s ≡ false) → (same_node nat_eq t s || contains (same_node nat_eq) nodes s) ≡ false
-    go true e o q k ih = cc
-    go false e None q k ih = rw e (ih q)
-    go false e (Some m) q k ih = cc
 
 pub number_found : (nodes : List (Node ℕ)) (s : Node ℕ) → contains (same_node nat_eq) nodes s ≡ true → (k : ℕ) × (number_in nodes s ≡ Some k)
 number_found nodes s h = go (number_in nodes s) refl

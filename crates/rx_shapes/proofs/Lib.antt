@@ -6,3 +6,7 @@ pub mod IndexLemmas
 pub mod ShapeLemmas
 pub mod ExampleLemmas
 pub mod RenamedLemmas
+pub mod Grouped
+pub mod Heights
+pub mod Times
+pub mod CellLemmas

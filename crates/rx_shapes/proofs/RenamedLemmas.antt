@@ -8,7 +8,8 @@ use Rattle.rx_model.specs.Numbered.{rename_node, rename_term, rename, blank_of_n
 use Rattle.rx_model.proofs.Sets.{Among_left, Among_right}
 use Rattle.rx_shapes.specs.declared.shapes.Shape.{Shape}
 use Rattle.rx_shapes.specs.declared.shapes.Shape.TheVariants as shape
-use Rattle.rx_shapes.specs.Shapes.{rdf_first, rdf_rest, rdf_nil, Parent, Ends, at_iri, at_top, onward, Inner, Pair, Cell, last_cell, next_cell, IsShape}
+use Rattle.rx_shapes.specs.Shapes.{Parent, Ends, at_iri, at_top, onward, Inner, Pair, Cell, last_cell, next_cell, IsShape}
+use Rattle.rx_model.specs.Vocabulary.{rdf_first, rdf_rest, rdf_nil}
 use Rattle.rx_shapes.specs.Laws.{ShapesForgetNames}
 
 module _ {A B : Type 0} (g : Graph A) (h : Graph B) (r : Renamed g h) where

@@ -11,11 +11,12 @@ use Rattle.rx_shapes.specs.declared.chains.Link.{Link}
 use Rattle.rx_shapes.specs.declared.chains.Link.TheVariants as link
 use Rattle.rx_shapes.specs.declared.shapes.Shape.{Shape}
 use Rattle.rx_shapes.specs.declared.shapes.Shape.TheVariants as shape
-use Rattle.rx_shapes.specs.Shapes.{rdf_first, rdf_rest, rdf_nil, Parent, Ends, at_iri, at_top, onward, Inner, Pair, Cell, last_cell, next_cell, IsShape}
+use Rattle.rx_shapes.specs.Shapes.{Parent, Ends, at_iri, at_top, onward, Inner, Pair, Cell, last_cell, next_cell, IsShape}
+use Rattle.rx_model.specs.Vocabulary.{rdf_first, rdf_rest, rdf_nil}
 use Rattle.rx_shapes.specs.Places.{places_of}
 use Rattle.rx_shapes.specs.Rows.{is_number, positions, filed}
 use Rattle.rx_shapes.specs.Chains.{Leads, ending, linked, Settled}
-use Rattle.rx_shapes.specs.Links.{object_number, link_to, subject_link, parent_link, nil_link, rest_link, are_pair, pair_link, found_link, cell_link, inner_link, is_inner_by, shape_by, HasNodes, IsIndex, subject_rows, object_rows, parent_links, inner_marks, cell_links, shapes_by, AreInner, AreCells, HaveShapes}
+use Rattle.rx_shapes.specs.Links.{object_number, link_to, subject_link, parent_link, nil_link, rest_link, are_pair, pair_link, found_link, cell_link, inner_link, is_inner_by, shape_by, HasNodes, IsIndex, subject_rows, object_rows, parent_links, inner_marks, cell_links, shapes_by, AreInner, AreCells, AreNumbered}
 use Rattle.rx_shapes.specs.Table.{shape_at, places_at, AreShapes}
 use Rattle.rx_shapes.proofs.RowLemmas.{is_number_true, true_number, got, got_or, same_some, among_get, positions_same, positions_none}
 use Rattle.rx_shapes.proofs.OnceLemmas.{Once, once, single, Double, double, one_at, two_at}
@@ -354,7 +355,7 @@ module _ (list : List (Triple ℕ)) (nodes : List (Node ℕ)) (each : Once list)
 
     -- ---- shapes
 
-    pub have_shapes : (cells : List Bool) (shapes : List Shape) → AreCells list nodes cells → shapes ≡ shapes_by inner cells (length nodes) → HaveShapes list nodes shapes
+    pub have_shapes : (cells : List Bool) (shapes : List Shape) → AreCells list nodes cells → shapes ≡ shapes_by inner cells (length nodes) → AreNumbered list nodes shapes
     have_shapes cells shapes are_cells shapes_are = record { each = λ b k e. subst (IsShape (set_of list) b) (sym (shape_is b k e)) (go b k e (get_or cells k false) refl (get_or inner k false) refl) }
       where
         shape_is : (b k : ℕ) → number_in nodes (Blank b) ≡ Some k → get_or shapes k shape.Labelled ≡ shape_by (get_or inner k false) (get_or cells k false)
@@ -376,7 +377,7 @@ module _ (list : List (Triple ℕ)) (nodes : List (Node ℕ)) (each : Once list)
   no_number : (s : Node ℕ) → number_in nodes s ≡ None → (k : ℕ) × (number_in nodes s ≡ Some k) → ⊥
   no_number s e (k, f) = let bad : None ≡ Some k = sym e ∙ f in cc
 
-  pub are_shapes : (rows : List (List ℕ)) (shapes : List Shape) → rows ≡ subject_rows list nodes → HaveShapes list nodes shapes → AreShapes list (record { nodes = nodes; places = rows; shapes = shapes })
+  pub are_shapes : (rows : List (List ℕ)) (shapes : List Shape) → rows ≡ subject_rows list nodes → AreNumbered list nodes shapes → AreShapes list (record { nodes = nodes; places = rows; shapes = shapes })
   are_shapes rows shapes rows_are have = record { shape = λ b. shape_go b (number_in nodes (Blank b)) refl; places = λ node. places_go node (number_in nodes node) refl }
     where
       shape_go : (b : ℕ) (o : Option ℕ) → number_in nodes (Blank b) ≡ o → IsShape (set_of list) b (shape_at shapes (number_in nodes (Blank b)))
@@ -409,8 +410,8 @@ module _ (list : List (Triple ℕ)) (nodes : List (Node ℕ)) (h : IsIndex list 
       → links ≡ cell_links list nodes inner rows (length nodes) → Settled links marks → AreCells list nodes marks
   cells_of_index = cell_nodes list nodes each_once h.has
 
-  pub shapes_of_index : (inner : List Bool) → AreInner list nodes inner → (cells : List Bool) (shapes : List Shape) → AreCells list nodes cells → shapes ≡ shapes_by inner cells (length nodes) → HaveShapes list nodes shapes
+  pub shapes_of_index : (inner : List Bool) → AreInner list nodes inner → (cells : List Bool) (shapes : List Shape) → AreCells list nodes cells → shapes ≡ shapes_by inner cells (length nodes) → AreNumbered list nodes shapes
   shapes_of_index = have_shapes list nodes each_once h.has
 
-  pub table_of_index : (rows : List (List ℕ)) (shapes : List Shape) → rows ≡ subject_rows list nodes → HaveShapes list nodes shapes → AreShapes list (record { nodes = nodes; places = rows; shapes = shapes })
+  pub table_of_index : (rows : List (List ℕ)) (shapes : List Shape) → rows ≡ subject_rows list nodes → AreNumbered list nodes shapes → AreShapes list (record { nodes = nodes; places = rows; shapes = shapes })
   table_of_index = are_shapes list nodes each_once h.has

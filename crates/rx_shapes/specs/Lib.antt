@@ -7,3 +7,4 @@ pub mod Links
 pub mod Table
 pub mod Examples
 pub mod Laws
+pub mod Subjects

@@ -8,7 +8,8 @@ use Rattle.rx_shapes.specs.declared.chains.Link.{Link}
 use Rattle.rx_shapes.specs.declared.chains.Link.TheVariants as link
 use Rattle.rx_shapes.specs.declared.shapes.Shape.{Shape}
 use Rattle.rx_shapes.specs.declared.shapes.Shape.TheVariants as shape
-use Rattle.rx_shapes.specs.Shapes.{rdf_first, rdf_rest, rdf_nil, Inner, Cell, IsShape}
+use Rattle.rx_shapes.specs.Shapes.{Inner, Cell, IsShape}
+use Rattle.rx_model.specs.Vocabulary.{rdf_first, rdf_rest, rdf_nil}
 
 -- the number of a term, where it is a blank node that has one
 abbrev pub object_number : List (Node ℕ) → Term ℕ → Option ℕ
@@ -121,5 +122,5 @@ pub record AreCells (list : List (Triple ℕ)) (nodes : List (Node ℕ)) (marks 
   pub each : (b k : ℕ) → number_in nodes (Blank b) ≡ Some k → (get_or marks k false ≡ true) ↔ Cell (set_of list) b
 
 -- the shapes are those of the nodes
-pub record HaveShapes (list : List (Triple ℕ)) (nodes : List (Node ℕ)) (shapes : List Shape) : Type 0 where
+pub record AreNumbered (list : List (Triple ℕ)) (nodes : List (Node ℕ)) (shapes : List Shape) : Type 0 where
   pub each : (b k : ℕ) → number_in nodes (Blank b) ≡ Some k → IsShape (set_of list) b (get_or shapes k shape.Labelled)

@@ -1,20 +1,12 @@
 -- Which blank nodes a text can write where they are used: RDF 1.1 Turtle, 2.7 (nesting blank nodes) and 2.8
 -- (collections). The standard says how such a text is read; which nodes of a graph have which shape is our own.
-use Rattle.std.specs.Prelude.{◌≡◌, ◌⊎◌, codes}
+use Rattle.std.specs.Prelude.{◌≡◌, ◌⊎◌, ℕ, List, codes}
 use Rattle.rx_terms.specs.Text.{Chars}
-use Rattle.rx_model.specs.Terms.{Node, Iri, Blank, Term, Resource, Triple, Graph}
+use Rattle.rx_model.specs.Terms.{Node, Iri, Blank, Term, Resource, Triple, Graph, set_of}
 use Rattle.rx_model.specs.Copied.{spo}
+use Rattle.rx_model.specs.Vocabulary.{rdf_first, rdf_rest, rdf_nil}
 use Rattle.rx_shapes.specs.declared.shapes.Shape.{Shape}
 use Rattle.rx_shapes.specs.declared.shapes.Shape.TheVariants as shape
-
-abbrev pub rdf_first : Chars
-rdf_first = codes "http://www.w3.org/1999/02/22-rdf-syntax-ns#first"
-
-abbrev pub rdf_rest : Chars
-rdf_rest = codes "http://www.w3.org/1999/02/22-rdf-syntax-ns#rest"
-
-abbrev pub rdf_nil : Chars
-rdf_nil = codes "http://www.w3.org/1999/02/22-rdf-syntax-ns#nil"
 
 -- b is the object of exactly one triple, whose subject is its parent (own)
 pub record Parent {B : Type 0} (g : Graph B) (b : B) (parent : Node B) : Type 0 where
@@ -51,3 +43,7 @@ abbrev pub IsShape : {B : Type 0} → Graph B → B → Shape → Type 0
 IsShape g b shape.Cell = Cell g b
 IsShape g b shape.Inside = Inner g b × ¬ (Cell g b)
 IsShape g b shape.Labelled = ¬ (Inner g b)
+
+-- each blank node has the shape that the list gives it
+abbrev pub HaveShapes : List (Triple ℕ) → (ℕ → Shape) → Type 0
+HaveShapes list shapes = (number : ℕ) → IsShape (set_of list) number (shapes number)

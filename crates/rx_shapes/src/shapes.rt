@@ -2,7 +2,7 @@
 ghost use Rattle.std.specs.Prelude.{◌≡◌, IfOk, Some};
 ghost use Rattle.rx_model.specs.Seen.{node_seen, triples_seen};
 ghost use Rattle.rx_graph.specs.Resources.{number_in};
-ghost use Rattle.rx_shapes.specs.Links.{IsIndex, HaveShapes, subject_rows, shape_by, shapes_by};
+ghost use Rattle.rx_shapes.specs.Links.{IsIndex, AreNumbered, subject_rows, shape_by, shapes_by};
 ghost use Rattle.rx_shapes.specs.Table.{AreShapes, shape_at, shape_in, places_in};
 
 use crate::index::Index;
@@ -107,7 +107,7 @@ fn shapes_of(
 ) -> Result<Vec<Shape>, NoMemory>
     requires nodes { IsIndex (triples_seen graph.now) nodes.now }
     requires places { places.now ≡ subject_rows (triples_seen graph.now) nodes.now }
-    ensures { IfOk result (λ shapes. HaveShapes (triples_seen graph.now) nodes.now shapes.items) }
+    ensures { IfOk result (λ shapes. AreNumbered (triples_seen graph.now) nodes.now shapes.items) }
 {
     let inner = inner_nodes(alloc, graph, nodes)?;
     let cells = cell_nodes(alloc, graph, nodes, &inner, places)?;

@@ -2,8 +2,7 @@
 ghost use Rattle.std.specs.Prelude.{◌≡◌, true, bytes_eq};
 ghost use Rattle.std.specs.List.{list_all};
 ghost use Rattle.rx_terms.specs.Ascii.{is_ascii};
-ghost use Rattle.rx_model.specs.Copied.{rdf_type};
-ghost use Rattle.rx_shapes.specs.Shapes.{rdf_first, rdf_rest, rdf_nil};
+ghost use Rattle.rx_model.specs.Vocabulary.{rdf_type, rdf_first, rdf_rest, rdf_nil};
 
 use rx_terms::Iri;
 

@@ -1,5 +1,5 @@
 -- What ends a value, a name or a run is read like one character more.
-use Rattle.std.proofs.Common.{◌≡◌, ◌∙◌, ℕ, ◌+◌, ◌-◌, ◌<◌, true, false, List, [], length, take, drop, refl, ap, sym, subst, Result, Ok, Err, is_err, arith, eqb-true, get_or}
+use Rattle.std.proofs.Common.{◌≡◌, ◌∙◌, ℕ, ◌+◌, ◌-◌, ◌<◌, ◌≤◌, true, false, List, [], length, take, drop, refl, ap, sym, subst, Result, Ok, Err, is_err, arith, eqb-true, get_or}
 use Rattle.std.proofs.lemmas.Bool.{cond-true}
 use Rattle.rx_terms.specs.Text.{Chars}
 use Rattle.rx_chars.specs.declared.syntax.Syntax.{Syntax}
@@ -16,7 +16,7 @@ use Rattle.rx_tags.specs.Pairs.{Pairs, AddGives}
 use Rattle.rx_tags.specs.TagReads.{state_of}
 use Rattle.rx_tags.proofs.TakeLemmas.{checked_open, takes_one, takes_then}
 
-skips : (s : Syntax) (p next : TagPhase) (name : Chars) (pairs : Pairs) (c : ℕ) → Skips p c next → GoesTo s (state_of p name pairs) c (state_of next name pairs)
+pub skips : (s : Syntax) (p next : TagPhase) (name : Chars) (pairs : Pairs) (c : ℕ) → Skips p c next → GoesTo s (state_of p name pairs) c (state_of next name pairs)
 skips s p next name pairs c h = (
   ap (λ (m : Move). checked s (moved s (meaning s) (state_of p name pairs) c m)) (h.move s) ∙ checked_open s (state_of next name pairs) h.unfinished,
   h.unfinished,
@@ -65,7 +65,7 @@ quote_printed phase.Opened c h = absurd (cc)
 quote_printed phase.Emptied c h = absurd (cc)
 quote_printed phase.Closed c h = absurd (cc)
 
-ends : (s : Syntax) (p : TagPhase) (name : Chars) (old new : Pairs) (c : ℕ) → ends_value p c ≡ true → AddGives s old (Ok tt) new → GoesTo s (state_of p name old) c (state_of phase.AfterValue name new)
+pub ends : (s : Syntax) (p : TagPhase) (name : Chars) (old new : Pairs) (c : ℕ) → ends_value p c ≡ true → AddGives s old (Ok tt) new → GoesTo s (state_of p name old) c (state_of phase.AfterValue name new)
 ends s p name old new c h g =
     subst (λ (x : Pairs). GoesTo s (state_of p name old) c (state_of phase.AfterValue name x)) (sym g.2) (
       ap (λ (m : Move). checked s (moved s (meaning s) (state_of p name old) c m)) (quote_move s p c h)
@@ -91,7 +91,11 @@ pub one_taken : (s t : Syntax) (a b c : TagState) (bytes : List ℕ) (n : ℕ) �
 one_taken s t a b c bytes n k z f e p g =
     takes_one s a b c bytes 0 k (subst (λ (x : ℕ). TakesFront s a bytes x b) z f) p (subst (λ (x : Syntax). GoesTo x b (get_or bytes 0 0) c) e g)
 
--- a turn of the loop
-pub turn : (s t : Syntax) (a b c : TagState) (bytes : List ℕ) (i n : ℕ) → i < length bytes → TakesFront s a bytes i b → t ≡ s → TakesFront t b (take (length bytes - i) (drop i bytes)) n c → TakesFront s a bytes (i + n) c
+-- nothing is taken yet
+pub from_none : (s : Syntax) (a b : TagState) (bytes : List ℕ) (n : ℕ) → TakesOn s a bytes 0 n b → TakesFront s a bytes n b
+from_none s a b bytes n h = h a (record { fits = omega arith; printed = refl; goes = refl })
+
+-- what is taken behind a front
+pub turn : (s t : Syntax) (a b c : TagState) (bytes : List ℕ) (i n : ℕ) → i ≤ length bytes → TakesFront s a bytes i b → t ≡ s → TakesFront t b (take (length bytes - i) (drop i bytes)) n c → TakesFront s a bytes (i + n) c
 turn s t a b c bytes i n k f e g =
     takes_then s a b c bytes i n (omega (arith, k)) f (subst (λ (x : Syntax). TakesFront x b (take (length bytes - i) (drop i bytes)) n c) e g)

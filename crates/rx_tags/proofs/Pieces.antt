@@ -379,3 +379,20 @@ pub cut_front : (old bytes : List ℕ) (n count most : ℕ) → count ≤ most �
 cut_front old bytes n count most h l e =
     let all : length (old ++ take most bytes) ≡ length old + most = rw (length-append, length-take) (omega arith) in
     take_past old (take most bytes) (n - (most - count)) count (omega (arith, e, all)) ∙ ap (λ more. old ++ more) (take_less bytes count most h)
+
+-- the rest of a name and a value of ASCII are pushed, and the attribute is whole
+pub whole_pushed : (text named grown : List ℕ) (rows more : List AttributeSpan) (start middle end m n : ℕ) (name value : List ℕ) → Fits text rows start middle end → list_all is_ascii name ≡ true → list_all is_ascii value ≡ true
+    → named ≡ text ++ name → m ≡ length named → grown ≡ named ++ value → n ≡ length grown → more ≡ rows ++ record { start = start; middle = m; end = n } ∷ []
+    → chars (piece text middle end) ≡ [] → chars (drop end text) ≡ []
+    → Fits grown more n n n
+    × (read_as grown more n n n ≡ record { whole = rows_read text rows ++ (chars (piece text start middle) ++ name, value) ∷ []; key = []; known = []; pending = [] })
+whole_pushed text named grown rows more start middle end m n name value f a b g h k l r no_value no_run =
+    let first = key_pushed_ascii text named rows start middle end m name f a g h no_value no_run in
+    let second = pushed_ascii named grown rows start m m n value first.0 b k l in
+    let third = added grown rows more start m n n second.0 r l in
+    let both : read_as grown rows start m n ≡ record { whole = rows_read text rows; key = chars (piece text start middle) ++ name; known = value; pending = [] } =
+    second.1 ∙ ap (λ (x : Reading). record { whole = x.whole; key = x.key; known = x.known ++ (x.pending ++ value); pending = [] }) (first.1 ∙ (λ i. record { whole = rows_read text rows; key = chars (piece text start middle) ++ name; known = no_value i; pending = no_run i })) in (
+      third.0,
+      third.1 ∙ ap (λ (x : Reading). record { whole = x.whole ++ (x.key, x.known ++ x.pending) ∷ []; key = []; known = []; pending = [] }) both
+          ∙ ap (λ (x : List ℕ). record { whole = rows_read text rows ++ (chars (piece text start middle) ++ name, x) ∷ []; key = []; known = []; pending = [] }) (append-nil value),
+    )

@@ -195,6 +195,15 @@ module _ (text : List ℕ) (limit : ℕ) (rows kept : List AttributeSpan) (i : �
   pub old_turn : is_new ≡ false → rows_read text kept ≡ firsts (rows_read text (take (i + 1) rows))
   old_turn e = read ∙ sym (firsts_same (rows_read text (take i rows)) (row_read text (at rows i)) (named ∙ not_true is_new before n e)) ∙ ap firsts (sym read_more)
 
+-- a row more, whose name stands in none before it
+pub apart_turn : (text : List ℕ) (limit : ℕ) (rows : List AttributeSpan) (i : ℕ) → RowsFit text limit rows → i < length rows → has_repeat (rows_read text (take i rows)) ≡ false
+    → is_named text (take i rows) (piece text (at rows i).start (at rows i).middle) ≡ false → has_repeat (rows_read text (take (i + 1) rows)) ≡ false
+apart_turn text limit rows i f h a n =
+    let name = piece text (at rows i).start (at rows i).middle in
+    ap has_repeat (ap (rows_read text) (take_more rows i h) ∙ map-append (row_read text) (take i rows) (at rows i ∷ []))
+    ∙ repeat_more (rows_read text (take i rows)) (row_read text (at rows i)) ∙ ap (λ b. b || has_name (rows_read text (take i rows)) (chars name)) a
+    ∙ name_seen text limit (take i rows) name (fit_take text limit rows i f) (fit_at text limit rows i f h).name ∙ n
+
 counts : (text : List ℕ) (rows kept : List AttributeSpan) → rows_read text kept ≡ firsts (rows_read text rows) → length (firsts (rows_read text rows)) ≡ length kept
 counts text rows kept read = sym (ap length read) ∙ length-map kept (row_read text)
 

@@ -108,7 +108,7 @@ on_naming P phase.Emptied q w x y z = absurd (cc)
 on_naming P phase.Closed q w x y z = absurd (cc)
 
 -- of where an attribute's name is read
-on_key : (P : TagPhase → Type 0) (p : TagPhase) → opens_key p ≡ true → P phase.Gap → P phase.Key → P p
+pub on_key : (P : TagPhase → Type 0) (p : TagPhase) → opens_key p ≡ true → P phase.Gap → P phase.Key → P p
 on_key P phase.Gap q x y = x
 on_key P phase.Key q x y = y
 on_key P phase.Start q x y = absurd (cc)
@@ -144,10 +144,10 @@ module _ (s : Syntax) (c : ℕ) (h : is_plain c ≡ true) where
   quoted_move p q = on_quoted (λ x. move_of s x c ≡ go x action.Value) p q (cond-false _ _ _ (is_none is_plain c 34 h refl)) (cond-false _ _ _ (is_none is_plain c 39 h refl))
 
 -- the attributes with more of the value, or of the name
-abbrev valued : Pairs → Chars → Pairs
+abbrev pub valued : Pairs → Chars → Pairs
 valued old text = record { whole = old.whole; key = old.key; value = known_as text }
 
-abbrev keyed : Pairs → Chars → Pairs
+abbrev pub keyed : Pairs → Chars → Pairs
 keyed old text = record { whole = old.whole; key = text; value = old.value }
 
 module _ (s : Syntax) (p : TagPhase) (name : Chars) (q : is_quoted p ≡ true) where

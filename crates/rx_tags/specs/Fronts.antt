@@ -1,7 +1,7 @@
 -- Characters at the front of some bytes that a tag takes at once.
-use Rattle.std.specs.Prelude.{◌≡◌, ◌≤◌, ℕ, Bool, true, false, not, ◌&&◌, ◌||◌, ◌==◌, List, [], ◌∷◌, ◌++◌, length, take, Option, Some, None, Ok}
+use Rattle.std.specs.Prelude.{◌≡◌, ◌+◌, ◌<◌, ◌≤◌, ℕ, Bool, true, false, not, ◌&&◌, ◌||◌, ◌==◌, List, [], ◌∷◌, ◌++◌, length, take, drop, get_or, Option, Some, None, Ok}
 use Rattle.std.specs.List.{list_all}
-use Rattle.rx_terms.specs.Ascii.{quotation_mark, ampersand, apostrophe, less_than_sign, greater_than_sign, between}
+use Rattle.rx_terms.specs.Ascii.{quotation_mark, ampersand, apostrophe, less_than_sign, equals_sign, greater_than_sign, between}
 use Rattle.rx_terms.specs.Text.{Chars}
 use Rattle.rx_chars.specs.declared.syntax.Syntax.{Syntax}
 use Rattle.rx_grammar.specs.References.{meaning}
@@ -11,7 +11,7 @@ use Rattle.rx_reader.specs.declared.phases.TagPhase.TheVariants as phase
 use Rattle.rx_reader.specs.declared.phases.TagAction.TheVariants as action
 use Rattle.rx_reader.specs.Tables.{go, move_of, is_last}
 use Rattle.rx_reader.specs.TagReader.{TagState, tag_step}
-use Rattle.rx_reader.specs.Values.{known_as}
+use Rattle.rx_reader.specs.Values.{known_as, no_value_yet}
 use Rattle.rx_tags.specs.Pairs.{Pairs}
 use Rattle.rx_tags.specs.TagReads.{is_value_phase}
 
@@ -57,6 +57,21 @@ abbrev pub opens_key : TagPhase → Bool
 opens_key phase.Gap = true
 opens_key phase.Key = true
 opens_key _ = false
+
+-- `="` stands at a place, and a byte behind it.
+pub record OpensValue (bytes : List ℕ) (at : ℕ) : Type 0 where
+  pub fits : at + 2 < length bytes
+  pub equals : get_or bytes at 0 ≡ equals_sign
+  pub quote : get_or bytes (at + 1) 0 ≡ quotation_mark
+
+-- An attribute stands whole at the front: a name in small letters, `="`, a value of plain characters, and its quote.
+pub record IsWhole (bytes : List ℕ) (name value : ℕ) : Type 0 where
+  pub some : 0 < name
+  pub small : list_all is_small (take name bytes) ≡ true
+  pub opens : OpensValue bytes name
+  pub fits : name + 2 + value < length bytes
+  pub plain : list_all is_plain (take value (drop (name + 2) bytes)) ≡ true
+  pub quote : get_or bytes (name + 2 + value) 0 ≡ quotation_mark
 
 -- Nothing but the phase changes by the character, in which no value is read.
 pub record Skips (old : TagPhase) (c : ℕ) (next : TagPhase) : Type 0 where
@@ -109,3 +124,7 @@ pub record GainsKey (old : Pairs) (front : Chars) (new : Pairs) : Type 0 where
 pub record GainsName (old front new : Chars) : Type 0 where
   pub small : list_all is_small front ≡ true
   pub is : new ≡ old ++ front
+
+-- The attribute that is read has the name and the value that stand at the front, and is whole.
+pub record GainsWhole (old : Pairs) (bytes : List ℕ) (name value : ℕ) (new : Pairs) : Type 0 where
+  pub is : new ≡ record { whole = old.whole ++ (old.key ++ take name bytes, take value (drop (name + 2) bytes)) ∷ []; key = []; value = no_value_yet }

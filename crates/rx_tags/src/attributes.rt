@@ -174,6 +174,47 @@ impl Attributes {
         Ok(())
     }
 
+    /// An attribute is whole, with so many characters of ASCII more of its name, and so many for its value, which wasn't begun.
+    #[inline(always)]
+    pub(crate) fn add_ascii(
+        &mut self,
+        name: &[u8],
+        letters: usize,
+        value: &[u8],
+        count: usize,
+    ) -> Result<(), NoMemory>
+        requires name_fits { letters ≤ length name.now }
+        requires fits { count ≤ length value.now }
+        requires name { list_all is_ascii (take letters name.now) ≡ true }
+        requires value { list_all is_ascii (take count value.now) ≡ true }
+        requires known { self.old.known ≡ [] }
+        requires pending { self.old.pending ≡ [] }
+        ensures ok { OnOk result (self.new ≡ begun_behind (self.old.whole ++ (self.old.key ++ take letters name.now, take count value.now) ∷ []) []) }
+        ensures err { OnErr result (self.new ≡ self.old) }
+    {
+        let before = self.text.len();
+        push_front(&mut self.text, name, letters)?;
+        let middle = self.text.len();
+        if push_front(&mut self.text, value, count).is_err() {
+            self.text.truncate(before);
+            return Err(NoMemory);
+        }
+        let end = self.text.len();
+        let row = AttributeSpan {
+            start: self.start,
+            middle,
+            end,
+        };
+        if self.rows.push(row).is_err() {
+            self.text.truncate(before);
+            return Err(NoMemory);
+        }
+        self.start = end;
+        self.middle = end;
+        self.end = end;
+        Ok(())
+    }
+
     /// The attribute is whole, and the character begins the name of the next one.
     pub(crate) fn add_key(&mut self, c: char) -> Result<(), NoMemory>
         ensures ok { OnOk result (self.new ≡ begun_behind (all_read self.old) (c ∷ [])) }

@@ -104,6 +104,31 @@ pub(crate) fn closed(phase: TagPhase) -> Option<TagPhase>
     }
 }
 
+// Whether `="` and a byte more stand at a place.
+fn opens_value(bytes: &[u8], at: usize) -> bool
+    requires { at ≤ length bytes.now }
+    ensures { result ≡ true → fronts.OpensValue bytes.now at }
+{
+    bytes.len() - at > 2 && bytes[at] == b'=' && bytes[at + 1] == b'"'
+}
+
+/// The lengths of the name and of the value of an attribute that stands whole at the front.
+#[inline(always)]
+pub(crate) fn whole_lengths(bytes: &[u8]) -> Option<(usize, usize)>
+    ensures { IfSome result (λ lengths. fronts.IsWhole bytes.now lengths.0 lengths.1) }
+{
+    let name = small_length(bytes);
+    if name == 0 || !opens_value(bytes, name) {
+        return None;
+    }
+    let rest = &bytes[name + 2..];
+    let value = plain_length(rest);
+    if value == rest.len() || rest[value] != b'"' {
+        return None;
+    }
+    Some((name, value))
+}
+
 // The bytes that aren't plain.
 #[inline(always)]
 fn ends_plain(bytes: u8x16) -> u64

@@ -169,7 +169,27 @@ impl Pairs {
 }
 
 impl Pairs {
+    ghost use Rattle.rx_tags.specs.Fronts.{GainsWhole, IsWhole};
     ghost use Rattle.rx_tags.specs.Pairs.{AddKeyGives};
+
+    /// Adds the attribute that stands whole at the front, where no value was begun.
+    #[inline(always)]
+    pub(crate) fn add_whole(
+        &mut self,
+        bytes: &[u8],
+        name: usize,
+        value: usize,
+    ) -> Result<(), NoMemory>
+        requires begun { self.old.value ≡ no_value_yet }
+        requires whole { IsWhole bytes.now name value }
+        ensures ok { OnOk result (GainsWhole self.old bytes.now name value self.new) }
+        ensures err { OnErr result (self.new ≡ self.old) }
+    {
+        self.attributes
+            .add_ascii(bytes, name, &bytes[name + 2..], value)?;
+        self.run = RunPhase::Plain;
+        Ok(())
+    }
 
     /// The attribute that is read is whole, and the character begins the name of the next one.
     pub(crate) fn add_key(&mut self, syntax: Syntax, c: char) -> Result<(), TagError>

@@ -1,9 +1,9 @@
 //! Names that stand twice among the attributes of a tag.
-ghost use Rattle.std.specs.Prelude.{◌≡◌, ℕ, List, ◌||◌, not, true, false, length, IfOk, MatchOption, OnOk};
+ghost use Rattle.std.specs.Prelude.{◌≡◌, ◌<◌, ℕ, List, ◌||◌, not, true, false, length, IfOk, MatchOption, OnOk};
 ghost use Rattle.rx_grammar.specs.Names.{same};
 ghost use Rattle.rx_grammar.specs.Tags.{firsts, has_repeat};
 ghost use Rattle.rx_tags.specs.Reading.{rows_read, RowsFit};
-ghost use Rattle.rx_tags.specs.Repeats.{has_text, is_named, KeepsFirsts};
+ghost use Rattle.rx_tags.specs.Repeats.{has_text, is_named, mark_of, KeepsFirsts};
 
 use crate::attributes::AttributeSpan;
 use crate::texts::text_between;
@@ -47,7 +47,39 @@ fn unrepeated_of_many(
     Ok(Some(kept))
 }
 
-/// Whether surely no name stands twice, which is told of two rows at most.
+// How many marks there are of names.
+const MARKS: usize = 64;
+
+// A name's mark, which most names of a tag don't share.
+#[inline(always)]
+fn mark_of(name: &str) -> usize
+    ensures mark { result ≡ mark_of name.now }
+    ensures fits { result < MARKS }
+{
+    match name.as_bytes().first() {
+        Some(first) => (usize::from(*first) * 5 + name.len() % MARKS) % MARKS,
+        None => 0,
+    }
+}
+
+// Whether each name has another mark, so that none stands twice.
+#[inline(never)]
+fn are_marked_apart(text: &[u8], rows: &[AttributeSpan]) -> bool
+    requires { RowsFit text.now (length text.now) rows.now }
+    ensures { result ≡ true → has_repeat (rows_read text.now rows.now) ≡ false }
+{
+    let mut marks = [false; MARKS];
+    for row in rows {
+        let mark = mark_of(text_between(text, row.start, row.middle));
+        if marks[mark] {
+            return false;
+        }
+        marks[mark] = true;
+    }
+    true
+}
+
+/// Whether surely no name stands twice, which is told by marks where there are more than two.
 #[inline(always)]
 pub(crate) fn are_apart(text: &[u8], rows: &[AttributeSpan]) -> bool
     requires { RowsFit text.now (length text.now) rows.now }
@@ -57,7 +89,7 @@ pub(crate) fn are_apart(text: &[u8], rows: &[AttributeSpan]) -> bool
         return true;
     }
     if rows.len() > 2 {
-        return false;
+        return are_marked_apart(text, rows);
     }
     let name = text_between(text, rows[0].start, rows[0].middle);
     let other = text_between(text, rows[1].start, rows[1].middle);

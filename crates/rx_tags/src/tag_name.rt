@@ -52,6 +52,7 @@ impl TagName {
     }
 
     /// Takes the small letters at the front, where there is memory, and tells how many.
+    #[inline(always)]
     pub(crate) fn take_small(&mut self, bytes: &[u8]) -> usize
         ensures fits { result ≤ length bytes.now }
         ensures gains { MatchBool (result == 0) (self.new ≡ self.old) (GainsName self.old (take result bytes.now) self.new) }

@@ -5,7 +5,9 @@ ghost use Rattle.rx_reader.specs.Tables.{is_html};
 ghost use Rattle.rx_reader.specs.Values.{no_value_yet};
 ghost use Rattle.rx_tags.specs.TagReads.{ActGives, CanEnd, EndGives};
 
-use crate::fronts::{closed, ends_value, is_naming, is_printed, is_quoted, named, opens_key, skip};
+use crate::fronts::{
+    closed, ends_value, is_naming, is_printed, is_quoted, named, opens_key, skip, whole_lengths,
+};
 use crate::moves::{is_last, move_at};
 use crate::pairs::{Pairs, TagError};
 use crate::tag_name::TagName;
@@ -205,12 +207,44 @@ impl TagText {
             return self.take_value(bytes);
         }
         if opens_key(self.phase) {
-            return self.take_key(bytes);
+            return self.take_pair(bytes);
         }
         if is_naming(self.phase) {
             return self.take_named(bytes);
         }
         0
+    }
+
+    // An attribute that stands whole at the front with a space behind it, else what stands of its name.
+    fn take_pair(&mut self, bytes: &[u8]) -> usize
+        requires { fronts.opens_key self.old.state.phase ≡ true }
+        ensures takes { TakesFront self.old.syntax self.old.state bytes.now result self.new.state }
+        ensures syntax { self.new.syntax ≡ self.old.syntax }
+    {
+        let count = self.take_whole(bytes);
+        if count == 0 {
+            return self.take_key(bytes);
+        }
+        self.skip_on(bytes, count)
+    }
+
+    // An attribute that stands whole at the front.
+    #[inline(always)]
+    fn take_whole(&mut self, bytes: &[u8]) -> usize
+        requires { fronts.opens_key self.old.state.phase ≡ true }
+        ensures fits { result ≤ length bytes.now }
+        ensures takes { TakesFront self.old.syntax self.old.state bytes.now result self.new.state }
+        ensures none { result ≡ 0 → self.new ≡ self.old }
+        ensures syntax { self.new.syntax ≡ self.old.syntax }
+    {
+        let Some((name, value)) = whole_lengths(bytes) else {
+            return 0;
+        };
+        if self.pairs.add_whole(bytes, name, value).is_err() {
+            return 0;
+        }
+        self.phase = TagPhase::AfterValue;
+        name + 2 + value + 1
     }
 
     // Characters at the front that are themselves in the value, the quote behind them, and a space behind that.
@@ -245,17 +279,33 @@ impl TagText {
         self.skip_on(bytes, taken)
     }
 
-    // The front of what is left of the tag's name, and a space behind it.
+    // The `/` of an end tag with what stands of its name, or the front of what is left of a name, and a space behind it.
     fn take_named(&mut self, bytes: &[u8]) -> usize
         requires { fronts.is_naming self.old.state.phase ≡ true }
         ensures takes { TakesFront self.old.syntax self.old.state bytes.now result self.new.state }
         ensures syntax { self.new.syntax ≡ self.old.syntax }
     {
+        if matches!(bytes.first(), Some(b'/')) {
+            return self.take_closing(bytes);
+        }
         let count = self.take_letters(bytes);
         self.skip_on(bytes, count)
     }
 
+    // A `/` that begins an end tag, and the small letters behind it.
+    fn take_closing(&mut self, bytes: &[u8]) -> usize
+        ensures takes { TakesFront self.old.syntax self.old.state bytes.now result self.new.state }
+        ensures syntax { self.new.syntax ≡ self.old.syntax }
+    {
+        let taken = self.skip_on(bytes, 0);
+        if !is_naming(self.phase) {
+            return taken;
+        }
+        taken + self.take_letters(&bytes[taken..])
+    }
+
     // The small letters at the front, which go on with the tag's name, or begin an end tag's.
+    #[inline(always)]
     fn take_letters(&mut self, bytes: &[u8]) -> usize
         requires { fronts.is_naming self.old.state.phase ≡ true }
         ensures takes { TakesFront self.old.syntax self.old.state bytes.now result self.new.state }

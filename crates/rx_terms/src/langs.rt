@@ -50,7 +50,7 @@ impl Lang {
         self.text.as_str()
     }
 
-    /// An equal tag.
+    /// The same tag for one more, without a copy.
     pub fn try_clone(&self) -> Result<Lang, NoMemory>
         ensures { IfOk result (λ lang. lang ≡ self.now) }
     {

@@ -1,4 +1,4 @@
-//! Text that is owned, and want of memory.
+//! Text that is shared, and want of memory.
 ghost use Rattle.std.specs.Prelude.{◌≡◌, IfOk, nat_eq, encode_utf8_all, string_bytes};
 ghost use Rattle.std.specs.Str.{chars};
 ghost use Rattle.std.specs.Cmp.Lexicographic.{pointwise, nat_list_eq_equiv};
@@ -10,6 +10,7 @@ ghost use Rattle.std.proofs.Common.{rules};
 use std::alloc::{AllocError, AllocFailed, Global};
 use std::hash::{Hash, Hasher};
 use std::marker::Model;
+use std::rc::Rc;
 
 /// There was no memory.
 #[derive(Clone, Copy, Debug, PartialEq, Eq)]
@@ -27,10 +28,11 @@ impl<T: Drop> From<AllocFailed<T>> for NoMemory {
     }
 }
 
-/// UTF-8 text that is owned. A contract sees it as the list of its characters.
+/// UTF-8 text. It is shared by those who have it, so that one text under many names is kept once. A contract sees it as the
+/// list of its characters.
 #[derive(Debug, Drop)]
 pub struct Text {
-    text: String,
+    text: Rc<String>,
 }
 
 impl Model for Text {
@@ -39,7 +41,7 @@ impl Model for Text {
 
     ghost Value = { List ℕ };
 
-    ghost view = { λ t. chars (string_bytes t.text) };
+    ghost view = { λ t. chars (string_bytes t.text.value) };
 }
 
 impl Text {
@@ -47,16 +49,17 @@ impl Text {
     pub fn of(alloc: Global, text: &str) -> Result<Text, NoMemory>
         ensures { IfOk result (λ t. t ≡ chars text.now) }
     {
-        Ok(Text {
-            text: String::from_str(alloc, text)?,
-        })
+        let copy = String::from_str(alloc, text)?;
+        Text::of_string(alloc, copy)
     }
 
     /// The text that the string holds, without a copy.
-    pub fn of_string(text: String) -> Text
-        ensures { result ≡ chars (string_bytes text) }
+    pub fn of_string(alloc: Global, text: String) -> Result<Text, NoMemory>
+        ensures { IfOk result (λ t. t ≡ chars (string_bytes text)) }
     {
-        Text { text }
+        Ok(Text {
+            text: Rc::new(alloc, text)?,
+        })
     }
 
     /// The characters as UTF-8.
@@ -64,10 +67,10 @@ impl Text {
         ensures characters { chars result.now ≡ self.now }
         ensures bytes { result.now ≡ encode_utf8_all self.now }
     {
-        self.text.as_str()
+        self.text.as_ref().as_str()
     }
 
-    /// An equal text.
+    /// The same text for one more, without a copy.
     pub fn try_clone(&self) -> Result<Text, NoMemory>
         ensures { IfOk result (λ t. t ≡ self.now) }
     {
@@ -83,7 +86,7 @@ impl PartialEq for Text {
     ghost laws = { partial_equiv_from_equiv nat_list_eq_equiv };
 
     fn eq(&self, other: &Text) -> bool {
-        self.text.as_str() == other.text.as_str()
+        self.as_str() == other.as_str()
     }
 }
 

@@ -1,5 +1,6 @@
 mod characters;
 mod devices;
+mod documents;
 mod graphs;
 mod jsonld;
 mod lists;

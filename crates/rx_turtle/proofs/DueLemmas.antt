@@ -11,7 +11,7 @@ use Rattle.rx_turtle.specs.Groups.{Keyed, key_by, has_key}
 use Rattle.rx_turtle.specs.Runs.{put_before, runs}
 use Rattle.rx_turtle.proofs.GroupLemmas.{lent_seen}
 use Rattle.rx_turtle.proofs.ArrangedLemmas.{first_key, seen_length}
-use Rattle.rx_turtle.specs.Tokens.{Fixed, Noun, Verb}
+use Rattle.rx_turtle.specs.Tokens.{Fixed, IriOrLabel, Verb}
 use Rattle.rx_turtle.specs.Due.{Due, Say, Object, task_seen, due_on, behind, object_due, line_due, lines_due, verb_due, behind_due, tail_due, next_due, first_due, tail_at, bracket_due, item_due, rest_due, statement_due}
 
 -- ---- the stack
@@ -119,9 +119,9 @@ some_brackets (t ∷ list) old mid new some e h =
     ∙ ap (λ (z : List Keyed). bracket_due z ++ old) (sym first.2)
 
 pub said_pushed : (node : Node ℕ) (groups : List Keyed) (old end lines space new : List Due) → end ≡ Say (Fixed fixed.End) ∷ old → lines ≡ lines_due fixed.LineGap groups ++ end
-    → space ≡ Say (Fixed fixed.Space) ∷ lines → new ≡ Say (Noun node) ∷ space → new ≡ statement_due node groups ++ old
+    → space ≡ Say (Fixed fixed.Space) ∷ lines → new ≡ Say (IriOrLabel node) ∷ space → new ≡ statement_due node groups ++ old
 said_pushed node groups old end lines space new a b c d =
-    d ∙ ap (λ z. Say (Noun node) ∷ z) (c ∙ enclosed (Say (Fixed fixed.Space)) (Say (Fixed fixed.End)) (lines_due fixed.LineGap groups) old end lines a b)
+    d ∙ ap (λ z. Say (IriOrLabel node) ∷ z) (c ∙ enclosed (Say (Fixed fixed.Space)) (Say (Fixed fixed.End)) (lines_due fixed.LineGap groups) old end lines a b)
 
 pub cell_pushed : (item after a b : Option (Term ℕ)) (old mid new : List Due) → mid ≡ rest_due b ++ old → new ≡ item_due a ++ mid → a ≡ item → b ≡ after
     → new ≡ (item_due item ++ rest_due after) ++ old

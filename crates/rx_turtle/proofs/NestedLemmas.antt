@@ -7,35 +7,37 @@ use Rattle.rx_terms.specs.Text.{Chars}
 use Rattle.rx_terms.specs.declared.triples.Triple.{Triple as CodeTriple}
 use Rattle.rx_model.specs.Sets.{Among, contains, distinct}
 use Rattle.rx_model.specs.Terms.{Plain, Tagged, Typed, Iri, Blank, Literal, Triple, same_triple}
-use Rattle.rx_model.specs.Copied.{rdf_type, spo}
+use Rattle.rx_model.specs.Copied.{spo}
+use Rattle.rx_model.specs.Vocabulary.{rdf_type}
 use Rattle.rx_model.specs.Seen.{triple_seen, triples_seen}
 use Rattle.rx_model.proofs.Sets.{Among_cases, Among_map, Among_of_map, Among_of_filter_map, Among-contains, Among_by_contains}
 use Rattle.rx_model.proofs.Exact.{exact_texts}
 use Rattle.rx_terms.proofs.Bools.{same_truth}
 use Rattle.rx_graph.proofs.SetLemmas.{one_more, seen_more}
-use Rattle.rx_pieces.specs.Writable.{WritableText, WritableTriple}
+use Rattle.rx_pieces.specs.Writable.{WritableText, WritableTriple, IsWritable}
 use Rattle.rx_pieces.specs.Writing.{string_text}
 use Rattle.rx_pieces.proofs.Scalars.{joined, literally}
 use Rattle.rx_notation.specs.Short.{Prefix, Prefixes, prefix_of, names_rise}
 use Rattle.rx_notation.specs.Layout.{iris_of, same_prefix, those_among, in_byte_order, prefixes_text, resource_text, iris_of_predicate}
-use Rattle.rx_notation.specs.Laws.{IsContext, IsWritable, proper_triple}
+use Rattle.rx_notation.specs.Laws.{IsContext}
+use Rattle.rx_nquads.specs.Quads.{proper_triple}
 use Rattle.rx_notation.specs.Meaning.{NestedTurtle}
 use Rattle.rx_notation.specs.Syntax.{Type_of, By}
 use Rattle.rx_notation.proofs.Chosen.{Apart, names_apart, exact_prefixes, prefix_fits}
 use Rattle.rx_notation.proofs.Ordered.{rising}
-use Rattle.rx_nested.specs.Nesting.{reference_to, name_in, names_of_verb, prefixes_named, names_used, statements, nested}
-use Rattle.rx_nested.specs.Writing.{reference_text, verb_text, statement_text}
-use Rattle.rx_nested.specs.Pieces.{piece_text, piece_names}
-use Rattle.rx_nested.proofs.Declared.{of_named}
-use Rattle.rx_nested.proofs.Stepping.{pieces_are_text}
-use Rattle.rx_nested.proofs.NestedMeaning.{nested_denotes}
+use Rattle.rx_notation.specs.Nesting.{reference_to, name_in, names_of_verb, prefixes_named, names_used, statements, nested}
+use Rattle.rx_notation.specs.Writing.{reference_text, verb_text, statement_text}
+use Rattle.rx_notation.specs.Pieces.{piece_text, piece_names}
+use Rattle.rx_notation.proofs.Declared.{of_named}
+use Rattle.rx_notation.proofs.Stepping.{pieces_are_text}
+use Rattle.rx_notation.proofs.NestedMeaning.{nested_denotes}
 use Rattle.rx_turtle.specs.declared.source.Source.{Source}
 use Rattle.rx_turtle.specs.declared.tokens.Token.{Token}
 use Rattle.rx_turtle.specs.declared.tokens.Words.{Words}
 use Rattle.rx_turtle.specs.declared.tokens.Words.TheVariants as fixed
 use Rattle.rx_turtle.specs.Rows.{AreRows}
 use Rattle.rx_turtle.specs.Uses.{marked_all, unmarked, chosen}
-use Rattle.rx_turtle.specs.Tokens.{Shown, Fixed, Noun, Verb, Quoted, token_seen, tokens_seen, words_text, piece_of, pieces_of, shown_text, shown_texts, iris_of_shown, WritableShown}
+use Rattle.rx_turtle.specs.Tokens.{Shown, Fixed, IriOrLabel, Verb, Quoted, token_seen, tokens_seen, words_text, piece_of, pieces_of, shown_text, shown_texts, iris_of_shown, WritableShown}
 use Rattle.rx_turtle.specs.Due.{list_of, shapes_of, IsSource, AreTokens}
 use Rattle.rx_turtle.specs.Nested.{iris_of_tokens, AreWritable}
 use Rattle.rx_turtle.proofs.RunLemmas.{have_shapes}
@@ -107,8 +109,8 @@ module _ (context : Prefixes) where
 
   shown_is : (s : Shown) → shown_text context s ≡ piece_text (piece_of context s)
   shown_is (Fixed words) = refl
-  shown_is (Noun (Iri iri)) = sym (reference_is iri)
-  shown_is (Noun (Blank number)) = refl
+  shown_is (IriOrLabel (Iri iri)) = sym (reference_is iri)
+  shown_is (IriOrLabel (Blank number)) = refl
   shown_is (Verb (Iri iri)) = go (bytes_eq iri rdf_type)
     where
       go : (b : Bool) → cond b (codes "a") (resource_text context (Iri iri)) ≡ verb_text (cond b Type_of (By (reference_to context iri)))
@@ -140,8 +142,8 @@ module _ (context : Prefixes) where
 
   names_is : (s : Shown) → piece_names (piece_of context s) ≡ names_by (iris_of_shown s)
   names_is (Fixed words) = refl
-  names_is (Noun (Iri iri)) = reference_name iri
-  names_is (Noun (Blank number)) = refl
+  names_is (IriOrLabel (Iri iri)) = reference_name iri
+  names_is (IriOrLabel (Blank number)) = refl
   names_is (Verb (Iri iri)) = go (bytes_eq iri rdf_type)
     where
       go : (b : Bool) → names_of_verb (cond b Type_of (By (reference_to context iri))) ≡ names_by (cond b [] (iri ∷ []))
@@ -256,7 +258,7 @@ module _ (context : Prefixes) (source : Source) (tokens : List Token) (are : Are
   module _ (rows : AreRows context) (writable : AreWritable tokens) where
     shown_writable : (s : Shown) → WritableShown s → WritableText (shown_text context s)
     shown_writable (Fixed words) w = words_writable words
-    shown_writable (Noun node) w = resource_writable context rows node w
+    shown_writable (IriOrLabel node) w = resource_writable context rows node w
     shown_writable (Verb (Iri iri)) w = verb_writable context rows iri w
     shown_writable (Verb (Blank number)) w = resource_writable context rows (Blank number) w
     shown_writable (Quoted text kind) w = object_writable context rows (Literal text kind) w

@@ -4,7 +4,7 @@ use Rattle.rx_model.specs.Sets.{distinct}
 use Rattle.rx_model.specs.Terms.{Node, Iri, Triple, same_node}
 use Rattle.rx_model.proofs.Exact.{exact_texts, exact_nodes, exact_numbers}
 use Rattle.rx_graph.proofs.SetLemmas.{distinct_apart}
-use Rattle.rx_notation.specs.Layout.{about, predicates_of}
+use Rattle.rx_shapes.specs.Subjects.{about, predicates_of}
 use Rattle.rx_turtle.specs.declared.keys.By.TheVariants as by
 use Rattle.rx_turtle.specs.Groups.{keys_by}
 use Rattle.rx_turtle.proofs.GroupLemmas.{map_twice}

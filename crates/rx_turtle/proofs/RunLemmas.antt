@@ -9,11 +9,11 @@ use Rattle.rx_model.proofs.Exact.{exact_nodes, exact_numbers}
 use Rattle.rx_graph.proofs.SetLemmas.{one_more}
 use Rattle.rx_shapes.specs.declared.shapes.Shape.{Shape}
 use Rattle.rx_notation.specs.Short.{Prefixes}
-use Rattle.rx_notation.specs.Layout.{subjects, predicates_of}
-use Rattle.rx_notation.proofs.Grouped.{subject_says}
-use Rattle.rx_nested.specs.Laws.{HaveShapes}
-use Rattle.rx_nested.specs.Nesting.{is_top, statement_of}
-use Rattle.rx_nested.specs.Pieces.{Piece, statement_pieces, all_pieces}
+use Rattle.rx_shapes.specs.Subjects.{subjects, predicates_of}
+use Rattle.rx_shapes.proofs.Grouped.{subject_says}
+use Rattle.rx_shapes.specs.Shapes.{HaveShapes}
+use Rattle.rx_notation.specs.Nesting.{is_top, statement_of}
+use Rattle.rx_notation.specs.Pieces.{Piece, statement_pieces, all_pieces}
 use Rattle.rx_turtle.specs.declared.keys.By.TheVariants as by
 use Rattle.rx_turtle.specs.declared.source.Source.{Source}
 use Rattle.rx_turtle.specs.declared.tokens.Token.{Token}

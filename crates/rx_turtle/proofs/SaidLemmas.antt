@@ -8,7 +8,7 @@ use Rattle.rx_shapes.specs.Rows.{positions}
 use Rattle.rx_shapes.specs.Places.{places_of}
 use Rattle.rx_shapes.specs.Table.{Table, AreShapes, places_in}
 use Rattle.rx_shapes.proofs.RowLemmas.{positions_same}
-use Rattle.rx_notation.specs.Layout.{about, has_subject, has_predicate}
+use Rattle.rx_shapes.specs.Subjects.{about, has_subject, has_predicate}
 use Rattle.rx_turtle.specs.declared.keys.By.TheVariants as by
 use Rattle.rx_turtle.specs.Groups.{Keyed, grouped}
 use Rattle.rx_turtle.specs.Said.{picked, object_by, found, first_of, object_with, said_of}

@@ -5,14 +5,15 @@ use Rattle.std.proofs.lemmas.Bool.{and_parts}
 use Rattle.rx_terms.specs.Text.{Chars}
 use Rattle.rx_model.specs.Sets.{Among}
 use Rattle.rx_model.specs.Terms.{Kind, Plain, Tagged, Typed, Node, Iri, Blank, Term, Resource, Literal, Triple}
-use Rattle.rx_model.specs.Copied.{rdf_type, spo}
-use Rattle.rx_pieces.specs.Writable.{WritableText, WritableIri, WritableNode, WritableKind, WritableTerm, WritableTriple}
+use Rattle.rx_model.specs.Copied.{spo}
+use Rattle.rx_model.specs.Vocabulary.{rdf_type}
+use Rattle.rx_pieces.specs.Writable.{WritableText, WritableIri, WritableNode, WritableKind, WritableTerm, WritableTriple, IsWritable}
 use Rattle.rx_pieces.proofs.Scalars.{joined, literally, string_writable, iri_writable, blank_writable}
 use Rattle.rx_notation.specs.Short.{Prefix, Prefixes, prefix_of}
-use Rattle.rx_notation.specs.Layout.{short_iri, resource_text, verb_text, suffix_text, object_text, subjects, predicates_of, objects_of, separated, predicate_text, statement_text, prefixes_used, prefix_text, prefixes_text, turtle}
-use Rattle.rx_notation.specs.Laws.{IsWritable}
+use Rattle.rx_notation.specs.Layout.{short_iri, resource_text, verb_text, suffix_text, object_text, separated, predicate_text, statement_text, prefixes_used, prefix_text, prefixes_text, turtle}
+use Rattle.rx_shapes.specs.Subjects.{subjects, predicates_of, objects_of}
 use Rattle.rx_notation.proofs.Chosen.{prefix_fits, used_of}
-use Rattle.rx_notation.proofs.Grouped.{subject_says, predicate_says, object_says}
+use Rattle.rx_shapes.proofs.Grouped.{subject_says, predicate_says, object_says}
 use Rattle.rx_turtle.specs.Rows.{IsRow, AreRows}
 
 dropped : (n : ℕ) (text : Chars) → all_scalars text ≡ true → all_scalars (drop n text) ≡ true

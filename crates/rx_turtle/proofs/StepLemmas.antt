@@ -4,27 +4,27 @@ use Rattle.std.proofs.lemmas.List.{map-append}
 use Rattle.rx_terms.specs.Text.{Chars}
 use Rattle.rx_model.specs.Sets.{Among}
 use Rattle.rx_model.specs.Terms.{Node, Iri, Blank, Term, Resource, Literal, Triple, set_of}
-use Rattle.rx_shapes.specs.Shapes.{rdf_first, rdf_rest, rdf_nil, Cell, IsShape}
+use Rattle.rx_shapes.specs.Shapes.{Cell, IsShape, HaveShapes}
+use Rattle.rx_model.specs.Vocabulary.{rdf_first, rdf_rest, rdf_nil}
 use Rattle.rx_shapes.specs.declared.shapes.Shape.{Shape}
 use Rattle.rx_shapes.specs.declared.shapes.Shape.TheVariants as shape
 use Rattle.rx_notation.specs.Short.{Prefixes}
-use Rattle.rx_notation.specs.Layout.{about, has_predicate, predicates_of, objects_of}
+use Rattle.rx_shapes.specs.Subjects.{about, has_predicate, predicates_of, objects_of}
 use Rattle.rx_notation.specs.Syntax.{Named}
-use Rattle.rx_notation.proofs.Grouped.{predicate_says}
-use Rattle.rx_nested.specs.Laws.{HaveShapes}
-use Rattle.rx_nested.specs.Nesting.{reference_to, verb_of, statement_of}
-use Rattle.rx_nested.specs.Writing.{inside_gap, line_gap}
-use Rattle.rx_nested.specs.Pieces.{Piece, words, subject, verb, statement_pieces}
-use Rattle.rx_nested.specs.Steps.{Step, say, object_steps, after_steps, item_steps, cell_steps, line_steps, lines_after, bracket_steps, node_steps, iri_step, term_steps, said_steps, statement_steps, step_pieces, steps_pieces}
-use Rattle.rx_nested.specs.Steps as step
-use Rattle.rx_nested.proofs.Nodes.{CellOf, cell_of, rest_each}
-use Rattle.rx_nested.proofs.Stepping.{steps_are_pieces}
+use Rattle.rx_shapes.proofs.Grouped.{predicate_says}
+use Rattle.rx_notation.specs.Nesting.{reference_to, verb_of, statement_of}
+use Rattle.rx_notation.specs.Writing.{inside_gap, line_gap}
+use Rattle.rx_notation.specs.Pieces.{Piece, words, subject, verb, statement_pieces}
+use Rattle.rx_notation.specs.Steps.{Step, say, object_steps, after_steps, item_steps, cell_steps, line_steps, lines_after, bracket_steps, node_steps, iri_step, term_steps, said_steps, statement_steps, step_pieces, steps_pieces}
+use Rattle.rx_notation.specs.Steps as step
+use Rattle.rx_shapes.proofs.CellLemmas.{CellOf, cell_of, rest_each}
+use Rattle.rx_notation.proofs.Stepping.{steps_are_pieces}
 use Rattle.rx_turtle.specs.declared.keys.By.TheVariants as by
 use Rattle.rx_turtle.specs.declared.tokens.Words.{Words}
 use Rattle.rx_turtle.specs.declared.tokens.Words.TheVariants as fixed
 use Rattle.rx_turtle.specs.Groups.{Keyed, has_key}
 use Rattle.rx_turtle.specs.Said.{first_of, object_with, said_of}
-use Rattle.rx_turtle.specs.Tokens.{Shown, Fixed, Noun, words_text, piece_of}
+use Rattle.rx_turtle.specs.Tokens.{Shown, Fixed, IriOrLabel, words_text, piece_of}
 use Rattle.rx_turtle.specs.Due.{Due, Say, Object, After, behind, parted, object_due, objects_due, line_due, lines_due, bracket_due, item_due, rest_due, iri_due, statement_due, cell_due, node_due, term_due, opened, AreCells, step_of, due_pieces}
 use Rattle.rx_turtle.proofs.GroupLemmas.{map_twice}
 use Rattle.rx_turtle.proofs.PredicateLemmas.{keys_are}
@@ -97,7 +97,7 @@ module _ (context : Prefixes) where
 
     statement_are : (node : Node ℕ) → steps (statement_due node (said_of list node)) ≡ statement_steps context list node
     statement_are node =
-        ap (λ z. step_of context (Say (Noun node)) ∷ say (words (codes " ")) ∷ z)
+        ap (λ z. step_of context (Say (IriOrLabel node)) ∷ say (words (codes " ")) ∷ z)
         (map-append (step_of context) (lines_due fixed.LineGap (said_of list node)) (Say (Fixed fixed.End) ∷ [])
         ∙ ap (λ z. z ++ say (words (codes " .\n")) ∷ [])
         (ap (λ z. steps (lines_due fixed.LineGap z)) (groups_are node)
@@ -128,7 +128,7 @@ module _ (context : Prefixes) where
     iri_is : (iri : Chars) → steps (iri_due iri) ≡ iri_step context iri
     iri_is iri = go (bytes_eq iri rdf_nil)
       where
-        go : (b : Bool) → steps (cond b (Say (Fixed fixed.Nil) ∷ []) (Say (Noun (Iri iri)) ∷ [])) ≡ cond b (say (words (codes "()")) ∷ []) (say (subject (Named (reference_to context iri))) ∷ [])
+        go : (b : Bool) → steps (cond b (Say (Fixed fixed.Nil) ∷ []) (Say (IriOrLabel (Iri iri)) ∷ [])) ≡ cond b (say (words (codes "()")) ∷ []) (say (subject (Named (reference_to context iri))) ∷ [])
         go true = refl
         go false = refl
 
@@ -197,7 +197,7 @@ module _ (list : List (Triple ℕ)) where
   iri_cells : (iri : Chars) → AreCells list (iri_due iri)
   iri_cells iri = go (bytes_eq iri rdf_nil)
     where
-      go : (b : Bool) → AreCells list (cond b (Say (Fixed fixed.Nil) ∷ []) (Say (Noun (Iri iri)) ∷ []))
+      go : (b : Bool) → AreCells list (cond b (Say (Fixed fixed.Nil) ∷ []) (Say (IriOrLabel (Iri iri)) ∷ []))
       go true = tt
       go false = tt
 

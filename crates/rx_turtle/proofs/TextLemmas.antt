@@ -5,8 +5,11 @@ use Rattle.std.proofs.lemmas.Str.{chars-encodes}
 use Rattle.rx_terms.specs.Text.{Chars}
 use Rattle.rx_model.specs.Terms.{Node, Iri, Triple}
 use Rattle.rx_notation.specs.Short.{Prefixes, names_rise}
-use Rattle.rx_notation.specs.Layout.{resource_text, verb_text, object_text, separated, has_predicate, subjects, about, predicates_of, predicate_text, statement_text, prefixes_text, turtle}
-use Rattle.rx_notation.specs.Laws.{IsContext, IsWritable, proper_triple}
+use Rattle.rx_notation.specs.Layout.{resource_text, verb_text, object_text, separated, predicate_text, statement_text, prefixes_text, turtle}
+use Rattle.rx_shapes.specs.Subjects.{has_predicate, subjects, about, predicates_of}
+use Rattle.rx_notation.specs.Laws.{IsContext}
+use Rattle.rx_pieces.specs.Writable.{IsWritable}
+use Rattle.rx_nquads.specs.Quads.{proper_triple}
 use Rattle.rx_notation.specs.Meaning.{Turtle}
 use Rattle.rx_notation.proofs.LayoutMeaning.{layout_denotes}
 use Rattle.rx_notation.proofs.Ordered.{rising}

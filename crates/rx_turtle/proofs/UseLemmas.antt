@@ -9,10 +9,9 @@ use Rattle.rx_model.specs.Terms.{Triple}
 use Rattle.rx_model.specs.Seen.{triple_seen, triples_seen}
 use Rattle.rx_model.proofs.Sets.{Among_cases, false_unless}
 use Rattle.rx_graph.proofs.SetLemmas.{seen_more}
-use Rattle.rx_pieces.specs.Writable.{WritableTriple}
+use Rattle.rx_pieces.specs.Writable.{WritableTriple, IsWritable}
 use Rattle.rx_notation.specs.Short.{Prefix, Prefixes, prefix_of, names_rise}
 use Rattle.rx_notation.specs.Layout.{iris_of, used, same_prefix, prefixes_used}
-use Rattle.rx_notation.specs.Laws.{IsWritable}
 use Rattle.rx_notation.proofs.Chosen.{Apart, names_apart, exact_prefixes}
 use Rattle.rx_notation.proofs.Ordered.{rising}
 use Rattle.rx_turtle.specs.Shorts.{place_of, IsPlace}

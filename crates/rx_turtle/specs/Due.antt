@@ -4,16 +4,17 @@ use Rattle.rx_terms.specs.Text.{Chars}
 use Rattle.rx_model.specs.Sets.{Among}
 use Rattle.rx_model.specs.Seen.{term_seen, triples_seen}
 use Rattle.rx_model.specs.Terms.{Node, Iri, Blank, Term, Resource, Literal, Triple, set_of}
-use Rattle.rx_shapes.specs.Shapes.{rdf_first, rdf_rest, rdf_nil, Cell}
+use Rattle.rx_shapes.specs.Shapes.{Cell}
+use Rattle.rx_model.specs.Vocabulary.{rdf_first, rdf_rest, rdf_nil}
 use Rattle.rx_shapes.specs.Table.{AreShapes, shape_in}
 use Rattle.rx_shapes.specs.declared.shapes.Shape.{Shape}
 use Rattle.rx_shapes.specs.declared.shapes.Shape.TheVariants as shape
-use Rattle.rx_notation.specs.Layout.{about}
+use Rattle.rx_shapes.specs.Subjects.{about}
 use Rattle.rx_notation.specs.Short.{Prefixes}
-use Rattle.rx_nested.specs.Nesting.{is_top, statement_of, statements}
-use Rattle.rx_nested.specs.Pieces.{Piece, statement_pieces, all_pieces}
-use Rattle.rx_nested.specs.Steps.{Step, steps_pieces}
-use Rattle.rx_nested.specs.Steps as step
+use Rattle.rx_notation.specs.Nesting.{is_top, statement_of, statements}
+use Rattle.rx_notation.specs.Pieces.{Piece, statement_pieces, all_pieces}
+use Rattle.rx_notation.specs.Steps.{Step, steps_pieces}
+use Rattle.rx_notation.specs.Steps as step
 use Rattle.rx_turtle.specs.declared.stack.Task.{Task}
 use Rattle.rx_turtle.specs.declared.stack.Task.TheVariants as task
 use Rattle.rx_turtle.specs.declared.source.Source.{Source}
@@ -23,7 +24,7 @@ use Rattle.rx_turtle.specs.declared.tokens.Words.TheVariants as fixed
 use Rattle.rx_turtle.specs.declared.keys.By.TheVariants as by
 use Rattle.rx_turtle.specs.Groups.{Keyed, key_by, has_key}
 use Rattle.rx_turtle.specs.Said.{object_with, said_of}
-use Rattle.rx_turtle.specs.Tokens.{Shown, Fixed, Noun, Verb, Quoted, token_seen, tokens_seen, piece_of, pieces_of}
+use Rattle.rx_turtle.specs.Tokens.{Shown, Fixed, IriOrLabel, Verb, Quoted, token_seen, tokens_seen, piece_of, pieces_of}
 
 -- a token, an object, or what comes after an item of a collection, with this cell
 pub data Due : Type 0 where
@@ -121,10 +122,10 @@ rest_due (Some (Resource (Iri iri))) = []
 rest_due (Some (Literal text kind)) = []
 
 abbrev pub iri_due : Chars → List Due
-iri_due iri = if bytes_eq iri rdf_nil then Say (Fixed fixed.Nil) ∷ [] else Say (Noun (Iri iri)) ∷ []
+iri_due iri = if bytes_eq iri rdf_nil then Say (Fixed fixed.Nil) ∷ [] else Say (IriOrLabel (Iri iri)) ∷ []
 
 abbrev pub statement_due : Node ℕ → List Keyed → List Due
-statement_due subject groups = Say (Noun subject) ∷ Say (Fixed fixed.Space) ∷ (lines_due fixed.LineGap groups ++ Say (Fixed fixed.End) ∷ [])
+statement_due subject groups = Say (IriOrLabel subject) ∷ Say (Fixed fixed.Space) ∷ (lines_due fixed.LineGap groups ++ Say (Fixed fixed.End) ∷ [])
 
 module _ (list : List (Triple ℕ)) where
   -- the item of a cell, and what comes after it
@@ -132,7 +133,7 @@ module _ (list : List (Triple ℕ)) where
   cell_due number = item_due (object_with list (Blank number) rdf_first) ++ rest_due (object_with list (Blank number) rdf_rest)
 
   abbrev pub node_due : Shape → ℕ → List Due
-  node_due shape.Labelled number = Say (Noun (Blank number)) ∷ []
+  node_due shape.Labelled number = Say (IriOrLabel (Blank number)) ∷ []
   node_due shape.Inside number = bracket_due (said_of list (Blank number))
   node_due shape.Cell number = Say (Fixed fixed.OpenList) ∷ (cell_due number ++ Say (Fixed fixed.CloseList) ∷ [])
 

@@ -4,11 +4,11 @@ use Rattle.std.specs.Str.{chars}
 use Rattle.rx_terms.specs.declared.triples.Triple.{Triple as CodeTriple}
 use Rattle.rx_model.specs.Seen.{triples_seen}
 use Rattle.rx_shapes.specs.Table.{Table, shape_in}
-use Rattle.rx_notation.specs.Laws.{proper_triple}
+use Rattle.rx_nquads.specs.Quads.{proper_triple}
 use Rattle.rx_notation.specs.Layout.{turtle}
 use Rattle.rx_notation.specs.Meaning.{Turtle, NestedTurtle}
 use Rattle.rx_notation.specs.Short.{Prefixes}
-use Rattle.rx_nested.specs.Nesting.{nested}
+use Rattle.rx_notation.specs.Nesting.{nested}
 
 abbrev pub turtle_bytes : Prefixes → List CodeTriple → List ℕ
 turtle_bytes context graph = encode_utf8_all (turtle context (triples_seen graph))

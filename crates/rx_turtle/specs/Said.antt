@@ -3,8 +3,8 @@ use Rattle.std.specs.Prelude.{ℕ, List, [], ◌∷◌, ◌++◌, slice_get, Opt
 use Rattle.std.specs.Option.{option_or}
 use Rattle.rx_terms.specs.Text.{Chars}
 use Rattle.rx_model.specs.Terms.{Node, Term, Triple}
-use Rattle.rx_shapes.specs.Shapes.{rdf_first, rdf_rest}
-use Rattle.rx_notation.specs.Layout.{about, has_predicate, objects_of}
+use Rattle.rx_model.specs.Vocabulary.{rdf_first, rdf_rest}
+use Rattle.rx_shapes.specs.Subjects.{about, has_predicate, objects_of}
 use Rattle.rx_turtle.specs.declared.keys.By.TheVariants as by
 use Rattle.rx_turtle.specs.declared.said.Half.{Half}
 use Rattle.rx_turtle.specs.declared.said.Half.TheVariants as half

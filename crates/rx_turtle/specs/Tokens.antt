@@ -8,10 +8,10 @@ use Rattle.rx_pieces.specs.Writable.{WritableText, WritableNode, WritableKind}
 use Rattle.rx_notation.specs.Short.{Prefixes}
 use Rattle.rx_notation.specs.Layout.{resource_text, object_text, iris_of_node, iris_of_kind}
 use Rattle.rx_notation.specs.Syntax.{Labelled}
-use Rattle.rx_nested.specs.Pieces.{Piece}
-use Rattle.rx_nested.specs.Pieces as piece
-use Rattle.rx_nested.specs.Nesting.{subject_of, verb_of, suffix_of}
-use Rattle.rx_nested.specs.Writing.{inside_gap, line_gap}
+use Rattle.rx_notation.specs.Pieces.{Piece}
+use Rattle.rx_notation.specs.Pieces as piece
+use Rattle.rx_notation.specs.Nesting.{subject_of, verb_of, suffix_of}
+use Rattle.rx_notation.specs.Writing.{inside_gap, line_gap}
 use Rattle.rx_turtle.specs.declared.tokens.Words.{Words}
 use Rattle.rx_turtle.specs.declared.tokens.Words.TheVariants as fixed
 use Rattle.rx_turtle.specs.declared.tokens.Token.{Token}
@@ -21,13 +21,13 @@ use Rattle.rx_turtle.specs.Verbs.{key_text, iris_of_verb}
 -- words that are always the same, a subject or object, a predicate, a literal
 pub data Shown : Type 0 where
   Fixed : Words → Shown
-  Noun : Node ℕ → Shown
+  IriOrLabel : Node ℕ → Shown
   Verb : Node ℕ → Shown
   Quoted : Chars → Kind → Shown
 
 abbrev pub token_seen : Token → Shown
 token_seen (token.Fixed words) = Fixed words
-token_seen (token.Noun resource) = Noun (resource_seen resource)
+token_seen (token.IriOrLabel resource) = IriOrLabel (resource_seen resource)
 token_seen (token.Verb resource) = Verb (resource_seen resource)
 token_seen (token.Quoted literal) = Quoted literal.now.lexical (kind_seen literal.now.kind)
 
@@ -56,7 +56,7 @@ module _ (context : Prefixes) where
 
   abbrev pub piece_of : Shown → Piece
   piece_of (Fixed words) = piece.words (words_text words)
-  piece_of (Noun node) = piece.subject (subject_of context node)
+  piece_of (IriOrLabel node) = piece.subject (subject_of context node)
   piece_of (Verb node) = verb_piece node
   piece_of (Quoted text kind) = piece.quoted text (suffix_of context kind)
 
@@ -67,7 +67,7 @@ module _ (context : Prefixes) where
 
   abbrev pub shown_text : Shown → Chars
   shown_text (Fixed words) = words_text words
-  shown_text (Noun node) = resource_text context node
+  shown_text (IriOrLabel node) = resource_text context node
   shown_text (Verb node) = key_text context node
   shown_text (Quoted text kind) = object_text context (Literal text kind)
 
@@ -78,7 +78,7 @@ module _ (context : Prefixes) where
 
 abbrev pub iris_of_shown : Shown → List Chars
 iris_of_shown (Fixed words) = []
-iris_of_shown (Noun node) = iris_of_node node
+iris_of_shown (IriOrLabel node) = iris_of_node node
 iris_of_shown (Verb node) = iris_of_verb node
 iris_of_shown (Quoted text kind) = iris_of_kind kind
 
@@ -86,6 +86,6 @@ iris_of_shown (Quoted text kind) = iris_of_kind kind
 
 abbrev pub WritableShown : Shown → Type 0
 WritableShown (Fixed words) = Unit {0}
-WritableShown (Noun node) = WritableNode node
+WritableShown (IriOrLabel node) = WritableNode node
 WritableShown (Verb node) = WritableNode node
 WritableShown (Quoted text kind) = WritableText text × WritableKind kind

@@ -38,7 +38,7 @@ fn push_said<'a>(
     stack.say(Words::End)?;
     push_lines(stack, said, Words::LineGap)?;
     stack.say(Words::Space)?;
-    stack.push(Task::Say(Token::Noun(subject)))?;
+    stack.push(Task::Say(Token::IriOrLabel(subject)))?;
     Ok(())
 }
 

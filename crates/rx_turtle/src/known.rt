@@ -30,14 +30,14 @@ pub(crate) enum Entry<'a> {
 
 /// The IRIs that were shortened, by hash. A contract sees the list of entries.
 #[derive(Drop)]
-pub(crate) struct Known<'a> {
+pub(crate) struct ShortFormCache<'a> {
     alloc: Global,
     entries: Vec<Entry<'a>>,
     /// How many were put in.
     count: usize,
 }
 
-impl<'a> Model for Known<'a> {
+impl<'a> Model for ShortFormCache<'a> {
     ghost use Rattle.std.specs.Prelude.{List, ◌<◌, length};
     ghost use Rattle.rx_turtle.specs.declared.known.Entry.{Entry};
 
@@ -48,21 +48,21 @@ impl<'a> Model for Known<'a> {
     ghost invariant = { λ known. 0 < length known.entries.items };
 }
 
-impl<'a> Known<'a> {
+impl<'a> ShortFormCache<'a> {
     /// No IRI.
-    pub(crate) fn new(alloc: Global) -> Result<Known<'a>, NoMemory>
+    pub(crate) fn new(alloc: Global) -> Result<ShortFormCache<'a>, NoMemory>
         ensures { IfOk result (λ known. (found : Chars → Option ℕ) → AreEntries found known) }
     {
-        Known::with_entries(alloc, FEW)
+        ShortFormCache::with_entries(alloc, FEW)
     }
 
     /// So many empty entries, which are a power of two.
-    fn with_entries(alloc: Global, count: usize) -> Result<Known<'a>, NoMemory>
+    fn with_entries(alloc: Global, count: usize) -> Result<ShortFormCache<'a>, NoMemory>
         requires { 0 < count }
         ensures { IfOk result (λ known. (found : Chars → Option ℕ) → AreEntries found known) }
     {
         let entries = vec![in alloc; Entry::Empty; count]?;
-        Ok(Known {
+        Ok(ShortFormCache {
             alloc,
             entries,
             count: 0,
@@ -108,10 +108,13 @@ impl<'a> Known<'a> {
     }
 
     /// The same IRIs, with more entries.
-    fn larger(&self) -> Result<Known<'a>, NoMemory>
+    fn larger(&self) -> Result<ShortFormCache<'a>, NoMemory>
         ensures { IfOk result (λ known. (found : Chars → Option ℕ) → AreEntries found self.now → AreEntries found known) }
     {
-        let mut larger = Known::with_entries(self.alloc, self.entries.len().saturating_mul(MORE))?;
+        let mut larger = ShortFormCache::with_entries(
+            self.alloc,
+            self.entries.len().saturating_mul(MORE),
+        )?;
         for i in 0..self.entries.len() {
             let entry = self.entries[i];
             larger.put(entry);

@@ -3,7 +3,7 @@ ghost use Rattle.std.specs.Prelude.{◌≡◌, length, IfOk};
 ghost use Rattle.rx_model.specs.Seen.{triples_seen};
 ghost use Rattle.rx_shapes.specs.Table.{AreShapes, shape_in};
 ghost use Rattle.rx_pieces.specs.Writable.{Pushes};
-ghost use Rattle.rx_nested.specs.Nesting.{nested};
+ghost use Rattle.rx_notation.specs.Nesting.{nested};
 ghost use Rattle.rx_turtle.specs.Nested.{nested_of};
 ghost use Rattle.rx_turtle.specs.Graphs.{DenoteNested, nested_bytes};
 

@@ -2,7 +2,7 @@
 ghost use Rattle.std.specs.Prelude.{◌≡◌, [], IfOk, OnOk};
 ghost use Rattle.rx_graph.specs.Resources.{resource_seen};
 ghost use Rattle.rx_shapes.specs.Table.{shape_in};
-ghost use Rattle.rx_nested.specs.Nesting.{is_top, is_top_by};
+ghost use Rattle.rx_notation.specs.Nesting.{is_top, is_top_by};
 ghost use Rattle.rx_turtle.specs.Groups.{grouped, lent_triples};
 ghost use Rattle.rx_turtle.specs.declared.keys.By.TheVariants as by;
 ghost use Rattle.rx_turtle.specs.Due.{list_of, IsSource, AreCells, Comes, Says, AreTokens, IsSubject};

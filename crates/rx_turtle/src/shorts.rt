@@ -8,7 +8,7 @@ ghost use Rattle.rx_turtle.specs.Shorts.{EndsNone, place_at, place_below, place_
 ghost use Rattle.rx_turtle.specs.Rows.{AreRows};
 ghost use Rattle.rx_turtle.specs.Slots.{IsSo};
 
-use crate::known::Known;
+use crate::known::ShortFormCache;
 use crate::names::{begins_local, is_name_byte};
 use crate::places::Places;
 use rx_names::Context;
@@ -23,7 +23,7 @@ pub struct Shorts<'a> {
     context: &'a Context,
     places: Places<'a>,
     /// Asked before the places.
-    known: Known<'a>,
+    known: ShortFormCache<'a>,
 }
 
 impl<'a> Model for Shorts<'a> {
@@ -44,7 +44,7 @@ impl<'a> Shorts<'a> {
         ensures rows { IfOk result (λ shorts. AreRows context.now.prefixes) }
     {
         let places = Places::of(alloc, context)?;
-        let Ok(known) = Known::new(alloc) else {
+        let Ok(known) = ShortFormCache::new(alloc) else {
             drop(places);
             return Err(NoMemory);
         };

@@ -58,7 +58,7 @@ fn iri_token<'a>(iri: &'a Iri) -> Token<'a>
     if is_nil(iri) {
         return Token::Fixed(Words::Nil);
     }
-    Token::Noun(Resource::Iri(iri))
+    Token::IriOrLabel(Resource::Iri(iri))
 }
 
 fn shape_of(source: &Source, blank: Blank) -> Shape
@@ -78,7 +78,7 @@ fn start_node<'a>(
     ensures { IfOk result (Opens (node_due (list_of source.now) shape blank.0) stack.old stack.new) }
 {
     match shape {
-        Shape::Labelled => Ok(Token::Noun(Resource::Blank(blank))),
+        Shape::Labelled => Ok(Token::IriOrLabel(Resource::Blank(blank))),
         Shape::Inside => start_inside(source, stack, blank),
         Shape::Cell => start_list(source, stack, blank),
     }

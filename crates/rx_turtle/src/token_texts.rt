@@ -32,7 +32,7 @@ fn push_token<S: Sink>(out: &mut Pieces, sink: &mut S, shorts: &Shorts, token: T
 {
     match token {
         Token::Fixed(words) => push_words(out, sink, words),
-        Token::Noun(resource) => push_resource(out, sink, shorts, resource),
+        Token::IriOrLabel(resource) => push_resource(out, sink, shorts, resource),
         Token::Verb(resource) => push_key(out, sink, shorts, resource),
         Token::Quoted(literal) => push_literal(out, sink, shorts, literal),
     }

@@ -4,8 +4,7 @@ ghost use Rattle.rx_model.specs.Seen.{triples_seen};
 ghost use Rattle.rx_model.specs.Sets.{distinct};
 ghost use Rattle.rx_model.specs.Terms.{same_triple};
 ghost use Rattle.rx_graph.specs.Resources.{resource_seen};
-ghost use Rattle.rx_pieces.specs.Writable.{WritableNode};
-ghost use Rattle.rx_notation.specs.Laws.{IsWritable};
+ghost use Rattle.rx_pieces.specs.Writable.{WritableNode, IsWritable};
 ghost use Rattle.rx_notation.specs.Layout.{iris_of_node};
 ghost use Rattle.rx_notation.specs.Short.{names_rise};
 ghost use Rattle.rx_turtle.specs.Nested.{iris_of_tokens, AreWritable};
@@ -64,7 +63,7 @@ fn mark_token<'a>(
 {
     match token {
         Token::Fixed(_words) => Ok(()),
-        Token::Noun(resource) => mark_noun(marks, resource, shorts),
+        Token::IriOrLabel(resource) => mark_noun(marks, resource, shorts),
         Token::Verb(resource) => mark_verb(marks, resource, shorts),
         Token::Quoted(literal) => mark_kind(marks, &literal.kind, shorts),
     }
@@ -115,7 +114,7 @@ fn is_writable_token(token: Token)
 {
     match token {
         Token::Fixed(_words) => {}
-        Token::Noun(resource) => is_writable_resource(resource),
+        Token::IriOrLabel(resource) => is_writable_resource(resource),
         Token::Verb(resource) => is_writable_resource(resource),
         Token::Quoted(literal) => is_writable_literal(literal),
     }

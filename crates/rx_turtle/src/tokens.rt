@@ -34,7 +34,7 @@ pub enum Token<'a> {
     /// Words that are always the same.
     Fixed(Words),
     /// A subject, or an object that is a node.
-    Noun(Resource<'a>),
+    IriOrLabel(Resource<'a>),
     /// A predicate.
     Verb(Resource<'a>),
     /// A literal.

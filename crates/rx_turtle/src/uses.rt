@@ -1,7 +1,7 @@
 //! Which prefixes a text uses.
 ghost use Rattle.std.specs.Prelude.{◌≡◌, ◌∷◌, [], flat_map, slice_set, true, IfOk, OnOk, OnErr};
 ghost use Rattle.rx_model.specs.Seen.{kind_seen, node_seen, term_seen, triple_seen, triples_seen};
-ghost use Rattle.rx_notation.specs.Laws.{IsWritable};
+ghost use Rattle.rx_pieces.specs.Writable.{IsWritable};
 ghost use Rattle.rx_notation.specs.Short.{names_rise};
 ghost use Rattle.rx_notation.specs.Layout.{iris_of, iris_of_kind, iris_of_node, iris_of_predicate, iris_of_term};
 ghost use Rattle.rx_turtle.specs.Uses.{marked, marked_all, unmarked, used_marks};

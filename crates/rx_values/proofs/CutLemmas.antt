@@ -7,11 +7,11 @@ use Rattle.std.proofs.lemmas.List.{take-append-drop, length-take}
 use Rattle.std.proofs.lemmas.Str.{encodes-chars, scalars-chars, chars-append, chars-encodes, encodes-append, IsUtf8-take, IsCharBoundary-at_seam}
 use Rattle.rx_values.specs.Marks.{CutAt}
 
-front_scalars : (front rest : List ℕ) → all_scalars (front ++ rest) ≡ true → all_scalars front ≡ true
+pub front_scalars : (front rest : List ℕ) → all_scalars (front ++ rest) ≡ true → all_scalars front ≡ true
 front_scalars [] rest h = refl
 front_scalars (c ∷ front) rest h = let p = and_parts _ _ h in and_from _ _ p.0 (front_scalars front rest p.1)
 
-rest_scalars : (front rest : List ℕ) → all_scalars (front ++ rest) ≡ true → all_scalars rest ≡ true
+pub rest_scalars : (front rest : List ℕ) → all_scalars (front ++ rest) ≡ true → all_scalars rest ≡ true
 rest_scalars [] rest h = h
 rest_scalars (c ∷ front) rest h = rest_scalars front rest (and_parts _ _ h).1
 

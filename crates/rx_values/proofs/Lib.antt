@@ -1,4 +1,4 @@
 mod DigitLemmas
 mod ClockLemmas
 mod PatternLemmas
-mod CutLemmas
+pub mod CutLemmas

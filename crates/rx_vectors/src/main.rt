@@ -40,6 +40,7 @@ const TOPICS: &[&str] = &[
     "omitted_ends",
     "references",
     "samples",
+    "sizes",
     "turtle",
     "values",
     "words",

@@ -28,7 +28,7 @@ use Rattle.rx_walk.specs.Settings.{Setting}
 use Rattle.rx_walk.specs.Stages.{Known}
 use Rattle.rx_walk.specs.Walks.{Walked, WalkStands, state_of}
 use Rattle.rx_walk.proofs.AlikeStates.{led_alike}
-use Rattle.rx_reading.proofs.FaultPlacing.{page_shows}
+use Rattle.rx_nest.proofs.FaultPlacing.{page_shows}
 use Rattle.rx_walk.proofs.Alike.{pieces_alike}
 use Rattle.rx_base.proofs.Found.{known_stays, base_found}
 use Rattle.rx_walk.proofs.Making.{all_on, all_base}

@@ -9,7 +9,7 @@ use Rattle.rx_rdfa.specs.Base.{base_by, root_href}
 use Rattle.rx_rdfa.specs.Calls.{Call}
 use Rattle.rx_rdfa.specs.Names.{Context}
 use Rattle.rx_nest.specs.Signs.{Sign, finished, signs_of}
-use Rattle.rx_reading.specs.Readings.{Whole}
+use Rattle.rx_nest.specs.Readings.{Whole}
 use Rattle.rx_eval.specs.Opened.{begun_state}
 use Rattle.rx_eval.specs.States.{State}
 use Rattle.rx_walk.specs.declared.courses.Course.{Course}

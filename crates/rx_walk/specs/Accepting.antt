@@ -6,7 +6,7 @@ use Rattle.rx_names.specs.Lines.{Kept}
 use Rattle.rx_grammar.specs.declared.stops.Stop.{Stop}
 use Rattle.rx_nest.specs.Fronts.{IsFront}
 use Rattle.rx_nest.specs.Signs.{Sign}
-use Rattle.rx_reading.specs.Listening.{Hears}
+use Rattle.rx_nest.specs.Listening.{Hears}
 use Rattle.rx_walk.specs.declared.scopes.Scope.{Scope}
 use Rattle.rx_base.specs.Lines.{line_of}
 use Rattle.rx_walk.specs.Refused.{refused_in}

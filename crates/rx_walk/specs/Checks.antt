@@ -7,8 +7,8 @@ use Rattle.rx_scan.specs.Entries.{IsNoMemory}
 use Rattle.rx_scan.specs.Steps.{is_quiet}
 use Rattle.rx_nest.specs.Nests.{IsBetween}
 use Rattle.rx_nest.specs.Signs.{signs_of}
-use Rattle.rx_reading.specs.Readings as readings
-use Rattle.rx_reading.specs.Readings.{Read, Unfinished}
+use Rattle.rx_nest.specs.Readings as readings
+use Rattle.rx_nest.specs.Readings.{Read, Unfinished}
 use Rattle.rx_walk.specs.declared.scopes.Scope.{Scope}
 use Rattle.rx_walk.specs.Refused.{refused_in}
 use Rattle.rx_walk.specs.Settings.{Setting, way_of}

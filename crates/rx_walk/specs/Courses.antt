@@ -14,8 +14,8 @@ use Rattle.rx_grammar.specs.declared.stops.Stop.{Stop}
 use Rattle.rx_grammar.specs.declared.stops.Stop.TheVariants as stop
 use Rattle.rx_nest.specs.Signs.{Sign, begun}
 use Rattle.rx_nest.specs.Fronts.{IsFront}
-use Rattle.rx_reading.specs.Ways.{Way}
-use Rattle.rx_reading.specs.Listening as listening
+use Rattle.rx_nest.specs.Ways.{Way}
+use Rattle.rx_nest.specs.Listening as listening
 use Rattle.rx_walk.specs.declared.courses.Course.{Course}
 use Rattle.rx_base.specs.Lines.{read_tag, line_of}
 use Rattle.rx_walk.specs.CallsOf.{calls_of}

@@ -9,7 +9,7 @@ use Rattle.rx_rdfa.specs.Names.{Context}
 use Rattle.rx_rdfa.specs.Refusals.{Refusal, refusal}
 use Rattle.rx_rdfa.specs.Tree.{Tag}
 use Rattle.rx_nest.specs.Signs.{Sign, begun, said, finished}
-use Rattle.rx_reading.specs.Ways.{IsAtTag, IsAtOne, IsRefusal}
+use Rattle.rx_nest.specs.Ways.{IsAtTag, IsAtOne, IsRefusal}
 use Rattle.rx_base.specs.Lines.{read_tag, line_on, line_of}
 use Rattle.rx_walk.specs.Refused.{fault_of, refused_at, refused_in}
 

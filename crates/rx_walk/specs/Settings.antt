@@ -3,7 +3,7 @@ use Rattle.std.specs.Prelude.{[]}
 use Rattle.rx_chars.specs.declared.syntax.Syntax.{Syntax}
 use Rattle.rx_grammar.specs.declared.limits.Limits.{Limits}
 use Rattle.rx_rdfa.specs.Names.{Context}
-use Rattle.rx_reading.specs.Ways.{Way}
+use Rattle.rx_nest.specs.Ways.{Way}
 use Rattle.rx_walk.specs.Refused.{refused_in}
 
 -- its syntax and limits, and the names with which it begins

@@ -14,9 +14,9 @@ use Rattle.rx_scan.specs.Entries.{IsNoMemory}
 use Rattle.rx_scan.specs.Steps.{is_quiet}
 use Rattle.rx_nest.specs.Nests.{IsBetween}
 use Rattle.rx_nest.specs.Signs.{Sign, signs_of}
-use Rattle.rx_reading.specs.Ways.{Way}
-use Rattle.rx_reading.specs.Readings as readings
-use Rattle.rx_reading.specs.Readings.{Read, Unfinished, has_fallen}
+use Rattle.rx_nest.specs.Ways.{Way}
+use Rattle.rx_nest.specs.Readings as readings
+use Rattle.rx_nest.specs.Readings.{Read, Unfinished, has_fallen}
 use Rattle.rx_eval.specs.Numbering.{Numbering}
 use Rattle.rx_eval.specs.Standing.{Makes}
 use Rattle.rx_eval.specs.Keeping.{gathers_some}

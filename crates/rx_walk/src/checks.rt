@@ -1,14 +1,13 @@
 //! A page that is checked in pieces.
 ghost use Rattle.std.specs.Prelude.{◌≡◌, ℕ, List, [], true, Err, IfOk};
-ghost use Rattle.rx_reading.specs.Falling.{Answered, MayAnswer};
-ghost use Rattle.rx_reading.specs.FaultPlaces.{PlaceGives};
+ghost use Rattle.rx_nest.specs.Falling.{Answered, MayAnswer};
+ghost use Rattle.rx_nest.specs.FaultPlaces.{PlaceGives};
 ghost use Rattle.rx_walk.specs.Settings.{Setting, way_of};
 ghost use Rattle.rx_walk.specs.Checks as checks;
 
 use crate::scopes::Scope;
 use rx_names::{Context, Names};
-use rx_nest::{Limits, Stop, Syntax};
-use rx_reading::Reading;
+use rx_nest::{Limits, Reading, Stop, Syntax};
 use rx_terms::NoMemory;
 use std::alloc::Global;
 use std::marker::Model;

@@ -17,8 +17,7 @@ use crate::stages::{Head, Stage};
 use rx_base::Sought;
 use rx_curie::{Facts, FactsError, IriMaker};
 use rx_names::{Context, Names};
-use rx_nest::{Event, Fault, Stop, Tag};
-use rx_reading::Listener;
+use rx_nest::{Event, Fault, Listener, Stop, Tag};
 use rx_terms::{Iri, NoMemory};
 use std::alloc::Global;
 

@@ -5,7 +5,7 @@ ghost use Rattle.rx_names.specs.Lines as lines;
 ghost use Rattle.rx_names.specs.Tags.{tag_of};
 ghost use Rattle.rx_nest.specs.Nests.{tag_shown};
 ghost use Rattle.rx_nest.specs.Signs.{begun, finished};
-ghost use Rattle.rx_reading.specs.Listening.{MayHear};
+ghost use Rattle.rx_nest.specs.Listening.{MayHear};
 ghost use Rattle.rx_walk.specs.Accepting.{AcceptsOn, HearsOn, accepts_at};
 ghost use Rattle.rx_walk.specs.Courses.{BelowLine};
 ghost use Rattle.rx_walk.specs.Refused.{refused_at};
@@ -14,8 +14,7 @@ ghost use Rattle.rx_walk.specs.Settings.{Setting, way_of};
 
 use rx_curie::refusal_of;
 use rx_names::Names;
-use rx_nest::{Event, Fault, Stop, Tag};
-use rx_reading::Listener;
+use rx_nest::{Event, Fault, Listener, Stop, Tag};
 
 /// What a check keeps of the open elements: neither what they say nor their text.
 #[derive(Drop)]

@@ -1,9 +1,9 @@
 //! A page that is walked through in pieces.
 ghost use Rattle.std.specs.Prelude.{◌≡◌, [], length, true, Err, IfOk, Some, None, MatchOption, if◌then◌else◌};
 ghost use Rattle.rx_names.specs.Lines.{declared_along};
-ghost use Rattle.rx_reading.specs.Falling.{Answered, MayAnswer};
-ghost use Rattle.rx_reading.specs.FaultPlaces.{PlaceGives};
-ghost use Rattle.rx_reading.specs.Readings.{has_fallen};
+ghost use Rattle.rx_nest.specs.Falling.{Answered, MayAnswer};
+ghost use Rattle.rx_nest.specs.FaultPlaces.{PlaceGives};
+ghost use Rattle.rx_nest.specs.Readings.{has_fallen};
 ghost use Rattle.rx_walk.specs.Settings.{way_of};
 ghost use Rattle.rx_walk.specs.Walks as walks;
 
@@ -11,8 +11,7 @@ use crate::courses::Course;
 use crate::stages::Stage;
 use rx_eval::Inherited;
 use rx_names::Context;
-use rx_nest::{Limits, Stop, Syntax};
-use rx_reading::Reading;
+use rx_nest::{Limits, Reading, Stop, Syntax};
 use rx_terms::{Iri, NoMemory, TripleList};
 use std::alloc::Global;
 use std::marker::Model;

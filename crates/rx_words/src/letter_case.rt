@@ -12,7 +12,7 @@ pub fn lower(alloc: Global, text: &str) -> Result<Text, NoMemory>
 {
     let mut low = String::from_str(alloc, text)?;
     low.make_ascii_lowercase();
-    Ok(Text::of_string(low))
+    Text::of_string(alloc, low)
 }
 
 /// Whether the texts are one in lower case.

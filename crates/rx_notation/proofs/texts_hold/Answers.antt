@@ -7,9 +7,9 @@ use Rattle.rx_nquads.specs.Spelling.{SpellsLabel, SpellsString, nothing, itself,
 use Rattle.rx_pieces.specs.Writing.{iri_text}
 use Rattle.rx_nquads.proofs.Denoting.{label_spelled}
 use Rattle.rx_notation.specs.Short.{Prefix, is_prefix_name, is_local_name}
-use Rattle.rx_notation.specs.Syntax.{Full, Short, Named, Labelled, Type_of, Suffix, Bare, Language, Datatype, Noun, Single, Predicate, Done, Document, are_flat}
-use Rattle.rx_notation.specs.Grammar.{Sign, At_prefix, Small_a, Full_stop, Semicolon_sign, Comma_sign, Left_bracket, Right_bracket, Brackets, Left_parenthesis, Right_parenthesis, Parentheses, Token, sign, declared, noun, quoted, document_tokens}
-use Rattle.rx_notation.specs.Spelling.{sign_text, SpellsSuffix, SpellsToken, is_gap, SpellsTokens, names_differ, Spells}
+use Rattle.rx_notation.specs.Syntax.{Full, Short, Named, Labelled, Type_of, Suffix, Bare, Language, Datatype, IriOrLabel, Single, Predicate, Done, Document, are_flat}
+use Rattle.rx_notation.specs.Grammar.{Terminal, At_prefix, Small_a, Full_stop, Semicolon_sign, Comma_sign, Left_bracket, Right_bracket, Brackets, Left_parenthesis, Right_parenthesis, Parentheses, Token, terminal, declared, iri_or_label, quoted, document_tokens}
+use Rattle.rx_notation.specs.Spelling.{terminal_text, SpellsSuffix, SpellsToken, is_gap, SpellsTokens, names_differ, Spells}
 use Rattle.rx_notation.specs.Meaning.{are_known, Turtle}
 use Rattle.rx_notation.specs.Rows.{v, schema}
 use Rattle.rx_notation.specs.Texts.{short, wide, collection, empty_collection, offer, nested, DenotesNone, undeclared, declared_twice}
@@ -23,21 +23,21 @@ use Rattle.rx_notation.proofs.texts_hold.Goals as goal
 say : (gap text : Chars) (t : Token) {a : Chars} {f : List Token → List Token} → is_gap gap ≡ true → SpellsToken text t → Puts a f → Puts (text ++ (gap ++ a)) (λ ts. t ∷ f ts)
 say gap text t g h rest = puts_then (puts_token text t h) (adds_gap gap g rest)
 
-mark : (s : Sign) {a : Chars} {f : List Token → List Token} → Puts a f → Puts (sign_text s ++ (codes " " ++ a)) (λ ts. sign s ∷ f ts)
-mark s rest = say (codes " ") (sign_text s) (sign s) refl refl rest
+mark : (s : Terminal) {a : Chars} {f : List Token → List Token} → Puts a f → Puts (terminal_text s ++ (codes " " ++ a)) (λ ts. terminal s ∷ f ts)
+mark s rest = say (codes " ") (terminal_text s) (terminal s) refl refl rest
 
-stop : Puts (codes ".") (λ ts. sign Full_stop ∷ ts)
-stop = puts_token (codes ".") (sign Full_stop) refl
+stop : Puts (codes ".") (λ ts. terminal Full_stop ∷ ts)
+stop = puts_token (codes ".") (terminal Full_stop) refl
 
 -- a full stop, and a gap behind it
-stop_then : (gap : Chars) {a : Chars} {f : List Token → List Token} → is_gap gap ≡ true → Puts a f → Puts (codes "." ++ (gap ++ a)) (λ ts. sign Full_stop ∷ f ts)
-stop_then gap g rest = say gap (codes ".") (sign Full_stop) g refl rest
+stop_then : (gap : Chars) {a : Chars} {f : List Token → List Token} → is_gap gap ≡ true → Puts a f → Puts (codes "." ++ (gap ++ a)) (λ ts. terminal Full_stop ∷ f ts)
+stop_then gap g rest = say gap (codes ".") (terminal Full_stop) g refl rest
 
-full : (iri : Chars) {a : Chars} {f : List Token → List Token} → IsIri iri → Puts a f → Puts (iri_text iri ++ (codes " " ++ a)) (λ ts. noun (Named (Full iri)) ∷ f ts)
-full iri h rest = say (codes " ") (iri_text iri) (noun (Named (Full iri))) refl (record { is_iri = h; spelled = refl }) rest
+full : (iri : Chars) {a : Chars} {f : List Token → List Token} → IsIri iri → Puts a f → Puts (iri_text iri ++ (codes " " ++ a)) (λ ts. iri_or_label (Named (Full iri)) ∷ f ts)
+full iri h rest = say (codes " ") (iri_text iri) (iri_or_label (Named (Full iri))) refl (record { is_iri = h; spelled = refl }) rest
 
-named : (name local : Chars) {a : Chars} {f : List Token → List Token} → is_prefix_name name ≡ true → is_local_name local ≡ true → Puts a f → Puts ((name ++ (codes ":" ++ local)) ++ (codes " " ++ a)) (λ ts. noun (short name local) ∷ f ts)
-named name local h k rest = say (codes " ") (name ++ (codes ":" ++ local)) (noun (short name local)) refl (record { is_name = h; is_local = k; spelled = refl }) rest
+named : (name local : Chars) {a : Chars} {f : List Token → List Token} → is_prefix_name name ≡ true → is_local_name local ≡ true → Puts a f → Puts ((name ++ (codes ":" ++ local)) ++ (codes " " ++ a)) (λ ts. iri_or_label (short name local) ∷ f ts)
+named name local h k rest = say (codes " ") (name ++ (codes ":" ++ local)) (iri_or_label (short name local)) refl (record { is_name = h; is_local = k; spelled = refl }) rest
 
 prefix_name : (gap name : Chars) {a : Chars} {f : List Token → List Token} → is_gap gap ≡ true → is_prefix_name name ≡ true → Puts a f → Puts ((name ++ codes ":") ++ (gap ++ a)) (λ ts. declared name ∷ f ts)
 prefix_name gap name g h rest = say gap (name ++ codes ":") (declared name) g (record { is_name = h; spelled = refl }) rest
@@ -45,8 +45,8 @@ prefix_name gap name g h rest = say gap (name ++ codes ":") (declared name) g (r
 labels : (n : ℕ) → n < 10 → SpellsLabel (codes "_:b" ++ (48 + n) ∷ []) n
 labels n h = subst (λ z. SpellsLabel (codes "_:b" ++ z) n) (decimal_digit n h) (label_spelled n (omega (arith, h)))
 
-label : (n : ℕ) {a : Chars} {f : List Token → List Token} → n < 10 → Puts a f → Puts ((codes "_:b" ++ (48 + n) ∷ []) ++ (codes " " ++ a)) (λ ts. noun (Labelled n) ∷ f ts)
-label n h rest = say (codes " ") (codes "_:b" ++ (48 + n) ∷ []) (noun (Labelled n)) refl (labels n h) rest
+label : (n : ℕ) {a : Chars} {f : List Token → List Token} → n < 10 → Puts a f → Puts ((codes "_:b" ++ (48 + n) ∷ []) ++ (codes " " ++ a)) (λ ts. iri_or_label (Labelled n) ∷ f ts)
+label n h rest = say (codes " ") (codes "_:b" ++ (48 + n) ∷ []) (iri_or_label (Labelled n)) refl (labels n h) rest
 
 literal : (gap inside text behind : Chars) (suffix : Suffix) {a : Chars} {f : List Token → List Token} → is_gap gap ≡ true → SpellsString inside text → SpellsSuffix behind suffix → Puts a f
     → Puts ((codes "\"" ++ (inside ++ (codes "\"" ++ behind))) ++ (gap ++ a)) (λ ts. quoted text suffix ∷ f ts)
@@ -63,9 +63,9 @@ plain inside text s rest = literal (codes " ") inside text [] Bare refl s refl r
 wide_spelled : SpellsTokens wide.text (document_tokens wide.document)
 wide_spelled = all_tokens wide.text (document_tokens wide.document) (
     (mark At_prefix (prefix_name (codes " ") (codes "p") refl refl (full (v []) (record { scheme = refl; clean = refl }) (stop_then (codes "\n") refl
-    (mark At_prefix (prefix_name (codes "\n") (codes "q-1") refl refl (say (codes "  ") (iri_text (codes "http://q.example/")) (noun (Named (Full (codes "http://q.example/")))) refl (record { is_iri = record { scheme = refl; clean = refl }; spelled = refl })
+    (mark At_prefix (prefix_name (codes "\n") (codes "q-1") refl refl (say (codes "  ") (iri_text (codes "http://q.example/")) (iri_or_label (Named (Full (codes "http://q.example/")))) refl (record { is_iri = record { scheme = refl; clean = refl }; spelled = refl })
     (stop_then (codes "\n \n") refl
-    (named (codes "p") (codes "s") refl refl (mark Small_a (named (codes "p") (codes "T") refl refl (say (codes "  ") (codes ",") (sign Comma_sign) refl refl (label 7 (omega arith)
+    (named (codes "p") (codes "s") refl refl (mark Small_a (named (codes "p") (codes "T") refl refl (say (codes "  ") (codes ",") (terminal Comma_sign) refl refl (label 7 (omega arith)
     (mark Semicolon_sign (mark Semicolon_sign (named (codes "q-1") (codes "_x") refl refl
     (literal (codes " ") (codes "a\\\"b\\n") (codes "a\"b\n") (codes "^^p:d") (Datatype (Short (codes "p") (codes "d"))) refl
     (itself 97 refl (escaped 34 34 refl (itself 98 refl (escaped 110 10 refl nothing)))) (codes "p:d", record { is_name = refl; is_local = refl; spelled = refl }, refl)
@@ -100,7 +100,7 @@ nested_spelled = all_tokens nested.text (document_tokens nested.document) (
 undeclared_document : Document
 undeclared_document = record {
   prefixes = (codes "p", v []) ∷ [];
-  statements = record { subject = short (codes "q") (codes "s"); predicates = Predicate Type_of (Single (Noun (short (codes "p") (codes "T")))) Done } ∷ [];
+  statements = record { subject = short (codes "q") (codes "s"); predicates = Predicate Type_of (Single (IriOrLabel (short (codes "p") (codes "T")))) Done } ∷ [];
 }
 
 undeclared_spelled : Spells undeclared undeclared_document
@@ -121,7 +121,7 @@ undeclared_none graph h =
 twice_document : Document
 twice_document = record {
   prefixes = (codes "p", v []) ∷ (codes "p", v []) ∷ [];
-  statements = record { subject = short (codes "p") (codes "s"); predicates = Predicate Type_of (Single (Noun (short (codes "p") (codes "T")))) Done } ∷ [];
+  statements = record { subject = short (codes "p") (codes "s"); predicates = Predicate Type_of (Single (IriOrLabel (short (codes "p") (codes "T")))) Done } ∷ [];
 }
 
 twice_spelled : SpellsTokens declared_twice (document_tokens twice_document)

@@ -1,6 +1,6 @@
 //! Worked rows: lists of triples, and the text of the graph that copying and numbering give.
 use rx_graph::{Graph, copy_patterns_owned, relabel_owned};
-use rx_nquads::{WriteError, text, write};
+use rx_nquads::{WriteError, put_quad, text, write};
 use rx_ports::MemSink;
 use rx_terms::{Blank, Iri, Lang, Literal, LiteralKind, Node, Term, Text, Triple, TripleList};
 use std::alloc::Global;
@@ -114,7 +114,7 @@ pub(crate) fn list(alloc: Global, rows: &[Row]) -> Result<TripleList, Fail> {
 }
 
 /// What copying and numbering make of the list.
-fn graph(alloc: Global, triples: TripleList) -> Result<Graph, Fail> {
+pub(crate) fn graph(alloc: Global, triples: TripleList) -> Result<Graph, Fail> {
     let copied = copy_patterns_owned(alloc, triples)?;
     Ok(relabel_owned(alloc, copied)?)
 }
@@ -202,6 +202,35 @@ fn quads_have_the_graph_name(rt: HostRuntime) -> Result<(), Fail> {
     let holds = is_written(rt.alloc(), QUAD, Some(&name), wanted);
     drop(name);
     assert!(rt; holds?);
+    Ok(())
+}
+
+/// The text of the row's triple behind a comment.
+fn put_behind(alloc: Global, row: Row) -> Result<Vec<u8>, Fail> {
+    let triple = triple(alloc, row)?;
+    let mut lines = Vec::new(alloc);
+    if lines.extend_from_slice(b"# one\n").is_err() {
+        drop(triple);
+        return Err("no memory".into());
+    }
+    let put = put_quad(alloc, &mut lines, &triple, None);
+    drop(triple);
+    match put {
+        Ok(()) => Ok(lines),
+        Err(error) => {
+            drop(lines);
+            Err(Fail::from(error))
+        }
+    }
+}
+
+#[test]
+fn a_quad_is_put_behind_a_text(rt: HostRuntime) -> Result<(), Fail> {
+    let lines = put_behind(rt.alloc(), QUAD[0])?;
+    let wanted = "# one\n<http://h.example/s> <http://v.example/p> \"Hi\" .\n";
+    let holds = lines.as_slice() == wanted.as_bytes();
+    drop(lines);
+    assert!(rt; holds);
     Ok(())
 }
 

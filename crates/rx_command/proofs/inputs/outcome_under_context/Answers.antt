@@ -6,7 +6,7 @@ use Rattle.rx_rdfa.specs.Names.{Context}
 use Rattle.rx_job.specs.Words.{Asked, Task, Extraction}
 use Rattle.rx_job.specs.Jobs.{page_by}
 use Rattle.rx_command.specs.Files.{TakesOf}
-use Rattle.rx_reading.specs.Ways.{Way}
+use Rattle.rx_nest.specs.Ways.{Way}
 use Rattle.rx_command.specs.Reading.{for_triples, for_faults, way_for, ReadsClean}
 use Rattle.rx_command.specs.Outcome.{way_in}
 use Rattle.rx_command.specs.Inputs.{PageText, PageRefused, JobRefused}

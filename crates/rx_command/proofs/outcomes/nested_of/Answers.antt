@@ -1,6 +1,6 @@
 use Rattle.std.proofs.Common.{ap, encode_utf8_all}
 use Rattle.rx_shapes.specs.Table.{shape_in}
-use Rattle.rx_nested.specs.Nesting.{nested}
+use Rattle.rx_notation.specs.Nesting.{nested}
 use Rattle.rx_command.proofs.outcomes.nested_of.Goals as goal
 
 pub returns-in-Ok-clause-spelled : goal.returns-in-Ok-clause-spelled

@@ -1,4 +1,4 @@
-use Rattle.std.proofs.Common.{List, ℕ, Ok}
+use Rattle.std.proofs.Common.{◌∙◌, List, ℕ, Ok}
 use Rattle.std.specs.Str.{chars}
 use Rattle.rx_rdfa.specs.Tree.{Tag}
 use Rattle.rx_names.specs.Lines.{NamesStand}
@@ -10,3 +10,6 @@ pub returns : goal.returns
 returns c =
     let P : List Tag → Type 0 = λ line. NamesStand (names_seen c.args.names.now) line in
     made-language {E = ℕ} (Ok c.in_ok-field.field-0) (chars c.in-Some.language.now) P c.in_ok-field.ensures c.in-Some.ensures.line
+
+pub returns-then-is_language : goal.returns-then-is_language
+returns-then-is_language c = λ line stands. c.is_language.ensures c.if-is_language.true ∙ c.in-Some.ensures.line line stands

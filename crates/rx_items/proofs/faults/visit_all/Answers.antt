@@ -1,5 +1,5 @@
 use Rattle.std.proofs.Common.{◌∙◌, ◌<◌, ◌≤◌, ℕ, List, length, ap, subst}
-use Rattle.rx_item_table.specs.declared.rows.Row.{Row}
+use Rattle.rx_items.specs.declared.rows.Row.{Row}
 use Rattle.rx_items.specs.Pages.{VisitsGive}
 use Rattle.rx_items.proofs.VisitLemmas.{err_told}
 use Rattle.rx_items.proofs.PageLemmas.{as_long, row_there, tops_err, visited_on, visited_end}

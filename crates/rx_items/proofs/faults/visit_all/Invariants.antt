@@ -2,7 +2,7 @@ use Rattle.std.proofs.Common.{◌≡◌, [], List, take}
 use Rattle.std.specs.Prelude.{flat_map}
 use Rattle.rx_terms.specs.Text.{Chars}
 use Rattle.rx_microdata.specs.Elements.{Placed}
-use Rattle.rx_item_properties.specs.Held.{HoldsRows}
+use Rattle.rx_items.specs.Held.{HoldsRows}
 use Rattle.rx_items.specs.Expanding.{NoFault}
 use Rattle.rx_items.specs.Pages.{top_visits}
 use Rattle.rx_items.proofs.faults.visit_all.Given as goal

@@ -1,8 +1,8 @@
 use Rattle.std.proofs.Common.{◌≡◌}
 use Rattle.rx_microdata.specs.Elements.{names_of}
-use Rattle.rx_item_properties.specs.Held.{ShowsTokens}
-use Rattle.rx_item_properties.specs.declared.kept.Tokens.TheVariants as tokens
-use Rattle.rx_item_properties.proofs.HoldLemmas.{place_is}
+use Rattle.rx_items.specs.Held.{ShowsTokens}
+use Rattle.rx_items.specs.declared.kept.Tokens.TheVariants as tokens
+use Rattle.rx_items.proofs.HoldLemmas.{place_is}
 use Rattle.rx_items.proofs.NameLemmas.{no_keys, one_key, several_keys}
 use Rattle.rx_json.proofs.GrowLemmas.{then_ok}
 use Rattle.rx_items.proofs.named.add_names.Goals as goal

@@ -1,5 +1,5 @@
 use Rattle.rx_microdata.specs.Visits.{standard_bounds}
-use Rattle.rx_item_table.specs.Rows.{outcome_in}
+use Rattle.rx_items.specs.Rows.{outcome_in}
 use Rattle.rx_items.specs.Pages.{TextGives}
 use Rattle.rx_items.proofs.VisitLemmas.{err_told}
 use Rattle.rx_items.proofs.PageLemmas.{text_given, text_refused}

@@ -5,7 +5,7 @@ use Rattle.rx_json.proofs.GrowLemmas.{then_ok}
 use Rattle.serde_json.specs.Data.{no_members}
 use Rattle.rx_terms.specs.Text.{Chars}
 use Rattle.rx_microdata.specs.Json.{with_id}
-use Rattle.rx_item_table.specs.Showing.{ShowsWord}
+use Rattle.rx_items.specs.Showing.{ShowsWord}
 use Rattle.rx_items.proofs.WritingLemmas.{id_told}
 use Rattle.rx_items.proofs.parts.write_id.Goals as goal
 

@@ -4,9 +4,9 @@ use Rattle.rx_json.specs.Events.{data_events}
 use Rattle.rx_json.proofs.GrowLemmas.{one, both, told_as, object_made, turn, then_ok}
 use Rattle.rx_microdata.specs.Elements.{is_item}
 use Rattle.rx_microdata.specs.Json.{json_of_item}
-use Rattle.rx_item_table.specs.Rows.{properties_in}
-use Rattle.rx_item_properties.specs.Held.{is_there}
-use Rattle.rx_item_properties.proofs.HoldLemmas.{all_stand}
+use Rattle.rx_items.specs.Rows.{properties_in}
+use Rattle.rx_items.specs.Held.{is_there}
+use Rattle.rx_items.proofs.HoldLemmas.{all_stand}
 use Rattle.rx_items.specs.Named.{keys_in, keys_seen, name_seen, ending, events_behind, value_at, grouped_at}
 use Rattle.rx_items.proofs.NameLemmas.{by_name_told}
 use Rattle.rx_items.proofs.WritingLemmas.{item_told, member_turn, member_end, value_none, value_item, data_told}

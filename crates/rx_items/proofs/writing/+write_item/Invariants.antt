@@ -2,7 +2,7 @@ use Rattle.std.proofs.Common.{◌+◌, ◌*◌, List, drop, None}
 use Rattle.rx_json.proofs.GrowLemmas.{Left}
 use Rattle.rx_terms.specs.Text.{Chars}
 use Rattle.rx_microdata.specs.Elements.{Placed}
-use Rattle.rx_item_properties.specs.Held.{HoldsRows}
+use Rattle.rx_items.specs.Held.{HoldsRows}
 use Rattle.rx_items.specs.Named.{keys_seen, name_seen, events_behind}
 use Rattle.rx_items.proofs.writing.+write_item.Given as goal
 

@@ -1,7 +1,7 @@
 use Rattle.std.proofs.Common.{filter, map}
 use Rattle.rx_microdata.specs.Elements.{is_top_level}
 use Rattle.rx_microdata.specs.Json.{json_of_item}
-use Rattle.rx_item_table.specs.Rows.{properties_in}
+use Rattle.rx_items.specs.Rows.{properties_in}
 use Rattle.rx_json.proofs.GrowLemmas.{then_ok}
 use Rattle.rx_items.proofs.WritingLemmas.{page_made}
 use Rattle.rx_items.proofs.writing.write_page.Goals as goal

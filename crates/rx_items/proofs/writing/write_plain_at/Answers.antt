@@ -5,7 +5,7 @@ use Rattle.rx_json.proofs.GrowLemmas.{one, told_as, then_ok}
 use Rattle.rx_microdata.specs.Elements.{is_item}
 use Rattle.rx_microdata.specs.Facts.{said}
 use Rattle.rx_microdata.specs.Json.{string_of}
-use Rattle.rx_item_properties.specs.Held.{is_there}
+use Rattle.rx_items.specs.Held.{is_there}
 use Rattle.rx_items.specs.Named.{value_at}
 use Rattle.rx_items.proofs.WritingLemmas.{value_none, value_plain, data_told}
 use Rattle.rx_items.proofs.writing.write_plain_at.Goals as goal

@@ -3,7 +3,7 @@ use Rattle.std.specs.Prelude.{flat_map}
 use Rattle.rx_json.specs.Events.{Grows, each_events}
 use Rattle.rx_terms.specs.Text.{Chars}
 use Rattle.rx_microdata.specs.Elements.{Placed}
-use Rattle.rx_item_properties.specs.Held.{HoldsRows}
+use Rattle.rx_items.specs.Held.{HoldsRows}
 use Rattle.rx_items.specs.Pages.{top_data}
 use Rattle.rx_items.proofs.writing.write_tops.Given as goal
 

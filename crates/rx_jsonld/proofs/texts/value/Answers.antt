@@ -3,7 +3,7 @@ use Rattle.serde_json.specs.Data.{Data}
 use Rattle.serde_json.specs.Written.{has_float}
 use Rattle.rx_model.specs.Seen.{triples_seen}
 use Rattle.rx_shapes.specs.Table.{shape_in}
-use Rattle.rx_notation.specs.Laws.{proper_triple}
+use Rattle.rx_nquads.specs.Quads.{proper_triple}
 use Rattle.rx_jsonld.specs.Meaning.{JsonLd}
 use Rattle.rx_jsonld.proofs.Denotes.{value_denotes}
 use Rattle.rx_jsonld.proofs.EventLemmas.{if_ok}

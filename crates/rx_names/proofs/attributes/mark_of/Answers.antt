@@ -5,7 +5,7 @@ use Rattle.rx_names.proofs.attributes.mark_of.Goals as goal
 
 pub returns-clause-bytes : goal.returns-clause-bytes
 unfolding mark_of
-returns-clause-bytes c = ap (λ (f : ℕ). 1 * 2 ^ ((f + length c.args.name.now % 64 * 5) % 64) % 2 ^ 64) (c.from.ensures ∙ c.first_byte.ensures)
+returns-clause-bytes c = ap (λ (f : ℕ). 1 * 2 ^ ((f + length c.args.name.now % 64 * 37) % 64) % 2 ^ 64) (c.from.ensures ∙ c.first_byte.ensures)
 
 pub returns-clause-characters : goal.returns-clause-characters
 returns-clause-characters c = returns-clause-bytes c ∙ mark_of_chars c.args.name.now c.utf8.name

@@ -1,6 +1,6 @@
 use Rattle.std.proofs.Common.{◌∙◌}
 use Rattle.rx_model.specs.Terms.{Blank}
-use Rattle.rx_shapes.specs.Shapes.{rdf_first, rdf_rest}
+use Rattle.rx_model.specs.Vocabulary.{rdf_first, rdf_rest}
 use Rattle.rx_turtle.specs.Due.{list_of}
 use Rattle.rx_turtle.proofs.DueLemmas.{cell_pushed}
 use Rattle.rx_turtle.proofs.SaidLemmas.{found_with}

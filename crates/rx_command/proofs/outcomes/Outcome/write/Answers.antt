@@ -5,6 +5,11 @@ use Rattle.rx_command.specs.Written.{text_of, Denoted}
 use Rattle.rx_command.specs.declared.outcomes.Outcome.{Outcome}
 use Rattle.rx_command.proofs.outcomes.Outcome.write.Goals as goal
 
+pub returns-in-Quads-clause-ok : goal.returns-in-Quads-clause-ok
+returns-in-Quads-clause-ok g c =
+    subst (λ (bytes : List ℕ). OnOk c.write.result (Moves {A = List ℕ} (GrowsBy bytes) (g.O.Sink.held c.args.out.now) (g.O.Sink.held c.write.new.sink)))
+    (search rules) c.write.ensures.ok
+
 pub returns-in-Quads-clause-partly : goal.returns-in-Quads-clause-partly
 returns-in-Quads-clause-partly g c =
     subst (λ (bytes : List ℕ). IsErrOf c.write.result error.Failed → Moves {A = List ℕ} (GrowsByPart bytes) (g.O.Sink.held c.args.out.now) (g.O.Sink.held c.write.new.sink))

@@ -2,7 +2,7 @@ use Rattle.std.proofs.Common.{OnOk, IsErrOf, map, ℕ, List, subst}
 use Rattle.std.specs.Str.{chars}
 use Rattle.rx_ports.specs.Shelves.{Moves, GrowsBy, GrowsByPart}
 use Rattle.rx_pieces.specs.declared.errors.WriteError.TheVariants as error
-use Rattle.rx_notation.specs.Laws.{proper_triple}
+use Rattle.rx_nquads.specs.Quads.{proper_triple}
 use Rattle.rx_notation.specs.Meaning.{NestedTurtle}
 use Rattle.rx_command.specs.Shaped.{Shaped}
 use Rattle.rx_command.specs.Written.{nested_text}

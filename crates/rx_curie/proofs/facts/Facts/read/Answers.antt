@@ -11,7 +11,7 @@ pub returns : goal.returns
 returns c = λ line stands.
     let context = (names_seen c.args.names.now).context in
     let beside = c.is_some-beside.ensures ∙ is_some-seen c.value-property.result ∙ ap is_some c.value-property.ensures in
-    let kind = c.kind_of-self.ensures ∙ ap the.kind_of c.requires.name in
+    let kind = c.kind_of-self.ensures ∙ ap the.kind_of c.name.ensures in
     let about = c.in_ok-put_resource.ensures line stands ∙ ap (option_and_then (the.resource_of context line)) c.value.ensures in
     let resource = c.in_ok-put_resource-2.ensures line stands ∙ ap (option_and_then (the.resource_of context line)) c.value-2.ensures in
     let href = c.in_ok-put_reference.ensures ∙ ap (option_map the.RelativeRef) c.value-3.ensures in

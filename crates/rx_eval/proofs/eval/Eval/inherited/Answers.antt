@@ -6,7 +6,7 @@ use Rattle.rx_eval.proofs.eval.Eval.inherited.Goals as goal
 
 pub returns-clause-frames : goal.returns-clause-frames
 returns-clause-frames c =
-    let around = around_is c.self.inside.page _ _ c.self.inside.frames.items c.around-context.ensures c.as_slice.ensures.value in
+    let around = around_is c.self.inside.page _ _ c.self.inside.frames.items c.self.inside.skipped c.around-context.ensures c.as_slice.ensures.value in
     rw (← c.self.view_is) (record {
       subject = ap (λ (x : Inherited ℕ ℕ). x.subject) around;
       object = ap (λ (x : Inherited ℕ ℕ). x.object) around;

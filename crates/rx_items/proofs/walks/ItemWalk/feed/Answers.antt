@@ -1,5 +1,5 @@
 use Rattle.std.proofs.Common.{sym, subst}
-use Rattle.rx_item_table.specs.Growing.{IsIdle}
+use Rattle.rx_items.specs.Growing.{IsIdle}
 use Rattle.rx_items.specs.Walks.{Walked, ItemWalkStands}
 use Rattle.rx_items.proofs.walks.ItemWalk.feed.Goals as goal
 

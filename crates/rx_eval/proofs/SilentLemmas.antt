@@ -1,0 +1,121 @@
+-- An element of which nothing is said, below the root, by the rules: it is skipped, adds nothing and has no label.
+use Rattle.std.proofs.Common.{◌≡◌, ◌∙◌, ◌<◌, ℕ, zero, suc, Bool, true, false, List, [], ◌∷◌, ◌++◌, length, Option, Some, None, refl, sym, ap, append-nil, arith}
+use Rattle.std.specs.Prelude.{is_none, ◌==◌, if◌then◌else◌}
+use Rattle.std.proofs.lemmas.Bool.Decides.{nat_tests}
+use Rattle.rx_terms.specs.Text.{Chars}
+use Rattle.rx_terms.proofs.Bools.{both}
+use Rattle.rx_model.specs.Terms.{Triple}
+use Rattle.rx_rdfa.specs.Facts.{Facts}
+use Rattle.rx_rdfa.specs.Renaming.{labels}
+use Rattle.rx_rdfa.specs.Resources.{Inherited, Standing, Resources, resources, is_root}
+use Rattle.rx_rdfa.specs.Element.{start_of}
+use Rattle.rx_element.specs.Found.{names_nothing, says_nothing}
+use Rattle.rx_element.specs.Labels.{Numbered, draw}
+use Rattle.rx_element.specs.Moment.{moment}
+use Rattle.rx_element.specs.Places.{level_at, path_at, standing_by}
+use Rattle.rx_eval.specs.Ending.{Closes}
+use Rattle.rx_eval.specs.Keeping.{gathers_some}
+use Rattle.rx_eval.specs.Opened.{handed_on, skipped_state, Opens}
+use Rattle.rx_eval.specs.Skipping.{skipped_frame}
+use Rattle.rx_eval.specs.States.{State, Frame}
+use Rattle.rx_eval.proofs.EnterLemmas.{below_is_handed, below_skipped, lists_skipped, gathers_skipped}
+use Rattle.rx_eval.proofs.GatherLemmas.{no_own, no_below}
+
+none_is : {A : Type 0} (o : Option A) → is_none o ≡ true → o ≡ None
+none_is None h = refl
+none_is (Some a) h = absurd (cc)
+
+record Silent (facts : Facts) : Type 0 where
+  about : facts.about ≡ None
+  resource : facts.resource ≡ None
+  href : facts.href ≡ None
+  src : facts.src ≡ None
+  rel : facts.rel ≡ None
+  rev : facts.rev ≡ None
+  property : facts.property ≡ None
+  types : facts.types ≡ None
+  vocab : facts.vocab ≡ None
+
+silent : (facts : Facts) → says_nothing facts ≡ true → Silent facts
+silent facts h =
+    let rel = both (is_none facts.rel) _ h in
+    let rev = both (is_none facts.rev) _ rel.1 in
+    let property = both (is_none facts.property) _ rev.1 in
+    let types = both (is_none facts.types) _ property.1 in
+    let vocab = both (is_none facts.vocab) _ types.1 in
+    let about = both (is_none facts.about) _ vocab.1 in
+    let resource = both (is_none facts.resource) _ about.1 in
+    let href = both (is_none facts.href) _ resource.1 in
+    record {
+      about = none_is facts.about about.0;
+      resource = none_is facts.resource resource.0;
+      href = none_is facts.href href.0;
+      src = none_is facts.src href.1;
+      rel = none_is facts.rel rel.0;
+      rev = none_is facts.rev rev.0;
+      property = none_is facts.property property.0;
+      types = none_is facts.types types.0;
+      vocab = none_is facts.vocab vocab.0;
+    }
+
+no_labels : (facts : Facts) → Silent facts → labels facts ≡ []
+no_labels facts s = rw (s.about, s.resource, s.href, s.src, s.types) refl
+
+no_root : (depth : ℕ) → 0 < depth → is_root (path_at (level_at depth)) ≡ false
+no_root zero h = absurd (omega (arith, h))
+no_root (suc zero) h = refl
+no_root (suc (suc n)) h = refl
+
+module _ (drawn : Numbered) (fresh : ℕ) (base : Chars) (depth : ℕ) (around : Inherited ℕ ℕ) (facts : Facts) (s : Silent facts) (h : 0 < depth) where
+  abbrev at : Standing ℕ ℕ
+  at = standing_by (level_at depth) around facts
+
+  skips : (resources (moment drawn fresh 0 0) base at).skipped ≡ true
+  unfolding resources
+  skips = rw (s.rel, s.rev, s.property, s.about, s.resource, s.href, s.src, s.types, no_root depth h) refl
+
+  nothing : start_of (moment drawn fresh 0 0) base at ≡ []
+  unfolding start_of resources
+  nothing = rw (s.vocab, skips) refl
+
+-- ---- on the stack
+
+pub skipped_opens : (old : State) (facts : Facts) → says_nothing facts ≡ true → 0 < length old.frames → Opens old facts (skipped_state old)
+skipped_opens old facts says h =
+    let s : Silent facts = silent facts says in
+    let depth : ℕ = length old.frames in
+    let around : Inherited ℕ ℕ = handed_on old.page old.frames in
+    let at : Standing ℕ ℕ = standing_by (level_at depth) around facts in
+    let here : Resources ℕ = resources (moment old.labels old.drawn 0 0) old.base at in
+    let skip : here.skipped ≡ true = skips old.labels old.drawn old.base depth around facts s h in
+    record {
+      frame = skipped_frame around;
+      fresh = old.drawn;
+      drawing = ap (draw old.labels old.drawn) (no_labels facts s);
+      pushed = refl;
+      context =
+          below_is_handed old.labels old.drawn old.base at here (length old.owners) around refl
+          (below_skipped old.labels old.drawn old.base at here (length old.owners) skip);
+      start = sym (ap (λ (l : List (Triple ℕ)). old.out ++ l) (nothing old.labels old.drawn old.base depth around facts s h) ∙ append-nil old.out);
+      lists = lists_skipped old.labels old.drawn old.base at here refl old.owners skip;
+      gathers = gathers_skipped old.labels old.drawn old.base at here refl skip;
+      text = tt;
+      own = no_own old.labels old.drawn old.base at here refl (length old.owners) skip;
+      below_own = no_below old.labels old.drawn old.base at here refl (length old.owners) skip;
+      counted = refl;
+      rest = (refl, refl, refl, refl, refl, refl, refl);
+    }
+
+-- the last one is gone again, which isn't the root
+pub skipped_closes : (old : State) (frames : List Frame) (a : Inherited ℕ ℕ) → old.frames ≡ frames ++ skipped_frame a ∷ [] → 0 < length frames
+    → old.kept ≡ (if gathers_some frames then old.kept else []) → Closes old (record old { frames = frames })
+skipped_closes old frames a e h k =
+    let z : (length frames == 0) ≡ false = grind (arith, nat_tests) in
+    record {
+      frame = skipped_frame a;
+      popped = e;
+      endings = λ front chars at. rw z refl;
+      kept = k;
+      ended = rw z refl;
+      rest = (refl, refl, refl, refl, refl, refl);
+    }

@@ -1,0 +1,104 @@
+-- The frames of all open elements, where the skipped ones are counted.
+use Rattle.std.proofs.Common.{◌≡◌, ◌∙◌, ◌<◌, ◌≤◌, ◌-◌, ℕ, zero, suc, Bool, false, List, [], ◌∷◌, ◌++◌, length, refl, sym, ap, arith, append_assoc, length-append}
+use Rattle.rx_rdfa.specs.Resources.{Inherited}
+use Rattle.rx_element.specs.Contexts.{context_seen}
+use Rattle.rx_element.specs.declared.contexts.Context.{Context}
+use Rattle.rx_eval.specs.declared.frames.Frame.{Frame as CodeFrame}
+use Rattle.rx_eval.specs.Opening.{around_in}
+use Rattle.rx_eval.specs.Opened.{handed_on}
+use Rattle.rx_eval.specs.States.{Frame, frame_seen}
+use Rattle.rx_eval.specs.Keeping.{gathers_some}
+use Rattle.rx_eval.specs.Skipping.{skipped_frame, skipped_frames, all_frames, IsRooted}
+
+-- one more with a frame of its own, inside as many skipped ones as it counts
+pub framed_more : (a : Inherited ℕ ℕ) (fs : List CodeFrame) (f : CodeFrame) → all_frames a (fs ++ f ∷ []) 0 ≡ all_frames a fs f.skipped ++ frame_seen f ∷ []
+framed_more a [] f = refl
+framed_more a (x ∷ fs) f =
+    ap (λ (l : List Frame). skipped_frames a x.skipped ++ frame_seen x ∷ l) (framed_more (context_seen x.context) fs f)
+    ∙ sym (append_assoc (skipped_frames a x.skipped) (frame_seen x ∷ all_frames (context_seen x.context) fs f.skipped) (frame_seen f ∷ []))
+
+-- ---- the context behind the frames
+
+handed_skipped : (a : Inherited ℕ ℕ) (n : ℕ) → handed_on a (skipped_frames a n) ≡ a
+handed_skipped a zero = refl
+handed_skipped a (suc n) = handed_skipped a n
+
+handed_joined : (a : Inherited ℕ ℕ) (xs ys : List Frame) → handed_on a (xs ++ ys) ≡ handed_on (handed_on a xs) ys
+handed_joined a [] ys = refl
+handed_joined a (x ∷ xs) ys = handed_joined x.context xs ys
+
+pub handed_all : (page : Context) (fs : List CodeFrame) (n : ℕ) → handed_on (context_seen page) (all_frames (context_seen page) fs n) ≡ context_seen (around_in page fs)
+handed_all page [] n = handed_skipped (context_seen page) n
+handed_all page (x ∷ fs) n =
+    handed_joined (context_seen page) (skipped_frames (context_seen page) x.skipped) (frame_seen x ∷ all_frames (context_seen x.context) fs n)
+    ∙ handed_all x.context fs n
+
+-- ---- one skipped more
+
+skipped_more : (a : Inherited ℕ ℕ) (n : ℕ) → skipped_frames a (suc n) ≡ skipped_frames a n ++ skipped_frame a ∷ []
+skipped_more a zero = refl
+skipped_more a (suc n) = ap (λ (l : List Frame). skipped_frame a ∷ l) (skipped_more a n)
+
+counted_more : (page : Context) (fs : List CodeFrame) (n : ℕ)
+    → all_frames (context_seen page) fs (suc n) ≡ all_frames (context_seen page) fs n ++ skipped_frame (context_seen (around_in page fs)) ∷ []
+counted_more page [] n = skipped_more (context_seen page) n
+counted_more page (x ∷ fs) n =
+    ap (λ (l : List Frame). skipped_frames (context_seen page) x.skipped ++ frame_seen x ∷ l) (counted_more x.context fs n)
+    ∙ sym (append_assoc (skipped_frames (context_seen page) x.skipped) (frame_seen x ∷ all_frames (context_seen x.context) fs n) (skipped_frame (context_seen (around_in x.context fs)) ∷ []))
+
+pub one_more : (page : Context) (fs : List CodeFrame) (m n : ℕ) → m ≡ suc n
+    → all_frames (context_seen page) fs m
+    ≡ all_frames (context_seen page) fs n ++ skipped_frame (handed_on (context_seen page) (all_frames (context_seen page) fs n)) ∷ []
+one_more page fs m n e =
+    ap (all_frames (context_seen page) fs) e ∙ counted_more page fs n ∙ ap (λ (a : Inherited ℕ ℕ). all_frames (context_seen page) fs n ++ skipped_frame a ∷ []) (sym (handed_all page fs n))
+
+-- ---- how many there are
+
+length_skipped : (a : Inherited ℕ ℕ) (n : ℕ) → length (skipped_frames a n) ≡ n
+length_skipped a zero = refl
+length_skipped a (suc n) = ap suc (length_skipped a n)
+
+grown : (a : Inherited ℕ ℕ) (fs : List CodeFrame) (n : ℕ) → length (all_frames a fs (suc n)) ≡ suc (length (all_frames a fs n))
+grown a [] n = refl
+grown a (x ∷ fs) n =
+    let l = length-append (skipped_frames a x.skipped) (frame_seen x ∷ all_frames (context_seen x.context) fs n) in
+    let k = length-append (skipped_frames a x.skipped) (frame_seen x ∷ all_frames (context_seen x.context) fs (suc n)) in
+    omega (arith, l, k, grown (context_seen x.context) fs n)
+
+pub one_longer : (a : Inherited ℕ ℕ) (fs : List CodeFrame) (m n : ℕ) → m ≡ suc n → length (all_frames a fs m) ≡ suc (length (all_frames a fs n))
+one_longer a fs m n e = ap (λ (k : ℕ). length (all_frames a fs k)) e ∙ grown a fs n
+
+-- no more are skipped than are open
+pub skipped_fit : (a : Inherited ℕ ℕ) (fs : List CodeFrame) (n : ℕ) → n ≤ length (all_frames a fs n)
+skipped_fit a [] n = omega (arith, length_skipped a n)
+skipped_fit a (x ∷ fs) n =
+    let l = length-append (skipped_frames a x.skipped) (frame_seen x ∷ all_frames (context_seen x.context) fs n) in
+    omega (arith, l, skipped_fit (context_seen x.context) fs n)
+
+-- inside a skipped element that isn't the root
+pub rooted_above : (a : Inherited ℕ ℕ) (fs : List CodeFrame) (n : ℕ) → IsRooted fs n → 0 < n → 0 < length (all_frames a fs (n - 1))
+rooted_above a [] n r h = absurd (omega (arith, r, h))
+rooted_above a (x ∷ fs) n r h =
+    let l = length-append (skipped_frames a x.skipped) (frame_seen x ∷ all_frames (context_seen x.context) fs (n - 1)) in omega (arith, l)
+
+pub rooted_more : (fs : List CodeFrame) (f : CodeFrame) → IsRooted fs f.skipped → IsRooted (fs ++ f ∷ []) 0
+rooted_more [] f r = r
+rooted_more (x ∷ fs) f r = r
+
+pub rooted_less : (fs : List CodeFrame) (f : CodeFrame) (n : ℕ) → IsRooted (fs ++ f ∷ []) n → IsRooted fs f.skipped
+rooted_less [] f n r = r
+rooted_less (x ∷ fs) f n r = r
+
+pub rooted_in : (a : Inherited ℕ ℕ) (fs : List CodeFrame) (n m : ℕ) → IsRooted fs n → 0 < length (all_frames a fs n) → IsRooted fs m
+rooted_in a [] n m r h = let l = length_skipped a n in absurd (omega (arith, l, r, h))
+rooted_in a (x ∷ fs) n m r h = r
+
+-- ---- which gather their text
+
+pub none_gathers : (a : Inherited ℕ ℕ) (n : ℕ) → gathers_some (skipped_frames a n) ≡ false
+none_gathers a zero = refl
+none_gathers a (suc n) = none_gathers a n
+
+pub others_gather : (a : Inherited ℕ ℕ) (n : ℕ) (fs : List Frame) → gathers_some (skipped_frames a n ++ fs) ≡ gathers_some fs
+others_gather a zero fs = refl
+others_gather a (suc n) fs = others_gather a n fs

@@ -1,6 +1,0 @@
-use Rattle.std.proofs.Common.{◌≡◌, ◌++◌, drop}
-use Rattle.rx_item_properties.specs.Disjoint.{unshared}
-use Rattle.rx_item_properties.proofs.disjoint.disjoint.Given as goal
-
-abbrev pub invariant-loop-run : goal.invariant-loop-run
-invariant-loop-run l = l.list.items ++ unshared l.end (drop l.run-index l.runs) ≡ unshared 0 l.runs

@@ -1,7 +1,0 @@
-use Rattle.std.proofs.Common.{rules}
-use Rattle.std.proofs.lemmas.List.Sorted.{IsNonDecreasingBy-from_sort_by_key}
-use Rattle.rx_item_properties.specs.declared.kept.Run.{Run}
-use Rattle.rx_item_properties.proofs.disjoint.sort_by_begin.Goals as goal
-
-pub returns-clause-sorted : goal.returns-clause-sorted
-returns-clause-sorted c = IsNonDecreasingBy-from_sort_by_key (λ (run : Run). run.from) _ c.sort_unstable_by_key.ensures.sorted (λ a r q k. search rules)

@@ -1,6 +1,0 @@
-use Rattle.std.proofs.Common.{◌≡◌, ◌&&◌, nat_lt, drop}
-use Rattle.std.specs.List.{list_all}
-use Rattle.rx_item_properties.proofs.distinct.is_unbroken.Given as goal
-
-abbrev pub invariant-loop-byte : goal.invariant-loop-byte
-invariant-loop-byte l = (l.all && list_all (λ b. nat_lt 32 b) (drop l.byte-index l.byte-items)) ≡ list_all (λ b. nat_lt 32 b) l.text

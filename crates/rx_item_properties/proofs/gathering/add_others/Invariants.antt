@@ -1,6 +1,0 @@
-use Rattle.std.proofs.Common.{◌≡◌, ◌++◌, take, filter}
-use Rattle.rx_item_properties.specs.Properties.{is_other}
-use Rattle.rx_item_properties.proofs.gathering.add_others.Given as goal
-
-abbrev pub invariant-loop-member : goal.invariant-loop-member
-invariant-loop-member l = l.list.items ≡ l.initial.list.items ++ filter (is_other l.place) (take l.member-index l.members)

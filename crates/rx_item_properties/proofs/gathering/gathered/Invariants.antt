@@ -1,7 +1,0 @@
-use Rattle.std.proofs.Common.{◌≡◌, ◌++◌, ◌∷◌, drop}
-use Rattle.rx_item_properties.specs.Properties.{gathered}
-use Rattle.rx_item_properties.proofs.gathering.gathered.Given as goal
-
-abbrev pub invariant-loop-run : goal.invariant-loop-run
-invariant-loop-run l =
-    l.list.items ++ gathered l.members (drop l.run-index l.others) l.place ≡ gathered l.members (l.fn.own ∷ l.others) l.place

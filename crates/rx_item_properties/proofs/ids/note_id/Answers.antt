@@ -1,8 +1,0 @@
-use Rattle.rx_item_properties.specs.Ids.{place_of}
-use Rattle.rx_item_properties.proofs.IdLemmas.{noted}
-use Rattle.rx_item_properties.proofs.ids.note_id.Goals as goal
-
-pub returns-in-Some : goal.returns-in-Some
-returns-in-Some c word shown =
-    noted c.put_id.result c.args.words.now c.in-Some.span c.text_of.result.now c.args.place (place_of c.put_id.new.ids) (place_of c.args.ids.now) word c.text_of.utf8 c.text_of.ensures
-    (rw c.in-Some.is at shown) c.put_id.ensures

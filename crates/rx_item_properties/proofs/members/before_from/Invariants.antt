@@ -1,9 +1,0 @@
-use Rattle.std.proofs.Common.{◌-◌, length}
-use Rattle.rx_item_properties.specs.Members.{FirstBelow, Rises}
-use Rattle.rx_item_properties.proofs.members.before_from.Given as goal
-
-abbrev pub invariant-loop-at : goal.invariant-loop-at
-invariant-loop-at l = Rises l.rows l.members → FirstBelow l.rows l.members l.bound l.at
-
-abbrev pub decreases-loop-at : goal.decreases-loop-at
-decreases-loop-at l = length l.members - l.at

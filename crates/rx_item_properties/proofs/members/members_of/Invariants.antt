@@ -1,5 +1,0 @@
-use Rattle.rx_item_properties.proofs.WalkLemmas.{Done}
-use Rattle.rx_item_properties.proofs.members.members_of.Given as goal
-
-abbrev pub invariant-loop-place : goal.invariant-loop-place
-invariant-loop-place l = Done l.rows l.place l.members.items

@@ -1,6 +1,0 @@
-use Rattle.rx_item_properties.proofs.RisingLemmas.{same_risen}
-use Rattle.rx_item_properties.proofs.references.starts_in.Goals as goal
-
-pub returns : goal.returns
-returns c look looks n =
-    rw (← c.in_ok-list.ensures look looks) (same_risen c.in_ok-list.list.items c.sort_unstable.new.self.items c.dedup.new.self.items c.sort_unstable.ensures.permutation c.dedup.ensures.filtered n)

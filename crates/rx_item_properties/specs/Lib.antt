@@ -1,9 +1,0 @@
-pub mod Distinct
-pub mod Properties
-pub mod Held
-pub mod Ids
-pub mod Lying
-pub mod Members
-pub mod Starts
-pub mod Built
-pub mod Disjoint

@@ -1,0 +1,226 @@
+-- Where the elements of one table stand for those of another, visits and JSON are alike.
+use Rattle.std.specs.Prelude.{◌≡◌, ℕ, zero, suc, ⊤, Bool, true, false, not, ◌&&◌, ◌||◌, ◌==◌, nat_lt, nat_le, cond, codes, List, [], ◌∷◌, ◌++◌, map, filter, flat_map, length, Option, Some, None, option_map}
+use Rattle.std.specs.Option.{option_or}
+use Rattle.std.specs.List.{list_any}
+use Rattle.std.proofs.Common.{refl, sym, ap, ◌∙◌}
+use Rattle.rx_terms.specs.Text.{Chars}
+use Rattle.rx_grammar.specs.declared.faults.Kind.{Kind}
+use Rattle.rx_grammar.specs.declared.faults.Kind.TheVariants.{Cycle, ItemsTooNested, ItemsTooMany}
+use Rattle.serde_json.specs.Data.{Data, object, member, array, no_members}
+use Rattle.rx_microdata.specs.Facts.{Value, Written, said}
+use Rattle.rx_microdata.specs.Elements.{Placed, is_item, names_of}
+use Rattle.rx_microdata.specs.Properties.{is_any}
+use Rattle.rx_microdata.specs.Visits.{Visit, Bounds, is_cycle, items_in, visits_from, visits_by, fault_of, first_fault}
+use Rattle.rx_microdata.specs.Json.{Outcome, Given, refused, string_of, item_of, named, json_of_item, json_by, list_of, outcome_by}
+use Rattle.rx_items.specs.Rows.{needed}
+
+abbrev pub Each : {X : Type 0} → (X → Type 0) → List X → Type 0
+Each P [] = ⊤
+Each P (x ∷ xs) = P x × Each P xs
+
+each_append : {X : Type 0} (P : X → Type 0) (a b : List X) → Each P a → Each P b → Each P (a ++ b)
+each_append P [] b p q = q
+each_append P (x ∷ a) b p q = (p.0, each_append P a b p.1 q)
+
+pub map_append : {X Y : Type 0} (f : X → Y) (a b : List X) → map f (a ++ b) ≡ map f a ++ map f b
+map_append f [] b = refl
+map_append f (x ∷ a) b = ap (λ l. f x ∷ l) (map_append f a b)
+
+map_compose : {X Y Z : Type 0} (f : X → Y) (g : Y → Z) (a : List X) → map g (map f a) ≡ map (λ x. g (f x)) a
+map_compose f g [] = refl
+map_compose f g (x ∷ a) = ap (λ l. g (f x) ∷ l) (map_compose f g a)
+
+length_map : {X Y : Type 0} (f : X → Y) (a : List X) → length (map f a) ≡ length a
+length_map f [] = refl
+length_map f (x ∷ a) = ap suc (length_map f a)
+
+abbrev chosen : Bool → Data → Data → Data
+chosen b nested plain = elim b as (λ nested. Data) [ true ↦ nested | false ↦ plain ]
+
+abbrev with_name : Data → Chars → Chars × Data
+with_name value name = (name, value)
+
+-- the values of a property's names
+one : (base : Chars) (names : List Chars) (b : Bool) (v : Value) (d e : Data) → (b ≡ true → d ≡ e)
+    → map (with_name (chosen b d (string_of (said base (cond (not b && is_any names) v (Written [])))))) names
+    ≡ map (with_name (chosen b e (string_of (said base v)))) names
+one base [] b v d e h = refl
+one base (n ∷ names) true v d e h = ap (λ x. map (with_name x) (n ∷ names)) (h refl)
+one base (n ∷ names) false v d e h = refl
+
+abbrev pub Item : (Placed → Type 0) → Placed → Type 0
+Item Good e = Good e × (is_item e ≡ true)
+
+module _ (place past : Placed → ℕ) (scope : Placed → Option ℕ) where
+  abbrev pub moved : Placed → Placed
+  moved e = record { place = place e; past = past e; scope = scope e; facts = needed e.facts }
+
+  abbrev pub SamePlaces : (Placed → Type 0) → Type 0
+  SamePlaces Good = (x y : Placed) → Good x → Good y → (place x == place y) ≡ (x.place == y.place)
+
+  -- each item has the same properties in both
+  pub record Moves (Good : Placed → Type 0) (from to : Placed → List Placed) : Type 0 where
+    pub places : SamePlaces Good
+    pub same : (root : Placed) → Item Good root → to (moved root) ≡ map moved (from root)
+    pub stays : (root : Placed) → Item Good root → Each Good (from root)
+
+  module _ (Good : Placed → Type 0) (from to : Placed → List Placed) (m : Moves Good from to) where
+    module _ (base : Chars) where
+      valued : (Placed → List Placed) → ℕ → Placed → List (Chars × Data)
+      valued properties left e = named e (chosen (is_item e) (json_of_item properties base left e) (string_of (said base e.facts.value)))
+
+      over : (left : ℕ) (xs : List Placed) → Each Good xs
+          → ((e : Placed) → Item Good e → json_of_item to base left (moved e) ≡ json_of_item from base left e)
+          → flat_map (valued to left) (map moved xs) ≡ flat_map (valued from left) xs
+      unfolding valued
+      over left [] g same = refl
+      over left (x ∷ xs) g same =
+          let head = one base (names_of x) (is_item x) x.facts.value (json_of_item to base left (moved x)) (json_of_item from base left x) (λ b. same x (g.0, b)) in
+          let rest = over left xs g.1 same in
+          λ i. head i ++ rest i
+
+      pub item_alike : (left : ℕ) (root : Placed) → Item Good root → json_of_item to base left (moved root) ≡ json_of_item from base left root
+      unfolding valued
+      item_alike zero root g = refl
+      item_alike (suc left) root g =
+          ap (λ ps. item_of base root.facts (flat_map (valued to left) ps)) (m.same root g)
+          ∙ ap (λ pairs. item_of base root.facts pairs) (over left (from root) (m.stays root g) (λ e h. item_alike left e h))
+
+      items_alike : (left : ℕ) (items : List Placed) → Each (Item Good) items → map (json_of_item to base left) (map moved items) ≡ map (json_of_item from base left) items
+      items_alike left [] g = refl
+      items_alike left (x ∷ items) g =
+          let head = item_alike left x g.0 in
+          let rest = items_alike left items g.1 in
+          λ i. head i ∷ rest i
+
+      pub json_alike : (nested : ℕ) (items : List Placed) → Each (Item Good) items → json_by to base nested (map moved items) ≡ json_by from base nested items
+      json_alike nested items g = ap (λ values. object (member (codes "items") (array (list_of values)) no_members)) (items_alike nested items g)
+
+    any_alike : (last : Placed) (above : Visit) → Good last → Each Good above
+        → list_any (λ (e : Placed). e.place == place last) (map moved above) ≡ list_any (λ (e : Placed). e.place == last.place) above
+    any_alike last [] g h = refl
+    any_alike last (x ∷ above) g h =
+        let head = m.places x last h.0 g in
+        let rest = any_alike last above g h.1 in
+        λ i. head i || rest i
+
+    cycle_alike : (visit : Visit) → Each Good visit → is_cycle (map moved visit) ≡ is_cycle visit
+    cycle_alike [] g = refl
+    cycle_alike (last ∷ above) g = any_alike last above g.0 g.1
+
+    abbrev each_name : Placed → List Placed
+    each_name e = map (λ (name : Chars). e) (names_of e)
+
+    inner_alike : (ps : List Placed) → items_in (map moved ps) ≡ map moved (items_in ps)
+    inner_alike [] = refl
+    inner_alike (x ∷ ps) = by (is_item x) (inner_alike ps)
+      where
+        by : (b : Bool) → items_in (map moved ps) ≡ map moved (items_in ps)
+            → flat_map each_name (cond b (moved x ∷ filter is_item (map moved ps)) (filter is_item (map moved ps)))
+            ≡ map moved (flat_map each_name (cond b (x ∷ filter is_item ps) (filter is_item ps)))
+        by true h =
+            let head = sym (map_compose (λ (name : Chars). x) moved (names_of x)) in
+            (λ i. head i ++ h i) ∙ sym (map_append moved (each_name x) (items_in ps))
+        by false h = h
+
+    const_good : (x : Placed) (names : List Chars) → Item Good x → Each (Item Good) (map (λ (name : Chars). x) names)
+    const_good x [] g = tt
+    const_good x (n ∷ names) g = (g, const_good x names g)
+
+    inner_good : (ps : List Placed) → Each Good ps → Each (Item Good) (items_in ps)
+    inner_good [] g = tt
+    inner_good (x ∷ ps) g = by (is_item x) refl (inner_good ps g.1)
+      where
+        by : (b : Bool) → is_item x ≡ b → Each (Item Good) (items_in ps) → Each (Item Good) (flat_map each_name (cond b (x ∷ filter is_item ps) (filter is_item ps)))
+        by true e h = each_append (Item Good) (each_name x) (items_in ps) (const_good x (names_of x) (g.0, e)) h
+        by false e h = h
+
+    abbrev onward : (Placed → List Placed) → ℕ → Visit → Placed → Bool → List Visit
+    onward properties left above root b = elim b as (λ cycle. List Visit) [
+      | true ↦ []
+      | false ↦ flat_map (visits_from properties left (root ∷ above)) (items_in (properties root))
+    ]
+
+    flat_alike : (left : ℕ) (path : Visit) (xs : List Placed) → Each (Item Good) xs
+        → ((e : Placed) → Item Good e → visits_from to left (map moved path) (moved e) ≡ map (map moved) (visits_from from left path e))
+        → flat_map (visits_from to left (map moved path)) (map moved xs) ≡ map (map moved) (flat_map (visits_from from left path) xs)
+    flat_alike left path [] g same = refl
+    flat_alike left path (x ∷ xs) g same =
+        let head = same x g.0 in
+        let rest = flat_alike left path xs g.1 same in
+        (λ i. head i ++ rest i) ∙ sym (map_append (map moved) (visits_from from left path x) (flat_map (visits_from from left path) xs))
+
+    onward_alike : (left : ℕ) (above : Visit) (root : Placed) → Item Good root → (b : Bool)
+        → ((e : Placed) → Item Good e → visits_from to left (map moved (root ∷ above)) (moved e) ≡ map (map moved) (visits_from from left (root ∷ above) e))
+        → onward to left (map moved above) (moved root) b ≡ map (map moved) (onward from left above root b)
+    onward_alike left above root g true same = refl
+    onward_alike left above root g false same =
+        ap (λ ps. flat_map (visits_from to left (map moved (root ∷ above))) (items_in ps)) (m.same root g)
+        ∙ ap (λ xs. flat_map (visits_from to left (map moved (root ∷ above))) xs) (inner_alike (from root))
+        ∙ flat_alike left (root ∷ above) (items_in (from root)) (inner_good (from root) (m.stays root g)) same
+
+    visits_alike : (left : ℕ) (above : Visit) (root : Placed) → Each Good above → Item Good root
+        → visits_from to left (map moved above) (moved root) ≡ map (map moved) (visits_from from left above root)
+    visits_alike zero above root h g = refl
+    visits_alike (suc left) above root h g =
+        ap (λ (vs : List Visit). map moved (root ∷ above) ∷ vs)
+        (ap (onward to left (map moved above) (moved root)) (cycle_alike (root ∷ above) (g.0, h))
+        ∙ onward_alike left above root g (is_cycle (root ∷ above)) (λ e k. visits_alike left (root ∷ above) e (g.0, h) k))
+
+    flat_good : (left : ℕ) (path : Visit) (xs : List Placed) → Each (Item Good) xs
+        → ((e : Placed) → Item Good e → Each (Each Good) (visits_from from left path e)) → Each (Each Good) (flat_map (visits_from from left path) xs)
+    flat_good left path [] g same = tt
+    flat_good left path (x ∷ xs) g same = each_append (Each Good) (visits_from from left path x) (flat_map (visits_from from left path) xs) (same x g.0) (flat_good left path xs g.1 same)
+
+    onward_good : (left : ℕ) (above : Visit) (root : Placed) → Item Good root → (b : Bool)
+        → ((e : Placed) → Item Good e → Each (Each Good) (visits_from from left (root ∷ above) e)) → Each (Each Good) (onward from left above root b)
+    onward_good left above root g true same = tt
+    onward_good left above root g false same = flat_good left (root ∷ above) (items_in (from root)) (inner_good (from root) (m.stays root g)) same
+
+    visits_good : (left : ℕ) (above : Visit) (root : Placed) → Each Good above → Item Good root → Each (Each Good) (visits_from from left above root)
+    visits_good zero above root h g = tt
+    visits_good (suc left) above root h g =
+        ((g.0, h), onward_good left above root g (is_cycle (root ∷ above)) (λ e k. visits_good left (root ∷ above) e (g.0, h) k))
+
+    abbrev moved_fault : Kind × Visit → Kind × Visit
+    moved_fault found = (found.0, map moved found.1)
+
+    fault_alike : (bounds : Bounds) (before : ℕ) (visit : Visit) → Each Good visit → fault_of bounds before (map moved visit) ≡ fault_of bounds before visit
+    fault_alike bounds before visit g =
+        let c = cycle_alike visit g in
+        let l = length_map moved visit in
+        λ i. cond (c i) (Some Cycle) (cond (nat_lt bounds.nested (l i)) (Some ItemsTooNested) (cond (nat_le bounds.visits before) (Some ItemsTooMany) None))
+
+    first_alike : (bounds : Bounds) (before : ℕ) (visits : List Visit) → Each (Each Good) visits
+        → first_fault bounds before (map (map moved) visits) ≡ option_map moved_fault (first_fault bounds before visits)
+    first_alike bounds before [] g = refl
+    first_alike bounds before (visit ∷ visits) g =
+        let head = fault_alike bounds before visit g.0 in
+        let rest = first_alike bounds (suc before) visits g.1 in
+        (λ i. option_or (option_map (λ (kind : Kind). (kind, map moved visit)) (head i)) (rest i)) ∙ by (fault_of bounds before visit) (first_fault bounds (suc before) visits)
+      where
+        by : (o : Option Kind) (more : Option (Kind × Visit))
+            → option_or (option_map (λ (kind : Kind). (kind, map moved visit)) o) (option_map moved_fault more)
+            ≡ option_map moved_fault (option_or (option_map (λ (kind : Kind). (kind, visit)) o) more)
+        by None more = refl
+        by (Some kind) more = refl
+
+    abbrev picked : Option (Kind × Visit) → Data → Outcome
+    picked o value = elim o as (λ found. Outcome) [ None ↦ Given value | Some found ↦ refused found.0 found.1 ]
+
+    refused_alike : (kind : Kind) (visit : Visit) → refused kind (map moved visit) ≡ refused kind visit
+    refused_alike kind [] = refl
+    refused_alike kind (root ∷ above) = refl
+
+    picked_alike : (o : Option (Kind × Visit)) (d : Data) → picked (option_map moved_fault o) d ≡ picked o d
+    picked_alike None d = refl
+    picked_alike (Some found) d = refused_alike found.0 found.1
+
+    pub outcome_alike : (bounds : Bounds) (base : Chars) (items : List Placed) → Each (Item Good) items
+        → outcome_by to bounds base (map moved items) ≡ outcome_by from bounds base items
+    outcome_alike bounds base items g =
+        let visits = flat_alike (suc bounds.nested) [] items g (λ e k. visits_alike (suc bounds.nested) [] e tt k) in
+        let good = flat_good (suc bounds.nested) [] items g (λ e k. visits_good (suc bounds.nested) [] e tt k) in
+        let found = ap (first_fault bounds 0) visits ∙ first_alike bounds 0 (visits_by from bounds items) good in
+        let json = json_alike base bounds.nested items g in
+        (λ i. picked (found i) (json i)) ∙ picked_alike (first_fault bounds 0 (visits_by from bounds items)) (json_by from base bounds.nested items)

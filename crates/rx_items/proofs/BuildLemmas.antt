@@ -1,0 +1,113 @@
+-- What stands beside a table's rows, one after another.
+use Rattle.std.proofs.Common.{◌≡◌, ◌∙◌, ◌+◌, ◌≤◌, ℕ, zero, suc, Bool, true, false, List, [], ◌∷◌, ◌++◌, length, Contains, ◌↔◌, Option, Some, None, option_map, refl, sym, ap, subst, arith}
+use Rattle.std.specs.Prelude.{filter_map, slice_get, unwrap_or}
+use mathlib.Core.Logic.{◌⊎◌, inl, inr}
+use Rattle.std.proofs.lemmas.List.{length-append}
+use Rattle.rx_terms.specs.Text.{Chars, tokens}
+use Rattle.rx_grammar.specs.Trees.{Tree}
+use Rattle.rx_microdata.specs.Elements.{Placed, is_item}
+use Rattle.rx_microdata.specs.Facts.{distinct_tokens}
+use Rattle.rx_items.specs.Rows.{rows_of}
+use Rattle.rx_items.specs.Showing.{ShowsRow, ShowsWord}
+use Rattle.rx_items.specs.Words.{names_in, types_in}
+use Rattle.rx_items.specs.declared.rows.Row.{Row}
+use Rattle.rx_items.specs.declared.spans.Span.{Span}
+use Rattle.rx_items.specs.Held.{AllFit, AreTokens, Fits, Reaches, names_beside, runs_beside, types_beside}
+use Rattle.rx_items.specs.Built.{Builds}
+use Rattle.rx_items.specs.Ids.{look_in}
+use Rattle.rx_items.specs.Members.{RunOf, Sorted}
+use Rattle.rx_items.specs.declared.kept.BesideRow.{BesideRow}
+use Rattle.rx_items.specs.declared.kept.Run.{Run}
+use Rattle.rx_items.proofs.NestLemmas.{numbered}
+use Rattle.rx_items.proofs.PropertyLemmas.{properties_are}
+use Rattle.rx_items.proofs.ReachLemmas.{reach_alone}
+
+pub same_there : (ps : List Placed) (i : ℕ) (a b : Placed) → slice_get ps i ≡ Some a → slice_get ps i ≡ Some b → a ≡ b
+same_there ps i a b e f = let found : Some a ≡ Some b = sym e ∙ f in cc (found)
+
+pub same_row : (rows : List Row) (i : ℕ) (a b : Row) → slice_get rows i ≡ Some a → slice_get rows i ≡ Some b → a ≡ b
+same_row rows i a b e f = let found : Some a ≡ Some b = sym e ∙ f in cc (found)
+
+at_end : (xs : List BesideRow) (x d : BesideRow) (i : ℕ) → slice_get (xs ++ x ∷ []) i ≡ Some d → slice_get xs i ≡ Some d ⊎ ((i ≡ length xs) × (x ≡ d))
+at_end [] x d zero g = inr (refl, cc (g))
+at_end [] x d (suc i) g = absurd (cc (g))
+at_end (y ∷ xs) x d zero g = inl g
+at_end (y ∷ xs) x d (suc i) g = by (at_end xs x d i g)
+  where
+    by : slice_get xs i ≡ Some d ⊎ ((i ≡ length xs) × (x ≡ d)) → slice_get xs i ≡ Some d ⊎ ((suc i ≡ length (y ∷ xs)) × (x ≡ d))
+    by (inl h) = inl h
+    by (inr h) = inr (ap suc h.0, h.1)
+
+pub fit_turn : (words : Chars) (ps : List Placed) (members : List ℕ) (rows : List Row) (i : ℕ) (old new : List BesideRow) (x : BesideRow) → AllFit words ps members rows i old
+    → Builds words ps members rows i x → new ≡ old ++ x ∷ [] → AllFit words ps members rows (i + 1) new
+fit_turn words ps members rows i old new x a b pushed =
+    subst (AllFit words ps members rows (i + 1)) (sym pushed) (record { size = length-append old (x ∷ []) ∙ ap (λ n. n + 1) a.size; fit = fit })
+  where
+    fit : (j : ℕ) (row : Row) (p : Placed) (d : BesideRow) → slice_get rows j ≡ Some row → slice_get ps j ≡ Some p → slice_get (old ++ x ∷ []) j ≡ Some d → Fits words ps members j row p d
+    fit j row p d g h f = by (at_end old x d j f)
+      where
+        by : slice_get old j ≡ Some d ⊎ ((j ≡ length old) × (x ≡ d)) → Fits words ps members j row p d
+        by (inl k) = a.fit j row p d g h k
+        by (inr k) =
+            let at : j ≡ i = k.0 ∙ a.size in
+            subst (λ (y : BesideRow). Fits words ps members j row p y) k.1 (subst (λ n. Fits words ps members n row p x) (sym at) (b row p (ap (slice_get rows) (sym at) ∙ g) (ap (slice_get ps) (sym at) ∙ h)))
+
+pub fit_end : (words : Chars) (ps : List Placed) (members : List ℕ) (rows : List Row) (i n : ℕ) (xs : List BesideRow) → i ≤ n → n ≤ i → AllFit words ps members rows i xs → AllFit words ps members rows n xs
+fit_end words ps members rows i n xs le ge a = let same : i ≡ n = omega (arith, le, ge) in subst (λ m. AllFit words ps members rows m xs) same a
+
+named : (o : Option Chars) → unwrap_or (option_map distinct_tokens o) [] ≡ distinct_tokens (unwrap_or o [])
+named None = refl
+named (Some text) = refl
+
+-- what stands beside a row whose names and types are these, and whose runs give these properties
+pub fits_by : (words text : Chars) (times : List Chars) (ps : List Placed) (members : List ℕ) (rows : List Row) (place : ℕ) (row : Row) (p : Placed) (x : BesideRow)
+    → slice_get rows place ≡ Some row → slice_get ps place ≡ Some p → (s : ShowsRow words text times row p)
+    → AreTokens words (names_in row.head.words) (names_beside x) (distinct_tokens (unwrap_or s.itemprop []))
+    → AreTokens words (types_in row.head.words) (types_beside x) (distinct_tokens (unwrap_or s.itemtype []))
+    → (is_item p ≡ true → Reaches ps members place (runs_beside x) p) → Builds words ps members rows place x
+fits_by words text times ps members rows place row p x row_is there s names types reach = λ row2 p2 row2_is there2.
+    subst (λ (r : Row). Fits words ps members place r p2 x) (same_row rows place row row2 row_is row2_is)
+    (subst (λ (q : Placed). Fits words ps members place row q x) (same_there ps place p p2 there there2) (record {
+      names = subst (AreTokens words (names_in row.head.words) (names_beside x)) (sym (ap (λ (o : Option (List Chars)). unwrap_or o []) s.names ∙ named s.itemprop)) names;
+      types = subst (AreTokens words (types_in row.head.words) (types_beside x)) (sym s.types) types;
+      reach = reach;
+    }))
+
+pub fits_plain : (words text : Chars) (times : List Chars) (ps : List Placed) (members : List ℕ) (rows : List Row) (place : ℕ) (row : Row) (p : Placed) (x : BesideRow)
+    → slice_get rows place ≡ Some row → slice_get ps place ≡ Some p → (s : ShowsRow words text times row p)
+    → AreTokens words (names_in row.head.words) (names_beside x) (distinct_tokens (unwrap_or s.itemprop []))
+    → AreTokens words (types_in row.head.words) (types_beside x) (distinct_tokens (unwrap_or s.itemtype []))
+    → row.head.is_item ≡ false → Builds words ps members rows place x
+fits_plain words text times ps members rows place row p x row_is there s names types plain =
+    fits_by words text times ps members rows place row p x row_is there s names types (λ item. absurd (clash row.head.is_item (s.is_item ∙ item) plain))
+  where
+    clash : (b : Bool) → b ≡ true → b ≡ false → ⊥
+    clash true e f = cc (f)
+    clash false e f = cc (e)
+
+pub fits_there : (words text : Chars) (times : List Chars) (ps : List Placed) (members : List ℕ) (rows : List Row) (place : ℕ) (row : Row) (p : Placed) (x : BesideRow)
+    → slice_get rows place ≡ Some row → slice_get ps place ≡ Some p → (s : ShowsRow words text times row p)
+    → AreTokens words (names_in row.head.words) (names_beside x) (distinct_tokens (unwrap_or s.itemprop []))
+    → AreTokens words (types_in row.head.words) (types_beside x) (distinct_tokens (unwrap_or s.itemtype []))
+    → Reaches ps members place (runs_beside x) p → Builds words ps members rows place x
+fits_there words text times ps members rows place row p x row_is there s names types reach =
+    fits_by words text times ps members rows place row p x row_is there s names types (λ item. reach)
+
+-- where no references are kept, there are none
+pub refers_not : (words : Chars) (span : Option Span) (word : Option Chars) → span ≡ None → ShowsWord words span word → tokens (unwrap_or word []) ≡ []
+refers_not words None None e s = refl
+refers_not words None (Some part) e s = absurd s
+refers_not words (Some span) word e s = absurd (cc (e))
+
+no_starts : (ps : List Placed) (refs : List Chars) → refs ≡ [] → (m : ℕ) → Contains [] m ↔ Contains (filter_map (look_in ps) refs) m
+no_starts ps refs none m =
+    let same : Contains [] m ↔ Contains (filter_map (look_in ps) []) m = ((λ c. c), (λ c. c)) in
+    subst (λ (list : List Chars). Contains [] m ↔ Contains (filter_map (look_in ps) list) m) (sym none) same
+
+-- what an item reaches that refers to nothing
+pub reaches_alone : (words text : Chars) (times : List Chars) (rows : List Row) (tree : Tree) (members : List ℕ) → Sorted words text times rows (rows_of tree) members
+    → (place : ℕ) (run : Run) (p : Placed) → slice_get (rows_of tree) place ≡ Some p → p.facts.references ≡ [] → RunOf rows members (Some place) 0 (length rows) run
+    → Reaches (rows_of tree) members place (run ∷ []) p
+reaches_alone words text times rows tree members sorted place run p there none r =
+    properties_are (rows_of tree) (numbered tree None 0) p place members (run ∷ []) [] there (no_starts (rows_of tree) p.facts.references none)
+    (reach_alone words text times rows tree members sorted place [] run [] refl refl r)

@@ -1,0 +1,179 @@
+-- Runs in order of their begins, of each what is behind those before it: the same members, each in one run.
+use Rattle.std.proofs.Common.{◌≡◌, ◌<◌, ◌≤◌, ℕ, Bool, true, false, cond, List, [], ◌∷◌, ◌++◌, length, get_or, max, nat_le, Contains, ◌↔◌, Some, refl, sym, subst, arith}
+use Rattle.std.specs.Prelude.{slice_get}
+use mathlib.Core.Logic.{◌⊎◌, inl, inr}
+use Rattle.std.specs.List.Sorted.{IsNonDecreasingBy, IsPermutation}
+use Rattle.std.proofs.lemmas.List.Sorted.{Contains-permutation, IsPermutation-sym, IsNonDecreasingBy-drop}
+use Rattle.std.proofs.lemmas.List.Elements.{Contains-append_left, Contains-append_right, Contains-append_cases}
+use Rattle.std.proofs.lemmas.Bool.{cases_lt, leb-true, leb-false}
+use Rattle.rx_microdata.proofs.Lists.{first, later, first_or_later, none}
+use Rattle.rx_items.specs.Properties.{in_runs, part}
+use Rattle.rx_items.specs.Disjoint.{Apart, rest_of, end_of, unshared}
+use Rattle.rx_items.specs.declared.kept.Run.{Run}
+use Rattle.rx_items.proofs.MemberLemmas.{in_part, of_part}
+
+-- ---- places of runs
+
+abbrev pub Within : Run → ℕ → Type 0
+Within run p = (run.from ≤ p) × (p < run.to)
+
+abbrev pub Covered : List Run → ℕ → Type 0
+Covered [] p = ⊥
+Covered (run ∷ runs) p = Within run p ⊎ Covered runs p
+
+-- a place of these runs, and what stands there
+pub record IsRunOf (members : List ℕ) (runs : List Run) (x : ℕ) : Type 0 where
+  pub at : ℕ
+  pub covered : Covered runs at
+  pub is : slice_get members at ≡ Some x
+
+next_run : (members : List ℕ) (run : Run) (runs : List Run) (x : ℕ) → IsRunOf members runs x → IsRunOf members (run ∷ runs) x
+next_run members run runs x s = record { at = s.at; covered = inr s.covered; is = s.is }
+
+stands_in : (members : List ℕ) (runs : List Run) (x : ℕ) → Contains (in_runs members runs) x → IsRunOf members runs x
+stands_in members [] x c = none x c
+stands_in members (run ∷ runs) x c = by (stands_in members runs x) (Contains-append_cases (part members run) (in_runs members runs) x c)
+  where
+    by : (Contains (in_runs members runs) x → IsRunOf members runs x) → Contains (part members run) x ⊎ Contains (in_runs members runs) x → IsRunOf members (run ∷ runs) x
+    by ih (inl d) = let p = in_part members run x d in record { at = p.at; covered = inl (p.low, p.high); is = p.is }
+    by ih (inr d) = next_run members run runs x (ih d)
+
+stands_of : (members : List ℕ) (runs : List Run) (x at : ℕ) → Covered runs at → slice_get members at ≡ Some x → Contains (in_runs members runs) x
+stands_of members [] x at c is = absurd c
+stands_of members (run ∷ runs) x at (inl w) is = Contains-append_left (part members run) (in_runs members runs) x (of_part members run x (record { at = at; low = w.0; high = w.1; is = is }))
+stands_of members (run ∷ runs) x at (inr c) is = Contains-append_right (part members run) (in_runs members runs) x (stands_of members runs x at c is)
+
+covered_left : (xs ys : List Run) (p : ℕ) → Covered xs p → Covered (xs ++ ys) p
+covered_left [] ys p c = absurd c
+covered_left (run ∷ xs) ys p (inl w) = inl w
+covered_left (run ∷ xs) ys p (inr c) = inr (covered_left xs ys p c)
+
+covered_right : (xs ys : List Run) (p : ℕ) → Covered ys p → Covered (xs ++ ys) p
+covered_right [] ys p c = c
+covered_right (run ∷ xs) ys p c = inr (covered_right xs ys p c)
+
+covered_cases : (xs ys : List Run) (p : ℕ) → Covered (xs ++ ys) p → Covered xs p ⊎ Covered ys p
+covered_cases [] ys p c = inr c
+covered_cases (run ∷ xs) ys p (inl w) = inl (inl w)
+covered_cases (run ∷ xs) ys p (inr c) = further (covered_cases xs ys p c)
+  where
+    further : Covered xs p ⊎ Covered ys p → Covered (run ∷ xs) p ⊎ Covered ys p
+    further (inl d) = inl (inr d)
+    further (inr d) = inr d
+
+-- ---- runs in another order
+
+pub record Among (runs : List Run) (p : ℕ) : Type 0 where
+  pub run : Run
+  pub among : Contains runs run
+  pub within : Within run p
+
+among_of : (runs : List Run) (p : ℕ) → Covered runs p → Among runs p
+among_of [] p c = absurd c
+among_of (run ∷ runs) p (inl w) = record { run = run; among = first run runs; within = w }
+among_of (run ∷ runs) p (inr c) = let a = among_of runs p c in record { run = a.run; among = later run a.run runs a.among; within = a.within }
+
+covered_by : (runs : List Run) (run : Run) (p : ℕ) → Contains runs run → Within run p → Covered runs p
+covered_by [] run p c w = none run c
+covered_by (other ∷ runs) run p c w = by (λ d. covered_by runs run p d w) (first_or_later other run runs c)
+  where
+    by : (Contains runs run → Covered runs p) → (other ≡ run) ⊎ Contains runs run → Covered (other ∷ runs) p
+    by ih (inl e) = inl (subst (λ (r : Run). Within r p) (sym e) w)
+    by ih (inr d) = inr (ih d)
+
+reordered : (xs ys : List Run) (p : ℕ) → IsPermutation xs ys → Covered xs p → Covered ys p
+reordered xs ys p moved c = let a = among_of xs p c in covered_by ys a.run p (Contains-permutation xs ys a.run moved a.among) a.within
+
+-- ---- what is behind the runs before
+
+rest_covers : (end : ℕ) (run : Run) (p : ℕ) → Covered (rest_of end run) p → Within run p
+rest_covers end run p c = by (nat_le run.to (max run.from end)) c
+  where
+    by : (b : Bool) → Covered (cond b [] (record { from = max run.from end; to = run.to } ∷ [])) p → Within run p
+    by true c = absurd c
+    by false (inl w) = let begins = w.0 in (omega (arith, begins), w.1)
+    by false (inr c) = absurd c
+
+covers_no_more : (end : ℕ) (runs : List Run) (p : ℕ) → Covered (unshared end runs) p → Covered runs p
+covers_no_more end [] p c = c
+covers_no_more end (run ∷ runs) p c = by (covers_no_more (end_of end run) runs p) (covered_cases (rest_of end run) (unshared (end_of end run) runs) p c)
+  where
+    by : (Covered (unshared (end_of end run) runs) p → Covered runs p) → Covered (rest_of end run) p ⊎ Covered (unshared (end_of end run) runs) p → Covered (run ∷ runs) p
+    by ih (inl d) = inl (rest_covers end run p d)
+    by ih (inr d) = inr (ih d)
+
+-- the begins rise, from a place on
+abbrev RisesFrom : ℕ → List Run → Type 0
+RisesFrom low [] = Unit {0}
+RisesFrom low (run ∷ runs) = (low ≤ run.from) × RisesFrom run.from runs
+
+rises_from : (low : ℕ) (runs : List Run) → IsNonDecreasingBy (λ (run : Run). run.from) runs → ((d : Run) → 0 < length runs → low ≤ (get_or runs 0 d).from) → RisesFrom low runs
+rises_from low [] up begins = tt
+rises_from low (run ∷ runs) up begins = (
+  begins run (omega arith),
+  rises_from run.from runs (IsNonDecreasingBy-drop (λ (r : Run). r.from) 1 (run ∷ runs) up) (λ d some. up 0 1 d (omega arith) (omega (arith, some))),
+)
+
+-- a place before the end of the runs before, and not before their last begin
+abbrev Before : ℕ → ℕ → ℕ → Type 0
+Before low end p = (low ≤ p) × (p < end)
+
+here : (low end : ℕ) (run : Run) (p : ℕ) → low ≤ run.from → Within run p → Covered (rest_of end run) p ⊎ Before low end p
+here low end run p rises w = by (cases_lt p end)
+  where
+    by : (p < end) ⊎ (end ≤ p) → Covered (rest_of end run) p ⊎ Before low end p
+    by (inl lt) = let begins = w.0 in inr (omega (arith, rises, begins), lt)
+    by (inr le) = inl (behind (nat_le run.to (max run.from end)) refl)
+      where
+        behind : (b : Bool) → nat_le run.to (max run.from end) ≡ b → Covered (cond b [] (record { from = max run.from end; to = run.to } ∷ [])) p
+        behind true e = let over = leb-true run.to (max run.from end) e in let begins = w.0 in let ends = w.1 in absurd (omega (arith, over, begins, ends, le))
+        behind false e = let begins = w.0 in inl (omega (arith, begins, le), w.1)
+
+-- a place before the end of a run, or of those before it
+before_it : (low end : ℕ) (run : Run) (p : ℕ) → low ≤ run.from → Before run.from (end_of end run) p → Covered (rest_of end run) p ⊎ Before low end p
+before_it low end run p rises before = by (nat_le run.to (max run.from end)) before
+  where
+    by : (b : Bool) → Before run.from (cond b end run.to) p → Covered (rest_of end run) p ⊎ Before low end p
+    by true d = let from = d.0 in inr (omega (arith, rises, from), d.1)
+    by false d = here low end run p rises d
+
+covers_all : (low end : ℕ) (runs : List Run) (p : ℕ) → RisesFrom low runs → Covered runs p → Covered (unshared end runs) p ⊎ Before low end p
+covers_all low end [] p rises c = absurd c
+covers_all low end (run ∷ runs) p rises (inl w) = in_front (here low end run p rises.0 w)
+  where
+    in_front : Covered (rest_of end run) p ⊎ Before low end p → Covered (rest_of end run ++ unshared (end_of end run) runs) p ⊎ Before low end p
+    in_front (inl d) = inl (covered_left (rest_of end run) (unshared (end_of end run) runs) p d)
+    in_front (inr d) = inr d
+covers_all low end (run ∷ runs) p rises (inr c) = by (covers_all run.from (end_of end run) runs p rises.1 c)
+  where
+    in_front : Covered (rest_of end run) p ⊎ Before low end p → Covered (rest_of end run ++ unshared (end_of end run) runs) p ⊎ Before low end p
+    in_front (inl d) = inl (covered_left (rest_of end run) (unshared (end_of end run) runs) p d)
+    in_front (inr d) = inr d
+
+    by : Covered (unshared (end_of end run) runs) p ⊎ Before run.from (end_of end run) p → Covered (rest_of end run ++ unshared (end_of end run) runs) p ⊎ Before low end p
+    by (inl d) = inl (covered_right (rest_of end run) (unshared (end_of end run) runs) p d)
+    by (inr d) = in_front (before_it low end run p rises.0 d)
+
+pub same_members : (runs sorted list : List Run) → IsPermutation runs sorted → IsNonDecreasingBy (λ (run : Run). run.from) sorted → list ≡ unshared 0 sorted
+    → (members : List ℕ) (x : ℕ) → Contains (in_runs members list) x ↔ Contains (in_runs members runs) x
+same_members runs sorted list moved up is members x = (
+  (λ c. let s = stands_in members (unshared 0 sorted) x (subst (λ (l : List Run). Contains (in_runs members l) x) is c) in
+      stands_of members runs x s.at (reordered sorted runs s.at (IsPermutation-sym runs sorted moved) (covers_no_more 0 sorted s.at s.covered)) s.is),
+  (λ c. let s = stands_in members runs x c in
+      subst (λ (l : List Run). Contains (in_runs members l) x) (sym is)
+      (stands_of members (unshared 0 sorted) x s.at (of_all s.at (covers_all 0 0 sorted s.at (rises_from 0 sorted up (λ d some. omega arith)) (reordered runs sorted s.at moved s.covered))) s.is)),
+)
+  where
+    of_all : (p : ℕ) → Covered (unshared 0 sorted) p ⊎ Before 0 0 p → Covered (unshared 0 sorted) p
+    of_all p (inl d) = d
+    of_all p (inr d) = let lt = d.1 in absurd (omega (arith, lt))
+
+-- ---- they share no member
+
+apart_by : (end : ℕ) (run : Run) (rest : List Run) (b : Bool) → nat_le run.to (max run.from end) ≡ b → Apart (cond b end run.to) rest → Apart end (cond b [] (record { from = max run.from end; to = run.to } ∷ []) ++ rest)
+apart_by end run rest true e a = a
+apart_by end run rest false e a = let lt = leb-false run.to (max run.from end) e in (omega arith, omega (arith, lt), a)
+
+pub unshared_apart : (end : ℕ) (runs : List Run) → Apart end (unshared end runs)
+unshared_apart end [] = tt
+unshared_apart end (run ∷ runs) = apart_by end run (unshared (end_of end run) runs) (nat_le run.to (max run.from end)) refl (unshared_apart (end_of end run) runs)

@@ -1,0 +1,154 @@
+-- What is kept of a page, row by row.
+use Rattle.std.proofs.Common.{get_or, ◌≡◌, ◌∙◌, ◌+◌, ◌<◌, ◌≤◌, ℕ, zero, suc, Bool, true, false, cond, List, [], ◌∷◌, filter, length, Contains, ◌↔◌, Some, None, refl, sym, ap, subst, arith, nat_cmp, Less}
+use Rattle.std.specs.Prelude.{slice_get}
+use Rattle.std.proofs.lemmas.Option.{slice_get-get_or}
+use Rattle.std.specs.List.{AllByRecursion}
+use Rattle.std.specs.List.Sorted.{IsStrictlySortedBy}
+use Rattle.rx_terms.specs.Text.{Chars}
+use Rattle.rx_microdata.specs.Elements.{Placed, is_item, names_of}
+use Rattle.rx_items.specs.Rows.{properties_in}
+use Rattle.rx_items.specs.Showing.{ShowsRow, ShowsRows}
+use Rattle.rx_items.specs.Words.{names_in, types_in}
+use Rattle.rx_items.specs.declared.rows.Row.{Row}
+use Rattle.rx_items.specs.Held.{AreTokens, AtPlace, IsElement, NamesAt, Reaches, ShowsElement, ShowsTokens, Numbered, is_there, names_beside, others_beside, own_beside, places, types_beside, AllStand, HoldsRows}
+use Rattle.rx_items.specs.Properties.{gathered}
+use Rattle.rx_items.specs.declared.kept.Element.{Element}
+use Rattle.rx_items.specs.declared.kept.BesideRow.{BesideRow}
+use Rattle.rx_items.specs.declared.kept.Kept.{Kept}
+use Rattle.rx_items.specs.declared.kept.Run.{Run}
+use Rattle.rx_items.specs.declared.kept.Tokens.{Tokens}
+use Rattle.rx_items.proofs.RisingLemmas.{Rises, same_rising, less_of}
+
+-- a row and what it shows
+pub shows_at : (words gathered : Chars) (times : List Chars) (rows : List Row) (ps : List Placed) (i : ℕ) (row : Row) (p : Placed) → ShowsRows words gathered times rows ps
+    → slice_get rows i ≡ Some row → slice_get ps i ≡ Some p → ShowsRow words gathered times row p
+shows_at words gathered times [] ps i row p s f g = absurd (cc (f))
+shows_at words gathered times (r1 ∷ rows) [] i row p s f g = absurd s
+shows_at words gathered times (r1 ∷ rows) (p1 ∷ ps) zero row p s f g =
+    let same : p1 ≡ p = cc (g) in
+    let alike : r1 ≡ row = cc (f) in
+    subst (λ (x : Row). ShowsRow words gathered times x p) alike (subst (λ (x : Placed). ShowsRow words gathered times r1 x) same s.0)
+shows_at words gathered times (r1 ∷ rows) (p1 ∷ ps) (suc i) row p s f g = shows_at words gathered times rows ps i row p s.1 f g
+
+pub as_long : (words gathered : Chars) (times : List Chars) (rows : List Row) (ps : List Placed) → ShowsRows words gathered times rows ps → length rows ≡ length ps
+as_long words gathered times [] [] s = refl
+as_long words gathered times [] (p ∷ ps) s = absurd s
+as_long words gathered times (r ∷ rows) [] s = absurd s
+as_long words gathered times (r ∷ rows) (p ∷ ps) s = ap suc (as_long words gathered times rows ps s.1)
+
+-- the row of a place before the end
+pub placed_at : (ps : List Placed) (i : ℕ) → i < length ps → (p : Placed) × (slice_get ps i ≡ Some p)
+placed_at [] i lt = absurd (omega (arith, lt))
+placed_at (p ∷ ps) zero lt = (p, refl)
+placed_at (p ∷ ps) (suc i) lt = placed_at ps i (omega (arith, lt))
+
+none_at : (ps : List Placed) (i : ℕ) → length ps ≤ i → slice_get ps i ≡ None
+none_at [] i le = refl
+none_at (p ∷ ps) zero le = absurd (omega (arith, le))
+none_at (p ∷ ps) (suc i) le = none_at ps i (omega (arith, le))
+
+-- behind all rows there is no element
+pub behind_rows : (kept : Kept) (rows : List Placed) (base : Chars) (i : ℕ) → HoldsRows kept rows base → length kept.rows.items ≤ i → slice_get rows i ≡ None
+behind_rows kept rows base i h le =
+    let size = as_long kept.words kept.text kept.times.items kept.rows.items rows h.shown in none_at rows i (omega (arith, size, le))
+
+-- the row at a place shows what stands there
+pub row_there : (kept : Kept) (rows : List Placed) (base : Chars) (i : ℕ) (row : Row) → HoldsRows kept rows base → i < length kept.rows.items → row ≡ get_or kept.rows.items i row
+    → (p : Placed) × (slice_get rows i ≡ Some p) × ShowsRow kept.words kept.text kept.times.items row p
+row_there kept rows base i row h lt is =
+    let size = as_long kept.words kept.text kept.times.items kept.rows.items rows h.shown in
+    let p = placed_at rows i (omega (arith, lt, size)) in
+    (p.0, p.1, shows_at kept.words kept.text kept.times.items kept.rows.items rows i row p.0 h.shown (slice_get-get_or kept.rows.items i row lt ∙ ap Some (sym is)) p.1)
+
+-- what a test says of it is what it says of the place
+pub told_there : (test : Placed → Bool) (rows : List Placed) (i : ℕ) (p : Placed) (told : Bool) → slice_get rows i ≡ Some p → told ≡ test p → told ≡ is_there test (slice_get rows i)
+told_there test rows i p told there e = e ∙ sym (ap (is_there test) there)
+
+-- what stands at a place
+pub element_there : (kept : Kept) (rows : List Placed) (base : Chars) (i : ℕ) (row : Row) (x : BesideRow) (e : Element) → HoldsRows kept rows base → i < length kept.rows.items
+    → slice_get kept.rows.items i ≡ Some row → slice_get kept.extras.items i ≡ Some x
+    → ((p : Placed) → ShowsRow kept.words kept.text kept.times.items row p → AreTokens kept.words (names_in row.head.words) (names_beside x) (names_of p)
+    → AreTokens kept.words (types_in row.head.words) (types_beside x) p.facts.types → ShowsElement kept.words kept.text kept.times.items e p)
+    → e.own ≡ own_beside x → e.others.now ≡ others_beside x → AtPlace kept rows i (Some e)
+element_there kept rows base i row x e h lt row_is x_is shown own others =
+    let size = as_long kept.words kept.text kept.times.items kept.rows.items rows h.shown in
+    let p = placed_at rows i (omega (arith, lt, size)) in
+    let row_shows = shows_at kept.words kept.text kept.times.items kept.rows.items rows i row p.0 h.shown row_is p.1 in
+    let fits = h.extras.fit i row p.0 x row_is p.1 x_is in (
+      p.0,
+      p.1,
+      record {
+        shown = shown p.0 row_shows fits.names fits.types;
+        reached = λ item. subst (λ (runs : List Run). Reaches rows kept.members.items i runs p.0) (λ j. sym own j ∷ sym others j) (fits.reach item);
+      },
+    )
+
+-- what shows its names
+pub names_there : (kept : Kept) (rows : List Placed) (base : Chars) (i : ℕ) (row : Row) (x : BesideRow) (names : Tokens) → HoldsRows kept rows base → i < length kept.rows.items
+    → slice_get kept.rows.items i ≡ Some row → slice_get kept.extras.items i ≡ Some x
+    → ((words : Chars) (texts : List Chars) → AreTokens words (names_in row.head.words) (names_beside x) texts → ShowsTokens words names texts)
+    → NamesAt kept rows i (Some names)
+names_there kept rows base i row x names h lt row_is x_is shows =
+    let size = as_long kept.words kept.text kept.times.items kept.rows.items rows h.shown in
+    let p = placed_at rows i (omega (arith, lt, size)) in
+    (p.0, p.1, shows kept.words (names_of p.0) (h.extras.fit i row p.0 x row_is p.1 x_is).names)
+
+-- an element is that of the row at its place
+pub is_element : (kept : Kept) (rows : List Placed) (place : ℕ) (e : Element) (p : Placed) → slice_get rows place ≡ Some p → AtPlace kept rows place (Some e) → IsElement kept rows place e p
+is_element kept rows place e p row at =
+    let found : Some at.0 ≡ Some p = sym at.1 ∙ row in
+    let same : at.0 ≡ p = cc (found) in
+    subst (λ (q : Placed). IsElement kept rows place e q) same at.2
+
+numbered_from : (k : ℕ) (ps : List Placed) (i : ℕ) (p : Placed) → Numbered k ps → slice_get ps i ≡ Some p → p.place ≡ k + i
+numbered_from k [] i p n g = absurd (cc (g))
+numbered_from k (p1 ∷ ps) zero p n g =
+    let plain : k ≡ k + 0 = omega arith in
+    let same : p1 ≡ p = cc (g) in
+    ap (λ (x : Placed). x.place) (sym same) ∙ n.0 ∙ plain
+numbered_from k (p1 ∷ ps) (suc i) p n g = let next : suc k + i ≡ k + suc i = omega arith in numbered_from (suc k) ps i p n.1 g ∙ next
+
+pub place_is : (ps : List Placed) (i : ℕ) (p : Placed) → Numbered 0 ps → slice_get ps i ≡ Some p → p.place ≡ i
+place_is ps i p n g = let plain : 0 + i ≡ i = omega arith in numbered_from 0 ps i p n g ∙ plain
+
+-- the rows that a test lets through stand at their places, which rise
+shifted_at : (f : Placed → Bool) (front ps : List Placed) (k : ℕ) → Numbered k ps → ((i : ℕ) → slice_get front (k + i) ≡ slice_get ps i) → AllStand front (filter f ps)
+shifted_at f front [] k n same = tt
+shifted_at f front (p ∷ ps) k n same =
+    let here : slice_get front p.place ≡ Some p = let plain : k + 0 ≡ k = omega arith in ap (slice_get front) (n.0 ∙ sym plain) ∙ same 0 in
+    let rest = shifted_at f front ps (suc k) n.1 (λ i. let next : suc k + i ≡ k + suc i = omega arith in ap (slice_get front) next ∙ same (suc i)) in
+    by (f p) here rest
+  where
+    by : (b : Bool) → slice_get front p.place ≡ Some p → AllStand front (filter f ps) → AllStand front (cond b (p ∷ filter f ps) (filter f ps))
+    by true here rest = (here, rest)
+    by false here rest = rest
+
+pub all_stand : (f : Placed → Bool) (ps : List Placed) → Numbered 0 ps → AllStand ps (filter f ps)
+all_stand f ps n = shifted_at f ps ps 0 n (λ i. let plain : 0 + i ≡ i = omega arith in ap (slice_get ps) plain)
+
+above : (f : Placed → Bool) (k j : ℕ) (ps : List Placed) → j < k → Numbered k ps → AllByRecursion (λ (y : ℕ). nat_cmp j y ≡ Less) (places (filter f ps))
+above f k j [] lt n = tt
+above f k j (p ∷ ps) lt n = by (f p) (less_of j p.place (let e = n.0 in omega (arith, e, lt))) (above f (suc k) j ps (omega (arith, lt)) n.1)
+  where
+    by : (b : Bool) → nat_cmp j p.place ≡ Less → AllByRecursion (λ (y : ℕ). nat_cmp j y ≡ Less) (places (filter f ps))
+        → AllByRecursion (λ (y : ℕ). nat_cmp j y ≡ Less) (places (cond b (p ∷ filter f ps) (filter f ps)))
+    by true here rest = (here, rest)
+    by false here rest = rest
+
+places_rise : (f : Placed → Bool) (k : ℕ) (ps : List Placed) → Numbered k ps → Rises (places (filter f ps))
+unfolding IsStrictlySortedBy
+places_rise f k [] n = tt
+places_rise f k (p ∷ ps) n = by (f p) (above f (suc k) p.place ps (let e = n.0 in omega (arith, e)) n.1) (places_rise f (suc k) ps n.1)
+  where
+    by : (b : Bool) → AllByRecursion (λ (y : ℕ). nat_cmp p.place y ≡ Less) (places (filter f ps)) → Rises (places (filter f ps)) → Rises (places (cond b (p ∷ filter f ps) (filter f ps)))
+    by true here rest = (here, rest)
+    by false here rest = rest
+
+-- what an item's runs give are the places of its properties
+pub list_is : (kept : Kept) (rows : List Placed) (base : Chars) (root : Placed) (e : Element) (place : ℕ) (list : List ℕ) → HoldsRows kept rows base
+    → IsElement kept rows place e root → is_item root ≡ true → Rises list
+    → ((x : ℕ) → Contains list x ↔ Contains (gathered kept.members.items (e.own ∷ e.others.now) place) x) → list ≡ places (properties_in rows root)
+list_is kept rows base root e place list h element item rise same =
+    let back = element.reached item in
+    same_rising list (places (properties_in rows root)) rise (places_rise _ 0 rows h.numbered)
+    (λ x c. (back x).0 ((same x).0 c)) (λ x c. (same x).1 ((back x).1 c))

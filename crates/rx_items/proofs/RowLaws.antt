@@ -1,0 +1,259 @@
+-- The rows of a page come to what the page comes to.
+use Rattle.std.specs.Prelude.{◌≡◌, ℕ, ◌≤◌, Bool, true, false, not, ◌&&◌, ◌||◌, ◌==◌, cond, ◌⊎◌, List, [], ◌∷◌, ◌++◌, map, filter, filter_map, find, Contains, Option, Some, None, option_map, is_some, unwrap_or}
+use Rattle.std.specs.List.{list_any, cons_option}
+use Rattle.std.proofs.Common.{refl, sym, ap, subst, ◌∙◌}
+use mathlib.Core.Logic.{inl, inr}
+use Rattle.rx_terms.specs.Text.{Chars}
+use Rattle.rx_grammar.specs.Trees.{Tree}
+use Rattle.rx_microdata.specs.Facts.{Facts}
+use Rattle.rx_microdata.specs.Elements.{Placed, elements_of, is_item, names_of, is_top_level}
+use Rattle.rx_microdata.specs.Properties.{is_any, is_same_id, has_id, first_with_id, properties}
+use Rattle.rx_microdata.specs.Laws.{is_before, reaches_by_scope, is_scope, is_property_by_scope}
+use Rattle.rx_microdata.specs.Json.{outcome_by}
+use Rattle.rx_microdata.proofs.Lists.{first, later, contradiction, or_left, or_right, and_parts, found_first, kept}
+use Rattle.rx_microdata.proofs.Scopes.{scopes}
+use Rattle.rx_microdata.proofs.ScopesList.{list as scopes_list}
+use Rattle.rx_items.specs.Rows.{matters, rows_from, rows_of, properties_in, RowsSuffice}
+use Rattle.rx_items.specs.Ranks.{marks, rank_in}
+use Rattle.rx_items.proofs.Alike.{Each, Item, Moves, outcome_alike}
+use Rattle.rx_items.proofs.RankLemmas.{is_row, ranked, Ranks, Counts, rows_are_ranked, row_counts, lt_same, eq_same, rank_rises, ranks_from}
+
+-- a filter of what is moved is the moved filter, where the tests agree on rows and other elements fail
+module _ (f : Placed → Placed) (p q : Placed → Bool) where
+  pub filter_moved : (xs : List Placed)
+      → ((e : Placed) → Contains xs e → is_row e ≡ true → q (f e) ≡ p e) → ((e : Placed) → Contains xs e → is_row e ≡ false → p e ≡ false)
+      → filter q (map f (filter is_row xs)) ≡ map f (filter p xs)
+  filter_moved [] same fails = refl
+  filter_moved (x ∷ xs) same fails =
+      by (is_row x) refl (filter_moved xs (λ e h. same e (later x e xs h)) (λ e h. fails e (later x e xs h)))
+    where
+      chosen : (b c : Bool) → b ≡ c → filter q (map f (filter is_row xs)) ≡ map f (filter p xs)
+          → cond b (f x ∷ filter q (map f (filter is_row xs))) (filter q (map f (filter is_row xs))) ≡ map f (cond c (x ∷ filter p xs) (filter p xs))
+      chosen true true e h = ap (λ l. f x ∷ l) h
+      chosen true false e h = contradiction true refl e
+      chosen false true e h = contradiction false e refl
+      chosen false false e h = h
+
+      by : (b : Bool) → is_row x ≡ b → filter q (map f (filter is_row xs)) ≡ map f (filter p xs)
+          → filter q (map f (cond b (x ∷ filter is_row xs) (filter is_row xs))) ≡ map f (cond (p x) (x ∷ filter p xs) (filter p xs))
+      by true e h = chosen (q (f x)) (p x) (same x (first x xs) e) h
+      by false e h = h ∙ ap (λ c. map f (cond c (x ∷ filter p xs) (filter p xs))) (sym (fails x (first x xs) e))
+
+-- what matters
+no_item : (facts : Facts) → matters facts ≡ false → facts.is_item ≡ false
+no_item facts h = by facts.is_item (is_some facts.names || is_some facts.id) h
+  where
+    by : (a b : Bool) → (a || b) ≡ false → a ≡ false
+    by true b e = e
+    by false b e = refl
+
+rest_of : (a b : Bool) → (a || b) ≡ false → b ≡ false
+rest_of true b e = contradiction true refl e
+rest_of false b e = e
+
+front_of : (a b : Bool) → (a || b) ≡ false → a ≡ false
+front_of true b e = e
+front_of false b e = refl
+
+no_names : (facts : Facts) → matters facts ≡ false → is_any (unwrap_or facts.names []) ≡ false
+no_names facts h = by facts.names (front_of (is_some facts.names) (is_some facts.id) (rest_of facts.is_item (is_some facts.names || is_some facts.id) h))
+  where
+    by : (o : Option (List Chars)) → is_some o ≡ false → is_any (unwrap_or o []) ≡ false
+    by None e = refl
+    by (Some names) e = contradiction true refl e
+
+no_id : (facts : Facts) (token : Chars) → matters facts ≡ false → is_same_id token facts.id ≡ false
+no_id facts token h = by facts.id (rest_of (is_some facts.names) (is_some facts.id) (rest_of facts.is_item (is_some facts.names || is_some facts.id) h))
+  where
+    by : (o : Option Chars) → is_some o ≡ false → is_same_id token o ≡ false
+    by None e = refl
+    by (Some id) e = contradiction true refl e
+
+item_matters : (facts : Facts) → facts.is_item ≡ true → matters facts ≡ true
+item_matters facts h = or_left facts.is_item (is_some facts.names || is_some facts.id) h
+
+id_matters : (facts : Facts) (token : Chars) → is_same_id token facts.id ≡ true → matters facts ≡ true
+id_matters facts token h =
+    or_right facts.is_item (is_some facts.names || is_some facts.id) (or_right (is_some facts.names) (is_some facts.id) (by facts.id h))
+  where
+    by : (o : Option Chars) → is_same_id token o ≡ true → is_some o ≡ true
+    by None e = contradiction false e refl
+    by (Some id) e = refl
+
+named_matters : (facts : Facts) → is_any (unwrap_or facts.names []) ≡ true → matters facts ≡ true
+named_matters facts h =
+    or_right facts.is_item (is_some facts.names || is_some facts.id) (or_left (is_some facts.names) (is_some facts.id) (by facts.names h))
+  where
+    by : (o : Option (List Chars)) → is_any (unwrap_or o []) ≡ true → is_some o ≡ true
+    by None e = contradiction false e refl
+    by (Some names) e = refl
+
+fails_at : (a b c : Bool) → b ≡ false → (a && b && c) ≡ false
+fails_at true b c e = ap (λ x. x && c) e
+fails_at false b c e = refl
+
+module _ (f : Placed → Placed) (ids : (token : Chars) (e : Placed) → has_id token (f e) ≡ has_id token e) where
+  first_moved : (token : Chars) (xs : List Placed) → find (has_id token) (map f (filter is_row xs)) ≡ option_map f (find (has_id token) xs)
+  first_moved token [] = refl
+  first_moved token (x ∷ xs) = by (is_row x) refl (first_moved token xs)
+    where
+      chosen : (c d : Bool) → c ≡ d → find (has_id token) (map f (filter is_row xs)) ≡ option_map f (find (has_id token) xs)
+          → cond c (Some (f x)) (find (has_id token) (map f (filter is_row xs))) ≡ option_map f (cond d (Some x) (find (has_id token) xs))
+      chosen true true e h = refl
+      chosen true false e h = contradiction true refl e
+      chosen false true e h = contradiction false e refl
+      chosen false false e h = h
+
+      by : (b : Bool) → is_row x ≡ b → find (has_id token) (map f (filter is_row xs)) ≡ option_map f (find (has_id token) xs)
+          → find (has_id token) (map f (cond b (x ∷ filter is_row xs) (filter is_row xs))) ≡ option_map f (cond (has_id token x) (Some x) (find (has_id token) xs))
+      by true e h = chosen (has_id token (f x)) (has_id token x) (ids token x) h
+      by false e h = h ∙ ap (λ c. option_map f (cond c (Some x) (find (has_id token) xs))) (sym (no_id x.facts token e))
+
+module _ (tree : Tree) where
+  abbrev page : List Placed
+  page = elements_of tree
+
+  abbrev rank : ℕ → ℕ
+  rank = rank_in (marks tree)
+
+  append_nil : (xs : List Bool) → xs ++ [] ≡ xs
+  append_nil [] = refl
+  append_nil (x ∷ xs) = ap (λ l. x ∷ l) (append_nil xs)
+
+  ranks : Ranks rank 0 tree
+  ranks = ranks_from (marks tree) [] tree [] 0 refl (sym (append_nil (marks tree)))
+
+  rank_zero : (ms : List Bool) → rank_in ms 0 ≡ 0
+  rank_zero [] = refl
+  rank_zero (m ∷ ms) = refl
+
+  abbrev move : Placed → Placed
+  move = ranked rank
+
+  rows_moved : rows_of tree ≡ map move (filter is_row page)
+  rows_moved = ap (λ n. rows_at n) (sym (rank_zero (marks tree))) ∙ rows_are_ranked rank None 0 tree ranks
+    where
+      rows_at : ℕ → List Placed
+      rows_at n = rows_from None n tree
+
+  rises : (p q : ℕ) → p ≤ q → rank p ≤ rank q
+  rises = rank_rises (marks tree)
+
+  abbrev Good : Placed → Type 0
+  Good e = Contains page e × (is_row e ≡ true)
+
+  counts : (e : Placed) → Good e → Counts rank e.place
+  counts e g = row_counts rank None 0 tree ranks e g.0 g.1
+
+  -- the nearest item around an element is a row
+  abbrev Scoped : Placed → Type 0
+  Scoped e = (e.scope ≡ None) ⊎ ((s : ℕ) × (e.scope ≡ Some s) × Counts rank s)
+
+  scoped : (e : Placed) → Contains page e → Scoped e
+  scoped e h = elim ((scopes None 0 tree e h).0) as (λ _. Scoped e) [
+    | inl n ↦ inl n
+    | inr held ↦ inr ((held.0).place, held.4, counts held.0 (held.1, item_matters (held.0).facts held.2))
+  ]
+
+  scope_same : (root e : Placed) → Good root → Contains page e → is_scope (rank root.place) (option_map rank e.scope) ≡ is_scope root.place e.scope
+  scope_same root e g h = elim (scoped e h) as (λ _. is_scope (rank root.place) (option_map rank e.scope) ≡ is_scope root.place e.scope) [
+    | inl n ↦ ap (λ o. is_scope (rank root.place) (option_map rank o)) n ∙ ap (λ o. is_scope root.place o) (sym n)
+    | inr s ↦
+        ap (λ o. is_scope (rank root.place) (option_map rank o)) s.1 ∙ eq_same rank rises s.0 root.place s.2 (counts root g)
+        ∙ ap (λ o. is_scope root.place o) (sym s.1)
+  ]
+
+  before_same : (start e : Placed) → Contains page e → is_before (option_map rank e.scope) (rank start.place) ≡ is_before e.scope start.place
+  before_same start e h = elim (scoped e h) as (λ _. is_before (option_map rank e.scope) (rank start.place) ≡ is_before e.scope start.place) [
+    | inl n ↦ ap (λ o. is_before (option_map rank o) (rank start.place)) n ∙ ap (λ o. is_before o start.place) (sym n)
+    | inr s ↦
+        ap (λ o. is_before (option_map rank o) (rank start.place)) s.1 ∙ lt_same rank rises s.0 start.place s.2
+        ∙ ap (λ o. is_before o start.place) (sym s.1)
+  ]
+
+  reaches_same : (start e : Placed) → Good start → Good e → reaches_by_scope (move e) (move start) ≡ reaches_by_scope e start
+  reaches_same start e g h =
+      let same = eq_same rank rises start.place e.place (counts start g) (counts e h) in
+      let left = lt_same rank rises start.place e.place (counts start g) in
+      let right = lt_same rank rises e.place start.past (counts e h) in
+      let before = before_same start e h.0 in
+      λ i. same i || (left i && right i) && before i
+
+  starts_moved : (refs : List Chars) → filter_map (first_with_id (map move (filter is_row page))) refs ≡ map move (filter_map (first_with_id page) refs)
+  starts_moved [] = refl
+  starts_moved (token ∷ refs) =
+      (λ i. cons_option (first_moved move (λ t e. refl) token page i) (starts_moved refs i)) ∙ by (first_with_id page token) (filter_map (first_with_id page) refs)
+    where
+      by : (o : Option Placed) (more : List Placed) → cons_option (option_map move o) (map move more) ≡ map move (cons_option o more)
+      by None more = refl
+      by (Some x) more = refl
+
+  starts_good : (refs : List Chars) → Each Good (filter_map (first_with_id page) refs)
+  starts_good [] = tt
+  starts_good (token ∷ refs) = by (first_with_id page token) refl (starts_good refs)
+    where
+      by : (o : Option Placed) → first_with_id page token ≡ o → Each Good (filter_map (first_with_id page) refs)
+          → Each Good (cons_option o (filter_map (first_with_id page) refs))
+      by None e h = h
+      by (Some x) e h = let w = found_first (has_id token) page x e in ((w.0, id_matters x.facts token w.1), h)
+
+  any_moved : (e : Placed) → Good e → (starts : List Placed) → Each Good starts → list_any (reaches_by_scope (move e)) (map move starts) ≡ list_any (reaches_by_scope e) starts
+  any_moved e g [] h = refl
+  any_moved e g (x ∷ starts) h =
+      let head = reaches_same x e h.0 g in
+      let rest = any_moved e g starts h.1 in
+      λ i. head i || rest i
+
+  test_same : (root e : Placed) → Good root → Good e
+      → is_property_by_scope (map move (filter is_row page)) (move root) (move e) ≡ is_property_by_scope page root e
+  test_same root e g h =
+      let other = eq_same rank rises root.place e.place (counts root g) (counts e h) in
+      let scope = scope_same root e g h.0 in
+      let named =
+      ap (λ starts. list_any (reaches_by_scope (move e)) starts) (starts_moved root.facts.references)
+      ∙ any_moved e h (filter_map (first_with_id page) root.facts.references) (starts_good root.facts.references) in
+      λ i. not (other i) && is_any (names_of e) && (scope i || named i)
+
+  by_scope : (root : Placed) → Item Good root → properties_in (rows_of tree) (move root) ≡ map move (properties page root)
+  by_scope root g =
+      ap (λ rows. properties_in rows (move root)) rows_moved
+      ∙ filter_moved move (is_property_by_scope page root) (is_property_by_scope (map move (filter is_row page)) (move root)) page
+      (λ e h t. test_same root e g.0 (h, t))
+      (λ e h t. fails_at (not (root.place == e.place)) (is_any (names_of e)) _ (no_names e.facts t))
+      ∙ ap (map move) (sym (scopes_list tree root (g.0).0 g.1))
+
+  each_of : (P : Placed → Type 0) (xs : List Placed) → ((e : Placed) → Contains xs e → P e) → Each P xs
+  each_of P [] h = tt
+  each_of P (x ∷ xs) h = (h x (first x xs), each_of P xs (λ e l. h e (later x e xs l)))
+
+  stays : (root : Placed) → Item Good root → Each Good (properties page root)
+  stays root g =
+      subst (Each Good) (sym (scopes_list tree root (g.0).0 g.1)) (each_of Good (filter (is_property_by_scope page root) page) (λ e h.
+      let w = kept (is_property_by_scope page root) page e h in
+      let parts = and_parts (not (root.place == e.place) && is_any (names_of e)) _ w.1 in
+      let named = and_parts (not (root.place == e.place)) (is_any (names_of e)) parts.0 in
+      (w.0, named_matters e.facts named.1)))
+
+  moves : Moves (λ e. rank e.place) (λ e. rank e.past) (λ e. option_map rank e.scope) Good (properties page) (properties_in (rows_of tree))
+  moves = record { places = λ x y g h. eq_same rank rises x.place y.place (counts x g) (counts y h); same = by_scope; stays = stays }
+
+  tops_moved : filter is_top_level (rows_of tree) ≡ map move (filter is_top_level page)
+  tops_moved =
+      ap (filter is_top_level) rows_moved
+      ∙ filter_moved move is_top_level is_top_level page (λ e h t. refl) (λ e h t. fails_first (is_item e) _ (no_item e.facts t))
+    where
+      fails_first : (a b : Bool) → a ≡ false → (a && b) ≡ false
+      fails_first true b e = contradiction true refl e
+      fails_first false b e = refl
+
+  tops_good : Each (Item Good) (filter is_top_level page)
+  tops_good = each_of (Item Good) (filter is_top_level page) (λ e h.
+      let w = kept is_top_level page e h in
+      let item = (and_parts (is_item e) _ w.1).0 in
+      ((w.0, item_matters e.facts item), item))
+
+pub rows_suffice : RowsSuffice
+rows_suffice bounds base tree =
+    ap (λ items. outcome_by (properties_in (rows_of tree)) bounds base items) (tops_moved tree)
+    ∙ outcome_alike (λ e. rank tree e.place) (λ e. rank tree e.past) (λ e. option_map (rank tree) e.scope) (Good tree) (properties (page tree)) (properties_in (rows_of tree))
+    (moves tree) bounds base (filter is_top_level (page tree)) (tops_good tree)

@@ -1,0 +1,110 @@
+-- What rows stand for stays as the table grows.
+use Rattle.std.specs.Prelude.{◌≡◌, ℕ, suc, ◌≤◌, ⊤, List, [], ◌∷◌, ◌++◌, length, Option, Some, None}
+use Rattle.std.proofs.Common.{refl, ap, ◌∙◌}
+use native.Mathlib.Omega.{arith}
+use Rattle.rx_terms.specs.Text.{Chars}
+use Rattle.rx_microdata.specs.Facts.{Value}
+use Rattle.rx_microdata.specs.Elements.{Placed}
+use Rattle.rx_items.specs.Words.{id_in, item_id_in, names_in, references_in, types_in}
+use Rattle.rx_items.specs.Showing.{ShowsPart, ShowsWord, ShowsValue, ShowsRow, ShowsRows}
+use Rattle.rx_items.specs.declared.spans.Span.{Span}
+use Rattle.rx_items.specs.declared.rows.Row.{Row}
+use Rattle.rx_items.specs.declared.rows.RowValue.{RowValue}
+use Rattle.rx_items.specs.declared.rows.RowValue.TheVariants as value
+use Rattle.rx_items.proofs.ListLemmas.{append_assoc}
+use Rattle.rx_items.proofs.SaidLemmas.{Keeps}
+
+pub stands_more : (text more : Chars) (span : Span) (part : Chars) → ShowsPart text span part → ShowsPart (text ++ more) span part
+stands_more text more span part s = record {
+  front = s.front;
+  rest = s.rest ++ more;
+  is_run = record {
+    is_whole = ap (λ l. l ++ more) s.is_run.is_whole ∙ append_assoc s.front (part ++ s.rest) more ∙ ap (λ l. s.front ++ l) (append_assoc part s.rest more);
+    from = s.is_run.from;
+    to = s.is_run.to;
+  };
+}
+
+pub word_more : (text more : Chars) (span : Option Span) (part : Option Chars) → ShowsWord text span part → ShowsWord (text ++ more) span part
+word_more text more None None s = tt
+word_more text more None (Some part) s = s
+word_more text more (Some span) None s = s
+word_more text more (Some span) (Some part) s = stands_more text more span part s
+
+-- the numbers of times are not below this one
+abbrev pub OwnFrom : ℕ → RowValue → Type 0
+OwnFrom low (value.ChildText time) = low ≤ time
+OwnFrom low _ = ⊤
+
+abbrev pub OwnsFrom : ℕ → List Row → Type 0
+OwnsFrom low [] = ⊤
+OwnsFrom low (row ∷ rows) = OwnFrom low row.value × OwnsFrom low rows
+
+value_more : (words text more_words more_text : Chars) (times later : List Chars) (low : ℕ) (r : RowValue) (v : Value) → Keeps low times later → OwnFrom low r
+    → ShowsValue words text times r v → ShowsValue (words ++ more_words) (text ++ more_text) later r v
+value_more words text mw mt times later low value.Empty v k o s = s
+value_more words text mw mt times later low (value.Written span) v k o s = (s.0, s.1, stands_more words mw span s.0 s.2)
+value_more words text mw mt times later low (value.Reference span) v k o s = (s.0, s.1, stands_more words mw span s.0 s.2)
+value_more words text mw mt times later low (value.Running from) v k o s = s
+value_more words text mw mt times later low (value.Run span) v k o s = (s.0, s.1, stands_more text mt span s.0 s.2)
+value_more words text mw mt times later low (value.ChildText time) v k o s = (s.0, s.1, k time s.0 o s.2)
+
+row_more : (words text more_words more_text : Chars) (times later : List Chars) (low : ℕ) (row : Row) (p : Placed) → Keeps low times later → OwnFrom low row.value
+    → ShowsRow words text times row p → ShowsRow (words ++ more_words) (text ++ more_text) later row p
+row_more words text mw mt times later low row p k o s = record {
+  token = s.token;
+  at = s.at;
+  past = s.past;
+  scope = s.scope;
+  is_item = s.is_item;
+  named = s.named;
+  itemprop = s.itemprop;
+  has_names = word_more words mw (names_in row.head.words) s.itemprop s.has_names;
+  names = s.names;
+  id = word_more words mw (id_in row.head.words) p.facts.id s.id;
+  itemtype = s.itemtype;
+  has_types = word_more words mw (types_in row.head.words) s.itemtype s.has_types;
+  types = s.types;
+  item_id = word_more words mw (item_id_in row.head.words) p.facts.item_id s.item_id;
+  itemref = s.itemref;
+  has_references = word_more words mw (references_in row.head.words) s.itemref s.has_references;
+  references = s.references;
+  value = value_more words text mw mt times later low row.value p.facts.value k o s.value;
+}
+
+pub rows_more : (words text more_words more_text : Chars) (times later : List Chars) (low : ℕ) (rows : List Row) (ps : List Placed) → Keeps low times later → OwnsFrom low rows
+    → ShowsRows words text times rows ps → ShowsRows (words ++ more_words) (text ++ more_text) later rows ps
+rows_more words text mw mt times later low [] [] k o s = tt
+rows_more words text mw mt times later low [] (p ∷ ps) k o s = s
+rows_more words text mw mt times later low (row ∷ rows) [] k o s = s
+rows_more words text mw mt times later low (row ∷ rows) (p ∷ ps) k o s =
+    (row_more words text mw mt times later low row p k o.0 s.0, rows_more words text mw mt times later low rows ps k o.1 s.1)
+
+pub shows_append : (words text : Chars) (times : List Chars) (rows more : List Row) (ps qs : List Placed) → ShowsRows words text times rows ps → ShowsRows words text times more qs
+    → ShowsRows words text times (rows ++ more) (ps ++ qs)
+shows_append words text times [] more [] qs s t = t
+shows_append words text times [] more (p ∷ ps) qs s t = absurd s
+shows_append words text times (row ∷ rows) more [] qs s t = absurd s
+shows_append words text times (row ∷ rows) more (p ∷ ps) qs s t = (s.0, shows_append words text times rows more ps qs s.1 t)
+
+pub shows_length : (words text : Chars) (times : List Chars) (rows : List Row) (ps : List Placed) → ShowsRows words text times rows ps → length rows ≡ length ps
+shows_length words text times [] [] s = refl
+shows_length words text times [] (p ∷ ps) s = absurd s
+shows_length words text times (row ∷ rows) [] s = absurd s
+shows_length words text times (row ∷ rows) (p ∷ ps) s = ap suc (shows_length words text times rows ps s.1)
+
+own_weaker : (low lower : ℕ) (r : RowValue) → lower ≤ low → OwnFrom low r → OwnFrom lower r
+own_weaker low lower value.Empty l o = tt
+own_weaker low lower (value.Written span) l o = tt
+own_weaker low lower (value.Reference span) l o = tt
+own_weaker low lower (value.Running from) l o = tt
+own_weaker low lower (value.Run span) l o = tt
+own_weaker low lower (value.ChildText time) l o = omega (arith, l, o)
+
+pub owns_weaker : (low lower : ℕ) (rows : List Row) → lower ≤ low → OwnsFrom low rows → OwnsFrom lower rows
+owns_weaker low lower [] l o = tt
+owns_weaker low lower (row ∷ rows) l o = (own_weaker low lower row.value l o.0, owns_weaker low lower rows l o.1)
+
+pub owns_append : (low : ℕ) (rows more : List Row) → OwnsFrom low rows → OwnsFrom low more → OwnsFrom low (rows ++ more)
+owns_append low [] more o q = q
+owns_append low (row ∷ rows) more o q = (o.0, owns_append low rows more o.1 q)

@@ -1,0 +1,116 @@
+-- What a start reaches is a run of members.
+use Rattle.std.proofs.Common.{◌≡◌, ◌∙◌, ◌+◌, ◌<◌, ◌≤◌, ℕ, zero, suc, Bool, true, false, ◌==◌, ◌&&◌, cond, List, [], ◌∷◌, Option, Some, None, refl, sym, ap, subst, arith, nat_lt}
+use Rattle.std.specs.Prelude.{slice_get}
+use mathlib.Core.Logic.{◌⊎◌, inl, inr}
+use Rattle.std.proofs.lemmas.Bool.{cases_lt, ltb-true, lt-ltb, eqb-true, eq-eqb}
+use Rattle.rx_microdata.specs.Elements.{Placed, is_item, is_below}
+use Rattle.rx_microdata.specs.Laws.{is_before, reaches_by_scope}
+use Rattle.rx_microdata.proofs.Lists.{or_parts, or_left, or_right, and_parts, and_of}
+use Rattle.rx_items.specs.Held.{Numbered}
+use Rattle.rx_items.specs.Starts.{Reached}
+use Rattle.rx_items.proofs.Alike.{Each}
+use Rattle.rx_items.proofs.HoldLemmas.{place_is}
+use Rattle.rx_items.proofs.MemberLemmas.{InRange}
+use Rattle.rx_items.proofs.NestLemmas.{Fits, Nests, Pairs}
+
+pub each_at : (P : Placed → Type 0) (ps : List Placed) (i : ℕ) (p : Placed) → Each P ps → slice_get ps i ≡ Some p → P p
+each_at P [] i p e g = absurd (cc (g))
+each_at P (x ∷ ps) zero p e g = let same : x ≡ p = cc (g) in subst P same e.0
+each_at P (x ∷ ps) (suc i) p e g = each_at P ps i p e.1 g
+
+pub nests_at : (ps : List Placed) (i j : ℕ) (s e : Placed) → Pairs ps ps → slice_get ps i ≡ Some s → slice_get ps j ≡ Some e → Nests s e
+nests_at ps i j s e pairs g h = each_at (Nests s) ps j e (each_at (λ s. Each (Nests s) ps) ps i s pairs g) h
+
+abbrev pub end_by : Bool → ℕ → ℕ → ℕ
+end_by item place past = cond item (place + 1) past
+
+module _ (ps : List Placed) (size : ℕ) (numbered : Numbered 0 ps) (fits : Each (Fits None 0 size) ps) (pairs : Pairs ps ps) (start : Placed) (place : ℕ) (there : slice_get ps place ≡ Some start) where
+  at_start : start.place ≡ place
+  at_start = place_is ps place start numbered there
+
+  fit : Fits None 0 size start
+  fit = each_at (Fits None 0 size) ps place start fits there
+
+  pub run_reaches : (x : ℕ) → InRange ps start.scope place (end_by (is_item start) place start.past) x → Reached ps start x
+  run_reaches x r =
+      let at = place_is ps x r.row numbered r.is in
+      record { row = r.row; is = r.is; named = r.named; reaches = go (is_item start) r.high (cases_lt place x) at }
+    where
+      itself : r.row.place ≡ x → place ≡ x → (start.place == r.row.place) ≡ true
+      itself at same = eq-eqb start.place r.row.place (at_start ∙ same ∙ sym at)
+
+      below : r.row.place ≡ x → place < x → x < start.past → (is_below start r.row && is_before r.row.scope start.place) ≡ true
+      below at lt high =
+          let e = at_start in
+          and_of (is_below start r.row) (is_before r.row.scope start.place)
+          (and_of (nat_lt start.place r.row.place) (nat_lt r.row.place start.past) (lt-ltb start.place r.row.place (omega (arith, e, at, lt))) (lt-ltb r.row.place start.past (omega (arith, at, high))))
+          (ap (λ (o : Option ℕ). is_before o start.place) r.scope_is ∙ fit.before)
+
+      go : (b : Bool) → x < end_by b place start.past → (place < x) ⊎ (x ≤ place) → r.row.place ≡ x → reaches_by_scope r.row start ≡ true
+      go true high (inl lt) at = absurd (omega (arith, high, lt))
+      go false high (inl lt) at = or_right (start.place == r.row.place) (is_below start r.row && is_before r.row.scope start.place) (below at lt high)
+      go b high (inr le) at =
+          let low = r.low in
+          let same : place ≡ x = omega (arith, low, le) in
+          or_left (start.place == r.row.place) (is_below start r.row && is_before r.row.scope start.place) (itself at same)
+
+  pub reached_in_run : (x : ℕ) → Reached ps start x → InRange ps start.scope place (end_by (is_item start) place start.past) x
+  reached_in_run x r = by (or_parts (start.place == r.row.place) (is_below start r.row && is_before r.row.scope start.place) r.reaches)
+    where
+      at : r.row.place ≡ x
+      at = place_is ps x r.row numbered r.is
+
+      room : (b : Bool) → place < end_by b place start.past
+      room true = omega arith
+      room false = let e = at_start in let r = fit.has_room in omega (arith, e, r)
+
+      same_row : place ≡ x → r.row ≡ start
+      same_row same =
+          let found : Some r.row ≡ Some start = sym r.is ∙ ap (slice_get ps) (sym same) ∙ there in
+          cc (found)
+
+      inner : (b : Bool) → is_item start ≡ b → place < x → x < start.past → is_before r.row.scope start.place ≡ true → InRange ps start.scope place (end_by b place start.past) x
+      inner true item lt high before =
+          let e = at_start in
+          let k = (nests_at ps place x start r.row pairs there r.is).in_item (omega (arith, e, at, lt)) (omega (arith, at, high)) item in
+          let under = ltb-true k.0 start.place (ap (λ (o : Option ℕ). is_before o start.place) (sym k.1) ∙ before) in
+          let over = k.2 in
+          absurd (omega (arith, under, over))
+      inner false item lt high before =
+          let e = at_start in
+          record {
+            row = r.row;
+            is = r.is;
+            named = r.named;
+            scope_is = scope ((nests_at ps place x start r.row pairs there r.is).in_other (omega (arith, e, at, lt)) (omega (arith, at, high)) item);
+            low = omega (arith, lt);
+            high = high;
+          }
+        where
+          scope : (r.row.scope ≡ start.scope) ⊎ ((k : ℕ) × (r.row.scope ≡ Some k) × (start.place < k)) → r.row.scope ≡ start.scope
+          scope (inl is) = is
+          scope (inr k) =
+              let under = ltb-true k.0 start.place (ap (λ (o : Option ℕ). is_before o start.place) (sym k.1) ∙ before) in
+              let over = k.2 in
+              absurd (omega (arith, under, over))
+
+      by : ((start.place == r.row.place) ≡ true) ⊎ ((is_below start r.row && is_before r.row.scope start.place) ≡ true) → InRange ps start.scope place (end_by (is_item start) place start.past) x
+      by (inl same) =
+          let e = at_start in
+          let alike = eqb-true start.place r.row.place same in
+          let here : place ≡ x = sym e ∙ alike ∙ at in
+          record {
+            row = r.row;
+            is = r.is;
+            named = r.named;
+            scope_is = ap (λ (p : Placed). p.scope) (same_row here);
+            low = omega (arith, here);
+            high = subst (λ n. n < end_by (is_item start) place start.past) here (room (is_item start));
+          }
+      by (inr both) =
+          let parts = and_parts (is_below start r.row) (is_before r.row.scope start.place) both in
+          let lies = and_parts (nat_lt start.place r.row.place) (nat_lt r.row.place start.past) parts.0 in
+          let low = ltb-true start.place r.row.place lies.0 in
+          let high = ltb-true r.row.place start.past lies.1 in
+          let e = at_start in
+          inner (is_item start) refl (omega (arith, e, at, low)) (omega (arith, at, high)) parts.1

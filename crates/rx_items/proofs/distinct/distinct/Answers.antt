@@ -1,0 +1,24 @@
+use Rattle.std.proofs.Common.{rules, ◌∙◌, sym, ap, ◌∷◌, ◌++◌, List}
+use Rattle.std.specs.Str.{chars, IsUtf8}
+use Rattle.rx_terms.specs.Text.{Chars, tokens}
+use Rattle.rx_microdata.specs.Facts.{distinct_tokens, without_repeats_of}
+use Rattle.rx_items.specs.Distinct.{has_text}
+use Rattle.rx_items.proofs.DistinctLemmas.{Sees, sees_new, unseen, new_turn}
+use Rattle.rx_items.proofs.distinct.distinct.Goals as goal
+
+pub loop-token-preserved : goal.loop-token-preserved
+loop-token-preserved c =
+    let l = c.loop-token in
+    let token = c.in-Some.token.now in
+    let utf8 : IsUtf8 token = search rules in
+    let sees : Sees (has_text l.seen) l.invariant.so_far = record { at = l.invariant.sees } in
+    let absent = sym (l.invariant.sees token utf8) ∙ unseen c.in_ok-see.field-0 (has_text l.seen token) c.in_ok-see.ensures.is_new c.if-not-branch.false in
+    let next = sees_new (has_text l.seen) (has_text c.see.new.seen) l.invariant.so_far token utf8 sees c.in_ok-see.ensures.added in
+    record {
+      utf8 = search rules;
+      so_far = chars token ∷ l.invariant.so_far;
+      sees = next.at;
+      whole =
+          ap (λ (list : List Chars). list ++ without_repeats_of (chars token ∷ l.invariant.so_far) (tokens (chars c.in-Some.behind.now))) c.in_ok-push_text.ensures
+          ∙ new_turn l.list.items (distinct_tokens (chars c.args.text.now)) l.invariant.so_far (tokens (chars l.rest.now)) (tokens (chars c.in-Some.behind.now)) (chars token) l.invariant.whole c.in-Some.ensures.token absent;
+    }

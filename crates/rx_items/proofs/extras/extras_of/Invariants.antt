@@ -1,0 +1,13 @@
+use Rattle.std.proofs.Common.{List}
+use Rattle.rx_terms.specs.Text.{Chars}
+use Rattle.rx_grammar.specs.Trees.{Tree}
+use Rattle.rx_items.specs.Rows.{rows_of}
+use Rattle.rx_items.specs.Members.{Rises, Sorted}
+use Rattle.rx_items.specs.Ids.{LooksFor, look_in}
+use Rattle.rx_items.specs.Held.{AllFit}
+use Rattle.rx_items.proofs.extras.extras_of.Given as goal
+
+abbrev pub invariant-loop-place : goal.invariant-loop-place
+invariant-loop-place l =
+    (text : Chars) (times : List Chars) (tree : Tree) → Sorted l.words text times l.rows (rows_of tree) l.members → Rises l.rows l.members
+    → LooksFor l.rows l.ids (look_in (rows_of tree)) → AllFit l.words (rows_of tree) l.members l.rows l.place l.extras.items

@@ -1,0 +1,14 @@
+use Rattle.std.proofs.Common.{◌≡◌, ℕ, List, option_map, drop}
+use Rattle.std.specs.Str.{chars, IsUtf8}
+use Rattle.rx_terms.specs.Text.{Chars}
+use Rattle.rx_microdata.specs.Elements.{Placed}
+use Rattle.rx_microdata.specs.Properties.{first_with_id}
+use Rattle.rx_items.specs.Held.{Numbered}
+use Rattle.rx_items.specs.Ids.{place_of}
+use Rattle.rx_items.specs.Showing.{ShowsRows}
+use Rattle.rx_items.proofs.ids.first_ids.Given as goal
+
+abbrev pub invariant-loop-place : goal.invariant-loop-place
+invariant-loop-place l =
+    (gathered : Chars) (times : List Chars) (ps : List Placed) → ShowsRows l.words gathered times l.rows ps → Numbered 0 ps
+    → (text : List ℕ) → IsUtf8 text → place_of l.ids text ≡ option_map (λ (p : Placed). p.place) (first_with_id (drop l.place ps) (chars text))

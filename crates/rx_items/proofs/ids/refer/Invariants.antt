@@ -1,0 +1,7 @@
+use Rattle.std.proofs.Common.{◌≡◌, drop}
+use Rattle.std.specs.List.{list_any}
+use Rattle.rx_items.specs.Ids.{has_references}
+use Rattle.rx_items.proofs.ids.refer.Given as goal
+
+abbrev pub invariant-loop-row : goal.invariant-loop-row
+invariant-loop-row l = list_any has_references (drop l.row-index l.rows) ≡ list_any has_references l.rows

@@ -1,0 +1,9 @@
+use Rattle.std.proofs.Common.{rules, ℕ, nat_lt}
+use Rattle.std.proofs.lemmas.List.Sorted.{IsPartitionPoint-from_clause, IsPartitionedBy-ltb}
+use Rattle.rx_items.specs.Members.{key_at}
+use Rattle.rx_items.proofs.members.before.Goals as goal
+
+pub returns : goal.returns
+returns c up =
+    IsPartitionPoint-from_clause (λ (x : ℕ). nat_lt (key_at c.args.rows.now x) c.args.bound) c.args.members.now c.partition_point.result c.partition_point.ensures.partitioned
+    (IsPartitionedBy-ltb (key_at c.args.rows.now) c.args.members.now c.args.bound up) (λ a r f' called. search rules)

@@ -1,0 +1,13 @@
+use Rattle.std.proofs.Common.{ℕ, List, take, Contains, ◌↔◌}
+use Rattle.rx_terms.specs.Text.{Chars}
+use Rattle.rx_grammar.specs.Trees.{Tree}
+use Rattle.rx_items.specs.Rows.{rows_of}
+use Rattle.rx_items.specs.Members.{Rises, Sorted}
+use Rattle.rx_items.specs.Properties.{in_runs}
+use Rattle.rx_items.specs.Starts.{RunsReach}
+use Rattle.rx_items.proofs.reaches.runs_of.Given as goal
+
+abbrev pub invariant-loop-start : goal.invariant-loop-start
+invariant-loop-start l =
+    (words gathered : Chars) (times : List Chars) (tree : Tree) → Sorted words gathered times l.rows (rows_of tree) l.members → Rises l.rows l.members
+    → (x : ℕ) → Contains (in_runs l.members l.runs.items) x ↔ RunsReach (rows_of tree) l.place (take l.start-index l.starts) x

@@ -1,0 +1,77 @@
+//! The IRIs that the triples of lists have of their own.
+ghost use Rattle.std.specs.Prelude.{◌≡◌, IfOk, true};
+ghost use Rattle.std.specs.List.{list_all};
+ghost use Rattle.rx_terms.specs.Ascii.{is_ascii};
+ghost use Rattle.rx_terms.specs.Iri.{IsIri};
+ghost use Rattle.rx_model.specs.Vocabulary.{rdf_first, rdf_rest, rdf_nil};
+
+use rx_terms::{Iri, NoMemory, Text};
+use std::alloc::Global;
+use std::marker::Model;
+
+const FIRST: &str = "http://www.w3.org/1999/02/22-rdf-syntax-ns#first";
+
+const REST: &str = "http://www.w3.org/1999/02/22-rdf-syntax-ns#rest";
+
+const NIL: &str = "http://www.w3.org/1999/02/22-rdf-syntax-ns#nil";
+
+/// The IRIs that any list needs, made once for all of them. A contract sees nothing of the value, for it is always the
+/// same.
+#[derive(Drop)]
+pub(crate) struct CellIris {
+    first: Iri,
+    rest: Iri,
+    nil: Iri,
+}
+
+impl Model for CellIris {
+    ghost use Rattle.rx_lists.specs.CellIris.{AreOfCells};
+
+    ghost Value = { Unit {0} };
+
+    ghost view = { λ iris. tt };
+
+    ghost invariant = { λ iris. AreOfCells iris.first iris.rest iris.nil };
+}
+
+impl CellIris {
+    /// Makes the IRIs.
+    pub(crate) fn new(alloc: Global) -> Result<CellIris, NoMemory> {
+        Ok(CellIris {
+            first: iri(alloc, FIRST)?,
+            rest: iri(alloc, REST)?,
+            nil: iri(alloc, NIL)?,
+        })
+    }
+
+    /// rdf:first, the predicate of a cell's item.
+    pub(crate) fn first(&self) -> &Iri
+        ensures { result.now ≡ rdf_first }
+    {
+        &self.first
+    }
+
+    /// rdf:rest, the predicate of what follows a cell.
+    pub(crate) fn rest(&self) -> &Iri
+        ensures { result.now ≡ rdf_rest }
+    {
+        &self.rest
+    }
+
+    /// rdf:nil, which ends a list.
+    pub(crate) fn nil(&self) -> &Iri
+        ensures { result.now ≡ rdf_nil }
+    {
+        &self.nil
+    }
+}
+
+/// An IRI of RDF's namespace.
+fn iri(alloc: Global, text: &str) -> Result<Iri, NoMemory>
+    requires ascii { list_all is_ascii text.now ≡ true }
+    requires form { IsIri text.now }
+    ensures { IfOk result (λ iri. iri ≡ text.now) }
+{
+    let text = Text::of(alloc, text)?;
+    Iri::of_text(alloc, text)
+}

@@ -1,5 +1,0 @@
-pub mod Marks
-pub mod KnownTags
-pub mod Pending
-pub mod Meant
-pub mod Laws

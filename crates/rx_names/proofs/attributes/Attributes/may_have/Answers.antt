@@ -1,0 +1,8 @@
+use Rattle.std.proofs.Common.{◌∙◌, sym, ap}
+use Rattle.rx_terms.proofs.CharLemmas.{ascii-chars}
+use Rattle.rx_names.specs.Marks.{has_mark}
+use Rattle.rx_names.proofs.attributes.Attributes.may_have.Goals as goal
+
+pub returns : goal.returns
+returns c none =
+    rw (← c.self.view_is) (c.self.invariant.marked c.args.name.now (ap (has_mark c.self.inside.marks) (sym (ascii-chars c.args.name.now c.requires)) ∙ sym c.has_mark.ensures ∙ none))

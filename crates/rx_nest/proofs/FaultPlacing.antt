@@ -1,0 +1,170 @@
+-- Where a page's fault lies.
+use Rattle.std.proofs.Common.{◌≡◌, ◌∙◌, ℕ, ◌+◌, ◌<◌, ◌≤◌, List, [], ◌∷◌, ◌++◌, length, refl, sym, ap, Option, Some, None, Result, Ok, Err, arith, zero, suc, Bool, true, false, take, drop}
+use Rattle.std.proofs.lemmas.Bool.Decides.{nat_tests}
+use Rattle.std.specs.Prelude.{nat_le, if◌then◌else◌}
+use Rattle.rx_terms.proofs.Bools.{by_test}
+use Rattle.rx_chars.specs.declared.syntax.Syntax.{Syntax}
+use Rattle.rx_grammar.specs.declared.faults.Fault.{Fault}
+use Rattle.rx_grammar.specs.declared.faults.Kind.TheVariants.{Unended}
+use Rattle.rx_grammar.specs.declared.limits.Limits.{Limits}
+use Rattle.rx_grammar.specs.Pages.{Page}
+use Rattle.rx_grammar.specs.PageFaults.{FaultAt}
+use Rattle.rx_grammar.specs.Trees.{Tree}
+use Rattle.rx_pages.specs.PageReader.{Progress, page_read, page_on, nothing_read, no_page, spot_of, end_of, may_end, fault_in}
+use Rattle.rx_pages.proofs.FaultWalk.{fault_stays}
+use Rattle.rx_pages.proofs.FaultsRead.{fault_is_read}
+use Rattle.rx_pages.proofs.PageRead.{page_is_read}
+use Rattle.rx_pages.proofs.ScanSteps.{page_append}
+use Rattle.rx_pages.proofs.Trees.{one_tree}
+use Rattle.rx_nest.specs.Signs.{Sign, Sight, sees, nothing_seen, signs_of}
+use Rattle.rx_nest.specs.Fronts.{Lie}
+use Rattle.rx_nest.proofs.Sizes.{within_so}
+use Rattle.rx_pages.proofs.Sizes.{read_size}
+use Rattle.rx_nest.proofs.TagPlaces.{shows_more}
+use Rattle.rx_nest.proofs.TreeSeen.{whole}
+use Rattle.rx_nest.specs.Ways.{Way, IsRefusal}
+use Rattle.rx_nest.specs.Faults.{MeaningAt, Refuses, for_form, for_meaning}
+use Rattle.rx_nest.specs.FaultPlaces.{BeginsNone, BeginsRefused}
+use Rattle.rx_nest.proofs.Refusing.{at_from}
+use Rattle.rx_nest.proofs.Firsts.{meaning_within, page_behind}
+use Rattle.rx_nest.proofs.TokenPlacing.{take_front}
+use Rattle.rx_nest.proofs.Pieces.{front_back}
+
+-- the front of bytes that are read is read
+
+pub take_length : (n : ℕ) (xs : List ℕ) → n ≤ length xs → length (take n xs) ≡ n
+take_length zero xs l = refl
+take_length (suc n) [] l = absurd (omega arith)
+take_length (suc n) (x ∷ xs) l = ap suc (take_length n xs (omega arith))
+
+module _ (syntax : Syntax) (limits : Limits) where
+  pub record Read (bytes : List ℕ) : Type 0 where
+    pub now : Progress
+    pub is : page_read syntax limits bytes ≡ Ok now
+
+  pub read_front : (front rest : List ℕ) (q : Progress) → page_read syntax limits (front ++ rest) ≡ Ok q → Read front
+  read_front front rest q e = by (page_read syntax limits front) refl
+    where
+      by : (x : Result Progress Fault) → page_read syntax limits front ≡ x → Read front
+      by (Ok p) k = record { now = p; is = k }
+      by (Err fault) k =
+          absurd (let w : Err fault ≡ Ok q =
+          sym (fault_stays syntax limits fault rest) ∙ (ap (λ x. page_on syntax limits x rest) (sym k) ∙ (sym (page_append syntax limits (spot_of syntax no_page.nest) (Ok nothing_read) front rest) ∙ e)) in cc)
+
+  -- a page is read to its end, and shows its tree
+  pub record PageShows (bytes : List ℕ) (tree : Tree) : Type 0 where
+    pub final : Progress
+    pub read : page_read syntax limits bytes ≡ Ok final
+    pub signs_are : (sees nothing_seen final.told).signs ≡ signs_of tree
+
+  pub page_shows : (bytes : List ℕ) (tree : Tree) → Page syntax limits bytes tree → PageShows bytes tree
+  page_shows bytes tree page =
+      let r = page_is_read syntax limits bytes tree page in
+      let w = whole syntax limits bytes r.final r.is_read in
+      let same : w.tree ≡ tree = one_tree syntax limits bytes w.tree tree w.page page in
+      record {
+        final = r.final;
+        read = by (page_read syntax limits bytes) r.final r.is_read;
+        signs_are = ap (λ (x : Sight). x.signs) w.shows ∙ ap signs_of same;
+      }
+    where
+      ends : (p final : Progress) (b : Bool) → ◌≡◌ {A = Result Progress Fault} (if b then Ok p else Err (fault_in p.now.scan Unended)) (Ok final) → ◌≡◌ {A = Result Progress Fault} (Ok p) (Ok final)
+      ends p final true e = e
+      ends p final false e = absurd (cc)
+
+      by : (x : Result Progress Fault) (final : Progress) → end_of x ≡ Ok final → x ≡ Ok final
+      by (Ok p) final e = ends p final (may_end p.now) e
+      by (Err fault) final e = absurd (cc)
+
+  -- a fault of the form that one of the bytes decides is read
+  fault_read : (bytes : List ℕ) (fault : Fault) → FaultAt syntax limits bytes fault → fault.at < length bytes → page_read syntax limits bytes ≡ Err fault
+  fault_read bytes fault f l = by (page_read syntax limits bytes) refl (fault_is_read syntax limits bytes fault f)
+    where
+      ends : (q : Progress) (b : Bool) → length bytes ≡ q.now.scan.at → ◌≡◌ {A = Result Progress Fault} (if b then Ok q else Err (fault_in q.now.scan Unended)) (Err fault) → page_read syntax limits bytes ≡ Err fault
+      ends q true e w = absurd (cc)
+      ends q false e w =
+          let is : fault_in q.now.scan Unended ≡ fault = cc in
+          let at : q.now.scan.at ≡ fault.at = ap (λ (x : Fault). x.at) is in
+          absurd (omega (arith, l, at, e))
+
+      by : (x : Result Progress Fault) → page_read syntax limits bytes ≡ x → end_of x ≡ Err fault → page_read syntax limits bytes ≡ Err fault
+      by (Ok q) k w = ends q (may_end q.now) (sym (read_size syntax limits bytes q k).0) w
+      by (Err other) k w = k ∙ w
+
+  -- no page begins with the bytes through its place
+  pub begins_none : (bytes : List ℕ) (fault : Fault) → FaultAt syntax limits bytes fault → fault.at < length bytes → BeginsNone syntax limits (take (fault.at + 1) bytes)
+  begins_none bytes fault f l rest tree page =
+      let n : ℕ = fault.at + 1 in
+      let front = read_front (take n bytes) rest (page_shows (take n bytes ++ rest) tree page).final (page_shows (take n bytes ++ rest) tree page).read in
+      let fails : page_read syntax limits (take n bytes ++ drop n bytes) ≡ Err fault = ap (λ b. page_read syntax limits b) (front_back n bytes) ∙ fault_read bytes fault f l in
+      let from = (within_so syntax limits (take n bytes) (drop n bytes) front.now fault front.is fails).from in
+      let size = take_length n bytes (omega (arith, l)) in
+      omega (arith, from, size)
+
+-- a start tag that is refused
+
+abbrev pub shown : Progress → List Sign
+shown p = (sees nothing_seen p.told).signs
+
+-- the bytes through the fault's place show the tag
+pub record Shown (way : Way) (bytes : List ℕ) (fault : Fault) : Type 0 where
+  pub now : Progress
+  pub read : page_read way.syntax way.limits bytes ≡ Ok now
+  pub refused : way.refused (shown now) ≡ Some fault
+
+module _ (way : Way) (law : IsRefusal way.refused) where
+  shown_by : (front rest : List ℕ) (p q : Progress) (fault : Fault) → page_read way.syntax way.limits front ≡ Ok p → page_read way.syntax way.limits (front ++ rest) ≡ Ok q
+      → way.refused (shown q) ≡ Some fault → fault.at < length front → way.refused (shown p) ≡ Some fault
+  shown_by front rest p q fault r s e l =
+      let more = shows_more way.syntax way.limits front rest p q r s in
+      by more.signs more.lie (way.refused (shown p)) refl (ap way.refused (sym more.are) ∙ e)
+    where
+      by : (signs : List Sign) → Lie (length front) (length (front ++ rest)) signs → (x : Option Fault) → way.refused (shown p) ≡ x → way.refused (shown p ++ signs) ≡ Some fault → way.refused (shown p) ≡ Some fault
+      by signs lie (Some other) k w = k ∙ (sym (law.stays (shown p) signs other k) ∙ w)
+      by signs lie None k w =
+          let far = at_from (length front) (length (front ++ rest)) signs fault lie (law.lies (shown p) signs fault k w) in
+          absurd (omega (arith, far, l))
+
+  pub through : (bytes : List ℕ) (fault : Fault) (m : MeaningAt way bytes fault) → Shown way (take (fault.at + 1) bytes) fault
+  through bytes fault m =
+      let n : ℕ = fault.at + 1 in
+      let l = meaning_within way law bytes fault m in
+      let at : length (take n m.front) ≡ n = take_length n m.front (omega (arith, l)) in
+      let parts : take n m.front ++ drop n m.front ≡ m.front = front_back n m.front in
+      let whole_read : page_read way.syntax way.limits (take n m.front ++ drop n m.front) ≡ Ok m.now = ap (λ b. page_read way.syntax way.limits b) parts ∙ m.read in
+      let r = read_front way.syntax way.limits (take n m.front) (drop n m.front) m.now whole_read in
+      let same : take n m.front ≡ take n bytes = sym (take_front n m.front m.rest (omega (arith, l))) ∙ ap (take n) (sym m.are) in
+      record {
+        now = r.now;
+        read = ap (λ b. page_read way.syntax way.limits b) (sym same) ∙ r.is;
+        refused = shown_by (take n m.front) (drop n m.front) r.now m.now fault r.is whole_read m.refused (omega (arith, at));
+      }
+
+  -- each page that begins so has this tag
+  pub refused_of : (bytes : List ℕ) (fault : Fault) → Shown way bytes fault → BeginsRefused way bytes fault
+  refused_of bytes fault s rest tree page =
+      let p = page_shows way.syntax way.limits (bytes ++ rest) tree page in
+      let more = shows_more way.syntax way.limits bytes rest s.now p.final s.read p.read in
+      ap way.refused (sym p.signs_are ∙ more.are) ∙ law.stays (shown s.now) more.signs fault s.refused
+
+  -- a fault lies behind what was read without one
+  pub lies_behind : (bytes piece : List ℕ) (p : Progress) (fault : Fault) → page_read way.syntax way.limits bytes ≡ Ok p → way.refused (shown p) ≡ None
+      → Refuses way (bytes ++ piece) fault → length bytes ≤ fault.at
+  lies_behind bytes piece p fault r a (for_form f none) = page_behind way.syntax way.limits bytes piece p fault r f
+  lies_behind bytes piece p fault r a (for_meaning m first) = by_within (through (bytes ++ piece) fault m)
+    where
+      -- what is shown of the bytes through a place before their end
+      none : (x : Option Fault) → x ≡ None → x ≡ Some fault → ⊥
+      none x e f = let w : None ≡ Some fault = sym e ∙ f in cc
+
+      early : fault.at + 1 ≤ length bytes → Shown way (take (fault.at + 1) (bytes ++ piece)) fault → ⊥
+      early l s =
+          let n : ℕ = fault.at + 1 in
+          let same : take n (bytes ++ piece) ≡ take n bytes = take_front n bytes piece l in
+          let read : page_read way.syntax way.limits (take n bytes) ≡ Ok s.now = ap (λ b. page_read way.syntax way.limits b) (sym same) ∙ s.read in
+          let all : page_read way.syntax way.limits (take n bytes ++ drop n bytes) ≡ Ok p = ap (λ b. page_read way.syntax way.limits b) (front_back n bytes) ∙ r in
+          let more = shows_more way.syntax way.limits (take n bytes) (drop n bytes) s.now p read all in
+          none (way.refused (shown p)) a (ap way.refused more.are ∙ law.stays (shown s.now) more.signs fault s.refused)
+
+      by_within : Shown way (take (fault.at + 1) (bytes ++ piece)) fault → length bytes ≤ fault.at
+      by_within s = by_test (nat_le (length bytes) fault.at) (λ t. grind (arith, nat_tests)) (λ t. absurd (early (grind (arith, nat_tests)) s))

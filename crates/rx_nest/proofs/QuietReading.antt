@@ -1,0 +1,296 @@
+-- What is read of a piece without `<` and `&` between two tokens: text.
+use Rattle.std.proofs.Common.{◌≡◌, ◌∙◌, ℕ, zero, suc, ◌<◌, Bool, true, false, List, [], ◌∷◌, ◌++◌, map, take, drop, refl, sym, ap, ap₂, subst, Option, None, Some, Result, Ok, Err, eqb-true, arith, lit<, append_assoc, append-nil}
+use Rattle.std.specs.Prelude.{◌&&◌, ◌||◌, ◌==◌, not, nat_le, if◌then◌else◌}
+use Rattle.std.proofs.lemmas.Bool.{and_from}
+use Rattle.std.proofs.lemmas.Bool.Decides.{nat_tests}
+use Rattle.std.proofs.lemmas.List.{append_cancel_left}
+use Rattle.rx_terms.specs.Ascii.{less_than_sign, ampersand, greater_than_sign}
+use Rattle.rx_terms.specs.Text.{Chars}
+use Rattle.rx_chars.specs.declared.syntax.Syntax.{Syntax}
+use Rattle.rx_chars.specs.declared.utf8.Utf8Step.{Utf8Step}
+use Rattle.rx_chars.specs.declared.utf8.Utf8Step.TheVariants.{More, Char, Bad}
+use Rattle.rx_chars.specs.Utf8.{answer_of}
+use Rattle.rx_chars.specs.Characters.{Entry, byte_order_mark, line_feed, carriage_return, as_line_end}
+use Rattle.rx_terms.proofs.Bools.{by_test, split, both}
+use Rattle.rx_grammar.specs.declared.contents.Content.{Content}
+use Rattle.rx_grammar.specs.declared.faults.Fault.{Fault}
+use Rattle.rx_grammar.specs.declared.faults.Kind.{Kind}
+use Rattle.rx_grammar.specs.declared.limits.Limits.{Limits}
+use Rattle.rx_grammar.specs.Tokens.{Token, character}
+use Rattle.rx_grammar.specs.Spelling.{has_references, is_text}
+use Rattle.rx_grammar.specs.Items.{values, Item, is_literal, is_line_feed}
+use Rattle.rx_grammar.specs.Begun.{Phase, before, within, after}
+use Rattle.rx_grammar.specs.Trees.{StartTag}
+use Rattle.rx_pages.specs.Scanner.{Verdict, goes_on, whole, ended, refused, verdict, at_first}
+use Rattle.rx_pages.specs.Nesting.{Event, begins, says, finishes, Nesting, Step, nest_step, step_by, text_step, told as told_text}
+use Rattle.rx_pages.specs.PageReader as reader
+use Rattle.rx_pages.specs.PageReader.{Spot, spot_of, Scanning, starts_at, Scanned, first_of, token_at, is_doctype, item_of, is_too_long, completed, read_char, read_answer, read_byte, Progress, with_events, step_on, steps_on, no_step, progress_of, nested_items, page_byte_on, telling, page_on, page_read, nothing_read}
+use Rattle.rx_pages.proofs.ScanSteps.{page_append}
+use Rattle.rx_grammar.specs.declared.stops.Stop.{Stop}
+use Rattle.rx_grammar.specs.declared.stops.Stop.TheVariants as stop
+use Rattle.rx_scan.specs.Entries.{IsNoMemory}
+use Rattle.rx_scan.specs.Steps.{is_quiet}
+use Rattle.rx_nest.specs.declared.nests.Event.{Event as Shown}
+use Rattle.rx_nest.specs.declared.nests.Event.TheVariants as event
+use Rattle.rx_nest.specs.declared.tree_tokens.PendingEvents.{PendingEvents}
+use Rattle.rx_nest.specs.declared.lines.TagAction.{TagAction}
+use Rattle.rx_nest.specs.declared.lines.TagAction.TheVariants as own
+use Rattle.rx_nest.specs.Nests as nests
+use Rattle.rx_nest.specs.Nests.{Nested, Stepped, event_signs, IsBetween}
+use Rattle.rx_nest.specs.Signs.{Sign, said, Sight, is_hidden, sees, nothing_seen, finishing}
+use Rattle.rx_nest.proofs.TextSteps.{sees_append}
+use Rattle.rx_nest.specs.Readings.{OwesNone}
+use Rattle.rx_nest.specs.Listening.{is_calm}
+use Rattle.rx_nest.specs.Quiets.{HasMemory}
+use Rattle.rx_scan.proofs.QuietLemmas.{last_byte, begins_line}
+
+unlike : (held : List ℕ) (byte c d : ℕ) → (byte == d) ≡ false → answer_of (held ++ byte ∷ []) ≡ Char c → (10 == d) ≡ false → d < 128 → (as_line_end c == d) ≡ false
+unlike held byte c d q e n l =
+    by_test {G = (as_line_end c == d) ≡ false} (as_line_end c == d)
+    (λ t. absurd (let same : c ≡ d = begins_line c d (eqb-true (as_line_end c) d t) n in let is : byte ≡ d = last_byte held byte d (e ∙ ap Char same) l in let w : true ≡ false = sym (again d) ∙ (ap (λ (x : ℕ). x == d) (sym is) ∙ q) in cc)) (λ f. f)
+  where
+    again : (d : ℕ) → (d == d) ≡ true
+    again d = grind (arith, nat_tests)
+
+neither : (a b : Bool) → not (a || b) ≡ true → (a ≡ false) × (b ≡ false)
+neither true b h = absurd (cc)
+neither false true h = absurd (cc)
+neither false false h = (refl, refl)
+
+pub record IsChar (token : Token) : Type 0 where
+  value : ℕ
+  is : token ≡ character value
+
+abbrev Plain : Verdict → Type 0
+Plain goes_on = ⊥
+Plain (whole token) = IsChar token
+Plain (ended token) = ⊥
+Plain (refused kind) = Unit {0}
+
+first_plain : (inside : Content) (c : ℕ) → (c == less_than_sign) ≡ false → (c == ampersand) ≡ false → Plain (at_first inside c)
+first_plain inside c a b =
+    split Plain (c == less_than_sign || (c == ampersand && has_references inside)) _ _ (λ t. absurd (let w : true ≡ false = sym t ∙ ap₂ (λ x y. x || (y && has_references inside)) a b in cc))
+    (λ f. split Plain (is_text inside c) _ _ (λ t. record { value = c; is = refl }) (λ t. tt))
+
+abbrev AllChars : List Item → Type 0
+AllChars [] = Unit {0}
+AllChars (item ∷ items) = IsChar item.token × AllChars items
+
+abbrev Calm : Result Scanned Kind → Type 0
+Calm (Ok r) = (r.next.run ≡ []) × AllChars r.items
+Calm (Err kind) = Unit {0}
+
+token_of_item : (i : Content) (token : Token) (run : List Entry) → (item_of i token run).token ≡ token
+token_of_item i token [] = refl
+token_of_item i token (e ∷ run) = refl
+
+module _ (syntax : Syntax) (limits : Limits) (spot : Spot) where
+  completed_calm : (s : Scanning) (after_return : Bool) (item : Item) → IsChar item.token → Calm (completed syntax limits spot after_return item s)
+  completed_calm s after_return item k =
+      split Calm (s.two && is_literal greater_than_sign item) _ _ (λ e. tt) (λ e. split Calm (is_doctype item.token && not spot.leads) _ _ (λ d. tt) (λ d. (refl, (k, tt))))
+
+  told_calm : (s : Scanning) (after_return : Bool) (entry : Entry) (v : Verdict) → Plain v → Calm (reader.told syntax limits spot after_return entry s v)
+  told_calm s after_return entry goes_on p = absurd p
+  told_calm s after_return entry (whole token) p =
+      completed_calm s after_return (item_of spot.inside token (s.run ++ entry ∷ [])) (subst IsChar (sym (token_of_item spot.inside token (s.run ++ entry ∷ []))) p)
+  told_calm s after_return entry (ended token) p = absurd p
+  told_calm s after_return entry (refused kind) p = tt
+
+  char_calm : (s : Scanning) (c : ℕ) → s.run ≡ [] → (as_line_end c == less_than_sign) ≡ false → (as_line_end c == ampersand) ≡ false → Calm (read_char syntax limits spot c s)
+  char_calm s c e a b =
+      split Calm (not s.started && c == byte_order_mark || s.after_return && c == line_feed) _ _ (λ k. (e, tt))
+      (λ k. split Calm (is_too_long syntax limits spot (s.run ++ record { value = as_line_end c; first = starts_at s; last = s.at } ∷ []) (first_of s.run (starts_at s)) s.at) _ _ (λ m. tt)
+      (λ m. told_calm s (c == carriage_return) (record { value = as_line_end c; first = starts_at s; last = s.at }) (verdict syntax spot.inside (values s.run) (as_line_end c))
+      (subst (λ run. Plain (verdict syntax spot.inside (values run) (as_line_end c))) (sym e) (first_plain spot.inside (as_line_end c) a b))))
+
+  byte_calm : (s : Scanning) (byte : ℕ) → s.run ≡ [] → not (byte == 60 || byte == 38) ≡ true → Calm (read_byte syntax limits spot byte s)
+  byte_calm s byte e q = split Calm (nat_le limits.page s.at) _ _ (λ k. tt) (λ k. by (answer_of (s.held ++ byte ∷ [])) refl)
+    where
+      by : (a : Utf8Step) → answer_of (s.held ++ byte ∷ []) ≡ a → Calm (read_answer syntax limits spot (s.held ++ byte ∷ []) s a)
+      by Bad k = tt
+      by More k = split Calm (is_too_long syntax limits spot s.run (token_at s) s.at) _ _ (λ m. tt) (λ m. (e, tt))
+      by (Char c) k =
+          let n = neither (byte == 60) (byte == 38) q in
+          split Calm (c == 0) _ _ (λ m. tt)
+          (λ m. split Calm (is_too_long syntax limits spot s.run (token_at s) s.at) _ _ (λ o. tt)
+          (λ o. char_calm s c e (unlike s.held byte c 60 n.0 k refl (lit< tt)) (unlike s.held byte c 38 n.1 k refl (lit< tt))))
+
+-- what is told says text alone
+
+abbrev AllSay : List Event → Type 0
+AllSay [] = Unit {0}
+AllSay (begins t hidden ∷ events) = ⊥
+AllSay (says chars ∷ events) = AllSay events
+AllSay (finishes ∷ events) = ⊥
+
+say_append : (xs ys : List Event) → AllSay xs → AllSay ys → AllSay (xs ++ ys)
+say_append [] ys a b = b
+say_append (begins t hidden ∷ xs) ys a b = absurd a
+say_append (says chars ∷ xs) ys a b = say_append xs ys a b
+say_append (finishes ∷ xs) ys a b = absurd a
+
+abbrev StepSays : Result Step Kind → Type 0
+StepSays (Ok step) = AllSay step.events
+StepSays (Err kind) = Unit {0}
+
+told_says : (p : Phase) (chars : Chars) → AllSay (told_text p chars)
+told_says (before stood) chars = tt
+told_says within chars = tt
+told_says after chars = tt
+
+text_says : (n : Nesting) (dropped : Bool) (chars : Chars) → AllSay (text_step n dropped chars).events
+text_says n dropped chars = split AllSay (n.drops && dropped) _ _ (λ e. tt) (λ e. told_says n.phase chars)
+
+item_says : (syntax : Syntax) (depth : ℕ) (n : Nesting) (item : Item) → IsChar item.token → StepSays (nest_step syntax depth n item)
+item_says syntax depth n item k = subst (λ t. StepSays (step_by syntax depth n item t)) (sym k.is) (text_says n (is_line_feed (character k.value)) (k.value ∷ []))
+
+items_say : (syntax : Syntax) (depth : ℕ) (items : List Item) → AllChars items → (x : Result Step Kind) → StepSays x → StepSays (steps_on syntax depth x items)
+items_say syntax depth [] h x s = s
+items_say syntax depth (item ∷ items) h (Err kind) s = items_say syntax depth items h.1 (Err kind) tt
+items_say syntax depth (item ∷ items) h (Ok step) s = items_say syntax depth items h.1 (step_on syntax depth (Ok step) item) (by (nest_step syntax depth step.next item) (item_says syntax depth step.next item h.0))
+  where
+    by : (x : Result Step Kind) → StepSays x → StepSays (with_events step.events x)
+    by (Ok next) k = say_append step.events next.events s k
+    by (Err kind) k = tt
+
+record Says (told new : List Event) : Type 0 where
+  more : List Event
+  is : new ≡ told ++ more
+  say : AllSay more
+
+abbrev Calmly : List Event → Result Progress Fault → Type 0
+Calmly told (Ok q) = (q.now.scan.run ≡ []) × Says told q.told
+Calmly told (Err fault) = Unit {0}
+
+module _ (syntax : Syntax) (limits : Limits) where
+  one_calm : (told : List Event) (byte : ℕ) (x : Result Progress Fault) → not (byte == 60 || byte == 38) ≡ true → Calmly told x → Calmly told (page_byte_on syntax limits x byte)
+  one_calm told byte (Err fault) q h = tt
+  one_calm told byte (Ok p) q h = by (read_byte syntax limits (spot_of syntax p.now.nest) byte p.now.scan) (byte_calm syntax limits (spot_of syntax p.now.nest) p.now.scan byte h.0 q)
+    where
+      on : (scanned : Scanned) → scanned.next.run ≡ [] → (x : Result Step Kind) → StepSays x → Calmly told (telling p.told (progress_of p.now.scan scanned.next x))
+      on scanned e (Ok step) k =
+          (e, record { more = h.1.more ++ step.events; is = ap (λ es. es ++ step.events) h.1.is ∙ append_assoc told h.1.more step.events; say = say_append h.1.more step.events h.1.say k })
+      on scanned e (Err kind) k = tt
+
+      by : (x : Result Scanned Kind) → Calm x → Calmly told (telling p.told (nested_items syntax limits.depth p.now x))
+      by (Ok scanned) k = on scanned k.0 (steps_on syntax limits.depth (Ok (no_step p.now.nest)) scanned.items) (items_say syntax limits.depth scanned.items k.1 (Ok (no_step p.now.nest)) tt)
+      by (Err kind) k = tt
+
+  all_calm : (told : List Event) (bytes : List ℕ) (x : Result Progress Fault) → is_quiet bytes ≡ true → Calmly told x → Calmly told (page_on syntax limits x bytes)
+  all_calm told [] x q h = h
+  all_calm told (byte ∷ bytes) x q h =
+      let k = both (not (byte == 60 || byte == 38)) _ q in
+      all_calm told bytes (page_byte_on syntax limits x byte) k.1 (one_calm told byte x k.0 h)
+
+  pub record IsSaid (old new : List Sign) : Type 0 where
+    pub chars : Chars
+    pub is : new ≡ old ++ map said chars
+
+  map_both : (a b : Chars) → map said a ++ map said b ≡ map said (a ++ b)
+  map_both [] b = refl
+  map_both (c ∷ a) b = ap (λ l. said c ∷ l) (map_both a b)
+
+  seen_says : (events : List Event) (sight : Sight) → AllSay events → IsSaid sight.signs (sees sight events).signs
+  seen_says [] sight a = record { chars = []; is = sym (append-nil sight.signs) }
+  seen_says (begins t hidden ∷ events) sight a = absurd a
+  seen_says (finishes ∷ events) sight a = absurd a
+  seen_says (says text ∷ events) sight a = by (is_hidden sight.flags) (λ signs. seen_says events (record { flags = sight.flags; signs = signs }) a)
+    where
+      by : (b : Bool) → ((signs : List Sign) → IsSaid signs (sees (record { flags = sight.flags; signs = signs }) events).signs)
+          → IsSaid sight.signs (sees (record { flags = sight.flags; signs = if b then sight.signs else sight.signs ++ map said text }) events).signs
+      by true ih = ih sight.signs
+      by false ih =
+          let k = ih (sight.signs ++ map said text) in
+          record { chars = text ++ k.chars; is = k.is ∙ (append_assoc sight.signs (map said text) (map said k.chars) ∙ ap (λ l. sight.signs ++ l) (map_both text k.chars)) }
+
+  pub record Quietly (bytes piece : List ℕ) (p q : Progress) : Type 0 where
+    pub run : q.now.scan.run ≡ []
+    pub shows : IsSaid (sees nothing_seen p.told).signs (sees nothing_seen q.told).signs
+
+  pub quiet_read : (bytes piece : List ℕ) (p q : Progress) → page_read syntax limits bytes ≡ Ok p → p.now.scan.run ≡ [] → is_quiet piece ≡ true → page_read syntax limits (bytes ++ piece) ≡ Ok q → Quietly bytes piece p q
+  quiet_read bytes piece p q r e quiet s =
+      let on : page_on syntax limits (Ok p) piece ≡ Ok q = ap (λ x. page_on syntax limits x piece) (sym r) ∙ (sym (page_append syntax limits (spot_of syntax p.now.nest) (Ok nothing_read) bytes piece) ∙ s) in
+      let c = subst (Calmly p.told) on (all_calm p.told piece (Ok p) quiet (e, record { more = []; is = sym (append-nil p.told); say = tt })) in
+      let seen = seen_says c.1.more (sees nothing_seen p.told) c.1.say in
+      record {
+        run = c.0;
+        shows = record { chars = seen.chars; is = ap (λ es. (sees nothing_seen es).signs) c.1.is ∙ (ap (λ (x : Sight). x.signs) (sees_append nothing_seen p.told c.1.more) ∙ seen.is) };
+      }
+
+-- the parts of a quiet piece are quiet
+
+pub quiet_take : (n : ℕ) (piece : List ℕ) → is_quiet piece ≡ true → is_quiet (take n piece) ≡ true
+quiet_take zero piece q = refl
+quiet_take (suc n) [] q = refl
+quiet_take (suc n) (x ∷ piece) q = let k = both (not (x == 60 || x == 38)) _ q in and_from (not (x == 60 || x == 38)) _ k.0 (quiet_take n piece k.1)
+
+pub quiet_drop : (n : ℕ) (piece : List ℕ) → is_quiet piece ≡ true → is_quiet (drop n piece) ≡ true
+quiet_drop zero piece q = q
+quiet_drop (suc n) [] q = q
+quiet_drop (suc n) (x ∷ piece) q = quiet_drop n piece (both (not (x == 60 || x == 38)) _ q).1
+
+-- nothing is due then, and no element begins or ends
+
+record Rest (chars : Chars) (ys : List Sign) : Type 0 where
+  rest : Chars
+  is : ys ≡ map said rest
+
+said_rest : (chars : Chars) (xs ys : List Sign) → map said chars ≡ xs ++ ys → Rest chars ys
+said_rest chars [] ys e = record { rest = chars; is = sym e }
+said_rest [] (x ∷ xs) ys e = absurd (cc)
+said_rest (c ∷ chars) (x ∷ xs) ys e = let w : map said chars ≡ xs ++ ys = cc in let r = said_rest chars xs ys w in record { rest = r.rest; is = r.is }
+
+none_owed : (owed : PendingEvents) (t : StartTag) (chars : Chars) → nests.owed_signs owed t ≡ map said chars → nests.owed_signs owed t ≡ []
+none_owed owed t chars = by owed.ends owed.own chars
+  where
+    by : (k : ℕ) (o : Option TagAction) (chars : Chars) → finishing k ++ nests.owes_own o t ≡ map said chars → finishing k ++ nests.owes_own o t ≡ []
+    by (suc k) o [] e = absurd (cc)
+    by (suc k) o (c ∷ chars) e = absurd (cc)
+    by zero None chars e = refl
+    by zero (Some own.Nothing) chars e = refl
+    by zero (Some own.Begin) [] e = absurd (cc)
+    by zero (Some own.Begin) (c ∷ chars) e = absurd (cc)
+    by zero (Some own.Alone) [] e = absurd (cc)
+    by zero (Some own.Alone) (c ∷ chars) e = absurd (cc)
+    by zero (Some own.Finish) [] e = absurd (cc)
+    by zero (Some own.Finish) (c ∷ chars) e = absurd (cc)
+
+calm_event : (e : Shown) (chars : Chars) (ys : List Sign) → map said chars ≡ event_signs e ++ ys → is_calm e ≡ true
+calm_event event.More chars ys h = refl
+calm_event event.Skipped chars ys h = refl
+calm_event (event.Text text) chars ys h = refl
+calm_event (event.Begin t) [] ys h = absurd (cc)
+calm_event (event.Begin t) (c ∷ chars) ys h = absurd (cc)
+calm_event event.Finish [] ys h = absurd (cc)
+calm_event event.Finish (c ∷ chars) ys h = absurd (cc)
+
+-- what a step does on a quiet piece
+pub record StepsQuietly (syntax : Syntax) (limits : Limits) (bytes piece : List ℕ) (n : ℕ) (e : Shown) (new : Nested) : Type 0 where
+  pub calm : is_calm e ≡ true
+  pub paid : OwesNone new
+  pub between : IsBetween syntax limits (bytes ++ take n piece)
+
+pub steps_quietly : (syntax : Syntax) (limits : Limits) (bytes piece : List ℕ) (signs : List Sign) (old new : Nested) (n : ℕ) (e : Shown) → nests.NestStands syntax limits old bytes signs → OwesNone old → IsBetween syntax limits bytes → is_quiet piece ≡ true
+    → Stepped syntax limits bytes signs piece n e new → StepsQuietly syntax limits bytes piece n e new
+steps_quietly syntax limits bytes piece signs old new n e st paid b quiet s =
+    let p : Progress = record { now = st.at.now; told = st.told } in
+    let q : Progress = record { now = s.stands.at.now; told = s.stands.told } in
+    let same : Ok b.now ≡ Ok p = sym b.read ∙ st.at.read in
+    let is : b.now ≡ p = cc in
+    let run : p.now.scan.run ≡ [] = ap (λ (x : Progress). x.now.scan.run) (sym is) ∙ b.none in
+    let read = quiet_read syntax limits bytes (take n piece) p q st.at.read run (quiet_take n piece quiet) s.stands.at.read in
+    let before : (sees nothing_seen st.told).signs ≡ signs = ap (λ (x : Sight). x.signs) st.sight ∙ (ap (λ x. signs ++ x) paid ∙ append-nil signs) in
+    let owed : List Sign = nests.owed_signs new.owed (nests.last_tag new.scan) in
+    let now : signs ++ map said read.shows.chars ≡ signs ++ (event_signs e ++ owed) =
+    ap (λ x. x ++ map said read.shows.chars) (sym before) ∙ (sym read.shows.is ∙ (ap (λ (x : Sight). x.signs) s.stands.sight ∙ append_assoc signs (event_signs e) owed)) in
+    let told : map said read.shows.chars ≡ event_signs e ++ owed = append_cancel_left signs _ _ now in
+    let rest = said_rest read.shows.chars (event_signs e) owed told in
+    record {
+      calm = calm_event e read.shows.chars owed told;
+      paid = none_owed new.owed (nests.last_tag new.scan) rest.rest rest.is;
+      between = record { now = q; read = s.stands.at.read; none = read.run };
+    }
+
+pub no_want : (A : Type 0) (why : Stop) → IsNoMemory {A = A} (Err why) ≡ false → HasMemory why
+no_want A (stop.Fault fault) h = tt
+no_want A stop.NoMemory h = absurd (cc)

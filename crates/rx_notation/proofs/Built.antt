@@ -1,0 +1,154 @@
+-- The parts of the nested document are good ones.
+use Rattle.std.proofs.Common.{◌≡◌, ◌∙◌, ℕ, zero, suc, ◌<◌, ◌^◌, Bool, true, false, cond, List, [], ◌∷◌, bytes_eq, refl, sym, inl, inr, subst}
+use Rattle.rx_terms.specs.Text.{Chars}
+use Rattle.rx_terms.specs.Iri.{IsIri}
+use Rattle.rx_model.specs.Sets.{Among}
+use Rattle.rx_model.specs.Terms.{Kind, Plain, Tagged, Typed, Node, Iri, Blank, Term, Resource, Literal, Triple, set_of}
+use Rattle.rx_model.specs.Copied.{spo}
+use Rattle.rx_model.specs.Vocabulary.{rdf_type, rdf_first, rdf_rest, rdf_nil}
+use Rattle.rx_pieces.specs.Writable.{WritableKind, IsWritable}
+use Rattle.rx_shapes.specs.Shapes.{Inner, Cell, IsShape, HaveShapes}
+use Rattle.rx_shapes.specs.declared.shapes.Shape.{Shape}
+use Rattle.rx_shapes.specs.declared.shapes.Shape.TheVariants as shape
+use Rattle.rx_notation.specs.Short.{Prefixes}
+use Rattle.rx_shapes.specs.Subjects.{predicates_of, objects_of}
+use Rattle.rx_notation.specs.Syntax.{Named, By, Type_of, Object, Items, Part, IriOrLabel, Nil}
+use Rattle.rx_shapes.proofs.Grouped.{predicate_says, object_says}
+use Rattle.rx_notation.specs.Nesting.{reference_to, verb_of, suffix_of, objects_after, some_objects, predicates_after, some_predicates, bracketed, object_by, one_object, items_by, cells, node_by, written}
+use Rattle.rx_notation.proofs.Spelled.{GoodVerb, GoodSuffix, Good}
+use Rattle.rx_notation.proofs.Declared.{good_reference}
+use Rattle.rx_shapes.proofs.CellLemmas.{CellOf, cell_of, cell_inner, first_some, first_each, rest_some, rest_each, Enough, none_left, child_enough}
+
+module _ (context : Prefixes) (list : List (Triple ℕ)) (w : IsWritable list) where
+  -- a label is that of a node that isn't written where it is used
+  abbrev pub Free : ℕ → Type 0
+  Free number = ¬ (Inner (set_of list) number)
+
+  abbrev pub Fine : Part Object → Type 0
+  Fine part = Good context Free part
+
+  pub good_verb : (p : Chars) → IsIri p → GoodVerb context Free (verb_of context p)
+  good_verb p h = go (bytes_eq p rdf_type)
+    where
+      go : (b : Bool) → GoodVerb context Free (cond b Type_of (By (reference_to context p)))
+      go true = tt
+      go false = good_reference context Free p h
+
+  good_suffix : (kind : Kind) → WritableKind kind → GoodSuffix context Free (suffix_of context kind)
+  good_suffix Plain h = tt
+  good_suffix (Tagged tag) h = h.is_tag
+  good_suffix (Typed datatype) h = good_reference context Free datatype h.is_iri
+
+  good_iri : (node : ℕ → Part Object) (iri : Chars) → IsIri iri → Fine (object_by context node (Resource (Iri iri)))
+  good_iri node iri h = go (bytes_eq iri rdf_nil)
+    where
+      go : (b : Bool) → Fine (cond b Nil (IriOrLabel (Named (reference_to context iri))))
+      go true = tt
+      go false = good_reference context Free iri h
+
+  -- ---- lists of parts
+
+  module _ (object : Term ℕ → Part Object) where
+    objects_good : (first : Term ℕ) (more : List (Term ℕ)) → ((o : Term ℕ) → Among (first ∷ more) o → Fine (object o)) → Good context Free (objects_after object first more)
+    objects_good first [] good = good first (inl refl)
+    objects_good first (next ∷ more) good = (good first (inl refl), objects_good next more (λ o m. good o (inr m)))
+
+    some_objects_good : (objects : List (Term ℕ)) → ((o : Term ℕ) → Among objects o → Fine (object o)) → Good context Free (some_objects object objects)
+    some_objects_good [] good = tt
+    some_objects_good (first ∷ more) good = objects_good first more good
+
+    module _ (objects : Chars → List (Term ℕ)) where
+      abbrev GoodLine : Chars → Type 0
+      GoodLine p = IsIri p × ((o : Term ℕ) → Among (objects p) o → Fine (object o))
+
+      predicates_good : (first : Chars) (more : List Chars) → ((p : Chars) → Among (first ∷ more) p → GoodLine p) → Good context Free (predicates_after context object objects first more)
+      predicates_good first [] good = let g = good first (inl refl) in (good_verb first g.0, (some_objects_good (objects first) g.1, tt))
+      predicates_good first (next ∷ more) good = let g = good first (inl refl) in (good_verb first g.0, (some_objects_good (objects first) g.1, predicates_good next more (λ p m. good p (inr m))))
+
+      pub some_predicates_good : (ps : List Chars) → ((p : Chars) → Among ps p → GoodLine p) → Good context Free (some_predicates context object objects ps)
+      some_predicates_good [] good = (tt, (tt, tt))
+      some_predicates_good (first ∷ more) good = predicates_good first more good
+
+      bracketed_good : (ps : List Chars) → ((p : Chars) → Among ps p → GoodLine p) → Fine (bracketed context object objects ps)
+      bracketed_good [] good = tt
+      bracketed_good (first ∷ more) good = predicates_good first more good
+
+  -- ---- what is said of a node, where each of its objects is good
+
+  pub line_good : (object : Term ℕ → Part Object) (s : Node ℕ) → ((p : Chars) (o : Term ℕ) → Among list (spo s p o) → Fine (object o)) → (p : Chars) → Among (predicates_of list s) p → GoodLine object (objects_of list s) p
+  line_good object s each p m =
+      let o = predicate_says list s p m in
+      ((w.parts (spo s p o.0) (object_says list s p o.0 o.1)).predicate.is_iri, λ q k. each p q (object_says list s p q k))
+
+  items_good : (object : Term ℕ → Part Object) (cell : ℕ → Part Items) (number : ℕ) (c : CellOf list number) → Fine (object c.item) → ((d : ℕ) → c.after ≡ Resource (Blank d) → Cell (set_of list) d → Good context Free (cell d))
+      → Good context Free (cells object cell list number)
+  items_good object cell number c item behind = by_first (objects_of list (Blank number) rdf_first) (first_some list number c) (first_each list number c)
+    where
+      blank_alike : (a b : ℕ) → Resource (Blank a) ≡ Resource (Blank b) → a ≡ b
+      blank_alike a b e = cc
+
+      by_rest : (part : Part Object) → Fine part → (rests : List (Term ℕ)) → Among rests c.after → ((o : Term ℕ) → Among rests o → o ≡ c.after) → Good context Free (items_by cell part rests)
+      by_rest part good [] some each = good
+      by_rest part good (Resource (Iri iri) ∷ more) some each = good
+      by_rest part good (Resource (Blank b) ∷ more) some each = (
+        good,
+        elim c.next [
+          | inl e ↦ absurd (cc (each (Resource (Blank b)) (inl refl) ∙ e))
+          | inr d ↦ behind b (sym (each (Resource (Blank b)) (inl refl))) (subst (Cell (set_of list)) (sym (blank_alike b d.0 (each (Resource (Blank b)) (inl refl) ∙ d.1))) d.2)
+        ],
+      )
+      by_rest part good (Literal text kind ∷ more) some each = good
+
+      by_first : (firsts : List (Term ℕ)) → Among firsts c.item → ((o : Term ℕ) → Among firsts o → o ≡ c.item)
+          → Good context Free (items_by cell (one_object object firsts) (objects_of list (Blank number) rdf_rest))
+      by_first [] some each = absurd some
+      by_first (o ∷ firsts) some each =
+          by_rest (object o) (subst (λ (z : Term ℕ). Fine (object z)) (sym (each o (inl refl))) item) (objects_of list (Blank number) rdf_rest) (rest_some list number c) (rest_each list number c)
+
+  -- ---- all nodes
+
+  module _ (shapes : ℕ → Shape) (have : HaveShapes list shapes) where
+    abbrev node_at : ℕ → ℕ → Part Object
+    node_at left n = (written context list shapes left n).0
+
+    abbrev cells_at : ℕ → ℕ → Part Items
+    cells_at left n = (written context list shapes left n).1
+
+    abbrev FineNode : ℕ → ℕ → Type 0
+    FineNode left n = n < 2 ^ 64 → (Inner (set_of list) n → Enough list left n) → Fine (node_at left n)
+
+    abbrev FineCells : ℕ → ℕ → Type 0
+    FineCells left n = Cell (set_of list) n → Enough list left n → Good context Free (cells_at left n)
+
+    pub object_good : (left : ℕ) → ((n : ℕ) → FineNode left n) → (s : Node ℕ) (p : Chars) (o : Term ℕ) → Among list (spo s p o) → ((n : ℕ) → o ≡ Resource (Blank n) → Inner (set_of list) n → Enough list left n)
+        → Fine (object_by context (node_at left) o)
+    object_good left node s p (Resource (Iri iri)) m enough = good_iri (node_at left) iri ((w.parts (spo s p (Resource (Iri iri))) m).object.is_iri)
+    object_good left node s p (Resource (Blank n)) m enough = node n (w.parts (spo s p (Resource (Blank n))) m).object (enough n refl)
+    object_good left node s p (Literal text kind) m enough = good_suffix kind (w.parts (spo s p (Literal text kind)) m).object.1
+
+    child_good : (left : ℕ) → ((n : ℕ) → FineNode left n) → (number : ℕ) → Enough list (suc left) number → (p : Chars) (o : Term ℕ) → Among list (spo (Blank number) p o) → Fine (object_by context (node_at left) o)
+    child_good left node number enough p o m =
+        object_good left node (Blank number) p o m (λ n e i. child_enough list left number n p enough (subst (λ (z : Term ℕ). Among list (spo (Blank number) p z)) e m) i)
+
+    cells_good : (left : ℕ) → ((n : ℕ) → FineNode left n) → ((n : ℕ) → FineCells left n) → (number : ℕ) → Cell (set_of list) number → Enough list (suc left) number
+        → Good context Free (cells (object_by context (node_at left)) (cells_at left) list number)
+    cells_good left node below number is_cell enough =
+        items_good (object_by context (node_at left)) (cells_at left) number c (child_good left node number enough rdf_first c.item c.pair.first)
+        (λ d e k. below d k (child_enough list left number d rdf_rest enough (subst (λ (z : Term ℕ). Among list (spo (Blank number) rdf_rest z)) e c.pair.rest) (cell_inner list d k)))
+      where
+        c : CellOf list number
+        c = cell_of list number is_cell
+
+    node_good : (left : ℕ) → ((n : ℕ) → FineNode left n) → ((n : ℕ) → FineCells left n) → (number : ℕ) → FineNode (suc left) number
+    node_good left node below number small enough = go (shapes number) (have number)
+      where
+        go : (s : Shape) → IsShape (set_of list) number s → Fine (node_by context list shapes (object_by context (node_at left)) (cells_at left) s number)
+        go shape.Labelled h = (small, h)
+        go shape.Inside h =
+            bracketed_good (object_by context (node_at left)) (objects_of list (Blank number)) (predicates_of list (Blank number))
+            (line_good (object_by context (node_at left)) (Blank number) (child_good left node number (enough h.0)))
+        go shape.Cell h = cells_good left node below number h (enough (cell_inner list number h))
+
+    pub all_good : (left : ℕ) → ((n : ℕ) → FineNode left n) × ((n : ℕ) → FineCells left n)
+    all_good zero = (λ n small enough. (small, λ i. none_left list n i (enough i)), λ n is_cell enough. absurd (none_left list n (cell_inner list n is_cell) enough))
+    all_good (suc left) = let before = all_good left in (λ n small enough. node_good left before.0 before.1 n small enough, λ n is_cell enough. cells_good left before.0 before.1 n is_cell enough)

@@ -1,0 +1,355 @@
+-- What the nested parts of a document mean.
+use Rattle.std.proofs.Common.{◌≡◌, ◌∙◌, ◌⊎◌, ◌↔◌, ℕ, zero, suc, ◌+◌, Bool, true, false, cond, List, [], ◌∷◌, ◌++◌, flat_map, length, bytes_eq, refl, sym, ap, inl, inr, subst, arith}
+use Rattle.std.proofs.lemmas.List.{length-append}
+use Rattle.rx_terms.specs.Text.{Chars}
+use Rattle.rx_model.specs.Sets.{Among}
+use Rattle.rx_model.specs.Terms.{Kind, Node, Iri, Blank, Term, Resource, Literal, Triple}
+use Rattle.rx_model.specs.Copied.{spo}
+use Rattle.rx_model.proofs.Sets.{Among_left, Among_right, Among_cases}
+use Rattle.rx_model.proofs.Exact.{exact_texts}
+use Rattle.rx_nquads.specs.Quads.{proper_term, proper_triple}
+use Rattle.rx_model.specs.Vocabulary.{rdf_first, rdf_rest, rdf_nil}
+use Rattle.rx_shapes.specs.declared.shapes.Shape.{Shape}
+use Rattle.rx_shapes.specs.declared.shapes.Shape.TheVariants as shape
+use Rattle.rx_notation.specs.Short.{Prefix, Prefixes}
+use Rattle.rx_shapes.specs.Subjects.{predicates_of, objects_of}
+use Rattle.rx_notation.specs.Syntax.{Named, Labelled, Object, Objects, Predicates, Part, IriOrLabel, Quoted, Nil, Single, Comma, Predicate, Done, Also}
+use Rattle.rx_notation.specs.Meaning.{predicate_of, unlabelled, term_of, triples}
+use Rattle.rx_notation.proofs.Chosen.{Apart}
+use Rattle.rx_notation.specs.Nesting.{reference_to, verb_of, suffix_of, names_of_verb, names_in, objects_after, some_objects, predicates_after, object_by}
+use Rattle.rx_notation.proofs.Declared.{Within, in_left, in_right, reference_means, verb_means, kind_means}
+
+-- ---- the nodes that a part has without a label, in order
+
+abbrev pub in_term : (ℕ → List ℕ) → Term ℕ → List ℕ
+in_term node (Resource (Iri iri)) = []
+in_term node (Resource (Blank number)) = node number
+in_term node (Literal text kind) = []
+
+abbrev pub in_first : (ℕ → List ℕ) → List (Term ℕ) → List ℕ
+in_first node [] = []
+in_first node (o ∷ more) = in_term node o
+
+abbrev pub in_cells : (ℕ → List ℕ) → (ℕ → List ℕ) → ℕ → List (Term ℕ) → List (Term ℕ) → List ℕ
+in_cells node cell number firsts rests = number ∷ (in_first node firsts ++ in_first cell rests)
+
+abbrev pub in_objects : (ℕ → List ℕ) → List (Term ℕ) → List ℕ
+in_objects node objects = flat_map (in_term node) objects
+
+abbrev pub in_predicates : (ℕ → List ℕ) → (Chars → List (Term ℕ)) → List Chars → List ℕ
+in_predicates node objects ps = flat_map (λ p. in_objects node (objects p)) ps
+
+module _ (list : List (Triple ℕ)) (shapes : ℕ → Shape) where
+  abbrev pub in_shape : (ℕ → List ℕ) → (ℕ → List ℕ) → Shape → ℕ → List ℕ
+  in_shape node cell shape.Labelled number = []
+  in_shape node cell shape.Inside number = number ∷ in_predicates node (objects_of list (Blank number)) (predicates_of list (Blank number))
+  in_shape node cell shape.Cell number = in_cells node cell number (objects_of list (Blank number) rdf_first) (objects_of list (Blank number) rdf_rest)
+
+  abbrev pub ordered : ℕ → ℕ → List ℕ × List ℕ
+  ordered zero number = ([], [])
+  ordered (suc left) number = (
+    in_shape (λ n. (ordered left n).0) (λ n. (ordered left n).1) (shapes number) number,
+    in_cells (λ n. (ordered left n).0) (λ n. (ordered left n).1) number (objects_of list (Blank number) rdf_first) (objects_of list (Blank number) rdf_rest),
+  )
+
+-- ---- places
+
+-- the blank nodes that have their names by place have these, from this place on
+abbrev pub NamedSo : (ℕ → ℕ) → ℕ → List ℕ → Type 0
+NamedSo place n [] = Unit {0}
+NamedSo place n (b ∷ more) = (place n ≡ b) × NamedSo place (suc n) more
+
+pub named_front : (place : ℕ → ℕ) (n : ℕ) (xs ys : List ℕ) → NamedSo place n (xs ++ ys) → NamedSo place n xs
+named_front place n [] ys h = tt
+named_front place n (x ∷ xs) ys h = (h.0, named_front place (suc n) xs ys h.1)
+
+pub named_behind : (place : ℕ → ℕ) (n : ℕ) (xs ys : List ℕ) → NamedSo place n (xs ++ ys) → NamedSo place (n + length xs) ys
+named_behind place n [] ys h = let e : n ≡ n + 0 = omega arith in subst (λ k. NamedSo place k ys) e h
+named_behind place n (x ∷ xs) ys h = let e : suc n + length xs ≡ n + suc (length xs) = omega arith in subst (λ k. NamedSo place k ys) e (named_behind place (suc n) xs ys h.1)
+
+module _ (context declared : Prefixes) (names : List Chars) (covers : (p : Prefix) → Among context p → Among names p.0 → Among declared p) (apart : Apart declared) (list : List (Triple ℕ)) (place : ℕ → ℕ) where
+  abbrev pub In : List Chars → Type 0
+  In some = Within context declared names covers some
+
+  abbrev pub label : ℕ → ℕ
+  label number = number
+
+  -- a triple of the list that is said of one of these nodes, as it is read
+  pub record Under (ns : List ℕ) (t : Triple ℕ) : Type 0 where
+    pub triple : Triple ℕ
+    pub there : Among list triple
+    pub read : proper_triple triple ≡ t
+    pub node : ℕ
+    pub among : Among ns node
+    pub said : triple.subject ≡ Blank node
+
+  pub under_left : (xs ys : List ℕ) (t : Triple ℕ) → Under xs t → Under (xs ++ ys) t
+  under_left xs ys t u = record { triple = u.triple; there = u.there; read = u.read; node = u.node; among = Among_left xs ys u.node u.among; said = u.said }
+
+  pub under_right : (xs ys : List ℕ) (t : Triple ℕ) → Under ys t → Under (xs ++ ys) t
+  under_right xs ys t u = record { triple = u.triple; there = u.there; read = u.read; node = u.node; among = Among_right xs ys u.node u.among; said = u.said }
+
+  pub under_cases : (xs ys : List ℕ) (t : Triple ℕ) → Under (xs ++ ys) t → Under xs t ⊎ Under ys t
+  under_cases xs ys t u = elim (Among_cases xs ys u.node u.among) [
+    | inl m ↦ inl (record { triple = u.triple; there = u.there; read = u.read; node = u.node; among = m; said = u.said })
+    | inr m ↦ inr (record { triple = u.triple; there = u.there; read = u.read; node = u.node; among = m; said = u.said })
+  ]
+
+  pub under_none : (t : Triple ℕ) → ¬ (Under [] t)
+  under_none t u = absurd u.among
+
+  -- the part is this object, in which these nodes are written
+  pub record Means (part : Part Object) (o : Term ℕ) (ns : List ℕ) : Type 0 where
+    pub size : unlabelled part ≡ length ns
+    pub term : (n : ℕ) → In (names_in part) → NamedSo place n ns → term_of declared label place part n ≡ proper_term o
+    pub says : (n : ℕ) → In (names_in part) → NamedSo place n ns → (t : Triple ℕ) → Among (triples declared label place part tt n) t ↔ Under ns t
+
+  -- ---- parts without nodes inside
+
+  noun_means : (s : Node ℕ) (part : Part Object) → ((n : ℕ) → In (names_in part) → term_of declared label place part n ≡ Resource s) → ((n : ℕ) → triples declared label place part tt n ≡ []) → unlabelled part ≡ 0 → Means part (Resource s) []
+  noun_means s part term none size = record { size = size; term = λ n w h. term n w; says = λ n w h t. (λ m. absurd (subst (λ (z : List (Triple ℕ)). Among z t) (none n) m), λ u. absurd (under_none t u)) }
+
+  pub iri_means : (node : ℕ → Part Object) (iri : Chars) → Means (object_by context node (Resource (Iri iri))) (Resource (Iri iri)) []
+  iri_means node iri = go (bytes_eq iri rdf_nil) refl
+    where
+      go : (b : Bool) → bytes_eq iri rdf_nil ≡ b → Means (cond b Nil (IriOrLabel (Named (reference_to context iri)))) (Resource (Iri iri)) []
+      go true e = noun_means (Iri iri) Nil (λ n w. ap (λ z. Resource (Iri z)) (sym ((exact_texts iri rdf_nil).0 e))) (λ n. refl) refl
+      go false e = noun_means (Iri iri) (IriOrLabel (Named (reference_to context iri))) (λ n w. ap (λ z. Resource (Iri z)) (reference_means context declared names covers apart iri w)) (λ n. refl) refl
+
+  pub literal_means : (text : Chars) (kind : Kind) → Means (Quoted text (suffix_of context kind)) (Literal text kind) []
+  literal_means text kind = record {
+    size = refl;
+    term = λ n w h. ap (Literal text) (kind_means context declared names covers apart kind w);
+    says = λ n w h t. (λ m. absurd m, λ u. absurd (under_none t u));
+  }
+
+  pub labelled_means : (number : ℕ) → Means (IriOrLabel (Labelled number)) (Resource (Blank number)) []
+  labelled_means number = noun_means (Blank number) (IriOrLabel (Labelled number)) (λ n w. refl) (λ n. refl) refl
+
+  -- ---- lists of objects
+
+  -- one of these objects is said of it
+  pub record Said (s : Node ℕ) (p : Chars) (objects : List (Term ℕ)) (t : Triple ℕ) : Type 0 where
+    pub object : Term ℕ
+    pub among : Among objects object
+    pub is : spo s p (proper_term object) ≡ t
+
+  pub record SaidBy (s : Node ℕ) (objects : Chars → List (Term ℕ)) (ps : List Chars) (t : Triple ℕ) : Type 0 where
+    pub predicate : Chars
+    pub among : Among ps predicate
+    pub said : Said s predicate (objects predicate) t
+
+  module _ (node : ℕ → Part Object) (nodes : ℕ → List ℕ) where
+    abbrev object : Term ℕ → Part Object
+    object o = object_by context node o
+
+    -- each object is written as it is meant
+    abbrev pub AllMean : List (Term ℕ) → Type 0
+    AllMean objects = (o : Term ℕ) → Among objects o → Means (object o) o (in_term nodes o)
+
+    pub record MeansObjects (part : Part Objects) (objects : List (Term ℕ)) : Type 0 where
+      pub size : unlabelled part ≡ length (in_objects nodes objects)
+      pub says : (s : Node ℕ) (p : Chars) (n : ℕ) → In (names_in part) → NamedSo place n (in_objects nodes objects) → (t : Triple ℕ)
+          → Among (triples declared label place part (s, p) n) t ↔ (Said s p objects t ⊎ Under (in_objects nodes objects) t)
+
+    single_means : (first : Term ℕ) → Means (object first) first (in_term nodes first) → MeansObjects (Single (object first)) (first ∷ [])
+    single_means first m = record { size = sized; says = says }
+      where
+        ns : List ℕ
+        ns = in_term nodes first
+
+        sized : unlabelled (object first) ≡ length (ns ++ [])
+        sized = let e = length-append ns [] in let f : unlabelled (object first) ≡ length ns = m.size in omega (arith, e, f)
+
+        says : (s : Node ℕ) (p : Chars) (n : ℕ) → In (names_in (object first)) → NamedSo place n (ns ++ []) → (t : Triple ℕ)
+            → Among (spo s p (term_of declared label place (object first) n) ∷ triples declared label place (object first) tt n) t ↔ (Said s p (first ∷ []) t ⊎ Under (ns ++ []) t)
+        says s p n w h t = (forth, back)
+          where
+            k : NamedSo place n ns
+            k = named_front place n ns [] h
+
+            forth : Among (spo s p (term_of declared label place (object first) n) ∷ triples declared label place (object first) tt n) t → Said s p (first ∷ []) t ⊎ Under (ns ++ []) t
+            forth (inl e) = inl (record { object = first; among = inl refl; is = ap (λ z. spo s p z) (sym (m.term n w k)) ∙ e })
+            forth (inr a) = inr (under_left ns [] t ((m.says n w k t).0 a))
+
+            back : Said s p (first ∷ []) t ⊎ Under (ns ++ []) t → Among (spo s p (term_of declared label place (object first) n) ∷ triples declared label place (object first) tt n) t
+            back (inl x) = elim x.among [ inl e ↦ inl (ap (λ z. spo s p z) (m.term n w k ∙ ap proper_term e) ∙ x.is) | inr a ↦ absurd a ]
+            back (inr u) = elim (under_cases ns [] t u) [ inl v ↦ inr ((m.says n w k t).1 v) | inr v ↦ absurd (under_none t v) ]
+
+    comma_means : (first : Term ℕ) (others : Part Objects) (behind : List (Term ℕ)) → Means (object first) first (in_term nodes first) → MeansObjects others behind → MeansObjects (Comma (object first) others) (first ∷ behind)
+    comma_means first others behind m rest = record { size = sized; says = says }
+      where
+        ns : List ℕ
+        ns = in_term nodes first
+
+        ms : List ℕ
+        ms = in_objects nodes behind
+
+        sized : unlabelled (object first) + unlabelled others ≡ length (ns ++ ms)
+        sized = let e = length-append ns ms in let f : unlabelled (object first) ≡ length ns = m.size in let g : unlabelled others ≡ length ms = rest.size in omega (arith, e, f, g)
+
+        says : (s : Node ℕ) (p : Chars) (n : ℕ) → In (names_in (object first) ++ names_in others) → NamedSo place n (ns ++ ms) → (t : Triple ℕ)
+            → Among (spo s p (term_of declared label place (object first) n) ∷ (triples declared label place (object first) tt n ++ triples declared label place others (s, p) (n + unlabelled (object first)))) t
+            ↔ (Said s p (first ∷ behind) t ⊎ Under (ns ++ ms) t)
+        says s p n w h t = (forth, back)
+          where
+            k : NamedSo place n ns
+            k = named_front place n ns ms h
+
+            l : NamedSo place (n + unlabelled (object first)) ms
+            l = subst (λ z. NamedSo place (n + z) ms) (sym m.size) (named_behind place n ns ms h)
+
+            v : In (names_in (object first))
+            v = in_left context declared names covers (names_in (object first)) (names_in others) w
+
+            x : In (names_in others)
+            x = in_right context declared names covers (names_in (object first)) (names_in others) w
+
+            mine : List (Triple ℕ)
+            mine = triples declared label place (object first) tt n
+
+            theirs : List (Triple ℕ)
+            theirs = triples declared label place others (s, p) (n + unlabelled (object first))
+
+            said_behind : Said s p behind t ⊎ Under ms t → Said s p (first ∷ behind) t ⊎ Under (ns ++ ms) t
+            said_behind (inl y) = inl (record { object = y.object; among = inr y.among; is = y.is })
+            said_behind (inr u) = inr (under_right ns ms t u)
+
+            forth : Among (spo s p (term_of declared label place (object first) n) ∷ (mine ++ theirs)) t → Said s p (first ∷ behind) t ⊎ Under (ns ++ ms) t
+            forth (inl e) = inl (record { object = first; among = inl refl; is = ap (λ z. spo s p z) (sym (m.term n v k)) ∙ e })
+            forth (inr a) = elim (Among_cases mine theirs t a) [
+              | inl b ↦ inr (under_left ns ms t ((m.says n v k t).0 b))
+              | inr b ↦ said_behind ((rest.says s p (n + unlabelled (object first)) x l t).0 b)
+            ]
+
+            on : Said s p behind t ⊎ Under ms t → Among (spo s p (term_of declared label place (object first) n) ∷ (mine ++ theirs)) t
+            on y = inr (Among_right mine theirs t ((rest.says s p (n + unlabelled (object first)) x l t).1 y))
+
+            back : Said s p (first ∷ behind) t ⊎ Under (ns ++ ms) t → Among (spo s p (term_of declared label place (object first) n) ∷ (mine ++ theirs)) t
+            back (inl y) = elim y.among [
+              | inl e ↦ inl (ap (λ z. spo s p z) (m.term n v k ∙ ap proper_term e) ∙ y.is)
+              | inr a ↦ on (inl (record { object = y.object; among = a; is = y.is }))
+            ]
+            back (inr u) = elim (under_cases ns ms t u) [ inl y ↦ inr (Among_left mine theirs t ((m.says n v k t).1 y)) | inr y ↦ on (inr y) ]
+
+    objects_mean : (first : Term ℕ) (more : List (Term ℕ)) → AllMean (first ∷ more) → MeansObjects (objects_after object first more) (first ∷ more)
+    objects_mean first [] all = single_means first (all first (inl refl))
+    objects_mean first (next ∷ more) all = comma_means first (objects_after object next more) (next ∷ more) (all first (inl refl)) (objects_mean next more (λ o k. all o (inr k)))
+
+    some_objects_mean : (objects : List (Term ℕ)) (some : Term ℕ) → Among objects some → AllMean objects → MeansObjects (some_objects object objects) objects
+    some_objects_mean [] some there all = absurd there
+    some_objects_mean (first ∷ more) some there all = objects_mean first more all
+
+    -- ---- predicates
+
+    module _ (objects : Chars → List (Term ℕ)) where
+      pub record MeansPredicates (part : Part Predicates) (ps : List Chars) : Type 0 where
+        pub size : unlabelled part ≡ length (in_predicates nodes objects ps)
+        pub says : (s : Node ℕ) (n : ℕ) → In (names_in part) → NamedSo place n (in_predicates nodes objects ps) → (t : Triple ℕ)
+            → Among (triples declared label place part s n) t ↔ (SaidBy s objects ps t ⊎ Under (in_predicates nodes objects ps) t)
+
+      abbrev line : Chars → Part Objects
+      line p = some_objects object (objects p)
+
+      abbrev pub AllSay : List Chars → Type 0
+      AllSay ps = (p : Chars) → Among ps p → ((o : Term ℕ) × Among (objects p) o) × AllMean (objects p)
+
+      line_means : (p : Chars) → ((o : Term ℕ) × Among (objects p) o) × AllMean (objects p) → MeansObjects (line p) (objects p)
+      line_means p all = some_objects_mean (objects p) all.0.0 all.0.1 all.1
+
+      -- what is said by a predicate, with the verb's own IRI
+      line_says : (p : Chars) → MeansObjects (line p) (objects p) → (s : Node ℕ) (n : ℕ) → In (names_of_verb (verb_of context p)) → In (names_in (line p)) → NamedSo place n (in_objects nodes (objects p)) → (t : Triple ℕ)
+          → Among (triples declared label place (line p) (s, predicate_of declared (verb_of context p)) n) t ↔ (Said s p (objects p) t ⊎ Under (in_objects nodes (objects p)) t)
+      line_says p m s n v w h t =
+          subst (λ z. Among (triples declared label place (line p) (s, z) n) t ↔ (Said s p (objects p) t ⊎ Under (in_objects nodes (objects p)) t)) (sym (verb_means context declared names covers apart p v)) (m.says s p n w h t)
+
+      done_means : (first : Chars) → MeansObjects (line first) (objects first) → MeansPredicates (Predicate (verb_of context first) (line first) Done) (first ∷ [])
+      done_means first m = record { size = sized; says = says }
+        where
+          ns : List ℕ
+          ns = in_objects nodes (objects first)
+
+          sized : unlabelled (line first) + 0 ≡ length (ns ++ [])
+          sized = let e = length-append ns [] in let f : unlabelled (line first) ≡ length ns = m.size in omega (arith, e, f)
+
+          says : (s : Node ℕ) (n : ℕ) → In (names_of_verb (verb_of context first) ++ (names_in (line first) ++ [])) → NamedSo place n (ns ++ []) → (t : Triple ℕ)
+              → Among (triples declared label place (line first) (s, predicate_of declared (verb_of context first)) n ++ []) t ↔ (SaidBy s objects (first ∷ []) t ⊎ Under (ns ++ []) t)
+          says s n w h t = (forth, back)
+            where
+              by : Among (triples declared label place (line first) (s, predicate_of declared (verb_of context first)) n) t ↔ (Said s first (objects first) t ⊎ Under ns t)
+              by = line_says first m s n (in_left context declared names covers (names_of_verb (verb_of context first)) (names_in (line first) ++ []) w)
+                  (in_left context declared names covers (names_in (line first)) [] (in_right context declared names covers (names_of_verb (verb_of context first)) (names_in (line first) ++ []) w)) (named_front place n ns [] h) t
+
+              mine : List (Triple ℕ)
+              mine = triples declared label place (line first) (s, predicate_of declared (verb_of context first)) n
+
+              told : Said s first (objects first) t ⊎ Under ns t → SaidBy s objects (first ∷ []) t ⊎ Under (ns ++ []) t
+              told (inl y) = inl (record { predicate = first; among = inl refl; said = y })
+              told (inr u) = inr (under_left ns [] t u)
+
+              forth : Among (mine ++ []) t → SaidBy s objects (first ∷ []) t ⊎ Under (ns ++ []) t
+              forth a = elim (Among_cases mine [] t a) [ inl b ↦ told (by.0 b) | inr b ↦ absurd b ]
+
+              back : SaidBy s objects (first ∷ []) t ⊎ Under (ns ++ []) t → Among (mine ++ []) t
+              back (inl y) = elim y.among [ inl e ↦ Among_left mine [] t (by.1 (inl (subst (λ z. Said s z (objects z) t) (sym e) y.said))) | inr a ↦ absurd a ]
+              back (inr u) = elim (under_cases ns [] t u) [ inl v ↦ Among_left mine [] t (by.1 (inr v)) | inr v ↦ absurd (under_none t v) ]
+
+      also_means : (first : Chars) (others : Part Predicates) (behind : List Chars) → MeansObjects (line first) (objects first) → MeansPredicates others behind
+          → MeansPredicates (Predicate (verb_of context first) (line first) (Also others)) (first ∷ behind)
+      also_means first others behind m rest = record { size = sized; says = says }
+        where
+          ns : List ℕ
+          ns = in_objects nodes (objects first)
+
+          ms : List ℕ
+          ms = in_predicates nodes objects behind
+
+          sized : unlabelled (line first) + unlabelled others ≡ length (ns ++ ms)
+          sized = let e = length-append ns ms in let f : unlabelled (line first) ≡ length ns = m.size in let g : unlabelled others ≡ length ms = rest.size in omega (arith, e, f, g)
+
+          says : (s : Node ℕ) (n : ℕ) → In (names_of_verb (verb_of context first) ++ (names_in (line first) ++ names_in others)) → NamedSo place n (ns ++ ms) → (t : Triple ℕ)
+              → Among (triples declared label place (line first) (s, predicate_of declared (verb_of context first)) n ++ triples declared label place others s (n + unlabelled (line first))) t
+              ↔ (SaidBy s objects (first ∷ behind) t ⊎ Under (ns ++ ms) t)
+          says s n w h t = (forth, back)
+            where
+              inner : In (names_in (line first) ++ names_in others)
+              inner = in_right context declared names covers (names_of_verb (verb_of context first)) (names_in (line first) ++ names_in others) w
+
+              by : Among (triples declared label place (line first) (s, predicate_of declared (verb_of context first)) n) t ↔ (Said s first (objects first) t ⊎ Under ns t)
+              by = line_says first m s n (in_left context declared names covers (names_of_verb (verb_of context first)) (names_in (line first) ++ names_in others) w)
+                  (in_left context declared names covers (names_in (line first)) (names_in others) inner) (named_front place n ns ms h) t
+
+              l : NamedSo place (n + unlabelled (line first)) ms
+              l = subst (λ z. NamedSo place (n + z) ms) (sym m.size) (named_behind place n ns ms h)
+
+              on : Among (triples declared label place others s (n + unlabelled (line first))) t ↔ (SaidBy s objects behind t ⊎ Under ms t)
+              on = rest.says s (n + unlabelled (line first)) (in_right context declared names covers (names_in (line first)) (names_in others) inner) l t
+
+              mine : List (Triple ℕ)
+              mine = triples declared label place (line first) (s, predicate_of declared (verb_of context first)) n
+
+              theirs : List (Triple ℕ)
+              theirs = triples declared label place others s (n + unlabelled (line first))
+
+              told : Said s first (objects first) t ⊎ Under ns t → SaidBy s objects (first ∷ behind) t ⊎ Under (ns ++ ms) t
+              told (inl y) = inl (record { predicate = first; among = inl refl; said = y })
+              told (inr u) = inr (under_left ns ms t u)
+
+              told_behind : SaidBy s objects behind t ⊎ Under ms t → SaidBy s objects (first ∷ behind) t ⊎ Under (ns ++ ms) t
+              told_behind (inl y) = inl (record { predicate = y.predicate; among = inr y.among; said = y.said })
+              told_behind (inr u) = inr (under_right ns ms t u)
+
+              forth : Among (mine ++ theirs) t → SaidBy s objects (first ∷ behind) t ⊎ Under (ns ++ ms) t
+              forth a = elim (Among_cases mine theirs t a) [ inl b ↦ told (by.0 b) | inr b ↦ told_behind (on.0 b) ]
+
+              back : SaidBy s objects (first ∷ behind) t ⊎ Under (ns ++ ms) t → Among (mine ++ theirs) t
+              back (inl y) = elim y.among [
+                | inl e ↦ Among_left mine theirs t (by.1 (inl (subst (λ z. Said s z (objects z) t) (sym e) y.said)))
+                | inr a ↦ Among_right mine theirs t (on.1 (inl (record { predicate = y.predicate; among = a; said = y.said })))
+              ]
+              back (inr u) = elim (under_cases ns ms t u) [ inl v ↦ Among_left mine theirs t (by.1 (inr v)) | inr v ↦ Among_right mine theirs t (on.1 (inr v)) ]
+
+      pub predicates_mean : (first : Chars) (more : List Chars) → AllSay (first ∷ more) → MeansPredicates (predicates_after context object objects first more) (first ∷ more)
+      predicates_mean first [] all = done_means first (line_means first (all first (inl refl)))
+      predicates_mean first (next ∷ more) all =
+          also_means first (predicates_after context object objects next more) (next ∷ more) (line_means first (all first (inl refl))) (predicates_mean next more (λ p k. all p (inr k)))

@@ -1,0 +1,151 @@
+-- The text of a document spells it.
+use Rattle.std.proofs.Common.{◌≡◌, ℕ, ◌<◌, ◌^◌, true, List, [], ◌∷◌, ◌++◌, flat_map, codes, refl, sym, ◌∙◌, ap, inl, inr, subst, append_assoc}
+use Rattle.rx_terms.specs.Ascii.{line_feed, quotation_mark}
+use Rattle.rx_terms.specs.Text.{Chars}
+use Rattle.rx_terms.specs.Iri.{IsIri}
+use Rattle.rx_terms.specs.Lang.{is_lang}
+use Rattle.rx_model.specs.Sets.{Among}
+use Rattle.rx_pieces.specs.Writing.{escaped_text, string_text}
+use Rattle.rx_nquads.proofs.Denoting.{label_spelled, string_spelled}
+use Rattle.rx_notation.specs.Short.{Prefix, Prefixes, is_prefix_name, is_local_name}
+use Rattle.rx_notation.specs.Layout.{prefixes_text}
+use Rattle.rx_notation.specs.Syntax.{Reference, Full, Short, Subject, Named, Labelled, Verb, By, Type_of, Suffix, Bare, Language, Datatype, Sort, Object, Objects, Items, Predicates, Further, Part, IriOrLabel, Quoted, Anonymous, Nil, Bracketed, Collection, Single, Comma, Last, Item, Predicate, Done, Semicolon, Also, Statement, Document}
+use Rattle.rx_notation.specs.Grammar.{Full_stop, Semicolon_sign, Comma_sign, Left_bracket, Right_bracket, Brackets, Left_parenthesis, Right_parenthesis, Parentheses, Token, terminal, iri_or_label, quoted, verb_token, tokens, statement_tokens, prefix_tokens, document_tokens}
+use Rattle.rx_notation.specs.Spelling.{SpellsReference, SpellsSubject, SpellsSuffix, SpellsToken, is_gap, SpellsBehind, SpellsTokens}
+use Rattle.rx_notation.proofs.Joining.{Opens, Puts, Adds, behind_gap, puts_token, puts_then, adds_gap, adds_nothing}
+use Rattle.rx_notation.proofs.LaidOut.{GoodPrefix, moved, prefixes_spelled}
+use Rattle.rx_notation.specs.Writing.{reference_text, subject_text, verb_text, suffix_text, inside_gap, line_gap, part_text, statement_text, document_text}
+
+-- ---- what is asked of the parts, where a short form has a prefix of the context, and labels are free
+
+module _ (context : Prefixes) (free : ℕ → Type 0) where
+  abbrev pub GoodReference : Reference → Type 0
+  GoodReference (Full iri) = IsIri iri
+  GoodReference (Short name local) = (is_prefix_name name ≡ true) × (is_local_name local ≡ true) × ((iri : Chars) × Among context (name, iri))
+
+  abbrev pub GoodSubject : Subject → Type 0
+  GoodSubject (Named reference) = GoodReference reference
+  GoodSubject (Labelled number) = (number < 2 ^ 64) × free number
+
+  abbrev pub GoodVerb : Verb → Type 0
+  GoodVerb (By reference) = GoodReference reference
+  GoodVerb Type_of = Unit {0}
+
+  abbrev pub GoodSuffix : Suffix → Type 0
+  GoodSuffix Bare = Unit {0}
+  GoodSuffix (Language tag) = is_lang tag ≡ true
+  GoodSuffix (Datatype reference) = GoodReference reference
+
+  abbrev pub Good : {sort : Sort} → Part sort → Type 0
+  Good (IriOrLabel subject) = GoodSubject subject
+  Good (Quoted text suffix) = GoodSuffix suffix
+  Good Anonymous = Unit {0}
+  Good Nil = Unit {0}
+  Good (Bracketed predicates) = Good predicates
+  Good (Collection items) = Good items
+  Good (Single object) = Good object
+  Good (Comma object objects) = Good object × Good objects
+  Good (Last object) = Good object
+  Good (Item object items) = Good object × Good items
+  Good (Predicate verb objects further) = GoodVerb verb × (Good objects × Good further)
+  Good Done = Unit {0}
+  Good (Semicolon further) = ⊥
+  Good (Also predicates) = Good predicates
+
+  -- ---- terms
+
+  reference_spelled : (r : Reference) → GoodReference r → SpellsReference (reference_text r) r
+  reference_spelled (Full iri) h = record { is_iri = h; spelled = refl }
+  reference_spelled (Short name local) h = record { is_name = h.0; is_local = h.1; spelled = refl }
+
+  subject_spelled : (s : Subject) → GoodSubject s → SpellsSubject (subject_text s) s
+  subject_spelled (Named r) h = reference_spelled r h
+  subject_spelled (Labelled number) h = label_spelled number h.0
+
+  verb_spelled : (v : Verb) → GoodVerb v → SpellsToken (verb_text v) (verb_token v)
+  verb_spelled (By r) h = reference_spelled r h
+  verb_spelled Type_of h = refl
+
+  suffix_spelled : (s : Suffix) → GoodSuffix s → SpellsSuffix (suffix_text s) s
+  suffix_spelled Bare h = refl
+  suffix_spelled (Language tag) h = (h, refl)
+  suffix_spelled (Datatype r) h = (reference_text r, reference_spelled r h, refl)
+
+  -- ---- parts
+
+  -- what follows a predicate begins with a gap, or is empty; all else begins with a token
+  abbrev Joined : Sort → Chars → (List Token → List Token) → Type 0
+  Joined Object text f = Puts text f
+  Joined Objects text f = Puts text f
+  Joined Items text f = Puts text f
+  Joined Predicates text f = Puts text f
+  Joined Further text f = Adds text f
+
+  part_spelled : {sort : Sort} (gap : Chars) → is_gap gap ≡ true → (p : Part sort) → Good p → Joined sort (part_text gap p) (tokens p)
+  part_spelled gap g (IriOrLabel subject) h = puts_token (subject_text subject) (iri_or_label subject) (subject_spelled subject h)
+  part_spelled gap g (Quoted text suffix) h = puts_token (string_text text ++ suffix_text suffix) (quoted text suffix) (record {
+    inside = escaped_text text;
+    behind = suffix_text suffix;
+    string = string_spelled text;
+    suffix_spelled = suffix_spelled suffix h;
+    spelled = ap (λ z. quotation_mark ∷ z) (append_assoc (escaped_text text) (quotation_mark ∷ []) (suffix_text suffix));
+  })
+  part_spelled gap g Anonymous h = puts_token (codes "[]") (terminal Brackets) refl
+  part_spelled gap g Nil h = puts_token (codes "()") (terminal Parentheses) refl
+  part_spelled gap g (Bracketed predicates) h =
+      puts_then (puts_token (codes "[") (terminal Left_bracket) refl) (adds_gap (codes " ") refl
+      (puts_then (part_spelled inside_gap refl predicates h) (adds_gap (codes " ") refl (puts_token (codes "]") (terminal Right_bracket) refl))))
+  part_spelled gap g (Collection items) h =
+      puts_then (puts_token (codes "(") (terminal Left_parenthesis) refl) (adds_gap (codes " ") refl
+      (puts_then (part_spelled gap g items h) (adds_gap (codes " ") refl (puts_token (codes ")") (terminal Right_parenthesis) refl))))
+  part_spelled gap g (Single object) h = part_spelled gap g object h
+  part_spelled gap g (Comma object objects) h =
+      puts_then (part_spelled gap g object h.0) (adds_gap (codes " ") refl
+      (puts_then (puts_token (codes ",") (terminal Comma_sign) refl) (adds_gap (codes " ") refl (part_spelled gap g objects h.1))))
+  part_spelled gap g (Last object) h = part_spelled gap g object h
+  part_spelled gap g (Item object items) h = puts_then (part_spelled gap g object h.0) (adds_gap (codes " ") refl (part_spelled gap g items h.1))
+  part_spelled gap g (Predicate verb objects further) h =
+      puts_then (puts_token (verb_text verb) (verb_token verb) (verb_spelled verb h.0)) (adds_gap (codes " ") refl
+      (puts_then (part_spelled inside_gap refl objects h.1.0) (part_spelled gap g further h.1.1)))
+  part_spelled gap g Done h = adds_nothing
+  part_spelled gap g (Semicolon further) h = absurd h
+  part_spelled gap g (Also predicates) h =
+      adds_gap (codes " ") refl (puts_then (puts_token (codes ";") (terminal Semicolon_sign) refl) (adds_gap gap g (part_spelled gap g predicates h)))
+
+  -- ---- statements
+
+  abbrev pub GoodStatement : Statement → Type 0
+  GoodStatement s = GoodSubject s.subject × Good s.predicates
+
+  abbrev body : Statement → Chars
+  body s = subject_text s.subject ++ (codes " " ++ (part_text line_gap s.predicates ++ codes " ."))
+
+  body_puts : (s : Statement) → GoodStatement s → Puts (body s) (λ ts. iri_or_label s.subject ∷ tokens s.predicates (terminal Full_stop ∷ ts))
+  body_puts s h =
+      puts_then (puts_token (subject_text s.subject) (iri_or_label s.subject) (subject_spelled s.subject h.0)) (adds_gap (codes " ") refl
+      (puts_then (part_spelled line_gap refl s.predicates h.1) (adds_gap (codes " ") refl (puts_token (codes ".") (terminal Full_stop) refl))))
+
+  abbrev statements_text : List Statement → Chars
+  statements_text statements = flat_map statement_text statements
+
+  statement_opens : (s : Statement) (more : List Statement) → GoodStatement s → SpellsBehind (line_feed ∷ statements_text more) (statement_tokens more) → Opens (statements_text (s ∷ more)) (statement_tokens (s ∷ more))
+  statement_opens s more h behind =
+      subst (λ z. Opens z (statement_tokens (s ∷ more))) (moved (subject_text s.subject) (codes " ") (part_text line_gap s.predicates) (codes " .") (codes "\n") (statements_text more))
+      ((body_puts s h).puts (line_feed ∷ statements_text more) (statement_tokens more) behind)
+
+  statements_behind : (statements : List Statement) → ((s : Statement) → Among statements s → GoodStatement s) → SpellsBehind (line_feed ∷ statements_text statements) (statement_tokens statements)
+  statements_behind [] good = refl
+  statements_behind (s ∷ more) good =
+      behind_gap (codes "\n") (statements_text (s ∷ more)) (statement_tokens (s ∷ more)) refl
+      (statement_opens s more (good s (inl refl)) (statements_behind more (λ r m. good r (inr m))))
+
+  -- where nothing is said no prefix is declared
+  pub document_spelled : (d : Document) → ((p : Prefix) → Among d.prefixes p → GoodPrefix p) → ((s : Statement) → Among d.statements s → GoodStatement s) → (d.statements ≡ [] → d.prefixes ≡ [])
+      → SpellsTokens (document_text d) (document_tokens d)
+  document_spelled d prefixes good none = by d.statements good none
+    where
+      by : (statements : List Statement) → ((s : Statement) → Among statements s → GoodStatement s) → (statements ≡ [] → d.prefixes ≡ [])
+          → SpellsTokens (prefixes_text d.prefixes ++ statements_text statements) (prefix_tokens d.prefixes (statement_tokens statements))
+      by [] g n = subst (λ (ps : Prefixes). SpellsTokens (prefixes_text ps ++ []) (prefix_tokens ps [])) (sym (n refl)) refl
+      by (s ∷ more) g n =
+          prefixes_spelled (statements_text (s ∷ more)) (statement_tokens (s ∷ more)) (statement_opens s more (g s (inl refl)) (statements_behind more (λ r m. g r (inr m)))) d.prefixes prefixes

@@ -1,4 +1,0 @@
-mod evaluator;
-mod facts;
-mod names;
-mod placed;

@@ -1,0 +1,325 @@
+-- Behind `<!` and `<?` a move says what the verdict is.
+use Rattle.std.proofs.Common.{◌≡◌, ◌∙◌, ℕ, Bool, true, false, [], ◌∷◌, ◌++◌, refl, ap, sym, subst, append_assoc, append-nil, eqb-true, ◌+◌, arith}
+use Rattle.std.specs.Prelude.{◌&&◌, ◌||◌, ◌==◌, ◌-◌, take, length, codes, if◌then◌else◌}
+use Rattle.std.proofs.lemmas.Bool.{cond-true, cond-false}
+use Rattle.rx_terms.specs.Ascii.{less_than_sign}
+use Rattle.rx_terms.specs.Text.{Chars}
+use Rattle.rx_chars.specs.declared.syntax.Syntax.{Syntax}
+use Rattle.rx_grammar.specs.declared.contents.Content.{Content}
+use Rattle.rx_grammar.specs.Names.{same}
+use Rattle.rx_grammar.specs.Tokens.{comment, section}
+use Rattle.rx_grammar.specs.Spelling.{ends_with, ends_comment}
+use Rattle.rx_pages.specs.Scanner as told
+use Rattle.rx_terms.proofs.Bools.{split, by_test, both}
+use Rattle.std.proofs.lemmas.List.{length-append}
+use Rattle.std.proofs.Math.Seq.{take-append_seam}
+use Rattle.rx_scan.specs.declared.marks.CommentPhase.{CommentPhase}
+use Rattle.rx_scan.specs.declared.marks.CommentPhase.TheVariants as comments
+use Rattle.rx_scan.specs.declared.marks.StrictPhase.{StrictPhase}
+use Rattle.rx_scan.specs.declared.marks.StrictPhase.TheVariants as strict
+use Rattle.rx_scan.specs.declared.marks.Brackets.{Brackets}
+use Rattle.rx_scan.specs.declared.marks.Brackets.TheVariants as brackets
+use Rattle.rx_scan.specs.declared.marks.Mark.{Mark}
+use Rattle.rx_scan.specs.declared.marks.Mark.TheVariants as mark
+use Rattle.rx_scan.specs.declared.marks.Move.{Move}
+use Rattle.rx_scan.specs.Marks.{may_close, after_dash, after_bang, in_comment, after_strict_dash, in_strict_comment, in_instruction, in_bogus, in_section, at_bracket, are_two}
+use Rattle.rx_scan.specs.Pending.{Pending, PendsAs, Behind, judge_of, CommentEnds, is_start, is_start_dash, has_dash, has_dashes, has_bang, StrictEnds, has_strict_dash, has_strict_dashes, SectionEnds, bracket_text}
+use Rattle.rx_scan.specs.Meant.{Means, Goes}
+use Rattle.rx_scan.proofs.Snoc.{and_false, snoc_same, ends_snoc, ends_one, empty_snoc, lone_snoc, either_way}
+
+-- what stands behind the front grows by the character
+pub grown : (text front rest : Chars) (c : ℕ) → text ≡ less_than_sign ∷ (front ++ rest) → text ++ c ∷ [] ≡ less_than_sign ∷ (front ++ (rest ++ c ∷ []))
+grown text front rest c e = ap (λ x. x ++ c ∷ []) e ∙ ap (λ x. less_than_sign ∷ x) (append_assoc front rest (c ∷ []))
+
+-- the phase of a comment after one more character
+abbrev next_phase : CommentPhase → ℕ → CommentPhase
+next_phase p c = if c == 45 then after_dash p else if c == 33 then after_bang p else comments.Text
+
+-- what holds of the phase by two tests holds by the character's
+by_two : (P : CommentPhase → Bool → Bool → Type 0) (p : CommentPhase) (c : ℕ) → P (after_dash p) true false → P (after_bang p) false true → P comments.Text false false → P (next_phase p c) (c == 45) (c == 33)
+by_two P p c d b t =
+    by_test {G = P (next_phase p c) (c == 45) (c == 33)} (c == 45)
+    (λ h. let e : c ≡ 45 = eqb-true c 45 h in subst (λ (x : ℕ). P (next_phase p x) (x == 45) (x == 33)) (sym e) d)
+    (λ h. by_test {G = P (next_phase p c) (c == 45) (c == 33)} (c == 33)
+    (λ k. let e : c ≡ 33 = eqb-true c 33 k in subst (λ (x : ℕ). P (next_phase p x) (x == 45) (x == 33)) (sym e) b)
+    (λ k. rw (h, k) t))
+
+next_start : (p : CommentPhase) (c : ℕ) → is_start (next_phase p c) ≡ false
+next_start p c = by_two (λ q d b. is_start q ≡ false) p c (dash p) (bang p) refl
+  where
+    dash : (p : CommentPhase) → is_start (after_dash p) ≡ false
+    dash comments.Start = refl
+    dash comments.StartDash = refl
+    dash comments.Text = refl
+    dash comments.Dash = refl
+    dash comments.Dashes = refl
+    dash comments.Bang = refl
+
+    bang : (p : CommentPhase) → is_start (after_bang p) ≡ false
+    bang comments.Start = refl
+    bang comments.StartDash = refl
+    bang comments.Text = refl
+    bang comments.Dash = refl
+    bang comments.Dashes = refl
+    bang comments.Bang = refl
+
+next_start_dash : (p : CommentPhase) (c : ℕ) → (is_start p && (c == 45)) ≡ is_start_dash (next_phase p c)
+next_start_dash p c = by_two (λ q d b. (is_start p && d) ≡ is_start_dash q) p c (dash p) (bang p) (and_false (is_start p))
+  where
+    dash : (p : CommentPhase) → (is_start p && true) ≡ is_start_dash (after_dash p)
+    dash comments.Start = refl
+    dash comments.StartDash = refl
+    dash comments.Text = refl
+    dash comments.Dash = refl
+    dash comments.Dashes = refl
+    dash comments.Bang = refl
+
+    bang : (p : CommentPhase) → (is_start p && false) ≡ is_start_dash (after_bang p)
+    bang comments.Start = refl
+    bang comments.StartDash = refl
+    bang comments.Text = refl
+    bang comments.Dash = refl
+    bang comments.Dashes = refl
+    bang comments.Bang = refl
+
+next_dash : (p : CommentPhase) (c : ℕ) → (c == 45) ≡ has_dash (next_phase p c)
+next_dash p c = by_two (λ q d b. d ≡ has_dash q) p c (dash p) (bang p) refl
+  where
+    dash : (p : CommentPhase) → true ≡ has_dash (after_dash p)
+    dash comments.Start = refl
+    dash comments.StartDash = refl
+    dash comments.Text = refl
+    dash comments.Dash = refl
+    dash comments.Dashes = refl
+    dash comments.Bang = refl
+
+    bang : (p : CommentPhase) → false ≡ has_dash (after_bang p)
+    bang comments.Start = refl
+    bang comments.StartDash = refl
+    bang comments.Text = refl
+    bang comments.Dash = refl
+    bang comments.Dashes = refl
+    bang comments.Bang = refl
+
+next_dashes : (p : CommentPhase) (c : ℕ) → ((c == 45) && has_dash p) ≡ has_dashes (next_phase p c)
+next_dashes p c = by_two (λ q d b. (d && has_dash p) ≡ has_dashes q) p c (dash p) (bang p) refl
+  where
+    dash : (p : CommentPhase) → has_dash p ≡ has_dashes (after_dash p)
+    dash comments.Start = refl
+    dash comments.StartDash = refl
+    dash comments.Text = refl
+    dash comments.Dash = refl
+    dash comments.Dashes = refl
+    dash comments.Bang = refl
+
+    bang : (p : CommentPhase) → false ≡ has_dashes (after_bang p)
+    bang comments.Start = refl
+    bang comments.StartDash = refl
+    bang comments.Text = refl
+    bang comments.Dash = refl
+    bang comments.Dashes = refl
+    bang comments.Bang = refl
+
+next_bang : (p : CommentPhase) (c : ℕ) → ((c == 33) && has_dashes p) ≡ has_bang (next_phase p c)
+next_bang p c = by_two (λ q d b. (b && has_dashes p) ≡ has_bang q) p c (dash p) (bang p) refl
+  where
+    dash : (p : CommentPhase) → false ≡ has_bang (after_dash p)
+    dash comments.Start = refl
+    dash comments.StartDash = refl
+    dash comments.Text = refl
+    dash comments.Dash = refl
+    dash comments.Dashes = refl
+    dash comments.Bang = refl
+
+    bang : (p : CommentPhase) → has_dashes p ≡ has_bang (after_bang p)
+    bang comments.Start = refl
+    bang comments.StartDash = refl
+    bang comments.Text = refl
+    bang comments.Dash = refl
+    bang comments.Dashes = refl
+    bang comments.Bang = refl
+
+comment_grows : (p : CommentPhase) (rest : Chars) (c : ℕ) → CommentEnds p rest → CommentEnds (next_phase p c) (rest ++ c ∷ [])
+comment_grows p rest c h =
+    record {
+      empty = empty_snoc rest c ∙ sym (next_start p c);
+      lone = lone_snoc 45 rest c ∙ (ap (λ b. b && (c == 45)) h.empty ∙ next_start_dash p c);
+      dash = ends_one 45 rest c ∙ (either_way 45 c ∙ next_dash p c);
+      dashes = ends_snoc (45 ∷ []) 45 rest c ∙ (ap (λ b. b && ends_with (45 ∷ []) rest) (either_way 45 c) ∙ (ap (λ b. (c == 45) && b) h.dash ∙ next_dashes p c));
+      bang = ends_snoc (45 ∷ 45 ∷ []) 33 rest c ∙ (ap (λ b. b && ends_with (45 ∷ 45 ∷ []) rest) (either_way 33 c) ∙ (ap (λ b. (c == 33) && b) h.dashes ∙ next_bang p c));
+    }
+
+comment_closes : (p : CommentPhase) (rest : Chars) (c : ℕ) → CommentEnds p rest → ends_comment (rest ++ c ∷ []) ≡ ((c == 62) && may_close p)
+comment_closes p rest c h =
+    ap (λ b. b || same (rest ++ c ∷ []) (codes "->") || ends_with (codes "-->") (rest ++ c ∷ []) || ends_with (codes "--!>") (rest ++ c ∷ [])) (lone_snoc 62 rest c ∙ ap (λ b. b && (c == 62)) h.empty)
+    ∙ (ap (λ b. (is_start p && (c == 62)) || b || ends_with (codes "-->") (rest ++ c ∷ []) || ends_with (codes "--!>") (rest ++ c ∷ [])) (snoc_same (45 ∷ []) 62 rest c ∙ ap (λ b. b && (c == 62)) h.lone)
+    ∙ (ap (λ b. (is_start p && (c == 62)) || (is_start_dash p && (c == 62)) || b || ends_with (codes "--!>") (rest ++ c ∷ [])) (ends_snoc (45 ∷ 45 ∷ []) 62 rest c ∙ (ap (λ b. b && ends_with (45 ∷ 45 ∷ []) rest) (either_way 62 c) ∙ ap (λ b. (c == 62) && b) h.dashes))
+    ∙ (ap (λ b. (is_start p && (c == 62)) || (is_start_dash p && (c == 62)) || ((c == 62) && has_dashes p) || b) (ends_snoc (45 ∷ 45 ∷ 33 ∷ []) 62 rest c ∙ (ap (λ b. b && ends_with (45 ∷ 45 ∷ 33 ∷ []) rest) (either_way 62 c) ∙ ap (λ b. (c == 62) && b) h.bang))
+    ∙ all p (c == 62))))
+  where
+    all : (p : CommentPhase) (g : Bool) → ((is_start p && g) || (is_start_dash p && g) || (g && has_dashes p) || (g && has_bang p)) ≡ (g && may_close p)
+    all comments.Start true = refl
+    all comments.StartDash true = refl
+    all comments.Text true = refl
+    all comments.Dash true = refl
+    all comments.Dashes true = refl
+    all comments.Bang true = refl
+    all comments.Start false = refl
+    all comments.StartDash false = refl
+    all comments.Text false = refl
+    all comments.Dash false = refl
+    all comments.Dashes false = refl
+    all comments.Bang false = refl
+
+abbrev next_strict : StrictPhase → ℕ → StrictPhase
+next_strict q c = if c == 45 then after_strict_dash q else strict.Text
+
+strict_grows : (q : StrictPhase) (rest : Chars) (c : ℕ) → StrictEnds q rest → has_strict_dashes q ≡ false → StrictEnds (next_strict q c) (rest ++ c ∷ [])
+strict_grows q rest c h n =
+    record {
+      dash = ends_one 45 rest c ∙ (either_way 45 c ∙ dash (c == 45));
+      dashes = ends_snoc (45 ∷ []) 45 rest c ∙ (ap (λ b. b && ends_with (45 ∷ []) rest) (either_way 45 c) ∙ (ap (λ b. (c == 45) && b) h.dash ∙ dashes q (c == 45) n));
+    }
+  where
+    after : (q : StrictPhase) → true ≡ has_strict_dash (after_strict_dash q)
+    after strict.Text = refl
+    after strict.Dash = refl
+    after strict.Dashes = refl
+
+    dash : (b : Bool) → b ≡ has_strict_dash (if b then after_strict_dash q else strict.Text)
+    dash true = after q
+    dash false = refl
+
+    dashes : (q : StrictPhase) (b : Bool) → has_strict_dashes q ≡ false → (b && has_strict_dash q) ≡ has_strict_dashes (if b then after_strict_dash q else strict.Text)
+    dashes strict.Text true n = refl
+    dashes strict.Dash true n = refl
+    dashes strict.Dashes true n = absurd (cc)
+    dashes q false n = refl
+
+-- what is kept of a section
+section_kept : (kept : Chars) → take (length (kept ++ 93 ∷ 93 ∷ []) - 2) (kept ++ 93 ∷ 93 ∷ []) ≡ kept
+section_kept kept = ap (λ n. take n (kept ++ 93 ∷ 93 ∷ [])) (ap (λ n. n - 2) (length-append kept (93 ∷ 93 ∷ [])) ∙ less_two (length kept)) ∙ take-append_seam kept (93 ∷ 93 ∷ [])
+  where
+    less_two : (n : ℕ) → (n + 2) - 2 ≡ n
+    less_two n = omega arith
+
+one_bracket : (kept rest : Chars) → SectionEnds brackets.None kept rest → SectionEnds brackets.One kept (rest ++ 93 ∷ [])
+one_bracket kept rest h =
+    record {
+      are = ap (λ x. x ++ 93 ∷ []) (h.are ∙ append-nil kept);
+      one = ends_one 93 rest 93;
+      two = ends_snoc (93 ∷ []) 93 rest 93 ∙ h.one;
+    }
+
+two_brackets : (kept rest : Chars) → SectionEnds brackets.One kept rest → SectionEnds brackets.Two kept (rest ++ 93 ∷ [])
+two_brackets kept rest h =
+    record {
+      are = ap (λ x. x ++ 93 ∷ []) h.are ∙ append_assoc kept (93 ∷ []) (93 ∷ []);
+      one = ends_one 93 rest 93;
+      two = ends_snoc (93 ∷ []) 93 rest 93 ∙ h.one;
+    }
+
+more_brackets : (kept rest : Chars) → SectionEnds brackets.Two kept rest → SectionEnds brackets.Two (kept ++ 93 ∷ []) (rest ++ 93 ∷ [])
+more_brackets kept rest h =
+    record {
+      are = ap (λ x. x ++ 93 ∷ []) h.are ∙ (append_assoc kept (93 ∷ 93 ∷ []) (93 ∷ []) ∙ sym (append_assoc kept (93 ∷ []) (93 ∷ 93 ∷ [])));
+      one = ends_one 93 rest 93;
+      two = ends_snoc (93 ∷ []) 93 rest 93 ∙ h.one;
+    }
+
+plain_text : (b : Brackets) (kept rest : Chars) (c : ℕ) → SectionEnds b kept rest → (c == 93) ≡ false → SectionEnds brackets.None ((kept ++ bracket_text b) ++ c ∷ []) (rest ++ c ∷ [])
+plain_text b kept rest c h n =
+    record {
+      are = ap (λ x. x ++ c ∷ []) h.are ∙ sym (append-nil ((kept ++ bracket_text b) ++ c ∷ []));
+      one = ends_one 93 rest c ∙ (either_way 93 c ∙ n);
+      two = ends_snoc (93 ∷ []) 93 rest c ∙ ap (λ t. t && ends_with (93 ∷ []) rest) (either_way 93 c ∙ n);
+    }
+
+section_closes : (b : Brackets) (kept rest : Chars) (c : ℕ) → SectionEnds b kept rest → ends_with (codes "]]>") (rest ++ c ∷ []) ≡ ((c == 62) && are_two b)
+section_closes b kept rest c h = ends_snoc (93 ∷ 93 ∷ []) 62 rest c ∙ (ap (λ t. t && ends_with (93 ∷ 93 ∷ []) rest) (either_way 62 c) ∙ ap (λ t. (c == 62) && t) h.two)
+
+module _ (s : Syntax) (i : Content) (p : Pending) (text : Chars) (c : ℕ) where
+  -- the verdict behind a front, and that the token goes on
+  pub judged_at : (judge : Chars → ℕ → told.Verdict) (Is : Chars → Type 0) (b : Behind s i judge Is text) → told.verdict s i text c ≡ judge b.rest c
+  judged_at judge Is b = ap (λ x. told.verdict s i x c) b.are ∙ b.judges.judged b.rest c
+
+  pub behind_more : (judge : Chars → ℕ → told.Verdict) (Is More : Chars → Type 0) (b : Behind s i judge Is text) → More (b.rest ++ c ∷ []) → Behind s i judge More (text ++ c ∷ [])
+  behind_more judge Is More b m = record { front = b.front; rest = b.rest ++ c ∷ []; are = grown text b.front b.rest c b.are; judges = b.judges; is = m }
+
+  pub goes_by : (judge : Chars → ℕ → told.Verdict) (Is : Chars → Type 0) (b : Behind s i judge Is text) (m : Mark) (run : Chars) → judge b.rest c ≡ told.goes_on → PendsAs s i m run p.tag (text ++ c ∷ []) → Goes s i p text c m run
+  goes_by judge Is b m run e h = record { first = 60; more = b.front ++ b.rest; some = b.are; goes = judged_at judge Is b ∙ e; pends = h }
+
+  pub in_comment_means : (q : CommentPhase) → PendsAs s i (mark.Comment q) p.run p.tag text → Means s i p text c (in_comment q c)
+  in_comment_means q b =
+      let judge = judge_of s i (mark.Comment q) in
+      let closes = comment_closes q b.rest c b.is in
+      split (λ (m : Move). Means s i p text c m) (c == 62 && may_close q) _ _
+      (λ h. judged_at judge (CommentEnds q) b ∙ ap (λ t. told.whole_if t comment) (closes ∙ h))
+      (λ h. goes_by judge (CommentEnds q) b (mark.Comment (next_phase q c)) p.run (ap (λ t. told.whole_if t comment) (closes ∙ h)) (behind_more judge (CommentEnds q) (CommentEnds (next_phase q c)) b (comment_grows q b.rest c b.is)))
+
+  pub in_strict_means : (q : StrictPhase) → PendsAs s i (mark.StrictComment q) p.run p.tag text → Means s i p text c (in_strict_comment q c)
+  in_strict_means strict.Dashes b =
+      let judge = judge_of s i (mark.StrictComment strict.Dashes) in
+      split (λ (m : Move). Means s i p text c m) (c == 62) _ _
+      (λ h. judged_at judge (StrictEnds strict.Dashes) b ∙ (cond-true _ _ _ b.is.dashes ∙ cond-true _ _ _ h))
+      (λ h. judged_at judge (StrictEnds strict.Dashes) b ∙ (cond-true _ _ _ b.is.dashes ∙ cond-false _ _ _ h))
+  in_strict_means strict.Text b =
+      let judge = judge_of s i (mark.StrictComment strict.Text) in
+      goes_by judge (StrictEnds strict.Text) b (mark.StrictComment (next_strict strict.Text c)) p.run (cond-false _ _ _ b.is.dashes) (behind_more judge (StrictEnds strict.Text) (StrictEnds (next_strict strict.Text c)) b (strict_grows strict.Text b.rest c b.is refl))
+  in_strict_means strict.Dash b =
+      let judge = judge_of s i (mark.StrictComment strict.Dash) in
+      goes_by judge (StrictEnds strict.Dash) b (mark.StrictComment (next_strict strict.Dash c)) p.run (cond-false _ _ _ b.is.dashes) (behind_more judge (StrictEnds strict.Dash) (StrictEnds (next_strict strict.Dash c)) b (strict_grows strict.Dash b.rest c b.is refl))
+
+  abbrev any_text : Chars → Type 0
+  any_text rest = Unit {0}
+
+  pub in_bogus_means : PendsAs s i mark.Bogus p.run p.tag text → Means s i p text c (in_bogus c)
+  in_bogus_means b =
+      let judge = judge_of s i mark.Bogus in
+      split (λ (m : Move). Means s i p text c m) (c == 62) _ _
+      (λ h. judged_at judge any_text b ∙ ap (λ t. told.whole_if t comment) h)
+      (λ h. goes_by judge any_text b mark.Bogus p.run (ap (λ t. told.whole_if t comment) h) (behind_more judge any_text any_text b tt))
+
+  pub in_instruction_means : (asked : Bool) → PendsAs s i (mark.Instruction asked) p.run p.tag text → Means s i p text c (in_instruction asked c)
+  in_instruction_means asked b =
+      let judge = judge_of s i (mark.Instruction asked) in
+      let Asked : Bool → Chars → Type 0 = λ a rest. ends_with (codes "?") rest ≡ a in
+      let closes : ends_with (codes "?>") (b.rest ++ c ∷ []) ≡ ((c == 62) && asked) = ends_snoc (63 ∷ []) 62 b.rest c ∙ (ap (λ t. t && ends_with (63 ∷ []) b.rest) (either_way 62 c) ∙ ap (λ t. (c == 62) && t) b.is) in
+      split (λ (m : Move). Means s i p text c m) (c == 62 && asked) _ _
+      (λ h. judged_at judge (Asked asked) b ∙ ap (λ t. told.whole_if t comment) (closes ∙ h))
+      (λ h. goes_by judge (Asked asked) b (mark.Instruction (c == 63)) p.run (ap (λ t. told.whole_if t comment) (closes ∙ h)) (behind_more judge (Asked asked) (Asked (c == 63)) b (ends_one 63 b.rest c ∙ either_way 63 c)))
+
+  pub in_section_means : (q : Brackets) → PendsAs s i (mark.Section q) p.run p.tag text → Means s i p text c (in_section q c)
+  in_section_means q b =
+      split (λ (m : Move). Means s i p text c m) (c == 93) _ _
+      (λ h. bracket q b (eqb-true c 93 h) (judged_at judge (SectionEnds q p.run) b ∙ ap (λ t. told.whole_if t (section (take (length b.rest - 2) b.rest))) (section_closes q p.run b.rest c b.is ∙ ap (λ (x : ℕ). (x == 62) && are_two q) (eqb-true c 93 h))))
+      (λ n. split (λ (m : Move). Means s i p text c m) (c == 62 && are_two q) _ _
+      (λ h. judged_at judge (SectionEnds q p.run) b ∙ (ap (λ t. told.whole_if t (section (take (length b.rest - 2) b.rest))) (section_closes q p.run b.rest c b.is ∙ h) ∙ ap (λ x. told.whole (section x)) (kept q b (both (c == 62) (are_two q) h).1)))
+      (λ h. goes_by judge (SectionEnds q p.run) b (mark.Section brackets.None) ((p.run ++ bracket_text q) ++ c ∷ []) (ap (λ t. told.whole_if t (section (take (length b.rest - 2) b.rest))) (section_closes q p.run b.rest c b.is ∙ h))
+      (behind_more judge (SectionEnds q p.run) (SectionEnds brackets.None ((p.run ++ bracket_text q) ++ c ∷ [])) b (plain_text q p.run b.rest c b.is n))))
+    where
+      judge : Chars → ℕ → told.Verdict
+      judge = told.in_section
+
+      at_93 : (b : Brackets) (kept rest : Chars) → c ≡ 93 → SectionEnds b kept (rest ++ 93 ∷ []) → SectionEnds b kept (rest ++ c ∷ [])
+      at_93 b kept rest e h = subst (λ (x : ℕ). SectionEnds b kept (rest ++ x ∷ [])) (sym e) h
+
+      bracket : (q : Brackets) → PendsAs s i (mark.Section q) p.run p.tag text → c ≡ 93 → told.verdict s i text c ≡ told.goes_on → Means s i p text c (at_bracket q)
+      bracket brackets.None b e v =
+          record { first = 60; more = b.front ++ b.rest; some = b.are; goes = v; pends = behind_more judge (SectionEnds brackets.None p.run) (SectionEnds brackets.One p.run) b (at_93 brackets.One p.run b.rest e (one_bracket p.run b.rest b.is)) }
+      bracket brackets.One b e v =
+          record { first = 60; more = b.front ++ b.rest; some = b.are; goes = v; pends = behind_more judge (SectionEnds brackets.One p.run) (SectionEnds brackets.Two p.run) b (at_93 brackets.Two p.run b.rest e (two_brackets p.run b.rest b.is)) }
+      bracket brackets.Two b e v =
+          record {
+            first = 60;
+            more = b.front ++ b.rest;
+            some = b.are;
+            goes = v;
+            pends = behind_more judge (SectionEnds brackets.Two p.run) (SectionEnds brackets.Two (p.run ++ c ∷ [])) b
+                (at_93 brackets.Two (p.run ++ c ∷ []) b.rest e (subst (λ (x : ℕ). SectionEnds brackets.Two (p.run ++ x ∷ []) (b.rest ++ 93 ∷ [])) (sym e) (more_brackets p.run b.rest b.is)));
+          }
+
+      kept : (q : Brackets) (b : Behind s i (judge_of s i (mark.Section q)) (SectionEnds q p.run) text) → are_two q ≡ true → take (length b.rest - 2) b.rest ≡ p.run
+      kept brackets.None b h = absurd (cc)
+      kept brackets.One b h = absurd (cc)
+      kept brackets.Two b h = ap (λ x. take (length x - 2) x) b.is.are ∙ section_kept p.run

@@ -1,0 +1,308 @@
+-- Behind `<!` a move says what the verdict is.
+use Rattle.std.proofs.Common.{◌≡◌, ◌∙◌, ℕ, ◌+◌, Bool, true, false, [], ◌∷◌, ◌++◌, refl, ap, sym, subst, Option, Some, append_assoc, append-nil, eqb-true, eq-eqb, cond, length, map, arith, slice_get, suc}
+use Rattle.std.specs.Prelude.{◌==◌, ◌&&◌, not, codes, drop}
+use Rattle.std.proofs.lemmas.Bool.{cond-true, cond-false, or_from}
+use Rattle.std.proofs.lemmas.List.{length-append, length-map, map-append}
+use Rattle.std.proofs.Math.Seq.{drop-append_seam}
+use Rattle.rx_terms.specs.Ascii.{lowered_char}
+use Rattle.rx_terms.specs.Text.{Chars, begins_with, lowered}
+use Rattle.rx_chars.specs.declared.syntax.Syntax.{Syntax}
+use Rattle.rx_chars.specs.declared.syntax.Syntax.TheVariants.{Html, Xhtml}
+use Rattle.rx_grammar.specs.declared.contents.Content.{Content}
+use Rattle.rx_grammar.specs.declared.faults.Kind.TheVariants.{BadTag, Outside}
+use Rattle.rx_grammar.specs.Tokens.{comment}
+use Rattle.rx_grammar.specs.Spelling.{has_markup, has_sections, begins_declaration}
+use Rattle.rx_grammar.specs.PageFaults.{is_known_tag, meets_opening}
+use Rattle.rx_pages.specs.Scanner as told
+use Rattle.rx_pages.proofs.Reading.{markup_is}
+use Rattle.rx_pages.proofs.Comments.{bogus_at}
+use Rattle.rx_terms.proofs.Bools.{split, by_test, both}
+use Rattle.rx_reader.proofs.Fronts.{equal, begins_append}
+use Rattle.rx_scan.specs.declared.marks.Word.{Word}
+use Rattle.rx_scan.specs.declared.marks.Word.TheVariants as word
+use Rattle.rx_scan.specs.declared.marks.CommentPhase.TheVariants as comments
+use Rattle.rx_scan.specs.declared.marks.StrictPhase.TheVariants as strict
+use Rattle.rx_scan.specs.declared.marks.DoctypePhase.TheVariants as phases
+use Rattle.rx_scan.specs.declared.marks.Brackets.TheVariants as brackets
+use Rattle.rx_scan.specs.declared.marks.Mark.{Mark}
+use Rattle.rx_scan.specs.declared.marks.Mark.TheVariants as mark
+use Rattle.rx_scan.specs.declared.marks.Move.{Move}
+use Rattle.rx_scan.specs.declared.marks.Move.TheVariants as move
+use Rattle.rx_scan.specs.Marks as marks
+use Rattle.rx_scan.specs.Pending.{Pending, PendsAs, InOpened, InOpening, Behind, judge_of, CommentEnds, StrictEnds, SectionEnds, DoctypeEnds}
+use Rattle.rx_scan.specs.Meant.{Means, Goes}
+use Rattle.rx_scan.proofs.Snoc.{ends_one, either_way, and_false}
+use Rattle.rx_scan.proofs.MarkFronts.{slice_at, cancel}
+use Rattle.rx_scan.proofs.OpeningWords.{plain_is, begins_word, word_more, word_short, word_unlike, lowered_other, head_list, undeclared, next_no_greater, NoWord, no_word, begins_some, begins_none, same_char, strict_plain, first_of, word_length, exact}
+
+-- in markup what begins with `<!` is no tag
+pub no_tag : (s : Syntax) (i : Content) (more : Chars) → has_markup i ≡ true → is_known_tag s i (60 ∷ 33 ∷ more) ≡ false
+no_tag Html i more h = cond-true _ _ _ h
+no_tag Xhtml i more h = cond-true _ _ _ h
+
+-- the verdict behind `<!`
+pub behind_mark : (s : Syntax) (i : Content) (text : Chars) (c : ℕ) → has_markup i ≡ true → told.verdict s i (60 ∷ 33 ∷ text) c ≡ told.after_mark s i text c
+behind_mark s i text c h = markup_is s i (33 ∷ text) c h
+
+bogus_verdict : (i : Content) (t : Chars) (c : ℕ) → has_markup i ≡ true → begins_declaration i t ≡ false → told.verdict Html i (60 ∷ 33 ∷ t) c ≡ told.whole_if (c == 62) comment
+bogus_verdict i t c m h = behind_mark Html i t c m ∙ (bogus_at i t c h ∙ ap (λ b. told.whole_if b comment) (ends_one 62 t c ∙ either_way 62 c))
+
+-- in HTML `<!` and what begins nothing else
+module _ (i : Content) (p : Pending) (t : Chars) (c : ℕ) (m : has_markup i ≡ true) where
+  in_bogus_after : begins_declaration i t ≡ false → ((more : Chars) → begins_declaration i (t ++ c ∷ more) ≡ false) → (text : Chars) → text ≡ 60 ∷ 33 ∷ t → Means Html i p text c (marks.in_bogus c)
+  in_bogus_after h n text e =
+      let v : told.verdict Html i text c ≡ told.whole_if (c == 62) comment = ap (λ x. told.verdict Html i x c) e ∙ bogus_verdict i t c m h in
+      split (λ (k : Move). Means Html i p text c k) (c == 62) _ _
+      (λ g. v ∙ ap (λ b. told.whole_if b comment) g)
+      (λ g. record {
+        first = 60;
+        more = 33 ∷ t;
+        some = e;
+        goes = v ∙ ap (λ b. told.whole_if b comment) g;
+        pends = record {
+          front = 33 ∷ (t ++ c ∷ []);
+          rest = [];
+          are = ap (λ x. x ++ c ∷ []) e ∙ ap (λ x. 60 ∷ 33 ∷ x) (sym (append-nil (t ++ c ∷ [])));
+          judges = record {
+            judged = λ more d. bogus_verdict i ((t ++ c ∷ []) ++ more) d m (ap (begins_declaration i) (append_assoc t (c ∷ []) more) ∙ n more);
+            no_tag = λ more. no_tag Html i ((t ++ c ∷ []) ++ more) m;
+          };
+          is = tt;
+        };
+      })
+
+strict_verdict : (i : Content) (t : Chars) (c : ℕ) → has_markup i ≡ true → NoWord t → told.verdict Xhtml i (60 ∷ 33 ∷ t) c ≡ told.in_opening i (t ++ c ∷ [])
+strict_verdict i t c m n = behind_mark Xhtml i t c m ∙ (cond-false _ _ _ n.dashes ∙ (cond-false _ _ _ n.doctype ∙ cond-false _ _ _ n.section))
+
+module _ (s : Syntax) (i : Content) (p : Pending) (text : Chars) (c : ℕ) (w : Word) (n : ℕ) (h : InOpening s i w n p.run text) where
+  abbrev t : Chars
+  t = h.first ∷ h.chars
+
+  -- where the move is the one of the word's next character
+  at_next : (P : Option ℕ → Type 0) → P (Some h.next) → P (slice_get (marks.opening_text s w) n)
+  at_next P k =
+      subst P (sym (ap (λ x. slice_get x n) h.word ∙ (ap (λ m. slice_get (map (marks.opening_char s w) t ++ h.next ∷ h.left) m) (sym (length-map t (marks.opening_char s w) ∙ h.count)) ∙ slice_at (map (marks.opening_char s w) t) (h.next ∷ h.left)))) k
+
+  -- the word goes on
+  longer : (d : ℕ) (left : Chars) → h.left ≡ d ∷ left → marks.opening_char s w c ≡ h.next → told.verdict s i text c ≡ told.goes_on → Means s i p text c (move.Goes (mark.Opening w (n + 1)))
+  longer d left l q v =
+      record {
+        first = 60;
+        more = 33 ∷ t;
+        some = h.are;
+        goes = v;
+        pends = record {
+          none = h.none;
+          first = h.first;
+          chars = h.chars ++ c ∷ [];
+          are = ap (λ x. x ++ c ∷ []) h.are;
+          markup = h.markup;
+          looked = h.looked;
+          count = length-append t (c ∷ []) ∙ ap (λ k. k + 1) h.count;
+          next = d;
+          left = left;
+          word = h.word ∙ (ap (λ x. map (marks.opening_char s w) t ++ h.next ∷ x) l ∙ (ap (λ x. map (marks.opening_char s w) t ++ x ∷ d ∷ left) (sym q) ∙ (sym (append_assoc (map (marks.opening_char s w) t) (marks.opening_char s w c ∷ []) (d ∷ left)) ∙ ap (λ x. x ++ d ∷ left) (sym (map-append (marks.opening_char s w) t (c ∷ []))))));
+        };
+      }
+
+  whole_word : h.left ≡ [] → (n + 1 == length (marks.opening_text s w)) ≡ true
+  whole_word l = eq-eqb (n + 1) (length (marks.opening_text s w)) (sym (word_length s w t h.next h.left h.word ∙ (ap (λ x. length t + (length x + 1)) l ∙ ap (λ k. k + 1) h.count)))
+
+  part_word : (d : ℕ) (left : Chars) → h.left ≡ d ∷ left → (n + 1 == length (marks.opening_text s w)) ≡ false
+  part_word d left l =
+      ap (λ k. n + 1 == k) (word_length s w t h.next h.left h.word ∙ (ap (λ x. length t + (length x + 1)) l ∙ ap (λ k. k + (length (d ∷ left) + 1)) h.count)) ∙ part n (length left)
+    where
+      part : (n k : ℕ) → (n + 1 == n + (suc k + 1)) ≡ false
+      part n k = by_test {G = (n + 1 == n + (suc k + 1)) ≡ false} (n + 1 == n + (suc k + 1)) (λ h. absurd (let e : n + 1 ≡ n + (suc k + 1) = eqb-true (n + 1) (n + (suc k + 1)) h in omega arith)) (λ h. h)
+
+  more_means : (left : Chars) → h.left ≡ left → marks.opening_char s w c ≡ h.next → (h.left ≡ [] → Means s i p text c (marks.begun_word s i w)) → ((d : ℕ) (more : Chars) → h.left ≡ d ∷ more → told.verdict s i text c ≡ told.goes_on) → Means s i p text c (marks.more_of_word s i w (n + 1))
+  more_means [] l q begun v = subst (λ (b : Bool). Means s i p text c (cond b (marks.begun_word s i w) (move.Goes (mark.Opening w (n + 1))))) (sym (whole_word l)) (begun l)
+  more_means (d ∷ left) l q begun v = subst (λ (b : Bool). Means s i p text c (cond b (marks.begun_word s i w) (move.Goes (mark.Opening w (n + 1))))) (sym (part_word d left l)) (longer d left l q (v d left l))
+
+  by_next : (marks.opening_char s w c ≡ h.next → Means s i p text c (marks.more_of_word s i w (n + 1))) → (marks.is_next s w h.next c ≡ false → Means s i p text c (marks.unlike s c)) → Means s i p text c (marks.in_word s i w (slice_get (marks.opening_text s w) n) n c)
+  by_next f g = at_next (λ o. Means s i p text c (marks.in_word s i w o n c)) (split (λ (m : Move). Means s i p text c m) (marks.is_next s w h.next c) _ _ (λ k. f (eqb-true (marks.opening_char s w c) h.next k)) g)
+
+  -- the first one
+  begins_as : marks.opening_char s w h.first ∷ [] ≡ head_list (marks.opening_text s w)
+  begins_as = first_of s w h.first h.chars h.next h.left h.word
+
+-- a word that is whole, and the mark behind it
+module _ (s : Syntax) (i : Content) (p : Pending) (text : Chars) (c : ℕ) (t : Chars) (are : text ≡ 60 ∷ 33 ∷ t) (markup : has_markup i ≡ true) where
+  begun_means : (word : Chars) → t ++ c ∷ [] ≡ word → (judge : Chars → ℕ → told.Verdict) (Is : Chars → Type 0) → ((more : Chars) (d : ℕ) → told.after_mark s i (word ++ more) d ≡ judge more d) → Is [] → Behind s i judge Is (text ++ c ∷ [])
+  begun_means word e judge Is j is =
+      record {
+        front = 33 ∷ word;
+        rest = [];
+        are = ap (λ x. x ++ c ∷ []) are ∙ ap (λ x. 60 ∷ 33 ∷ x) (e ∙ sym (append-nil word));
+        judges = record { judged = λ more d. behind_mark s i (word ++ more) d markup ∙ j more d; no_tag = λ more. no_tag s i (word ++ more) markup };
+        is = is;
+      }
+
+  goes_behind : (m : Mark) → told.verdict s i text c ≡ told.goes_on → PendsAs s i m p.run p.tag (text ++ c ∷ []) → Goes s i p text c m p.run
+  goes_behind m v h = record { first = 60; more = 33 ∷ t; some = are; goes = v; pends = h }
+
+comment_start : CommentEnds comments.Start []
+comment_start = record { empty = refl; lone = refl; dash = refl; dashes = refl; bang = refl }
+
+strict_start : StrictEnds strict.Text []
+strict_start = record { dash = refl; dashes = refl }
+
+section_start : (kept : Chars) → kept ≡ [] → SectionEnds brackets.None kept []
+section_start kept e = record { are = sym (append-nil kept ∙ e); one = refl; two = refl }
+
+doctype_start : (s : Syntax) → DoctypeEnds s phases.Keyword []
+doctype_start s = record { phase = told.keyword; read = refl; is = refl }
+
+-- HTML
+module _ (i : Content) (p : Pending) (text : Chars) (c : ℕ) where
+  html_verdict : (w : Word) (n : ℕ) (h : InOpening Html i w n p.run text) → marks.opening_char Html w c ≡ h.next → told.verdict Html i text c ≡ told.goes_on
+  html_verdict w n h q =
+      let t = h.first ∷ h.chars in
+      ap (λ x. told.verdict Html i x c) h.are
+      ∙ (bogus_verdict i t c h.markup (undeclared i w h.first h.chars (begins_as Html i p text c w n h) (word_short Html w t h.next h.left h.word))
+      ∙ ap (λ b. told.whole_if b comment) (next_no_greater Html w t h.next h.left c h.word q))
+
+  html_begun : (w : Word) (n : ℕ) (h : InOpening Html i w n p.run text) → marks.opening_char Html w c ≡ h.next → h.left ≡ [] → Means Html i p text c (marks.begun_word Html i w)
+  html_begun word.Dashes n h q l =
+      let t = h.first ∷ h.chars in
+      goes_behind Html i p text c t h.are h.markup (mark.Comment comments.Start) (html_verdict word.Dashes n h q)
+      (begun_means Html i p text c t h.are h.markup (codes "--") (sym (exact Html word.Dashes t c h.next h.left h.word q l)) (judge_of Html i (mark.Comment comments.Start)) (CommentEnds comments.Start) (λ more d. refl) comment_start)
+  html_begun word.Section n h q l =
+      let t = h.first ∷ h.chars in
+      subst (λ (b : Bool). Means Html i p text c (cond b (move.Goes (mark.Section brackets.None)) (move.Refuses Outside))) (sym h.looked)
+      (goes_behind Html i p text c t h.are h.markup (mark.Section brackets.None) (html_verdict word.Section n h q)
+      (begun_means Html i p text c t h.are h.markup (codes "[CDATA[") (sym (exact Html word.Section t c h.next h.left h.word q l)) (judge_of Html i (mark.Section brackets.None)) (SectionEnds brackets.None p.run) (λ more d. cond-true _ _ _ (ap (λ b. b && true) h.looked)) (section_start p.run h.none)))
+  html_begun word.Doctype n h q l =
+      let t = h.first ∷ h.chars in
+      let x = t ++ c ∷ [] in
+      let low : lowered_char h.first ≡ 100 = lowered_first h.first (begins_as Html i p text c word.Doctype n h) in
+      let size : length x ≡ 7 = sym (length-map x lowered_char) ∙ ap length (sym (exact Html word.Doctype t c h.next h.left h.word q l)) in
+      goes_behind Html i p text c t h.are h.markup (mark.Doctype phases.Keyword) (html_verdict word.Doctype n h q)
+      (begun_means Html i p text c t h.are h.markup x refl (judge_of Html i (mark.Doctype phases.Keyword)) (DoctypeEnds Html phases.Keyword)
+      (λ more d. cond-false _ _ _ (ap (λ b. b && begins_with (codes "-") (h.chars ++ c ∷ [] ++ more)) (lowered_other h.first 100 45 low refl refl))
+      ∙ (cond-true _ _ _ (begun more) ∙ ap (λ y. told.in_doctype Html y d) (ap (λ k. drop k (x ++ more)) (sym size) ∙ drop-append_seam x more)))
+      (doctype_start Html))
+    where
+      lowered_first : (first : ℕ) → lowered_char first ∷ [] ≡ 100 ∷ [] → lowered_char first ≡ 100
+      lowered_first first e = cc
+
+      begun : (more : Chars) → begins_with (codes "doctype") (lowered ((h.first ∷ h.chars ++ c ∷ []) ++ more)) ≡ true
+      begun more =
+          ap (λ y. begins_with (codes "doctype") (lowered y)) (append_assoc (h.first ∷ h.chars) (c ∷ []) more)
+          ∙ (word_more Html word.Doctype (h.first ∷ h.chars) h.next h.left h.word c more ∙ (ap (λ x. (h.next == x) && begins_with h.left (map lowered_char more)) q ∙ (ap (λ b. b && begins_with h.left (map lowered_char more)) (equal h.next) ∙ ap (λ x. begins_with x (map lowered_char more)) l)))
+
+  html_word_means : (w : Word) (n : ℕ) (h : InOpening Html i w n p.run text) → Means Html i p text c (marks.in_word Html i w (slice_get (marks.opening_text Html w) n) n c)
+  html_word_means w n h =
+      let t = h.first ∷ h.chars in
+      by_next Html i p text c w n h
+      (λ q. more_means Html i p text c w n h h.left refl q (html_begun w n h q) (λ d more l. html_verdict w n h q))
+      (λ k. in_bogus_after i p t c h.markup (undeclared i w h.first h.chars (begins_as Html i p text c w n h) (word_short Html w t h.next h.left h.word))
+      (λ more. undeclared i w h.first (h.chars ++ c ∷ more) (begins_as Html i p text c w n h) (word_unlike Html w t h.next h.left h.word c more k)) text h.are)
+
+-- XHTML
+module _ (i : Content) (p : Pending) (text : Chars) (c : ℕ) where
+  strict_at : (w : Word) (n : ℕ) (h : InOpening Xhtml i w n p.run text) → told.verdict Xhtml i text c ≡ told.in_opening i ((h.first ∷ h.chars) ++ c ∷ [])
+  strict_at w n h =
+      let t = h.first ∷ h.chars in
+      ap (λ x. told.verdict Xhtml i x c) h.are ∙ strict_verdict i t c h.markup (no_word w h.first h.chars (begins_as Xhtml i p text c w n h) (word_short Xhtml w t h.next h.left h.word))
+
+  -- the text of the word
+  text_is : (w : Word) (n : ℕ) (h : InOpening Xhtml i w n p.run text) → marks.opening_text Xhtml w ≡ (h.first ∷ h.chars) ++ h.next ∷ h.left
+  text_is w n h = h.word ∙ ap (λ x. x ++ h.next ∷ h.left) (plain_is Xhtml w (h.first ∷ h.chars) ∙ strict_plain w (h.first ∷ h.chars))
+
+  strict_goes : (w : Word) (n : ℕ) (h : InOpening Xhtml i w n p.run text) → marks.opening_char Xhtml w c ≡ h.next → (d : ℕ) (more : Chars) → h.left ≡ d ∷ more → told.verdict Xhtml i text c ≡ told.goes_on
+  strict_goes w n h q d more l =
+      let t = h.first ∷ h.chars in
+      let x = t ++ c ∷ [] in
+      let yet : begins_word Xhtml w x ≡ false = word_more Xhtml w t h.next h.left h.word c [] ∙ (ap (λ y. (h.next == marks.opening_char Xhtml w c) && begins_with y []) l ∙ and_false (h.next == marks.opening_char Xhtml w c)) in
+      let front : marks.opening_text Xhtml w ≡ x ++ h.left = text_is w n h ∙ (ap (λ y. t ++ y ∷ h.left) (sym q ∙ same_char w c) ∙ sym (append_assoc t (c ∷ []) h.left)) in
+      strict_at w n h
+      ∙ (cond-false _ _ _ (ap (λ b. b && not (has_sections i)) (no_word w h.first (h.chars ++ c ∷ []) (begins_as Xhtml i p text c w n h) yet).section)
+      ∙ cond-true _ _ _ (begins_some w x (ap (begins_with x) front ∙ begins_append x h.left)))
+
+  strict_refuses : (w : Word) (n : ℕ) (h : InOpening Xhtml i w n p.run text) → marks.is_next Xhtml w h.next c ≡ false → told.verdict Xhtml i text c ≡ told.refused BadTag
+  strict_refuses w n h k =
+      let t = h.first ∷ h.chars in
+      let x = t ++ c ∷ [] in
+      let other : (c == h.next) ≡ false = ap (λ y. y == h.next) (sym (same_char w c)) ∙ k in
+      let none : begins_word Xhtml w x ≡ false = word_unlike Xhtml w t h.next h.left h.word c [] k in
+      strict_at w n h
+      ∙ (cond-false _ _ _ (ap (λ b. b && not (has_sections i)) (no_word w h.first (h.chars ++ c ∷ []) (begins_as Xhtml i p text c w n h) none).section)
+      ∙ cond-false _ _ _ (begins_none w h.first (h.chars ++ c ∷ []) (begins_as Xhtml i p text c w n h)
+      (ap (begins_with x) (text_is w n h) ∙ (cancel t (c ∷ []) (h.next ∷ h.left) ∙ ap (λ b. b && true) other))
+      (ap (begins_with (marks.opening_text Xhtml w)) (sym (strict_plain w x)) ∙ none)))
+
+  strict_begun : (w : Word) (n : ℕ) (h : InOpening Xhtml i w n p.run text) → marks.opening_char Xhtml w c ≡ h.next → h.left ≡ [] → Means Xhtml i p text c (marks.begun_word Xhtml i w)
+  strict_begun word.Dashes n h q l =
+      let t = h.first ∷ h.chars in
+      let e : t ++ c ∷ [] ≡ codes "--" = sym (exact Xhtml word.Dashes t c h.next h.left h.word q l) in
+      goes_behind Xhtml i p text c t h.are h.markup (mark.StrictComment strict.Text) (strict_at word.Dashes n h ∙ ap (told.in_opening i) e)
+      (begun_means Xhtml i p text c t h.are h.markup (codes "--") e (judge_of Xhtml i (mark.StrictComment strict.Text)) (StrictEnds strict.Text) (λ more d. refl) strict_start)
+  strict_begun word.Doctype n h q l =
+      let t = h.first ∷ h.chars in
+      let e : t ++ c ∷ [] ≡ codes "DOCTYPE" = sym (exact Xhtml word.Doctype t c h.next h.left h.word q l) in
+      goes_behind Xhtml i p text c t h.are h.markup (mark.Doctype phases.Keyword) (strict_at word.Doctype n h ∙ ap (told.in_opening i) e)
+      (begun_means Xhtml i p text c t h.are h.markup (codes "DOCTYPE") e (judge_of Xhtml i (mark.Doctype phases.Keyword)) (DoctypeEnds Xhtml phases.Keyword) (λ more d. refl) (doctype_start Xhtml))
+  strict_begun word.Section n h q l =
+      let t = h.first ∷ h.chars in
+      let e : t ++ c ∷ [] ≡ codes "[CDATA[" = sym (exact Xhtml word.Section t c h.next h.left h.word q l) in
+      let v = strict_at word.Section n h ∙ ap (told.in_opening i) e in
+      split (λ (m : Move). Means Xhtml i p text c m) (has_sections i) _ _
+      (λ k. goes_behind Xhtml i p text c t h.are h.markup (mark.Section brackets.None) (v ∙ cond-false _ _ _ (ap not k))
+      (begun_means Xhtml i p text c t h.are h.markup (codes "[CDATA[") e (judge_of Xhtml i (mark.Section brackets.None)) (SectionEnds brackets.None p.run) (λ more d. refl) (section_start p.run h.none)))
+      (λ k. v ∙ cond-true _ _ _ (ap not k))
+
+  strict_word_means : (w : Word) (n : ℕ) (h : InOpening Xhtml i w n p.run text) → Means Xhtml i p text c (marks.in_word Xhtml i w (slice_get (marks.opening_text Xhtml w) n) n c)
+  strict_word_means w n h = by_next Xhtml i p text c w n h (λ q. more_means Xhtml i p text c w n h h.left refl q (strict_begun w n h q) (strict_goes w n h q)) (strict_refuses w n h)
+
+pub in_word_means : (s : Syntax) (i : Content) (p : Pending) (text : Chars) (c : ℕ) (w : Word) (n : ℕ) (h : InOpening s i w n p.run text) → Means s i p text c (marks.in_word s i w (slice_get (marks.opening_text s w) n) n c)
+in_word_means Html i p text c w n h = html_word_means i p text c w n h
+in_word_means Xhtml i p text c w n h = strict_word_means i p text c w n h
+
+-- behind `<!` alone
+module _ (s : Syntax) (i : Content) (p : Pending) (text : Chars) (c : ℕ) (h : InOpened s i p.run text) where
+  opened : (w : Word) (next : ℕ) (left : Chars) → marks.opening_text s w ≡ marks.opening_char s w c ∷ next ∷ left → marks.looks_for s i w ≡ true → told.verdict s i text c ≡ told.goes_on → Means s i p text c (move.Goes (mark.Opening w 1))
+  opened w next left e l v =
+      record {
+        first = 60;
+        more = 33 ∷ [];
+        some = h.are;
+        goes = v;
+        pends = record { none = h.none; first = c; chars = []; are = ap (λ x. x ++ c ∷ []) h.are; markup = h.markup; looked = l; count = refl; next = next; left = left; word = e };
+      }
+
+pub at_opened_means : (s : Syntax) (i : Content) (p : Pending) (text : Chars) (c : ℕ) → InOpened s i p.run text → Means s i p text c (marks.at_opened s i c)
+at_opened_means Html i p text c h =
+    let v : (c == 62) ≡ false → told.verdict Html i text c ≡ told.goes_on = λ n. ap (λ x. told.verdict Html i x c) h.are ∙ (bogus_verdict i [] c h.markup (and_false (has_sections i)) ∙ ap (λ b. told.whole_if b comment) n) in
+    split (λ (m : Move). Means Html i p text c m) (c == 45) _ _
+    (λ k. let e : c ≡ 45 = eqb-true c 45 k in opened Html i p text c h word.Dashes 45 [] (ap (λ x. x ∷ 45 ∷ []) (sym e)) refl (v (ap (λ x. x == 62) e)))
+    (λ a. split (λ (m : Move). Means Html i p text c m) (lowered_char c == 100) _ _
+    (λ k. let e : lowered_char c ≡ 100 = eqb-true (lowered_char c) 100 k in opened Html i p text c h word.Doctype 111 (codes "ctype") (ap (λ x. x ∷ codes "octype") (sym e)) refl (v (either_way c 62 ∙ lowered_other c 100 62 e refl refl)))
+    (λ b. split (λ (m : Move). Means Html i p text c m) (c == 91 && has_sections i) _ _
+    (λ k. let q = both (c == 91) (has_sections i) k in let e : c ≡ 91 = eqb-true c 91 q.0 in opened Html i p text c h word.Section 67 (codes "DATA[") (ap (λ x. x ∷ codes "CDATA[") (sym e)) q.1 (v (ap (λ x. x == 62) e)))
+    (λ d. in_bogus_after i p [] c h.markup (and_false (has_sections i)) (λ more. undeclared_at more a b d) text h.are)))
+  where
+    swapped : (a b d : Bool) → (b && a) ≡ false → (a && (b && d)) ≡ false
+    swapped true true d h = absurd (cc)
+    swapped true false d h = refl
+    swapped false b d h = refl
+
+    undeclared_at : (more : Chars) → (c == 45) ≡ false → (lowered_char c == 100) ≡ false → (c == 91 && has_sections i) ≡ false → begins_declaration i (c ∷ more) ≡ false
+    undeclared_at more a b d =
+        or_from _ _ (or_from _ _ (ap (λ t. t && begins_with (codes "-") more) (either_way 45 c ∙ a)) (ap (λ t. t && begins_with (codes "octype") (lowered more)) (either_way 100 (lowered_char c) ∙ b)))
+        (swapped (has_sections i) (91 == c) (begins_with (codes "CDATA[") more) (ap (λ t. t && has_sections i) (either_way 91 c) ∙ d))
+at_opened_means Xhtml i p text c h =
+    let v : told.verdict Xhtml i text c ≡ told.in_opening i (c ∷ []) = ap (λ x. told.verdict Xhtml i x c) h.are ∙ strict_verdict i [] c h.markup (record { dashes = refl; doctype = refl; section = refl }) in
+    split (λ (m : Move). Means Xhtml i p text c m) (c == 45) _ _
+    (λ k. let e : c ≡ 45 = eqb-true c 45 k in opened Xhtml i p text c h word.Dashes 45 [] (ap (λ x. x ∷ 45 ∷ []) (sym e)) refl (v ∙ ap (λ x. told.in_opening i (x ∷ [])) e))
+    (λ a. split (λ (m : Move). Means Xhtml i p text c m) (c == 68) _ _
+    (λ k. let e : c ≡ 68 = eqb-true c 68 k in opened Xhtml i p text c h word.Doctype 79 (codes "CTYPE") (ap (λ x. x ∷ codes "OCTYPE") (sym e)) refl (v ∙ ap (λ x. told.in_opening i (x ∷ [])) e))
+    (λ b. split (λ (m : Move). Means Xhtml i p text c m) (c == 91 && true) _ _
+    (λ k. let e : c ≡ 91 = eqb-true c 91 (both (c == 91) true k).0 in opened Xhtml i p text c h word.Section 67 (codes "DATA[") (ap (λ x. x ∷ codes "CDATA[") (sym e)) refl (v ∙ ap (λ x. told.in_opening i (x ∷ [])) e))
+    (λ d. v ∙ (cond-false _ _ _ (ap (λ t. (t && false) && not (has_sections i)) (either_way 91 c) ∙ ap (λ t. t && not (has_sections i)) (and_false (c == 91))) ∙ cond-false _ _ _ (none a b d)))))
+  where
+    none : (c == 45) ≡ false → (c == 68) ≡ false → (c == 91 && true) ≡ false → meets_opening (33 ∷ c ∷ []) ≡ false
+    none a b d =
+        or_from _ _ (or_from _ _ (ap (λ t. t && true) a) (ap (λ t. t && false) (either_way 45 c ∙ a)))
+        (or_from _ _ (or_from _ _ d (ap (λ t. t && false) (either_way 91 c) ∙ and_false (c == 91)))
+        (or_from _ _ (or_from _ _ (ap (λ t. t && true) b) (ap (λ t. t && false) (either_way 68 c ∙ b))) refl))

@@ -1,7 +1,0 @@
-use Rattle.std.proofs.Common.{ℕ, Option}
-use Rattle.rx_terms.specs.Text.{Chars}
-use Rattle.rx_turtle.specs.Known.{AreEntries}
-use Rattle.rx_turtle.proofs.known.Known.larger.Given as goal
-
-abbrev pub invariant-loop-i : goal.invariant-loop-i
-invariant-loop-i l = (found : Chars → Option ℕ) → AreEntries found l.self → AreEntries found l.larger

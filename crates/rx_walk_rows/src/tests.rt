@@ -1,2 +1,0 @@
-mod items;
-mod walks;
